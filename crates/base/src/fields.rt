@@ -1,0 +1,76 @@
+//! Little-endian fields of a block, a slot or a payload (On-Disk Specification, chapter 2, in this project's one byte order).
+
+ghost use Rattle.std.specs.Prelude.{◌≡◌, ◌+◌, ◌≤◌, length};
+ghost use Rattle.base.specs.Disk.{put};
+ghost use Rattle.base.specs.FieldLaws.{FieldsReadBack, FieldsStay, PointersReadBack};
+ghost use Rattle.base.specs.Fields.{number_at, number_bytes, pointer_at, pointer_bytes, part};
+
+use crate::pointer::Pointer;
+use byteorder::{ByteOrder, LittleEndian};
+
+/// The bytes of a pointer: 8 of the address, 8 of the birth group, 32 of the check.
+pub const POINTER_SIZE: usize = 48;
+
+/// The number of 8 bytes at a place.
+#[tactic(auto, unfolding(crate::specs::Fields::number_at))]
+pub fn read_u64(bytes: &[u8], at: usize) -> u64
+    requires { at + 8 ≤ length bytes.now }
+    ensures { result ≡ number_at bytes.now at }
+{
+    LittleEndian::read_u64(&bytes[at..])
+}
+
+/// Writes a number's 8 bytes at a place.
+pub fn write_u64(bytes: &mut [u8], at: usize, value: u64)
+    requires { at + 8 ≤ length bytes.old }
+    ensures { bytes.new ≡ put at (number_bytes value) bytes.old }
+{
+    LittleEndian::write_u64(&mut bytes[at..], value);
+}
+
+/// Writes these bytes at a place.
+pub fn write_bytes(bytes: &mut [u8], at: usize, content: &[u8])
+    requires { at + length content.now ≤ length bytes.old }
+    ensures { bytes.new ≡ put at content.now bytes.old }
+{
+    bytes[at..at + content.len()].copy_from_slice(content);
+}
+
+/// The pointer of 48 bytes at a place.
+pub fn read_pointer(bytes: &[u8], at: usize) -> Pointer
+    requires { at + 48 ≤ length bytes.now }
+    ensures { result ≡ pointer_at bytes.now at }
+{
+    let mut check = [0; 32];
+    check.copy_from_slice(&bytes[at + 16..at + 48]);
+    Pointer {
+        address: read_u64(bytes, at),
+        birth: read_u64(bytes, at + 8),
+        check,
+    }
+}
+
+/// Writes a pointer's 48 bytes at a place.
+pub fn write_pointer(bytes: &mut [u8], at: usize, pointer: &Pointer)
+    requires { at + 48 ≤ length bytes.old }
+    ensures { bytes.new ≡ put at (pointer_bytes pointer.now) bytes.old }
+{
+    write_u64(bytes, at, pointer.address);
+    write_u64(bytes, at + 8, pointer.birth);
+    write_bytes(bytes, at + 16, &pointer.check);
+}
+
+/// A number that is written reads back.
+pub fn fields_read_back()
+    ensures { FieldsReadBack }
+{}
+
+/// A pointer that is written reads back.
+pub fn pointers_read_back()
+    ensures { PointersReadBack }
+{}
+
+/// A number stays as it is where something else is written.
+pub fn fields_stay()
+    ensures { FieldsStay }
+{}

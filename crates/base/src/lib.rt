@@ -1,0 +1,42 @@
+//! The words that every layer of the pool shares.
+#![tactic(auto)]
+
+mod bytes;
+mod error;
+mod fields;
+mod laws;
+mod lists;
+mod names;
+mod operation;
+mod piece;
+mod pointer;
+mod pool_name;
+mod range;
+mod status;
+mod step;
+
+pub use bytes::Bytes;
+pub use error::PoolError;
+pub use fields::{
+    POINTER_SIZE, fields_read_back, fields_stay, pointers_read_back, read_pointer, read_u64,
+    write_bytes, write_pointer, write_u64,
+};
+pub use laws::{
+    aborts_leave, begins_admit, clashes_are_overlaps, clashes_turn, closes_leave, commits_follow,
+    crashes_leave_cuts, cuts_are_histories, cuts_replay, cuts_stay, durable_stays, groups_are_cuts,
+    groups_give_contents, groups_replay, histories_grow, logs_replay, marks_are_left,
+    objects_replay, operations_commute, ops_count, overlaps_are_common, plans_touch,
+    transactions_commute, trees_follow,
+};
+pub use lists::{Ops, Plan};
+pub use names::{Group, LockId, ObjectId, Ordinal, Owner, Receipt, TxId};
+pub use operation::{Op, Shape};
+pub use piece::Piece;
+pub use pointer::Pointer;
+pub use pool_name::{MAX_NAME, PoolName, is_name};
+pub use range::{Mode, Range};
+pub use status::Status;
+pub use step::{Reply, Step};
+
+#[cfg(test)]
+mod tests;

@@ -1,0 +1,84 @@
+use crate::operation::{Op, Shape};
+use std::marker::Model;
+
+/// What a transaction means to do: the shapes of its operations, in order. Contracts see it as a list.
+///
+/// It is made from a `Vec` and gives it back without taking memory.
+#[derive(Drop)]
+pub struct Plan {
+    items: Vec<Shape>,
+}
+
+impl Model for Plan {
+    ghost use Rattle.std.specs.Prelude.{List};
+    ghost use Rattle.base.specs.declared.operation.Shape.{Shape};
+
+    ghost Value = { List Shape };
+
+    ghost view = { λ p. p.items.items };
+}
+
+impl Plan {
+    ghost use Rattle.std.specs.Prelude.{◌≡◌};
+
+    /// The plan of these shapes.
+    pub fn new(items: Vec<Shape>) -> Self
+        ensures { result ≡ items.items }
+    {
+        Plan { items }
+    }
+
+    /// The `Vec` that holds the shapes.
+    pub fn into_vec(self) -> Vec<Shape>
+        ensures { result.items ≡ self }
+    {
+        self.items
+    }
+
+    pub fn as_slice(&self) -> &[Shape]
+        ensures { result.now ≡ self.now }
+    {
+        self.items.as_slice()
+    }
+}
+
+/// What a transaction does, in order. Contracts see it as a list.
+///
+/// It is made from a `Vec` and gives it back without taking memory.
+#[derive(Drop)]
+pub struct Ops {
+    items: Vec<Op>,
+}
+
+impl Model for Ops {
+    ghost use Rattle.std.specs.Prelude.{List};
+    ghost use Rattle.base.specs.declared.operation.Op.{Op};
+
+    ghost Value = { List Op };
+
+    ghost view = { λ p. p.items.items };
+}
+
+impl Ops {
+    ghost use Rattle.std.specs.Prelude.{◌≡◌};
+
+    /// These operations.
+    pub fn new(items: Vec<Op>) -> Self
+        ensures { result ≡ items.items }
+    {
+        Ops { items }
+    }
+
+    /// The `Vec` that holds the operations.
+    pub fn into_vec(self) -> Vec<Op>
+        ensures { result.items ≡ self }
+    {
+        self.items
+    }
+
+    pub fn as_slice(&self) -> &[Op]
+        ensures { result.now ≡ self.now }
+    {
+        self.items.as_slice()
+    }
+}

@@ -1,0 +1,29 @@
+/// The place, birth group and check of a block (On-Disk Specification, chapter 2). All zeros: none.
+#[derive(Clone, Copy, Debug, PartialEq, Eq)]
+pub struct Pointer {
+    /// The byte address of the block on the device, 0 for none.
+    pub address: u64,
+    /// The transaction group in which the block was written.
+    pub birth: u64,
+    /// The SHA-256 check that the block carries (FIPS 180-4).
+    pub check: [u8; 32],
+}
+
+impl Pointer {
+    ghost use Rattle.std.specs.Prelude.{◌≡◌, ◌↔◌, IsTrue};
+    ghost use Rattle.base.specs.Fields.{no_pointer};
+
+    /// The pointer to nothing, 48 zero bytes.
+    pub const NONE: Pointer = Pointer {
+        address: 0,
+        birth: 0,
+        check: [0; 32],
+    };
+
+    /// Whether it is the pointer to nothing.
+    pub fn is_none(&self) -> bool
+        ensures { IsTrue result ↔ (self.now ≡ no_pointer) }
+    {
+        *self == Pointer::NONE
+    }
+}

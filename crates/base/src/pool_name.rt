@@ -1,0 +1,93 @@
+ghost use Rattle.std.specs.Prelude.{◌≡◌};
+ghost use Rattle.std.specs.List.{list_all};
+ghost use Rattle.base.specs.Names as names;
+
+use std::marker::Model;
+
+/// The most bytes of a pool's name.
+pub const MAX_NAME: usize = 64;
+
+/// A pool's name in place: 1 to 64 bytes, first an ASCII letter, then letters, digits, `-`, `_` and `.`.
+/// Contracts see it as a list of bytes.
+#[derive(Clone, Drop)]
+pub struct PoolName {
+    bytes: [u8; 64],
+    length: usize,
+}
+
+impl Model for PoolName {
+    ghost use Rattle.std.specs.Prelude.{List, ℕ, take, ◌≤◌};
+    ghost use Rattle.base.specs.Names.{IsName};
+
+    ghost Value = { List ℕ };
+
+    ghost view = { λ n. take n.length n.bytes };
+
+    ghost invariant = { λ n. (n.length ≤ 64) × IsName (take n.length n.bytes) };
+}
+
+impl PoolName {
+    ghost use Rattle.std.specs.Prelude.{◌≡◌, ◌≤◌, length, IfSome, IfNone, false};
+    ghost use Rattle.base.specs.Names.{IsName, is_name};
+
+    /// The name of these bytes, or None where they are no name.
+    pub fn new(bytes: &[u8]) -> Option<Self>
+        ensures name { IfSome result (λ name. (name ≡ bytes.now) × IsName bytes.now) }
+        ensures no_name { IfNone result (is_name bytes.now ≡ false) }
+    {
+        if !is_name(bytes) {
+            return None;
+        }
+        let mut name = [0; MAX_NAME];
+        name[..bytes.len()].copy_from_slice(bytes);
+        Some(PoolName {
+            bytes: name,
+            length: bytes.len(),
+        })
+    }
+
+    pub fn as_slice(&self) -> &[u8]
+        ensures bytes { result.now ≡ self.now }
+        ensures name { IsName self.now }
+        ensures length { length self.now ≤ 64 }
+    {
+        &self.bytes[..self.length]
+    }
+}
+
+/// Whether these bytes are a pool's name.
+pub fn is_name(bytes: &[u8]) -> bool
+    ensures { result ≡ names.is_name bytes.now }
+{
+    is_name_length(bytes.len()) && is_letter(bytes[0]) && are_name_bytes(bytes)
+}
+
+fn is_name_length(length: usize) -> bool
+    ensures { result ≡ names.is_name_length length }
+{
+    0 < length && length <= MAX_NAME
+}
+
+fn is_letter(byte: u8) -> bool
+    ensures { result ≡ names.is_letter byte }
+{
+    byte.is_ascii_alphabetic()
+}
+
+fn is_name_byte(byte: u8) -> bool
+    ensures { result ≡ names.is_name_byte byte }
+{
+    is_letter(byte) || is_digit(byte) || byte == b'-' || byte == b'_' || byte == b'.'
+}
+
+fn is_digit(byte: u8) -> bool
+    ensures { result ≡ names.is_digit byte }
+{
+    byte.is_ascii_digit()
+}
+
+fn are_name_bytes(bytes: &[u8]) -> bool
+    ensures { result ≡ list_all names.is_name_byte bytes.now }
+{
+    bytes.iter().all(|byte| is_name_byte(*byte))
+}

@@ -1,0 +1,4 @@
+pub mod Addresses
+pub mod Placed
+pub mod SealedBlocks
+pub mod NamedBlocks

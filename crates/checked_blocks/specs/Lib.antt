@@ -1,0 +1,4 @@
+pub mod Sealing
+pub mod Payloads
+pub mod Opening
+pub mod Laws

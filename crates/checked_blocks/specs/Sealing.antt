@@ -1,0 +1,22 @@
+-- What is sealed into a block.
+use Rattle.std.specs.Prelude.{ℕ, ◌≤◌, ◌-◌, List, ◌++◌, take, drop, replicate, length}
+
+-- so many bytes behind the fields and the check
+abbrev pub payload_size : ℕ
+payload_size = 4032
+
+-- the kinds that a block may have
+abbrev pub IsKind : ℕ → Type 0
+IsKind kind = (1 ≤ kind) × (kind ≤ 6)
+
+-- a payload, with zeros behind it
+abbrev pub padded : List ℕ → List ℕ
+padded payload = payload ++ replicate (payload_size - length payload) 0
+
+-- so many zeros
+unfoldable pub zeros : ℕ → List ℕ
+zeros n = replicate n 0
+
+-- the bytes of a block that its check is over: those of the block, with zeros in place of the check
+abbrev pub hashed_bytes : List ℕ → List ℕ
+hashed_bytes block = take 32 block ++ replicate 32 0 ++ drop 64 block

@@ -1,0 +1,102 @@
+ghost use Rattle.std.specs.Prelude.{◌≡◌, ◌<◌, ◌≤◌, ◌^◌, ◌↔◌, IsOk, IfOk, IfErr, length};
+ghost use Rattle.base.specs.Blocks.{IsBlock, head_bytes, sealed_block};
+ghost use Rattle.base.specs.Disk.{put};
+ghost use Rattle.checked_blocks.specs.Sealing.{IsKind, padded, zeros};
+
+use base::{Group, PoolError, write_bytes, write_u64};
+use sha2::{Digest, Sha256};
+use std::marker::Model;
+
+/// The bytes of a block.
+pub const BLOCK_SIZE: usize = 4096;
+
+/// The bytes of a block's payload, which lies behind its 64 bytes of fields and check.
+pub const PAYLOAD_SIZE: usize = 4032;
+
+/// A sealed block: its check field is the SHA-256 digest (FIPS 180-4) of the block with zeros there.
+/// Contracts see it as a list of 4,096 bytes.
+#[derive(Drop)]
+pub struct Block {
+    bytes: [u8; BLOCK_SIZE],
+}
+
+impl Model for Block {
+    ghost use Rattle.std.specs.Prelude.{List, ℕ};
+    ghost use Rattle.base.specs.Blocks.{IsSealed};
+
+    ghost Value = { List ℕ };
+
+    ghost view = { λ b. b.bytes };
+
+    ghost invariant = { λ b. IsSealed b.bytes };
+}
+
+impl Block {
+    ghost use Rattle.std.specs.Prelude.{◌≡◌, length};
+    ghost use Rattle.base.specs.Blocks.{IsSealed};
+    ghost use Rattle.base.specs.Fields.{part};
+
+    /// The 4,096 bytes, as they are written to a device.
+    pub fn as_bytes(&self) -> &[u8; BLOCK_SIZE]
+        ensures bytes { result.now ≡ self.now }
+        ensures length { length self.now ≡ 4096 }
+        ensures sealed { IsSealed self.now }
+    {
+        &self.bytes
+    }
+
+    /// The check field, bytes 32 to 64, by which a pointer names the block.
+    pub fn check(&self) -> [u8; 32]
+        ensures { result ≡ part self.now 32 32 }
+    {
+        let mut check = [0; 32];
+        check.copy_from_slice(&self.bytes[32..64]);
+        check
+    }
+}
+
+/// A block of this kind, pool, group and number. A payload of less than 4,032 bytes is filled with zeros.
+///
+/// # Errors
+/// `BadRange` exactly where the kind is none of 1 to 6 or the payload has more than 4,032 bytes.
+pub fn seal(
+    kind: u64,
+    guid: u64,
+    group: Group,
+    number: u64,
+    payload: &[u8],
+) -> Result<Block, PoolError>
+    ensures sealed { IfOk result
+        (λ block. block ≡ sealed_block kind guid group.0 number (padded payload.now)) }
+    ensures block { IfOk result
+        (λ block. IsBlock block kind guid group.0 number (padded payload.now)) }
+    ensures ok { IsOk result ↔ (IsKind kind × (length payload.now ≤ 4032)) }
+    ensures refused { IfErr result (λ e. e ≡ PoolError.BadRange) }
+{
+    if !(1..=6).contains(&kind) || payload.len() > PAYLOAD_SIZE {
+        return Err(PoolError::BadRange);
+    }
+    let mut bytes = zero_block();
+    write_head(&mut bytes, kind, guid, group.0, number);
+    write_bytes(&mut bytes, 64, payload);
+    let check = Sha256::digest(&bytes[..]);
+    write_bytes(&mut bytes, 32, &check);
+    Ok(Block { bytes })
+}
+
+fn zero_block() -> [u8; BLOCK_SIZE]
+    ensures { result ≡ zeros 4096 }
+{
+    [0; BLOCK_SIZE]
+}
+
+fn write_head(bytes: &mut [u8], kind: u64, guid: u64, group: u64, number: u64)
+    requires { 64 ≤ length bytes.old }
+    ensures head { bytes.new ≡ put 0 (head_bytes kind guid group number) bytes.old }
+    ensures group_fits { group < 2 ^ 64 }
+{
+    write_u64(bytes, 0, kind);
+    write_u64(bytes, 8, guid);
+    write_u64(bytes, 16, group);
+    write_u64(bytes, 24, number);
+}

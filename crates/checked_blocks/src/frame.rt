@@ -1,0 +1,73 @@
+use crate::block::BLOCK_SIZE;
+use base::Group;
+use std::marker::Model;
+
+/// The byte place of block 0, behind two labels and the boot area (On-Disk Specification, chapter 1).
+pub const BLOCK_AREA: u64 = 4_194_304;
+
+/// What a reader of blocks knows of the pool: its guid, the number of blocks of its area, and the group that no birth may pass.
+/// Contracts see it as the record of these three numbers.
+#[derive(Clone, Copy, Debug)]
+pub struct Frame {
+    guid: u64,
+    blocks: u64,
+    group: Group,
+}
+
+impl Model for Frame {
+    ghost use Rattle.base.specs.Blocks as blocks_of;
+
+    ghost Value = { blocks_of.Frame };
+
+    ghost view = { λ f. record { guid = f.guid; blocks = f.blocks; group = f.group.0 } };
+
+    ghost inverse = { λ f. record { guid = f.guid; blocks = f.blocks; group = record { 0 = f.group } } };
+}
+
+impl Frame {
+    ghost use Rattle.std.specs.Prelude.{◌≡◌, ◌↔◌, IsTrue};
+    ghost use Rattle.base.specs.Geometry.{IsBlockAddress};
+
+    /// The frame of this guid, number of blocks and greatest group.
+    pub fn new(guid: u64, blocks: u64, group: Group) -> Self
+        ensures { result ≡ record { guid = guid; blocks = blocks; group = group.0 } }
+    {
+        Frame {
+            guid,
+            blocks,
+            group,
+        }
+    }
+
+    /// The guid of the pool.
+    pub fn guid(&self) -> u64
+        ensures { result ≡ self.now.guid }
+    {
+        self.guid
+    }
+
+    /// How many blocks the pool's block area has.
+    pub fn blocks(&self) -> u64
+        ensures { result ≡ self.now.blocks }
+    {
+        self.blocks
+    }
+
+    /// The group that no birth may pass.
+    pub fn group(&self) -> Group
+        ensures { result.0 ≡ self.now.group }
+    {
+        self.group
+    }
+
+    /// Whether one of the blocks begins at this byte address.
+    pub fn is_block_address(&self, address: u64) -> bool
+        ensures { IsTrue result ↔ IsBlockAddress self.now.blocks address }
+    {
+        if address < BLOCK_AREA {
+            return false;
+        }
+        let offset = address - BLOCK_AREA;
+        offset % BLOCK_SIZE as u64 == 0 && offset / (BLOCK_SIZE as u64) < self.blocks
+    }
+}

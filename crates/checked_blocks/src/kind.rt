@@ -1,0 +1,16 @@
+/// What a block holds. The number is the block's kind field: `Kind::Data as u64` is 5.
+#[derive(Clone, Copy, Debug, PartialEq, Eq)]
+pub enum Kind {
+    /// The config of a label (On-Disk Specification, chapter 1).
+    Config = 1,
+    /// The root of the pool's tree: pointers to the directories.
+    Root = 2,
+    /// Entries of objects, each with a pointer to the object's indirect block.
+    Directory = 3,
+    /// Pointers to the records of one object (On-Disk Specification, chapter 2).
+    Indirect = 4,
+    /// A record of an object.
+    Data = 5,
+    /// A block of the intent log (On-Disk Specification, chapter 7).
+    Log = 6,
+}

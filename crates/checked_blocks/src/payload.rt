@@ -1,0 +1,122 @@
+ghost use Rattle.std.specs.Prelude.{◌≡◌, ◌↔◌, IsTrue, IsOk, IfOk, IfErr, IfSome, drop};
+ghost use Rattle.base.specs.Blocks.{IsBlock, IsSealed};
+ghost use Rattle.base.specs.Fields.{number_at, part};
+ghost use Rattle.sha2.specs.Sha256.{sha256};
+ghost use Rattle.checked_blocks.specs.Sealing.{hashed_bytes};
+ghost use Rattle.checked_blocks.specs.Opening.{IsExpected};
+
+use crate::block::BLOCK_SIZE;
+use crate::expected::Expected;
+use base::{Group, PoolError, read_u64};
+use sha2::{Digest, Sha256};
+use std::marker::Model;
+
+/// What an opened block holds: its group and the 4,032 bytes of its payload, which stay where they were read.
+/// Contracts see it as the record of the two.
+#[derive(Drop)]
+pub struct Payload<'a> {
+    block: &'a [u8; BLOCK_SIZE],
+}
+
+impl<'a> Model for Payload<'a> {
+    ghost use Rattle.std.specs.Prelude.{◌≡◌, drop, length};
+    ghost use Rattle.base.specs.Fields.{number_at};
+    ghost use Rattle.checked_blocks.specs.Payloads.{Opened};
+
+    ghost Value = { Opened };
+
+    ghost view = { λ p. record { group = number_at p.block.now 16; bytes = drop 64 p.block.now } };
+
+    ghost invariant = { λ p. length p.block.now ≡ 4096 };
+}
+
+impl<'a> Payload<'a> {
+    ghost use Rattle.std.specs.Prelude.{◌≡◌, length};
+
+    /// The 4,032 bytes of the payload.
+    pub fn as_slice(&self) -> &'a [u8]
+        ensures bytes { result.now ≡ self.now.bytes }
+        ensures length { length self.now.bytes ≡ 4032 }
+    {
+        let block = self.block;
+        &block[64..]
+    }
+
+    /// The group in which the block was written.
+    pub fn group(&self) -> Group
+        ensures { result.0 ≡ self.now.group }
+    {
+        let block = self.block;
+        Group(read_u64(block, 16))
+    }
+}
+
+/// Opens a block that was read. It takes no memory: the payload is a part of the bytes that are handed in.
+///
+/// # Errors
+/// `Damaged` with the expected kind and address exactly where the check does not agree with the bytes, or the kind, the guid,
+/// the number, or a group or check that is expected is another.
+pub fn open<'a>(block: &'a [u8; BLOCK_SIZE], expected: &Expected) -> Result<Payload<'a>, PoolError>
+    ensures ok { IsOk result ↔ IsExpected block.now expected.now }
+    ensures opened { IfOk result
+        (λ payload. IsBlock block.now expected.now.kind expected.now.guid payload.group
+        expected.now.number payload.bytes) }
+    ensures refused { IfErr result (λ e. e ≡ PoolError.Damaged expected.now.kind expected.now.address) }
+{
+    if is_expected(block, expected) {
+        Ok(Payload { block })
+    } else {
+        Err(PoolError::Damaged {
+            kind: expected.kind,
+            address: expected.address,
+        })
+    }
+}
+
+fn is_expected(block: &[u8; BLOCK_SIZE], expected: &Expected) -> bool
+    ensures { IsTrue result ↔ IsExpected block.now expected.now }
+{
+    read_u64(block, 0) == expected.kind
+        && read_u64(block, 8) == expected.guid
+        && read_u64(block, 24) == expected.number
+        && has_group(block, expected.group)
+        && has_check(block, expected.check)
+        && is_sealed(block)
+}
+
+fn has_group(block: &[u8; BLOCK_SIZE], group: Option<Group>) -> bool
+    ensures { IsTrue result ↔ IfSome group (λ g. number_at block.now 16 ≡ g.0) }
+{
+    match group {
+        Some(group) => read_u64(block, 16) == group.0,
+        None => true,
+    }
+}
+
+fn has_check(block: &[u8; BLOCK_SIZE], check: Option<[u8; 32]>) -> bool
+    ensures { IsTrue result ↔ IfSome check (λ c. part block.now 32 32 ≡ c) }
+{
+    match check {
+        Some(check) => block[32..64] == check[..],
+        None => true,
+    }
+}
+
+fn is_sealed(block: &[u8; BLOCK_SIZE]) -> bool
+    ensures { IsTrue result ↔ IsSealed block.now }
+{
+    let digest = digest_of(block);
+    block[32..64] == digest[..]
+}
+
+/// The digest of the block with zeros in place of its check, made in three pieces and without a copy.
+fn digest_of(block: &[u8; BLOCK_SIZE]) -> [u8; 32]
+    ensures { result ≡ sha256 (hashed_bytes block.now) }
+{
+    let zeros = [0; 32];
+    let mut hasher = Sha256::new();
+    hasher.update(&block[..32]);
+    hasher.update(&zeros[..]);
+    hasher.update(&block[64..]);
+    hasher.finalize()
+}

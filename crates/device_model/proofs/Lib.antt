@@ -1,0 +1,7 @@
+pub mod Sizes
+pub mod Certain
+pub mod Runs
+pub mod NoteLists
+pub mod Tracks
+pub mod Sound
+pub mod Left

@@ -1,0 +1,35 @@
+-- What callers see of a device in memory.
+use Rattle.std.specs.Prelude.{ℕ, ◌*◌, List, [], replicate}
+use Rattle.base.specs.declared.piece.Piece.{Piece}
+use Rattle.base.specs.Disk.{Disk, certain}
+use Rattle.base.specs.Crashes.{crash_image}
+
+-- the disk, how many calls it refused, and which call of each kind from now fails (0: none will)
+pub record MemState : Type 0 where
+  pub disk : Disk
+  pub refusals : ℕ
+  pub read_fails : ℕ
+  pub write_fails : ℕ
+  pub flush_fails : ℕ
+
+-- so many zero bytes; it stays closed, since at a literal number it would compute to as many conses
+unfoldable pub zeros : ℕ → List ℕ
+zeros n = replicate n 0
+
+-- nothing but zeros, and nothing written
+abbrev pub blank : ℕ → Disk
+blank sectors = record { now = record { flushed = zeros (512 * sectors); unflushed = []; kept = [] }; past = [] }
+
+-- a new device
+abbrev pub new_state : ℕ → MemState
+new_state sectors = record { disk = blank sectors; refusals = 0; read_fails = 0; write_fails = 0; flush_fails = 0 }
+
+-- the device after a crash that leaves these pieces, with no plan to fail
+abbrev pub after_crash : List Piece → MemState → MemState
+after_crash pieces s = record {
+  disk = certain (crash_image pieces s.disk.now) s.disk;
+  refusals = s.refusals;
+  read_fails = 0;
+  write_fails = 0;
+  flush_fails = 0;
+}

@@ -1,0 +1,17 @@
+//! A disk that is read and written in whole sectors, and what a crash may leave of it.
+//!
+//! `SectorDevice` says what each call does to the disk over time. `MemDevice` is such a disk in memory: it fails where
+//! a plan says so, and crashes on demand.
+#![tactic(auto)]
+
+mod device;
+mod fault;
+mod memory;
+mod notes;
+
+pub use device::SectorDevice;
+pub use fault::Fault;
+pub use memory::MemDevice;
+
+#[cfg(test)]
+mod tests;

@@ -1,0 +1,197 @@
+ghost use Rattle.std.specs.Prelude.{◌≡◌, ◌+◌, ◌*◌, ◌-◌, ◌<◌, ◌≤◌, ◌↔◌, ◌≢◌, ◌++◌, [], ◌∷◌, length, take, drop, true, refl, IsTrue, IfOk, IfErr, OnOk, OnErr, Ok, Err, All, IsErr};
+ghost use Rattle.base.specs.Fields.{part};
+ghost use Rattle.base.specs.Disk.{bytes_of, disk_size, MayLeave};
+ghost use Rattle.base.specs.Crashes.{crash_image};
+
+use crate::device::SectorDevice;
+use crate::fault::Fault;
+use crate::notes::{Note, copy_part, fires, leave_pieces, make_note, overwrite, settle};
+use base::{Piece, PoolError};
+use std::alloc::Global;
+use std::marker::Model;
+
+/// A device in memory, which fails by a plan and crashes on demand.
+///
+/// It notes every write, and its disk over time is read from these notes. Contracts see it as that disk, the count of
+/// its refused calls, and its fault plan.
+#[derive(Drop)]
+pub struct MemDevice {
+    alloc: Global,
+    sectors: u64,
+    bytes: Vec<u8>,
+    notes: Vec<Note>,
+    // how many of the notes came before the last good flush or crash
+    settled: usize,
+    refused: u64,
+    // which call of each kind from now fails, or 0
+    reads: u64,
+    writes: u64,
+    flushes: u64,
+}
+
+impl Model for MemDevice {
+    ghost use Rattle.device_model.specs.MemState.{MemState};
+
+    ghost Value = { MemState };
+
+    ghost use Rattle.device_model.specs.Memory.{state_of, IsSound};
+
+    ghost view = { state_of };
+
+    ghost invariant = { IsSound };
+}
+
+impl MemDevice {
+    ghost use Rattle.device_model.specs.Plans.{with_plan};
+    ghost use Rattle.device_model.specs.MemState.{new_state, after_crash};
+
+    /// A device of so many sectors, all zeros. Refused with `NoMemory` where there is not so much memory.
+    #[tactic(auto, unfolding(crate::specs::MemState::zeros))]
+    pub fn new(alloc: Global, sectors: u64) -> Result<Self, PoolError>
+        ensures zeros { IfOk result (λ device. device ≡ new_state sectors) }
+        ensures size { IfOk result (λ device. disk_size device.disk ≡ 512 * sectors) }
+        ensures memory { IfErr result (λ e. e ≡ PoolError.NoMemory) }
+    {
+        let Some(size) = sectors.checked_mul(512) else {
+            return Err(PoolError::NoMemory);
+        };
+        let Ok(bytes) = vec![in alloc; 0u8; size as usize] else {
+            return Err(PoolError::NoMemory);
+        };
+        Ok(MemDevice {
+            alloc,
+            sectors,
+            bytes,
+            notes: Vec::new(alloc),
+            settled: 0,
+            refused: 0,
+            reads: 0,
+            writes: 0,
+            flushes: 0,
+        })
+    }
+
+    /// Makes the n-th such call from now fail, once; `n` is at least 1. A new plan of a kind replaces the old one, and
+    /// with 0 no call of this kind is planned to fail.
+    pub fn fail(&mut self, fault: Fault, n: u64)
+        ensures { self.new ≡ with_plan fault n self.old }
+    {
+        match fault {
+            Fault::Read => self.reads = n,
+            Fault::Write => self.writes = n,
+            Fault::Flush => self.flushes = n,
+        }
+    }
+
+    /// How many writes, also failed ones, came since the last good flush or crash.
+    pub fn unflushed(&self) -> usize
+        ensures { result ≡ length self.now.disk.now.unflushed }
+    {
+        self.notes.len() - self.settled
+    }
+
+    /// The device after a crash that leaves these pieces of the writes since the last good flush, one for each in
+    /// order; those without a piece are kept. Of a failed write `Keep` and `Lose` leave what was there, and `Fill`
+    /// fills its range. What is left counts as flushed, and no call is planned to fail. It takes no memory.
+    pub fn crash(mut self, pieces: &[Piece]) -> MemDevice
+        ensures left { result ≡ after_crash pieces.now self }
+        ensures size { disk_size result.disk ≡ disk_size self.disk }
+        ensures possible { MayLeave self.disk.now (crash_image pieces.now self.disk.now) }
+    {
+        leave_pieces(
+            self.alloc,
+            &mut self.bytes,
+            &mut self.notes,
+            self.settled,
+            pieces,
+        );
+        self.settled = self.notes.len();
+        self.reads = 0;
+        self.writes = 0;
+        self.flushes = 0;
+        self
+    }
+}
+
+impl SectorDevice for MemDevice {
+    ghost use Rattle.base.specs.Calls.{IsOnDevice, Writes, Flushes, Counts};
+    ghost use Rattle.device_model.specs.Plans.{KeepsPlans};
+
+    ghost keeps_model = { true };
+
+    ghost size = { λ m. disk_size m.disk };
+
+    ghost refused = { λ m. m.refusals };
+
+    ghost disk = { λ m. m.disk };
+
+    ghost sized = { λ _ _. refl };
+
+    fn sectors(&self) -> u64 {
+        self.sectors
+    }
+
+    fn read(&mut self, at: u64, into: &mut [u8]) -> Result<(), PoolError>
+        requires { IsOnDevice (disk_size self.old.disk) at (length into.old) }
+        ensures size { disk_size self.new.disk ≡ disk_size self.old.disk }
+        ensures count { Counts self.old.refusals self.new.refusals PoolError.Read result }
+        ensures bytes { OnOk result
+            (into.new ≡ part (bytes_of self.old.disk.now) at (length into.old)) }
+        ensures kept { OnErr result (into.new ≡ into.old) }
+        ensures disk { self.new.disk ≡ self.old.disk }
+
+        // It fails as planned, and only then.
+        ensures planned { IsErr result ↔ (self.old.read_fails ≡ 1) }
+        ensures plans { KeepsPlans Fault.Read self.old self.new }
+    {
+        if fires(&mut self.reads) {
+            self.refused = self.refused.saturating_add(1);
+            return Err(PoolError::Read);
+        }
+        copy_part(&self.bytes, at, into);
+        Ok(())
+    }
+
+    fn write(&mut self, at: u64, bytes: &[u8]) -> Result<(), PoolError>
+        requires { IsOnDevice (disk_size self.old.disk) at (length bytes.now) }
+        ensures size { disk_size self.new.disk ≡ disk_size self.old.disk }
+        ensures count { Counts self.old.refusals self.new.refusals PoolError.Write result }
+        ensures disk { Writes self.old.disk at bytes.now result self.new.disk }
+
+        // It fails as planned. Else it fails only where it finds no memory to note the write, which then counts for nothing.
+        ensures planned { self.old.write_fails ≡ 1 → IsErr result }
+        ensures unplanned { self.old.write_fails ≢ 1 → OnErr result (self.new.disk ≡ self.old.disk) }
+        ensures plans { KeepsPlans Fault.Write self.old self.new }
+    {
+        let fails = fires(&mut self.writes);
+        let noted = make_note(self.alloc, &self.bytes, &mut self.notes, at, bytes, !fails);
+        if noted.is_err() {
+            self.refused = self.refused.saturating_add(1);
+            return Err(PoolError::Write);
+        }
+        if fails {
+            self.refused = self.refused.saturating_add(1);
+            return Err(PoolError::Write);
+        }
+        overwrite(&mut self.bytes, at, bytes);
+        Ok(())
+    }
+
+    fn flush(&mut self) -> Result<(), PoolError>
+        ensures size { disk_size self.new.disk ≡ disk_size self.old.disk }
+        ensures count { Counts self.old.refusals self.new.refusals PoolError.Flush result }
+        ensures disk { Flushes self.old.disk result self.new.disk }
+
+        // It fails as planned, and only then.
+        ensures planned { IsErr result ↔ (self.old.flush_fails ≡ 1) }
+        ensures plans { KeepsPlans Fault.Flush self.old self.new }
+    {
+        if fires(&mut self.flushes) {
+            self.refused = self.refused.saturating_add(1);
+            return Err(PoolError::Flush);
+        }
+        settle(self.alloc, &mut self.notes, self.settled);
+        self.settled = self.notes.len();
+        Ok(())
+    }
+}

@@ -1,0 +1,205 @@
+ghost use Rattle.std.specs.Prelude.{◌≡◌, ◌+◌, ◌-◌, ◌<◌, ◌≤◌, ◌↔◌, ◌++◌, length, take, drop, All, IsTrue, OnOk, OnErr};
+ghost use Rattle.base.specs.Fields.{part};
+ghost use Rattle.base.specs.Disk.{put};
+ghost use Rattle.base.specs.Crashes.{piece_at};
+ghost use Rattle.device_model.specs.Notes.{AddsNote, Settles, TellSame, Closes, left_of, replayed, undone, with_pieces};
+
+use base::Piece;
+use std::alloc::{AllocError, Global};
+
+/// A write: its byte place, the bytes that were there, the bytes handed, whether it answered Ok, what a crash left of
+/// it, and whether a good flush or a crash came between it and the next write. The bytes that were there are let go at
+/// that flush or crash, since none takes the write back any more.
+#[derive(Drop)]
+pub struct Note {
+    pub place: u64,
+    pub old: Vec<u8>,
+    pub content: Vec<u8>,
+    pub done: bool,
+    pub piece: Piece,
+    pub last: bool,
+}
+
+/// Counts a call down, and says whether it is the one to fail.
+pub fn fires(calls: &mut u64) -> bool
+    ensures fires { IsTrue result ↔ (calls.old ≡ 1) }
+    ensures counts { calls.new ≡ calls.old - 1 }
+{
+    if *calls == 0 {
+        return false;
+    }
+    *calls -= 1;
+    *calls == 0
+}
+
+/// Copies the bytes from a place on.
+pub fn copy_part(from: &[u8], place: u64, into: &mut [u8])
+    requires { place + length into.old ≤ length from.now }
+    ensures { into.new ≡ part from.now place (length into.old) }
+{
+    let start = place as usize;
+    into.copy_from_slice(&from[start..start + into.len()]);
+}
+
+/// Writes bytes over those at a place.
+pub fn overwrite(bytes: &mut [u8], place: u64, content: &[u8])
+    requires { place + length content.now ≤ length bytes.old }
+    ensures { bytes.new ≡ put place content.now bytes.old }
+{
+    let start = place as usize;
+    bytes[start..start + content.len()].copy_from_slice(content);
+}
+
+/// Notes a write. Without the memory for it no note is made.
+pub fn make_note(
+    alloc: Global,
+    bytes: &[u8],
+    notes: &mut Vec<Note>,
+    place: u64,
+    content: &[u8],
+    done: bool,
+) -> Result<(), AllocError>
+    requires { place + length content.now ≤ length bytes.now }
+    ensures ok { OnOk result (AddsNote notes.old.items notes.new.items place content.now done bytes.now) }
+    ensures err { OnErr result (notes.new.items ≡ notes.old.items) }
+{
+    let start = place as usize;
+    let old = Vec::from_slice(alloc, &bytes[start..start + content.len()])?;
+    let content = Vec::from_slice(alloc, content)?;
+    notes.push(Note {
+        place,
+        old,
+        content,
+        done,
+        piece: Piece::Keep,
+        last: false,
+    })?;
+    Ok(())
+}
+
+// Puts back what was there before the writes, the newest first.
+fn undo(bytes: &mut [u8], notes: &[Note])
+    requires { All (λ n. n.place + length n.old.items ≤ length bytes.old) notes.now }
+    ensures { bytes.new ≡ undone notes.now bytes.old }
+{
+    for i in (0..notes.len()).rev() {
+        let note = &notes[i];
+        overwrite(bytes, note.place, &note.old);
+    }
+}
+
+fn piece_of(pieces: &[Piece], i: usize) -> Piece
+    ensures { result ≡ piece_at pieces.now i }
+{
+    if i < pieces.len() {
+        pieces[i]
+    } else {
+        Piece::Keep
+    }
+}
+
+// Notes what a crash leaves of the writes from this one on.
+fn mark(notes: &mut [Note], first: usize, pieces: &[Piece])
+    requires { first ≤ length notes.old }
+    ensures { notes.new ≡ take first notes.old ++ with_pieces pieces.now 0 (drop first notes.old) }
+{
+    for i in first..notes.len() {
+        let piece = piece_of(pieces, i - first);
+        notes[i].piece = piece;
+    }
+}
+
+// Writes what a crash leaves of a write.
+fn leave(bytes: &mut [u8], note: &Note)
+    requires { note.now.place + length note.now.content.items ≤ length bytes.old }
+    ensures { bytes.new ≡ left_of note.now bytes.old }
+{
+    match note.piece {
+        Piece::Keep => {
+            if note.done {
+                overwrite(bytes, note.place, &note.content);
+            }
+        }
+        Piece::Lose => {}
+        Piece::Fill(byte) => {
+            let start = note.place as usize;
+            bytes[start..start + note.content.len()].fill(byte);
+        }
+    }
+}
+
+fn replay(bytes: &mut [u8], notes: &[Note])
+    requires { All (λ n. n.place + length n.content.items ≤ length bytes.old) notes.now }
+    ensures { bytes.new ≡ replayed notes.now bytes.old }
+{
+    for note in notes {
+        leave(bytes, note);
+    }
+}
+
+// Notes that the newest write, where it came behind so many, is the last before a good flush or a crash.
+fn close(notes: &mut [Note], settled: usize)
+    ensures { Closes settled notes.old notes.new }
+{
+    if settled < notes.len() {
+        let newest = notes.len() - 1;
+        notes[newest].last = true;
+    }
+}
+
+// Lets go of what stood before the writes from this one on.
+fn forget(alloc: Global, notes: &mut [Note], first: usize)
+    ensures { TellSame notes.old notes.new }
+{
+    for i in first..notes.len() {
+        notes[i].old = Vec::new(alloc);
+    }
+}
+
+/// Settles the writes behind so many, at a good flush or a crash. It takes no memory.
+pub fn settle(alloc: Global, notes: &mut [Note], settled: usize)
+    ensures { Settles settled notes.old notes.new }
+{
+    close(notes, settled);
+    forget(alloc, notes, settled);
+}
+
+fn undo_from(bytes: &mut [u8], notes: &[Note], first: usize)
+    requires within { first ≤ length notes.now }
+    requires fits { All (λ n. n.place + length n.old.items ≤ length bytes.old) (drop first notes.now) }
+    ensures { bytes.new ≡ undone (drop first notes.now) bytes.old }
+{
+    undo(bytes, &notes[first..]);
+}
+
+fn replay_from(bytes: &mut [u8], notes: &[Note], first: usize)
+    requires within { first ≤ length notes.now }
+    requires fits { All (λ n. n.place + length n.content.items ≤ length bytes.old) (drop first notes.now) }
+    ensures { bytes.new ≡ replayed (drop first notes.now) bytes.old }
+{
+    replay(bytes, &notes[first..]);
+}
+
+/// Takes the writes behind so many back, leaves these pieces of them, and settles them. It takes no memory.
+pub fn leave_pieces(
+    alloc: Global,
+    bytes: &mut [u8],
+    notes: &mut [Note],
+    settled: usize,
+    pieces: &[Piece],
+)
+    requires within { settled ≤ length notes.old }
+    requires old_fits { All (λ n. n.place + length n.old.items ≤ length bytes.old)
+        (drop settled notes.old) }
+    requires fits { All (λ n. n.place + length n.content.items ≤ length bytes.old)
+        (drop settled notes.old) }
+    ensures bytes { bytes.new ≡ replayed (with_pieces pieces.now 0 (drop settled notes.old))
+        (undone (drop settled notes.old) bytes.old) }
+    ensures notes { Settles settled
+        (take settled notes.old ++ with_pieces pieces.now 0 (drop settled notes.old)) notes.new }
+{
+    undo_from(bytes, notes, settled);
+    mark(notes, settled, pieces);
+    replay_from(bytes, notes, settled);
+    settle(alloc, notes, settled);
+}

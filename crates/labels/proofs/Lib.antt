@@ -1,0 +1,4 @@
+pub mod Places
+pub mod ConfigBlocks
+pub mod BestConfigs
+pub mod LabelsOfImage

@@ -1,0 +1,5 @@
+pub mod Stages
+pub mod ConfigBytes
+pub mod Configs
+pub mod Choices
+pub mod Laws

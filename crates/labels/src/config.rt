@@ -1,0 +1,178 @@
+ghost use Rattle.std.specs.Prelude.{◌≡◌, ◌+◌, ◌<◌, ◌≤◌, ◌^◌, ◌↔◌, ℕ, List, IsTrue, IfSome, IfNone, length, replicate, take};
+ghost use Rattle.base.specs.Labels.{IsConfigPayload};
+ghost use Rattle.labels.specs.ConfigBytes.{config_bytes};
+
+use base::{Group, MAX_NAME, PoolName, read_u64, write_bytes, write_u64};
+use checked_blocks::{BLOCK_SIZE, Block, Expected, Kind, open, seal};
+use std::marker::Model;
+
+/// The version of this layout of a label.
+const VERSION: u64 = 1;
+
+/// The bytes of version, size and name length, which stand before the name.
+const HEAD: usize = 24;
+
+/// The most bytes of these and the name.
+const MAX_FIELDS: usize = HEAD + MAX_NAME;
+
+/// What the config of a label says (On-Disk Specification, chapter 1). Contracts see it as the record of its four fields.
+#[derive(Clone, Drop)]
+pub struct LabelConfig {
+    guid: u64,
+    group: Group,
+    size: u64,
+    name: PoolName,
+}
+
+impl Model for LabelConfig {
+    ghost use Rattle.base.specs.Labels.{Config};
+
+    ghost Value = { Config };
+
+    ghost view = { λ c. record { guid = c.guid; group = c.group.0; size = c.size; name = c.name } };
+}
+
+impl LabelConfig {
+    ghost use Rattle.std.specs.Prelude.{◌≡◌, ◌≤◌, ◌↔◌, IsTrue, IfSome, IfNone};
+    ghost use Rattle.base.specs.Labels.{Config};
+    ghost use Rattle.labels.specs.Configs.{IsConfigBlock, config_block};
+
+    /// The config of the pool of this guid and name, written in this group on a device of so many bytes.
+    pub fn new(guid: u64, group: Group, size: u64, name: PoolName) -> Self
+        ensures { result ≡ record { guid = guid; group = group.0; size = size; name = name } }
+    {
+        LabelConfig {
+            guid,
+            group,
+            size,
+            name,
+        }
+    }
+
+    /// The guid of the pool.
+    pub fn guid(&self) -> u64
+        ensures { result ≡ self.now.guid }
+    {
+        self.guid
+    }
+
+    /// The group in which the config was written.
+    pub fn group(&self) -> Group
+        ensures { result.0 ≡ self.now.group }
+    {
+        self.group
+    }
+
+    /// The bytes of the device.
+    pub fn size(&self) -> u64
+        ensures { result ≡ self.now.size }
+    {
+        self.size
+    }
+
+    /// The name of the pool.
+    pub fn name(&self) -> &PoolName
+        ensures { result.now ≡ self.now.name }
+    {
+        &self.name
+    }
+
+    /// The block that holds the config: kind 1, number 0, and a payload of the version 1, the size, the length of the name,
+    /// 8 bytes each, the name and zeros.
+    pub fn encode(&self) -> Block
+        ensures bytes { result ≡ config_block self.now }
+        ensures config { IsConfigBlock result self.now.size self.now }
+    {
+        let name = self.name.as_slice();
+        let payload = payload_of(self.size, name);
+        seal(
+            Kind::Config as u64,
+            self.guid,
+            self.group,
+            0,
+            &payload[..HEAD + name.len()],
+        )
+        .unwrap()
+    }
+
+    /// The config that a block holds, on a device of so many bytes: of any pool and group. None exactly where the block does
+    /// not open as kind 1 and number 0, or its version, size, name or zeros are not those of a config.
+    pub fn decode(block: &[u8; BLOCK_SIZE], size: u64) -> Option<Self>
+        ensures config { IfSome result (λ c. IsConfigBlock block.now size c) }
+        ensures none { IfNone result ((c : Config) → IsConfigBlock block.now size c → ⊥) }
+    {
+        let guid = read_u64(block, 8);
+        let expected = Expected {
+            address: 0,
+            kind: Kind::Config as u64,
+            guid,
+            number: 0,
+            group: None,
+            check: None,
+        };
+        let Ok(payload) = open(block, &expected) else {
+            return None;
+        };
+        let name = name_in(payload.as_slice(), size)?;
+        Some(LabelConfig {
+            guid,
+            group: payload.group(),
+            size,
+            name,
+        })
+    }
+
+    /// Whether it may be chosen for an active uberblock of this pool and group.
+    pub(crate) fn is_candidate(&self, guid: u64, group: Group) -> bool
+        ensures { IsTrue result ↔ ((self.now.guid ≡ guid) × (self.now.group ≤ group.0)) }
+    {
+        self.guid == guid && self.group <= group
+    }
+
+    /// Whether the two say the same.
+    pub(crate) fn is_same(&self, other: &LabelConfig) -> bool
+        ensures { IsTrue result ↔ (self.now ≡ other.now) }
+    {
+        self.guid == other.guid
+            && self.group == other.group
+            && self.size == other.size
+            && self.name.as_slice() == other.name.as_slice()
+    }
+}
+
+/// Version, size, length of the name and the name; what lies behind is zeros.
+fn payload_of(size: u64, name: &[u8]) -> [u8; MAX_FIELDS]
+    requires { length name.now ≤ 64 }
+    ensures payload { take (24 + length name.now) result ≡ config_bytes size name.now }
+    ensures size_fits { size < 2 ^ 64 }
+{
+    let mut payload = [0; MAX_FIELDS];
+    write_u64(&mut payload, 0, VERSION);
+    write_u64(&mut payload, 8, size);
+    write_u64(&mut payload, 16, name.len() as u64);
+    write_bytes(&mut payload, HEAD, name);
+    payload
+}
+
+/// The name in a config's payload, or None where the payload is none of a config on a device of so many bytes.
+fn name_in(payload: &[u8], size: u64) -> Option<PoolName>
+    requires { length payload.now ≡ 4032 }
+    ensures name { IfSome result (λ name. IsConfigPayload payload.now size name) }
+    ensures none { IfNone result ((name : List ℕ) → IsConfigPayload payload.now size name → ⊥) }
+{
+    let length = read_u64(payload, 16);
+    if read_u64(payload, 0) != VERSION || read_u64(payload, 8) != size || length > MAX_NAME as u64 {
+        return None;
+    }
+    let end = HEAD + length as usize;
+    if !are_zeros(&payload[end..]) {
+        return None;
+    }
+    PoolName::new(&payload[HEAD..end])
+}
+
+fn are_zeros(bytes: &[u8]) -> bool
+    ensures { IsTrue result ↔ (bytes.now ≡ replicate (length bytes.now) 0) }
+{
+    bytes.iter().all(|byte| *byte == 0)
+}

@@ -1,0 +1,5 @@
+use Rattle.std.proofs.Common.{◌≡◌, ◌+◌, ◌≤◌, vec_len, vec_capacity}
+use Rattle.pool_core.proofs.contents.empty_slots.Given as goal
+
+abbrev pub invariant-loop-i : goal.invariant-loop-i
+invariant-loop-i l = (vec_len l.slots ≡ l._i) × (5292 ≤ vec_capacity l.slots)

@@ -1,0 +1,4 @@
+pub mod Ops
+pub mod Runs
+pub mod Numbers
+pub mod Entries

@@ -1,0 +1,103 @@
+//! The line of transaction groups (`txg.c`): one is synced, then at most one is syncing, at most one quiesces or is
+//! quiesced and waits (this rule is the project's), and one is always open.
+
+ghost use Rattle.std.specs.Prelude.{◌<◌, ◌≤◌, ◌^◌};
+ghost use Rattle.std.specs.Option.{ForSome};
+ghost use Rattle.pool_core.specs.Numbers.{IsGroup};
+
+use crate::limits::LAST_NUMBER;
+use base::{Group, PoolError};
+
+/// The group between the open one and the syncing one.
+#[derive(Clone, Copy, Debug, PartialEq, Eq)]
+pub struct Middle {
+    pub group: Group,
+    pub quiesced: bool,
+}
+
+/// The groups, in the order of their numbers.
+#[derive(Drop)]
+pub struct Groups {
+    pub synced: Group,
+    pub syncing: Option<Group>,
+    pub middle: Option<Middle>,
+    pub open: Group,
+    ghost open_group: { IsGroup open.0 },
+    ghost middle_group: { ForSome middle (λ m. IsGroup m.group.0) },
+}
+
+impl Groups {
+    /// The groups behind a synced one: the next is open.
+    pub fn new(synced: Group) -> Self
+        requires low { 4 ≤ synced.0 }
+        requires high { synced.0 < 2 ^ 60 }
+    {
+        Groups {
+            synced,
+            syncing: None,
+            middle: None,
+            open: Group(synced.0 + 1),
+        }
+    }
+
+    /// Whether a group between the synced one and the open one is there.
+    pub fn has_older(&self) -> bool {
+        self.syncing.is_some() || self.middle.is_some()
+    }
+
+    /// The open group quiesces, and the next one is open. Refused NotReady where a middle is there, or the open group
+    /// has the last number.
+    pub fn close_open(&mut self) -> Result<Group, PoolError> {
+        if self.middle.is_some() || self.open.0 >= LAST_NUMBER {
+            return Err(PoolError::NotReady);
+        }
+        self.middle = Some(Middle {
+            group: self.open,
+            quiesced: false,
+        });
+        self.open = Group(self.open.0 + 1);
+        Ok(self.open)
+    }
+
+    /// The quiescing group.
+    pub fn quiescing(&self) -> Option<Group>
+        ensures { ForSome result (λ group. IsGroup group.0) }
+    {
+        match self.middle {
+            Some(middle) if !middle.quiesced => Some(middle.group),
+            _ => None,
+        }
+    }
+
+    /// The quiesced group that waits for its sync.
+    pub fn quiesced(&self) -> Option<Group>
+        ensures { ForSome result (λ group. IsGroup group.0) }
+    {
+        match self.middle {
+            Some(middle) if middle.quiesced => Some(middle.group),
+            _ => None,
+        }
+    }
+
+    /// The middle has no hold left.
+    pub fn mark_quiesced(&mut self, group: Group)
+        requires { IsGroup group.0 }
+    {
+        self.middle = Some(Middle {
+            group,
+            quiesced: true,
+        });
+    }
+
+    /// The quiesced group is being synced.
+    pub fn start_sync(&mut self, group: Group) {
+        self.syncing = Some(group);
+        self.middle = None;
+    }
+
+    /// The syncing group is synced.
+    pub fn finish_sync(&mut self, group: Group) {
+        self.synced = group;
+        self.syncing = None;
+    }
+}

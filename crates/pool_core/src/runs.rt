@@ -1,0 +1,66 @@
+//! Steps as values, one after another.
+
+ghost use Rattle.std.specs.Prelude.{◌≡◌, IfOk, vec_len};
+ghost use Rattle.std.specs.Result.{ForOk};
+
+use crate::state::{PoolState, Progress};
+use base::{PoolError, Reply, Step};
+use device_model::SectorDevice;
+
+impl<D: SectorDevice> PoolState<D> {
+    /// Makes one step.
+    pub fn step(&mut self, step: Step) -> Reply {
+        match step {
+            Step::Lock(owner, object, range, mode) => reply(
+                self.lock(owner, object, range, mode),
+                Reply::Locked,
+            ),
+            Step::Unlock(owner, id) => reply(self.unlock(owner, id), |_| Reply::Done),
+            Step::Begin(owner, plan) => reply(
+                self.begin(owner, plan),
+                |(tx, group)| Reply::Began(tx, group),
+            ),
+            Step::Commit(tx, ops) => reply(self.commit(tx, ops), Reply::Committed),
+            Step::Read(owner, object, range) => reply(
+                self.read(owner, object, range),
+                Reply::Bytes,
+            ),
+            Step::CloseGroup => reply(self.close_group(), Reply::Opened),
+            Step::MarkQuiesced => reply(self.mark_quiesced(), Reply::Quiesced),
+            Step::StartSync(moment) => reply(self.start_sync(moment), Reply::Syncing),
+            Step::SyncStep => match self.sync_step() {
+                Ok(Progress::More) => Reply::More,
+                Ok(Progress::Synced(group)) => Reply::Synced(group),
+                Err(error) => Reply::Refused(error),
+            },
+        }
+    }
+}
+
+// What a step's answer is told as.
+fn reply<T, F: FnOnce(T) -> Reply>(answer: Result<T, PoolError>, told: F) -> Reply
+    requires { ForOk answer (F.pre told) }
+{
+    match answer {
+        Ok(value) => told(value),
+        Err(error) => Reply::Refused(error),
+    }
+}
+
+/// Makes steps one after another, and answers each. It takes the room for all replies first.
+///
+/// # Errors
+/// `NoMemory` where there is none for the replies, and then no step was made.
+pub fn run<D: SectorDevice>(
+    state: &mut PoolState<D>,
+    steps: Vec<Step>,
+) -> Result<Vec<Reply>, PoolError>
+    ensures { IfOk result (λ replies. vec_len replies ≡ vec_len steps) }
+{
+    let mut replies = Vec::with_capacity(state.alloc(), steps.len())?;
+    for step in steps {
+        let reply = state.step(step);
+        replies.push_reserved(reply);
+    }
+    Ok(replies)
+}

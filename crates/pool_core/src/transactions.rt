@@ -1,0 +1,173 @@
+//! Plans of transactions: their limits and what they touch, and the transactions that are open.
+
+ghost use Rattle.std.specs.Prelude.{◌≡◌, ◌↔◌, ◌+◌, IsTrue, map, nat_le};
+ghost use Rattle.std.specs.List.{list_all};
+ghost use Rattle.base.specs.Limits.{max_length};
+ghost use Rattle.base.specs.Plans as plans;
+ghost use Rattle.base.specs.Plans.{shape_of};
+ghost use Rattle.base.specs.Stage as stage;
+ghost use Rattle.base.specs.Stage.{is_plan_built};
+
+use crate::limits::{MAX_LENGTH, MAX_LOG_RECORD, OBJECT_COUNT};
+use crate::range_locks::ObjectRange;
+use base::{Group, MAX_NAME, ObjectId, Op, Owner, Plan, Range, Shape, TxId};
+
+/// A transaction that was admitted and has not ended.
+#[derive(Drop)]
+pub struct OpenTransaction {
+    pub tx: TxId,
+    pub group: Group,
+    pub owner: Owner,
+    pub plan: Plan,
+}
+
+// The whole range of an object, or of the name.
+fn whole(object: ObjectId) -> ObjectRange {
+    ObjectRange {
+        object,
+        range: Range {
+            low: 0,
+            high: MAX_LENGTH,
+        },
+    }
+}
+
+/// The range that a shape touches: a write its bytes, every other shape the whole object or the whole name.
+pub fn range_of(shape: &Shape) -> ObjectRange {
+    match shape {
+        Shape::Create(id) | Shape::Remove(id) | Shape::SetLength(id, _) => whole(*id),
+        Shape::SetName(_) => whole(ObjectId(OBJECT_COUNT)),
+        Shape::Write(id, offset, count) => ObjectRange {
+            object: *id,
+            range: Range {
+                low: *offset,
+                high: offset.saturating_add(*count),
+            },
+        },
+    }
+}
+
+/// Whether a plan has a shape, and each creates or writes within the limits.
+pub fn is_plan_allowed(plan: &[Shape]) -> bool
+    ensures { result ≡ is_plan_built plan.now }
+{
+    is_within_limits(plan) && are_built(plan)
+}
+
+fn is_within_limits(plan: &[Shape]) -> bool
+    ensures { result ≡ plans.is_plan_allowed plan.now }
+{
+    !plan.is_empty() && are_allowed(plan)
+}
+
+fn are_allowed(plan: &[Shape]) -> bool
+    ensures { result ≡ list_all plans.is_shape_allowed plan.now }
+{
+    plan.iter().all(|shape| is_shape_allowed(shape))
+}
+
+fn are_built(plan: &[Shape]) -> bool
+    ensures { result ≡ list_all stage.is_shape_built plan.now }
+{
+    plan.iter().all(|shape| is_shape_built(shape))
+}
+
+fn is_shape_allowed(shape: &Shape) -> bool
+    ensures { result ≡ plans.is_shape_allowed shape.now }
+{
+    match shape {
+        Shape::Create(id) | Shape::Remove(id) => id.0 < OBJECT_COUNT,
+        Shape::Write(id, offset, count) => id.0 < OBJECT_COUNT
+            && 0 < *count
+            && is_end_allowed(*offset, *count),
+        Shape::SetLength(id, length) => id.0 < OBJECT_COUNT && *length <= MAX_LENGTH,
+        Shape::SetName(count) => 0 < *count && *count <= MAX_NAME as u64,
+    }
+}
+
+// Whether so many bytes at an offset end within the greatest length.
+fn is_end_allowed(offset: u64, count: u64) -> bool
+    ensures { result ≡ nat_le (offset + count) max_length }
+{
+    count <= MAX_LENGTH && offset <= MAX_LENGTH - count
+}
+
+fn is_shape_built(shape: &Shape) -> bool
+    ensures { result ≡ stage.is_shape_built shape.now }
+{
+    matches!(shape, Shape::Create(_) | Shape::Write(_, _, _))
+}
+
+/// Whether the log record of a plan is longer than one may be.
+pub fn is_too_large(plan: &[Shape]) -> bool {
+    let mut size = 22;
+    for shape in plan {
+        let more = size_of(shape);
+        if more > MAX_LOG_RECORD - size {
+            return true;
+        }
+        size += more;
+    }
+    false
+}
+
+// How many bytes a log record has for an operation of this shape.
+fn size_of(shape: &Shape) -> u64 {
+    match shape {
+        Shape::Create(_) | Shape::Remove(_) => 5,
+        Shape::Write(_, _, count) => count.saturating_add(17),
+        Shape::SetLength(_, _) => 13,
+        Shape::SetName(count) => count.saturating_add(5),
+    }
+}
+
+/// Whether some range of a plan overlaps one of an open transaction.
+pub fn is_blocked(plan: &[Shape], open: &[OpenTransaction]) -> bool {
+    open.iter().any(|transaction| overlaps_any(plan, transaction.plan.as_slice()))
+}
+
+fn overlaps_any(plan: &[Shape], other: &[Shape]) -> bool {
+    plan.iter()
+        .any(|shape| touches_any(&range_of(shape), other))
+}
+
+fn touches_any(target: &ObjectRange, plan: &[Shape]) -> bool {
+    plan.iter().any(|shape| target.overlaps(&range_of(shape)))
+}
+
+/// Whether a range of an open transaction lies in this one.
+pub fn is_in_use(target: &ObjectRange, open: &[OpenTransaction]) -> bool {
+    open.iter().any(|transaction| lies_any_in(transaction.plan.as_slice(), target))
+}
+
+fn lies_any_in(plan: &[Shape], target: &ObjectRange) -> bool {
+    plan.iter().any(|shape| range_of(shape).lies_in(target))
+}
+
+/// Whether operations have a plan's shapes, one for one.
+pub fn is_in_plan(ops: &[Op], plan: &[Shape]) -> bool
+    ensures { IsTrue result ↔ (map shape_of ops.now ≡ plan.now) }
+{
+    if ops.len() != plan.len() {
+        return false;
+    }
+    for (index, op) in ops.iter().enumerate() {
+        if shape_of(op) != plan[index] {
+            return false;
+        }
+    }
+    true
+}
+
+/// The shape of an operation: the length of its bytes in place of the bytes.
+fn shape_of(op: &Op) -> Shape
+    ensures { result ≡ plans.shape_of op.now }
+{
+    match op {
+        Op::Create(id) => Shape::Create(*id),
+        Op::Remove(id) => Shape::Remove(*id),
+        Op::Write(id, offset, bytes) => Shape::Write(*id, *offset, bytes.len() as u64),
+        Op::SetLength(id, length) => Shape::SetLength(*id, *length),
+        Op::SetName(bytes) => Shape::SetName(bytes.len() as u64),
+    }
+}

@@ -1,0 +1,85 @@
+-- When bytes are an uberblock, and of which fields.
+use Rattle.std.proofs.Common.{ℕ, zero, suc, ◌≡◌, ◌==◌, true, List, [], ◌∷◌, length, replicate, refl, sym, ap, ◌∙◌, subst}
+use Rattle.std.specs.List.{list_all}
+use Rattle.std.proofs.lemmas.Bool.{and_parts, eqb-true}
+use Rattle.base.specs.declared.pointer.Pointer.{Pointer}
+use Rattle.base.specs.Uberblocks.{Uberblock as Fields, IsUberblock, IsSealedSlot}
+use Rattle.uberblocks.specs.declared.uberblock.Uberblock.{Uberblock}
+use Rattle.uberblocks.specs.Slots.{fields_of, fields_at, zeros, HasMarks, HasZeros, IsWithinLimits}
+
+-- what bytes have that are an uberblock of the fields in their places
+pub record IsFormed (bytes : List ℕ) : Type 0 where
+  pub marks : HasMarks bytes
+  pub clear : HasZeros bytes
+  pub limits : IsWithinLimits (fields_at bytes)
+  pub agrees : IsSealedSlot bytes
+
+pub IsUberblock-formed : (bytes : List ℕ) → length bytes ≡ 1024 → IsFormed bytes → IsUberblock bytes (fields_at bytes)
+unfolding fields_at zeros
+IsUberblock-formed bytes long f =
+    record {
+      size = long;
+      magic = f.marks.0;
+      version = f.marks.1;
+      group = refl;
+      guid = refl;
+      moment = refl;
+      root = refl;
+      import_number = refl;
+      log_address = refl;
+      log_number = refl;
+      zeros = f.clear;
+      agrees = f.agrees;
+      no_lower_group = f.limits.no_lower_group;
+      no_higher_group = f.limits.no_higher_group;
+      no_higher_import = f.limits.no_higher_import;
+      no_higher_log = f.limits.no_higher_log;
+    }
+
+-- the fields of an uberblock are those in their places
+pub fields_at-read : {bytes : List ℕ} {u : Fields} → IsUberblock bytes u → fields_at bytes ≡ u
+unfolding fields_at
+fields_at-read {bytes} {u} is = same is.group is.guid is.moment is.root is.import_number is.log_address is.log_number
+  where
+    same : {a b c e f g : ℕ} {d : Pointer} → a ≡ u.group → b ≡ u.guid → c ≡ u.moment → d ≡ u.root → e ≡ u.import_number → f ≡ u.log_address → g ≡ u.log_number
+        → record { group = a; guid = b; moment = c; root = d; import_number = e; log_address = f; log_number = g } ≡ u
+    same p q r s t v w = rw (p, q, r, s, t, v, w) refl
+
+pub IsFormed-read : {bytes : List ℕ} {u : Fields} → IsUberblock bytes u → IsFormed bytes
+unfolding zeros
+IsFormed-read {bytes} {u} is =
+    let limits : IsWithinLimits u = record { no_lower_group = is.no_lower_group; no_higher_group = is.no_higher_group; no_higher_import = is.no_higher_import; no_higher_log = is.no_higher_log } in
+    record {
+      marks = (is.magic, is.version);
+      clear = is.zeros;
+      limits = subst (λ (v : Fields). IsWithinLimits v) (sym (fields_at-read is)) limits;
+      agrees = is.agrees;
+    }
+
+-- bytes are an uberblock of one list of fields at most
+pub readings_agree : (bytes : List ℕ) (u v : Fields) → IsUberblock bytes u → IsUberblock bytes v → u ≡ v
+readings_agree bytes u v is_u is_v = sym (fields_at-read is_u) ∙ fields_at-read is_v
+
+-- values with the same fields are the same
+pub fields_of-same : (u v : Uberblock) → fields_of u ≡ fields_of v → u ≡ v
+fields_of-same u v e =
+    ap (λ (f : Fields). record { group = record { 0 = f.group }; guid = f.guid; moment = f.moment; root = f.root; import_number = f.import_number; log_address = f.log_address; log_number = f.log_number }) e
+
+-- bytes of which each is zero are so many zeros, and the other way round
+zeros_from_all : (bytes : List ℕ) → list_all (λ byte. byte == 0) bytes ≡ true → bytes ≡ replicate (length bytes) 0
+zeros_from_all [] all = refl
+zeros_from_all (b ∷ rest) all =
+    let parts = and_parts (b == 0) (list_all (λ byte. byte == 0) rest) all in
+    ap (λ (h : ℕ). h ∷ rest) (eqb-true b 0 parts.0) ∙ ap (λ (l : List ℕ). 0 ∷ l) (zeros_from_all rest parts.1)
+
+all_from_zeros : (n : ℕ) → list_all (λ byte. byte == 0) (replicate n 0) ≡ true
+all_from_zeros zero = refl
+all_from_zeros (suc n) = all_from_zeros n
+
+pub clear_from_all : (bytes : List ℕ) (n : ℕ) → length bytes ≡ n → list_all (λ byte. byte == 0) bytes ≡ true → bytes ≡ zeros n
+unfolding zeros
+clear_from_all bytes n long all = zeros_from_all bytes all ∙ ap (λ (k : ℕ). replicate k 0) long
+
+pub all_from_clear : (bytes : List ℕ) (n : ℕ) → bytes ≡ zeros n → list_all (λ byte. byte == 0) bytes ≡ true
+unfolding zeros
+all_from_clear bytes n clear = ap (λ (l : List ℕ). list_all (λ byte. byte == 0) l) clear ∙ all_from_zeros n

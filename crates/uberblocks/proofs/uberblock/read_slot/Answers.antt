@@ -1,0 +1,38 @@
+use Rattle.std.proofs.Common.{subst, sym, ap, ◌∙◌, Some}
+use Rattle.std.proofs.lemmas.Bool.{iff_false}
+use Rattle.base.specs.Uberblocks.{Uberblock as Fields, IsUberblock}
+use Rattle.uberblocks.specs.Slots.{fields_of, IsWithinLimits}
+use Rattle.uberblocks.specs.declared.uberblock.Uberblock.{Uberblock}
+use Rattle.uberblocks.proofs.SlotReads.{IsFormed, IsFormed-read, IsUberblock-formed, fields_at-read, fields_of-same}
+use Rattle.uberblocks.proofs.uberblock.read_slot.Goals as goal
+use Rattle.uberblocks.proofs.uberblock.read_slot.Goals.{else-is_marked-via-then-is_marked+then-is_clear+then-is_within_limits+else-is_sealed, else-is_marked-via-then-is_marked+then-is_clear+else-is_within_limits, else-is_marked-via-then-is_marked+else-is_clear, else-is_marked-via-else-is_marked}
+
+pub returns-then-is_sealed-clause-held : goal.returns-then-is_sealed-clause-held
+returns-then-is_sealed-clause-held c =
+    let same = c.read_fields-uberblock.ensures in
+    let formed : IsFormed c.args.bytes.now = record {
+      marks = c.is_marked.ensures.0 c.if-is_marked.true;
+      clear = c.is_clear.ensures.0 c.if-is_clear.true;
+      limits = subst (λ (f : Fields). IsWithinLimits f) same (c.is_within_limits.ensures.0 c.if-is_within_limits.true);
+      agrees = c.is_sealed.ensures.0 c.if-is_sealed.true;
+    } in
+    subst (λ (f : Fields). IsUberblock c.args.bytes.now f) (sym same) (IsUberblock-formed c.args.bytes.now c.requires formed)
+
+pub returns-then-is_sealed-clause-found : goal.returns-then-is_sealed-clause-found
+returns-then-is_sealed-clause-found c =
+    λ u is. ap (λ (v : Uberblock). Some v) (fields_of-same c.read_fields-uberblock.result u (c.read_fields-uberblock.ensures ∙ fields_at-read is))
+
+pub returns-else-is_marked-clause-none : goal.returns-else-is_marked-clause-none
+returns-else-is_marked-clause-none c =
+    λ u is.
+    let formed = IsFormed-read is in
+    let limits = subst (λ (f : Fields). IsWithinLimits f) (sym c.read_fields-uberblock.ensures) formed.limits in
+    elim c.else-is_marked.branch [
+      | else-is_marked-via-then-is_marked+then-is_clear+then-is_within_limits+else-is_sealed w ↦ iff_false w.is_sealed.ensures w.if-is_sealed.false formed.agrees
+      | else-is_marked-via-then-is_marked+then-is_clear+else-is_within_limits w ↦ iff_false w.is_within_limits.ensures w.if-is_within_limits.false limits
+      | else-is_marked-via-then-is_marked+else-is_clear w ↦ iff_false w.is_clear.ensures w.if-is_clear.false formed.clear
+      | else-is_marked-via-else-is_marked w ↦ iff_false c.is_marked.ensures w.if-is_marked.false formed.marks
+    ]
+
+pub returns-else-is_marked-clause-found : goal.returns-else-is_marked-clause-found
+returns-else-is_marked-clause-found c = λ u is. absurd (returns-else-is_marked-clause-none c (fields_of u) is)

@@ -1,0 +1,36 @@
+//! What holds of slots, uberblocks and arrays: each function's contract is a law, and its body does nothing.
+
+ghost use Rattle.uberblocks.specs.Laws.{ActivesAgree, ReadingsAgree, RingActivesAgree, RingsShowActives, RingsShowNone, SlotsDiffer, SlotsReadBack, SlotsSpelledOnce};
+
+/// What is encoded of fields within their limits is an uberblock of these fields.
+pub fn slots_read_back()
+    ensures { SlotsReadBack }
+{}
+
+/// Bytes that are an uberblock are those that encoding it gives.
+pub fn slots_are_spelled_once()
+    ensures { SlotsSpelledOnce }
+{}
+
+/// Bytes are an uberblock of one list of fields at most, so two readings of them agree.
+pub fn readings_agree()
+    ensures { ReadingsAgree }
+{}
+
+/// An image has one active uberblock at most, and so have the arrays of one.
+pub fn actives_agree()
+    ensures image { ActivesAgree }
+    ensures ring { RingActivesAgree }
+{}
+
+/// The uberblock of a later group, up to 127 groups on, never lies in the slot of the earlier one. So that of
+/// a sync or an import, one or four groups on, has another slot than the active one.
+pub fn slots_differ()
+    ensures { SlotsDiffer }
+{}
+
+/// What is active in the arrays of an image is what is active in the image, and none is where none is.
+pub fn rings_show_images()
+    ensures active { RingsShowActives }
+    ensures none { RingsShowNone }
+{}

@@ -1,0 +1,191 @@
+//! The fields of an uberblock, and the 1,024 bytes that they are stored in.
+
+ghost use Rattle.std.specs.Prelude.{◌≡◌, ◌==◌, ◌≤◌, ◌↔◌, IfNone, IfSome, IsTrue, Some, length, take};
+ghost use Rattle.std.specs.List.{list_all};
+ghost use Rattle.sha2.specs.Sha256.{sha256};
+ghost use Rattle.base.specs.Disk.{put};
+ghost use Rattle.base.specs.Limits.{first_group, last_number};
+ghost use Rattle.base.specs.Uberblocks.{IsSealedSlot, IsUberblock};
+ghost use Rattle.uberblocks.specs.Slots.{FieldsFit, HoldsNoUberblock, HasMarks, HasZeros, IsWithinLimits, field_bytes, fields_at, fields_of, slot_bytes, zeros};
+
+use base::{Group, Pointer, read_pointer, read_u64, write_bytes, write_pointer, write_u64};
+use sha2::{Digest, Sha256};
+
+/// The bytes of an uberblock, and of a slot of the array.
+pub const SLOT_SIZE: usize = 1024;
+
+/// The number that an uberblock begins with.
+pub const MAGIC: u64 = 0x00ba_b10c;
+
+/// The version of the format.
+pub const VERSION: u64 = 1;
+
+/// Where the zeros behind the fields begin.
+const ZEROS_PLACE: usize = 112;
+
+/// Where the check begins, and how many bytes it covers.
+const CHECK_PLACE: usize = 992;
+
+/// The greatest group, import number and log number.
+const LAST_NUMBER: u64 = 1 << 60;
+
+/// The group of a pool as it is created.
+const FIRST_GROUP: u64 = 4;
+
+/// The state of a pool as a transaction group leaves it (ZFS On-Disk Specification, chapter 1).
+#[derive(Clone, Copy, Debug, PartialEq, Eq)]
+pub struct Uberblock {
+    /// The transaction group that was synced.
+    pub group: Group,
+    /// The sum of the guids of the pool's devices: with one device, the pool's guid.
+    pub guid: u64,
+    /// The moment that the caller hands in, in seconds. It is stored and never interpreted.
+    pub moment: u64,
+    /// The pointer to the root of the tree.
+    pub root: Pointer,
+    /// The number of the import that wrote it, 0 for a pool as it is created.
+    pub import_number: u64,
+    /// The byte address of the first block of the intent log, 0 for none.
+    pub log_address: u64,
+    /// The number of that block in its chain.
+    pub log_number: u64,
+}
+
+impl Uberblock {
+    /// The bytes of a slot with this uberblock, little-endian: magic, version, group, guid and moment (8
+    /// each), root pointer (48), import number, log address and log number (8 each), 880 zeros, and the
+    /// SHA-256 check (FIPS 180-4) of all of these.
+    ///
+    /// The group has to be 4 to 2^60, and the import number and the log number at most 2^60.
+    pub fn encode(&self) -> [u8; SLOT_SIZE]
+        requires no_lower_group { first_group ≤ self.now.group.0 }
+        requires no_higher_group { self.now.group.0 ≤ last_number }
+        requires no_higher_import { self.now.import_number ≤ last_number }
+        requires no_higher_log { self.now.log_number ≤ last_number }
+        ensures bytes { result ≡ slot_bytes (fields_of self.now) }
+        ensures uberblock { IsUberblock result (fields_of self.now) }
+    {
+        let mut bytes = empty_slot();
+        self.write_fields(&mut bytes);
+        let check = check_of(&bytes);
+        write_bytes(&mut bytes, CHECK_PLACE, &check);
+        bytes
+    }
+
+    /// The uberblock that a slot holds.
+    ///
+    /// None where the bytes are no uberblock: the magic, the version, the zeros or the check
+    /// disagree, the group is not 4 to 2^60, or the import number or the log number is above 2^60.
+    pub fn decode(bytes: &[u8; SLOT_SIZE]) -> Option<Uberblock>
+        ensures held { IfSome result (λ u. IsUberblock bytes.now (fields_of u)) }
+        ensures found { (u : Uberblock) → IsUberblock bytes.now (fields_of u) → result ≡ Some u }
+        ensures none { IfNone result (HoldsNoUberblock bytes.now) }
+    {
+        read_slot(bytes)
+    }
+
+    /// Writes magic, version and the fields at the front of a slot.
+    fn write_fields(self, bytes: &mut [u8])
+        requires { length bytes.old ≡ 1024 }
+        ensures written { bytes.new ≡ put 0 (field_bytes (fields_of self)) bytes.old }
+        ensures fit { FieldsFit (fields_of self) }
+    {
+        write_u64(bytes, 0, MAGIC);
+        write_u64(bytes, 8, VERSION);
+        write_u64(bytes, 16, self.group.0);
+        write_u64(bytes, 24, self.guid);
+        write_u64(bytes, 32, self.moment);
+        write_pointer(bytes, 40, &self.root);
+        write_u64(bytes, 88, self.import_number);
+        write_u64(bytes, 96, self.log_address);
+        write_u64(bytes, 104, self.log_number);
+    }
+
+    /// The fields of a slot, whatever it holds.
+    fn read_fields(bytes: &[u8]) -> Uberblock
+        requires { length bytes.now ≡ 1024 }
+        ensures { fields_of result ≡ fields_at bytes.now }
+    {
+        Uberblock {
+            group: Group(read_u64(bytes, 16)),
+            guid: read_u64(bytes, 24),
+            moment: read_u64(bytes, 32),
+            root: read_pointer(bytes, 40),
+            import_number: read_u64(bytes, 88),
+            log_address: read_u64(bytes, 96),
+            log_number: read_u64(bytes, 104),
+        }
+    }
+
+    /// Whether the group, the import number and the log number are ones that a pool can have.
+    fn is_within_limits(&self) -> bool
+        ensures { IsTrue result ↔ IsWithinLimits (fields_of self.now) }
+    {
+        self.group.0 >= FIRST_GROUP
+            && self.group.0 <= LAST_NUMBER
+            && self.import_number <= LAST_NUMBER
+            && self.log_number <= LAST_NUMBER
+    }
+}
+
+/// The uberblock that 1,024 bytes hold, as `Uberblock::decode` has it.
+pub(crate) fn read_slot(bytes: &[u8]) -> Option<Uberblock>
+    requires { length bytes.now ≡ 1024 }
+    ensures held { IfSome result (λ u. IsUberblock bytes.now (fields_of u)) }
+    ensures found { (u : Uberblock) → IsUberblock bytes.now (fields_of u) → result ≡ Some u }
+    ensures none { IfNone result (HoldsNoUberblock bytes.now) }
+{
+    let uberblock = Uberblock::read_fields(bytes);
+    if is_marked(bytes) && is_clear(bytes) && uberblock.is_within_limits() && is_sealed(bytes) {
+        Some(uberblock)
+    } else {
+        None
+    }
+}
+
+/// A slot of zeros.
+fn empty_slot() -> [u8; SLOT_SIZE]
+    ensures { result ≡ zeros 1024 }
+{
+    [0; SLOT_SIZE]
+}
+
+/// Whether a slot has the magic and the version.
+fn is_marked(bytes: &[u8]) -> bool
+    requires { length bytes.now ≡ 1024 }
+    ensures { IsTrue result ↔ HasMarks bytes.now }
+{
+    read_u64(bytes, 0) == MAGIC && read_u64(bytes, 8) == VERSION
+}
+
+/// Whether a slot has zeros behind its fields.
+fn is_clear(bytes: &[u8]) -> bool
+    requires { length bytes.now ≡ 1024 }
+    ensures { IsTrue result ↔ HasZeros bytes.now }
+{
+    are_zeros(&bytes[ZEROS_PLACE..CHECK_PLACE])
+}
+
+/// Whether all of these bytes are zero.
+fn are_zeros(bytes: &[u8]) -> bool
+    ensures { result ≡ list_all (λ byte. byte == 0) bytes.now }
+{
+    bytes.iter().all(|byte| *byte == 0)
+}
+
+/// Whether the check of a slot agrees.
+fn is_sealed(bytes: &[u8]) -> bool
+    requires { length bytes.now ≡ 1024 }
+    ensures { IsTrue result ↔ IsSealedSlot bytes.now }
+{
+    let check = check_of(bytes);
+    bytes[CHECK_PLACE..] == check[..]
+}
+
+/// The check of a slot: the SHA-256 digest (FIPS 180-4) of the bytes before it.
+fn check_of(bytes: &[u8]) -> [u8; 32]
+    requires { length bytes.now ≡ 1024 }
+    ensures { result ≡ sha256 (take 992 bytes.now) }
+{
+    Sha256::digest(&bytes[..CHECK_PLACE])
+}

@@ -1,0 +1,47 @@
+//! The value while a seat has the lock.
+ghost use Rattle.std.specs.Prelude.{◌≡◌, [], ◌∷◌, ◌++◌};
+ghost use Rattle.word_lock.specs.Seats.{seen, turns, seat_table, lock_table, IsIdle, IsHolding, IsSameSeat};
+ghost use Rattle.word_lock.specs.Turns.{turn};
+
+use crate::lock::WordLock;
+use crate::rule::LockRule;
+use crate::seat::Seat;
+use crate::told::Told;
+use std::alloc::{Allocator, Global};
+
+/// A value, and the view that explains it. Whoever changes the value changes the view with it.
+pub struct Held<T, V> {
+    pub value: T,
+    pub view: Told<V>,
+}
+
+/// The value of a lock that a seat has. It has no `Drop`, so it must be given to `release`: letting it go does not compile.
+pub struct Guard<'s, 'l, T, R: LockRule<T>, A: Allocator = Global> {
+    pub(crate) seat: &'s mut Seat<T, R>,
+    pub(crate) lock: &'l WordLock<T, R, A>,
+    pub held: Held<T, R::View>,
+}
+
+// What the seat has seen.
+pub(crate) fn seen_view<T, R: LockRule<T>>(seat: &Seat<T, R>) -> Told<R::View>
+    ensures { result.value ≡ seen seat.now }
+{
+    Told::of(seat)
+}
+
+/// Frees the lock with the guard's value, which the guard's view has to explain. That view has to go on from what the seat took. Afterwards the seat has seen it, and has had one turn more, from the view that it took to this one.
+///
+/// The steps are: a `fetch_or` of nothing, by which the seat takes the view, the value into the slot, a `swap` that clears both bits of the word and counts one more, and where the waiter bit was set one wake. It never waits.
+pub fn release<'s, 'l, T, R: LockRule<T>, A: Allocator>(guard: Guard<'s, 'l, T, R, A>)
+    requires own { seat_table guard.seat.now ≡ lock_table guard.lock.now }
+    requires held { IsHolding guard.seat.now }
+    requires grows { R.grows (seen guard.seat.now) guard.held.view.value }
+    requires explains { R.explains guard.held.view.value guard.held.value }
+    ensures same { IsSameSeat guard.entry.seat.now guard.exit.0.now }
+    ensures freed { IsIdle guard.exit.0.now × (seen guard.exit.0.now ≡ guard.entry.held.view.value) }
+    ensures turn { turns guard.exit.0.now ≡ turns guard.entry.seat.now ++ turn (seen guard.entry.seat.now) guard.entry.held.view.value ∷ [] }
+{
+    let Guard { seat, lock, held } = guard;
+    let Held { value, view } = held;
+    seat.put_back(lock, value, &view);
+}

@@ -1,0 +1,22 @@
+//! A lock over one value, proved for any rule that says how the value may change.
+//!
+//! OpenZFS has no such lock: there a pool's state stands under several mutexes and condition variables. This one is the project's own. It is one word and one slot of an `atomic_table`. The value lies in the slot while the word's lowest bit is clear, and is out with one seat while that bit is set.
+//!
+//! What the value has been through is a *view*, which exists in the proofs alone. A `LockRule` says which value a view explains, and which view goes on from which. Each `Seat` has seen a view, and a thread that takes the lock gets the value with a view that explains it and goes on from what its seat has seen. A seat also knows the turns that it has had, so that a contract can say that a call is one turn and adds nothing else.
+#![tactic(auto)]
+
+mod guard;
+mod lock;
+mod plays;
+mod rule;
+mod seat;
+#[cfg(test)]
+mod tests;
+mod told;
+mod word;
+
+pub use guard::{Guard, Held, release};
+pub use lock::WordLock;
+pub use rule::{LockRule, Turn};
+pub use seat::Seat;
+pub use told::Told;

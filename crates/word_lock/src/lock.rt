@@ -1,0 +1,113 @@
+//! The lock, and its value before and after.
+ghost use Rattle.std.specs.Prelude.{◌≡◌, [], ◌∷◌, Some, IfOk, IfErr};
+
+use crate::plays::Sit;
+use crate::rule::{Keeps, LockRule, Sight};
+use crate::seat::Seat;
+use crate::told::Told;
+use crate::word::{FREE, is_held};
+use atomic_table::{Refused, Table};
+use base::PoolError;
+use std::alloc::{Allocator, Global};
+
+/// A lock over a value of type `T` under the rule `R`. Threads share it by reference, each with a seat of its own.
+///
+/// It is one word and one slot. While the word is free, a view explains the value in the slot, and that view goes on from what every seat has seen. While it is held, this is so of the holder's view and value.
+#[derive(Drop)]
+pub struct WordLock<T, R: LockRule<T>, A: Allocator = Global> {
+    pub(crate) table: Table<Option<T>, Sight<R::View>, Told<R::View>, Keeps<R>, A>,
+    ghost single: { (table.shared.table_id.words ≡ 1) × (table.shared.table_id.slots ≡ 1) },
+}
+
+// A list with the value alone, for the one slot.
+fn slot_of<T, A: Allocator>(alloc: A, value: T) -> Result<Vec<Option<T>, A>, T>
+    ensures ok { IfOk result (λ slots. slots.items ≡ Some value ∷ []) }
+    ensures err { IfErr result (λ x. x ≡ value) }
+{
+    let mut slots = Vec::new(alloc);
+    match slots.push(Some(value)) {
+        Ok(()) => Ok(slots),
+        Err(failed) => {
+            slots.destroy_empty();
+            match failed.value {
+                Some(value) => Err(value),
+                None => unreachable!(),
+            }
+        }
+    }
+}
+
+impl<T, R: LockRule<T>, A: Allocator> WordLock<T, R, A> {
+    ghost use Rattle.std.specs.Prelude.{IfSome};
+    ghost use Rattle.base.specs.declared.error.PoolError.TheVariants.{NoMemory};
+    ghost use Rattle.word_lock.specs.Seats.{seen, turns, seat_table, seat_number, lock_table, opening, IsIdle};
+    ghost use Rattle.word_lock.specs.Turns.{IsHistory};
+
+    /// A free lock over the value, which the view `first` explains, and its first seat, which has seen that view.
+    ///
+    /// Refused with `NoMemory` where there is no memory for the word and the slot. The value then comes back.
+    pub fn new(
+        alloc: A,
+        value: T,
+        first: &Told<R::View>,
+    ) -> Result<(WordLock<T, R, A>, Seat<T, R>), (PoolError, T)>
+    where
+        A: Clone,
+        requires { R.explains first.now.value value }
+        ensures ok { IfOk result (λ p. (seat_table p.1 ≡ lock_table p.0) × (opening p.0 ≡ first.now.value) × IsIdle p.1 × (seen p.1 ≡ first.now.value) × (turns p.1 ≡ [])) }
+        ensures err { IfErr result (λ e. (e.0 ≡ NoMemory) × (e.1 ≡ value)) }
+    {
+        let Ok(heap) = alloc.clone() else {
+            return Err((PoolError::NoMemory, value));
+        };
+        let slots = match slot_of(heap, value) {
+            Ok(slots) => slots,
+            Err(value) => return Err((PoolError::NoMemory, value)),
+        };
+        match Table::new(alloc, &[FREE], slots, first) {
+            Ok((table, inside)) => Ok((WordLock { table }, Seat { inside })),
+            Err(Refused { mut slots }) => {
+                let last = slots.pop();
+                let Some(Some(value)) = last else {
+                    unreachable!()
+                };
+                slots.destroy_empty();
+                Err((PoolError::NoMemory, value))
+            }
+        }
+    }
+
+    /// One more seat, at any time. It has seen a view that goes on from the one that the lock opened with, and has had no turn.
+    pub fn seat(&self) -> Seat<T, R>
+        ensures { (seat_table result ≡ lock_table self.now) × IsIdle result × R.grows (opening self.now) (seen result) × (turns result ≡ []) }
+    {
+        let (_, inside) = self.table.shared.load_new_seat::<Sit<R>>(0);
+        Seat { inside }
+    }
+
+    /// The value, with a view that explains it and goes on from the one that the lock opened with. `None` only where the word stands held: a guard was never released.
+    pub fn close(self) -> Option<T>
+    where
+        T: Drop,
+        ensures { IfSome result (λ x. (v : R.View) × R.explains v x × R.grows (opening self) v) }
+    {
+        let seat = self.seat();
+        self.close_with(seat)
+    }
+
+    /// The same, with a view that goes on from what the seat has seen too. The turns of all seats lead from the view that the lock opened with to this one, and the seat's own among them are just those that it knows of.
+    pub fn close_with(self, seat: Seat<T, R>) -> Option<T>
+    where
+        T: Drop,
+        requires own { seat_table seat ≡ lock_table self }
+        requires idle { IsIdle seat }
+        ensures { IfSome result (λ x. (v : R.View) × R.explains v x × R.grows (seen seat) v × IsHistory R.grows (opening self) (seat_number seat) (turns seat) v) }
+    {
+        let Seat { inside } = seat;
+        let mut closed = self.table.close_with(inside);
+        let held = is_held(closed.word(0));
+        let value = closed.take(0);
+        closed.free();
+        if held { None } else { value }
+    }
+}

@@ -1,0 +1,65 @@
+//! The rule of the value under a lock, and what the table below keeps of it.
+ghost use Rattle.std.specs.Prelude.{◌≡◌, ℕ, List};
+
+use crate::told::Told;
+use atomic_table::TableRule;
+use std::collections::LinkedList;
+use std::marker::PhantomData;
+
+/// How the value under a lock may change. A view is what can be known of the value, as its history. It is a type of the rule's own, and no value of it is made.
+///
+/// The last two members are the laws of a preorder, so an impl for a rule that is none is refused.
+pub trait LockRule<T> {
+    /// What a seat has seen.
+    type View;
+
+    // The view explains the value.
+    ghost explains: { Self.View → T → Type 0 };
+
+    // The second view goes on from the first.
+    ghost grows: { Self.View → Self.View → Type 0 };
+
+    // Any view, for a seat that a join has used up. Nothing is said of it.
+    ghost blank: { Self.View };
+
+    // Each view goes on from itself.
+    ghost same: { (a : Self.View) → grows a a };
+
+    // What goes on from a later view goes on from an earlier one.
+    ghost onward: { (a b c : Self.View) → grows a b → grows b c → grows a c };
+}
+
+/// One turn of a seat with the lock: the view that explained the value as the seat took it, and the view that it put back. No value of it is made.
+pub struct Turn<V> {
+    pub took: V,
+    pub left: V,
+}
+
+// Where a seat stands: it does not have the lock; it has met another seat in a join; it has the lock; it was used up by a join.
+pub(crate) enum Stage<V> {
+    Away,
+    Met(V),
+    Holding,
+    Spent,
+}
+
+// What a seat at the table knows. No value of it is made.
+pub(crate) struct Sight<V> {
+    pub(crate) stage: Stage<V>,
+    pub(crate) seen: V,
+    pub(crate) turns: LinkedList<Turn<V>>,
+}
+
+// The rule of the table: `Kept`, of the view that the lock opened with.
+pub(crate) struct Keeps<R> {
+    rule: PhantomData<R>,
+}
+
+impl<T, R: LockRule<T>> TableRule<Option<T>, Sight<R::View>, Told<R::View>> for Keeps<R> {
+    ghost use Rattle.std.specs.Prelude.{[]};
+    ghost use Rattle.word_lock.specs.Kept.{Kept, away};
+
+    ghost holds = { λ k. Kept R.explains R.grows k.value };
+
+    ghost first = { λ k. away k.value [] };
+}
