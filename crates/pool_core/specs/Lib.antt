@@ -2,3 +2,4 @@ pub mod Ops
 pub mod Runs
 pub mod Numbers
 pub mod Entries
+pub mod Creations

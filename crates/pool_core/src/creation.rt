@@ -1,6 +1,8 @@
 //! A new pool.
 
-ghost use Rattle.std.specs.Prelude.{◌≡◌, ◌<◌, ◌+◌, ◌≤◌};
+ghost use Rattle.std.specs.Prelude.{◌≡◌, ◌⊎◌, IfErr, IfOk, OnOk};
+ghost use Rattle.base.specs.Calls.{HasCause};
+ghost use Rattle.pool_core.specs.Creations.{CanCreate, IsCreateRefusal};
 
 use crate::limits::FIRST_GROUP;
 use base::{Group, Pointer, PoolError, PoolName};
@@ -28,7 +30,13 @@ pub fn create<D: SectorDevice>(
     name: &[u8],
     guid: u64,
     moment: u64,
-) -> Result<D, (PoolError, D)> {
+) -> Result<D, (PoolError, D)>
+    ensures size { IfOk result (λ d. D.size d ≡ D.size device) }
+    ensures made { OnOk result (CanCreate (D.size device) name.now) }
+    ensures count { IfOk result (λ d. D.refused d ≡ D.refused device) }
+    ensures given_back { IfErr result (λ e. D.size e.1 ≡ D.size device) }
+    ensures refused { IfErr result (λ e. IsCreateRefusal (D.size device) name.now (D.refused device) (D.refused e.1) e.0) }
+{
     let geometry = match Geometry::of(device.sectors()) {
         Ok(geometry) => geometry,
         Err(error) => return Err((error, device)),
@@ -50,7 +58,9 @@ fn initialize<D: SectorDevice>(
     moment: u64,
 ) -> Result<(), PoolError>
     requires { D.size device.old ≡ geometry }
-    ensures { D.size device.new ≡ D.size device.old }
+    ensures size { D.size device.new ≡ D.size device.old }
+    ensures cause { HasCause (D.refused device.old) (D.refused device.new) result }
+    ensures named { IfErr result (λ e. (e ≡ PoolError.Write) ⊎ (e ≡ PoolError.Flush)) }
 {
     clear_labels(device, geometry)?;
     clear_blocks(device, geometry)?;
@@ -63,7 +73,9 @@ fn initialize<D: SectorDevice>(
 
 fn clear_labels<D: SectorDevice>(device: &mut D, geometry: Geometry) -> Result<(), PoolError>
     requires { D.size device.old ≡ geometry }
-    ensures { D.size device.new ≡ D.size device.old }
+    ensures size { D.size device.new ≡ D.size device.old }
+    ensures cause { HasCause (D.refused device.old) (D.refused device.new) result }
+    ensures named { IfErr result (λ e. (e ≡ PoolError.Write) ⊎ (e ≡ PoolError.Flush)) }
 {
     let zeros = zero_tail();
     for label in 0..4 {
@@ -78,7 +90,9 @@ fn zero_tail() -> [u8; TAIL_SIZE] {
 
 fn clear_blocks<D: SectorDevice>(device: &mut D, geometry: Geometry) -> Result<(), PoolError>
     requires { D.size device.old ≡ geometry }
-    ensures { D.size device.new ≡ D.size device.old }
+    ensures size { D.size device.new ≡ D.size device.old }
+    ensures cause { HasCause (D.refused device.old) (D.refused device.new) result }
+    ensures named { IfErr result (λ e. (e ≡ PoolError.Write) ⊎ (e ≡ PoolError.Flush)) }
 {
     let zeros = [0; 4096];
     for index in 0..geometry.blocks() {
@@ -94,7 +108,9 @@ fn write_configs<D: SectorDevice>(
     guid: u64,
 ) -> Result<(), PoolError>
     requires { D.size device.old ≡ geometry }
-    ensures { D.size device.new ≡ D.size device.old }
+    ensures size { D.size device.new ≡ D.size device.old }
+    ensures cause { HasCause (D.refused device.old) (D.refused device.new) result }
+    ensures named { IfErr result (λ e. (e ≡ PoolError.Write) ⊎ (e ≡ PoolError.Flush)) }
 {
     let config = LabelConfig::new(guid, Group(FIRST_GROUP), geometry.size(), name);
     let block = config.encode();
@@ -111,7 +127,9 @@ fn write_uberblocks<D: SectorDevice>(
     moment: u64,
 ) -> Result<(), PoolError>
     requires { D.size device.old ≡ geometry }
-    ensures { D.size device.new ≡ D.size device.old }
+    ensures size { D.size device.new ≡ D.size device.old }
+    ensures cause { HasCause (D.refused device.old) (D.refused device.new) result }
+    ensures named { IfErr result (λ e. (e ≡ PoolError.Write) ⊎ (e ≡ PoolError.Flush)) }
 {
     let uberblock = Uberblock {
         group: Group(FIRST_GROUP),

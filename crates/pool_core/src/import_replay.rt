@@ -1,6 +1,6 @@
 //! The import of a pool: what its image mounts, and a sync that makes the image the run's own.
 
-ghost use Rattle.std.specs.Prelude.{◌≡◌, ◌<◌, ◌+◌, ◌*◌, ◌≤◌, ◌^◌, IfOk, length, vec_len};
+ghost use Rattle.std.specs.Prelude.{◌≡◌, ◌<◌, ◌+◌, ◌*◌, ◌≤◌, ◌^◌, IfErr, IfOk, length, vec_len};
 ghost use Rattle.base.specs.Geometry.{block_count};
 ghost use Rattle.uberblocks.specs.Slots.{IsWithinLimits, fields_of};
 
@@ -20,6 +20,7 @@ use uberblocks::{ARRAY_SIZE, LABEL_COUNT, Uberblock, active, slot};
 const ARRAY_AT: u64 = 131_072;
 
 /// An imported pool, with the device that it lies on.
+#[derive(Drop)]
 pub struct Imported<D: SectorDevice> {
     pub(crate) device: D,
     pub(crate) mounted: Mounted,
@@ -73,7 +74,9 @@ pub fn import<D: SectorDevice>(
     mut device: D,
     dirty_max: u64,
     moment: u64,
-) -> Result<Imported<D>, (PoolError, D)> {
+) -> Result<Imported<D>, (PoolError, D)>
+    ensures { IfErr result (λ e. D.size e.1 ≡ D.size device) }
+{
     match mount(alloc, &mut device, dirty_max, moment) {
         Ok(mounted) => Ok(Imported { device, mounted }),
         Err(error) => Err((error, device)),

@@ -19,3 +19,6 @@ pub use creation::create;
 pub use import_replay::{Imported, import};
 pub use runs::run;
 pub use state::{PoolState, Progress};
+
+#[cfg(test)]
+mod tests;

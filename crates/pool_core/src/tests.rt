@@ -1,0 +1,187 @@
+//! The first path on a memory device: places, counts of steps and refusals that no clause gives.
+
+use crate::{PoolState, Progress, create, import, run};
+use base::{
+    Bytes, Group, Mode, ObjectId, Op, Ops, Owner, Plan, PoolError, Range, Reply, Shape, Step, TxId,
+    read_u64,
+};
+use device_model::{Fault, MemDevice, SectorDevice};
+use std::alloc::Global;
+use std::test::Fail;
+
+const OWNER: Owner = Owner(1);
+
+const OBJECT: ObjectId = ObjectId(1);
+
+const WHOLE: Range = Range {
+    low: 0,
+    high: 338_688,
+};
+
+// A pool named `tank` on 8 MiB, imported.
+fn tank(alloc: Global, device: MemDevice) -> Result<PoolState<MemDevice>, PoolError> {
+    let device = match create(device, b"tank", 77, 5) {
+        Ok(device) => device,
+        Err((error, _)) => return Err(error),
+    };
+    match import(alloc, device, 1_048_576, 6) {
+        Ok(imported) => Ok(PoolState::new(imported)),
+        Err((error, _)) => Err(error),
+    }
+}
+
+// Group 9 gets an object with these bytes, and is quiesced.
+fn fill(alloc: Global, pool: &mut PoolState<MemDevice>, bytes: &[u8]) -> Result<(), PoolError> {
+    let id = pool.lock(OWNER, OBJECT, WHOLE, Mode::Writer)?;
+    let mut shapes = Vec::new(alloc);
+    shapes.push(Shape::Create(OBJECT))?;
+    let mut ops = Vec::new(alloc);
+    ops.push(Op::Create(OBJECT))?;
+    if !bytes.is_empty() {
+        shapes.push(Shape::Write(OBJECT, 0, bytes.len() as u64))?;
+        ops.push(Op::Write(OBJECT, 0, Bytes::from_slice(alloc, bytes)?))?;
+    }
+    let (tx, _) = pool.begin(OWNER, Plan::new(shapes))?;
+    pool.commit(tx, Ops::new(ops))?;
+    pool.unlock(OWNER, id)?;
+    pool.close_group()?;
+    pool.mark_quiesced()?;
+    Ok(())
+}
+
+// The number of 8 bytes at the front of these sectors.
+fn number_at(device: &mut MemDevice, sector: u64, at: usize) -> Result<u64, PoolError> {
+    let mut buffer = [0u8; 512];
+    if sector < device.sectors() && at <= 504 {
+        device.read(512 * sector, &mut buffer)?;
+        return Ok(read_u64(&buffer, at));
+    }
+    Err(PoolError::BadRange)
+}
+
+#[test]
+fn a_device_of_no_pools_size_is_refused(rt: HostRuntime) -> Result<(), Fail> {
+    let alloc = rt.alloc();
+    let small = MemDevice::new(alloc, 12_287)?;
+    match create(small, b"tank", 77, 0) {
+        Ok(_) => return Err("created")?,
+        Err((error, device)) => {
+            assert_eq!(rt; error, PoolError::BadGeometry);
+            assert_eq!(rt; device.unflushed(), 0);
+        }
+    }
+    match create(MemDevice::new(alloc, 12_288)?, b"4tank", 77, 0) {
+        Ok(_) => return Err("created")?,
+        Err((error, device)) => {
+            assert_eq!(rt; error, PoolError::BadRange);
+            match import(alloc, device, 4095, 0) {
+                Ok(_) => return Err("imported")?,
+                Err((error, device)) => {
+                    assert_eq!(rt; error, PoolError::BadRange);
+                    match import(alloc, device, 4096, 0) {
+                        Ok(_) => return Err("imported")?,
+                        Err((error, _)) => assert_eq!(rt; error, PoolError::NoPool),
+                    }
+                }
+            }
+        }
+    }
+    Ok(())
+}
+
+#[test]
+fn an_import_syncs_four_groups_on(rt: HostRuntime) -> Result<(), Fail> {
+    let alloc = rt.alloc();
+    let pool = tank(alloc, MemDevice::new(alloc, 16_384)?)?;
+    let mut device = pool.into_device();
+    assert_eq!(rt; device.unflushed(), 0);
+    // uberblock 8 lies in label 0 at 139,264: magic, group, guid, moment, import number, first log block
+    for (at, value) in [
+        (0, 0x00ba_b10c),
+        (16, 8),
+        (24, 77),
+        (32, 6),
+        (88, 1),
+        (96, 4_194_304),
+    ] {
+        assert_eq!(rt; number_at(&mut device, 139_264 / 512, at)?, value);
+    }
+    // uberblock 4 lies four slots before it, with the moment of the create
+    assert_eq!(rt; number_at(&mut device, 135_168 / 512, 16)?, 4);
+    assert_eq!(rt; number_at(&mut device, 135_168 / 512, 32)?, 5);
+    // the config of label 1 has group 8
+    assert_eq!(rt; number_at(&mut device, (262_144 + 16_384) / 512, 16)?, 8);
+    Ok(())
+}
+
+#[test]
+fn a_sync_takes_the_lowest_blocks_in_order(rt: HostRuntime) -> Result<(), Fail> {
+    let alloc = rt.alloc();
+    let mut pool = tank(alloc, MemDevice::new(alloc, 16_384)?)?;
+    fill(alloc, &mut pool, b"abcd")?;
+    assert_eq!(rt;
+        pool.begin(OWNER, Plan::new(Vec::new(alloc))),
+        Err(PoolError::NotReady)
+    );
+    assert_eq!(rt; pool.start_sync(7)?, Group(9));
+    assert_eq!(rt; pool.start_sync(7), Err(PoolError::NotReady));
+    let mut steps = 1u32;
+    for _ in 0..100 {
+        if pool.sync_step()? == Progress::Synced(Group(9)) {
+            break;
+        }
+        steps += 1;
+    }
+    assert_eq!(rt; steps, 10);
+    assert_eq!(rt; pool.sync_step(), Err(PoolError::NotReady));
+    let mut device = pool.into_device();
+    // data, indirect, directory and root, by their kinds
+    for (address, kind) in [
+        (4_198_400, 5),
+        (4_202_496, 4),
+        (4_206_592, 3),
+        (4_210_688, 2),
+    ] {
+        assert_eq!(rt; number_at(&mut device, address / 512, 0)?, kind);
+        assert_eq!(rt; number_at(&mut device, address / 512, 16)?, 9);
+    }
+    Ok(())
+}
+
+#[test]
+fn a_refused_flush_suspends(rt: HostRuntime) -> Result<(), Fail> {
+    let alloc = rt.alloc();
+    let mut device = MemDevice::new(alloc, 16_384)?;
+    // three flushes of create, five of import, and the second one of the sync
+    device.fail(Fault::Flush, 10);
+    let mut pool = tank(alloc, device)?;
+    fill(alloc, &mut pool, b"")?;
+    pool.start_sync(0)?;
+    for _ in 0..7 {
+        assert_eq!(rt; pool.sync_step(), Ok(Progress::More));
+    }
+    assert_eq!(rt; pool.sync_step(), Err(PoolError::Flush));
+    assert_eq!(rt; pool.sync_step(), Err(PoolError::Suspended));
+    assert_eq!(rt; pool.close_group(), Err(PoolError::Suspended));
+    let device = pool.into_device();
+    assert_eq!(rt; device.unflushed(), 4);
+    Ok(())
+}
+
+#[test]
+fn steps_are_answered_in_order(rt: HostRuntime) -> Result<(), Fail> {
+    let alloc = rt.alloc();
+    let mut pool = tank(alloc, MemDevice::new(alloc, 16_384)?)?;
+    let mut steps = Vec::new(alloc);
+    steps.push(Step::Lock(OWNER, OBJECT, WHOLE, Mode::Writer))?;
+    steps.push(Step::Begin(OWNER, Plan::new(vec![in alloc; Shape::Create(OBJECT)]?)))?;
+    steps.push(Step::Commit(TxId(0), Ops::new(Vec::new(alloc))))?;
+    steps.push(Step::Read(OWNER, OBJECT, WHOLE))?;
+    let replies = run(&mut pool, steps)?;
+    assert_eq!(rt; replies.len(), 4);
+    assert!(rt; matches!(&replies[0], Reply::Locked(_)));
+    assert!(rt; matches!(&replies[1], Reply::Began(TxId(0), Group(9))));
+    assert!(rt; matches!(&replies[2], Reply::Refused(PoolError::OutOfPlan)));
+    assert!(rt; matches!(&replies[3], Reply::Refused(PoolError::NoObject)));
+    Ok(())
+}
