@@ -52,7 +52,7 @@ fn fill(alloc: Global, pool: &mut PoolState<MemDevice>, bytes: &[u8]) -> Result<
 // The number of 8 bytes at the front of these sectors.
 fn number_at(device: &mut MemDevice, sector: u64, at: usize) -> Result<u64, PoolError> {
     let mut buffer = [0u8; 512];
-    if sector < device.sectors() && at <= 504 {
+    if sector < 16_384 && sector < device.sectors() && at <= 504 {
         device.read(512 * sector, &mut buffer)?;
         return Ok(read_u64(&buffer, at));
     }
@@ -125,14 +125,10 @@ fn a_sync_takes_the_lowest_blocks_in_order(rt: HostRuntime) -> Result<(), Fail> 
     );
     assert_eq!(rt; pool.start_sync(7)?, Group(9));
     assert_eq!(rt; pool.start_sync(7), Err(PoolError::NotReady));
-    let mut steps = 1u32;
-    for _ in 0..100 {
-        if pool.sync_step()? == Progress::Synced(Group(9)) {
-            break;
-        }
-        steps += 1;
+    for _ in 0..9 {
+        assert_eq!(rt; pool.sync_step(), Ok(Progress::More));
     }
-    assert_eq!(rt; steps, 10);
+    assert_eq!(rt; pool.sync_step(), Ok(Progress::Synced(Group(9))));
     assert_eq!(rt; pool.sync_step(), Err(PoolError::NotReady));
     let mut device = pool.into_device();
     // data, indirect, directory and root, by their kinds
