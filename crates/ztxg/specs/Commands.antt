@@ -1,0 +1,33 @@
+-- What a line's words ask for.
+use Rattle.std.specs.Prelude.{◌≡◌, ℕ, List, Some, length, map, vec_len}
+use Rattle.ztxg.specs.declared.command.Command.{Command}
+use Rattle.ztxg.specs.declared.command.Command.TheVariants.{Create, Import, Crash, Pool}
+use Rattle.ztxg.specs.declared.command.PoolCommand.{PoolCommand}
+use Rattle.ztxg.specs.declared.command.PoolCommand.TheVariants.{Begin, Commit, Start, Finish, Sync, Step}
+use Rattle.ztxg.specs.Letters.{piece_of}
+use Rattle.ztxg.specs.Numbers.{number_of}
+
+-- a crash with one piece for each letter
+abbrev pub IsCrashOf : List ℕ → Command → Type 0
+IsCrashOf letters (Create name guid) = ⊥
+IsCrashOf letters (Import dirty_max) = ⊥
+IsCrashOf letters (Crash pieces) = map Some pieces.items ≡ map piece_of letters
+IsCrashOf letters (Pool asked) = ⊥
+
+-- a begin of this owner with so many shapes
+abbrev pub IsBeginOf : List ℕ → ℕ → PoolCommand → Type 0
+IsBeginOf owner count (Begin o plan) = (o.0 ≡ number_of owner) × (length plan ≡ count)
+IsBeginOf owner count (Commit tx contents) = ⊥
+IsBeginOf owner count Start = ⊥
+IsBeginOf owner count Finish = ⊥
+IsBeginOf owner count Sync = ⊥
+IsBeginOf owner count (Step step) = ⊥
+
+-- a commit of this transaction with the bytes of so many words
+abbrev pub IsCommitOf : List ℕ → ℕ → PoolCommand → Type 0
+IsCommitOf tx count (Begin o plan) = ⊥
+IsCommitOf tx count (Commit t contents) = (t.0 ≡ number_of tx) × (vec_len contents ≡ count)
+IsCommitOf tx count Start = ⊥
+IsCommitOf tx count Finish = ⊥
+IsCommitOf tx count Sync = ⊥
+IsCommitOf tx count (Step step) = ⊥

@@ -1,0 +1,48 @@
+-- What a command needs.
+use Rattle.std.specs.Prelude.{◌≡◌, ◌<◌, ◌≤◌, Bool, true, false, Option, Some, None, Result, Ok, Err, List, length, IsSome, IsErr, ⊤}
+use Rattle.base.specs.declared.piece.Piece.{Piece}
+use Rattle.device_model.specs.MemState.{MemState, after_crash}
+use Rattle.ztxg.specs.declared.answer.Answer.{Answer}
+use Rattle.ztxg.specs.declared.answer.Answer.TheVariants.{Crashed}
+use Rattle.ztxg.specs.declared.session.BadCommand.{BadCommand}
+use Rattle.ztxg.specs.declared.command.Command.{Command}
+use Rattle.ztxg.specs.declared.command.Command.TheVariants as command
+use Rattle.ztxg.specs.declared.session.Place.{Place}
+use Rattle.ztxg.specs.declared.session.Place.TheVariants.{Nothing, Device, Pool}
+
+abbrev pub has_device : Place → Bool
+has_device Nothing = false
+has_device (Device device) = true
+has_device (Pool pool) = true
+
+abbrev pub has_pool : Place → Bool
+has_pool Nothing = false
+has_pool (Device device) = false
+has_pool (Pool pool) = true
+
+-- there is the device or the pool that the command needs
+abbrev pub has_what_it_needs : Command → Place → Bool
+has_what_it_needs (command.Create name guid) place = true
+has_what_it_needs (command.Import dirty_max) place = has_device place
+has_what_it_needs (command.Crash pieces) place = has_device place
+has_what_it_needs (command.Pool asked) place = has_pool place
+
+abbrev pub is_crash : Command → Bool
+is_crash (command.Create name guid) = false
+is_crash (command.Import dirty_max) = false
+is_crash (command.Crash pieces) = true
+is_crash (command.Pool asked) = false
+
+-- the device of a place; that of a pool is whichever the pool gives back
+abbrev pub IsDeviceOf : Place → Option MemState → Type 0
+IsDeviceOf Nothing taken = taken ≡ None
+IsDeviceOf (Device device) taken = taken ≡ Some device
+IsDeviceOf (Pool pool) taken = IsSome taken
+
+-- a crash leaves the pieces of the unflushed writes and tells their number; it is refused where there are more pieces
+abbrev pub Crashes : Place → List Piece → Result Answer BadCommand → Place → Type 0
+Crashes Nothing pieces answer new = IsErr answer
+Crashes (Device device) pieces (Ok answer) new =
+    (length pieces ≤ length device.disk.now.unflushed) × (answer ≡ Crashed (length device.disk.now.unflushed)) × (new ≡ Device (after_crash pieces device))
+Crashes (Device device) pieces (Err e) new = (length device.disk.now.unflushed < length pieces) × (new ≡ Device device)
+Crashes (Pool pool) pieces answer new = ⊤

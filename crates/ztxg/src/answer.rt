@@ -1,0 +1,77 @@
+//! What a script prints for a command.
+
+ghost use Rattle.std.specs.Prelude.{◌≡◌};
+
+use base::{Bytes, Group, PoolError, Reply};
+use std::fmt;
+
+/// The answer to a command, one line of text.
+#[derive(Drop)]
+pub enum Answer {
+    /// The pool that an import mounted: the group that it synced. The one behind it is open.
+    Imported {
+        synced: Group,
+        open: Group,
+        records: u64,
+    },
+    /// What a crash found: the number of writes since the last good flush.
+    Crashed(usize),
+    /// What the pool answered.
+    Reply(Reply),
+}
+
+impl Answer {
+    /// The answer that a command is refused.
+    pub fn refused(error: PoolError) -> Answer
+        ensures { result ≡ Answer.Reply (Reply.Refused error) }
+    {
+        Answer::Reply(Reply::Refused(error))
+    }
+}
+
+impl fmt::Display for Answer {
+    fn fmt<W: fmt::Write>(&self, f: &mut fmt::Formatter<W>) -> fmt::Result {
+        match self {
+            Answer::Imported {
+                synced,
+                open,
+                records,
+            } => { write!(f, "synced {} open {} records {records}", synced.0, open.0) }
+            Answer::Crashed(unflushed) => write!(f, "crashed {unflushed}"),
+            Answer::Reply(reply) => write_reply(reply, f),
+        }
+    }
+}
+
+fn write_reply<W: fmt::Write>(reply: &Reply, f: &mut fmt::Formatter<W>) -> fmt::Result {
+    match reply {
+        Reply::Refused(error) => write!(f, "refused {} {error}", error.number()),
+        Reply::Done => write!(f, "ok"),
+        Reply::Locked(id) => write!(f, "lock {}", id.0),
+        Reply::Began(tx, group) => write!(f, "tx {} group {}", tx.0, group.0),
+        Reply::Committed(receipt) => write!(
+            f,
+            "entry {} group {}",
+            receipt.ordinal.0, receipt.group.0
+        ),
+        Reply::Bytes(bytes) => write_bytes(bytes, f),
+        Reply::Opened(group) => write!(f, "open {}", group.0),
+        Reply::Quiesced(group) => write!(f, "quiesced {}", group.0),
+        Reply::Syncing(group) => write!(f, "syncing {}", group.0),
+        Reply::More => write!(f, "more"),
+        Reply::Synced(group) => write!(f, "synced {}", group.0),
+    }
+}
+
+// The number of the bytes, and where there are any, each as two hexadecimal digits.
+fn write_bytes<W: fmt::Write>(bytes: &Bytes, f: &mut fmt::Formatter<W>) -> fmt::Result {
+    write!(f, "bytes {}", bytes.len())?;
+    if bytes.is_empty() {
+        return Ok(());
+    }
+    write!(f, " ")?;
+    for byte in bytes.as_slice() {
+        write!(f, "{byte:02x}")?;
+    }
+    Ok(())
+}
