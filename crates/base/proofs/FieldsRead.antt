@@ -1,8 +1,8 @@
 -- Fields that are written, and read back.
-use Rattle.std.proofs.Common.{◌≡◌, ℕ, ◌+◌, ◌-◌, ◌^◌, ◌<◌, ◌≤◌, List, [], ◌++◌, length, take, drop, refl, sym, ◌∙◌, ap, append_assoc, arith, inl, inr}
+use Rattle.std.proofs.Common.{◌≡◌, ℕ, ◌+◌, ◌-◌, ◌^◌, ◌<◌, ◌≤◌, List, [], ◌++◌, length, take, drop, refl, sym, ◌∙◌, ap, append_assoc, arith, inr}
 use Rattle.std.proofs.lemmas.List.{take_rest, length-drop, drop_all, drop-drop, append-nil, take_at, drop_at, length-append, length-take-le}
 use Rattle.std.proofs.lemmas.Nat.{from_le_bytes-to_le_bytes_8}
-use Rattle.std.specs.Int.{from_le_bytes, to_le_bytes, w64}
+use Rattle.std.specs.Int.{from_le_bytes, w64}
 use borrow.Rule.Slice.PartMut.{put_mid}
 use Rattle.base.specs.Disk.{put}
 use Rattle.base.specs.Fields.{part, number_at, number_bytes, pointer_at, pointer_bytes}

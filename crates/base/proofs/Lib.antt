@@ -28,3 +28,12 @@ pub mod LogOrder
 pub mod LaidOut
 pub mod LaidOutMounts
 pub mod FieldsRead
+pub mod KeptLists
+pub mod KeptLocks
+pub mod KeptGroups
+pub mod KeptIsolation
+pub mod KeptSyncs
+pub mod KeptContents
+pub mod KeptLog
+pub mod KeptTables
+pub mod AnySteps

@@ -41,4 +41,5 @@ pub mod Seen
 pub mod Layout
 pub mod Crashes
 pub mod SyncOrder
+pub mod ExactNow
 pub mod Errors

@@ -14,6 +14,7 @@ mod pool_name;
 mod range;
 mod status;
 mod step;
+mod step_laws;
 
 pub use bytes::Bytes;
 pub use error::PoolError;
@@ -37,6 +38,7 @@ pub use pool_name::{MAX_NAME, PoolName, is_name};
 pub use range::{Mode, Range};
 pub use status::Status;
 pub use step::{Reply, Step};
+pub use step_laws::{new_pools_are_explained, runs_keep_tables, steps_keep_tables};
 
 #[cfg(test)]
 mod tests;

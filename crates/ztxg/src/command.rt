@@ -2,7 +2,7 @@
 //!
 //! A line is cut into words by single spaces. A word has at least one byte.
 
-ghost use Rattle.std.specs.Prelude.{◌≡◌, ◌↔◌, ◌^◌, ◌<◌, ◌≤◌, ◌∷◌, [], IsOk, IfOk, IfErr, Ok, map, Some, vec_len, length, replicate, slice_index, ◌≢◌, All, IsSome};
+ghost use Rattle.std.specs.Prelude.{◌≡◌, ◌↔◌, ◌^◌, ◌<◌, ◌≤◌, IsOk, IfOk, IfErr, map, Some, vec_len, length, replicate, slice_index, ◌≢◌, All, IsSome};
 ghost use Rattle.std.specs.Result.{OkIff, result_ok};
 ghost use Rattle.ztxg.specs.Numbers.{IsNumberBelow, number_of};
 ghost use Rattle.ztxg.specs.Commands.{IsBeginOf, IsCommitOf, IsCrashOf};

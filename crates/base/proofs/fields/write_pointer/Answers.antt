@@ -2,7 +2,6 @@ use Rattle.std.proofs.Common.{ℕ, ◌≡◌, ◌+◌, ◌≤◌, List, ◌++◌
 use Rattle.std.proofs.lemmas.List.{length-append}
 use Rattle.base.specs.Disk.{put}
 use Rattle.base.specs.Fields.{number_bytes}
-use Rattle.base.proofs.Put.{length-put}
 use Rattle.base.proofs.FieldsRead.{length-number_bytes, put-put_behind}
 use Rattle.base.proofs.fields.write_pointer.Goals as goal
 
