@@ -27,7 +27,7 @@ all_shapes ops plan long each =
     get_or-map shape_of ops k some_op some_shape low ∙ each k some_op some_shape low)
 
 -- where each element passes a test
-each_passes : {X : Type 0} (p : X → Bool) (xs : List X) → list_all p xs ≡ true → (k : ℕ) (d : X) → k < length xs → p (get_or xs k d) ≡ true
+pub each_passes : {X : Type 0} (p : X → Bool) (xs : List X) → list_all p xs ≡ true → (k : ℕ) (d : X) → k < length xs → p (get_or xs k d) ≡ true
 each_passes p xs all k d below = go (p (get_or xs k d)) refl
   where
     go : (b : Bool) → p (get_or xs k d) ≡ b → p (get_or xs k d) ≡ true

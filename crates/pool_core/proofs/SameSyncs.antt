@@ -2,7 +2,7 @@
 use Rattle.std.proofs.Common.{◌≡◌, ℕ, ◌+◌, ◌<◌, vec_len, ap, sym, ◌∙◌, arith}
 use Rattle.std.specs.Prelude.{Option, Some}
 use Rattle.pool_core.specs.declared.sync.SyncRun.{SyncRun}
-use Rattle.pool_core.specs.declared.state.RunningSync.{RunningSync}
+use Rattle.pool_core.specs.declared.pool.RunningSync.{RunningSync}
 use Rattle.pool_core.specs.Runs.{SameSync, call_count, other_calls}
 
 pub same_count : (old new : SyncRun) → SameSync old new → call_count new ≡ call_count old

@@ -2,4 +2,9 @@ pub mod Ops
 pub mod Runs
 pub mod Numbers
 pub mod Entries
+pub mod Shows
+pub mod Tables
+pub mod Targets
+pub mod Meets
+pub mod Lines
 pub mod Creations

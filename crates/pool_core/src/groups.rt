@@ -1,8 +1,11 @@
 //! The line of transaction groups (`txg.c`): one is synced, then at most one is syncing, at most one quiesces or is
 //! quiesced and waits (this rule is the project's), and one is always open.
 
-ghost use Rattle.std.specs.Prelude.{◌<◌, ◌≤◌, ◌^◌};
+ghost use Rattle.std.specs.Prelude.{◌≡◌, ◌<◌, ◌≤◌, ◌+◌, ◌^◌, true, false, IfErr, IfOk, option_map};
 ghost use Rattle.std.specs.Option.{ForSome};
+ghost use Rattle.base.specs.Refusals.{quiesced_group, quiescing_group};
+ghost use Rattle.base.specs.Stage.{has_older_group};
+ghost use Rattle.base.specs.Steps.{line_after_close, line_after_quiesce};
 ghost use Rattle.pool_core.specs.Numbers.{IsGroup};
 
 use crate::limits::LAST_NUMBER;
@@ -27,6 +30,8 @@ pub struct Groups {
 }
 
 impl Groups {
+    ghost use Rattle.pool_core.specs.Lines.{is_last_open, line_of};
+
     /// The groups behind a synced one: the next is open.
     pub fn new(synced: Group) -> Self
         requires low { 4 ≤ synced.0 }
@@ -41,13 +46,18 @@ impl Groups {
     }
 
     /// Whether a group between the synced one and the open one is there.
-    pub fn has_older(&self) -> bool {
-        self.syncing.is_some() || self.middle.is_some()
+    pub fn has_older(&self) -> bool
+        ensures { result ≡ has_older_group (line_of self.now) }
+    {
+        self.middle.is_some() || self.syncing.is_some()
     }
 
     /// The open group quiesces, and the next one is open. Refused NotReady where a middle is there, or the open group
     /// has the last number.
-    pub fn close_open(&mut self) -> Result<Group, PoolError> {
+    pub fn close_open(&mut self) -> Result<Group, PoolError>
+        ensures refused { IfErr result (λ e. (e ≡ PoolError.NotReady) × (self.new ≡ self.old) × (is_last_open (line_of self.old) ≡ true)) }
+        ensures closed { IfOk result (λ group. (group.0 ≡ self.old.«open».0 + 1) × (line_of self.new ≡ line_after_close (line_of self.old)) × (is_last_open (line_of self.old) ≡ false)) }
+    {
         if self.middle.is_some() || self.open.0 >= LAST_NUMBER {
             return Err(PoolError::NotReady);
         }
@@ -61,7 +71,8 @@ impl Groups {
 
     /// The quiescing group.
     pub fn quiescing(&self) -> Option<Group>
-        ensures { ForSome result (λ group. IsGroup group.0) }
+        ensures group { ForSome result (λ group. IsGroup group.0) }
+        ensures quiescing { option_map (λ group. group.0) result ≡ quiescing_group (line_of self.now) }
     {
         match self.middle {
             Some(middle) if !middle.quiesced => Some(middle.group),
@@ -71,7 +82,8 @@ impl Groups {
 
     /// The quiesced group that waits for its sync.
     pub fn quiesced(&self) -> Option<Group>
-        ensures { ForSome result (λ group. IsGroup group.0) }
+        ensures group { ForSome result (λ group. IsGroup group.0) }
+        ensures quiesced { option_map (λ group. group.0) result ≡ quiesced_group (line_of self.now) }
     {
         match self.middle {
             Some(middle) if middle.quiesced => Some(middle.group),
@@ -82,6 +94,7 @@ impl Groups {
     /// The middle has no hold left.
     pub fn mark_quiesced(&mut self, group: Group)
         requires { IsGroup group.0 }
+        ensures { line_of self.new ≡ line_after_quiesce group.0 (line_of self.old) }
     {
         self.middle = Some(Middle {
             group,
@@ -90,13 +103,17 @@ impl Groups {
     }
 
     /// The quiesced group is being synced.
-    pub fn start_sync(&mut self, group: Group) {
+    pub fn start_sync(&mut self, group: Group)
+        ensures { line_of self.new ≡ record (line_of self.old) { syncing = Some group.0; middle = None } }
+    {
         self.syncing = Some(group);
         self.middle = None;
     }
 
     /// The syncing group is synced.
-    pub fn finish_sync(&mut self, group: Group) {
+    pub fn finish_sync(&mut self, group: Group)
+        ensures { line_of self.new ≡ record (line_of self.old) { synced = group.0; syncing = None } }
+    {
         self.synced = group;
         self.syncing = None;
     }

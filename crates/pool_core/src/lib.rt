@@ -7,6 +7,7 @@ mod groups;
 mod import_replay;
 mod limits;
 mod object_maps;
+mod pool;
 mod range_locks;
 mod runs;
 mod space;

@@ -1,7 +1,12 @@
 //! Range locks in order of grant (`zfs_rlock.c`): readers may overlap readers, a writer overlaps nothing.
 
 ghost use Rattle.std.specs.Prelude.{◌≤◌, ◌<◌, ◌+◌, ◌^◌, ◌≡◌, IfSome, IsTrue, vec_len};
+ghost use Rattle.std.specs.Prelude.{◌&&◌, ◌==◌, filter, not};
+ghost use Rattle.std.specs.List.{find, list_any};
 ghost use Rattle.base.specs.Locks as locks;
+ghost use Rattle.base.specs.Plans.{lies_in, overlaps};
+ghost use Rattle.pool_core.specs.declared.range_locks.HeldLock.{HeldLock};
+ghost use Rattle.pool_core.specs.Targets.{target_of};
 
 use crate::limits::{LAST_NUMBER, MAX_LENGTH, MAX_LOCKS};
 use base::{LockId, Mode, ObjectId, Owner, PoolError, Range};
@@ -15,18 +20,21 @@ pub struct ObjectRange {
 }
 
 impl ObjectRange {
+
     /// Whether the two have a byte in common.
-    pub fn overlaps(&self, other: &ObjectRange) -> bool {
-        self.object == other.object
-            && self.range.low < other.range.high
-            && other.range.low < self.range.high
+    pub fn overlaps(&self, other: &ObjectRange) -> bool
+        ensures { result ≡ overlaps (target_of self.now) (target_of other.now) }
+    {
+        self.object.0 == other.object.0
+            && (self.range.low < other.range.high && other.range.low < self.range.high)
     }
 
     /// Whether it lies in the other.
-    pub fn lies_in(&self, other: &ObjectRange) -> bool {
-        self.object == other.object
-            && other.range.low <= self.range.low
-            && self.range.high <= other.range.high
+    pub fn lies_in(&self, other: &ObjectRange) -> bool
+        ensures { result ≡ lies_in (target_of self.now) (target_of other.now) }
+    {
+        self.object.0 == other.object.0
+            && (other.range.low <= self.range.low && self.range.high <= other.range.high)
     }
 }
 
@@ -56,6 +64,12 @@ pub struct RangeLocks {
 }
 
 impl RangeLocks {
+    ghost use Rattle.std.specs.Prelude.{◌&&◌, ◌==◌, filter, map, not, option_map};
+    ghost use Rattle.std.specs.List.{find};
+    ghost use Rattle.base.specs.Locks.{Grant, is_covered, is_covered_for_writing};
+    ghost use Rattle.pool_core.specs.Shows.{grant_of};
+    ghost use Rattle.pool_core.specs.Tables.{Locks, result_map};
+
     /// No locks. It takes no memory.
     pub fn new(alloc: Global) -> Self {
         RangeLocks {
@@ -71,7 +85,9 @@ impl RangeLocks {
         owner: Owner,
         target: ObjectRange,
         mode: Mode,
-    ) -> Result<LockId, PoolError> {
+    ) -> Result<LockId, PoolError>
+        ensures { Locks owner.0 (target_of target) mode (result_map (λ id. id.0) result) (map grant_of self.old.locks.items) self.old.next (map grant_of self.new.locks.items) self.new.next }
+    {
         if self.is_blocked(&target, mode) {
             return Err(PoolError::Busy);
         }
@@ -89,31 +105,83 @@ impl RangeLocks {
         Ok(id)
     }
 
-    fn is_blocked(&self, target: &ObjectRange, mode: Mode) -> bool {
-        self.locks.iter().any(|held| held.target.overlaps(target)
-            && !(held.mode == Mode::Reader && mode == Mode::Reader))
+    fn is_blocked(&self, target: &ObjectRange, mode: Mode) -> bool
+        ensures { result ≡ locks.is_blocked (target_of target.now) mode (map grant_of self.now.locks.items) }
+    {
+        any_blocks(&self.locks, target, mode)
     }
 
-    /// The place of the owner's lock of this name.
-    pub fn find(&self, owner: Owner, id: LockId) -> Option<usize>
-        ensures { IfSome result (λ index. index < vec_len self.now.locks) }
+    /// The owner's lock of this name.
+    pub fn find(&self, owner: Owner, id: LockId) -> Option<HeldLock>
+        ensures { option_map grant_of result ≡ find (λ (g : Grant). (g.id == id.0) && (g.owner == owner.0)) (map grant_of self.now.locks.items) }
     {
-        self.locks
-            .iter()
-            .position(|held| held.id == id && held.owner == owner)
+        find_lock(&self.locks, owner, id)
+    }
+
+    /// Lets go the lock of this name.
+    pub fn unlock(&mut self, id: LockId)
+        ensures locks { map grant_of self.new.locks.items ≡ filter (λ (g : Grant). not (g.id == id.0)) (map grant_of self.old.locks.items) }
+        ensures next { self.new.next ≡ self.old.next }
+    {
+        keep_others(&mut self.locks, id);
     }
 
     /// Whether one lock of the owner covers a range.
-    pub fn covers(&self, owner: Owner, target: &ObjectRange) -> bool {
-        self.locks
-            .iter()
-            .any(|held| held.owner == owner && target.lies_in(&held.target))
+    pub fn covers(&self, owner: Owner, target: &ObjectRange) -> bool
+        ensures { result ≡ is_covered owner.0 (target_of target.now) (map grant_of self.now.locks.items) }
+    {
+        any_covers(&self.locks, owner, target)
     }
 
     /// Whether one writer lock of the owner covers a range.
-    pub fn covers_for_writing(&self, owner: Owner, target: &ObjectRange) -> bool {
-        self.locks.iter().any(|held| held.mode == Mode::Writer
-            && held.owner == owner
-            && target.lies_in(&held.target))
+    pub fn covers_for_writing(&self, owner: Owner, target: &ObjectRange) -> bool
+        ensures { result ≡ is_covered_for_writing owner.0 (target_of target.now) (map grant_of self.now.locks.items) }
+    {
+        any_covers_for_writing(&self.locks, owner, target)
     }
+}
+
+/// Whether a mode is a reader's.
+pub fn is_reader(mode: Mode) -> bool
+    ensures { result ≡ locks.is_reader mode }
+{
+    match mode {
+        Mode::Reader => true,
+        Mode::Writer => false,
+    }
+}
+
+fn any_blocks(held: &[HeldLock], target: &ObjectRange, mode: Mode) -> bool
+    ensures { result ≡ list_any (λ (h : HeldLock). overlaps (target_of h.target) (target_of target.now) && not (locks.is_reader h.mode && locks.is_reader mode)) held.now }
+{
+    held.iter().any(|lock| lock.target.overlaps(target) && !(is_reader(lock.mode) && is_reader(mode)))
+}
+
+fn find_lock(held: &[HeldLock], owner: Owner, id: LockId) -> Option<HeldLock>
+    ensures { result ≡ find (λ (h : HeldLock). (h.id.0 == id.0) && (h.owner.0 == owner.0)) held.now }
+{
+    for lock in held {
+        if lock.id.0 == id.0 && lock.owner.0 == owner.0 {
+            return Some(*lock);
+        }
+    }
+    None
+}
+
+fn keep_others(held: &mut Vec<HeldLock>, id: LockId)
+    ensures { held.new.items ≡ filter (λ (h : HeldLock). not (h.id.0 == id.0)) held.old.items }
+{
+    held.retain(|lock| !(lock.id.0 == id.0));
+}
+
+fn any_covers(held: &[HeldLock], owner: Owner, target: &ObjectRange) -> bool
+    ensures { result ≡ list_any (λ (h : HeldLock). (h.owner.0 == owner.0) && lies_in (target_of target.now) (target_of h.target)) held.now }
+{
+    held.iter().any(|lock| lock.owner.0 == owner.0 && target.lies_in(&lock.target))
+}
+
+fn any_covers_for_writing(held: &[HeldLock], owner: Owner, target: &ObjectRange) -> bool
+    ensures { result ≡ list_any (λ (h : HeldLock). not (locks.is_reader h.mode) && ((h.owner.0 == owner.0) && lies_in (target_of target.now) (target_of h.target))) held.now }
+{
+    held.iter().any(|lock| !is_reader(lock.mode) && (lock.owner.0 == owner.0 && target.lies_in(&lock.target)))
 }

@@ -1,36 +1,12 @@
-//! A running pool, and each of its steps.
+//! A running pool on its device, and each of its steps.
 
-ghost use Rattle.std.specs.Prelude.{◌≡◌, ◌<◌, ◌+◌, ◌≤◌, ◌^◌, All, IfOk, IfSome, OnOk, true, vec_len};
-ghost use Rattle.std.specs.Option.{ForSome};
-ghost use Rattle.base.specs.Geometry.{block_count};
-ghost use Rattle.base.specs.Stage.{is_plan_built};
-ghost use Rattle.pool_core.specs.Numbers.{IsGroup};
-ghost use Rattle.pool_core.specs.Ops.{AreOpsAllowed};
-ghost use Rattle.pool_core.specs.Runs.{call_count};
-ghost use Rattle.pool_core.specs.declared.tree_plans.PlannedBlock.{PlannedBlock};
-ghost use Rattle.pool_core.specs.declared.transactions.OpenTransaction.{OpenTransaction};
+ghost use Rattle.std.specs.Prelude.{◌≡◌};
 
-use crate::contents::Contents;
-use crate::groups::Groups;
-use crate::import_replay::{Imported, Mounted};
-use crate::limits::{LAST_NUMBER, MAX_TRANSACTIONS, OBJECT_COUNT};
-use crate::object_maps::{ObjectMap, Tree};
-use crate::range_locks::{ObjectRange, RangeLocks, is_range_allowed};
-use crate::space::FreeSet;
-use crate::sync::SyncRun;
-use crate::transactions::{
-    OpenTransaction, is_blocked, is_in_plan, is_in_use, is_plan_allowed, is_too_large, range_of,
-};
-use crate::tree_plans::{Committed, PlanSource, TreePlan, dirty_objects, plan};
-use base::{
-    Bytes, Group, LockId, Mode, ObjectId, Op, Ops, Ordinal, Owner, Plan, Pointer, PoolError, Range,
-    Receipt, Shape, TxId,
-};
+use crate::import_replay::Imported;
+use crate::pool::Pool;
+use base::{Bytes, Group, LockId, Mode, ObjectId, Ops, Owner, Plan, PoolError, Range, Receipt, TxId};
 use device_model::SectorDevice;
-use labels::Geometry;
 use std::alloc::Global;
-use std::collections::BTreeMap;
-use uberblocks::{Uberblock, slot};
 
 /// What a step of a sync answers.
 #[derive(Clone, Copy, Debug, PartialEq, Eq)]
@@ -41,134 +17,38 @@ pub enum Progress {
     Synced(Group),
 }
 
-// A sync that runs, and what it makes of the tree.
-#[derive(Drop)]
-struct RunningSync {
-    group: Group,
-    run: SyncRun,
-    maps: BTreeMap<ObjectId, ObjectMap>,
-    directories: Vec<Pointer>,
-    root: Pointer,
-    // the addresses of the blocks that come back
-    freed: Vec<u64>,
-    ghost all_directories: { vec_len directories ≡ 84 },
-}
-
 /// A pool that runs on a device, which it owns. One step at a time changes it.
 ///
 /// After a device refused a write or a flush the pool is suspended: each later step is refused `Suspended`. Every other
 /// refusal leaves the pool as it was.
 #[derive(Drop)]
 pub struct PoolState<D: SectorDevice> {
-    alloc: Global,
     device: D,
-    geometry: Geometry,
-    guid: u64,
-    import_number: u64,
-    dirty_max: u64,
-    suspended: bool,
-    locks: RangeLocks,
-    groups: Groups,
-    transactions: Vec<OpenTransaction>,
-    next_tx: u64,
-    contents: Contents,
-    next_ordinal: u64,
-    // the committed transactions of unsynced groups, in order
-    pending: Vec<Committed>,
-    free: FreeSet,
-    log_address: u64,
-    tree: Tree,
-    sync: Option<RunningSync>,
-    ghost sized: { D.size device ≡ geometry },
-    ghost free_sized: { vec_len free.flags ≡ block_count geometry },
-    ghost import_fits: { import_number ≤ 2 ^ 60 },
-    ghost next_tx_fits: { next_tx ≤ 2 ^ 60 + 1 },
-    ghost next_ordinal_fits: { next_ordinal ≤ 2 ^ 60 + 1 },
-    ghost plans_built: { All (λ (t : OpenTransaction). is_plan_built t.plan ≡ true) transactions.items },
-    ghost running: { ForSome sync (λ r. (r.run.geometry ≡ geometry) × (r.run.done < call_count r.run)) },
+    pool: Pool,
+    ghost sized: { D.size device ≡ pool.geometry },
 }
 
 impl<D: SectorDevice> PoolState<D> {
     /// The pool that an import gave. It takes no memory.
     pub fn new(imported: Imported<D>) -> Self {
         let Imported { device, mounted } = imported;
-        let Mounted {
-            alloc,
-            geometry,
-            guid,
-            group,
-            import_number,
-            contents,
-            tree,
-            free,
-            log_address,
-            dirty_max,
-        } = mounted;
         PoolState {
-            alloc,
             device,
-            geometry,
-            guid,
-            import_number,
-            dirty_max,
-            suspended: false,
-            locks: RangeLocks::new(alloc),
-            groups: Groups::new(group),
-            transactions: Vec::new(alloc),
-            next_tx: 0,
-            contents,
-            next_ordinal: 0,
-            pending: Vec::new(alloc),
-            free,
-            log_address,
-            tree,
-            sync: None,
+            pool: Pool::new(mounted),
         }
     }
 
     /// The device as it is, with what is unflushed, also of a suspended pool. It takes no memory.
-    pub fn into_device(self) -> D {
-        let PoolState {
-            alloc: _,
-            device,
-            geometry: _,
-            guid: _,
-            import_number: _,
-            dirty_max: _,
-            suspended: _,
-            locks: _,
-            groups: _,
-            transactions: _,
-            next_tx: _,
-            contents: _,
-            next_ordinal: _,
-            pending: _,
-            free: _,
-            log_address: _,
-            tree: _,
-            sync: _,
-        } = self;
+    pub fn into_device(self) -> D
+        ensures { result ≡ self.device }
+    {
+        let PoolState { device, pool: _ } = self;
         device
     }
 
     /// The allocator of its collections.
     pub fn alloc(&self) -> Global {
-        self.alloc
-    }
-
-    fn check_running(&self) -> Result<(), PoolError> {
-        if self.suspended {
-            return Err(PoolError::Suspended);
-        }
-        Ok(())
-    }
-
-    // A transaction begins and commits, and a group is closed, only where no older group is unsynced.
-    fn check_no_older(&self) -> Result<(), PoolError> {
-        if self.groups.has_older() {
-            return Err(PoolError::NotReady);
-        }
-        Ok(())
+        self.pool.alloc()
     }
 
     /// Locks a range of an object, or of the number behind the last object, which stands for the pool's name
@@ -178,18 +58,8 @@ impl<D: SectorDevice> PoolState<D> {
     /// In this order: `Suspended`; `BadRange` where the number or the range is outside its limits; `Busy` exactly where the
     /// range overlaps a held one and not both are readers; `TooMany` where 256 locks are held or the next name would pass
     /// 2^60; `NoMemory`.
-    pub fn lock(
-        &mut self,
-        owner: Owner,
-        object: ObjectId,
-        range: Range,
-        mode: Mode,
-    ) -> Result<LockId, PoolError> {
-        self.check_running()?;
-        if object.0 > OBJECT_COUNT || !is_range_allowed(range) {
-            return Err(PoolError::BadRange);
-        }
-        self.locks.lock(owner, ObjectRange { object, range }, mode)
+    pub fn lock(&mut self, owner: Owner, object: ObjectId, range: Range, mode: Mode) -> Result<LockId, PoolError> {
+        self.pool.lock(owner, object, range, mode)
     }
 
     /// Lets a lock go. It takes no memory.
@@ -198,16 +68,7 @@ impl<D: SectorDevice> PoolState<D> {
     /// In this order: `Suspended`; `NoSuchLock` where the owner holds none of this name; `LockInUse` exactly where it is a
     /// writer lock in which a range of an open transaction lies.
     pub fn unlock(&mut self, owner: Owner, id: LockId) -> Result<(), PoolError> {
-        self.check_running()?;
-        let Some(index) = self.locks.find(owner, id) else {
-            return Err(PoolError::NoSuchLock);
-        };
-        let held = self.locks.locks[index];
-        if held.mode == Mode::Writer && is_in_use(&held.target, &self.transactions) {
-            return Err(PoolError::LockInUse);
-        }
-        self.locks.locks.remove(index);
-        Ok(())
+        self.pool.unlock(owner, id)
     }
 
     /// Opens a transaction of the open group that keeps to a plan.
@@ -219,58 +80,7 @@ impl<D: SectorDevice> PoolState<D> {
     /// a range of an open transaction; `TooMany` where 64 transactions are open or the next name would pass 2^60;
     /// `NoMemory`.
     pub fn begin(&mut self, owner: Owner, plan: Plan) -> Result<(TxId, Group), PoolError> {
-        self.check_running()?;
-        self.check_no_older()?;
-        let shapes = plan.as_slice();
-        if !is_plan_allowed(shapes) {
-            return Err(PoolError::BadRange);
-        }
-        if is_too_large(shapes) {
-            return Err(PoolError::TooLarge);
-        }
-        if !self.is_covered(owner, shapes) {
-            return Err(PoolError::NotLocked);
-        }
-        if is_blocked(shapes, &self.transactions) {
-            return Err(PoolError::Busy);
-        }
-        if self.transactions.len() >= MAX_TRANSACTIONS || self.next_tx > LAST_NUMBER {
-            return Err(PoolError::TooMany);
-        }
-        let tx = TxId(self.next_tx);
-        let group = self.groups.open;
-        self.transactions.push(OpenTransaction {
-            tx,
-            group,
-            owner,
-            plan,
-        })?;
-        self.next_tx += 1;
-        Ok((tx, group))
-    }
-
-    fn is_covered(&self, owner: Owner, plan: &[Shape]) -> bool {
-        plan.iter().all(|shape| self.locks.covers_for_writing(owner, &range_of(shape)))
-    }
-
-    fn find_transaction(&self, tx: TxId) -> Option<usize>
-        ensures { IfSome result (λ index. index < vec_len self.now.transactions) }
-    {
-        self.transactions
-            .iter()
-            .position(|transaction| transaction.tx == tx)
-    }
-
-    fn check_plan(&self, index: usize, ops: &[Op]) -> Result<(), PoolError>
-        requires { index < vec_len self.now.transactions }
-        ensures { OnOk result (AreOpsAllowed ops.now) }
-    {
-        let transaction = &self.transactions[index];
-        if is_in_plan(ops, transaction.plan.as_slice()) {
-            Ok(())
-        } else {
-            Err(PoolError::OutOfPlan)
-        }
+        self.pool.begin(owner, plan)
     }
 
     /// Commits a transaction whole, in its own group.
@@ -281,31 +91,7 @@ impl<D: SectorDevice> PoolState<D> {
     /// the first operation that can't take place on the contents after those before it; `TooMany` where the next ordinal
     /// would pass 2^60; `NoMemory`. After each the transaction is still open.
     pub fn commit(&mut self, tx: TxId, ops: Ops) -> Result<Receipt, PoolError> {
-        self.check_running()?;
-        self.check_no_older()?;
-        let Some(index) = self.find_transaction(tx) else {
-            return Err(PoolError::NoSuchTransaction);
-        };
-        self.check_plan(index, ops.as_slice())?;
-        self.contents.judge(ops.as_slice())?;
-        if self.next_ordinal > LAST_NUMBER {
-            return Err(PoolError::TooMany);
-        }
-        self.pending.reserve(1)?;
-        self.contents.reserve(ops.as_slice())?;
-        self.contents.apply(ops.as_slice());
-        let group = self.transactions.remove(index).group;
-        let ordinal = self.next_ordinal;
-        self.next_ordinal += 1;
-        self.pending.push_reserved(Committed {
-            group,
-            ordinal,
-            ops,
-        });
-        Ok(Receipt {
-            ordinal: Ordinal(ordinal),
-            group,
-        })
+        self.pool.commit(tx, ops)
     }
 
     /// The bytes of a range that lie below the object's length.
@@ -314,17 +100,7 @@ impl<D: SectorDevice> PoolState<D> {
     /// In this order: `Suspended`; `BadRange` where the number or the range is outside its limits; `NotLocked` where no one
     /// lock of the owner covers the range; `NoObject`; `NoMemory`.
     pub fn read(&self, owner: Owner, object: ObjectId, range: Range) -> Result<Bytes, PoolError> {
-        self.check_running()?;
-        if object.0 >= OBJECT_COUNT || !is_range_allowed(range) {
-            return Err(PoolError::BadRange);
-        }
-        if !self.locks.covers(owner, &ObjectRange { object, range }) {
-            return Err(PoolError::NotLocked);
-        }
-        let Some(bytes) = self.contents.object(object) else {
-            return Err(PoolError::NoObject);
-        };
-        Ok(Bytes::from_slice(self.alloc, bytes_in(bytes, range))?)
+        self.pool.read(owner, object, range)
     }
 
     /// The open group quiesces, and the next one is open (`txg.c`). It takes no memory.
@@ -332,9 +108,7 @@ impl<D: SectorDevice> PoolState<D> {
     /// # Errors
     /// In this order: `Suspended`; `NotReady` where an older group is unsynced, or the open group is 2^60.
     pub fn close_group(&mut self) -> Result<Group, PoolError> {
-        self.check_running()?;
-        self.check_no_older()?;
-        self.groups.close_open()
+        self.pool.close_group()
     }
 
     /// The closed group is quiesced: no transaction of it is open. It takes no memory.
@@ -342,15 +116,7 @@ impl<D: SectorDevice> PoolState<D> {
     /// # Errors
     /// In this order: `Suspended`; `NotReady` where no group quiesces, or a transaction of it is open.
     pub fn mark_quiesced(&mut self) -> Result<Group, PoolError> {
-        self.check_running()?;
-        let Some(group) = self.groups.quiescing() else {
-            return Err(PoolError::NotReady);
-        };
-        if self.transactions.iter().any(|open| open.group == group) {
-            return Err(PoolError::NotReady);
-        }
-        self.groups.mark_quiesced(group);
-        Ok(group)
+        self.pool.mark_quiesced()
     }
 
     /// Starts the sync of the quiesced group: plans its blocks and takes the room for all its steps. The moment is stored in
@@ -360,73 +126,7 @@ impl<D: SectorDevice> PoolState<D> {
     /// In this order: `Suspended`; `NotReady` where no group is quiesced or one is syncing; `NoSpace` where the free blocks
     /// do not suffice; `NoMemory`.
     pub fn start_sync(&mut self, moment: u64) -> Result<Group, PoolError> {
-        self.check_running()?;
-        let Some(group) = self.groups.quiesced() else {
-            return Err(PoolError::NotReady);
-        };
-        if self.sync.is_some() {
-            return Err(PoolError::NotReady);
-        }
-        let planned = self.plan_group(group)?;
-        self.free.take_all(&planned.blocks);
-        self.sync = Some(self.running_sync(group, moment, planned));
-        self.groups.start_sync(group);
-        Ok(group)
-    }
-
-    fn plan_group(&self, group: Group) -> Result<TreePlan, PoolError>
-        ensures { IfOk result (λ p. All (λ (b : PlannedBlock). b.index < block_count self.now.geometry) p.blocks.items) }
-    {
-        let objects = dirty_objects(self.alloc, &self.pending, group)?;
-        let source = PlanSource {
-            alloc: self.alloc,
-            geometry: self.geometry,
-            guid: self.guid,
-            group,
-            contents: &self.contents,
-            tree: &self.tree,
-            free: &self.free,
-        };
-        plan(&source, &objects)
-    }
-
-    fn running_sync(&self, group: Group, moment: u64, planned: TreePlan) -> RunningSync
-        requires group { IsGroup group.0 }
-        requires placed { All (λ (b : PlannedBlock). b.index < block_count self.now.geometry) planned.blocks.items }
-        ensures geometry { result.run.geometry ≡ self.now.geometry }
-        ensures left { result.run.done < call_count result.run }
-    {
-        let TreePlan {
-            blocks,
-            maps,
-            directories,
-            root,
-            freed,
-        } = planned;
-        let uberblock = Uberblock {
-            group,
-            guid: self.guid,
-            moment,
-            root,
-            import_number: self.import_number,
-            log_address: self.log_address,
-            log_number: 0,
-        };
-        RunningSync {
-            group,
-            run: SyncRun {
-                geometry: self.geometry,
-                blocks,
-                uberblock: uberblock.encode(),
-                slot: slot(group),
-                stages: None,
-                done: 0,
-            },
-            maps,
-            directories,
-            root,
-            freed,
-        }
+        self.pool.start_sync(moment)
     }
 
     /// Makes the next device call of the running sync. With the last one its group is synced, and the blocks that it
@@ -436,52 +136,6 @@ impl<D: SectorDevice> PoolState<D> {
     /// In this order: `Suspended`; `NotReady` where no group is syncing; `Write` or `Flush` where the device refused, and then
     /// the pool is suspended.
     pub fn sync_step(&mut self) -> Result<Progress, PoolError> {
-        self.check_running()?;
-        let Some(mut running) = self.sync.take() else {
-            return Err(PoolError::NotReady);
-        };
-        match running.run.next(&mut self.device) {
-            Ok(true) => {
-                let group = running.group;
-                self.finish_sync(running);
-                Ok(Progress::Synced(group))
-            }
-            Ok(false) => {
-                self.sync = Some(running);
-                Ok(Progress::More)
-            }
-            Err(error) => {
-                self.suspended = true;
-                self.sync = Some(running);
-                Err(error)
-            }
-        }
+        self.pool.sync_step(&mut self.device)
     }
-
-    // The synced group's tree is the pool's, what it replaced is free, and its transactions are no longer pending.
-    fn finish_sync(&mut self, running: RunningSync) {
-        let RunningSync {
-            group,
-            run: _,
-            maps,
-            directories,
-            root,
-            freed,
-        } = running;
-        self.tree.root = root;
-        self.tree.directories = directories;
-        self.tree.set_all(maps);
-        self.free.give_all(self.geometry, &freed);
-        self.pending.retain(|committed| committed.group > group);
-        self.groups.finish_sync(group);
-    }
-}
-
-// The bytes of a range that an object has.
-fn bytes_in(bytes: &[u8], range: Range) -> &[u8]
-    requires { range.low ≤ range.high }
-{
-    let low = bytes.len().min(range.low as usize);
-    let high = bytes.len().min(range.high as usize);
-    &bytes[low..high]
 }

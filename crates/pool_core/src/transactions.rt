@@ -1,15 +1,18 @@
 //! Plans of transactions: their limits and what they touch, and the transactions that are open.
 
-ghost use Rattle.std.specs.Prelude.{◌≡◌, ◌↔◌, ◌+◌, IsTrue, map, nat_le};
-ghost use Rattle.std.specs.List.{list_all};
-ghost use Rattle.base.specs.Limits.{max_length};
+ghost use Rattle.std.specs.Prelude.{◌≡◌, ◌↔◌, ◌+◌, ◌-◌, ◌^◌, ◌==◌, ◌&&◌, IsTrue, map, min, nat_le, nat_lt, not};
+ghost use Rattle.std.specs.List.{list_all, list_any};
+ghost use Rattle.base.specs.Limits.{max_length, max_log_record};
+ghost use Rattle.base.specs.Locks as locks;
 ghost use Rattle.base.specs.Plans as plans;
-ghost use Rattle.base.specs.Plans.{shape_of};
+ghost use Rattle.base.specs.Plans.{lies_in, overlaps, shape_of};
 ghost use Rattle.base.specs.Stage as stage;
 ghost use Rattle.base.specs.Stage.{is_plan_built};
+ghost use Rattle.pool_core.specs.Targets.{kept_range_of, target_of};
+ghost use Rattle.pool_core.specs.declared.transactions.OpenTransaction.{OpenTransaction};
 
 use crate::limits::{MAX_LENGTH, MAX_LOG_RECORD, OBJECT_COUNT};
-use crate::range_locks::ObjectRange;
+use crate::range_locks::{HeldLock, ObjectRange, is_reader};
 use base::{Group, MAX_NAME, ObjectId, Op, Owner, Plan, Range, Shape, TxId};
 
 /// A transaction that was admitted and has not ended.
@@ -22,7 +25,9 @@ pub struct OpenTransaction {
 }
 
 // The whole range of an object, or of the name.
-fn whole(object: ObjectId) -> ObjectRange {
+fn whole(object: ObjectId) -> ObjectRange
+    ensures { target_of result ≡ plans.whole_range object.0 }
+{
     ObjectRange {
         object,
         range: Range {
@@ -32,8 +37,11 @@ fn whole(object: ObjectId) -> ObjectRange {
     }
 }
 
-/// The range that a shape touches: a write its bytes, every other shape the whole object or the whole name.
-pub fn range_of(shape: &Shape) -> ObjectRange {
+/// The range that a shape touches: a write its bytes, every other shape the whole object or the whole name. The end of a
+/// write stays within 64 bits.
+pub fn range_of(shape: &Shape) -> ObjectRange
+    ensures { target_of result ≡ kept_range_of shape.now }
+{
     match shape {
         Shape::Create(id) | Shape::Remove(id) | Shape::SetLength(id, _) => whole(*id),
         Shape::SetName(_) => whole(ObjectId(OBJECT_COUNT)),
@@ -99,7 +107,9 @@ fn is_shape_built(shape: &Shape) -> bool
 }
 
 /// Whether the log record of a plan is longer than one may be.
-pub fn is_too_large(plan: &[Shape]) -> bool {
+pub fn is_too_large(plan: &[Shape]) -> bool
+    ensures { result ≡ nat_lt max_log_record (plans.log_record_size plan.now) }
+{
     let mut size = 22;
     for shape in plan {
         let more = size_of(shape);
@@ -112,7 +122,9 @@ pub fn is_too_large(plan: &[Shape]) -> bool {
 }
 
 // How many bytes a log record has for an operation of this shape.
-fn size_of(shape: &Shape) -> u64 {
+fn size_of(shape: &Shape) -> u64
+    ensures { result ≡ min (plans.size_of_shape shape.now) (2 ^ 64 - 1) }
+{
     match shape {
         Shape::Create(_) | Shape::Remove(_) => 5,
         Shape::Write(_, _, count) => count.saturating_add(17),
@@ -121,26 +133,50 @@ fn size_of(shape: &Shape) -> u64 {
     }
 }
 
+/// Whether a transaction of a group is open.
+pub fn is_group_held(open: &[OpenTransaction], group: Group) -> bool
+    ensures { result ≡ list_any (λ (t : OpenTransaction). t.group.0 == group.0) «open».now }
+{
+    open.iter().any(|transaction| transaction.group.0 == group.0)
+}
+
 /// Whether some range of a plan overlaps one of an open transaction.
-pub fn is_blocked(plan: &[Shape], open: &[OpenTransaction]) -> bool {
+pub fn is_blocked(plan: &[Shape], open: &[OpenTransaction]) -> bool
+    ensures { result ≡ list_any (λ (t : OpenTransaction). list_any (λ x. list_any (λ y. overlaps (kept_range_of x) (kept_range_of y)) t.plan) plan.now) «open».now }
+{
     open.iter().any(|transaction| overlaps_any(plan, transaction.plan.as_slice()))
 }
 
-fn overlaps_any(plan: &[Shape], other: &[Shape]) -> bool {
+fn overlaps_any(plan: &[Shape], other: &[Shape]) -> bool
+    ensures { result ≡ list_any (λ x. list_any (λ y. overlaps (kept_range_of x) (kept_range_of y)) other.now) plan.now }
+{
     plan.iter()
         .any(|shape| touches_any(&range_of(shape), other))
 }
 
-fn touches_any(target: &ObjectRange, plan: &[Shape]) -> bool {
+fn touches_any(target: &ObjectRange, plan: &[Shape]) -> bool
+    ensures { result ≡ list_any (λ y. overlaps (target_of target.now) (kept_range_of y)) plan.now }
+{
     plan.iter().any(|shape| target.overlaps(&range_of(shape)))
 }
 
-/// Whether a range of an open transaction lies in this one.
-pub fn is_in_use(target: &ObjectRange, open: &[OpenTransaction]) -> bool {
+// Whether a range of an open transaction lies in this one.
+fn is_in_use(target: &ObjectRange, open: &[OpenTransaction]) -> bool
+    ensures { result ≡ list_any (λ (t : OpenTransaction). list_any (λ x. lies_in (kept_range_of x) (target_of target.now)) t.plan) «open».now }
+{
     open.iter().any(|transaction| lies_any_in(transaction.plan.as_slice(), target))
 }
 
-fn lies_any_in(plan: &[Shape], target: &ObjectRange) -> bool {
+/// Whether a held lock is a writer's in which a range of an open transaction lies.
+pub fn is_held_in_use(held: &HeldLock, open: &[OpenTransaction]) -> bool
+    ensures { result ≡ (not (locks.is_reader held.now.mode) && list_any (λ (t : OpenTransaction). list_any (λ x. lies_in (kept_range_of x) (target_of held.now.target)) t.plan) «open».now) }
+{
+    !is_reader(held.mode) && is_in_use(&held.target, open)
+}
+
+fn lies_any_in(plan: &[Shape], target: &ObjectRange) -> bool
+    ensures { result ≡ list_any (λ x. lies_in (kept_range_of x) (target_of target.now)) plan.now }
+{
     plan.iter().any(|shape| range_of(shape).lies_in(target))
 }
 

@@ -2,12 +2,12 @@ use Rattle.std.proofs.Common.{◌≡◌, ◌<◌, ap, sym, subst, ◌∙◌}
 use Rattle.pool_core.specs.declared.sync.SyncRun.{SyncRun}
 use Rattle.pool_core.specs.Runs.{call_count}
 use Rattle.pool_core.proofs.SameSyncs.{kept_run, left_as_before}
-use Rattle.pool_core.proofs.state.PoolState.sync_step.Goals as goal
+use Rattle.pool_core.proofs.pool.Pool.sync_step.Goals as goal
 
 pub next-requires-clause-sized : goal.next-requires-clause-sized
 next-requires-clause-sized g c =
     let was = c.args.self.now.running c.in-Some.running (sym c.in-Some.ensures.value) in
-    c.args.self.now.sized ∙ sym was.0
+    c.requires ∙ sym was.0
 
 pub invariant_of-self-in-Err : goal.invariant_of-self-in-Err
 invariant_of-self-in-Err g c =
@@ -16,7 +16,6 @@ invariant_of-self-in-Err g c =
     let told = c.in-Err.ensures in
     let left = left_as_before c.in-Some.running.run c.next.new.self told.sync told.done was.1 in
     record {
-      sized = told.size ∙ pool.sized;
       free_sized = pool.free_sized;
       import_fits = pool.import_fits;
       next_tx_fits = pool.next_tx_fits;

@@ -1,0 +1,101 @@
+-- Range locks and the transactions that keep to them, step by step.
+use Rattle.std.proofs.Common.{ℕ, ◌≡◌, ◌+◌, Bool, true, false, ◌||◌, ◌&&◌, List, [], ◌∷◌, ◌++◌, not, filter, length, nat_le, nat_lt, refl, sym, ◌∙◌, rules}
+use Rattle.std.specs.Prelude.{Option, Some, None, Result, Ok, Err, ◌==◌}
+use Rattle.base.specs.declared.error.PoolError.{PoolError}
+use Rattle.base.specs.declared.error.PoolError.TheVariants as error
+use Rattle.base.specs.declared.operation.Shape.{Shape}
+use Rattle.base.specs.declared.range.Mode.{Mode}
+use Rattle.base.specs.Limits.{last_number, max_log_record, max_transactions, name_number}
+use Rattle.base.specs.Locks.{Grant, is_range_allowed}
+use Rattle.base.specs.Past.{Past}
+use Rattle.base.specs.Plans.{NumberRange, log_record_size}
+use Rattle.base.specs.Refusals.{lock_refusal, lock_of, is_lock_in_use, unlock_refusal, is_plan_covered, is_plan_blocked}
+use Rattle.base.specs.Shown.{Shown}
+use Rattle.base.specs.Stage.{has_older_group, is_plan_built, begin_refusal, Begin}
+use Rattle.base.specs.Steps.{Lock, Unlock, next_grant, next_admission}
+use Rattle.pool_core.specs.Meets.{Meets}
+use Rattle.pool_core.specs.Tables.{Locks, LocksBy, lock_refusal_of}
+
+abbrev is_bad_range : NumberRange → Bool
+is_bad_range t = nat_lt name_number t.number || not (is_range_allowed t.low t.high)
+
+pub lock_suspended : (owner : ℕ) (t : NumberRange) (mode : Mode) (s : Shown) → s.suspended ≡ true → Meets (Lock owner t mode) (Err error.Suspended) s s
+lock_suspended owner t mode s h = λ past. (past, rw h (refl, refl))
+
+pub lock_bad : (owner : ℕ) (t : NumberRange) (mode : Mode) (s : Shown) → s.suspended ≡ false → is_bad_range t ≡ true → Meets (Lock owner t mode) (Err error.BadRange) s s
+lock_bad owner t mode s h bad = λ past. (past, let e : lock_refusal owner t mode s ≡ Some error.BadRange = rw (h, bad) refl in rw e (refl, refl))
+
+lock_by : (r : Option PoolError) (owner : ℕ) (t : NumberRange) (mode : Mode) (answer : Result ℕ PoolError) (s : Shown) (locks : List Grant) (next : ℕ)
+    → lock_refusal owner t mode s ≡ r → LocksBy r owner t mode answer s.locks s.next_lock locks next → Meets (Lock owner t mode) answer s (record s { locks = locks; next_lock = next })
+lock_by (Some e) owner t mode answer s locks next r told = λ past. (past, rw r (told.0, rw (told.1, told.2) refl))
+lock_by None owner t mode (Ok id) s locks next r told =
+    λ past. (record past { grants = past.grants ++ next_grant owner t mode s ∷ [] }, rw r (told.0, rw (told.1, told.2) refl))
+lock_by None owner t mode (Err e) s locks next r told = λ past. (past, rw r (told.0, rw (told.1, told.2) refl))
+
+-- what is told of the locks, told of the pool
+pub lock_ends : (owner : ℕ) (t : NumberRange) (mode : Mode) (answer : Result ℕ PoolError) (s : Shown) (locks : List Grant) (next : ℕ)
+    → s.suspended ≡ false → is_bad_range t ≡ false → Locks owner t mode answer s.locks s.next_lock locks next → Meets (Lock owner t mode) answer s (record s { locks = locks; next_lock = next })
+lock_ends owner t mode answer s locks next h bad told =
+    lock_by (lock_refusal_of t mode s.locks s.next_lock) owner t mode answer s locks next (rw (h, bad) refl) told
+
+pub unlock_suspended : (owner id : ℕ) (s : Shown) → s.suspended ≡ true → Meets (Unlock owner id) (Err error.Suspended) s s
+unlock_suspended owner id s h = λ past. (past, rw h (refl, refl))
+
+pub unlock_none : (owner id : ℕ) (s : Shown) → s.suspended ≡ false → lock_of owner id s ≡ None → Meets (Unlock owner id) (Err error.NoSuchLock) s s
+unlock_none owner id s h none = λ past. (past, let e : unlock_refusal owner id s ≡ Some error.NoSuchLock = rw (h, none) refl in rw e (refl, refl))
+
+pub unlock_used : (owner id : ℕ) (g : Grant) (s : Shown) → s.suspended ≡ false → lock_of owner id s ≡ Some g → is_lock_in_use g s ≡ true → Meets (Unlock owner id) (Err error.LockInUse) s s
+unlock_used owner id g s h some used = λ past. (past, let e : unlock_refusal owner id s ≡ Some error.LockInUse = rw (h, some, used) refl in rw e (refl, refl))
+
+pub unlock_done : (owner id : ℕ) (g : Grant) (s n : Shown) → s.suspended ≡ false → lock_of owner id s ≡ Some g → is_lock_in_use g s ≡ false
+    → n ≡ record s { locks = filter (λ (x : Grant). not (x.id == id)) s.locks } → Meets (Unlock owner id) (Ok tt) s n
+unlock_done owner id g s n h some unused same =
+    λ past. (record past { let_go = past.let_go ++ id ∷ [] }, let none : unlock_refusal owner id s ≡ None = rw (h, some, unused) refl in rw none (rw same refl))
+
+pub begin_suspended : (owner : ℕ) (plan : List Shape) (s : Shown) → s.suspended ≡ true → begin_refusal owner plan s ≡ Some error.Suspended
+begin_suspended owner plan s h = rw h refl
+
+pub begin_older : (owner : ℕ) (plan : List Shape) (s : Shown) → s.suspended ≡ false → has_older_group s.line ≡ true → begin_refusal owner plan s ≡ Some error.NotReady
+begin_older owner plan s h older = rw (h, older) refl
+
+pub begin_bad : (owner : ℕ) (plan : List Shape) (s : Shown) → s.suspended ≡ false → has_older_group s.line ≡ false → is_plan_built plan ≡ false → begin_refusal owner plan s ≡ Some error.BadRange
+begin_bad owner plan s h older bad = rw (h, older, bad) refl
+
+-- no older group is unsynced, and the plan is one that is built
+pub record MayBegin (plan : List Shape) (s : Shown) : Type 0 where
+  pub running : s.suspended ≡ false
+  pub no_older : has_older_group s.line ≡ false
+  pub built : is_plan_built plan ≡ true
+
+pub begin_large : (owner : ℕ) (plan : List Shape) (s : Shown) → MayBegin plan s → nat_lt max_log_record (log_record_size plan) ≡ true → begin_refusal owner plan s ≡ Some error.TooLarge
+begin_large owner plan s m large = rw (m.running, m.no_older, m.built, large) refl
+
+pub begin_open : (owner : ℕ) (plan : List Shape) (s : Shown) → MayBegin plan s → nat_lt max_log_record (log_record_size plan) ≡ false → is_plan_covered owner plan s.locks ≡ false
+    → begin_refusal owner plan s ≡ Some error.NotLocked
+begin_open owner plan s m large covered = rw (m.running, m.no_older, m.built, large, covered) refl
+
+pub begin_busy : (owner : ℕ) (plan : List Shape) (s : Shown) → MayBegin plan s → nat_lt max_log_record (log_record_size plan) ≡ false → is_plan_covered owner plan s.locks ≡ true
+    → is_plan_blocked plan s.transactions ≡ true → begin_refusal owner plan s ≡ Some error.Busy
+begin_busy owner plan s m large covered blocked = rw (m.running, m.no_older, m.built, large, covered, blocked) refl
+
+abbrev pub has_too_many : Shown → Bool
+has_too_many s = nat_le max_transactions (length s.transactions) || nat_lt last_number s.next_tx
+
+pub begin_many : (owner : ℕ) (plan : List Shape) (s : Shown) → MayBegin plan s → nat_lt max_log_record (log_record_size plan) ≡ false → is_plan_covered owner plan s.locks ≡ true
+    → is_plan_blocked plan s.transactions ≡ false → has_too_many s ≡ true → begin_refusal owner plan s ≡ Some error.TooMany
+begin_many owner plan s m large covered blocked many = rw (m.running, m.no_older, m.built, large, covered, blocked, many) refl
+
+pub begin_passes : (owner : ℕ) (plan : List Shape) (s : Shown) → MayBegin plan s → nat_lt max_log_record (log_record_size plan) ≡ false → is_plan_covered owner plan s.locks ≡ true
+    → is_plan_blocked plan s.transactions ≡ false → has_too_many s ≡ false → begin_refusal owner plan s ≡ None
+begin_passes owner plan s m large covered blocked few = rw (m.running, m.no_older, m.built, large, covered, blocked, few) refl
+
+pub begin_refused : (owner : ℕ) (plan : List Shape) (e : PoolError) (s : Shown) → begin_refusal owner plan s ≡ Some e → Meets (Begin owner plan) (Err e) s s
+begin_refused owner plan e s refused = λ past. (past, rw refused (refl, refl))
+
+pub begin_wants : (owner : ℕ) (plan : List Shape) (s : Shown) → begin_refusal owner plan s ≡ None → Meets (Begin owner plan) (Err error.NoMemory) s s
+begin_wants owner plan s none = λ past. (past, rw none (refl, refl))
+
+pub begin_done : (owner : ℕ) (plan : List Shape) (s n : Shown) → begin_refusal owner plan s ≡ None
+    → n ≡ record s { transactions = s.transactions ++ next_admission owner plan s ∷ []; next_tx = s.next_tx + 1 } → Meets (Begin owner plan) (Ok (s.next_tx, s.line.open_group)) s n
+begin_done owner plan s n none same =
+    λ past. (record past { admissions = past.admissions ++ next_admission owner plan s ∷ [] }, rw none (refl, rw same refl))

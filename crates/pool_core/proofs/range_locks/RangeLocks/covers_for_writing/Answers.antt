@@ -1,0 +1,16 @@
+use Rattle.std.proofs.Common.{◌≡◌, ◌==◌, ◌&&◌, Bool, not, List, map, filter, ap, sym, ◌∙◌, rules}
+use Rattle.std.specs.Prelude.{Option, option_map}
+use Rattle.std.specs.List.{list_any, find}
+use Rattle.base.specs.Plans.{overlaps, lies_in}
+use Rattle.base.specs.Locks.{Grant, is_reader}
+use Rattle.pool_core.specs.declared.range_locks.HeldLock.{HeldLock}
+use Rattle.pool_core.specs.Shows.{grant_of}
+use Rattle.pool_core.specs.Targets.{target_of}
+use Rattle.pool_core.proofs.Mapped.{list_any-map, find-map, filter-map}
+use Rattle.pool_core.proofs.range_locks.RangeLocks.covers_for_writing.Goals as goal
+
+pub returns : goal.returns
+returns c =
+    let P : Grant → Bool = λ (g : Grant). not (is_reader g.mode) && ((g.owner == c.args.owner.0) && lies_in (target_of c.args.target.now) g.range) in
+    let items : List HeldLock = c.args.self.now.locks.items in
+    c.any_covers_for_writing.ensures ∙ ap (λ (l : List HeldLock). list_any (λ (h : HeldLock). P (grant_of h)) l) c.deref.ensures.value ∙ sym (list_any-map P grant_of items)

@@ -1,0 +1,15 @@
+use Rattle.std.proofs.Common.{◌≡◌, ◌==◌, ◌&&◌, Bool, not, List, map, filter, ap, sym, ◌∙◌, rules}
+use Rattle.std.specs.Prelude.{Option, option_map}
+use Rattle.std.specs.List.{list_any, find}
+use Rattle.base.specs.Plans.{overlaps, lies_in}
+use Rattle.base.specs.Locks.{Grant, is_reader}
+use Rattle.pool_core.specs.declared.range_locks.HeldLock.{HeldLock}
+use Rattle.pool_core.specs.Shows.{grant_of}
+use Rattle.pool_core.proofs.Mapped.{list_any-map, find-map, filter-map}
+use Rattle.pool_core.proofs.range_locks.RangeLocks.unlock.Goals as goal
+
+pub returns-clause-locks : goal.returns-clause-locks
+returns-clause-locks c =
+    let P : Grant → Bool = λ (g : Grant). not (g.id == c.args.id.0) in
+    let items : List HeldLock = c.args.self.now.locks.items in
+    ap (λ (l : List HeldLock). map grant_of l) c.keep_others.ensures ∙ sym (filter-map P grant_of items)

@@ -1,0 +1,17 @@
+-- The line of groups as definitions speak of it.
+use Rattle.std.specs.Prelude.{ℕ, ◌||◌, Bool, Option, option_map, is_some, nat_le}
+use Rattle.base.specs.Limits.{last_number}
+use Rattle.base.specs.Groups as line
+use Rattle.base.specs.Groups.{Line}
+use Rattle.pool_core.specs.declared.groups.Middle.{Middle}
+use Rattle.pool_core.specs.declared.groups.Groups.{Groups}
+
+abbrev pub middle_of : Middle → line.Middle
+middle_of m = record { group = m.group.0; quiesced = m.quiesced }
+
+abbrev pub line_of : Groups → Line
+line_of g = record { synced = g.synced.0; syncing = option_map (λ s. s.0) g.syncing; middle = option_map middle_of g.middle; open_group = g.«open».0 }
+
+-- whether the open group can't be closed: a middle is there, or it has the last number
+abbrev pub is_last_open : Line → Bool
+is_last_open l = is_some l.middle || nat_le last_number l.open_group

@@ -1,0 +1,96 @@
+-- What contracts show of a pool, read off its fields.
+use Rattle.std.specs.Prelude.{ℕ, ◌-◌, ◌+◌, ◌*◌, Bool, true, false, List, [], ◌∷◌, map, Option, Some, None, option_map}
+use Rattle.std.specs.Ordering.{nat_cmp}
+use Rattle.std.specs.FinMap as finite
+use Rattle.std.specs.FinMap.{FinMap}
+use Rattle.std.specs.FinSet as set
+use Rattle.std.specs.FinSet.{FinSet}
+use Rattle.base.specs.Plans.{NumberRange}
+use Rattle.base.specs.Locks.{Grant}
+use Rattle.base.specs.Groups.{Admission}
+use Rattle.base.specs.Contents as base_contents
+use Rattle.base.specs.Contents.{stored}
+use Rattle.base.specs.Geometry.{block_address, block_count}
+use Rattle.base.specs.Records.{Record}
+use Rattle.base.specs.Logs.{Log}
+use Rattle.base.specs.Shown.{Shown, SyncPlan}
+use Rattle.pool_core.specs.Targets.{target_of}
+use Rattle.pool_core.specs.Lines.{line_of}
+use Rattle.pool_core.specs.declared.range_locks.HeldLock.{HeldLock}
+use Rattle.pool_core.specs.declared.transactions.OpenTransaction.{OpenTransaction}
+use Rattle.pool_core.specs.declared.tree_plans.Committed.{Committed}
+use Rattle.pool_core.specs.declared.tree_plans.PlannedBlock.{PlannedBlock}
+use Rattle.pool_core.specs.declared.contents.Slot.{Slot}
+use Rattle.pool_core.specs.declared.contents.Contents.{Contents}
+use Rattle.pool_core.specs.declared.pool.RunningSync.{RunningSync}
+use Rattle.pool_core.specs.declared.pool.Pool.{Pool}
+use Rattle.pool_core.specs.Runs.{call_count}
+
+abbrev pub grant_of : HeldLock → Grant
+grant_of h = record { id = h.id.0; owner = h.owner.0; range = target_of h.target; mode = h.mode }
+
+abbrev pub admission_of : OpenTransaction → Admission
+admission_of t = record { tx = t.tx.0; group = t.group.0; owner = t.owner.0; plan = t.plan }
+
+abbrev pub record_of : Committed → Record
+record_of c = record { group = c.group.0; ordinal = c.ordinal; ops = c.ops }
+
+-- the bytes of an object, if it is there
+abbrev pub present_bytes : Bool → List ℕ → Option (List ℕ)
+present_bytes true bytes = Some bytes
+present_bytes false bytes = None
+
+abbrev pub object_of : Slot → Option (List ℕ)
+object_of s = present_bytes s.present s.bytes.items
+
+-- the objects of slots that have the numbers from this one on
+unfoldable pub objects_from : ℕ → List Slot → FinMap nat_cmp (List ℕ)
+objects_from n [] = finite.empty
+objects_from n (s ∷ ss) = stored (objects_from (n + 1) ss) n (object_of s)
+
+abbrev pub contents_of : Contents → base_contents.Contents
+contents_of c = record { name = c.name; objects = objects_from 0 c.slots.items }
+
+-- the addresses of the free ones of blocks from this index on
+unfoldable pub addresses_from : ℕ → List Bool → List ℕ
+addresses_from k [] = []
+addresses_from k (true ∷ flags) = block_address k ∷ addresses_from (k + 1) flags
+addresses_from k (false ∷ flags) = addresses_from (k + 1) flags
+
+abbrev pub free_of : List Bool → FinSet nat_cmp
+free_of flags = set.from_list (addresses_from 0 flags)
+
+abbrev pub log_of : List Committed → ℕ → Log
+log_of pending address = record { pending = map record_of pending; kept = []; next = record { address = address; number = 0 } }
+
+abbrev pub plan_of : ℕ → RunningSync → SyncPlan
+plan_of address r = record {
+  steps_left = call_count r.run - r.run.done;
+  taken = map (λ (b : PlannedBlock). block_address b.index) r.run.blocks.items;
+  freed = r.freed.items;
+  moment = r.moment;
+  root = r.root;
+  header = record { address = address; number = 0 };
+}
+
+abbrev pub shown_of : Pool → Shown
+shown_of p = record {
+  suspended = p.suspended;
+  guid = p.guid;
+  blocks = block_count p.geometry;
+  import_number = p.import_number;
+  dirty_max = p.dirty_max;
+  locks = map grant_of p.locks.locks.items;
+  next_lock = p.locks.next;
+  line = line_of p.groups;
+  transactions = map admission_of p.transactions.items;
+  next_tx = p.next_tx;
+  contents = contents_of p.contents;
+  next_ordinal = p.next_ordinal;
+  dirty = finite.empty;
+  reserved = finite.empty;
+  free = free_of p.free.flags.items;
+  log = log_of p.pending.items p.log_address;
+  root = p.tree.root;
+  sync = option_map (plan_of p.log_address) p.sync;
+}

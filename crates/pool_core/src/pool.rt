@@ -1,0 +1,533 @@
+//! A pool without its device, and each of its steps.
+
+ghost use Rattle.std.specs.Prelude.{◌≡◌, ◌<◌, ◌+◌, ◌≤◌, ◌^◌, ◌||◌, All, IfOk, IfSome, IsTrue, MatchResult, None, OnOk, Some, false, map, nat_le, nat_lt, not, true, vec_len};
+ghost use Rattle.std.specs.List.{list_all};
+ghost use Rattle.std.specs.Option.{ForSome};
+ghost use Rattle.base.specs.Geometry.{block_count};
+ghost use Rattle.base.specs.Limits.{last_number, max_transactions, name_number, object_count};
+ghost use Rattle.base.specs.Locks as held;
+ghost use Rattle.base.specs.Refusals.{is_lock_in_use, object_range};
+ghost use Rattle.base.specs.Stage as stage;
+ghost use Rattle.base.specs.Stage.{has_older_group, is_plan_built};
+ghost use Rattle.base.specs.Steps as steps;
+ghost use Rattle.pool_core.specs.Numbers.{IsGroup};
+ghost use Rattle.pool_core.specs.Ops.{AreOpsAllowed};
+ghost use Rattle.pool_core.specs.Runs.{call_count};
+ghost use Rattle.pool_core.specs.declared.tree_plans.PlannedBlock.{PlannedBlock};
+ghost use Rattle.pool_core.specs.declared.transactions.OpenTransaction.{OpenTransaction};
+
+use crate::contents::Contents;
+use crate::groups::Groups;
+use crate::import_replay::Mounted;
+
+use crate::limits::{LAST_NUMBER, MAX_TRANSACTIONS, OBJECT_COUNT};
+use crate::object_maps::{ObjectMap, Tree};
+use crate::range_locks::{HeldLock, ObjectRange, RangeLocks, is_range_allowed};
+use crate::space::FreeSet;
+use crate::state::Progress;
+use crate::sync::SyncRun;
+use crate::transactions::{
+    OpenTransaction, is_blocked, is_group_held, is_held_in_use, is_in_plan, is_plan_allowed, is_too_large, range_of,
+};
+use crate::tree_plans::{Committed, PlanSource, TreePlan, dirty_objects, plan};
+use base::{
+    Bytes, Group, LockId, Mode, ObjectId, Op, Ops, Ordinal, Owner, Plan, Pointer, PoolError, Range,
+    Receipt, Shape, TxId,
+};
+use device_model::SectorDevice;
+use labels::Geometry;
+use std::alloc::Global;
+use std::collections::BTreeMap;
+use uberblocks::{Uberblock, slot};
+
+// A sync that runs, and what it makes of the tree.
+#[derive(Drop)]
+struct RunningSync {
+    group: Group,
+    // what its uberblocks carry
+    moment: u64,
+    run: SyncRun,
+    maps: BTreeMap<ObjectId, ObjectMap>,
+    directories: Vec<Pointer>,
+    root: Pointer,
+    // the addresses of the blocks that come back
+    freed: Vec<u64>,
+    ghost all_directories: { vec_len directories ≡ 84 },
+}
+
+/// What a running pool keeps in memory: all but its device. Each step changes it, or leaves it as it was.
+#[derive(Drop)]
+pub struct Pool {
+    alloc: Global,
+    geometry: Geometry,
+    guid: u64,
+    import_number: u64,
+    dirty_max: u64,
+    suspended: bool,
+    locks: RangeLocks,
+    groups: Groups,
+    transactions: Vec<OpenTransaction>,
+    next_tx: u64,
+    contents: Contents,
+    next_ordinal: u64,
+    // the committed transactions of unsynced groups, in order
+    pending: Vec<Committed>,
+    free: FreeSet,
+    log_address: u64,
+    tree: Tree,
+    sync: Option<RunningSync>,
+    ghost free_sized: { vec_len free.flags ≡ block_count geometry },
+    ghost import_fits: { import_number ≤ 2 ^ 60 },
+    ghost next_tx_fits: { next_tx ≤ 2 ^ 60 + 1 },
+    ghost next_ordinal_fits: { next_ordinal ≤ 2 ^ 60 + 1 },
+    ghost plans_built: { All (λ (t : OpenTransaction). is_plan_built t.plan ≡ true) transactions.items },
+    ghost running: { ForSome sync (λ r. (r.run.geometry ≡ geometry) × (r.run.done < call_count r.run)) },
+}
+
+impl Pool {
+    ghost use Rattle.pool_core.specs.Lines.{line_of};
+    ghost use Rattle.pool_core.specs.Meets.{Meets};
+    ghost use Rattle.pool_core.specs.Shows.{grant_of, shown_of};
+    ghost use Rattle.pool_core.specs.Tables.{result_map};
+    ghost use Rattle.pool_core.specs.Targets.{kept_range_of};
+
+    /// The pool that an import mounted. It takes no memory.
+    pub fn new(mounted: Mounted) -> Self
+        ensures { result.geometry ≡ mounted.geometry }
+    {
+        let Mounted {
+            alloc,
+            geometry,
+            guid,
+            group,
+            import_number,
+            contents,
+            tree,
+            free,
+            log_address,
+            dirty_max,
+        } = mounted;
+        Pool {
+            alloc,
+            geometry,
+            guid,
+            import_number,
+            dirty_max,
+            suspended: false,
+            locks: RangeLocks::new(alloc),
+            groups: Groups::new(group),
+            transactions: Vec::new(alloc),
+            next_tx: 0,
+            contents,
+            next_ordinal: 0,
+            pending: Vec::new(alloc),
+            free,
+            log_address,
+            tree,
+            sync: None,
+        }
+    }
+
+    /// The allocator of its collections.
+    pub fn alloc(&self) -> Global {
+        self.alloc
+    }
+
+    fn check_running(&self) -> Result<(), PoolError>
+        ensures { MatchResult result (λ _. self.now.suspended ≡ false) (λ e. (e ≡ PoolError.Suspended) × (self.now.suspended ≡ true)) }
+    {
+        if self.suspended {
+            return Err(PoolError::Suspended);
+        }
+        Ok(())
+    }
+
+    // A transaction begins and commits, and a group is closed, only where no older group is unsynced.
+    fn check_no_older(&self) -> Result<(), PoolError>
+        ensures { MatchResult result (λ _. has_older_group (line_of self.now.groups) ≡ false) (λ e. (e ≡ PoolError.NotReady) × (has_older_group (line_of self.now.groups) ≡ true)) }
+    {
+        if self.groups.has_older() {
+            return Err(PoolError::NotReady);
+        }
+        Ok(())
+    }
+
+    /// Locks a range of an object, or of the number behind the last object, which stands for the pool's name
+    /// (`zfs_rlock.c`).
+    ///
+    /// # Errors
+    /// In this order: `Suspended`; `BadRange` where the number or the range is outside its limits; `Busy` exactly where the
+    /// range overlaps a held one and not both are readers; `TooMany` where 256 locks are held or the next name would pass
+    /// 2^60; `NoMemory`.
+    pub fn lock(
+        &mut self,
+        owner: Owner,
+        object: ObjectId,
+        range: Range,
+        mode: Mode,
+    ) -> Result<LockId, PoolError>
+        ensures geometry { self.new.geometry ≡ self.old.geometry }
+        ensures step { Meets (steps.Lock owner.0 (object_range object.0 range.low range.high) mode) (result_map (λ id. id.0) result) (shown_of self.old) (shown_of self.new) }
+    {
+        self.check_running()?;
+        if !is_lockable(object, range) {
+            return Err(PoolError::BadRange);
+        }
+        self.locks.lock(owner, ObjectRange { object, range }, mode)
+    }
+
+    /// Lets a lock go. It takes no memory.
+    ///
+    /// # Errors
+    /// In this order: `Suspended`; `NoSuchLock` where the owner holds none of this name; `LockInUse` exactly where it is a
+    /// writer lock in which a range of an open transaction lies.
+    pub fn unlock(&mut self, owner: Owner, id: LockId) -> Result<(), PoolError>
+        ensures geometry { self.new.geometry ≡ self.old.geometry }
+        ensures step { Meets (steps.Unlock owner.0 id.0) result (shown_of self.old) (shown_of self.new) }
+    {
+        self.check_running()?;
+        let Some(held) = self.locks.find(owner, id) else {
+            return Err(PoolError::NoSuchLock);
+        };
+        if self.is_in_use(&held) {
+            return Err(PoolError::LockInUse);
+        }
+        self.locks.unlock(id);
+        Ok(())
+    }
+
+    fn is_in_use(&self, held: &HeldLock) -> bool
+        ensures { result ≡ is_lock_in_use (grant_of held.now) (shown_of self.now) }
+    {
+        is_held_in_use(held, &self.transactions)
+    }
+
+    /// Opens a transaction of the open group that keeps to a plan.
+    ///
+    /// # Errors
+    /// In this order: `Suspended`; `NotReady` where an older group is unsynced; `BadRange` where the plan has no shape, or
+    /// one that neither creates nor writes or is outside its limits; `TooLarge` where its log record would have more than
+    /// 4,008 bytes; `NotLocked` where a range of it does not lie in one writer lock of the owner; `Busy` where one overlaps
+    /// a range of an open transaction; `TooMany` where 64 transactions are open or the next name would pass 2^60;
+    /// `NoMemory`.
+    pub fn begin(&mut self, owner: Owner, plan: Plan) -> Result<(TxId, Group), PoolError>
+        ensures geometry { self.new.geometry ≡ self.old.geometry }
+        ensures step { Meets (stage.Begin owner.0 plan) (result_map (λ a. (a.0.0, a.1.0)) result) (shown_of self.old) (shown_of self.new) }
+    {
+        self.check_begin(owner, plan.as_slice())?;
+        let tx = TxId(self.next_tx);
+        let group = self.groups.open;
+        self.transactions.push(OpenTransaction {
+            tx,
+            group,
+            owner,
+            plan,
+        })?;
+        self.next_tx += 1;
+        Ok((tx, group))
+    }
+
+    // Refused where a begin is, but for want of memory.
+    fn check_begin(&self, owner: Owner, plan: &[Shape]) -> Result<(), PoolError>
+        ensures refusal { MatchResult result (λ _. stage.begin_refusal owner.0 plan.now (shown_of self.now) ≡ None) (λ e. stage.begin_refusal owner.0 plan.now (shown_of self.now) ≡ Some e) }
+        ensures built { OnOk result (is_plan_built plan.now ≡ true) }
+        ensures named { OnOk result (self.now.next_tx ≤ 2 ^ 60) }
+    {
+        self.check_running()?;
+        self.check_no_older()?;
+        if !is_plan_allowed(plan) {
+            return Err(PoolError::BadRange);
+        }
+        if is_too_large(plan) {
+            return Err(PoolError::TooLarge);
+        }
+        if !self.is_covered(owner, plan) {
+            return Err(PoolError::NotLocked);
+        }
+        if is_blocked(plan, &self.transactions) {
+            return Err(PoolError::Busy);
+        }
+        if self.has_too_many() {
+            return Err(PoolError::TooMany);
+        }
+        Ok(())
+    }
+
+    fn is_covered(&self, owner: Owner, plan: &[Shape]) -> bool
+        ensures { result ≡ list_all (λ x. held.is_covered_for_writing owner.0 (kept_range_of x) (map grant_of self.now.locks.locks.items)) plan.now }
+    {
+        plan.iter().all(|shape| self.locks.covers_for_writing(owner, &range_of(shape)))
+    }
+
+    // Whether one more transaction is too many.
+    fn has_too_many(&self) -> bool
+        ensures { result ≡ (nat_le max_transactions (vec_len self.now.transactions) || nat_lt last_number self.now.next_tx) }
+    {
+        self.transactions.len() >= MAX_TRANSACTIONS || self.next_tx > LAST_NUMBER
+    }
+
+    fn find_transaction(&self, tx: TxId) -> Option<usize>
+        ensures { IfSome result (λ index. index < vec_len self.now.transactions) }
+    {
+        self.transactions
+            .iter()
+            .position(|transaction| transaction.tx == tx)
+    }
+
+    fn check_plan(&self, index: usize, ops: &[Op]) -> Result<(), PoolError>
+        requires { index < vec_len self.now.transactions }
+        ensures { OnOk result (AreOpsAllowed ops.now) }
+    {
+        let transaction = &self.transactions[index];
+        if is_in_plan(ops, transaction.plan.as_slice()) {
+            Ok(())
+        } else {
+            Err(PoolError::OutOfPlan)
+        }
+    }
+
+    /// Commits a transaction whole, in its own group.
+    ///
+    /// # Errors
+    /// In this order: `Suspended`; `NotReady` where an older group is unsynced; `NoSuchTransaction` where none of this name
+    /// is open; `OutOfPlan` where the operations have not the plan's shapes, one for one; `NoObject` or `Exists`, that of
+    /// the first operation that can't take place on the contents after those before it; `TooMany` where the next ordinal
+    /// would pass 2^60; `NoMemory`. After each the transaction is still open.
+    pub fn commit(&mut self, tx: TxId, ops: Ops) -> Result<Receipt, PoolError>
+        ensures geometry { self.new.geometry ≡ self.old.geometry }
+    {
+        self.check_running()?;
+        self.check_no_older()?;
+        let Some(index) = self.find_transaction(tx) else {
+            return Err(PoolError::NoSuchTransaction);
+        };
+        self.check_plan(index, ops.as_slice())?;
+        self.contents.judge(ops.as_slice())?;
+        if self.next_ordinal > LAST_NUMBER {
+            return Err(PoolError::TooMany);
+        }
+        self.pending.reserve(1)?;
+        self.contents.reserve(ops.as_slice())?;
+        self.contents.apply(ops.as_slice());
+        let group = self.transactions.remove(index).group;
+        let ordinal = self.next_ordinal;
+        self.next_ordinal += 1;
+        self.pending.push_reserved(Committed {
+            group,
+            ordinal,
+            ops,
+        });
+        Ok(Receipt {
+            ordinal: Ordinal(ordinal),
+            group,
+        })
+    }
+
+    /// The bytes of a range that lie below the object's length.
+    ///
+    /// # Errors
+    /// In this order: `Suspended`; `BadRange` where the number or the range is outside its limits; `NotLocked` where no one
+    /// lock of the owner covers the range; `NoObject`; `NoMemory`.
+    pub fn read(&self, owner: Owner, object: ObjectId, range: Range) -> Result<Bytes, PoolError> {
+        self.check_running()?;
+        if !is_readable(object, range) {
+            return Err(PoolError::BadRange);
+        }
+        if !self.locks.covers(owner, &ObjectRange { object, range }) {
+            return Err(PoolError::NotLocked);
+        }
+        let Some(bytes) = self.contents.object(object) else {
+            return Err(PoolError::NoObject);
+        };
+        Ok(Bytes::from_slice(self.alloc, bytes_in(bytes, range))?)
+    }
+
+    /// The open group quiesces, and the next one is open (`txg.c`). It takes no memory.
+    ///
+    /// # Errors
+    /// In this order: `Suspended`; `NotReady` where an older group is unsynced, or the open group is 2^60.
+    pub fn close_group(&mut self) -> Result<Group, PoolError>
+        ensures geometry { self.new.geometry ≡ self.old.geometry }
+        ensures step { Meets stage.CloseGroup (result_map (λ group. group.0) result) (shown_of self.old) (shown_of self.new) }
+    {
+        self.check_running()?;
+        self.check_no_older()?;
+        self.groups.close_open()
+    }
+
+    /// The closed group is quiesced: no transaction of it is open. It takes no memory.
+    ///
+    /// # Errors
+    /// In this order: `Suspended`; `NotReady` where no group quiesces, or a transaction of it is open.
+    pub fn mark_quiesced(&mut self) -> Result<Group, PoolError>
+        ensures geometry { self.new.geometry ≡ self.old.geometry }
+        ensures step { Meets steps.MarkQuiesced (result_map (λ group. group.0) result) (shown_of self.old) (shown_of self.new) }
+    {
+        self.check_running()?;
+        let Some(group) = self.groups.quiescing() else {
+            return Err(PoolError::NotReady);
+        };
+        if is_group_held(&self.transactions, group) {
+            return Err(PoolError::NotReady);
+        }
+        self.groups.mark_quiesced(group);
+        Ok(group)
+    }
+
+    /// Starts the sync of the quiesced group: plans its blocks and takes the room for all its steps. The moment is stored in
+    /// its uberblocks.
+    ///
+    /// # Errors
+    /// In this order: `Suspended`; `NotReady` where no group is quiesced or one is syncing; `NoSpace` where the free blocks
+    /// do not suffice; `NoMemory`.
+    pub fn start_sync(&mut self, moment: u64) -> Result<Group, PoolError>
+        ensures geometry { self.new.geometry ≡ self.old.geometry }
+    {
+        self.check_running()?;
+        let Some(group) = self.groups.quiesced() else {
+            return Err(PoolError::NotReady);
+        };
+        if self.sync.is_some() {
+            return Err(PoolError::NotReady);
+        }
+        let planned = self.plan_group(group)?;
+        self.free.take_all(&planned.blocks);
+        self.sync = Some(self.running_sync(group, moment, planned));
+        self.groups.start_sync(group);
+        Ok(group)
+    }
+
+    fn plan_group(&self, group: Group) -> Result<TreePlan, PoolError>
+        ensures { IfOk result (λ p. All (λ (b : PlannedBlock). b.index < block_count self.now.geometry) p.blocks.items) }
+    {
+        let objects = dirty_objects(self.alloc, &self.pending, group)?;
+        let source = PlanSource {
+            alloc: self.alloc,
+            geometry: self.geometry,
+            guid: self.guid,
+            group,
+            contents: &self.contents,
+            tree: &self.tree,
+            free: &self.free,
+        };
+        plan(&source, &objects)
+    }
+
+    fn running_sync(&self, group: Group, moment: u64, planned: TreePlan) -> RunningSync
+        requires group { IsGroup group.0 }
+        requires placed { All (λ (b : PlannedBlock). b.index < block_count self.now.geometry) planned.blocks.items }
+        ensures geometry { result.run.geometry ≡ self.now.geometry }
+        ensures left { result.run.done < call_count result.run }
+    {
+        let TreePlan {
+            blocks,
+            maps,
+            directories,
+            root,
+            freed,
+        } = planned;
+        let uberblock = Uberblock {
+            group,
+            guid: self.guid,
+            moment,
+            root,
+            import_number: self.import_number,
+            log_address: self.log_address,
+            log_number: 0,
+        };
+        RunningSync {
+            group,
+            moment,
+            run: SyncRun {
+                geometry: self.geometry,
+                blocks,
+                uberblock: uberblock.encode(),
+                slot: slot(group),
+                stages: None,
+                done: 0,
+            },
+            maps,
+            directories,
+            root,
+            freed,
+        }
+    }
+
+    /// Makes the next device call of the running sync. With the last one its group is synced, and the blocks that it
+    /// replaced come back. It takes no memory of its own.
+    ///
+    /// # Errors
+    /// In this order: `Suspended`; `NotReady` where no group is syncing; `Write` or `Flush` where the device refused, and then
+    /// the pool is suspended.
+    pub fn sync_step<D: SectorDevice>(&mut self, device: &mut D) -> Result<Progress, PoolError>
+        requires { D.size device.old ≡ self.old.geometry }
+        ensures size { D.size device.new ≡ D.size device.old }
+        ensures geometry { self.new.geometry ≡ self.old.geometry }
+    {
+        self.check_running()?;
+        let Some(mut running) = self.sync.take() else {
+            return Err(PoolError::NotReady);
+        };
+        match running.run.next(device) {
+            Ok(true) => {
+                let group = running.group;
+                self.finish_sync(running);
+                Ok(Progress::Synced(group))
+            }
+            Ok(false) => {
+                self.sync = Some(running);
+                Ok(Progress::More)
+            }
+            Err(error) => {
+                self.suspended = true;
+                self.sync = Some(running);
+                Err(error)
+            }
+        }
+    }
+
+    // The synced group's tree is the pool's, what it replaced is free, and its transactions are no longer pending.
+    fn finish_sync(&mut self, running: RunningSync)
+        ensures geometry { self.new.geometry ≡ self.old.geometry }
+    {
+        let RunningSync {
+            group,
+            moment: _,
+            run: _,
+            maps,
+            directories,
+            root,
+            freed,
+        } = running;
+        self.tree.root = root;
+        self.tree.directories = directories;
+        self.tree.set_all(maps);
+        self.free.give_all(self.geometry, &freed);
+        self.pending.retain(|committed| committed.group > group);
+        self.groups.finish_sync(group);
+    }
+}
+
+// Whether a lock may have this number and range.
+fn is_lockable(object: ObjectId, range: Range) -> bool
+    ensures { result ≡ not (nat_lt name_number object.0 || not (held.is_range_allowed range.low range.high)) }
+{
+    object.0 <= OBJECT_COUNT && is_range_allowed(range)
+}
+
+// Whether this range of an object may be read.
+fn is_readable(object: ObjectId, range: Range) -> bool
+    ensures allowed { result ≡ not (nat_le object_count object.0 || not (held.is_range_allowed range.low range.high)) }
+    ensures ordered { IsTrue result → range.low ≤ range.high }
+{
+    object.0 < OBJECT_COUNT && is_range_allowed(range)
+}
+
+// The bytes of a range that an object has.
+fn bytes_in(bytes: &[u8], range: Range) -> &[u8]
+    requires { range.low ≤ range.high }
+{
+    let low = bytes.len().min(range.low as usize);
+    let high = bytes.len().min(range.high as usize);
+    &bytes[low..high]
+}
