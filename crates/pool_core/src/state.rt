@@ -1,6 +1,9 @@
 //! A running pool on its device, and each of its steps.
 
 ghost use Rattle.std.specs.Prelude.{◌≡◌};
+ghost use Rattle.base.specs.Refusals.{object_range};
+ghost use Rattle.base.specs.Stage as stage;
+ghost use Rattle.base.specs.Steps as steps;
 
 use crate::import_replay::Imported;
 use crate::pool::Pool;
@@ -29,6 +32,10 @@ pub struct PoolState<D: SectorDevice> {
 }
 
 impl<D: SectorDevice> PoolState<D> {
+    ghost use Rattle.pool_core.specs.Meets.{Meets};
+    ghost use Rattle.pool_core.specs.Shows.{shown_of};
+    ghost use Rattle.pool_core.specs.Tables.{result_map};
+
     /// The pool that an import gave. It takes no memory.
     pub fn new(imported: Imported<D>) -> Self {
         let Imported { device, mounted } = imported;
@@ -58,7 +65,10 @@ impl<D: SectorDevice> PoolState<D> {
     /// In this order: `Suspended`; `BadRange` where the number or the range is outside its limits; `Busy` exactly where the
     /// range overlaps a held one and not both are readers; `TooMany` where 256 locks are held or the next name would pass
     /// 2^60; `NoMemory`.
-    pub fn lock(&mut self, owner: Owner, object: ObjectId, range: Range, mode: Mode) -> Result<LockId, PoolError> {
+    pub fn lock(&mut self, owner: Owner, object: ObjectId, range: Range, mode: Mode) -> Result<LockId, PoolError>
+        ensures device { self.new.device ≡ self.old.device }
+        ensures step { Meets (steps.Lock owner.0 (object_range object.0 range.low range.high) mode) (result_map (λ id. id.0) result) (shown_of self.old.pool) (shown_of self.new.pool) }
+    {
         self.pool.lock(owner, object, range, mode)
     }
 
@@ -67,7 +77,10 @@ impl<D: SectorDevice> PoolState<D> {
     /// # Errors
     /// In this order: `Suspended`; `NoSuchLock` where the owner holds none of this name; `LockInUse` exactly where it is a
     /// writer lock in which a range of an open transaction lies.
-    pub fn unlock(&mut self, owner: Owner, id: LockId) -> Result<(), PoolError> {
+    pub fn unlock(&mut self, owner: Owner, id: LockId) -> Result<(), PoolError>
+        ensures device { self.new.device ≡ self.old.device }
+        ensures step { Meets (steps.Unlock owner.0 id.0) result (shown_of self.old.pool) (shown_of self.new.pool) }
+    {
         self.pool.unlock(owner, id)
     }
 
@@ -79,7 +92,10 @@ impl<D: SectorDevice> PoolState<D> {
     /// 4,008 bytes; `NotLocked` where a range of it does not lie in one writer lock of the owner; `Busy` where one overlaps
     /// a range of an open transaction; `TooMany` where 64 transactions are open or the next name would pass 2^60;
     /// `NoMemory`.
-    pub fn begin(&mut self, owner: Owner, plan: Plan) -> Result<(TxId, Group), PoolError> {
+    pub fn begin(&mut self, owner: Owner, plan: Plan) -> Result<(TxId, Group), PoolError>
+        ensures device { self.new.device ≡ self.old.device }
+        ensures step { Meets (stage.Begin owner.0 plan) (result_map (λ a. (a.0.0, a.1.0)) result) (shown_of self.old.pool) (shown_of self.new.pool) }
+    {
         self.pool.begin(owner, plan)
     }
 
@@ -90,7 +106,9 @@ impl<D: SectorDevice> PoolState<D> {
     /// is open; `OutOfPlan` where the operations have not the plan's shapes, one for one; `NoObject` or `Exists`, that of
     /// the first operation that can't take place on the contents after those before it; `TooMany` where the next ordinal
     /// would pass 2^60; `NoMemory`. After each the transaction is still open.
-    pub fn commit(&mut self, tx: TxId, ops: Ops) -> Result<Receipt, PoolError> {
+    pub fn commit(&mut self, tx: TxId, ops: Ops) -> Result<Receipt, PoolError>
+        ensures device { self.new.device ≡ self.old.device }
+    {
         self.pool.commit(tx, ops)
     }
 
@@ -107,7 +125,10 @@ impl<D: SectorDevice> PoolState<D> {
     ///
     /// # Errors
     /// In this order: `Suspended`; `NotReady` where an older group is unsynced, or the open group is 2^60.
-    pub fn close_group(&mut self) -> Result<Group, PoolError> {
+    pub fn close_group(&mut self) -> Result<Group, PoolError>
+        ensures device { self.new.device ≡ self.old.device }
+        ensures step { Meets stage.CloseGroup (result_map (λ group. group.0) result) (shown_of self.old.pool) (shown_of self.new.pool) }
+    {
         self.pool.close_group()
     }
 
@@ -115,7 +136,10 @@ impl<D: SectorDevice> PoolState<D> {
     ///
     /// # Errors
     /// In this order: `Suspended`; `NotReady` where no group quiesces, or a transaction of it is open.
-    pub fn mark_quiesced(&mut self) -> Result<Group, PoolError> {
+    pub fn mark_quiesced(&mut self) -> Result<Group, PoolError>
+        ensures device { self.new.device ≡ self.old.device }
+        ensures step { Meets steps.MarkQuiesced (result_map (λ group. group.0) result) (shown_of self.old.pool) (shown_of self.new.pool) }
+    {
         self.pool.mark_quiesced()
     }
 
@@ -125,7 +149,9 @@ impl<D: SectorDevice> PoolState<D> {
     /// # Errors
     /// In this order: `Suspended`; `NotReady` where no group is quiesced or one is syncing; `NoSpace` where the free blocks
     /// do not suffice; `NoMemory`.
-    pub fn start_sync(&mut self, moment: u64) -> Result<Group, PoolError> {
+    pub fn start_sync(&mut self, moment: u64) -> Result<Group, PoolError>
+        ensures device { self.new.device ≡ self.old.device }
+    {
         self.pool.start_sync(moment)
     }
 
