@@ -6,3 +6,8 @@ pub mod Closes
 pub mod KeptRanges
 pub mod LockSteps
 pub mod Flags
+pub mod ContentsShown
+pub mod Judged
+pub mod CommitSteps
+pub mod ReadSteps
+pub mod Opens

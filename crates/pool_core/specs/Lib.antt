@@ -8,3 +8,5 @@ pub mod Targets
 pub mod Meets
 pub mod Lines
 pub mod Creations
+pub mod ContentsShown
+pub mod CreateRefusals

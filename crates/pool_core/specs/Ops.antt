@@ -1,5 +1,5 @@
 -- What operations need before they are applied, and the room that slots have.
-use Rattle.std.specs.Prelude.{ℕ, ◌≡◌, ◌≤◌, ◌+◌, true, List, length, All, map, vec_capacity, slice_get}
+use Rattle.std.specs.Prelude.{ℕ, ◌≡◌, ◌≤◌, ◌+◌, true, List, length, All, vec_capacity, slice_get}
 use Rattle.std.specs.Option.{option_map_or}
 use Rattle.base.specs.declared.operation.Op.{Op}
 use Rattle.base.specs.declared.operation.Op.TheVariants.{Create, Remove, Write, SetLength, SetName}

@@ -8,20 +8,17 @@ use Rattle.std.specs.FinSet.{FinSet}
 use Rattle.base.specs.Plans.{NumberRange}
 use Rattle.base.specs.Locks.{Grant}
 use Rattle.base.specs.Groups.{Admission}
-use Rattle.base.specs.Contents as base_contents
-use Rattle.base.specs.Contents.{stored}
 use Rattle.base.specs.Geometry.{block_address, block_count}
 use Rattle.base.specs.Records.{Record}
 use Rattle.base.specs.Logs.{Log}
 use Rattle.base.specs.Shown.{Shown, SyncPlan}
 use Rattle.pool_core.specs.Targets.{target_of}
+use Rattle.pool_core.specs.ContentsShown.{contents_of}
 use Rattle.pool_core.specs.Lines.{line_of}
 use Rattle.pool_core.specs.declared.range_locks.HeldLock.{HeldLock}
 use Rattle.pool_core.specs.declared.transactions.OpenTransaction.{OpenTransaction}
 use Rattle.pool_core.specs.declared.tree_plans.Committed.{Committed}
 use Rattle.pool_core.specs.declared.tree_plans.PlannedBlock.{PlannedBlock}
-use Rattle.pool_core.specs.declared.contents.Slot.{Slot}
-use Rattle.pool_core.specs.declared.contents.Contents.{Contents}
 use Rattle.pool_core.specs.declared.pool.RunningSync.{RunningSync}
 use Rattle.pool_core.specs.declared.pool.Pool.{Pool}
 use Rattle.pool_core.specs.Runs.{call_count}
@@ -34,22 +31,6 @@ admission_of t = record { tx = t.tx.0; group = t.group.0; owner = t.owner.0; pla
 
 abbrev pub record_of : Committed → Record
 record_of c = record { group = c.group.0; ordinal = c.ordinal; ops = c.ops }
-
--- the bytes of an object, if it is there
-abbrev pub present_bytes : Bool → List ℕ → Option (List ℕ)
-present_bytes true bytes = Some bytes
-present_bytes false bytes = None
-
-abbrev pub object_of : Slot → Option (List ℕ)
-object_of s = present_bytes s.present s.bytes.items
-
--- the objects of slots that have the numbers from this one on
-unfoldable pub objects_from : ℕ → List Slot → FinMap nat_cmp (List ℕ)
-objects_from n [] = finite.empty
-objects_from n (s ∷ ss) = stored (objects_from (n + 1) ss) n (object_of s)
-
-abbrev pub contents_of : Contents → base_contents.Contents
-contents_of c = record { name = c.name; objects = objects_from 0 c.slots.items }
 
 -- the addresses of the free ones of blocks from this index on
 unfoldable pub addresses_from : ℕ → List Bool → List ℕ

@@ -2,7 +2,7 @@
 
 ghost use Rattle.std.specs.Prelude.{◌≡◌, ◌⊎◌, IfErr, IfOk, OnOk};
 ghost use Rattle.base.specs.Calls.{HasCause};
-ghost use Rattle.pool_core.specs.Creations.{CanCreate, IsCreateRefusal};
+ghost use Rattle.pool_core.specs.CreateRefusals.{CanCreate, IsCreateRefusal};
 
 use crate::limits::FIRST_GROUP;
 use base::{Group, Pointer, PoolError, PoolName};

@@ -1,8 +1,10 @@
 //! A pool without its device, and each of its steps.
 
-ghost use Rattle.std.specs.Prelude.{◌≡◌, ◌<◌, ◌+◌, ◌≤◌, ◌^◌, ◌||◌, All, IfOk, IfSome, IsTrue, MatchResult, None, OnOk, Some, false, map, nat_le, nat_lt, not, true, vec_len};
+ghost use Rattle.std.specs.Prelude.{◌≡◌, ◌<◌, ◌+◌, ◌-◌, ◌≤◌, ◌^◌, ◌||◌, All, IfOk, IfSome, IsTrue, MatchResult, None, OnOk, Some, false, map, nat_le, nat_lt, not, true, vec_len};
 ghost use Rattle.std.specs.List.{list_all};
 ghost use Rattle.std.specs.Option.{ForSome};
+ghost use Rattle.base.specs.declared.names.Receipt.{Receipt};
+ghost use Rattle.base.specs.Fields.{part};
 ghost use Rattle.base.specs.Geometry.{block_count};
 ghost use Rattle.base.specs.Limits.{last_number, max_transactions, name_number, object_count};
 ghost use Rattle.base.specs.Locks as held;
@@ -27,7 +29,7 @@ use crate::space::FreeSet;
 use crate::state::Progress;
 use crate::sync::SyncRun;
 use crate::transactions::{
-    OpenTransaction, is_blocked, is_group_held, is_held_in_use, is_in_plan, is_plan_allowed, is_too_large, range_of,
+    OpenTransaction, find_transaction, remove_transaction, is_blocked, is_group_held, is_held_in_use, is_in_plan, is_plan_allowed, is_too_large, range_of,
 };
 use crate::tree_plans::{Committed, PlanSource, TreePlan, dirty_objects, plan};
 use base::{
@@ -86,7 +88,7 @@ pub struct Pool {
 
 impl Pool {
     ghost use Rattle.pool_core.specs.Lines.{line_of};
-    ghost use Rattle.pool_core.specs.Meets.{Meets};
+    ghost use Rattle.pool_core.specs.Meets.{MayCommit, Meets};
     ghost use Rattle.pool_core.specs.Shows.{grant_of, shown_of};
     ghost use Rattle.pool_core.specs.Tables.{result_map};
     ghost use Rattle.pool_core.specs.Targets.{kept_range_of};
@@ -266,24 +268,25 @@ impl Pool {
         self.transactions.len() >= MAX_TRANSACTIONS || self.next_tx > LAST_NUMBER
     }
 
-    fn find_transaction(&self, tx: TxId) -> Option<usize>
-        ensures { IfSome result (λ index. index < vec_len self.now.transactions) }
+    // The group of a transaction that may commit. Refused where a commit is, but for want of memory.
+    fn check_commit(&self, tx: TxId, ops: &[Op]) -> Result<Group, PoolError>
+        ensures refusal { MatchResult result (λ group. MayCommit tx.0 ops.now group.0 (shown_of self.now)) (λ e. stage.commit_refusal tx.0 ops.now (shown_of self.now) ≡ Some e) }
+        ensures allowed { OnOk result (AreOpsAllowed ops.now) }
+        ensures named { OnOk result (self.now.next_ordinal ≤ 2 ^ 60) }
     {
-        self.transactions
-            .iter()
-            .position(|transaction| transaction.tx == tx)
-    }
-
-    fn check_plan(&self, index: usize, ops: &[Op]) -> Result<(), PoolError>
-        requires { index < vec_len self.now.transactions }
-        ensures { OnOk result (AreOpsAllowed ops.now) }
-    {
-        let transaction = &self.transactions[index];
-        if is_in_plan(ops, transaction.plan.as_slice()) {
-            Ok(())
-        } else {
-            Err(PoolError::OutOfPlan)
+        self.check_running()?;
+        self.check_no_older()?;
+        let Some(transaction) = find_transaction(&self.transactions, tx) else {
+            return Err(PoolError::NoSuchTransaction);
+        };
+        if !is_in_plan(ops, transaction.plan.as_slice()) {
+            return Err(PoolError::OutOfPlan);
         }
+        self.contents.judge(ops)?;
+        if self.next_ordinal > LAST_NUMBER {
+            return Err(PoolError::TooMany);
+        }
+        Ok(transaction.group)
     }
 
     /// Commits a transaction whole, in its own group.
@@ -295,21 +298,13 @@ impl Pool {
     /// would pass 2^60; `NoMemory`. After each the transaction is still open.
     pub fn commit(&mut self, tx: TxId, ops: Ops) -> Result<Receipt, PoolError>
         ensures geometry { self.new.geometry ≡ self.old.geometry }
+        ensures step { Meets (stage.Commit tx.0 ops) (result_map (λ (r : Receipt). (r.ordinal.0, r.group.0)) result) (shown_of self.old) (shown_of self.new) }
     {
-        self.check_running()?;
-        self.check_no_older()?;
-        let Some(index) = self.find_transaction(tx) else {
-            return Err(PoolError::NoSuchTransaction);
-        };
-        self.check_plan(index, ops.as_slice())?;
-        self.contents.judge(ops.as_slice())?;
-        if self.next_ordinal > LAST_NUMBER {
-            return Err(PoolError::TooMany);
-        }
+        let group = self.check_commit(tx, ops.as_slice())?;
         self.pending.reserve(1)?;
         self.contents.reserve(ops.as_slice())?;
         self.contents.apply(ops.as_slice());
-        let group = self.transactions.remove(index).group;
+        remove_transaction(&mut self.transactions, tx);
         let ordinal = self.next_ordinal;
         self.next_ordinal += 1;
         self.pending.push_reserved(Committed {
@@ -328,7 +323,9 @@ impl Pool {
     /// # Errors
     /// In this order: `Suspended`; `BadRange` where the number or the range is outside its limits; `NotLocked` where no one
     /// lock of the owner covers the range; `NoObject`; `NoMemory`.
-    pub fn read(&self, owner: Owner, object: ObjectId, range: Range) -> Result<Bytes, PoolError> {
+    pub fn read(&self, owner: Owner, object: ObjectId, range: Range) -> Result<Bytes, PoolError>
+        ensures { Meets (steps.Read (Unit {0}) owner.0 (object_range object.0 range.low range.high)) result (shown_of self.now) (shown_of self.now) }
+    {
         self.check_running()?;
         if !is_readable(object, range) {
             return Err(PoolError::BadRange);
@@ -526,6 +523,7 @@ fn is_readable(object: ObjectId, range: Range) -> bool
 // The bytes of a range that an object has.
 fn bytes_in(bytes: &[u8], range: Range) -> &[u8]
     requires { range.low ≤ range.high }
+    ensures { result.now ≡ part bytes.now range.low (range.high - range.low) }
 {
     let low = bytes.len().min(range.low as usize);
     let high = bytes.len().min(range.high as usize);

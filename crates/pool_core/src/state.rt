@@ -4,6 +4,7 @@ ghost use Rattle.std.specs.Prelude.{◌≡◌};
 ghost use Rattle.base.specs.Refusals.{object_range};
 ghost use Rattle.base.specs.Stage as stage;
 ghost use Rattle.base.specs.Steps as steps;
+ghost use Rattle.base.specs.declared.names.Receipt.{Receipt};
 
 use crate::import_replay::Imported;
 use crate::pool::Pool;
@@ -66,8 +67,8 @@ impl<D: SectorDevice> PoolState<D> {
     /// range overlaps a held one and not both are readers; `TooMany` where 256 locks are held or the next name would pass
     /// 2^60; `NoMemory`.
     pub fn lock(&mut self, owner: Owner, object: ObjectId, range: Range, mode: Mode) -> Result<LockId, PoolError>
-        ensures device { self.new.device ≡ self.old.device }
         ensures step { Meets (steps.Lock owner.0 (object_range object.0 range.low range.high) mode) (result_map (λ id. id.0) result) (shown_of self.old.pool) (shown_of self.new.pool) }
+        ensures device { self.new.device ≡ self.old.device }
     {
         self.pool.lock(owner, object, range, mode)
     }
@@ -78,8 +79,8 @@ impl<D: SectorDevice> PoolState<D> {
     /// In this order: `Suspended`; `NoSuchLock` where the owner holds none of this name; `LockInUse` exactly where it is a
     /// writer lock in which a range of an open transaction lies.
     pub fn unlock(&mut self, owner: Owner, id: LockId) -> Result<(), PoolError>
-        ensures device { self.new.device ≡ self.old.device }
         ensures step { Meets (steps.Unlock owner.0 id.0) result (shown_of self.old.pool) (shown_of self.new.pool) }
+        ensures device { self.new.device ≡ self.old.device }
     {
         self.pool.unlock(owner, id)
     }
@@ -93,8 +94,8 @@ impl<D: SectorDevice> PoolState<D> {
     /// a range of an open transaction; `TooMany` where 64 transactions are open or the next name would pass 2^60;
     /// `NoMemory`.
     pub fn begin(&mut self, owner: Owner, plan: Plan) -> Result<(TxId, Group), PoolError>
-        ensures device { self.new.device ≡ self.old.device }
         ensures step { Meets (stage.Begin owner.0 plan) (result_map (λ a. (a.0.0, a.1.0)) result) (shown_of self.old.pool) (shown_of self.new.pool) }
+        ensures device { self.new.device ≡ self.old.device }
     {
         self.pool.begin(owner, plan)
     }
@@ -107,6 +108,7 @@ impl<D: SectorDevice> PoolState<D> {
     /// the first operation that can't take place on the contents after those before it; `TooMany` where the next ordinal
     /// would pass 2^60; `NoMemory`. After each the transaction is still open.
     pub fn commit(&mut self, tx: TxId, ops: Ops) -> Result<Receipt, PoolError>
+        ensures step { Meets (stage.Commit tx.0 ops) (result_map (λ (r : Receipt). (r.ordinal.0, r.group.0)) result) (shown_of self.old.pool) (shown_of self.new.pool) }
         ensures device { self.new.device ≡ self.old.device }
     {
         self.pool.commit(tx, ops)
@@ -117,7 +119,9 @@ impl<D: SectorDevice> PoolState<D> {
     /// # Errors
     /// In this order: `Suspended`; `BadRange` where the number or the range is outside its limits; `NotLocked` where no one
     /// lock of the owner covers the range; `NoObject`; `NoMemory`.
-    pub fn read(&self, owner: Owner, object: ObjectId, range: Range) -> Result<Bytes, PoolError> {
+    pub fn read(&self, owner: Owner, object: ObjectId, range: Range) -> Result<Bytes, PoolError>
+        ensures { Meets (steps.Read (Unit {0}) owner.0 (object_range object.0 range.low range.high)) result (shown_of self.now.pool) (shown_of self.now.pool) }
+    {
         self.pool.read(owner, object, range)
     }
 
@@ -126,8 +130,8 @@ impl<D: SectorDevice> PoolState<D> {
     /// # Errors
     /// In this order: `Suspended`; `NotReady` where an older group is unsynced, or the open group is 2^60.
     pub fn close_group(&mut self) -> Result<Group, PoolError>
-        ensures device { self.new.device ≡ self.old.device }
         ensures step { Meets stage.CloseGroup (result_map (λ group. group.0) result) (shown_of self.old.pool) (shown_of self.new.pool) }
+        ensures device { self.new.device ≡ self.old.device }
     {
         self.pool.close_group()
     }
@@ -137,8 +141,8 @@ impl<D: SectorDevice> PoolState<D> {
     /// # Errors
     /// In this order: `Suspended`; `NotReady` where no group quiesces, or a transaction of it is open.
     pub fn mark_quiesced(&mut self) -> Result<Group, PoolError>
-        ensures device { self.new.device ≡ self.old.device }
         ensures step { Meets steps.MarkQuiesced (result_map (λ group. group.0) result) (shown_of self.old.pool) (shown_of self.new.pool) }
+        ensures device { self.new.device ≡ self.old.device }
     {
         self.pool.mark_quiesced()
     }
@@ -150,7 +154,7 @@ impl<D: SectorDevice> PoolState<D> {
     /// In this order: `Suspended`; `NotReady` where no group is quiesced or one is syncing; `NoSpace` where the free blocks
     /// do not suffice; `NoMemory`.
     pub fn start_sync(&mut self, moment: u64) -> Result<Group, PoolError>
-        ensures device { self.new.device ≡ self.old.device }
+        ensures { self.new.device ≡ self.old.device }
     {
         self.pool.start_sync(moment)
     }

@@ -1,7 +1,7 @@
 //! Plans of transactions: their limits and what they touch, and the transactions that are open.
 
-ghost use Rattle.std.specs.Prelude.{◌≡◌, ◌↔◌, ◌+◌, ◌-◌, ◌^◌, ◌==◌, ◌&&◌, IsTrue, map, min, nat_le, nat_lt, not};
-ghost use Rattle.std.specs.List.{list_all, list_any};
+ghost use Rattle.std.specs.Prelude.{◌≡◌, ◌↔◌, ◌+◌, ◌-◌, ◌^◌, ◌==◌, ◌&&◌, IsTrue, filter, map, min, nat_le, nat_lt, not, option_map};
+ghost use Rattle.std.specs.List.{find, list_all, list_any};
 ghost use Rattle.base.specs.Limits.{max_length, max_log_record};
 ghost use Rattle.base.specs.Locks as locks;
 ghost use Rattle.base.specs.Plans as plans;
@@ -131,6 +131,20 @@ fn size_of(shape: &Shape) -> u64
         Shape::SetLength(_, _) => 13,
         Shape::SetName(count) => count.saturating_add(5),
     }
+}
+
+/// The open transaction of this name.
+pub fn find_transaction(open: &[OpenTransaction], tx: TxId) -> Option<&OpenTransaction>
+    ensures { option_map (λ t. t.now) result ≡ find (λ (t : OpenTransaction). t.tx.0 == tx.0) «open».now }
+{
+    open.iter().find(|transaction| transaction.tx.0 == tx.0)
+}
+
+/// The transaction of this name is open no more.
+pub fn remove_transaction(open: &mut Vec<OpenTransaction>, tx: TxId)
+    ensures { «open».new.items ≡ filter (λ (t : OpenTransaction). not (t.tx.0 == tx.0)) «open».old.items }
+{
+    open.retain(|transaction| !(transaction.tx.0 == tx.0));
 }
 
 /// Whether a transaction of a group is open.

@@ -1,0 +1,115 @@
+-- A commit, step by step.
+use Rattle.std.proofs.Common.{ℕ, ◌≡◌, ◌<◌, ◌+◌, ◌↔◌, Bool, true, false, ◌&&◌, List, [], ◌∷◌, ◌++◌, not, filter, map, length, nat_lt, refl, sym, subst, ap, ◌∙◌, eq-eqb}
+use Rattle.std.specs.Prelude.{Option, Some, None, Result, Ok, Err, All, IsTrue, ◌==◌}
+use Rattle.std.specs.List.{list_any, list_all}
+use Rattle.std.proofs.lemmas.List.Folds.{list_any_none}
+use Rattle.base.specs.declared.error.PoolError.{PoolError}
+use Rattle.base.specs.declared.error.PoolError.TheVariants as error
+use Rattle.base.specs.declared.operation.Op.{Op}
+use Rattle.base.specs.declared.operation.Op.TheVariants as op
+use Rattle.base.specs.declared.operation.Shape.{Shape}
+use Rattle.base.specs.declared.operation.Shape.TheVariants as shape
+use Rattle.base.specs.Contents.{Contents}
+use Rattle.base.specs.Groups.{Admission}
+use Rattle.base.specs.History.{apply_all}
+use Rattle.base.specs.Limits.{last_number}
+use Rattle.base.specs.Plans.{shape_of}
+use Rattle.base.specs.Records.{Record, is_content_allowed}
+use Rattle.base.specs.Refusals.{transaction_of, is_same_shape, is_same_plan, gives_bad_name}
+use Rattle.base.specs.Shown.{Shown}
+use Rattle.base.specs.Stage.{has_older_group, commit_refusal, Commit}
+use Rattle.base.specs.Steps.{transactions_without}
+use Rattle.base.proofs.CommitOrder.{same_plan}
+use Rattle.pool_core.specs.Meets.{Meets, MayCommit}
+use Rattle.pool_core.specs.Ops.{AreOpsAllowed, IsOpAllowed}
+
+same_number : (n : ℕ) → (n == n) ≡ true
+same_number n = eq-eqb n n refl
+
+shape_same : (x : Shape) → is_same_shape x x ≡ true
+shape_same (shape.Create n) = same_number n.0
+shape_same (shape.Remove n) = same_number n.0
+shape_same (shape.Write n o c) = rw (same_number n.0, same_number o, same_number c) refl
+shape_same (shape.SetLength n k) = rw (same_number n.0, same_number k) refl
+shape_same (shape.SetName c) = same_number c
+
+plan_same : (p : List Shape) → is_same_plan p p ≡ true
+plan_same [] = refl
+plan_same (x ∷ xs) = rw (shape_same x, plan_same xs) refl
+
+-- a test that says whether two plans are equal
+pub plan_test : (r : Bool) (p q : List Shape) → (IsTrue r ↔ (p ≡ q)) → r ≡ is_same_plan p q
+plan_test r p q h = go r (is_same_plan p q) h refl
+  where
+    go : (a b : Bool) → (IsTrue a ↔ (p ≡ q)) → is_same_plan p q ≡ b → a ≡ b
+    go true true k e = refl
+    go false false k e = refl
+    go true false k e = sym (subst (λ (l : List Shape). is_same_plan p l ≡ true) (k.0 refl) (plan_same p)) ∙ e
+    go false true k e = k.1 (same_plan p q e)
+
+-- operations that create and write give the pool no name
+names_none : (o : Op) → IsOpAllowed o → gives_bad_name o ≡ false
+names_none (op.Create n) h = refl
+names_none (op.Remove n) h = refl
+names_none (op.Write n offset bytes) h = refl
+names_none (op.SetLength n new) h = refl
+names_none (op.SetName bytes) h = absurd (let no_way : false ≡ true = h.0 in cc)
+
+pub no_names : (ops : List Op) → AreOpsAllowed ops → list_any gives_bad_name ops ≡ false
+no_names ops all = list_any_none gives_bad_name ops (λ k d below. names_none _ (all k d below))
+
+pub commit_suspended : (tx : ℕ) (ops : List Op) (s : Shown) → s.suspended ≡ true → commit_refusal tx ops s ≡ Some error.Suspended
+commit_suspended tx ops s h = rw h refl
+
+pub commit_older : (tx : ℕ) (ops : List Op) (s : Shown) → s.suspended ≡ false → has_older_group s.line ≡ true → commit_refusal tx ops s ≡ Some error.NotReady
+commit_older tx ops s h older = rw (h, older) refl
+
+pub commit_none : (tx : ℕ) (ops : List Op) (s : Shown) → s.suspended ≡ false → has_older_group s.line ≡ false → transaction_of tx s ≡ None → commit_refusal tx ops s ≡ Some error.NoSuchTransaction
+commit_none tx ops s h older none = rw (h, older, none) refl
+
+pub commit_out : (tx : ℕ) (ops : List Op) (a : Admission) (s : Shown) → s.suspended ≡ false → has_older_group s.line ≡ false → transaction_of tx s ≡ Some a
+    → is_same_plan (map shape_of ops) a.plan ≡ false → commit_refusal tx ops s ≡ Some error.OutOfPlan
+commit_out tx ops a s h older some out = rw (h, older, some, out) refl
+
+-- a transaction is open, and its operations have its plan's shapes
+pub record IsInPlan (tx : ℕ) (ops : List Op) (a : Admission) (s : Shown) : Type 0 where
+  pub running : s.suspended ≡ false
+  pub no_older : has_older_group s.line ≡ false
+  pub found : transaction_of tx s ≡ Some a
+  pub same : is_same_plan (map shape_of ops) a.plan ≡ true
+  pub no_name : list_any gives_bad_name ops ≡ false
+
+pub commit_fails : (tx : ℕ) (ops : List Op) (a : Admission) (e : PoolError) (s : Shown) → IsInPlan tx ops a s → apply_all ops s.contents ≡ Err e → commit_refusal tx ops s ≡ Some e
+commit_fails tx ops a e s m fails = rw (m.running, m.no_older, m.found, m.same, m.no_name, fails) refl
+
+pub commit_many : (tx : ℕ) (ops : List Op) (a : Admission) (after : Contents) (s : Shown) → IsInPlan tx ops a s → apply_all ops s.contents ≡ Ok after
+    → nat_lt last_number s.next_ordinal ≡ true → commit_refusal tx ops s ≡ Some error.TooMany
+commit_many tx ops a after s m ok many = rw (m.running, m.no_older, m.found, m.same, m.no_name, ok, many) refl
+
+pub commit_passes : (tx : ℕ) (ops : List Op) (a : Admission) (after : Contents) (s : Shown) → IsInPlan tx ops a s → apply_all ops s.contents ≡ Ok after
+    → nat_lt last_number s.next_ordinal ≡ false → MayCommit tx ops a.group s
+commit_passes tx ops a after s m ok few = record {
+  passes = rw (m.running, m.no_older, m.found, m.same, m.no_name, ok, few) refl;
+  admission = a;
+  found = m.found;
+  group_is = refl;
+  after = after;
+  applied = ok;
+}
+
+pub commit_refused : (tx : ℕ) (ops : List Op) (e : PoolError) (s : Shown) → commit_refusal tx ops s ≡ Some e → Meets (Commit tx ops) (Err e) s s
+commit_refused tx ops e s refused = λ past. (past, rw refused (refl, refl))
+
+pub commit_wants : (tx : ℕ) (ops : List Op) (s : Shown) → commit_refusal tx ops s ≡ None → Meets (Commit tx ops) (Err error.NoMemory) s s
+commit_wants tx ops s none = λ past. (past, rw none (refl, refl))
+
+pub commit_done : (tx : ℕ) (ops : List Op) (group : ℕ) (contents : Contents) (s n : Shown) → MayCommit tx ops group s → apply_all ops s.contents ≡ Ok contents → list_all is_content_allowed ops ≡ true
+    → n ≡ record s {
+      transactions = transactions_without tx s.transactions;
+      contents = contents;
+      next_ordinal = s.next_ordinal + 1;
+      log = record s.log { pending = s.log.pending ++ record { group = group; ordinal = s.next_ordinal; ops = ops } ∷ [] };
+    } → Meets (Commit tx ops) (Ok (s.next_ordinal, group)) s n
+commit_done tx ops group contents s n may ok bytes same =
+    λ past. (record past { entries = past.entries ++ record { group = group; tx = tx; ops = ops } ∷ [] },
+    rw may.passes (may.admission, contents, may.found, ok, bytes, rw may.group_is refl, rw (may.group_is, same) refl))

@@ -1,0 +1,75 @@
+use Rattle.std.proofs.Common.{◌≡◌, ◌∙◌, ◌==◌, Bool, true, not, List, Some, None, Result, Ok, Err, ap, sym, subst, refl, map}
+use Rattle.std.specs.List.{list_all}
+use Rattle.std.proofs.lemmas.Result.{err_from_is_err_and}
+use Rattle.std.proofs.lemmas.List.{map-append}
+use Rattle.std.proofs.lemmas.List.Elements.{All-filter}
+use Rattle.base.specs.declared.error.PoolError.TheVariants as error
+use Rattle.base.specs.declared.operation.Op.{Op}
+use Rattle.base.specs.Contents.{Contents}
+use Rattle.base.specs.Groups.{Admission}
+use Rattle.base.specs.History.{apply_all}
+use Rattle.base.specs.Records.{is_content_allowed}
+use Rattle.base.specs.Stage.{commit_refusal, Commit}
+use Rattle.pool_core.specs.ContentsShown.{contents_of}
+use Rattle.pool_core.specs.Meets.{Meets, MayCommit}
+use Rattle.pool_core.specs.Shows.{admission_of, record_of, shown_of}
+use Rattle.pool_core.specs.declared.transactions.OpenTransaction.{OpenTransaction}
+use Rattle.pool_core.proofs.CommitSteps.{commit_refused, commit_wants, commit_done}
+use Rattle.pool_core.proofs.KeptRanges.{IsBuilt}
+use Rattle.pool_core.proofs.Mapped.{filter-map}
+use Rattle.pool_core.proofs.pool.Pool.commit.Goals as goal
+
+pub returns-in_err-group-clause-step : goal.returns-in_err-group-clause-step
+returns-in_err-group-clause-step c =
+    let tx = c.args.tx.0 in
+    let ops = c.args.ops in
+    let s = shown_of c.args.self.now in
+    let p = err_from_is_err_and c.from_residual.result c.from_residual.ensures.1 in
+    let e = c.in_err-group.field-0.0 in
+    rw (p.1, p.2) (commit_refused tx ops e s (subst (λ (l : List Op). commit_refusal tx l s ≡ Some e) c.as_slice.ensures c.in_err-group.ensures.refusal))
+
+pub returns-in_err-reserve-clause-step : goal.returns-in_err-reserve-clause-step
+returns-in_err-reserve-clause-step c =
+    let tx = c.args.tx.0 in
+    let ops = c.args.ops in
+    let s = shown_of c.args.self.now in
+    let may : MayCommit tx ops c.in_ok-group.group.0 s = subst (λ (l : List Op). MayCommit tx l c.in_ok-group.group.0 s) c.as_slice.ensures c.in_ok-group.ensures.refusal in
+    let p = err_from_is_err_and c.from_residual-in_err-reserve.result c.from_residual-in_err-reserve.ensures.1 in
+    rw (p.1, p.2, c.in_err-reserve.ensures.items) (commit_wants tx ops s may.passes)
+
+pub returns-in_err-reserve-2-clause-step : goal.returns-in_err-reserve-2-clause-step
+returns-in_err-reserve-2-clause-step c =
+    let tx = c.args.tx.0 in
+    let ops = c.args.ops in
+    let s = shown_of c.args.self.now in
+    let may : MayCommit tx ops c.in_ok-group.group.0 s = subst (λ (l : List Op). MayCommit tx l c.in_ok-group.group.0 s) c.as_slice.ensures c.in_ok-group.ensures.refusal in
+    let p = err_from_is_err_and c.from_residual-in_err-reserve-2.result c.from_residual-in_err-reserve-2.ensures.1 in
+    rw (p.1, p.2, c.in_ok-reserve.ensures.items)
+    (subst (λ (x : Contents). Meets (Commit tx ops) (Err error.NoMemory) s (record s { contents = x })) (sym c.in_err-reserve-2.ensures.kept) (commit_wants tx ops s may.passes))
+
+pub apply-requires-clause-judged : goal.apply-requires-clause-judged
+apply-requires-clause-judged c =
+    let tx = c.args.tx.0 in
+    let ops = c.args.ops in
+    let s = shown_of c.args.self.now in
+    let may : MayCommit tx ops c.in_ok-group.group.0 s = subst (λ (l : List Op). MayCommit tx l c.in_ok-group.group.0 s) c.as_slice.ensures c.in_ok-group.ensures.refusal in
+    let new = contents_of c.reserve-2.new.self in
+    (may.after, ap (λ (l : List Op). apply_all l new) c.as_slice-3.ensures ∙ ap (λ (x : Contents). apply_all ops x) c.in_ok-reserve-2.ensures.kept ∙ may.applied)
+
+pub invariant_of-self-2-clause-plans_built : goal.invariant_of-self-2-clause-plans_built
+invariant_of-self-2-clause-plans_built c =
+    let p : OpenTransaction → Bool = λ (t : OpenTransaction). not (t.tx.0 == c.args.tx.0) in
+    rw c.remove_transaction.ensures (All-filter p IsBuilt c.args.self.now.transactions.items c.args.self.now.plans_built)
+
+pub returns-clause-step : goal.returns-clause-step
+returns-clause-step c =
+    let tx = c.args.tx.0 in
+    let ops = c.args.ops in
+    let s = shown_of c.args.self.now in
+    let may : MayCommit tx ops c.in_ok-group.group.0 s = subst (λ (l : List Op). MayCommit tx l c.in_ok-group.group.0 s) c.as_slice.ensures c.in_ok-group.ensures.refusal in
+    let new = contents_of c.reserve-2.new.self in
+    let ok = sym (ap (λ (l : List Op). apply_all l new) c.as_slice-3.ensures ∙ ap (λ (x : Contents). apply_all ops x) c.in_ok-reserve-2.ensures.kept) ∙ c.apply.ensures in
+    let bytes = subst (λ (l : List Op). list_all is_content_allowed l ≡ true) c.as_slice-2.ensures c.in_ok-reserve-2.ensures.bytes in
+    let p : Admission → Bool = λ (a : Admission). not (a.tx == tx) in
+    commit_done tx ops c.in_ok-group.group.0 (contents_of c.apply.new.self) s _ may ok bytes
+    (rw (c.remove_transaction.ensures, c.push_reserved.ensures.items, c.in_ok-reserve.ensures.items, map-append, filter-map p admission_of c.args.self.now.transactions.items) refl)
