@@ -1,7 +1,6 @@
 -- Closing a group, and marking it quiesced, step by step.
-use Rattle.std.proofs.Common.{ℕ, suc, ◌≡◌, ◌+◌, arith, Bool, true, false, List, [], ◌∷◌, ◌||◌, ◌&&◌, if◌then◌else◌, nat_le, refl, sym, ◌∙◌, rules}
-use Rattle.std.specs.Prelude.{Option, Some, None, Result, Ok, Err, IfErr, IfOk, is_some, length, filter, map, not, option_map, ◌==◌}
-use Rattle.std.specs.Option.{option_map_or}
+use Rattle.std.proofs.Common.{ℕ, suc, ◌≡◌, ◌+◌, arith, Bool, true, false, List, [], ◌∷◌, ◌||◌, if◌then◌else◌, nat_le, refl}
+use Rattle.std.specs.Prelude.{Some, None, Result, Ok, Err, IfErr, IfOk, is_some, length, filter, not, ◌==◌}
 use Rattle.std.proofs.lemmas.Bool.Decides.{nat_tests}
 use Rattle.std.specs.List.{list_any}
 use Rattle.base.specs.declared.names.Group.{Group}
@@ -9,8 +8,7 @@ use Rattle.base.specs.declared.error.PoolError.{PoolError}
 use Rattle.base.specs.declared.error.PoolError.TheVariants as error
 use Rattle.base.specs.Limits.{last_number}
 use Rattle.base.specs.Shown.{Shown}
-use Rattle.base.specs.Groups.{Line, Admission, hold_count}
-use Rattle.base.specs.Past.{Past}
+use Rattle.base.specs.Groups.{Admission, hold_count}
 use Rattle.base.specs.Refusals.{quiesce_refusal, quiescing_group}
 use Rattle.base.specs.Stage.{has_older_group, close_refusal, CloseGroup}
 use Rattle.base.specs.Steps.{line_after_close, line_after_quiesce, MarkQuiesced}

@@ -1,6 +1,6 @@
 -- A commit, step by step.
-use Rattle.std.proofs.Common.{ℕ, ◌≡◌, ◌<◌, ◌+◌, ◌↔◌, Bool, true, false, ◌&&◌, List, [], ◌∷◌, ◌++◌, not, filter, map, length, nat_lt, refl, sym, subst, ap, ◌∙◌, eq-eqb}
-use Rattle.std.specs.Prelude.{Option, Some, None, Result, Ok, Err, All, IsTrue, ◌==◌}
+use Rattle.std.proofs.Common.{ℕ, ◌≡◌, ◌+◌, ◌↔◌, Bool, true, false, List, [], ◌∷◌, ◌++◌, map, nat_lt, refl, sym, subst, ◌∙◌, eq-eqb}
+use Rattle.std.specs.Prelude.{Some, None, Ok, Err, IsTrue, ◌==◌}
 use Rattle.std.specs.List.{list_any, list_all}
 use Rattle.std.proofs.lemmas.List.Folds.{list_any_none}
 use Rattle.base.specs.declared.error.PoolError.{PoolError}
@@ -14,7 +14,7 @@ use Rattle.base.specs.Groups.{Admission}
 use Rattle.base.specs.History.{apply_all}
 use Rattle.base.specs.Limits.{last_number}
 use Rattle.base.specs.Plans.{shape_of}
-use Rattle.base.specs.Records.{Record, is_content_allowed}
+use Rattle.base.specs.Records.{is_content_allowed}
 use Rattle.base.specs.Refusals.{transaction_of, is_same_shape, is_same_plan, gives_bad_name}
 use Rattle.base.specs.Shown.{Shown}
 use Rattle.base.specs.Stage.{has_older_group, commit_refusal, Commit}
@@ -111,5 +111,7 @@ pub commit_done : (tx : ℕ) (ops : List Op) (group : ℕ) (contents : Contents)
       log = record s.log { pending = s.log.pending ++ record { group = group; ordinal = s.next_ordinal; ops = ops } ∷ [] };
     } → Meets (Commit tx ops) (Ok (s.next_ordinal, group)) s n
 commit_done tx ops group contents s n may ok bytes same =
-    λ past. (record past { entries = past.entries ++ record { group = group; tx = tx; ops = ops } ∷ [] },
-    rw may.passes (may.admission, contents, may.found, ok, bytes, rw may.group_is refl, rw (may.group_is, same) refl))
+    λ past. (
+      record past { entries = past.entries ++ record { group = group; tx = tx; ops = ops } ∷ [] },
+      rw may.passes (may.admission, contents, may.found, ok, bytes, rw may.group_is refl, rw (may.group_is, same) refl),
+    )

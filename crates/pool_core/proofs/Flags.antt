@@ -1,5 +1,5 @@
 -- A test and its negation.
-use Rattle.std.proofs.Common.{◌≡◌, Bool, true, false, not, refl, sym}
+use Rattle.std.proofs.Common.{◌≡◌, Bool, true, false, not, refl}
 
 pub from_not_false : (r b : Bool) → r ≡ not b → r ≡ false → b ≡ true
 from_not_false r true e h = refl

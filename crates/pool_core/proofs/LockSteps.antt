@@ -1,5 +1,5 @@
 -- Range locks and the transactions that keep to them, step by step.
-use Rattle.std.proofs.Common.{ℕ, ◌≡◌, ◌+◌, Bool, true, false, ◌||◌, ◌&&◌, List, [], ◌∷◌, ◌++◌, not, filter, length, nat_le, nat_lt, refl, sym, ◌∙◌, rules}
+use Rattle.std.proofs.Common.{ℕ, ◌≡◌, ◌+◌, Bool, true, false, ◌||◌, List, [], ◌∷◌, ◌++◌, not, filter, length, nat_le, nat_lt, refl}
 use Rattle.std.specs.Prelude.{Option, Some, None, Result, Ok, Err, ◌==◌}
 use Rattle.base.specs.declared.error.PoolError.{PoolError}
 use Rattle.base.specs.declared.error.PoolError.TheVariants as error
@@ -7,7 +7,6 @@ use Rattle.base.specs.declared.operation.Shape.{Shape}
 use Rattle.base.specs.declared.range.Mode.{Mode}
 use Rattle.base.specs.Limits.{last_number, max_log_record, max_transactions, name_number}
 use Rattle.base.specs.Locks.{Grant, is_range_allowed}
-use Rattle.base.specs.Past.{Past}
 use Rattle.base.specs.Plans.{NumberRange, log_record_size}
 use Rattle.base.specs.Refusals.{lock_refusal, lock_of, is_lock_in_use, unlock_refusal, is_plan_covered, is_plan_blocked}
 use Rattle.base.specs.Shown.{Shown}

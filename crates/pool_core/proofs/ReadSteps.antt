@@ -1,8 +1,7 @@
 -- A read, step by step.
-use Rattle.std.proofs.Common.{ℕ, ◌≡◌, ◌≤◌, ◌-◌, Bool, true, false, ◌||◌, List, not, nat_le, refl, sym, ◌∙◌, length, drop, take, min, arith, inl}
-use Rattle.std.specs.Prelude.{Option, Some, None, Result, Ok, Err, option_map, slice_range}
+use Rattle.std.proofs.Common.{ℕ, ◌≡◌, Bool, true, false, ◌||◌, List, not, nat_le, refl, inl}
+use Rattle.std.specs.Prelude.{Some, None, Ok, Err}
 use Rattle.std.specs.FinMap as finite
-use Rattle.base.specs.declared.error.PoolError.{PoolError}
 use Rattle.base.specs.declared.error.PoolError.TheVariants as error
 use Rattle.base.specs.Limits.{object_count}
 use Rattle.base.specs.Locks.{is_range_allowed, is_covered}

@@ -1,6 +1,6 @@
 -- A sync that goes on as it was.
-use Rattle.std.proofs.Common.{◌≡◌, ℕ, ◌+◌, ◌<◌, vec_len, ap, sym, ◌∙◌, arith}
-use Rattle.std.specs.Prelude.{Option, Some}
+use Rattle.std.proofs.Common.{◌≡◌, ◌<◌, vec_len, ap, arith}
+use Rattle.std.specs.Prelude.{Some}
 use Rattle.pool_core.specs.declared.sync.SyncRun.{SyncRun}
 use Rattle.pool_core.specs.declared.pool.RunningSync.{RunningSync}
 use Rattle.pool_core.specs.Runs.{SameSync, call_count, other_calls}

@@ -1,5 +1,5 @@
 -- The line of groups as definitions speak of it.
-use Rattle.std.specs.Prelude.{ℕ, ◌||◌, Bool, Option, option_map, is_some, nat_le}
+use Rattle.std.specs.Prelude.{◌||◌, Bool, option_map, is_some, nat_le}
 use Rattle.base.specs.Limits.{last_number}
 use Rattle.base.specs.Groups as line
 use Rattle.base.specs.Groups.{Line}

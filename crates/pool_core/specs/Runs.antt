@@ -1,5 +1,5 @@
 -- How many device calls a sync has.
-use Rattle.std.specs.Prelude.{ℕ, ◌≡◌, ◌+◌, ◌<◌, Option, Some, None, All, List, vec_len}
+use Rattle.std.specs.Prelude.{ℕ, ◌≡◌, ◌+◌, Option, Some, None, vec_len}
 use Rattle.pool_core.specs.declared.sync.SyncRun.{SyncRun}
 
 -- besides its blocks: two flushes and four uberblocks, and for label stages four configs and two flushes

@@ -1,11 +1,9 @@
 -- What contracts show of a pool, read off its fields.
-use Rattle.std.specs.Prelude.{ℕ, ◌-◌, ◌+◌, ◌*◌, Bool, true, false, List, [], ◌∷◌, map, Option, Some, None, option_map}
+use Rattle.std.specs.Prelude.{ℕ, ◌-◌, ◌+◌, Bool, true, false, List, [], ◌∷◌, map, option_map}
 use Rattle.std.specs.Ordering.{nat_cmp}
 use Rattle.std.specs.FinMap as finite
-use Rattle.std.specs.FinMap.{FinMap}
 use Rattle.std.specs.FinSet as set
 use Rattle.std.specs.FinSet.{FinSet}
-use Rattle.base.specs.Plans.{NumberRange}
 use Rattle.base.specs.Locks.{Grant}
 use Rattle.base.specs.Groups.{Admission}
 use Rattle.base.specs.Geometry.{block_address, block_count}

@@ -1,5 +1,5 @@
 -- Ranges as definitions speak of them.
-use Rattle.std.specs.Prelude.{ℕ, ◌+◌, ◌-◌, ◌^◌, min}
+use Rattle.std.specs.Prelude.{◌+◌, ◌-◌, ◌^◌, min}
 use Rattle.base.specs.declared.operation.Shape.{Shape}
 use Rattle.base.specs.declared.operation.Shape.TheVariants as shape
 use Rattle.base.specs.Limits.{name_number}

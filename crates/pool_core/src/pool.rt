@@ -21,7 +21,6 @@ ghost use Rattle.pool_core.specs.declared.transactions.OpenTransaction.{OpenTran
 use crate::contents::Contents;
 use crate::groups::Groups;
 use crate::import_replay::Mounted;
-
 use crate::limits::{LAST_NUMBER, MAX_TRANSACTIONS, OBJECT_COUNT};
 use crate::object_maps::{ObjectMap, Tree};
 use crate::range_locks::{HeldLock, ObjectRange, RangeLocks, is_range_allowed};
@@ -29,7 +28,8 @@ use crate::space::FreeSet;
 use crate::state::Progress;
 use crate::sync::SyncRun;
 use crate::transactions::{
-    OpenTransaction, find_transaction, remove_transaction, is_blocked, is_group_held, is_held_in_use, is_in_plan, is_plan_allowed, is_too_large, range_of,
+    OpenTransaction, find_transaction, is_blocked, is_group_held, is_held_in_use, is_in_plan,
+    is_plan_allowed, is_too_large, range_of, remove_transaction,
 };
 use crate::tree_plans::{Committed, PlanSource, TreePlan, dirty_objects, plan};
 use base::{

@@ -20,7 +20,6 @@ pub struct ObjectRange {
 }
 
 impl ObjectRange {
-
     /// Whether the two have a byte in common.
     pub fn overlaps(&self, other: &ObjectRange) -> bool
         ensures { result ≡ overlaps (target_of self.now) (target_of other.now) }
@@ -154,7 +153,8 @@ pub fn is_reader(mode: Mode) -> bool
 fn any_blocks(held: &[HeldLock], target: &ObjectRange, mode: Mode) -> bool
     ensures { result ≡ list_any (λ (h : HeldLock). overlaps (target_of h.target) (target_of target.now) && not (locks.is_reader h.mode && locks.is_reader mode)) held.now }
 {
-    held.iter().any(|lock| lock.target.overlaps(target) && !(is_reader(lock.mode) && is_reader(mode)))
+    held.iter().any(|lock| lock.target.overlaps(target)
+        && !(is_reader(lock.mode) && is_reader(mode)))
 }
 
 fn find_lock(held: &[HeldLock], owner: Owner, id: LockId) -> Option<HeldLock>
@@ -183,5 +183,6 @@ fn any_covers(held: &[HeldLock], owner: Owner, target: &ObjectRange) -> bool
 fn any_covers_for_writing(held: &[HeldLock], owner: Owner, target: &ObjectRange) -> bool
     ensures { result ≡ list_any (λ (h : HeldLock). not (locks.is_reader h.mode) && ((h.owner.0 == owner.0) && lies_in (target_of target.now) (target_of h.target))) held.now }
 {
-    held.iter().any(|lock| !is_reader(lock.mode) && (lock.owner.0 == owner.0 && target.lies_in(&lock.target)))
+    held.iter().any(|lock| !is_reader(lock.mode)
+        && (lock.owner.0 == owner.0 && target.lies_in(&lock.target)))
 }

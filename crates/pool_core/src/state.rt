@@ -8,7 +8,9 @@ ghost use Rattle.base.specs.declared.names.Receipt.{Receipt};
 
 use crate::import_replay::Imported;
 use crate::pool::Pool;
-use base::{Bytes, Group, LockId, Mode, ObjectId, Ops, Owner, Plan, PoolError, Range, Receipt, TxId};
+use base::{
+    Bytes, Group, LockId, Mode, ObjectId, Ops, Owner, Plan, PoolError, Range, Receipt, TxId,
+};
 use device_model::SectorDevice;
 use std::alloc::Global;
 
@@ -66,7 +68,13 @@ impl<D: SectorDevice> PoolState<D> {
     /// In this order: `Suspended`; `BadRange` where the number or the range is outside its limits; `Busy` exactly where the
     /// range overlaps a held one and not both are readers; `TooMany` where 256 locks are held or the next name would pass
     /// 2^60; `NoMemory`.
-    pub fn lock(&mut self, owner: Owner, object: ObjectId, range: Range, mode: Mode) -> Result<LockId, PoolError>
+    pub fn lock(
+        &mut self,
+        owner: Owner,
+        object: ObjectId,
+        range: Range,
+        mode: Mode,
+    ) -> Result<LockId, PoolError>
         ensures step { Meets (steps.Lock owner.0 (object_range object.0 range.low range.high) mode) (result_map (λ id. id.0) result) (shown_of self.old.pool) (shown_of self.new.pool) }
         ensures device { self.new.device ≡ self.old.device }
     {

@@ -151,7 +151,8 @@ pub fn remove_transaction(open: &mut Vec<OpenTransaction>, tx: TxId)
 pub fn is_group_held(open: &[OpenTransaction], group: Group) -> bool
     ensures { result ≡ list_any (λ (t : OpenTransaction). t.group.0 == group.0) «open».now }
 {
-    open.iter().any(|transaction| transaction.group.0 == group.0)
+    open.iter()
+        .any(|transaction| transaction.group.0 == group.0)
 }
 
 /// Whether some range of a plan overlaps one of an open transaction.

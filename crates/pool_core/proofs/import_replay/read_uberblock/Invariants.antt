@@ -1,4 +1,4 @@
-use Rattle.std.proofs.Common.{◌≡◌, ◌*◌, vec_len}
+use Rattle.std.proofs.Common.{◌≡◌, vec_len}
 use Rattle.pool_core.proofs.import_replay.read_uberblock.Given as goal
 
 -- the device keeps its size, and the ring its length

@@ -1,4 +1,4 @@
-use Rattle.std.proofs.Common.{◌≡◌, sym, ◌∙◌, rules}
+use Rattle.std.proofs.Common.{sym, ◌∙◌, rules}
 use Rattle.pool_core.proofs.object_maps.load_directory.Goals as goal
 
 pub load_object-requires-clause-length : goal.load_object-requires-clause-length

@@ -1,4 +1,4 @@
-use Rattle.std.proofs.Common.{ℕ, ◌≡◌, length, arith, rules}
+use Rattle.std.proofs.Common.{arith, rules}
 use Rattle.pool_core.proofs.SamePlans.{all_shapes}
 use Rattle.pool_core.proofs.transactions.is_in_plan.Goals as goal
 

@@ -1,10 +1,10 @@
-use Rattle.std.proofs.Common.{◌≡◌, ◌∙◌, ◌++◌, List, [], ◌∷◌, ap, sym, subst, refl, map}
+use Rattle.std.proofs.Common.{◌≡◌, List, subst, refl}
 use Rattle.std.specs.Prelude.{Some, None}
 use Rattle.std.proofs.lemmas.Result.{err_from_is_err_and}
 use Rattle.std.proofs.lemmas.List.{map-append}
 use Rattle.base.specs.declared.operation.Shape.{Shape}
 use Rattle.base.specs.Stage.{begin_refusal}
-use Rattle.pool_core.specs.Shows.{admission_of, shown_of}
+use Rattle.pool_core.specs.Shows.{shown_of}
 use Rattle.pool_core.proofs.LockSteps.{begin_refused, begin_wants, begin_done}
 use Rattle.pool_core.proofs.pool.Pool.begin.Goals as goal
 

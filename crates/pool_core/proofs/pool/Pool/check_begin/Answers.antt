@@ -1,4 +1,4 @@
-use Rattle.std.proofs.Common.{◌≡◌, ◌∙◌, ◌&&◌, ◌||◌, true, not, List, ap, sym, refl, map, nat_le, nat_lt}
+use Rattle.std.proofs.Common.{◌≡◌, ◌∙◌, ◌||◌, true, List, ap, sym, map, nat_le, nat_lt}
 use Rattle.std.proofs.lemmas.Result.{err_from_is_err_and}
 use Rattle.std.proofs.lemmas.List.{length-map}
 use Rattle.std.specs.List.{list_any}
@@ -9,7 +9,6 @@ use Rattle.base.specs.Stage.{is_plan_built}
 use Rattle.pool_core.specs.Targets.{kept_range_of}
 use Rattle.pool_core.specs.Shows.{admission_of, grant_of, shown_of}
 use Rattle.pool_core.specs.declared.transactions.OpenTransaction.{OpenTransaction}
-use Rattle.pool_core.proofs.Flags.{from_not_false}
 use Rattle.pool_core.proofs.KeptRanges.{blocked_same, covered_same}
 use Rattle.pool_core.proofs.LockSteps.{MayBegin, begin_suspended, begin_older, begin_bad, begin_large, begin_open, begin_busy, begin_many, begin_passes}
 use Rattle.pool_core.proofs.pool.Pool.check_begin.Goals as goal
@@ -77,8 +76,8 @@ returns-then-is_blocked-clause-refusal c =
     let same = covered_same (λ (r : NumberRange). is_covered_for_writing owner r (map grant_of pool.locks.locks.items)) plan built in
     let covered = sym same ∙ sym c.is_covered.ensures ∙ c.if-not-is_covered.false in
     let blocked = sym (blocked_same plan pool.transactions.items built pool.plans_built)
-        ∙ ap (λ (l : List OpenTransaction). list_any (λ (o : OpenTransaction). list_any (λ x. list_any (λ y. overlaps (kept_range_of x) (kept_range_of y)) o.plan) plan) l) (sym c.deref.ensures.value)
-        ∙ sym c.is_blocked.ensures ∙ c.if-is_blocked.true in
+    ∙ ap (λ (l : List OpenTransaction). list_any (λ (o : OpenTransaction). list_any (λ x. list_any (λ y. overlaps (kept_range_of x) (kept_range_of y)) o.plan) plan) l) (sym c.deref.ensures.value)
+    ∙ sym c.is_blocked.ensures ∙ c.if-is_blocked.true in
     begin_busy owner plan s may fits covered blocked
 
 pub returns-then-has_too_many-clause-refusal : goal.returns-then-has_too_many-clause-refusal
@@ -93,8 +92,8 @@ returns-then-has_too_many-clause-refusal c =
     let same = covered_same (λ (r : NumberRange). is_covered_for_writing owner r (map grant_of pool.locks.locks.items)) plan built in
     let covered = sym same ∙ sym c.is_covered.ensures ∙ c.if-not-is_covered.false in
     let blocked = sym (blocked_same plan pool.transactions.items built pool.plans_built)
-        ∙ ap (λ (l : List OpenTransaction). list_any (λ (o : OpenTransaction). list_any (λ x. list_any (λ y. overlaps (kept_range_of x) (kept_range_of y)) o.plan) plan) l) (sym c.deref.ensures.value)
-        ∙ sym c.is_blocked.ensures ∙ c.if-is_blocked.false in
+    ∙ ap (λ (l : List OpenTransaction). list_any (λ (o : OpenTransaction). list_any (λ x. list_any (λ y. overlaps (kept_range_of x) (kept_range_of y)) o.plan) plan) l) (sym c.deref.ensures.value)
+    ∙ sym c.is_blocked.ensures ∙ c.if-is_blocked.false in
     let many = ap (λ n. nat_le max_transactions n || nat_lt last_number pool.next_tx) (length-map pool.transactions.items admission_of ∙ sym pool.transactions.ok.0) ∙ sym c.has_too_many.ensures ∙ c.if-has_too_many.true in
     begin_many owner plan s may fits covered blocked many
 
@@ -110,7 +109,7 @@ returns-clause-refusal c =
     let same = covered_same (λ (r : NumberRange). is_covered_for_writing owner r (map grant_of pool.locks.locks.items)) plan built in
     let covered = sym same ∙ sym c.is_covered.ensures ∙ c.if-not-is_covered.false in
     let blocked = sym (blocked_same plan pool.transactions.items built pool.plans_built)
-        ∙ ap (λ (l : List OpenTransaction). list_any (λ (o : OpenTransaction). list_any (λ x. list_any (λ y. overlaps (kept_range_of x) (kept_range_of y)) o.plan) plan) l) (sym c.deref.ensures.value)
-        ∙ sym c.is_blocked.ensures ∙ c.if-is_blocked.false in
+    ∙ ap (λ (l : List OpenTransaction). list_any (λ (o : OpenTransaction). list_any (λ x. list_any (λ y. overlaps (kept_range_of x) (kept_range_of y)) o.plan) plan) l) (sym c.deref.ensures.value)
+    ∙ sym c.is_blocked.ensures ∙ c.if-is_blocked.false in
     let many = ap (λ n. nat_le max_transactions n || nat_lt last_number pool.next_tx) (length-map pool.transactions.items admission_of ∙ sym pool.transactions.ok.0) ∙ sym c.has_too_many.ensures ∙ c.if-has_too_many.false in
     begin_passes owner plan s may fits covered blocked many

@@ -1,6 +1,5 @@
-use Rattle.std.proofs.Common.{◌≡◌, ◌∙◌, ◌==◌, true, List, Some, None, ap, sym, subst, refl, map, arith, rules}
+use Rattle.std.proofs.Common.{◌≡◌, ◌∙◌, ◌==◌, true, List, Some, ap, sym, subst, map, arith}
 use Rattle.std.specs.List.{find}
-use Rattle.std.specs.Prelude.{Option}
 use Rattle.std.proofs.lemmas.Result.{err_from_is_err_and}
 use Rattle.base.specs.declared.operation.Shape.{Shape}
 use Rattle.base.specs.Plans.{shape_of}

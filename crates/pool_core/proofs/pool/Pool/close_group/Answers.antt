@@ -1,8 +1,7 @@
-use Rattle.std.proofs.Common.{◌≡◌, ◌∙◌, sym, ap, refl, rules}
+use Rattle.std.proofs.Common.{refl}
 use Rattle.std.proofs.lemmas.Result.{err_from_is_err_and}
 use Rattle.pool_core.proofs.Closes.{close_suspended, close_older, close_ends}
 use Rattle.pool_core.specs.Shows.{shown_of}
-use Rattle.pool_core.specs.Lines.{line_of}
 use Rattle.pool_core.proofs.pool.Pool.close_group.Goals as goal
 
 pub returns-in_err-check_running-clause-step : goal.returns-in_err-check_running-clause-step

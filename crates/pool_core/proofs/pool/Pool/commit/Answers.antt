@@ -1,4 +1,4 @@
-use Rattle.std.proofs.Common.{◌≡◌, ◌∙◌, ◌==◌, Bool, true, not, List, Some, None, Result, Ok, Err, ap, sym, subst, refl, map}
+use Rattle.std.proofs.Common.{◌≡◌, ◌∙◌, ◌==◌, Bool, true, not, List, Some, Err, ap, sym, subst, refl}
 use Rattle.std.specs.List.{list_all}
 use Rattle.std.proofs.lemmas.Result.{err_from_is_err_and}
 use Rattle.std.proofs.lemmas.List.{map-append}
@@ -12,7 +12,7 @@ use Rattle.base.specs.Records.{is_content_allowed}
 use Rattle.base.specs.Stage.{commit_refusal, Commit}
 use Rattle.pool_core.specs.ContentsShown.{contents_of}
 use Rattle.pool_core.specs.Meets.{Meets, MayCommit}
-use Rattle.pool_core.specs.Shows.{admission_of, record_of, shown_of}
+use Rattle.pool_core.specs.Shows.{admission_of, shown_of}
 use Rattle.pool_core.specs.declared.transactions.OpenTransaction.{OpenTransaction}
 use Rattle.pool_core.proofs.CommitSteps.{commit_refused, commit_wants, commit_done}
 use Rattle.pool_core.proofs.KeptRanges.{IsBuilt}

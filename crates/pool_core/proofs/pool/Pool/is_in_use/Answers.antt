@@ -1,4 +1,4 @@
-use Rattle.std.proofs.Common.{◌≡◌, ◌∙◌, ◌&&◌, not, List, ap, sym}
+use Rattle.std.proofs.Common.{◌∙◌, ◌&&◌, not, List, ap}
 use Rattle.std.specs.List.{list_any}
 use Rattle.base.specs.Plans.{lies_in}
 use Rattle.base.specs.Locks.{is_reader}

@@ -1,4 +1,4 @@
-use Rattle.std.proofs.Common.{◌≡◌, ◌∙◌, ◌==◌, List, Some, sym, ap, refl, map, rules}
+use Rattle.std.proofs.Common.{◌∙◌, ◌==◌, List, sym, ap, refl}
 use Rattle.std.specs.List.{list_any}
 use Rattle.std.proofs.lemmas.Result.{err_from_is_err_and}
 use Rattle.pool_core.proofs.Closes.{quiesce_suspended, quiesce_none, quiesce_held, quiesce_done}

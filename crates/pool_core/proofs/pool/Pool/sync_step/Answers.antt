@@ -1,4 +1,4 @@
-use Rattle.std.proofs.Common.{◌≡◌, ◌<◌, ap, sym, subst, ◌∙◌}
+use Rattle.std.proofs.Common.{◌<◌, ap, sym, subst, ◌∙◌}
 use Rattle.pool_core.specs.declared.sync.SyncRun.{SyncRun}
 use Rattle.pool_core.specs.Runs.{call_count}
 use Rattle.pool_core.proofs.SameSyncs.{kept_run, left_as_before}

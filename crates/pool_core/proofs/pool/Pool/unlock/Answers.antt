@@ -1,4 +1,4 @@
-use Rattle.std.proofs.Common.{◌≡◌, ◌∙◌, sym, ap, refl, map}
+use Rattle.std.proofs.Common.{◌∙◌, sym, refl}
 use Rattle.std.proofs.lemmas.Result.{err_from_is_err_and}
 use Rattle.pool_core.proofs.LockSteps.{unlock_suspended, unlock_none, unlock_used, unlock_done}
 use Rattle.pool_core.specs.Shows.{grant_of, shown_of}

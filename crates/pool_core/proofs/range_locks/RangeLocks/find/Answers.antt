@@ -1,11 +1,10 @@
-use Rattle.std.proofs.Common.{◌≡◌, ◌==◌, ◌&&◌, Bool, not, List, map, filter, ap, sym, ◌∙◌, rules}
+use Rattle.std.proofs.Common.{◌==◌, ◌&&◌, Bool, List, ap, sym, ◌∙◌}
 use Rattle.std.specs.Prelude.{Option, option_map}
-use Rattle.std.specs.List.{list_any, find}
-use Rattle.base.specs.Plans.{overlaps, lies_in}
-use Rattle.base.specs.Locks.{Grant, is_reader}
+use Rattle.std.specs.List.{find}
+use Rattle.base.specs.Locks.{Grant}
 use Rattle.pool_core.specs.declared.range_locks.HeldLock.{HeldLock}
 use Rattle.pool_core.specs.Shows.{grant_of}
-use Rattle.pool_core.proofs.Mapped.{list_any-map, find-map, filter-map}
+use Rattle.pool_core.proofs.Mapped.{find-map}
 use Rattle.pool_core.proofs.range_locks.RangeLocks.find.Goals as goal
 
 pub returns : goal.returns

@@ -1,11 +1,8 @@
-use Rattle.std.proofs.Common.{◌≡◌, ◌==◌, ◌&&◌, Bool, not, List, map, filter, ap, sym, ◌∙◌, rules}
-use Rattle.std.specs.Prelude.{Option, option_map}
-use Rattle.std.specs.List.{list_any, find}
-use Rattle.base.specs.Plans.{overlaps, lies_in}
-use Rattle.base.specs.Locks.{Grant, is_reader}
+use Rattle.std.proofs.Common.{◌==◌, Bool, not, List, map, ap, sym, ◌∙◌}
+use Rattle.base.specs.Locks.{Grant}
 use Rattle.pool_core.specs.declared.range_locks.HeldLock.{HeldLock}
 use Rattle.pool_core.specs.Shows.{grant_of}
-use Rattle.pool_core.proofs.Mapped.{list_any-map, find-map, filter-map}
+use Rattle.pool_core.proofs.Mapped.{filter-map}
 use Rattle.pool_core.proofs.range_locks.RangeLocks.unlock.Goals as goal
 
 pub returns-clause-locks : goal.returns-clause-locks

@@ -1,4 +1,4 @@
-use Rattle.std.proofs.Common.{ℕ, ◌<◌, arith}
+use Rattle.std.proofs.Common.{◌<◌, arith}
 use Rattle.std.proofs.lemmas.List.Elements.{All-push}
 use Rattle.base.specs.Geometry.{block_count}
 use Rattle.pool_core.specs.declared.tree_plans.PlannedBlock.{PlannedBlock}
