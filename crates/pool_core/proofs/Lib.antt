@@ -11,3 +11,4 @@ pub mod Judged
 pub mod CommitSteps
 pub mod ReadSteps
 pub mod Opens
+pub mod RepliedSteps

@@ -10,3 +10,4 @@ pub mod Lines
 pub mod Creations
 pub mod ContentsShown
 pub mod CreateRefusals
+pub mod StepReplies

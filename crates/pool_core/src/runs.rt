@@ -1,7 +1,10 @@
 //! Steps as values, one after another.
 
-ghost use Rattle.std.specs.Prelude.{◌≡◌, IfOk, vec_len};
+ghost use Rattle.std.specs.Prelude.{◌≡◌, IfOk, MatchResult, OnErr, vec_len};
 ghost use Rattle.std.specs.Result.{ForOk};
+ghost use Rattle.base.specs.Runs.{Run};
+ghost use Rattle.pool_core.specs.Shows.{shown_of};
+ghost use Rattle.pool_core.specs.StepReplies.{StepReplies};
 
 use crate::state::{PoolState, Progress};
 use base::{PoolError, Reply, Step};
@@ -9,17 +12,22 @@ use device_model::SectorDevice;
 
 impl<D: SectorDevice> PoolState<D> {
     /// Makes one step.
-    pub fn step(&mut self, step: Step) -> Reply {
+    pub fn step(&mut self, step: Step) -> Reply
+        ensures { StepReplies step result (shown_of self.old.pool) (shown_of self.new.pool) }
+    {
         match step {
             Step::Lock(owner, object, range, mode) => reply(
                 self.lock(owner, object, range, mode),
                 Reply::Locked,
             ),
-            Step::Unlock(owner, id) => reply(self.unlock(owner, id), |_| Reply::Done),
-            Step::Begin(owner, plan) => reply(
-                self.begin(owner, plan),
-                |(tx, group)| Reply::Began(tx, group),
-            ),
+            Step::Unlock(owner, id) => match self.unlock(owner, id) {
+                Ok(()) => Reply::Done,
+                Err(error) => Reply::Refused(error),
+            },
+            Step::Begin(owner, plan) => match self.begin(owner, plan) {
+                Ok((tx, group)) => Reply::Began(tx, group),
+                Err(error) => Reply::Refused(error),
+            },
             Step::Commit(tx, ops) => reply(self.commit(tx, ops), Reply::Committed),
             Step::Read(owner, object, range) => reply(
                 self.read(owner, object, range),
@@ -40,6 +48,7 @@ impl<D: SectorDevice> PoolState<D> {
 // What a step's answer is told as.
 fn reply<T, F: FnOnce(T) -> Reply>(answer: Result<T, PoolError>, told: F) -> Reply
     requires { ForOk answer (F.pre told) }
+    ensures { MatchResult answer (λ value. F.post told value result) (λ e. result ≡ Reply.Refused e) }
 {
     match answer {
         Ok(value) => told(value),
@@ -55,7 +64,9 @@ pub fn run<D: SectorDevice>(
     state: &mut PoolState<D>,
     steps: Vec<Step>,
 ) -> Result<Vec<Reply>, PoolError>
-    ensures { IfOk result (λ replies. vec_len replies ≡ vec_len steps) }
+    ensures each { IfOk result (λ replies. vec_len replies ≡ vec_len steps) }
+    ensures ran { IfOk result (λ replies. Run StepReplies steps.items replies.items (shown_of state.old.pool) (shown_of state.new.pool)) }
+    ensures kept { OnErr result (state.new ≡ state.old) }
 {
     let mut replies = Vec::with_capacity(state.alloc(), steps.len())?;
     for step in steps {

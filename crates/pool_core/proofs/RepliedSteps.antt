@@ -1,0 +1,24 @@
+-- What an answer tells, told of the reply that is made of it.
+use Rattle.std.proofs.Common.{◌≡◌}
+use Rattle.std.specs.Prelude.{Result, Ok, Err, MatchResult}
+use Rattle.base.specs.declared.error.PoolError.{PoolError}
+use Rattle.base.specs.declared.step.Reply.{Reply}
+use Rattle.base.specs.declared.step.Reply.TheVariants as reply
+use Rattle.base.specs.Past.{Past}
+use Rattle.base.specs.Runs.{Replies}
+use Rattle.base.specs.Shown.{Shown}
+use Rattle.base.specs.Steps.{State}
+use Rattle.pool_core.specs.Meets.{Meets}
+use Rattle.pool_core.specs.Tables.{result_map}
+
+pub replied : {A B : Type 0} (Step : Result B PoolError → State → State → Type 0) (f : A → B) (make : B → Reply) (answer : Result A PoolError) (given : Reply) (old new : Shown)
+    → Meets Step (result_map f answer) old new → MatchResult answer (λ a. given ≡ make (f a)) (λ e. given ≡ reply.Refused e)
+    → (past : Past) → (later : Past) × Replies make given (λ x. Step x (record { shown = old; past = past }) (record { shown = new; past = later }))
+replied Step f make (Ok a) given old new meets told = λ past. let m = meets past in (m.0, (Ok (f a), told, m.1))
+replied Step f make (Err e) given old new meets told = λ past. let m = meets past in (m.0, (Err e, told, m.1))
+
+pub replied_same : {A : Type 0} (Step : Result A PoolError → State → State → Type 0) (make : A → Reply) (answer : Result A PoolError) (given : Reply) (old new : Shown)
+    → Meets Step answer old new → MatchResult answer (λ a. given ≡ make a) (λ e. given ≡ reply.Refused e)
+    → (past : Past) → (later : Past) × Replies make given (λ x. Step x (record { shown = old; past = past }) (record { shown = new; past = later }))
+replied_same Step make (Ok a) given old new meets told = λ past. let m = meets past in (m.0, (Ok a, told, m.1))
+replied_same Step make (Err e) given old new meets told = λ past. let m = meets past in (m.0, (Err e, told, m.1))
