@@ -12,3 +12,4 @@ pub mod CommitSteps
 pub mod ReadSteps
 pub mod Opens
 pub mod RepliedSteps
+pub mod ExplainedRuns

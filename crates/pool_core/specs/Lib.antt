@@ -11,3 +11,4 @@ pub mod Creations
 pub mod ContentsShown
 pub mod CreateRefusals
 pub mod StepReplies
+pub mod ExplainedRuns

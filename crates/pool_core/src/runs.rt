@@ -3,6 +3,7 @@
 ghost use Rattle.std.specs.Prelude.{◌≡◌, IfOk, MatchResult, OnErr, vec_len};
 ghost use Rattle.std.specs.Result.{ForOk};
 ghost use Rattle.base.specs.Runs.{Run};
+ghost use Rattle.pool_core.specs.ExplainedRuns.{RunsOn};
 ghost use Rattle.pool_core.specs.Shows.{shown_of};
 ghost use Rattle.pool_core.specs.StepReplies.{StepReplies};
 
@@ -66,6 +67,7 @@ pub fn run<D: SectorDevice>(
 ) -> Result<Vec<Reply>, PoolError>
     ensures each { IfOk result (λ replies. vec_len replies ≡ vec_len steps) }
     ensures ran { IfOk result (λ replies. Run StepReplies steps.items replies.items (shown_of state.old.pool) (shown_of state.new.pool)) }
+    ensures explained { IfOk result (λ replies. RunsOn steps.items replies.items (shown_of state.old.pool) (shown_of state.new.pool)) }
     ensures kept { OnErr result (state.new ≡ state.old) }
 {
     let mut replies = Vec::with_capacity(state.alloc(), steps.len())?;

@@ -7,6 +7,7 @@ use Rattle.base.specs.Runs.{Run}
 use Rattle.base.specs.Shown.{Shown}
 use Rattle.pool_core.specs.Shows.{shown_of}
 use Rattle.pool_core.specs.StepReplies.{StepReplies}
+use Rattle.pool_core.proofs.ExplainedRuns.{runs_on}
 use Rattle.pool_core.proofs.runs.run.Goals as goal
 
 -- a run goes on by one step
@@ -35,3 +36,7 @@ returns-clause-ran g c =
     let whole = c.loop-step.step-iterator.rest.ok.0 in
     let none : length (into_iter_items c.loop-step.step-iterator) ≡ 0 = sym whole ∙ done in
     rw (append-nil c.loop-step.replies.items) at (c.loop-step.invariant.4 [] (shown_of c.loop-step.state.pool) (rw (nil_from_length (into_iter_items c.loop-step.step-iterator) none) refl))
+
+pub returns-clause-explained : goal.returns-clause-explained
+returns-clause-explained g c =
+    runs_on c.args.steps.items c.loop-step.replies.items (shown_of c.args.state.now.pool) (shown_of c.loop-step.state.pool) (returns-clause-ran g c)
