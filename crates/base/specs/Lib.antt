@@ -16,6 +16,8 @@ pub mod Calls
 pub mod Blocks
 pub mod Places
 pub mod Tree
+pub mod PlacedTrees
+pub mod PlannedTrees
 pub mod Faults
 pub mod Uberblocks
 pub mod Labels

@@ -5,6 +5,7 @@ mod bytes;
 mod error;
 mod fields;
 mod laws;
+mod limits;
 mod lists;
 mod names;
 mod operation;
@@ -28,6 +29,10 @@ pub use laws::{
     groups_give_contents, groups_replay, histories_grow, logs_replay, marks_are_left,
     objects_replay, operations_commute, ops_count, overlaps_are_common, plans_touch,
     transactions_commute, trees_follow,
+};
+pub use limits::{
+    ENTRY_COUNT, ENTRY_SIZE, FIRST_GROUP, GREATEST_DIRTY_MAX, LAST_NUMBER, LEAST_DIRTY_MAX, MAX_LENGTH,
+    MAX_LOCKS, MAX_LOG_RECORD, MAX_TRANSACTIONS, OBJECT_COUNT, POINTER_COUNT, RECORD_SIZE,
 };
 pub use lists::{Ops, Plan};
 pub use names::{Group, LockId, ObjectId, Ordinal, Owner, Receipt, TxId};

@@ -21,7 +21,7 @@ use Rattle.base.specs.Stage.{has_older_group, commit_refusal, Commit}
 use Rattle.base.specs.Steps.{transactions_without}
 use Rattle.base.proofs.CommitOrder.{same_plan}
 use Rattle.pool_core.specs.Meets.{Meets, MayCommit}
-use Rattle.pool_core.specs.Ops.{AreOpsAllowed, IsOpAllowed}
+use Rattle.object_maps.specs.Ops.{AreOpsAllowed, IsOpAllowed}
 
 same_number : (n : ℕ) → (n == n) ≡ true
 same_number n = eq-eqb n n refl

@@ -1,4 +1,3 @@
-pub mod Growth
 pub mod SamePlans
 pub mod SameSyncs
 pub mod Mapped
@@ -6,8 +5,6 @@ pub mod Closes
 pub mod KeptRanges
 pub mod LockSteps
 pub mod Flags
-pub mod ContentsShown
-pub mod Judged
 pub mod CommitSteps
 pub mod ReadSteps
 pub mod Opens

@@ -11,7 +11,7 @@ use Rattle.std.proofs.lemmas.List.Folds.{list_all_at, list_all-map}
 use Rattle.base.specs.Plans.{shape_of, is_shape_allowed, is_plan_allowed}
 use Rattle.base.specs.Stage.{is_shape_built, is_plan_built}
 use Rattle.base.proofs.CommitOrder.{and-true}
-use Rattle.pool_core.specs.Ops.{AreOpsAllowed}
+use Rattle.object_maps.specs.Ops.{AreOpsAllowed}
 
 abbrev some_op : Op
 some_op = op.Create (record { 0 = 0 })

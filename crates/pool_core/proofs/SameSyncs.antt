@@ -1,9 +1,9 @@
 -- A sync that goes on as it was.
 use Rattle.std.proofs.Common.{◌≡◌, ◌<◌, vec_len, ap, arith}
 use Rattle.std.specs.Prelude.{Some}
-use Rattle.pool_core.specs.declared.sync.SyncRun.{SyncRun}
+use Rattle.sync.specs.declared.run.SyncRun.{SyncRun}
 use Rattle.pool_core.specs.declared.pool.RunningSync.{RunningSync}
-use Rattle.pool_core.specs.Runs.{SameSync, call_count, other_calls}
+use Rattle.sync.specs.Runs.{SameSync, call_count, other_calls}
 
 pub same_count : (old new : SyncRun) → SameSync old new → call_count new ≡ call_count old
 same_count old new same = omega (arith, ap vec_len same.blocks, ap other_calls same.stages)

@@ -1,14 +1,8 @@
-pub mod Ops
-pub mod Runs
 pub mod Numbers
-pub mod Entries
 pub mod Shows
 pub mod Tables
 pub mod Targets
 pub mod Meets
 pub mod Lines
-pub mod Creations
-pub mod ContentsShown
-pub mod CreateRefusals
 pub mod StepReplies
 pub mod ExplainedRuns

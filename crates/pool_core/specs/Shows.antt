@@ -10,16 +10,17 @@ use Rattle.base.specs.Geometry.{block_address, block_count}
 use Rattle.base.specs.Records.{Record}
 use Rattle.base.specs.Logs.{Log}
 use Rattle.base.specs.Shown.{Shown, SyncPlan}
+use Rattle.space.specs.FreeSets.{free_of}
 use Rattle.pool_core.specs.Targets.{target_of}
-use Rattle.pool_core.specs.ContentsShown.{contents_of}
+use Rattle.object_maps.specs.ContentsShown.{contents_of}
 use Rattle.pool_core.specs.Lines.{line_of}
 use Rattle.pool_core.specs.declared.range_locks.HeldLock.{HeldLock}
 use Rattle.pool_core.specs.declared.transactions.OpenTransaction.{OpenTransaction}
-use Rattle.pool_core.specs.declared.tree_plans.Committed.{Committed}
-use Rattle.pool_core.specs.declared.tree_plans.PlannedBlock.{PlannedBlock}
+use Rattle.tree_plans.specs.declared.planner.Committed.{Committed}
+use Rattle.tree_plans.specs.declared.planner.PlannedBlock.{PlannedBlock}
 use Rattle.pool_core.specs.declared.pool.RunningSync.{RunningSync}
 use Rattle.pool_core.specs.declared.pool.Pool.{Pool}
-use Rattle.pool_core.specs.Runs.{call_count}
+use Rattle.sync.specs.Runs.{call_count}
 
 abbrev pub grant_of : HeldLock → Grant
 grant_of h = record { id = h.id.0; owner = h.owner.0; range = target_of h.target; mode = h.mode }
@@ -29,15 +30,6 @@ admission_of t = record { tx = t.tx.0; group = t.group.0; owner = t.owner.0; pla
 
 abbrev pub record_of : Committed → Record
 record_of c = record { group = c.group.0; ordinal = c.ordinal; ops = c.ops }
-
--- the addresses of the free ones of blocks from this index on
-unfoldable pub addresses_from : ℕ → List Bool → List ℕ
-addresses_from k [] = []
-addresses_from k (true ∷ flags) = block_address k ∷ addresses_from (k + 1) flags
-addresses_from k (false ∷ flags) = addresses_from (k + 1) flags
-
-abbrev pub free_of : List Bool → FinSet nat_cmp
-free_of flags = set.from_list (addresses_from 0 flags)
 
 abbrev pub log_of : List Committed → ℕ → Log
 log_of pending address = record { pending = map record_of pending; kept = []; next = record { address = address; number = 0 } }

@@ -8,8 +8,7 @@ ghost use Rattle.base.specs.Stage.{has_older_group};
 ghost use Rattle.base.specs.Steps.{line_after_close, line_after_quiesce};
 ghost use Rattle.pool_core.specs.Numbers.{IsGroup};
 
-use crate::limits::LAST_NUMBER;
-use base::{Group, PoolError};
+use base::{Group, LAST_NUMBER, PoolError};
 
 /// The group between the open one and the syncing one.
 #[derive(Clone, Copy, Debug, PartialEq, Eq)]

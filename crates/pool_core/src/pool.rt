@@ -13,33 +13,31 @@ ghost use Rattle.base.specs.Stage as stage;
 ghost use Rattle.base.specs.Stage.{has_older_group, is_plan_built};
 ghost use Rattle.base.specs.Steps as steps;
 ghost use Rattle.pool_core.specs.Numbers.{IsGroup};
-ghost use Rattle.pool_core.specs.Ops.{AreOpsAllowed};
-ghost use Rattle.pool_core.specs.Runs.{call_count};
-ghost use Rattle.pool_core.specs.declared.tree_plans.PlannedBlock.{PlannedBlock};
+ghost use Rattle.object_maps.specs.Ops.{AreOpsAllowed};
+ghost use Rattle.sync.specs.Runs.{call_count};
+ghost use Rattle.tree_plans.specs.declared.planner.PlannedBlock.{PlannedBlock};
 ghost use Rattle.pool_core.specs.declared.transactions.OpenTransaction.{OpenTransaction};
 
-use crate::contents::Contents;
 use crate::groups::Groups;
-use crate::import_replay::Mounted;
-use crate::limits::{LAST_NUMBER, MAX_TRANSACTIONS, OBJECT_COUNT};
-use crate::object_maps::{ObjectMap, Tree};
 use crate::range_locks::{HeldLock, ObjectRange, RangeLocks, is_range_allowed};
-use crate::space::FreeSet;
 use crate::state::Progress;
-use crate::sync::SyncRun;
 use crate::transactions::{
     OpenTransaction, find_transaction, is_blocked, is_group_held, is_held_in_use, is_in_plan,
     is_plan_allowed, is_too_large, range_of, remove_transaction,
 };
-use crate::tree_plans::{Committed, PlanSource, TreePlan, dirty_objects, plan};
 use base::{
-    Bytes, Group, LockId, Mode, ObjectId, Op, Ops, Ordinal, Owner, Plan, Pointer, PoolError, Range,
-    Receipt, Shape, TxId,
+    Bytes, Group, LAST_NUMBER, LockId, MAX_TRANSACTIONS, Mode, OBJECT_COUNT, ObjectId, Op, Ops, Ordinal,
+    Owner, Plan, Pointer, PoolError, Range, Receipt, Shape, TxId,
 };
 use device_model::SectorDevice;
+use import_replay::Mounted;
 use labels::Geometry;
+use object_maps::{Contents, ObjectMap, Tree};
+use space::FreeSet;
 use std::alloc::Global;
 use std::collections::BTreeMap;
+use sync::SyncRun;
+use tree_plans::{Committed, PlanSource, PlannedBlock, TreePlan, dirty_objects, plan};
 use uberblocks::{Uberblock, slot};
 
 // A sync that runs, and what it makes of the tree.
@@ -388,7 +386,7 @@ impl Pool {
             return Err(PoolError::NotReady);
         }
         let planned = self.plan_group(group)?;
-        self.free.take_all(&planned.blocks);
+        take_all(&mut self.free, &planned.blocks);
         self.sync = Some(self.running_sync(group, moment, planned));
         self.groups.start_sync(group);
         Ok(group)
@@ -499,7 +497,7 @@ impl Pool {
         self.tree.root = root;
         self.tree.directories = directories;
         self.tree.set_all(maps);
-        self.free.give_all(self.geometry, &freed);
+        give_all(&mut self.free, self.geometry, &freed);
         self.pending.retain(|committed| committed.group > group);
         self.groups.finish_sync(group);
     }
@@ -528,4 +526,24 @@ fn bytes_in(bytes: &[u8], range: Range) -> &[u8]
     let low = bytes.len().min(range.low as usize);
     let high = bytes.len().min(range.high as usize);
     &bytes[low..high]
+}
+
+// These blocks are taken.
+fn take_all(free: &mut FreeSet, blocks: &[PlannedBlock])
+    ensures { vec_len free.new.flags ≡ vec_len free.old.flags }
+{
+    for planned in blocks {
+        free.take(planned.index);
+    }
+}
+
+// The blocks at these addresses come back.
+fn give_all(free: &mut FreeSet, geometry: Geometry, addresses: &[u64])
+    ensures { vec_len free.new.flags ≡ vec_len free.old.flags }
+{
+    for address in addresses {
+        if geometry.is_block_address(*address) {
+            free.give(geometry.block_index(*address) as usize);
+        }
+    }
 }

@@ -6,12 +6,12 @@ ghost use Rattle.base.specs.Stage as stage;
 ghost use Rattle.base.specs.Steps as steps;
 ghost use Rattle.base.specs.declared.names.Receipt.{Receipt};
 
-use crate::import_replay::Imported;
 use crate::pool::Pool;
 use base::{
     Bytes, Group, LockId, Mode, ObjectId, Ops, Owner, Plan, PoolError, Range, Receipt, TxId,
 };
 use device_model::SectorDevice;
+use import_replay::Imported;
 use std::alloc::Global;
 
 /// What a step of a sync answers.

@@ -11,9 +11,10 @@ ghost use Rattle.base.specs.Stage.{is_plan_built};
 ghost use Rattle.pool_core.specs.Targets.{kept_range_of, target_of};
 ghost use Rattle.pool_core.specs.declared.transactions.OpenTransaction.{OpenTransaction};
 
-use crate::limits::{MAX_LENGTH, MAX_LOG_RECORD, OBJECT_COUNT};
 use crate::range_locks::{HeldLock, ObjectRange, is_reader};
-use base::{Group, MAX_NAME, ObjectId, Op, Owner, Plan, Range, Shape, TxId};
+use base::{
+    Group, MAX_LENGTH, MAX_LOG_RECORD, MAX_NAME, OBJECT_COUNT, ObjectId, Op, Owner, Plan, Range, Shape, TxId,
+};
 
 /// A transaction that was admitted and has not ended.
 #[derive(Drop)]

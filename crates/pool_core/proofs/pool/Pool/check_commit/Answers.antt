@@ -4,7 +4,7 @@ use Rattle.std.proofs.lemmas.Result.{err_from_is_err_and}
 use Rattle.base.specs.declared.operation.Shape.{Shape}
 use Rattle.base.specs.Plans.{shape_of}
 use Rattle.base.specs.Refusals.{is_same_plan}
-use Rattle.pool_core.specs.Ops.{AreOpsAllowed}
+use Rattle.object_maps.specs.Ops.{AreOpsAllowed}
 use Rattle.pool_core.specs.Shows.{admission_of, shown_of}
 use Rattle.pool_core.specs.declared.transactions.OpenTransaction.{OpenTransaction}
 use Rattle.pool_core.proofs.Opens.{found_built, found_open, none_open, above_last, up_to_last}

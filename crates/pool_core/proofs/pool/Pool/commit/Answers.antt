@@ -10,7 +10,7 @@ use Rattle.base.specs.Groups.{Admission}
 use Rattle.base.specs.History.{apply_all}
 use Rattle.base.specs.Records.{is_content_allowed}
 use Rattle.base.specs.Stage.{commit_refusal, Commit}
-use Rattle.pool_core.specs.ContentsShown.{contents_of}
+use Rattle.object_maps.specs.ContentsShown.{contents_of}
 use Rattle.pool_core.specs.Meets.{Meets, MayCommit}
 use Rattle.pool_core.specs.Shows.{admission_of, shown_of}
 use Rattle.pool_core.specs.declared.transactions.OpenTransaction.{OpenTransaction}

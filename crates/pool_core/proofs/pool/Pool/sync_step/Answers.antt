@@ -1,6 +1,6 @@
 use Rattle.std.proofs.Common.{◌<◌, ap, sym, subst, ◌∙◌}
-use Rattle.pool_core.specs.declared.sync.SyncRun.{SyncRun}
-use Rattle.pool_core.specs.Runs.{call_count}
+use Rattle.sync.specs.declared.run.SyncRun.{SyncRun}
+use Rattle.sync.specs.Runs.{call_count}
 use Rattle.pool_core.proofs.SameSyncs.{kept_run, left_as_before}
 use Rattle.pool_core.proofs.pool.Pool.sync_step.Goals as goal
 

@@ -1,0 +1,42 @@
+-- What the slots of a pool's contents stand for: its objects by their numbers, and what a list of operations makes of them.
+use Rattle.std.specs.Prelude.{◌≡◌, ℕ, suc, cond, List, [], ◌∷◌, Option, Some, None, Result, Ok, Err, slice_get}
+use Rattle.std.specs.Option.{option_map_or}
+use Rattle.std.specs.Ordering.{nat_cmp}
+use Rattle.std.specs.FinMap as finite
+use Rattle.std.specs.FinMap.{FinMap}
+use Rattle.base.specs.declared.error.PoolError.{PoolError}
+use Rattle.base.specs.declared.operation.Op.{Op}
+use Rattle.base.specs.Contents.{Contents, stored, apply}
+use Rattle.base.specs.History.{apply_all}
+use Rattle.object_maps.specs.declared.contents.Slot.{Slot}
+use Rattle.object_maps.specs.declared.contents.Contents as declared
+
+-- the object of a slot, where None is no object
+abbrev pub object_of : Slot → Option (List ℕ)
+object_of s = cond s.present (Some s.bytes.items) None
+
+-- the object of the slot at this place, None past the last one
+abbrev pub object_in : List Slot → ℕ → Option (List ℕ)
+object_in slots n = option_map_or object_of (slice_get slots n) None
+
+-- the objects of slots that have the numbers from this one on
+unfoldable pub objects_from : ℕ → List Slot → FinMap nat_cmp (List ℕ)
+objects_from n [] = finite.empty
+objects_from n (s ∷ slots) = stored (objects_from (suc n) slots) n (object_of s)
+
+-- the contents that a name and slots hold
+abbrev pub contents_of : declared.Contents → Contents
+contents_of c = record { name = c.name; objects = objects_from 0 c.slots.items }
+
+-- the operation can take place
+abbrev pub Applies : Op → Contents → Type 0
+Applies op c = (after : Contents) × (apply op c ≡ Ok after)
+
+-- the operations can take place in order
+abbrev pub Apply : List Op → Contents → Type 0
+Apply ops c = (after : Contents) × (apply_all ops c ≡ Ok after)
+
+-- an answer on operations: they can take place in order, or this is why the first that can't, can't
+abbrev pub Judges : List Op → Contents → Result Unit PoolError → Type 0
+Judges ops c (Ok done) = Apply ops c
+Judges ops c (Err e) = apply_all ops c ≡ Err e

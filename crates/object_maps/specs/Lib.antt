@@ -1,0 +1,4 @@
+pub mod Ops
+pub mod Creations
+pub mod ContentsShown
+pub mod Entries

@@ -1,0 +1,10 @@
+//! The objects of a pool in memory, and the tree of blocks that they are loaded from.
+#![tactic(auto)]
+
+mod contents;
+mod tree;
+mod walk;
+
+pub use contents::{Contents, Slot, empty_slots};
+pub use tree::{ObjectMap, Tree, empty_maps};
+pub use walk::{Loaded, load};

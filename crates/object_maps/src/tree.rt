@@ -1,0 +1,64 @@
+//! The tree of blocks that holds a pool's objects (On-Disk Specification, chapter 2): a root, directories, and for each
+//! object an indirect block over its records. Its pointers are kept in memory.
+
+ghost use Rattle.std.specs.Prelude.{◌≡◌, IfOk, vec_len};
+
+use base::{OBJECT_COUNT, ObjectId, Pointer};
+use std::alloc::{AllocError, Global};
+use std::collections::BTreeMap;
+
+/// The pointers of one object: to its indirect block, and to its records, of which none are kept where all are holes.
+#[derive(Drop)]
+pub struct ObjectMap {
+    pub indirect: Pointer,
+    pub records: Vec<Pointer>,
+}
+
+impl ObjectMap {
+    /// The pointer to a record, or to nothing.
+    pub fn record(&self, index: usize) -> Pointer {
+        match self.records.get(index) {
+            Some(pointer) => *pointer,
+            None => Pointer::NONE,
+        }
+    }
+}
+
+/// The pointers of a tree, by place.
+#[derive(Drop)]
+pub struct Tree {
+    pub root: Pointer,
+    pub directories: Vec<Pointer>,
+    pub maps: Vec<ObjectMap>,
+    ghost all_directories: { vec_len directories ≡ 84 },
+    ghost all_objects: { vec_len maps ≡ 5292 },
+}
+
+/// The pointers of objects of which none is there.
+pub fn empty_maps(alloc: Global) -> Result<Vec<ObjectMap>, AllocError>
+    ensures { IfOk result (λ maps. vec_len maps ≡ 5292) }
+{
+    let mut maps = Vec::with_capacity(alloc, OBJECT_COUNT as usize)?;
+    for _i in 0..OBJECT_COUNT {
+        maps.push_reserved(ObjectMap {
+            indirect: Pointer::NONE,
+            records: Vec::new(alloc),
+        });
+    }
+    Ok(maps)
+}
+
+impl Tree {
+    /// Sets the pointers of these objects.
+    pub fn set_all(&mut self, maps: BTreeMap<ObjectId, ObjectMap>) {
+        for (id, map) in maps {
+            self.set(id, map);
+        }
+    }
+
+    fn set(&mut self, id: ObjectId, map: ObjectMap) {
+        if (id.0 as usize) < self.maps.len() {
+            self.maps[id.0 as usize] = map;
+        }
+    }
+}

@@ -1,5 +1,0 @@
-use Rattle.pool_core.proofs.Judged.{all_bytes}
-use Rattle.pool_core.proofs.contents.Contents.reserve_write.Goals as goal
-
-pub returns-clause-bytes : goal.returns-clause-bytes
-returns-clause-bytes c = all_bytes c.args.content.now c.type_inv.content

@@ -1,6 +1,0 @@
-use Rattle.std.proofs.Common.{◌≡◌}
-use Rattle.pool_core.proofs.creation.write_configs.Given as goal
-
--- the device keeps its size, and refused no call
-abbrev pub invariant-loop-label : goal.invariant-loop-label
-invariant-loop-label g l = (g.D.SectorDevice.size l.device ≡ l.geometry) × (g.D.SectorDevice.size l.device ≡ g.D.SectorDevice.size l.fn.device) × (g.D.SectorDevice.refused l.device ≡ g.D.SectorDevice.refused l.fn.device)

@@ -1,6 +1,0 @@
-use Rattle.std.proofs.Common.{◌≡◌, ◌≤◌, vec_len, vec_capacity}
-use Rattle.pool_core.proofs.object_maps.load_records.Given as goal
-
--- the device keeps its size, and there is room for all pointers
-abbrev pub invariant-loop-index : goal.invariant-loop-index
-invariant-loop-index g l = (g.D.SectorDevice.size l.device ≡ l.geometry) × (vec_len l.records ≡ l.index) × (84 ≤ vec_capacity l.records)

@@ -1,0 +1,6 @@
+//! The free blocks of a pool.
+#![tactic(auto)]
+
+mod free_set;
+
+pub use free_set::FreeSet;

@@ -1,0 +1,6 @@
+//! Syncs, one device call at a time.
+#![tactic(auto)]
+
+mod run;
+
+pub use run::{LabelStages, SyncRun};
