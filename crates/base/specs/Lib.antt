@@ -27,6 +27,7 @@ pub mod Mount
 pub mod Syncs
 pub mod Past
 pub mod Logs
+pub mod Rising
 pub mod Shown
 pub mod Refusals
 pub mod Digest
