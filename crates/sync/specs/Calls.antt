@@ -45,11 +45,15 @@ abbrev pub config_target : ℕ → ℕ → LabelStages → Target
 config_target size label stages = record { place = config_place size label; size = block_size; content = stages.config }
 
 -- A block is written at its address, a config into its label, the uberblock into its slot of a label. A flush writes nothing.
+abbrev pub target_among : (size : ℕ) (blocks : List PlannedBlock) (stages : Option LabelStages) (slot : ℕ) (uberblock : List ℕ) → DeviceCall → Option Target
+target_among size blocks stages slot uberblock (Block k) = option_map block_target (slice_get blocks k)
+target_among size blocks stages slot uberblock (Config label) = option_map (config_target size label) stages
+target_among size blocks stages slot uberblock (Uberblock label) = Some (record { place = slot_place size label slot; size = 1024; content = uberblock })
+target_among size blocks stages slot uberblock Flush = None
+
+-- the target of a call of the sync
 abbrev pub target_of : SyncRun → DeviceCall → Option Target
-target_of run (Block k) = option_map block_target (slice_get run.blocks.items k)
-target_of run (Config label) = option_map (config_target run.geometry label) run.stages
-target_of run (Uberblock label) = Some (record { place = slot_place run.geometry label run.slot; size = 1024; content = run.uberblock })
-target_of run Flush = None
+target_of run = target_among run.geometry run.blocks.items run.stages run.slot run.uberblock
 
 -- the target is written
 abbrev pub WritesTarget : Option Target → Disk → Result (Unit {0}) PoolError → Disk → Type 0
