@@ -35,5 +35,6 @@ pub mod KeptIsolation
 pub mod KeptSyncs
 pub mod KeptContents
 pub mod KeptLog
+pub mod PlacedTrees
 pub mod KeptTables
 pub mod AnySteps
