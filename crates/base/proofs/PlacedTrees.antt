@@ -9,10 +9,10 @@ use Rattle.std.specs.FinMap as map
 use Rattle.std.specs.FinMap.{FinMap}
 use Rattle.base.specs.declared.pointer.Pointer.{Pointer}
 use Rattle.base.specs.Limits.{object_count, max_length, record_size, pointer_count, entry_count}
-use Rattle.base.specs.Fields.{pointer_in, entry_in, entry_pointer, no_pointer}
-use Rattle.base.specs.Geometry.{IsBlockAddress}
+use Rattle.base.specs.Fields.{part, number_at, pointer_in, entry_in, entry_pointer, no_pointer}
+use Rattle.base.specs.Geometry.{block_size}
 use Rattle.base.specs.Blocks.{Frame, Opens}
-use Rattle.base.specs.Places.{Place, IsPlace, pointer_below, pointer_of, directory_pointer, indirect_pointer, data_pointer, IsInTree}
+use Rattle.base.specs.Places.{Place, IsPlace, kind_of, number_of, pointer_below, pointer_of, directory_pointer, indirect_pointer, data_pointer, IsInTree}
 use Rattle.base.specs.Places.Place.{Root, Directory, Indirect, Data}
 use Rattle.base.specs.Tree.{OpensAt, IsTree, IsDirectory, IsEntry, IsObject, IsRecord, record_bytes}
 use Rattle.base.specs.PlacedTrees.{IsEntryFor, StandsAt, HoldsTree, IsPlaced, ArePlaced}
@@ -40,7 +40,29 @@ zeros-from_records bytes short each = ext_get_or 0 bytes (replicate (length byte
         sym read ∙ ap (λ (l : List ℕ). get_or l (k % record_size) 0) (each (k / record_size) r_below)
         ∙ get_or-zeros (length (record_bytes (k / record_size) bytes)) (k % record_size) ∙ sym (get_or-zeros (length bytes) k)
 
--- a block that opens at no pointer does not
+-- a place is known by the kind and the number of its block
+pub place-by_number : (p q : Place) → IsPlace p → IsPlace q → kind_of p ≡ kind_of q → number_of p ≡ number_of q → p ≡ q
+place-by_number Root Root a b kinds numbers = refl
+place-by_number Root (Directory d) a b kinds numbers = absurd (omega (arith, kinds))
+place-by_number Root (Indirect n) a b kinds numbers = absurd (omega (arith, kinds))
+place-by_number Root (Data n r) a b kinds numbers = absurd (omega (arith, kinds))
+place-by_number (Directory d) Root a b kinds numbers = absurd (omega (arith, kinds))
+place-by_number (Directory d) (Directory e) a b kinds numbers = ap (λ i. Directory i) numbers
+place-by_number (Directory d) (Indirect n) a b kinds numbers = absurd (omega (arith, kinds))
+place-by_number (Directory d) (Data n r) a b kinds numbers = absurd (omega (arith, kinds))
+place-by_number (Indirect n) Root a b kinds numbers = absurd (omega (arith, kinds))
+place-by_number (Indirect n) (Directory d) a b kinds numbers = absurd (omega (arith, kinds))
+place-by_number (Indirect n) (Indirect m) a b kinds numbers = ap (λ i. Indirect i) numbers
+place-by_number (Indirect n) (Data m r) a b kinds numbers = absurd (omega (arith, kinds))
+place-by_number (Data n r) Root a b kinds numbers = absurd (omega (arith, kinds))
+place-by_number (Data n r) (Directory d) a b kinds numbers = absurd (omega (arith, kinds))
+place-by_number (Data n r) (Indirect m) a b kinds numbers = absurd (omega (arith, kinds))
+place-by_number (Data n r) (Data m s) a b kinds numbers =
+    let objects_same : n ≡ m = omega (arith, a.1, b.1, numbers) in
+    let records_same : r ≡ s = omega (arith, a.1, b.1, numbers) in
+    (λ i. Data (objects_same i) (records_same i))
+
+-- a pointer whose block opens is one
 pub opens-some : (image : List ℕ) (frame : Frame) (kind number : ℕ) (p : Pointer) (payload : List ℕ) → Opens image frame kind number p payload → p ≢ no_pointer
 opens-some image frame kind number p payload o = λ e. opens-address image frame kind number p payload o (ap (λ (q : Pointer). q.address) e)
 
@@ -133,3 +155,103 @@ module _ (image : List ℕ) (frame : Frame) (pointers : Place → Pointer) (obje
       | inr h ↦ inr (h.0, h.1, λ d below. subst (λ (p : Pointer). IsDirectory image frame d p objects) (sym (h.2 d below)) (directory_at d below))
     ];
   }
+
+  -- its pointers, read from the image, are those told
+  told-directory : (d : ℕ) → d < pointer_count → directory_pointer image (pointers Root) d ≡ pointers (Directory d)
+  told-directory d below = elim (holds.each Root tt) as (λ _. directory_pointer image (pointers Root) d ≡ pointers (Directory d)) [
+    | inl h ↦ pointer_below-none image frame (pointers Root) (λ payload. pointer_in payload d) h.0 ∙ sym (h.1 d below)
+    | inr h ↦ pointer_below-opens image frame 2 0 (pointers Root) h.0 (λ payload. pointer_in payload d) h.1 ∙ h.2 d below
+  ]
+
+  abbrev entry_reads : ℕ → List ℕ → Pointer
+  entry_reads n payload = entry_pointer (entry_in payload (n % entry_count))
+
+  entry-told : (entry : List ℕ) (indirect : Pointer) (o : Option (List ℕ)) → IsEntryFor entry indirect o → entry_pointer entry ≡ indirect
+  entry-told entry indirect None h = ap entry_pointer h.0 ∙ zero_entry ∙ sym h.1
+  entry-told entry indirect (Some bytes) h = h.3
+
+  told-indirect : (n : ℕ) → n < object_count → indirect_pointer image (pointers Root) n ≡ pointers (Indirect n)
+  told-indirect n below =
+      let d_below : n / 63 < 84 = omega arith in
+      ap (λ (p : Pointer). pointer_below image p (entry_reads n)) (told-directory (n / entry_count) d_below)
+      ∙ (elim (by_directory n below) as (λ _. pointer_below image (pointers (Directory (n / entry_count))) (entry_reads n) ≡ pointers (Indirect n)) [
+        | inl h ↦ pointer_below-none image frame (pointers (Directory (n / entry_count))) (entry_reads n) h.0 ∙ sym h.2
+        | inr h ↦ pointer_below-opens image frame 3 (n / entry_count) (pointers (Directory (n / entry_count))) h.0 (entry_reads n) h.1
+          ∙ entry-told (entry_in h.0 (n % entry_count)) (pointers (Indirect n)) (map.get objects n) h.2
+      ])
+
+  told-data : (n r : ℕ) → n < object_count → r < pointer_count → data_pointer image (pointers Root) n r ≡ pointers (Data n r)
+  told-data n r n_below r_below =
+      ap (λ (p : Pointer). pointer_below image p (λ payload. pointer_in payload r)) (told-indirect n n_below)
+      ∙ (elim (holds.each (Indirect n) n_below) as (λ _. pointer_below image (pointers (Indirect n)) (λ payload. pointer_in payload r) ≡ pointers (Data n r)) [
+        | inl h ↦ pointer_below-none image frame (pointers (Indirect n)) (λ payload. pointer_in payload r) h.0 ∙ sym (h.1 r r_below)
+        | inr h ↦ pointer_below-opens image frame 4 n (pointers (Indirect n)) h.0 (λ payload. pointer_in payload r) h.1 ∙ h.2 r r_below
+      ])
+
+  pub pointers-told : (place : Place) → IsPlace place → pointer_of image (pointers Root) place ≡ pointers place
+  pointers-told Root in_range = refl
+  pointers-told (Directory d) in_range = told-directory d in_range
+  pointers-told (Indirect n) in_range = told-indirect n in_range
+  pointers-told (Data n r) in_range = told-data n r in_range.0 in_range.1
+
+  -- each place has no pointer, or one to a block that opens there
+  abbrev pub NoneOrOpens : Place → Type 0
+  NoneOrOpens place = (pointers place ≡ no_pointer) ⊎ ((payload : List ℕ) × OpensAt image frame place (pointers place) payload)
+
+  data-opens : (n r : ℕ) → n < object_count → r < pointer_count → (o : Option (List ℕ)) → map.get objects n ≡ o → NoneOrOpens (Data n r)
+  data-opens n r n_below r_below None is = inl (absent-data n r n_below r_below is)
+  data-opens n r n_below r_below (Some bytes) is = elim (record_at n r bytes n_below r_below is) as (λ _. NoneOrOpens (Data n r)) [
+    | inl h ↦ inl h.0
+    | inr h ↦ inr (_, h.1)
+  ]
+
+  pub none_or_opens : (place : Place) → IsPlace place → NoneOrOpens place
+  none_or_opens Root in_range = elim (holds.each Root in_range) as (λ _. NoneOrOpens Root) [ inl h ↦ inl h.0 | inr h ↦ inr (h.0, h.1) ]
+  none_or_opens (Directory d) in_range = elim (holds.each (Directory d) in_range) as (λ _. NoneOrOpens (Directory d)) [ inl h ↦ inl h.0 | inr h ↦ inr (h.0, h.1) ]
+  none_or_opens (Indirect n) in_range = elim (holds.each (Indirect n) in_range) as (λ _. NoneOrOpens (Indirect n)) [ inl h ↦ inl h.0 | inr h ↦ inr (h.0, h.1) ]
+  none_or_opens (Data n r) in_range = data-opens n r in_range.0 in_range.1 (map.get objects n) refl
+
+  pub opens-at : (place : Place) → IsPlace place → pointers place ≢ no_pointer → (payload : List ℕ) × OpensAt image frame place (pointers place) payload
+  opens-at place in_range some = elim (none_or_opens place in_range) as (λ _. (payload : List ℕ) × OpensAt image frame place (pointers place) payload) [
+    | inl none ↦ absurd (some none)
+    | inr o ↦ o
+  ]
+
+  -- each pointer is none, or one to a block of the area
+  pub holds-placed : ArePlaced frame.blocks pointers
+  holds-placed place in_range = elim (none_or_opens place in_range) as (λ _. IsPlaced frame.blocks (pointers place)) [
+    | inl none ↦ inl none
+    | inr o ↦ inr (o.1).in_area
+  ]
+
+  -- a pointer that is one has an address, and one with an address is one
+  pub holds-address : (place : Place) → IsPlace place → pointers place ≢ no_pointer → (pointers place).address ≢ 0
+  holds-address place in_range some =
+      let o = opens-at place in_range some in
+      opens-address image frame (kind_of place) (number_of place) (pointers place) o.0 o.1
+
+  some-by_address : (p : Pointer) → p.address ≢ 0 → p ≢ no_pointer
+  some-by_address p some = λ none. some (ap (λ (q : Pointer). q.address) none)
+
+  -- the addresses in the tree are those of the pointers told
+  pub in-tree : (address : ℕ) → IsInTree image (pointers Root) address → (place : Place) × IsPlace place × ((pointers place).address ≡ address) × (pointers place ≢ no_pointer)
+  in-tree address is =
+      let named : (pointers is.place).address ≡ address = ap (λ (p : Pointer). p.address) (sym (pointers-told is.place is.in_range)) ∙ is.named in
+      (is.place, is.in_range, named, some-by_address (pointers is.place) (λ zero_is. is.there (sym named ∙ zero_is)))
+
+  pub told-in_tree : (place : Place) → IsPlace place → pointers place ≢ no_pointer → IsInTree image (pointers Root) ((pointers place).address)
+  told-in_tree place in_range some = record {
+    place = place;
+    in_range = in_range;
+    named = ap (λ (p : Pointer). p.address) (pointers-told place in_range);
+    there = holds-address place in_range some;
+  }
+
+  -- two places have no block in common
+  pub places-apart : (p q : Place) → IsPlace p → IsPlace q → pointers p ≢ no_pointer → (pointers p).address ≡ (pointers q).address → p ≡ q
+  places-apart p q p_in q_in some same =
+      let a = opens-at p p_in some in
+      let b = opens-at q q_in (some-by_address (pointers q) (λ zero_is. holds-address p p_in some (same ∙ zero_is))) in
+      let kinds : kind_of p ≡ kind_of q = sym a.1.block.kind_is ∙ ap (λ (x : ℕ). number_at (part image x block_size) 0) same ∙ b.1.block.kind_is in
+      let numbers : number_of p ≡ number_of q = sym a.1.block.number_is ∙ ap (λ (x : ℕ). number_at (part image x block_size) 24) same ∙ b.1.block.number_is in
+      place-by_number p q p_in q_in kinds numbers
