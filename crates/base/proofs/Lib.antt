@@ -36,5 +36,6 @@ pub mod KeptSyncs
 pub mod KeptContents
 pub mod KeptLog
 pub mod PlacedTrees
+pub mod PlannedTrees
 pub mod KeptTables
 pub mod AnySteps
