@@ -37,5 +37,6 @@ pub mod KeptContents
 pub mod KeptLog
 pub mod PlacedTrees
 pub mod PlannedTrees
+pub mod UntouchedRecords
 pub mod KeptTables
 pub mod AnySteps
