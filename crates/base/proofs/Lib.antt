@@ -38,5 +38,6 @@ pub mod KeptLog
 pub mod PlacedTrees
 pub mod PlannedTrees
 pub mod UntouchedRecords
+pub mod WrittenBlocks
 pub mod KeptTables
 pub mod AnySteps
