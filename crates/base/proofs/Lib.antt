@@ -35,5 +35,9 @@ pub mod KeptIsolation
 pub mod KeptSyncs
 pub mod KeptContents
 pub mod KeptLog
+pub mod PlacedTrees
+pub mod PlannedTrees
+pub mod UntouchedRecords
+pub mod WrittenBlocks
 pub mod KeptTables
 pub mod AnySteps
