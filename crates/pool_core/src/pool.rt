@@ -53,6 +53,8 @@ struct RunningSync {
     // the addresses of the blocks that come back
     freed: Vec<u64>,
     ghost all_directories: { vec_len directories ≡ 84 },
+    ghost no_stages: { is_some run.stages ≡ false },
+    ghost freed_placed: { All (λ address. is_block_of (block_count run.geometry) address ≡ true) freed.items },
 }
 
 /// What a running pool keeps in memory: all but its device. Each step changes it, or leaves it as it was.
@@ -82,6 +84,9 @@ pub struct Pool {
     ghost next_ordinal_fits: { next_ordinal ≤ 2 ^ 60 + 1 },
     ghost plans_built: { All (λ (t : OpenTransaction). is_plan_built t.plan ≡ true) transactions.items },
     ghost running: { ForSome sync (λ r. (r.run.geometry ≡ geometry) × (r.run.done < call_count r.run)) },
+    ghost sync_line: { option_map (λ r. r.group.0) sync ≡ option_map (λ g. g.0) groups.syncing } by { Prim.hlevel props },
+    ghost pending_built: { All (λ (c : Committed). list_any is_rename c.ops ≡ false) pending.items },
+    ghost tree_placed: { ∥ ArePlaced (block_count geometry) (pointers_of tree) ∥₁ },
 }
 
 impl Pool {
@@ -377,14 +382,10 @@ impl Pool {
     /// do not suffice; `NoMemory`.
     pub fn start_sync(&mut self, moment: u64) -> Result<Group, PoolError>
         ensures geometry { self.new.geometry ≡ self.old.geometry }
+        ensures step { MeetsExplained (stage.StartSync ⊥ [] moment) (result_map (λ group. group.0) result) (shown_of self.old) (shown_of self.new) }
     {
         self.check_running()?;
-        let Some(group) = self.groups.quiesced() else {
-            return Err(PoolError::NotReady);
-        };
-        if self.sync.is_some() {
-            return Err(PoolError::NotReady);
-        }
+        let group = self.check_start()?;
         let planned = self.plan_group(group)?;
         take_all(&mut self.free, &planned.blocks);
         self.sync = Some(self.running_sync(group, moment, planned));
@@ -392,8 +393,23 @@ impl Pool {
         Ok(group)
     }
 
+    // The quiesced group, where a sync of it may start.
+    fn check_start(&self) -> Result<Group, PoolError>
+        ensures group { IfOk result (λ group. IsGroup group.0) }
+        ensures may { MatchResult result (λ group. MayStart group.0 (line_of self.now.groups)) (λ e. (e ≡ PoolError.NotReady) × MayNotStart (line_of self.now.groups)) }
+    {
+        if self.sync.is_some() {
+            return Err(PoolError::NotReady);
+        }
+        self.groups.quiesced().ok_or(PoolError::NotReady)
+    }
+
     fn plan_group(&self, group: Group) -> Result<TreePlan, PoolError>
-        ensures { IfOk result (λ p. All (λ (b : PlannedBlock). b.index < block_count self.now.geometry) p.blocks.items) }
+        ensures within { IfOk result (λ p. All (λ (b : PlannedBlock). b.index < block_count self.now.geometry) p.blocks.items) }
+        ensures taken { IfOk result (λ p. map address_of p.blocks.items ≡ take (vec_len p.blocks) (addresses_from 0 self.now.free.flags.items)) }
+        ensures freed { IfOk result (λ p. All (λ address. is_block_of (block_count self.now.geometry) address ≡ true) p.freed.items) }
+        ensures placed { IfOk result (λ p. ∥ ArePlaced (block_count self.now.geometry) (planned_pointers self.now.tree p) ∥₁) }
+        ensures refused { IfErr result (λ e. (e ≡ PoolError.NoMemory) ⊎ (e ≡ PoolError.NoSpace)) }
     {
         let objects = dirty_objects(self.alloc, &self.pending, group)?;
         let source = PlanSource {
