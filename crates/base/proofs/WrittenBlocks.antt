@@ -1,5 +1,5 @@
 -- Blocks of the area that are written one after another: each stands, and every other block is the same.
-use Rattle.std.proofs.Common.{◌≡◌, ℕ, zero, suc, ◌+◌, ◌*◌, ◌<◌, ◌≤◌, List, [], ◌∷◌, ◌++◌, length, get_or, take, refl, ap, sym, subst, ◌∙◌, arith, inl, inr}
+use Rattle.std.proofs.Common.{◌≡◌, ℕ, zero, suc, ◌+◌, ◌*◌, ◌<◌, ◌≤◌, List, [], ◌∷◌, ◌++◌, length, take, refl, ap, sym, subst, ◌∙◌, arith, inl, inr}
 use Rattle.std.specs.Prelude.{Some, None, ◌≢◌, slice_get}
 use Rattle.std.proofs.lemmas.Bool.{cases_lt}
 use Rattle.std.specs.Ordering.{nat_cmp}
@@ -12,7 +12,7 @@ use Rattle.base.specs.Geometry.{block_area, block_size, block_address, IsBlockAd
 use Rattle.base.specs.Blocks.{Frame}
 use Rattle.base.specs.Disk.{put, SameOutside, IsInRange}
 use Rattle.base.specs.Places.{Place, IsPlace}
-use Rattle.base.specs.PlacedTrees.{HoldsTree, IsPlaced, ArePlaced}
+use Rattle.base.specs.PlacedTrees.{HoldsTree, ArePlaced}
 use Rattle.base.specs.PlannedTrees.{NewBlock, IsTreePlan, SameBlock, StandsIn}
 use Rattle.base.proofs.Put.{Apart, length-put, part-put_same, part-put_apart, part_same}
 use Rattle.base.proofs.PlacedTrees.{holds-placed}
