@@ -39,5 +39,7 @@ pub mod PlacedTrees
 pub mod PlannedTrees
 pub mod UntouchedRecords
 pub mod WrittenBlocks
+pub mod FreedBlocks
+pub mod WrittenRecords
 pub mod KeptTables
 pub mod AnySteps

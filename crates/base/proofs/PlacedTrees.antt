@@ -66,6 +66,10 @@ place-by_number (Data n r) (Data m s) a b kinds numbers =
 pub opens-some : (image : List ℕ) (frame : Frame) (kind number : ℕ) (p : Pointer) (payload : List ℕ) → Opens image frame kind number p payload → p ≢ no_pointer
 opens-some image frame kind number p payload o = λ e. opens-address image frame kind number p payload o (ap (λ (q : Pointer). q.address) e)
 
+-- a pointer with an address is one
+pub some-by_address : (p : Pointer) → p.address ≢ 0 → p ≢ no_pointer
+some-by_address p some = λ none. some (ap (λ (q : Pointer). q.address) none)
+
 module _ (image : List ℕ) (frame : Frame) (pointers : Place → Pointer) (objects : FinMap nat_cmp (List ℕ)) (holds : HoldsTree image frame pointers objects) where
   -- what the directory of object n says of it: there is no directory, or its entry
   abbrev ByDirectory : ℕ → Type 0
@@ -233,9 +237,6 @@ module _ (image : List ℕ) (frame : Frame) (pointers : Place → Pointer) (obje
   holds-address place in_range some =
       let o = opens-at place in_range some in
       opens-address image frame (kind_of place) (number_of place) (pointers place) o.0 o.1
-
-  some-by_address : (p : Pointer) → p.address ≢ 0 → p ≢ no_pointer
-  some-by_address p some = λ none. some (ap (λ (q : Pointer). q.address) none)
 
   -- the addresses in the tree are those of the pointers told
   pub in-tree : (address : ℕ) → IsInTree image (pointers Root) address → (place : Place) × IsPlace place × ((pointers place).address ≡ address) × (pointers place ≢ no_pointer)

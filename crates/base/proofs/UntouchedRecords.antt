@@ -112,7 +112,7 @@ stays-written r offset new untouched (Some x) p h =
     ((untouched-record r offset new x untouched, omega (arith, length-bytes_after_write offset new x)), λ e. absurd (let no_way : Some (bytes_after_write offset new x) ≡ None = e in cc))
 
 -- what a step on one object leaves of any object
-at_object-leaves : (R : Option (List ℕ) → Option (List ℕ) → Type 0) (m n : ℕ) (f : Option (List ℕ) → Result (Option (List ℕ)) PoolError) (c d : Contents) → at_object m f c ≡ Ok d
+pub at_object-leaves : (R : Option (List ℕ) → Option (List ℕ) → Type 0) (m n : ℕ) (f : Option (List ℕ) → Result (Option (List ℕ)) PoolError) (c d : Contents) → at_object m f c ≡ Ok d
     → ((o : Option (List ℕ)) → R o o) → (m ≡ n → (o p : Option (List ℕ)) → f o ≡ Ok p → R o p) → R (map.get c.objects n) (map.get d.objects n)
 at_object-leaves R m n f c d h same each = go (cases_eq m n) (reached m f c d h)
   where
