@@ -41,5 +41,6 @@ pub mod UntouchedRecords
 pub mod WrittenBlocks
 pub mod FreedBlocks
 pub mod WrittenRecords
+pub mod ReadTrees
 pub mod KeptTables
 pub mod AnySteps
