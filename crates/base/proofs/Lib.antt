@@ -39,5 +39,8 @@ pub mod PlacedTrees
 pub mod PlannedTrees
 pub mod UntouchedRecords
 pub mod WrittenBlocks
+pub mod FreedBlocks
+pub mod WrittenRecords
+pub mod ReadTrees
 pub mod KeptTables
 pub mod AnySteps

@@ -1,5 +1,5 @@
 -- Trees told by the pointer at each place: what stands where, and that such a tree holds its objects.
-use Rattle.std.proofs.Common.{◌≡◌, ℕ, zero, suc, ◌+◌, ◌-◌, ◌*◌, ◌/◌, ◌%◌, ◌<◌, ◌≤◌, List, ◌++◌, length, get_or, take, drop, replicate, refl, ap, sym, subst, ◌∙◌, arith, ◌⊎◌, inl, inr}
+use Rattle.std.proofs.Common.{◌≡◌, ℕ, zero, suc, ◌+◌, ◌*◌, ◌/◌, ◌%◌, ◌<◌, ◌≤◌, List, length, get_or, drop, replicate, refl, ap, sym, subst, ◌∙◌, arith, ◌⊎◌, inl, inr}
 use Rattle.std.specs.Prelude.{Option, Some, None, IfSome, ◌≢◌}
 use Rattle.std.proofs.Math.Nat.{div-add-mod}
 use Rattle.std.proofs.lemmas.Bool.{cases_lt}
@@ -15,7 +15,7 @@ use Rattle.base.specs.Blocks.{Frame, Opens}
 use Rattle.base.specs.Places.{Place, IsPlace, kind_of, number_of, pointer_below, pointer_of, directory_pointer, indirect_pointer, data_pointer, IsInTree}
 use Rattle.base.specs.Places.Place.{Root, Directory, Indirect, Data}
 use Rattle.base.specs.Tree.{OpensAt, IsTree, IsDirectory, IsEntry, IsObject, IsRecord, record_bytes}
-use Rattle.base.specs.PlacedTrees.{IsEntryFor, StandsAt, HoldsTree, IsPlaced, ArePlaced}
+use Rattle.base.specs.PlacedTrees.{IsEntryFor, HoldsTree, IsPlaced, ArePlaced}
 use Rattle.base.proofs.SoundTrees.{zero_entry, opens-address, pointer_below-opens, pointer_below-none}
 
 -- each byte of zeros, and behind them, is read as zero
@@ -65,6 +65,10 @@ place-by_number (Data n r) (Data m s) a b kinds numbers =
 -- a pointer whose block opens is one
 pub opens-some : (image : List ℕ) (frame : Frame) (kind number : ℕ) (p : Pointer) (payload : List ℕ) → Opens image frame kind number p payload → p ≢ no_pointer
 opens-some image frame kind number p payload o = λ e. opens-address image frame kind number p payload o (ap (λ (q : Pointer). q.address) e)
+
+-- a pointer with an address is one
+pub some-by_address : (p : Pointer) → p.address ≢ 0 → p ≢ no_pointer
+some-by_address p some = λ none. some (ap (λ (q : Pointer). q.address) none)
 
 module _ (image : List ℕ) (frame : Frame) (pointers : Place → Pointer) (objects : FinMap nat_cmp (List ℕ)) (holds : HoldsTree image frame pointers objects) where
   -- what the directory of object n says of it: there is no directory, or its entry
@@ -131,8 +135,12 @@ module _ (image : List ℕ) (frame : Frame) (pointers : Place → Pointer) (obje
   directory_at : (d : ℕ) → d < pointer_count → IsDirectory image frame d (pointers (Directory d)) objects
   directory_at d below = elim (holds.each (Directory d) below) as (λ _. IsDirectory image frame d (pointers (Directory d)) objects) [
     | inl h ↦ inl (h.0, λ k k_below. (h.1 k k_below).0)
-    | inr h ↦ inr (h.0, h.1, λ k k_below. let n_below : 63 * d + k < 5292 = omega arith in
-      entry_at (entry_count * d + k) (entry_in h.0 k) (map.get objects (entry_count * d + k)) n_below refl (h.2 k k_below))
+    | inr h ↦ inr (
+      h.0,
+      h.1,
+      λ k k_below. let n_below : 63 * d + k < 5292 = omega arith in
+          entry_at (entry_count * d + k) (entry_in h.0 k) (map.get objects (entry_count * d + k)) n_below refl (h.2 k k_below),
+    )
   ]
 
   -- below no root there is nothing
@@ -151,9 +159,9 @@ module _ (image : List ℕ) (frame : Frame) (pointers : Place → Pointer) (obje
     no_others = holds.no_others;
     directories = elim (holds.each Root tt) as (λ _. ((pointers Root ≡ no_pointer) × ((n : ℕ) → map.get objects n ≡ None))
         ⊎ ((payload : List ℕ) × OpensAt image frame Root (pointers Root) payload × ((d : ℕ) → d < pointer_count → IsDirectory image frame d (pointer_in payload d) objects))) [
-      | inl h ↦ inl (h.0, λ n. below_no_root h.0 h.1 n (cases_lt n object_count))
-      | inr h ↦ inr (h.0, h.1, λ d below. subst (λ (p : Pointer). IsDirectory image frame d p objects) (sym (h.2 d below)) (directory_at d below))
-    ];
+          | inl h ↦ inl (h.0, λ n. below_no_root h.0 h.1 n (cases_lt n object_count))
+          | inr h ↦ inr (h.0, h.1, λ d below. subst (λ (p : Pointer). IsDirectory image frame d p objects) (sym (h.2 d below)) (directory_at d below))
+        ];
   }
 
   -- its pointers, read from the image, are those told
@@ -177,7 +185,7 @@ module _ (image : List ℕ) (frame : Frame) (pointers : Place → Pointer) (obje
       ∙ (elim (by_directory n below) as (λ _. pointer_below image (pointers (Directory (n / entry_count))) (entry_reads n) ≡ pointers (Indirect n)) [
         | inl h ↦ pointer_below-none image frame (pointers (Directory (n / entry_count))) (entry_reads n) h.0 ∙ sym h.2
         | inr h ↦ pointer_below-opens image frame 3 (n / entry_count) (pointers (Directory (n / entry_count))) h.0 (entry_reads n) h.1
-          ∙ entry-told (entry_in h.0 (n % entry_count)) (pointers (Indirect n)) (map.get objects n) h.2
+            ∙ entry-told (entry_in h.0 (n % entry_count)) (pointers (Indirect n)) (map.get objects n) h.2
       ])
 
   told-data : (n r : ℕ) → n < object_count → r < pointer_count → data_pointer image (pointers Root) n r ≡ pointers (Data n r)
@@ -229,9 +237,6 @@ module _ (image : List ℕ) (frame : Frame) (pointers : Place → Pointer) (obje
   holds-address place in_range some =
       let o = opens-at place in_range some in
       opens-address image frame (kind_of place) (number_of place) (pointers place) o.0 o.1
-
-  some-by_address : (p : Pointer) → p.address ≢ 0 → p ≢ no_pointer
-  some-by_address p some = λ none. some (ap (λ (q : Pointer). q.address) none)
 
   -- the addresses in the tree are those of the pointers told
   pub in-tree : (address : ℕ) → IsInTree image (pointers Root) address → (place : Place) × IsPlace place × ((pointers place).address ≡ address) × (pointers place ≢ no_pointer)

@@ -1,6 +1,6 @@
 -- What becomes of a tree told by places, in another image: it stands where its blocks do, and so does what a sync makes of it.
 use Rattle.std.proofs.Common.{◌≡◌, ℕ, zero, ◌+◌, ◌-◌, ◌*◌, ◌<◌, ◌≤◌, List, [], ◌++◌, length, get_or, take, drop, replicate, refl, ap, sym, subst, ◌∙◌, arith, ◌⊎◌, inl, inr, length-take, length-drop}
-use Rattle.std.specs.Prelude.{Option, Some, None, IfSome, ◌≢◌, slice_get, unwrap_or, option_map}
+use Rattle.std.specs.Prelude.{Option, Some, None, IfSome, slice_get}
 use Rattle.std.proofs.lemmas.Bool.{cases_lt}
 use Rattle.std.proofs.lemmas.List.{ext_get_or, length-replicate, drop-drop, drop-take, take-take, get_or_append_left, get_or-append_right, nil_from_length}
 use Rattle.std.specs.Ordering.{nat_cmp}
@@ -8,7 +8,7 @@ use Rattle.std.specs.FinMap as map
 use Rattle.std.specs.FinMap.{FinMap}
 use Rattle.base.specs.declared.pointer.Pointer.{Pointer}
 use Rattle.base.specs.Limits.{object_count, max_length, record_size, pointer_count, entry_count}
-use Rattle.base.specs.Fields.{part, pointer_in, entry_in, no_pointer}
+use Rattle.base.specs.Fields.{part, entry_in}
 use Rattle.base.specs.Geometry.{block_size, IsBlockAddress}
 use Rattle.base.specs.Blocks.{Frame, IsBlock, Opens}
 use Rattle.base.specs.Places.{Place, IsPlace, kind_of, number_of}
@@ -117,7 +117,7 @@ module _ (image other : List ℕ) (frame grown : Frame) (guid_same : grown.guid 
         }
 
     module _ (old new : Place → Pointer) (before after : FinMap nat_cmp (List ℕ)) (holds : HoldsTree image frame old before) (planned : IsTreePlan blocks grown old new before after)
-      (same : (place : Place) → IsPlace place → new place ≡ old place → SameBlock image other (old place)) where
+        (same : (place : Place) → IsPlace place → new place ≡ old place → SameBlock image other (old place)) where
       root-kept : new Root ≡ old Root → ((d : ℕ) → d < pointer_count → new (Directory d) ≡ old (Directory d)) → StandsAt other grown old before Root → StandsAt other grown new after Root
       root-kept top each (inl h) = inl (top ∙ h.0, λ d below. each d below ∙ h.1 d below)
       root-kept top each (inr h) = inr (h.0, subst (λ (p : Pointer). OpensAt other grown Root p h.0) (sym top) h.1, λ d below. h.2 d below ∙ sym (each d below))
@@ -128,13 +128,13 @@ module _ (image other : List ℕ) (frame grown : Frame) (guid_same : grown.guid 
       directory-kept d top each (inl h) = inl (
         top ∙ h.0,
         λ k below. let e = each k below in
-          (absent-stays (map.get before (entry_count * d + k)) (map.get after (entry_count * d + k)) e.1 (h.1 k below).0, e.0 ∙ (h.1 k below).1),
+            (absent-stays (map.get before (entry_count * d + k)) (map.get after (entry_count * d + k)) e.1 (h.1 k below).0, e.0 ∙ (h.1 k below).1),
       )
       directory-kept d top each (inr h) = inr (
         h.0,
         subst (λ (p : Pointer). OpensAt other grown (Directory d) p h.0) (sym top) h.1,
         λ k below. let e = each k below in
-          entry-stays (entry_in h.0 k) (old (Indirect (entry_count * d + k))) (new (Indirect (entry_count * d + k))) (map.get before (entry_count * d + k)) (map.get after (entry_count * d + k)) e.0 e.1 (h.2 k below),
+            entry-stays (entry_in h.0 k) (old (Indirect (entry_count * d + k))) (new (Indirect (entry_count * d + k))) (map.get before (entry_count * d + k)) (map.get after (entry_count * d + k)) e.0 e.1 (h.2 k below),
       )
 
       indirect-kept : (n : ℕ) → new (Indirect n) ≡ old (Indirect n) → ((r : ℕ) → r < pointer_count → new (Data n r) ≡ old (Data n r))

@@ -72,7 +72,7 @@ module _ (image : List ℕ) (frame : Frame) where
   entry-form n entry (Some bytes) h = inr (h.0, subst (λ x. x ≤ max_length) (sym h.1) h.2, object-form n (entry_pointer entry) bytes h.3)
 
   module _ (root : Pointer) (objects : FinMap nat_cmp (List ℕ)) (tree : IsTree image frame root objects) where
-    directory-at : (d : ℕ) → d < pointer_count → IsDirectory image frame d (directory_pointer image root d) objects
+    pub directory-at : (d : ℕ) → d < pointer_count → IsDirectory image frame d (directory_pointer image root d) objects
     directory-at d below =
         elim (tree.directories) as (λ _. IsDirectory image frame d (directory_pointer image root d) objects) [
           | inl h ↦ inl (pointer_below-none root (λ payload. pointer_in payload d) h.0, λ k _. h.1 (entry_count * d + k))

@@ -1,6 +1,6 @@
 -- Operations that create and write leave each record that they don't write, and each object that they are not on.
 use Rattle.std.proofs.Common.{◌≡◌, ℕ, ◌≢◌, ◌+◌, ◌-◌, ◌*◌, ◌<◌, ◌≤◌, List, [], ◌∷◌, ◌++◌, length, get_or, drop, replicate, Option, Some, None, Result, Ok, refl, ap, sym, ◌∙◌, subst, arith, inl, inr, ◌⊎◌, Bool, true, false, length-append, length-take}
-use Rattle.std.specs.Prelude.{All, option_map, unwrap_or, ◌==◌, ◌&&◌, nat_lt}
+use Rattle.std.specs.Prelude.{All, option_map, ◌==◌, ◌&&◌, nat_lt}
 use Rattle.std.proofs.lemmas.Bool.{cases_eq, cases_lt, eq-eqb, lt-ltb, and_from, true≢false}
 use Rattle.std.proofs.lemmas.List.{ext_get_or, length-replicate, get_or-take, get_or-drop, get_or_append_left, get_or-append_right, get_or_past}
 use Rattle.std.proofs.lemmas.List.Elements.{All-head, All-tail}
@@ -46,7 +46,7 @@ get_or-padded : (size : ℕ) (xs : List ℕ) (k : ℕ) → get_or (xs ++ replica
 get_or-padded size xs k = elim (cases_lt k (length xs)) as (λ _. get_or (xs ++ replicate (size - length xs) 0) k 0 ≡ get_or xs k 0) [
   | inl before ↦ get_or_append_left xs (replicate (size - length xs) 0) 0 k before
   | inr behind ↦ get_or-append_right xs (replicate (size - length xs) 0) (length xs) k 0 refl behind
-    ∙ get_or-zeros (size - length xs) (k - length xs) ∙ sym (get_or_past xs k 0 behind)
+      ∙ get_or-zeros (size - length xs) (k - length xs) ∙ sym (get_or_past xs k 0 behind)
 ]
 
 length-padded_record : (r : ℕ) (bytes : List ℕ) → length (padded_record r bytes) ≡ record_size
@@ -73,7 +73,7 @@ write-apart r offset count untouched = elim (cases_lt offset (record_size * (r +
   | inl low ↦ elim (cases_lt (record_size * r) (offset + count)) [
     | inr before ↦ inr before
     | inl high ↦ absurd (true≢false (sym (and_from (nat_lt offset (record_size * (r + 1))) (nat_lt (record_size * r) (offset + count))
-      (lt-ltb offset (record_size * (r + 1)) low) (lt-ltb (record_size * r) (offset + count) high)) ∙ untouched))
+        (lt-ltb offset (record_size * (r + 1)) low) (lt-ltb (record_size * r) (offset + count) high)) ∙ untouched))
   ]
 ]
 
@@ -112,7 +112,7 @@ stays-written r offset new untouched (Some x) p h =
     ((untouched-record r offset new x untouched, omega (arith, length-bytes_after_write offset new x)), λ e. absurd (let no_way : Some (bytes_after_write offset new x) ≡ None = e in cc))
 
 -- what a step on one object leaves of any object
-at_object-leaves : (R : Option (List ℕ) → Option (List ℕ) → Type 0) (m n : ℕ) (f : Option (List ℕ) → Result (Option (List ℕ)) PoolError) (c d : Contents) → at_object m f c ≡ Ok d
+pub at_object-leaves : (R : Option (List ℕ) → Option (List ℕ) → Type 0) (m n : ℕ) (f : Option (List ℕ) → Result (Option (List ℕ)) PoolError) (c d : Contents) → at_object m f c ≡ Ok d
     → ((o : Option (List ℕ)) → R o o) → (m ≡ n → (o p : Option (List ℕ)) → f o ≡ Ok p → R o p) → R (map.get c.objects n) (map.get d.objects n)
 at_object-leaves R m n f c d h same each = go (cases_eq m n) (reached m f c d h)
   where

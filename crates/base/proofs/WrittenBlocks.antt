@@ -1,5 +1,5 @@
 -- Blocks of the area that are written one after another: each stands, and every other block is the same.
-use Rattle.std.proofs.Common.{◌≡◌, ℕ, zero, suc, ◌+◌, ◌*◌, ◌<◌, ◌≤◌, List, [], ◌∷◌, ◌++◌, length, get_or, take, refl, ap, sym, subst, ◌∙◌, arith, inl, inr}
+use Rattle.std.proofs.Common.{◌≡◌, ℕ, zero, suc, Bool, true, ◌+◌, ◌*◌, ◌<◌, ◌≤◌, List, [], ◌∷◌, ◌++◌, length, take, refl, ap, sym, subst, ◌∙◌, arith, inl, inr}
 use Rattle.std.specs.Prelude.{Some, None, ◌≢◌, slice_get}
 use Rattle.std.proofs.lemmas.Bool.{cases_lt}
 use Rattle.std.specs.Ordering.{nat_cmp}
@@ -11,12 +11,13 @@ use Rattle.base.specs.Fields.{part, no_pointer}
 use Rattle.base.specs.Geometry.{block_area, block_size, block_address, IsBlockAddress}
 use Rattle.base.specs.Blocks.{Frame}
 use Rattle.base.specs.Disk.{put, SameOutside, IsInRange}
-use Rattle.base.specs.Places.{Place, IsPlace}
-use Rattle.base.specs.PlacedTrees.{HoldsTree, IsPlaced, ArePlaced}
+use Rattle.base.specs.Places.{Place, IsPlace, IsInTree}
+use Rattle.base.specs.Places.Place.{Root}
+use Rattle.base.specs.PlacedTrees.{HoldsTree, ArePlaced}
 use Rattle.base.specs.PlannedTrees.{NewBlock, IsTreePlan, SameBlock, StandsIn}
 use Rattle.base.proofs.Put.{Apart, length-put, part-put_same, part-put_apart, part_same}
-use Rattle.base.proofs.PlacedTrees.{holds-placed}
-use Rattle.base.proofs.PlannedTrees.{planned-holds}
+use Rattle.base.proofs.PlacedTrees.{holds-placed, told-in_tree}
+use Rattle.base.proofs.PlannedTrees.{holds-elsewhere, planned-holds}
 
 -- the bytes with these blocks written over them, the first one first
 abbrev pub put_blocks : List NewBlock → List ℕ → List ℕ
@@ -65,6 +66,24 @@ rising-apart bs rising i j b c at_i at_j same = elim (cases_lt i j) as (λ _. i 
 -- a block is the same in an image that differs elsewhere alone
 pub same-outside : (Region : ℕ → Type 0) (base image : List ℕ) (place n : ℕ) → SameOutside Region base image → ((i : ℕ) → IsInRange place n i → Region i → ⊥) → part image place n ≡ part base place n
 same-outside Region base image place n same out = part_same image base place n same.size (λ i from to. same.others i (out i (from, to)))
+
+-- so is each block of a tree, and the tree with them, where the region has no byte of one
+pub blocks-same : (Region : ℕ → Type 0) (base image : List ℕ) (pointers : Place → Pointer) → SameOutside Region base image
+    → ((place : Place) → IsPlace place → pointers place ≢ no_pointer → (i : ℕ) → IsInRange (pointers place).address block_size i → Region i → ⊥)
+    → (place : Place) → IsPlace place → SameBlock base image (pointers place)
+blocks-same Region base image pointers same out place in_range some =
+    same-outside Region base image (pointers place).address block_size same (out place in_range some)
+
+pub holds-outside : (Region : ℕ → Type 0) (base image : List ℕ) (frame : Frame) (pointers : Place → Pointer) (objects : FinMap nat_cmp (List ℕ)) → HoldsTree base frame pointers objects → SameOutside Region base image
+    → ((place : Place) → IsPlace place → pointers place ≢ no_pointer → (i : ℕ) → IsInRange (pointers place).address block_size i → Region i → ⊥) → HoldsTree image frame pointers objects
+holds-outside Region base image frame pointers objects holds same out =
+    holds-elsewhere base image frame frame refl refl (omega arith) pointers objects holds (blocks-same Region base image pointers same out)
+
+-- free addresses, of which none is in the old tree, are apart from it
+pub free-leaves_tree : (image : List ℕ) (frame : Frame) (old : Place → Pointer) (before : FinMap nat_cmp (List ℕ)) (is_free : ℕ → Bool) (bs : List NewBlock) → HoldsTree image frame old before
+    → ((address : ℕ) → is_free address ≡ true → IsInTree image (old Root) address → ⊥) → ((i : ℕ) (b : NewBlock) → slice_get bs i ≡ Some b → is_free b.address ≡ true) → LeavesTree bs old
+free-leaves_tree image frame old before is_free bs holds not_in_tree free place in_range some i b at same =
+    not_in_tree b.address (free i b at) (subst (λ (a : ℕ). IsInTree image (old Root) a) (sym same) (told-in_tree image frame old before holds place in_range some))
 
 module _ (blocks : ℕ) where
   rest-are : (b : NewBlock) (bs : List NewBlock) → AreBlocks blocks (b ∷ bs) → AreBlocks blocks bs
@@ -133,19 +152,25 @@ module _ (blocks : ℕ) where
     | inr is ↦ others-same bs image (old place).address are room is (leaves place in_range some)
   ]
 
-  -- also in an image that differs in bytes of these blocks alone, as a crash may leave it
+  -- no byte of a block is in blocks that are at other addresses
+  unwritten-out : (bs : List NewBlock) (address : ℕ) → AreBlocks blocks bs → IsUnwritten bs address → IsBlockAddress blocks address → (i : ℕ) → IsInRange address block_size i → IsInBlocks bs i → ⊥
+  unwritten-out bs address are unwritten is i here (j, b, at, there) = elim (blocks-apart blocks b.address address (are.in_area j b at) is (unwritten j b at)) [
+    | inl before ↦ let from = here.0 in let to = there.1 in omega (arith, from, to, before)
+    | inr behind ↦ let to = here.1 in let from = there.0 in omega (arith, from, to, behind)
+  ]
+
+  -- no byte of a tree is in blocks that are at none of its addresses
+  pub tree-out : (old : Place → Pointer) (bs : List NewBlock) → ArePlaced blocks old → LeavesTree bs old → AreBlocks blocks bs
+      → (place : Place) → IsPlace place → old place ≢ no_pointer → (i : ℕ) → IsInRange (old place).address block_size i → IsInBlocks bs i → ⊥
+  tree-out old bs placed leaves are place in_range some i here written = elim (placed place in_range) [
+    | inl none ↦ some none
+    | inr is ↦ unwritten-out bs (old place).address are (leaves place in_range some) is i here written
+  ]
+
+  -- so it is also the same in an image that differs in bytes of these blocks alone, as a crash may leave it
   pub tree-same_outside : (old : Place → Pointer) (bs : List NewBlock) (base image : List ℕ) → ArePlaced blocks old → LeavesTree bs old → AreBlocks blocks bs → SameOutside (IsInBlocks bs) base image
       → (place : Place) → IsPlace place → SameBlock base image (old place)
-  tree-same_outside old bs base image placed leaves are same place in_range some = elim (placed place in_range) as (λ _. part image (old place).address block_size ≡ part base (old place).address block_size) [
-    | inl none ↦ absurd (some none)
-    | inr is ↦ same-outside (IsInBlocks bs) base image (old place).address block_size same (λ i here written. apart-at i here written (leaves place in_range some) is)
-  ]
-    where
-      apart-at : (i : ℕ) → IsInRange (old place).address block_size i → IsInBlocks bs i → IsUnwritten bs (old place).address → IsBlockAddress blocks (old place).address → ⊥
-      apart-at i here (j, b, at, there) unwritten is = elim (blocks-apart blocks b.address (old place).address (are.in_area j b at) is (unwritten j b at)) [
-        | inl before ↦ let from = here.0 in let to = there.1 in omega (arith, from, to, before)
-        | inr behind ↦ let to = here.1 in let from = there.0 in omega (arith, from, to, behind)
-      ]
+  tree-same_outside old bs base image placed leaves are same = blocks-same (IsInBlocks bs) base image old same (tree-out old bs placed leaves are)
 
 -- one block more
 pub put_blocks-push : (bs : List NewBlock) (b : NewBlock) (image : List ℕ) → put_blocks (bs ++ b ∷ []) image ≡ put b.address b.content (put_blocks bs image)
