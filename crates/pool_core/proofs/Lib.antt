@@ -11,3 +11,5 @@ pub mod Opens
 pub mod RepliedSteps
 pub mod ExplainedRuns
 pub mod Starts
+pub mod SyncSteps
+pub mod FreeBlocks

@@ -1,12 +1,29 @@
 -- A sync that goes on as it was.
-use Rattle.std.proofs.Common.{◌≡◌, ◌<◌, vec_len, ap, arith}
-use Rattle.std.specs.Prelude.{Some}
+use Rattle.std.proofs.Common.{◌≡◌, ◌∙◌, ◌<◌, ◌+◌, ◌-◌, ◌⊎◌, inl, inr, ℕ, false, map, vec_len, ap, sym, subst, arith}
+use Rattle.std.proofs.Math.Logic.{∥∥₁_map}
+use Rattle.std.proofs.lemmas.Bool.{cases_lt, true≢false}
+use Rattle.std.specs.Prelude.{Option, Some, is_some}
+use Rattle.std.specs.Global.{Vec}
+use Rattle.base.specs.declared.error.PoolError.{PoolError}
+use Rattle.base.specs.declared.error.PoolError.TheVariants as error
+use Rattle.base.specs.declared.pointer.Pointer.{Pointer}
+use Rattle.base.specs.Geometry.{block_address}
+use Rattle.base.specs.SyncOrder.{DeviceCall}
+use Rattle.base.specs.SyncOrder.DeviceCall.{Block, Config, Uberblock, Flush}
+use Rattle.sync.specs.Calls.{refusal_of}
+use Rattle.tree_plans.specs.declared.planner.PlannedBlock.{PlannedBlock}
+use Rattle.base.specs.Places.{IsPlace, Place}
+use Rattle.base.specs.PlacedTrees.{ArePlaced, IsPlaced}
 use Rattle.sync.specs.declared.run.SyncRun.{SyncRun}
 use Rattle.pool_core.specs.declared.pool.RunningSync.{RunningSync}
 use Rattle.sync.specs.Runs.{SameSync, call_count, other_calls}
 
 pub same_count : (old new : SyncRun) → SameSync old new → call_count new ≡ call_count old
 same_count old new same = omega (arith, ap vec_len same.blocks, ap other_calls same.stages)
+
+-- the sync that is kept
+pub kept_sync : (a b : RunningSync) → Some a ≡ Some b → a ≡ b
+kept_sync a b e = cc
 
 -- the run of the sync that is kept
 pub kept_run : (a b : RunningSync) → Some a ≡ Some b → a.run ≡ b.run
@@ -15,3 +32,45 @@ kept_run a b e = let inner : a ≡ b = cc in ap (λ (r : RunningSync). r.run) in
 -- a sync whose next call was refused has as many left
 pub left_as_before : (old new : SyncRun) → SameSync old new → new.done ≡ old.done → old.done < call_count old → new.done < call_count new
 left_as_before old new same done left = let count = same_count old new same in omega arith
+
+-- there is none where none runs
+pub none_running : (sync : Option RunningSync) (r : RunningSync) → is_some sync ≡ false → sync ≡ Some r → ⊥
+none_running sync r none is = true≢false (ap (λ (o : Option RunningSync). is_some o) (sym is) ∙ none)
+
+-- pointers that are told otherwise are placed as well
+pub placed_after : (blocks : ℕ) (old new : Place → Pointer) → ((place : Place) → IsPlace place → new place ≡ old place) → ∥ ArePlaced blocks old ∥₁ → ∥ ArePlaced blocks new ∥₁
+placed_after blocks old new same placed =
+    ∥∥₁_map {A = ArePlaced blocks old} {B = ArePlaced blocks new} placed (λ at. λ place is. subst (IsPlaced blocks) (sym (same place is)) (at place is))
+
+-- after a call that was made one less is left
+pub one_less : (old new : SyncRun) → SameSync old new → new.done ≡ old.done + 1 → call_count new - new.done ≡ call_count old - old.done - 1
+one_less old new same done = let count = same_count old new same in omega arith
+
+-- after a refused one as many
+pub as_many : (old new : SyncRun) → SameSync old new → new.done ≡ old.done → call_count new - new.done ≡ call_count old - old.done
+as_many old new same done = let count = same_count old new same in omega arith
+
+-- where it was not the last one there is one more
+pub more_left : (old new : SyncRun) → SameSync old new → new.done ≡ old.done + 1 → old.done < call_count old → (new.done ≡ call_count new → ⊥)
+    → (1 < call_count old - old.done) × (new.done < call_count new)
+more_left old new same done left not_last =
+    let count = same_count old new same in
+    elim (cases_lt (old.done + 1) (call_count old)) as (λ _. (1 < call_count old - old.done) × (new.done < call_count new)) [
+      | inl low ↦ (omega arith, omega arith)
+      | inr high ↦ let last : new.done ≡ call_count new = omega arith in absurd (not_last last)
+    ]
+
+-- and where it was, one was left
+pub one_left : (old new : SyncRun) → SameSync old new → new.done ≡ old.done + 1 → new.done ≡ call_count new → call_count old - old.done ≡ 1
+one_left old new same done last = let count = same_count old new same in omega arith
+
+-- the blocks that it writes lie where they did
+pub same_taken : (old new : SyncRun) → SameSync old new → map (λ (b : PlannedBlock). block_address b.index) new.blocks.items ≡ map (λ (b : PlannedBlock). block_address b.index) old.blocks.items
+same_taken old new same = ap (λ (v : Vec PlannedBlock). map (λ (b : PlannedBlock). block_address b.index) v.items) same.blocks
+
+-- a call is refused as a write or as a flush
+pub refused_as : (call : DeviceCall) (e : PoolError) → e ≡ refusal_of call → (e ≡ error.Write) ⊎ (e ≡ error.Flush)
+refused_as (Block k) e is = inl is
+refused_as (Config l) e is = inl is
+refused_as (Uberblock l) e is = inl is
+refused_as Flush e is = inr is

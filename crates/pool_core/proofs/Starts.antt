@@ -1,39 +1,47 @@
 -- A sync that starts, step by step.
-use Rattle.std.proofs.Common.{ℕ, ◌≡◌, ◌+◌, ◌<◌, ◌×◌, Bool, true, false, not, ◌&&◌, ◌||◌, cond, List, [], ◌∷◌, ◌++◌, map, length, nat_lt, refl, ap, sym, subst, ◌∙◌, ◌⊎◌, inl, inr, arith, All}
-use Rattle.std.specs.Prelude.{Some, None, Ok, Err, filter, ◌==◌, is_some, is_none, take, IfSome, unwrap_or}
+use Rattle.std.proofs.Common.{ℕ, ◌≡◌, ◌+◌, ◌<◌, Bool, true, false, not, ◌&&◌, ◌||◌, cond, List, [], ◌∷◌, ◌++◌, map, length, nat_lt, refl, ap, sym, subst, ◌∙◌, ◌⊎◌, inl, inr, arith, take, All}
+use Rattle.std.specs.Prelude.{Option, Some, None, Ok, Err, filter, find, ◌==◌, is_some, is_none, IfSome, option_map, unwrap_or, if◌then◌else◌}
 use Rattle.std.specs.List.{list_any, enumerate_from, flat_map}
 use Rattle.std.specs.FinSet as set
-use Rattle.std.proofs.lemmas.Bool.{eqb-true, lt-ltb}
-use Rattle.std.proofs.lemmas.List.Elements.{All-head, All-tail}
+use Rattle.std.proofs.lemmas.Bool.{eqb-true, false≢true, lt-ltb, true≢false}
+use Rattle.std.proofs.lemmas.List.{length-map}
+use Rattle.std.proofs.lemmas.List.Elements.{All-cons, All-head, All-tail}
 use Rattle.std.proofs.lemmas.List.Folds.{list_any-append}
 use Rattle.base.specs.declared.error.PoolError.{PoolError}
 use Rattle.base.specs.declared.error.PoolError.TheVariants as error
 use Rattle.base.specs.declared.operation.Op.{Op}
 use Rattle.base.specs.ExactNow.{IsExplainedNow}
-use Rattle.base.specs.Groups.{Line, IsLine}
+use Rattle.base.specs.Groups.{Line, Middle, IsLine, before_middle}
 use Rattle.base.specs.History.{Entry, entries_in}
-use Rattle.base.specs.Logs.{pending_records}
+use Rattle.base.specs.Logs.{KeptBlock, committed_of, has_record, header_at, header_for, reaches_above}
 use Rattle.base.specs.Past.{Past}
 use Rattle.base.specs.Records.{Record}
 use Rattle.base.specs.Refusals.{quiesced_group, start_refusal}
 use Rattle.base.specs.Shown.{Shown, SyncPlan}
 use Rattle.base.specs.Stage.{StartSync}
-use Rattle.base.specs.Steps.{lowest_free, ops_of_group, State}
-use Rattle.base.specs.Syncs.{is_rename}
+use Rattle.base.specs.Steps.{IsPlanned, lowest_free, ops_of_group, State}
+use Rattle.base.specs.Syncs.{is_rename, other_step_count}
 use Rattle.base.proofs.KeptGroups.{quiesced_is}
+use Rattle.base.specs.Rising.{rising}
+use Rattle.space.specs.FreeSets.{addresses_from, free_of}
+use Rattle.space.proofs.FreeLists.{rising-free_of}
+use Rattle.tree_plans.specs.declared.planner.Committed.{Committed}
+use Rattle.tree_plans.specs.declared.planner.PlannedBlock.{PlannedBlock}
+use Rattle.pool_core.specs.Areas.{address_of}
 use Rattle.pool_core.specs.Lines.{MayNotStart}
 use Rattle.pool_core.specs.Meets.{MeetsExplained}
+use Rattle.pool_core.specs.Shows.{record_of as shown_record}
 
 -- no operation of a record gives a new name
 abbrev pub HasNoName : Record → Type 0
 HasNoName r = list_any is_rename r.ops ≡ false
 
+abbrev record_of : ℕ × Entry → Record
+record_of p = record { group = p.1.group; ordinal = p.0; ops = p.1.ops }
+
 module _ (synced group : ℕ) (below : synced < group) where
   abbrev is_above : Record → Bool
   is_above r = nat_lt synced r.group && not false
-
-  abbrev record_of : ℕ × Entry → Record
-  record_of p = record { group = p.1.group; ordinal = p.0; ops = p.1.ops }
 
   tail_of : (b : Bool) (r : Record) (rs : List Record) → All HasNoName (cond b (r ∷ rs) rs) → All HasNoName rs
   tail_of true r rs h = All-tail HasNoName r rs h
@@ -41,10 +49,7 @@ module _ (synced group : ℕ) (below : synced < group) where
 
   head_of : (b : Bool) (r : Record) (rs : List Record) → b ≡ true → All HasNoName (cond b (r ∷ rs) rs) → HasNoName r
   head_of true r rs is h = All-head HasNoName r rs h
-  head_of false r rs is h = absurd (false_true is)
-    where
-      false_true : false ≡ true → ⊥
-      false_true e = subst (λ b. if b then ⊥ else Unit {0}) e tt
+  head_of false r rs is h = absurd (false≢true is)
 
   -- where the pending records of entries give no new name, no operation of a group above the synced one does
   no_names : (n : ℕ) (entries : List Entry) → All HasNoName (filter is_above (map record_of (enumerate_from n entries))) → list_any is_rename (ops_of_group group entries) ≡ false
@@ -63,13 +68,13 @@ module _ (synced group : ℕ) (below : synced < group) where
 -- a quiesced group is above the synced one
 quiesced_above : (l : Line) (group : ℕ) → IsLine l → is_some l.syncing ≡ false → quiesced_group l ≡ Some group → l.synced < group
 quiesced_above l group x none is =
-    let middle = x.middle _ (quiesced_is l group is) in
+    let middle = subst (λ o. IfSome o (λ (m : Middle). m.group ≡ before_middle l + 1)) (quiesced_is l group is) x.middle in
     let before : unwrap_or l.syncing l.synced ≡ l.synced = no_sync l.syncing none in
     omega (arith, middle, before)
   where
-    no_sync : (o : _) → is_some o ≡ false → unwrap_or o l.synced ≡ l.synced
+    no_sync : (o : Option ℕ) → is_some o ≡ false → unwrap_or o l.synced ≡ l.synced
     no_sync None e = refl
-    no_sync (Some g) e = absurd (subst (λ b. if b then Unit {0} else ⊥) e tt)
+    no_sync (Some g) e = absurd (true≢false e)
 
 pub start_suspended : (s : Shown) (moment : ℕ) → s.suspended ≡ true → MeetsExplained (StartSync ⊥ [] moment) (Err error.Suspended) s s
 start_suspended s moment h = λ past explained. (past, rw h (refl, refl))
@@ -86,3 +91,31 @@ starts s group (h, is, none) = rw (h, is, none) refl
 pub start_wants : (s : Shown) (moment group : ℕ) (e : PoolError) → s.suspended ≡ false → quiesced_group s.line ≡ Some group → is_some s.line.syncing ≡ false → (e ≡ error.NoMemory) ⊎ (e ≡ error.NoSpace)
     → MeetsExplained (StartSync ⊥ [] moment) (Err e) s s
 start_wants s moment group e h is none wants = λ past explained. (past, rw (starts s group (h, is, none)) (wants, refl))
+
+-- a sync that is planned starts, for each past that explains what was shown
+pub start_done : (s n : Shown) (moment group : ℕ) (plan : SyncPlan) → s.suspended ≡ false → quiesced_group s.line ≡ Some group → is_some s.line.syncing ≡ false
+    → All HasNoName s.log.pending → s.log.kept ≡ [] → plan.moment ≡ moment → plan.taken ≡ lowest_free (length plan.taken) s → plan.steps_left ≡ length plan.taken + 6 → plan.header ≡ s.log.next
+    → n ≡ record s { line = record s.line { syncing = Some group; middle = None }; free = set.difference s.free (set.from_list plan.taken); sync = Some plan }
+    → MeetsExplained (StartSync ⊥ [] moment) (Ok group) s n
+start_done s n moment group plan h is none built kept at_moment taken left header same = λ past explained.
+    let above = quiesced_above s.line group explained.exact.groups.line none is in
+    let all_above : List KeptBlock → List Record = λ k. filter (λ (r : Record). nat_lt s.line.synced r.group && not (list_any (λ b. has_record b (committed_of r)) k)) (map record_of (enumerate_from 0 past.entries)) in
+    let pending : s.log.pending ≡ all_above [] = explained.exact.log.pending ∙ ap all_above kept in
+    let names = no_names s.line.synced group above 0 past.entries (subst (All HasNoName) pending built) in
+    let steps : plan.steps_left ≡ length plan.taken + other_step_count (ops_of_group group past.entries) =
+    left ∙ ap (λ b. length plan.taken + (6 + (if b then 6 else 0))) (sym names) in
+    let at : plan.header ≡ header_for group s.log = header ∙ sym (ap (λ k. unwrap_or (option_map header_at (find (reaches_above group) k)) s.log.next) kept) in
+    let planned : IsPlanned (record { shown = s; past = past }) moment group plan = record { moment_is = at_moment; taken = taken; steps = steps; header = at } in
+    (past, rw (starts s group (h, is, none)) (plan, is, planned, (λ never. absurd never), ap (λ (x : Shown). let state : State = record { shown = x; past = past } in state) same))
+
+-- the pending transactions of a pool give no new name
+pub pending_names : (pending : List Committed) → All (λ (c : Committed). list_any is_rename c.ops ≡ false) pending → All HasNoName (map shown_record pending)
+pending_names [] h = λ k d low. absurd (omega (arith, low))
+pending_names (c ∷ cs) h =
+    let Built : Committed → Type 0 = λ (x : Committed). list_any is_rename x.ops ≡ false in
+    All-cons HasNoName (shown_record c) (map shown_record cs) (All-head Built c cs h) (pending_names cs (All-tail Built c cs h))
+
+-- the addresses of planned blocks are the lowest free ones
+pub lowest_taken : (blocks : List PlannedBlock) (flags : List Bool) → map address_of blocks ≡ take (length blocks) (addresses_from 0 flags)
+    → map address_of blocks ≡ take (length (map address_of blocks)) (rising (free_of flags))
+lowest_taken blocks flags taken = taken ∙ sym (ap (λ n. take n (rising (free_of flags))) (length-map blocks address_of) ∙ ap (take (length blocks)) (rising-free_of flags))

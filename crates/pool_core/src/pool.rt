@@ -1,6 +1,6 @@
 //! A pool without its device, and each of its steps.
 
-ghost use Rattle.std.specs.Prelude.{◌≡◌, ◌<◌, ◌+◌, ◌-◌, ◌≤◌, ◌^◌, ◌||◌, ◌⊎◌, [], All, IfErr, IfOk, IfSome, IsTrue, MatchResult, None, OnOk, Some, false, filter, is_some, map, nat_le, nat_lt, not, option_map, take, true, vec_len};
+ghost use Rattle.std.specs.Prelude.{◌≡◌, ◌<◌, ◌+◌, ◌-◌, ◌≤◌, ◌^◌, ◌||◌, ◌⊎◌, [], All, IfErr, IfOk, IfSome, IsTrue, MatchResult, None, OnOk, Some, false, filter, is_some, length, map, nat_le, nat_lt, not, option_map, take, true, vec_len};
 ghost use Rattle.std.specs.FinSet as set;
 ghost use Rattle.std.proofs.Props.{props};
 ghost use Rattle.std.specs.List.{list_all, list_any};
@@ -419,7 +419,7 @@ impl Pool {
 
     fn plan_group(&self, group: Group) -> Result<TreePlan, PoolError>
         ensures within { IfOk result (λ p. All (λ (b : PlannedBlock). b.index < block_count self.now.geometry) p.blocks.items) }
-        ensures taken { IfOk result (λ p. map address_of p.blocks.items ≡ take (vec_len p.blocks) (addresses_from 0 self.now.free.flags.items)) }
+        ensures taken { IfOk result (λ p. map address_of p.blocks.items ≡ take (length p.blocks.items) (addresses_from 0 self.now.free.flags.items)) }
         ensures freed { IfOk result (λ p. All (λ address. is_block_of (block_count self.now.geometry) address ≡ true) p.freed.items) }
         ensures placed { IfOk result (λ p. ∥ ArePlaced (block_count self.now.geometry) (pointers_after p.root p.directories.items p.maps self.now.tree) ∥₁) }
         ensures refused { IfErr result (λ e. (e ≡ PoolError.NoMemory) ⊎ (e ≡ PoolError.NoSpace)) }
@@ -588,9 +588,7 @@ fn give_all(free: &mut FreeSet, geometry: Geometry, addresses: &[u64])
     ensures free { free_of free.new.flags.items ≡ set.union (free_of free.old.flags.items) (set.from_list addresses.now) }
 {
     for address in addresses {
-        if geometry.is_block_address(*address) {
-            free.give(geometry.block_index(*address) as usize);
-        }
+        free.give(geometry.block_index(*address) as usize);
     }
 }
 

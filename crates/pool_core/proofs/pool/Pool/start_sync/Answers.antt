@@ -1,55 +1,66 @@
-use Rattle.std.proofs.Common.{rules, ◌≡◌, ◌<◌, ◌+◌, ◌-◌, ◌≤◌, ◌^◌, ◌||◌, ◌⊎◌, [], All, IfErr, IfOk, IfSome, IsTrue, MatchResult, None, OnOk, Some, false, filter, is_some, map, nat_le, nat_lt, not, option_map, take, true, vec_len, ℕ, ◌*◌, length, ◌/◌, ◌%◌, Bool, nat_eq, List, ◌∷◌, ◌++◌, slice_index_or, bit_and, bit_or, Fits, w8, w32, w64, Bor, MutBor}
+use Rattle.std.proofs.Common.{ℕ, ◌≡◌, ◌<◌, ◌∙◌, ap, sym, subst, refl, map, List, Some, None}
 use Rattle.std.specs.FinSet as set
-use Rattle.std.proofs.Props.{props}
-use Rattle.std.specs.List.{list_all, list_any}
-use Rattle.std.specs.Option.{ForSome}
-use Rattle.base.specs.declared.names.Receipt.{Receipt}
-use Rattle.base.specs.Fields.{part}
+use Rattle.std.proofs.lemmas.Result.{err_from_is_err_and}
 use Rattle.base.specs.Geometry.{block_count}
-use Rattle.base.specs.Limits.{last_number, max_transactions, name_number, object_count}
-use Rattle.base.specs.Locks as held
-use Rattle.base.specs.Stage as stage
-use Rattle.base.specs.Steps as steps
+use Rattle.base.specs.Groups.{Line}
 use Rattle.base.specs.PlacedTrees.{ArePlaced}
-use Rattle.base.specs.Places.{IsPlace, Place}
-use Rattle.base.specs.Refusals.{is_lock_in_use, object_range}
-use Rattle.base.specs.Stage.{has_older_group, is_plan_built}
-use Rattle.base.specs.Syncs.{is_rename}
-use Rattle.pool_core.specs.Areas.{address_of, is_block_of}
-use Rattle.pool_core.specs.Numbers.{IsGroup}
-use Rattle.pool_core.specs.Pointers.{pointers_after}
-use Rattle.space.specs.FreeSets.{addresses_from, free_of}
-use Rattle.object_maps.specs.Pointers.{pointers_of}
-use Rattle.tree_plans.specs.declared.planner.Committed.{Committed}
-use Rattle.object_maps.specs.Ops.{AreOpsAllowed}
 use Rattle.sync.specs.Runs.{call_count}
 use Rattle.tree_plans.specs.declared.planner.PlannedBlock.{PlannedBlock}
-use Rattle.pool_core.specs.declared.transactions.OpenTransaction.{OpenTransaction}
-use Rattle.pool_core.specs.Calls.{CallsNext}
-use Rattle.pool_core.specs.Lines.{MayNotStart, MayStart, line_of}
-use Rattle.pool_core.specs.Meets.{MayCommit, Meets, MeetsExplained}
-use Rattle.pool_core.specs.Progresses.{progress_of}
-use Rattle.pool_core.specs.Shows.{grant_of, new_plan, plan_of, shown_after_tree, shown_of}
-use Rattle.pool_core.specs.Tables.{result_map}
-use Rattle.pool_core.specs.Targets.{kept_range_of}
+use Rattle.pool_core.specs.declared.pool.RunningSync.{RunningSync}
+use Rattle.pool_core.specs.Areas.{address_of}
+use Rattle.pool_core.specs.Pointers.{pointers_after}
+use Rattle.pool_core.specs.Shows.{new_plan, shown_of}
+use Rattle.pool_core.proofs.SameSyncs.{kept_sync}
+use Rattle.pool_core.proofs.Starts.{lowest_taken, pending_names, start_done, start_not_ready, start_suspended, start_wants}
 use Rattle.pool_core.proofs.pool.Pool.start_sync.Goals as goal
 
--- src/pool.rt:400:9
 pub returns-in_err-check_running-clause-step : goal.returns-in_err-check_running-clause-step
-returns-in_err-check_running-clause-step c = ?
+returns-in_err-check_running-clause-step c =
+    let p = err_from_is_err_and c.from_residual.result c.from_residual.ensures.1 in
+    let told = c.in_err-check_running.ensures in
+    rw (p.1, p.2, told.0) (start_suspended (shown_of c.args.self.now) c.args.moment told.1)
 
--- src/pool.rt:401:21
 pub returns-in_err-group-clause-step : goal.returns-in_err-group-clause-step
-returns-in_err-group-clause-step c = ?
+returns-in_err-group-clause-step c =
+    let p = err_from_is_err_and c.from_residual-in_err-group.result c.from_residual-in_err-group.ensures.1 in
+    let told = c.in_err-group.ensures.may in
+    rw (p.1, p.2, told.0) (start_not_ready (shown_of c.args.self.now) c.args.moment c.in_ok-check_running.ensures told.1)
 
--- src/pool.rt:402:23
 pub returns-in_err-planned-clause-step : goal.returns-in_err-planned-clause-step
-returns-in_err-planned-clause-step c = ?
+returns-in_err-planned-clause-step c =
+    let p = err_from_is_err_and c.from_residual-in_err-planned.result c.from_residual-in_err-planned.ensures.1 in
+    let may = c.in_ok-group.ensures.may in
+    rw (p.1, p.2) (start_wants (shown_of c.args.self.now) c.args.moment c.in_ok-group.group.0 c.in_err-planned.field-0.0 c.in_ok-check_running.ensures may.0 may.1 c.in_err-planned.ensures.refused)
 
--- src/pool.rt:405:9
 pub invariant_of-self-2 : goal.invariant_of-self-2
-invariant_of-self-2 c = ?
+invariant_of-self-2 c =
+    let pool = c.args.self.now in
+    let rs = c.running_sync.result in
+    let ens = c.running_sync.ensures in
+    record {
+      free_sized = c.take_all.ensures.count ∙ pool.free_sized;
+      import_fits = pool.import_fits;
+      next_tx_fits = pool.next_tx_fits;
+      next_ordinal_fits = pool.next_ordinal_fits;
+      plans_built = pool.plans_built;
+      running = λ x e. let same = kept_sync rs x e in (
+        ap (λ (r : RunningSync). r.run.geometry) (sym same) ∙ ens.geometry,
+        subst (λ (r : RunningSync). r.run.done < call_count r.run) same ens.left,
+      );
+      planned = λ x e. subst (λ (r : RunningSync). ∥ ArePlaced (block_count pool.geometry) (pointers_after r.root r.directories.items r.maps pool.tree) ∥₁) (kept_sync rs x e)
+          (rw (ens.root, ens.directories, ens.maps) c.in_ok-planned.ensures.placed);
+      sync_line = ap (λ (g : _). Some g.0) ens.group ∙ sym (ap (λ (l : Line). l.syncing) c.start_sync.ensures);
+      pending_built = pool.pending_built;
+      tree_placed = pool.tree_placed;
+    }
 
--- src/pool.rt:396:5
 pub returns-clause-step : goal.returns-clause-step
-returns-clause-step c = ?
+returns-clause-step c =
+    let pool = c.args.self.now in
+    let s = shown_of pool in
+    let blocks : List PlannedBlock = c.in_ok-planned.planned.blocks.items in
+    let plan = new_plan c.args.moment pool.log_address (map address_of blocks) c.in_ok-planned.planned.freed.items c.in_ok-planned.planned.root in
+    let may = c.in_ok-group.ensures.may in
+    start_done s _ c.args.moment c.in_ok-group.group.0 plan c.in_ok-check_running.ensures may.0 may.1 (pending_names pool.pending.items pool.pending_built) refl refl
+    (lowest_taken blocks pool.free.flags.items c.in_ok-planned.ensures.taken) refl refl
+    (rw (c.start_sync.ensures, c.take_all.ensures.free, c.running_sync.ensures.plan) (ap (λ (l : List PlannedBlock). record s { line = record s.line { syncing = Some c.in_ok-group.group.0; middle = None }; free = set.difference s.free (set.from_list (map address_of l)); sync = Some plan }) c.deref.ensures.value))

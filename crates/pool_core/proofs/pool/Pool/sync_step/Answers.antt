@@ -1,18 +1,68 @@
-use Rattle.std.proofs.Common.{◌<◌, ap, sym, subst, ◌∙◌}
-use Rattle.sync.specs.declared.run.SyncRun.{SyncRun}
+use Rattle.std.proofs.Common.{ℕ, ◌≡◌, ◌∙◌, ◌<◌, ◌-◌, ap, map, sym, subst, refl, true, Some, None}
+use Rattle.std.specs.Prelude.{Option, option_map}
+use Rattle.std.proofs.lemmas.Bool.{true≢false}
+use Rattle.std.proofs.lemmas.Result.{err_from_is_err_and}
+use Rattle.base.specs.Geometry.{block_address, block_count}
+use Rattle.tree_plans.specs.declared.planner.PlannedBlock.{PlannedBlock}
+use Rattle.base.specs.Groups.{Line}
+use Rattle.base.specs.PlacedTrees.{ArePlaced}
+use Rattle.base.specs.Shown.{SyncPlan}
 use Rattle.sync.specs.Runs.{call_count}
-use Rattle.pool_core.proofs.SameSyncs.{kept_run, left_as_before}
+use Rattle.pool_core.specs.declared.pool.RunningSync.{RunningSync}
+use Rattle.pool_core.specs.Pointers.{pointers_after}
+use Rattle.pool_core.specs.Shows.{plan_of, shown_of}
+use Rattle.pool_core.proofs.SameSyncs.{as_many, kept_sync, left_as_before, more_left, one_left, one_less, refused_as, same_taken}
+use Rattle.pool_core.proofs.SyncSteps.{step_failed, step_more, step_not_ready, step_suspended, step_synced}
 use Rattle.pool_core.proofs.pool.Pool.sync_step.Goals as goal
+
+pub returns-in_err-check_running-clause-step : goal.returns-in_err-check_running-clause-step
+returns-in_err-check_running-clause-step g c =
+    let p = err_from_is_err_and c.from_residual.result c.from_residual.ensures.1 in
+    let told = c.in_err-check_running.ensures in
+    rw (p.1, p.2, told.0) (step_suspended (shown_of c.args.self.now) told.1)
+
+pub returns-in_default-clause-step : goal.returns-in_default-clause-step
+returns-in_default-clause-step g c =
+    let pool = c.args.self.now in
+    let s = shown_of pool in
+    let none : pool.sync ≡ None = sym c.in_default.ensures.value in
+    let idle = sym pool.sync_line ∙ ap (λ (o : Option RunningSync). option_map (λ (r : RunningSync). r.group.0) o) none in
+    let same : None ≡ s.sync = sym (ap (λ (o : Option RunningSync). option_map (plan_of pool.log_address) o) none) in
+    step_not_ready s _ c.in_ok-check_running.ensures idle (rw c.take.ensures.after (λ k. record s { sync = same k }))
 
 pub next-requires-clause-sized : goal.next-requires-clause-sized
 next-requires-clause-sized g c =
     let was = c.args.self.now.running c.in-Some.running (sym c.in-Some.ensures.value) in
     c.requires ∙ sym was.0
 
+pub invariant_of-self-in-Ok-false : goal.invariant_of-self-in-Ok-false
+invariant_of-self-in-Ok-false g c =
+    let pool = c.args.self.now in
+    let is = sym c.in-Some.ensures.value in
+    let was = pool.running c.in-Some.running is in
+    let told = c.in-Ok-false.ensures in
+    let left = more_left c.in-Some.running.run c.next.new.self told.sync told.done was.1 (λ e. true≢false (sym (told.last.1 e) ∙ c.in-Ok-false.field-0-test)) in
+    record {
+      free_sized = pool.free_sized;
+      import_fits = pool.import_fits;
+      next_tx_fits = pool.next_tx_fits;
+      next_ordinal_fits = pool.next_ordinal_fits;
+      plans_built = pool.plans_built;
+      running = λ x e. let same = kept_sync _ x e in (
+        ap (λ (r : RunningSync). r.run.geometry) (sym same) ∙ told.sync.geometry ∙ was.0,
+        subst (λ (r : RunningSync). r.run.done < call_count r.run) same left.1,
+      );
+      planned = λ x e. subst (λ (r : RunningSync). ∥ ArePlaced (block_count pool.geometry) (pointers_after r.root r.directories.items r.maps pool.tree) ∥₁) (kept_sync _ x e) (pool.planned c.in-Some.running is);
+      sync_line = ap (λ (o : Option RunningSync). option_map (λ (r : RunningSync). r.group.0) o) (sym is) ∙ pool.sync_line;
+      pending_built = pool.pending_built;
+      tree_placed = pool.tree_placed;
+    }
+
 pub invariant_of-self-in-Err : goal.invariant_of-self-in-Err
 invariant_of-self-in-Err g c =
     let pool = c.args.self.now in
-    let was = pool.running c.in-Some.running (sym c.in-Some.ensures.value) in
+    let is = sym c.in-Some.ensures.value in
+    let was = pool.running c.in-Some.running is in
     let told = c.in-Err.ensures in
     let left = left_as_before c.in-Some.running.run c.next.new.self told.sync told.done was.1 in
     record {
@@ -21,8 +71,58 @@ invariant_of-self-in-Err g c =
       next_tx_fits = pool.next_tx_fits;
       next_ordinal_fits = pool.next_ordinal_fits;
       plans_built = pool.plans_built;
-      running = λ x e. let same = kept_run _ x e in (
-        ap (λ (r : SyncRun). r.geometry) (sym same) ∙ told.sync.geometry ∙ was.0,
-        subst (λ (r : SyncRun). r.done < call_count r) same left,
+      running = λ x e. let same = kept_sync _ x e in (
+        ap (λ (r : RunningSync). r.run.geometry) (sym same) ∙ told.sync.geometry ∙ was.0,
+        subst (λ (r : RunningSync). r.run.done < call_count r.run) same left,
       );
+      planned = λ x e. subst (λ (r : RunningSync). ∥ ArePlaced (block_count pool.geometry) (pointers_after r.root r.directories.items r.maps pool.tree) ∥₁) (kept_sync _ x e) (pool.planned c.in-Some.running is);
+      sync_line = ap (λ (o : Option RunningSync). option_map (λ (r : RunningSync). r.group.0) o) (sym is) ∙ pool.sync_line;
+      pending_built = pool.pending_built;
+      tree_placed = pool.tree_placed;
     }
+
+pub returns-in-Ok-true-clause-step : goal.returns-in-Ok-true-clause-step
+returns-in-Ok-true-clause-step g c =
+    let pool = c.args.self.now in
+    let s = shown_of pool in
+    let is = sym c.in-Some.ensures.value in
+    let told = c.in-Ok-true.ensures in
+    let plan : SyncPlan = plan_of pool.log_address c.in-Some.running in
+    let syncing = sym pool.sync_line ∙ ap (λ (o : Option RunningSync). option_map (λ (r : RunningSync). r.group.0) o) is in
+    let running = ap (λ (o : Option RunningSync). option_map (plan_of pool.log_address) o) is in
+    step_synced s _ c.in-Some.running.group.0 c.in-Some.running.group.0 plan c.in_ok-check_running.ensures syncing running
+    (one_left c.in-Some.running.run c.next.new.self told.sync told.done (told.last.0 c.in-Ok-true.field-0-test)) refl refl refl refl
+    (c.finish_tree.ensures.shown ∙ rw (c.finish_sync.ensures, c.take.ensures.after) refl)
+
+pub returns-in-Ok-false-clause-step : goal.returns-in-Ok-false-clause-step
+returns-in-Ok-false-clause-step g c =
+    let pool = c.args.self.now in
+    let s = shown_of pool in
+    let is = sym c.in-Some.ensures.value in
+    let was = pool.running c.in-Some.running is in
+    let told = c.in-Ok-false.ensures in
+    let plan : SyncPlan = plan_of pool.log_address c.in-Some.running in
+    let syncing = sym pool.sync_line ∙ ap (λ (o : Option RunningSync). option_map (λ (r : RunningSync). r.group.0) o) is in
+    let running = ap (λ (o : Option RunningSync). option_map (plan_of pool.log_address) o) is in
+    let left = more_left c.in-Some.running.run c.next.new.self told.sync told.done was.1 (λ e. true≢false (sym (told.last.1 e) ∙ c.in-Ok-false.field-0-test)) in
+    let steps = one_less c.in-Some.running.run c.next.new.self told.sync told.done in
+    let taken = same_taken c.in-Some.running.run c.next.new.self told.sync in
+    step_more s _ c.in-Some.running.group.0 plan c.in_ok-check_running.ensures syncing running left.0
+    (λ k. record s { sync = Some (record plan { steps_left = steps k; taken = taken k }) })
+
+pub returns-in-Err-clause-step : goal.returns-in-Err-clause-step
+returns-in-Err-clause-step g c =
+    let pool = c.args.self.now in
+    let s = shown_of pool in
+    let is = sym c.in-Some.ensures.value in
+    let told = c.in-Err.ensures in
+    let plan : SyncPlan = plan_of pool.log_address c.in-Some.running in
+    let syncing = sym pool.sync_line ∙ ap (λ (o : Option RunningSync). option_map (λ (r : RunningSync). r.group.0) o) is in
+    let running = ap (λ (o : Option RunningSync). option_map (plan_of pool.log_address) o) is in
+    let steps = as_many c.in-Some.running.run c.next.new.self told.sync told.done in
+    let taken = same_taken c.in-Some.running.run c.next.new.self told.sync in
+    let same : Some (record plan { steps_left = call_count c.next.new.self - c.next.new.self.done; taken = map (λ (b : PlannedBlock). block_address b.index) c.next.new.self.blocks.items }) ≡ s.sync =
+    (λ k. Some (record plan { steps_left = steps k; taken = taken k })) ∙ sym running in
+    step_failed s _ c.in-Some.running.group.0 plan c.in-Err.error c.in_ok-check_running.ensures syncing
+    (refused_as told.there.0 c.in-Err.error ((told.count told.there.0 told.there.1).named))
+    (λ k. record s { suspended = true; sync = same k })

@@ -1,0 +1,99 @@
+-- Blocks that are taken from the free ones, or come back to them, one after another.
+use Rattle.std.proofs.Common.{◌≡◌, ℕ, ◌+◌, ◌-◌, ◌*◌, ◌/◌, ◌%◌, ◌<◌, ◌≤◌, Bool, true, false, not, ◌&&◌, ◌||◌, List, [], ◌∷◌, ◌++◌, length, map, take, refl, sym, ◌∙◌, ap, subst, arith, nat_le, nat_lt}
+use Rattle.std.specs.Prelude.{All, get_or, ◌==◌}
+use Rattle.std.specs.List.{list_any}
+use Rattle.std.specs.Ordering.{nat_cmp, eq_by_cmp}
+use Rattle.std.proofs.Math.Nat.{div-add-mod}
+use Rattle.std.proofs.lemmas.List.{take_more, map-append}
+use Rattle.std.proofs.lemmas.List.Folds.{list_any-append}
+use Rattle.std.proofs.lemmas.Cmp.{nat_cmp_total}
+use Rattle.std.proofs.lemmas.Bool.{and_parts, eqb-true, leb-true, ltb-true}
+use Rattle.std.specs.FinSet as set
+use Rattle.std.specs.FinSet.{FinSet, contains-empty, contains-insert, contains-remove, contains-from_list, contains-difference, contains-union, same_set, nat_cmp-IsAntisymmetric}
+use Rattle.base.specs.Geometry.{IsBlockAddress, block_address, block_area, block_size}
+use Rattle.tree_plans.specs.declared.planner.PlannedBlock.{PlannedBlock}
+use Rattle.pool_core.specs.Areas.{address_of, is_block_of}
+
+and_true : (b : Bool) → (b && true) ≡ b
+and_true true = refl
+and_true false = refl
+
+or_false : (b : Bool) → (b || false) ≡ b
+or_false true = refl
+or_false false = refl
+
+pub difference_none : (s : FinSet nat_cmp) → s ≡ set.difference s (set.from_list [])
+difference_none s = same_set nat_cmp_total nat_cmp-IsAntisymmetric _ _ (λ q.
+    sym (contains-difference nat_cmp_total s (set.from_list []) q ∙ ap (λ b. set.contains s q && not b) (contains-empty nat_cmp q) ∙ and_true (set.contains s q)))
+
+pub union_none : (s : FinSet nat_cmp) → s ≡ set.union s (set.from_list [])
+union_none s = same_set nat_cmp_total nat_cmp-IsAntisymmetric _ _ (λ q.
+    sym (contains-union nat_cmp_total s (set.from_list []) q ∙ ap (λ b. set.contains s q || b) (contains-empty nat_cmp q) ∙ or_false (set.contains s q)))
+
+one_more : (xs : List ℕ) (x q : ℕ) → set.contains (set.from_list {R = nat_cmp} (xs ++ x ∷ [])) q ≡ (set.contains (set.from_list {R = nat_cmp} xs) q || eq_by_cmp nat_cmp q x)
+one_more xs x q =
+    contains-from_list nat_cmp_total (xs ++ x ∷ []) q
+    ∙ list_any-append (eq_by_cmp nat_cmp q) xs (x ∷ [])
+    ∙ ap (λ b. list_any (eq_by_cmp nat_cmp q) xs || b) (or_false (eq_by_cmp nat_cmp q x))
+    ∙ sym (ap (λ b. b || eq_by_cmp nat_cmp q x) (contains-from_list nat_cmp_total xs q))
+
+pub difference_more : (s : FinSet nat_cmp) (xs : List ℕ) (x : ℕ) → set.remove (set.difference s (set.from_list xs)) x ≡ set.difference s (set.from_list (xs ++ x ∷ []))
+difference_more s xs x = same_set nat_cmp_total nat_cmp-IsAntisymmetric _ _ (λ q.
+    contains-remove nat_cmp_total (set.difference s (set.from_list xs)) x q
+    ∙ ap (λ b. not (eq_by_cmp nat_cmp q x) && b) (contains-difference nat_cmp_total s (set.from_list xs) q)
+    ∙ turned (eq_by_cmp nat_cmp q x) (set.contains s q) (set.contains (set.from_list {R = nat_cmp} xs) q)
+    ∙ sym (contains-difference nat_cmp_total s (set.from_list (xs ++ x ∷ [])) q ∙ ap (λ b. set.contains s q && not b) (one_more xs x q)))
+  where
+    turned : (e c l : Bool) → (not e && (c && not l)) ≡ (c && not (l || e))
+    turned true true true = refl
+    turned true true false = refl
+    turned true false l = refl
+    turned false true true = refl
+    turned false true false = refl
+    turned false false l = refl
+
+pub union_more : (s : FinSet nat_cmp) (xs : List ℕ) (x : ℕ) → set.insert (set.union s (set.from_list xs)) x ≡ set.union s (set.from_list (xs ++ x ∷ []))
+union_more s xs x = same_set nat_cmp_total nat_cmp-IsAntisymmetric _ _ (λ q.
+    contains-insert nat_cmp_total (set.union s (set.from_list xs)) x q
+    ∙ ap (λ b. eq_by_cmp nat_cmp q x || b) (contains-union nat_cmp_total s (set.from_list xs) q)
+    ∙ turned (eq_by_cmp nat_cmp q x) (set.contains s q) (set.contains (set.from_list {R = nat_cmp} xs) q)
+    ∙ sym (contains-union nat_cmp_total s (set.from_list (xs ++ x ∷ [])) q ∙ ap (λ b. set.contains s q || b) (one_more xs x q)))
+  where
+    turned : (e c l : Bool) → (e || (c || l)) ≡ (c || (l || e))
+    turned true true l = refl
+    turned true false true = refl
+    turned true false false = refl
+    turned false true l = refl
+    turned false false true = refl
+    turned false false false = refl
+
+-- a front of a list is one longer
+pub front_more : {A : Type 0} (xs : List A) (i : ℕ) (x : A) → i < length xs → x ≡ get_or xs i x → take (i + 1) xs ≡ take i xs ++ x ∷ []
+front_more {A} xs i x low is = take_more xs i x low ∙ ap (λ (y : A). take i xs ++ y ∷ []) (sym is)
+
+pub taken_more : (first old new : FinSet nat_cmp) (blocks : List PlannedBlock) (i : ℕ) (b : PlannedBlock) → i < length blocks → b ≡ get_or blocks i b
+    → old ≡ set.difference first (set.from_list (map address_of (take i blocks))) → new ≡ set.remove old (block_address b.index)
+    → new ≡ set.difference first (set.from_list (map address_of (take (i + 1) blocks)))
+taken_more first old new blocks i b low is so_far now =
+    let front : map address_of (take (i + 1) blocks) ≡ map address_of (take i blocks) ++ block_address b.index ∷ [] =
+    ap (map address_of) (front_more blocks i b low is) ∙ map-append address_of (take i blocks) (b ∷ []) in
+    now ∙ ap (λ (s : FinSet nat_cmp). set.remove s (block_address b.index)) so_far
+    ∙ difference_more first (map address_of (take i blocks)) (block_address b.index)
+    ∙ ap (λ (l : List ℕ). set.difference first (set.from_list l)) (sym front)
+
+pub given_more : (first old new : FinSet nat_cmp) (addresses : List ℕ) (i k : ℕ) → i < length addresses → block_address k ≡ get_or addresses i 0
+    → old ≡ set.union first (set.from_list (take i addresses)) → new ≡ set.insert old (block_address k)
+    → new ≡ set.union first (set.from_list (take (i + 1) addresses))
+given_more first old new addresses i k low at so_far now =
+    let a = get_or addresses i 0 in
+    now ∙ (λ j. set.insert (so_far j) (at j)) ∙ union_more first (take i addresses) a ∙ ap (λ (l : List ℕ). set.union first (set.from_list l)) (sym (take_more addresses i 0 low))
+
+-- what passes the test is the address of a block
+pub block_of : (blocks address : ℕ) → is_block_of blocks address ≡ true → IsBlockAddress blocks address
+block_of blocks address h =
+    let outer = and_parts (nat_le block_area address && (((address - block_area) % block_size) == 0)) (nat_lt ((address - block_area) / block_size) blocks) h in
+    let inner = and_parts (nat_le block_area address) (((address - block_area) % block_size) == 0) outer.0 in
+    let above : block_area ≤ address = leb-true block_area address inner.0 in
+    let no_rest : (address - block_area) % block_size ≡ 0 = eqb-true ((address - block_area) % block_size) 0 inner.1 in
+    let parts = div-add-mod (address - block_area) block_size in
+    ((address - block_area) / block_size, ltb-true ((address - block_area) / block_size) blocks outer.1, omega (arith, parts, no_rest))

@@ -1,0 +1,46 @@
+use Rattle.std.proofs.Common.{ℕ, ◌≡◌, ◌∙◌, ap, sym, subst, refl, false, map, nat_lt, true≢false, List, Bool, Some}
+use Rattle.std.specs.Prelude.{filter, is_some}
+use Rattle.std.specs.FinSet as set
+use Rattle.std.specs.List.{list_any}
+use Rattle.std.proofs.lemmas.List.Elements.{All-filter}
+use Rattle.base.specs.Geometry.{block_count}
+use Rattle.base.specs.Places.{IsPlace, Place}
+use Rattle.base.specs.PlacedTrees.{ArePlaced, IsPlaced}
+use Rattle.base.specs.Records.{Record}
+use Rattle.base.specs.Syncs.{is_rename}
+use Rattle.object_maps.specs.Pointers.{pointers_of}
+use Rattle.tree_plans.specs.declared.planner.Committed.{Committed}
+use Rattle.pool_core.specs.declared.pool.RunningSync.{RunningSync}
+use Rattle.pool_core.specs.Pointers.{pointers_after}
+use Rattle.pool_core.specs.Shows.{record_of, shown_of}
+use Rattle.pool_core.proofs.Mapped.{filter-map}
+use Rattle.pool_core.proofs.SameSyncs.{none_running, placed_after}
+use Rattle.pool_core.proofs.pool.Pool.finish_tree.Goals as goal
+
+pub invariant_of-self-3 : goal.invariant_of-self-3
+invariant_of-self-3 c =
+    let pool = c.args.self.now in
+    let later : Committed → Bool = λ (x : Committed). nat_lt c.args.running.group.0 x.group.0 in
+    let Built : Committed → Type 0 = λ (x : Committed). list_any is_rename x.ops ≡ false in
+    record {
+      free_sized = c.give_all.ensures.count ∙ pool.free_sized;
+      import_fits = pool.import_fits;
+      next_tx_fits = pool.next_tx_fits;
+      next_ordinal_fits = pool.next_ordinal_fits;
+      plans_built = pool.plans_built;
+      running = pool.running;
+      planned = λ x e. absurd (none_running pool.sync x c.requires.none e);
+      sync_line = pool.sync_line;
+      pending_built = rw c.drop_synced.ensures (All-filter later Built pool.pending.items pool.pending_built);
+      tree_placed = placed_after (block_count pool.geometry) _ _ c.set_all.ensures.pointers c.requires.placed;
+    }
+
+pub returns-clause-shown : goal.returns-clause-shown
+returns-clause-shown c =
+    let pool = c.args.self.now in
+    let s = shown_of pool in
+    let rs = c.args.running in
+    let later : Record → Bool = λ (r : Record). nat_lt rs.group.0 r.group in
+    let free = c.give_all.ensures.free ∙ ap (λ (l : List ℕ). set.union s.free (set.from_list l)) c.deref.ensures.value in
+    let pending = ap (map record_of) c.drop_synced.ensures ∙ sym (filter-map later record_of pool.pending.items) in
+    rw c.set_all.ensures.root (λ k. record s { free = free k; log = record s.log { pending = pending k }; root = rs.root })
