@@ -1,38 +1,35 @@
--- Steps that keep off the device, one after another, are a run of the definitions.
-use Rattle.std.proofs.Common.{List, [], ◌∷◌, refl}
+-- Steps one after another are a run of the definitions, and keep what a past explains.
+use Rattle.std.proofs.Common.{List, [], ◌∷◌, refl, sym, subst, ap}
 use Rattle.base.specs.declared.step.Step as declared_step
 use Rattle.base.specs.declared.step.Step.TheVariants as step
 use Rattle.base.specs.declared.step.Reply as declared_reply
-use Rattle.base.specs.ExactNow.{IsRun}
+use Rattle.base.specs.ExactNow.{IsExplainedNow}
 use Rattle.base.specs.Past.{Past}
 use Rattle.base.specs.Runs.{Run}
 use Rattle.base.specs.Shown.{Shown}
-use Rattle.base.proofs.KeptTables.{runs_keep_tables}
-use Rattle.pool_core.specs.StepReplies.{Replied, StepReplies}
-use Rattle.pool_core.specs.ExplainedRuns.{AreOffDevice, IsOffDevice, RunsOn}
+use Rattle.base.proofs.KeptTables.{steps_keep_tables}
+use Rattle.pool_core.specs.StepReplies.{IsStep, StepReplies, tells}
+use Rattle.pool_core.specs.ExplainedRuns.{RunsOn}
 
-one_step : (s : declared_step.Step) (r : declared_reply.Reply) (old new : Shown) → IsOffDevice s → StepReplies s r old new → Replied s r old new
-one_step (step.Lock owner n range mode) r old new off h = h
-one_step (step.Unlock owner id) r old new off h = h
-one_step (step.Begin owner plan) r old new off h = h
-one_step (step.Commit tx ops) r old new off h = h
-one_step (step.Read owner n range) r old new off h = h
-one_step step.CloseGroup r old new off h = h
-one_step step.MarkQuiesced r old new off h = h
-one_step (step.StartSync moment) r old new off h = absurd off
-one_step step.SyncStep r old new off h = absurd off
-
-whole_run : (ss : List declared_step.Step) (rs : List declared_reply.Reply) (old new : Shown) → AreOffDevice ss → Run StepReplies ss rs old new
-    → (past : Past) → (later : Past) × IsRun (Unit {0}) ss rs (record { shown = old; past = past }) (record { shown = new; past = later })
-whole_run [] [] old new off same past = (past, rw same refl)
-whole_run (s ∷ ss) (r ∷ rs) old new (o, off) (middle, one, rest) past =
-    let first = one_step s r old middle o one past in
-    let more = whole_run ss rs middle new off rest first.0 in
-    (more.0, (record { shown = middle; past = first.0 }, ([], first.1), more.1))
-whole_run [] (r ∷ rs) old new off h past = absurd h
-whole_run (s ∷ ss) [] old new off h past = absurd h
+-- a step from what a past explains leads to a later past
+one_step : (s : declared_step.Step) (r : declared_reply.Reply) (old new : Shown) → StepReplies s r old new
+    → (past : Past) → IsExplainedNow old past → (later : Past) × IsStep s r (record { shown = old; past = past }) (record { shown = new; past = later })
+one_step (step.Lock owner n range mode) r old new h past explained = h past
+one_step (step.Unlock owner id) r old new h past explained = h past
+one_step (step.Begin owner plan) r old new h past explained = h past
+one_step (step.Commit tx ops) r old new h past explained = h past
+one_step (step.Read owner n range) r old new h past explained = h past
+one_step step.CloseGroup r old new h past explained = h past
+one_step step.MarkQuiesced r old new h past explained = h past
+one_step (step.StartSync moment) r old new h past explained = h past explained
+one_step step.SyncStep r old new h past explained = h past
 
 pub runs_on : (ss : List declared_step.Step) (rs : List declared_reply.Reply) (old new : Shown) → Run StepReplies ss rs old new → RunsOn ss rs old new
-runs_on ss rs old new ran = λ off past.
-    let w = whole_run ss rs old new off ran past in
-    (w.0, w.1, runs_keep_tables (Unit {0}) ss rs (record { shown = old; past = past }) (record { shown = new; past = w.0 }) w.1)
+runs_on [] [] old new same past explained = (past, rw same refl, subst (λ (s : Shown). IsExplainedNow s past) (sym same) explained)
+runs_on (s ∷ ss) (r ∷ rs) old new (middle, one, rest) past explained =
+    let first = one_step s r old middle one past explained in
+    let kept = steps_keep_tables (tells s) [] s r (record { shown = old; past = past }) (record { shown = middle; past = first.0 }) first.1 explained in
+    let more = runs_on ss rs middle new rest first.0 kept in
+    (more.0, (record { shown = middle; past = first.0 }, first.1, more.1), more.2)
+runs_on [] (r ∷ rs) old new h past explained = absurd h
+runs_on (s ∷ ss) [] old new h past explained = absurd h

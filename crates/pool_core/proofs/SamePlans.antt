@@ -1,17 +1,20 @@
 -- Operations that have a plan's shapes, one for one.
-use Rattle.std.proofs.Common.{ℕ, ◌≡◌, ◌<◌, Bool, true, false, List, length, map, get_or, refl, sym, subst, ◌∙◌}
+use Rattle.std.proofs.Common.{ℕ, ◌≡◌, ◌<◌, Bool, true, false, ◌||◌, List, [], ◌∷◌, length, map, get_or, refl, sym, subst, ◌∙◌}
 use Rattle.std.proofs.lemmas.List.{ext_get_or, get_or-map, length-map}
 use Rattle.base.specs.declared.operation.Op.{Op}
 use Rattle.base.specs.declared.operation.Op.TheVariants as op
 use Rattle.base.specs.declared.operation.Shape.{Shape}
 use Rattle.base.specs.declared.operation.Shape.TheVariants as shape
 use Rattle.std.specs.Prelude.{nat_lt}
-use Rattle.std.specs.List.{list_all}
+use Rattle.std.specs.List.{list_all, list_any}
+use Rattle.std.proofs.lemmas.Bool.{false≢true}
+use Rattle.std.proofs.lemmas.List.Elements.{All-head, All-tail}
 use Rattle.std.proofs.lemmas.List.Folds.{list_all_at, list_all-map}
 use Rattle.base.specs.Plans.{shape_of, is_shape_allowed, is_plan_allowed}
 use Rattle.base.specs.Stage.{is_shape_built, is_plan_built}
 use Rattle.base.proofs.CommitOrder.{and-true}
-use Rattle.object_maps.specs.Ops.{AreOpsAllowed}
+use Rattle.base.specs.Syncs.{is_rename}
+use Rattle.object_maps.specs.Ops.{AreOpsAllowed, IsOpAllowed}
 
 abbrev some_op : Op
 some_op = op.Create (record { 0 = 0 })
@@ -43,3 +46,15 @@ allowed_ops ops plan same built =
       each_passes (λ (op : Op). is_shape_built (shape_of op)) ops (sym (list_all-map is_shape_built shape_of ops) ∙ both.1) k d below,
       each_passes (λ (op : Op). is_shape_allowed (shape_of op)) ops (sym (list_all-map is_shape_allowed shape_of ops) ∙ limits.1) k d below,
     )
+
+-- operations that create and write give no new name
+pub built_names : (ops : List Op) → AreOpsAllowed ops → list_any is_rename ops ≡ false
+built_names [] h = refl
+built_names (o ∷ ops) h = by o (All-head IsOpAllowed o ops h).0 (built_names ops (All-tail IsOpAllowed o ops h))
+  where
+    by : (x : Op) → is_shape_built (shape_of x) ≡ true → list_any is_rename ops ≡ false → (is_rename x || list_any is_rename ops) ≡ false
+    by (op.Create n) built rest = rest
+    by (op.Remove n) built rest = rest
+    by (op.Write n offset bytes) built rest = rest
+    by (op.SetLength n new) built rest = rest
+    by (op.SetName bytes) built rest = absurd (false≢true built)

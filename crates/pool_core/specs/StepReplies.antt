@@ -1,17 +1,35 @@
--- Steps and their replies, as far as it is stated yet what a step makes of a pool.
-use Rattle.std.specs.Prelude.{ℕ, ◌≡◌, List, []}
+-- Steps and their replies.
+use Rattle.std.specs.Prelude.{[]}
 use Rattle.base.specs.declared.step.Step as declared_step
 use Rattle.base.specs.declared.step.Step.TheVariants as step
 use Rattle.base.specs.declared.step.Reply as declared_reply
+use Rattle.base.specs.ExactNow.{IsExplainedNow}
 use Rattle.base.specs.Past.{Past}
 use Rattle.base.specs.Runs as runs
 use Rattle.base.specs.Shown.{Shown}
+use Rattle.base.specs.Steps.{State}
+
+-- over what a step is told: a start of a sync says nothing yet of the blocks that the device has, all else is exact
+abbrev pub tells : declared_step.Step → Type 0
+tells (step.Lock owner n range mode) = Unit {0}
+tells (step.Unlock owner id) = Unit {0}
+tells (step.Begin owner plan) = Unit {0}
+tells (step.Commit tx ops) = Unit {0}
+tells (step.Read owner n range) = Unit {0}
+tells step.CloseGroup = Unit {0}
+tells step.MarkQuiesced = Unit {0}
+tells (step.StartSync moment) = ⊥
+tells step.SyncStep = Unit {0}
+
+-- a step with its reply, from a state to the next one
+abbrev pub IsStep : declared_step.Step → declared_reply.Reply → State → State → Type 0
+IsStep s r old new = runs.Step (tells s) [] s r old new
 
 -- whatever the past of a run, the step leads with this reply from what was shown before to what is shown after
 abbrev pub Replied : declared_step.Step → declared_reply.Reply → Shown → Shown → Type 0
-Replied s r old new = (past : Past) → (later : Past) × runs.Step (Unit {0}) [] s r (record { shown = old; past = past }) (record { shown = new; past = later })
+Replied s r old new = (past : Past) → (later : Past) × IsStep s r (record { shown = old; past = past }) (record { shown = new; past = later })
 
--- so each step does that keeps off the device; of the others nothing is said
+-- so each step does; the start of a sync for each past that explains what was shown
 abbrev pub StepReplies : declared_step.Step → declared_reply.Reply → Shown → Shown → Type 0
 StepReplies (step.Lock owner n range mode) r old new = Replied (step.Lock owner n range mode) r old new
 StepReplies (step.Unlock owner id) r old new = Replied (step.Unlock owner id) r old new
@@ -20,5 +38,6 @@ StepReplies (step.Commit tx ops) r old new = Replied (step.Commit tx ops) r old 
 StepReplies (step.Read owner n range) r old new = Replied (step.Read owner n range) r old new
 StepReplies step.CloseGroup r old new = Replied step.CloseGroup r old new
 StepReplies step.MarkQuiesced r old new = Replied step.MarkQuiesced r old new
-StepReplies (step.StartSync moment) r old new = Unit {0}
-StepReplies step.SyncStep r old new = Unit {0}
+StepReplies (step.StartSync moment) r old new = (past : Past) → IsExplainedNow old past
+    → (later : Past) × IsStep (step.StartSync moment) r (record { shown = old; past = past }) (record { shown = new; past = later })
+StepReplies step.SyncStep r old new = Replied step.SyncStep r old new

@@ -1,6 +1,6 @@
 //! A running pool on its device, and each of its steps.
 
-ghost use Rattle.std.specs.Prelude.{◌≡◌};
+ghost use Rattle.std.specs.Prelude.{◌≡◌, [], IsTrue};
 ghost use Rattle.base.specs.Refusals.{object_range};
 ghost use Rattle.base.specs.Stage as stage;
 ghost use Rattle.base.specs.Steps as steps;
@@ -35,7 +35,9 @@ pub struct PoolState<D: SectorDevice> {
 }
 
 impl<D: SectorDevice> PoolState<D> {
-    ghost use Rattle.pool_core.specs.Meets.{Meets};
+    ghost use Rattle.pool_core.specs.Calls.{CallsNext};
+    ghost use Rattle.pool_core.specs.Meets.{Meets, MeetsExplained};
+    ghost use Rattle.pool_core.specs.Progresses.{progress_of};
     ghost use Rattle.pool_core.specs.Shows.{shown_of};
     ghost use Rattle.pool_core.specs.Tables.{result_map};
 
@@ -162,7 +164,8 @@ impl<D: SectorDevice> PoolState<D> {
     /// In this order: `Suspended`; `NotReady` where no group is quiesced or one is syncing; `NoSpace` where the free blocks
     /// do not suffice; `NoMemory`.
     pub fn start_sync(&mut self, moment: u64) -> Result<Group, PoolError>
-        ensures { self.new.device ≡ self.old.device }
+        ensures step { MeetsExplained (stage.StartSync ⊥ [] moment) (result_map (λ group. group.0) result) (shown_of self.old.pool) (shown_of self.new.pool) }
+        ensures device { self.new.device ≡ self.old.device }
     {
         self.pool.start_sync(moment)
     }
@@ -173,7 +176,10 @@ impl<D: SectorDevice> PoolState<D> {
     /// # Errors
     /// In this order: `Suspended`; `NotReady` where no group is syncing; `Write` or `Flush` where the device refused, and then
     /// the pool is suspended.
-    pub fn sync_step(&mut self) -> Result<Progress, PoolError> {
+    pub fn sync_step(&mut self) -> Result<Progress, PoolError>
+        ensures step { Meets steps.SyncStep (result_map progress_of result) (shown_of self.old.pool) (shown_of self.new.pool) }
+        ensures called { IsTrue D.keeps_model → CallsNext self.old.pool.suspended self.old.pool.sync (D.disk self.old.device) result (D.disk self.new.device) }
+    {
         self.pool.sync_step(&mut self.device)
     }
 }

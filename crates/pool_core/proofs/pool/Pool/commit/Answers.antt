@@ -1,8 +1,8 @@
-use Rattle.std.proofs.Common.{◌≡◌, ◌∙◌, ◌==◌, Bool, true, not, List, Some, Err, ap, sym, subst, refl}
-use Rattle.std.specs.List.{list_all}
+use Rattle.std.proofs.Common.{◌≡◌, ◌∙◌, ◌==◌, Bool, true, false, not, List, Some, Err, ap, sym, subst, refl}
+use Rattle.std.specs.List.{list_all, list_any}
 use Rattle.std.proofs.lemmas.Result.{err_from_is_err_and}
 use Rattle.std.proofs.lemmas.List.{map-append}
-use Rattle.std.proofs.lemmas.List.Elements.{All-filter}
+use Rattle.std.proofs.lemmas.List.Elements.{All-filter, All-push}
 use Rattle.base.specs.declared.error.PoolError.TheVariants as error
 use Rattle.base.specs.declared.operation.Op.{Op}
 use Rattle.base.specs.Contents.{Contents}
@@ -10,13 +10,17 @@ use Rattle.base.specs.Groups.{Admission}
 use Rattle.base.specs.History.{apply_all}
 use Rattle.base.specs.Records.{is_content_allowed}
 use Rattle.base.specs.Stage.{commit_refusal, Commit}
+use Rattle.base.specs.Syncs.{is_rename}
 use Rattle.object_maps.specs.ContentsShown.{contents_of}
+use Rattle.object_maps.specs.Ops.{AreOpsAllowed}
+use Rattle.tree_plans.specs.declared.planner.Committed.{Committed}
 use Rattle.pool_core.specs.Meets.{Meets, MayCommit}
 use Rattle.pool_core.specs.Shows.{admission_of, shown_of}
 use Rattle.pool_core.specs.declared.transactions.OpenTransaction.{OpenTransaction}
 use Rattle.pool_core.proofs.CommitSteps.{commit_refused, commit_wants, commit_done}
 use Rattle.pool_core.proofs.KeptRanges.{IsBuilt}
 use Rattle.pool_core.proofs.Mapped.{filter-map}
+use Rattle.pool_core.proofs.SamePlans.{built_names}
 use Rattle.pool_core.proofs.pool.Pool.commit.Goals as goal
 
 pub returns-in_err-group-clause-step : goal.returns-in_err-group-clause-step
@@ -60,6 +64,11 @@ pub invariant_of-self-2-clause-plans_built : goal.invariant_of-self-2-clause-pla
 invariant_of-self-2-clause-plans_built c =
     let p : OpenTransaction → Bool = λ (t : OpenTransaction). not (t.tx.0 == c.args.tx.0) in
     rw c.remove_transaction.ensures (All-filter p IsBuilt c.args.self.now.transactions.items c.args.self.now.plans_built)
+
+pub invariant_of-self-2-clause-pending_built : goal.invariant_of-self-2-clause-pending_built
+invariant_of-self-2-clause-pending_built c =
+    let names = built_names c.args.ops (subst AreOpsAllowed c.as_slice.ensures c.in_ok-group.ensures.allowed) in
+    rw (c.push_reserved.ensures.items, c.in_ok-reserve.ensures.items) (All-push (λ (x : Committed). list_any is_rename x.ops ≡ false) c.args.self.now.pending.items _ c.args.self.now.pending_built names)
 
 pub returns-clause-step : goal.returns-clause-step
 returns-clause-step c =

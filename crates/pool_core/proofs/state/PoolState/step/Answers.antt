@@ -1,15 +1,17 @@
-use Rattle.std.proofs.Common.{ℕ, ◌≡◌, List, Ok, Err, refl}
+use Rattle.std.proofs.Common.{ℕ, ◌≡◌, List, [], Ok, Err, ap, refl, sym}
 use Rattle.base.specs.declared.names.Group.{Group}
 use Rattle.base.specs.declared.names.LockId.{LockId}
 use Rattle.base.specs.declared.names.Receipt.{Receipt}
 use Rattle.base.specs.declared.names.TxId.{TxId}
 use Rattle.base.specs.declared.step.Reply.TheVariants as reply
 use Rattle.base.specs.Refusals.{object_range}
-use Rattle.base.specs.Runs.{receipt_reply}
+use Rattle.base.specs.Runs.{progress_reply, receipt_reply}
 use Rattle.base.specs.Stage as stage
 use Rattle.base.specs.Steps as steps
+use Rattle.pool_core.specs.declared.state.Progress.{Progress}
+use Rattle.pool_core.specs.Progresses.{progress_of}
 use Rattle.pool_core.specs.Shows.{shown_of}
-use Rattle.pool_core.proofs.RepliedSteps.{replied, replied_same}
+use Rattle.pool_core.proofs.RepliedSteps.{replied, replied_explained, replied_same}
 use Rattle.pool_core.proofs.state.PoolState.step.Goals as goal
 
 pub returns-in-Lock : goal.returns-in-Lock
@@ -48,3 +50,19 @@ returns-in-Ok-begin g c =
 pub returns-in-Err-begin : goal.returns-in-Err-begin
 returns-in-Err-begin g c =
     rw c.in-Begin.is (replied (stage.Begin c.in-Begin.owner.0 c.in-Begin.plan) (λ (a : TxId × Group). (a.0.0, a.1.0)) (λ (a : ℕ × ℕ). reply.Began (record { 0 = a.0 }) (record { 0 = a.1 })) (Err c.in-Err-begin.error) (reply.Refused c.in-Err-begin.error) (shown_of c.args.self.now.pool) (shown_of c.begin.new.self.pool) c.in-Err-begin.ensures.step refl)
+
+pub returns-in-StartSync : goal.returns-in-StartSync
+returns-in-StartSync g c =
+    rw c.in-StartSync.is (replied_explained (stage.StartSync ⊥ [] c.in-StartSync.moment) (λ (group : Group). group.0) (λ (group : ℕ). reply.Syncing (record { 0 = group })) c.start_sync.result c.reply-in-StartSync.result (shown_of c.args.self.now.pool) (shown_of c.start_sync.new.self.pool) c.start_sync.ensures.step c.reply-in-StartSync.ensures)
+
+pub returns-in-Ok-More : goal.returns-in-Ok-More
+returns-in-Ok-More g c =
+    rw c.in-SyncStep.is (replied steps.SyncStep progress_of progress_reply (Ok c.in-Ok-More.field-0) reply.More (shown_of c.args.self.now.pool) (shown_of c.sync_step.new.self.pool) c.in-Ok-More.ensures.step (sym (ap (λ (p : Progress). progress_reply (progress_of p)) c.in-Ok-More.field-0-is)))
+
+pub returns-in-Ok-Synced : goal.returns-in-Ok-Synced
+returns-in-Ok-Synced g c =
+    rw c.in-SyncStep.is (replied steps.SyncStep progress_of progress_reply (Ok c.in-Ok-Synced.field-0) (reply.Synced c.in-Ok-Synced.group) (shown_of c.args.self.now.pool) (shown_of c.sync_step.new.self.pool) c.in-Ok-Synced.ensures.step (sym (ap (λ (p : Progress). progress_reply (progress_of p)) c.in-Ok-Synced.field-0-is)))
+
+pub returns-in-Err-sync_step : goal.returns-in-Err-sync_step
+returns-in-Err-sync_step g c =
+    rw c.in-SyncStep.is (replied steps.SyncStep progress_of progress_reply (Err c.in-Err-sync_step.error) (reply.Refused c.in-Err-sync_step.error) (shown_of c.args.self.now.pool) (shown_of c.sync_step.new.self.pool) c.in-Err-sync_step.ensures.step refl)
