@@ -1,6 +1,12 @@
 //! Plans of syncs: which blocks the tree of a group has, and where they lie.
 #![tactic(auto)]
 
+mod freed;
+mod payload;
+mod place;
 mod planner;
+mod pointers;
+mod walk;
 
-pub use planner::{Committed, DirtyRecords, PlanSource, PlannedBlock, TreePlan, dirty_objects, plan};
+pub use planner::{Committed, DirtyRecords, PlannedBlock, TreePlan, dirty_objects};
+pub use walk::{PlanSource, plan};
