@@ -1,2 +1,3 @@
 pub mod Pointers
 pub mod Plans
+pub mod Walks

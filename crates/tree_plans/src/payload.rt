@@ -1,8 +1,10 @@
 //! The payloads of a tree's blocks (On-Disk Specification, chapter 2).
 
 ghost use Rattle.std.specs.Prelude.{◌≡◌, ◌≢◌, ◌<◌, ◌≤◌, ℕ, length, slice_index_or};
-ghost use Rattle.base.specs.Fields.{no_pointer, pointer_in};
+ghost use Rattle.base.specs.Fields.{entry_in, entry_length, entry_pointer, entry_present, no_pointer, pointer_in};
 ghost use Rattle.base.specs.Tree.{record_bytes};
+ghost use Rattle.object_maps.specs.ContentsShown.{contents_of};
+ghost use Rattle.tree_plans.specs.Walks.{AreEntriesWritten, indirect_after};
 
 use base::{
     ENTRY_COUNT, ENTRY_SIZE, ObjectId, POINTER_SIZE, Pointer, RECORD_SIZE, write_pointer, write_u64,
@@ -49,7 +51,7 @@ fn put_pointer(payload: &mut [u8], index: usize, pointer: &Pointer)
     write_pointer(payload, POINTER_SIZE * index, pointer);
 }
 
-/// The payload of a directory.
+/// The payload of a directory: an entry for each of its objects that is there, and zeros for the others.
 pub fn directory_payload(
     contents: &Contents,
     tree: &Tree,
@@ -57,28 +59,44 @@ pub fn directory_payload(
     directory: usize,
 ) -> [u8; 4032]
     requires { directory < 84 }
-    ensures { length result ≡ 4032 }
+    ensures size { length result ≡ 4032 }
+    ensures entries { AreEntriesWritten tree.now.maps.items maps.now.entries (contents_of contents.now).objects directory 63 result }
 {
     let mut payload = [0; PAYLOAD_SIZE];
     for index in 0..ENTRY_COUNT {
-        let number = ENTRY_COUNT * directory + index;
-        let id = ObjectId(number as u32);
+        let id = ObjectId((ENTRY_COUNT * directory + index) as u32);
         if let Some(bytes) = contents.object(id) {
-            let indirect = match maps.get(&id) {
-                Some(map) => map.indirect,
-                None => tree.maps[number].indirect,
-            };
+            let indirect = planned_indirect(tree, maps, id);
             write_entry(&mut payload, index, bytes.len(), &indirect);
         }
     }
     payload
 }
 
+// The pointer to the indirect block of an object after the plan.
+fn planned_indirect(tree: &Tree, maps: &BTreeMap<ObjectId, ObjectMap>, id: ObjectId) -> Pointer
+    requires { id.0 < 5292 }
+    ensures { result ≡ indirect_after tree.now.maps.items maps.now.entries id.0 }
+{
+    match maps.get(&id) {
+        Some(map) => map.indirect,
+        None => tree.maps[id.0 as usize].indirect,
+    }
+}
+
+// Writes the entry of an object that is there: 1, its length, and the pointer to its indirect block.
 fn write_entry(payload: &mut [u8], index: usize, size: usize, indirect: &Pointer)
     requires size { length payload.old ≡ 4032 }
     requires in_range { index < 63 }
-    ensures { length payload.new ≡ 4032 }
+    ensures size { length payload.new ≡ 4032 }
+    ensures present { entry_present (entry_in payload.new index) ≡ 1 }
+    ensures length { entry_length (entry_in payload.new index) ≡ size }
+    ensures pointer { entry_pointer (entry_in payload.new index) ≡ indirect.now }
+    ensures others { (k : ℕ) → k < 63 → k ≢ index → entry_in payload.new k ≡ entry_in payload.old k }
 {
+    // Their types bound its numbers.
+    let _address = indirect.address;
+    let _birth = indirect.birth;
     let at = ENTRY_SIZE * index;
     write_u64(payload, at, 1);
     write_u64(payload, at + 8, size as u64);

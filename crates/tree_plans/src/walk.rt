@@ -1,8 +1,15 @@
 //! The walk of a sync over a tree: objects, directories, the root.
 
-ghost use Rattle.std.specs.Prelude.{◌≡◌, ◌<◌, All, vec_len, IfOk};
+ghost use Rattle.std.specs.Prelude.{◌≡◌, ◌<◌, ◌++◌, ◌∷◌, [], ℕ, List, All, Some, length, slice_index_or, vec_len, IfOk, IfErr, OnOk};
+ghost use Rattle.base.specs.declared.names.ObjectId.{ObjectId};
+ghost use Rattle.base.specs.Fields.{no_pointer};
 ghost use Rattle.base.specs.Geometry.{block_count};
+ghost use Rattle.object_maps.specs.ContentsShown.{contents_of};
+ghost use Rattle.tree_plans.specs.declared.planner.DirtyRecords.{DirtyRecords};
 ghost use Rattle.tree_plans.specs.declared.planner.PlannedBlock.{PlannedBlock};
+ghost use Rattle.tree_plans.specs.Plans.{Goes, IsWant, RecordFrees, progress_of};
+ghost use Rattle.tree_plans.specs.Pointers.{entry_of};
+ghost use Rattle.tree_plans.specs.Walks.{AreDirectoriesPlanned, AreObjectsPlanned, DirectoriesFree, IsDirectoryPlanned, IsRootPlanned, IsWalked, ObjectsFree, is_any_touched, is_directory_touched};
 
 use crate::payload::{directory_payload, payload_of};
 use crate::place::BlockPlace;
@@ -14,16 +21,13 @@ use space::FreeSet;
 use std::alloc::Global;
 use std::collections::BTreeMap;
 
-// Which directories have an object that changes.
-fn touched_directories(objects: &BTreeMap<ObjectId, DirtyRecords>) -> [bool; 84] {
-    let mut touched = [false; POINTER_COUNT];
-    for id in objects.keys() {
-        let directory = id.0 as usize / ENTRY_COUNT;
-        if directory < POINTER_COUNT {
-            touched[directory] = true;
-        }
-    }
-    touched
+// Whether an object of a directory changes.
+fn is_touched(objects: &BTreeMap<ObjectId, DirtyRecords>, directory: usize) -> bool
+    ensures { result ≡ is_directory_touched objects.now.entries directory }
+{
+    objects
+        .keys()
+        .any(|id| id.0 as usize / ENTRY_COUNT == directory)
 }
 
 /// What a plan is made of.
@@ -60,19 +64,72 @@ pub fn plan(
         blocks: Vec::new(source.alloc),
         freed: Vec::new(source.alloc),
     };
-    let maps = place_objects(&mut planner, source, objects)?;
-    let directories = place_directories(&mut planner, source, objects, &maps)?;
-    let mut root = source.tree.root;
-    if !objects.is_empty() {
-        root = planner.place(source.free, BlockPlace::Root, &payload_of(&directories), &root)?;
-    }
+    let tree = place_tree(&mut planner, source, objects)?;
     Ok(TreePlan {
         blocks: planner.blocks,
+        maps: tree.maps,
+        directories: tree.directories,
+        root: tree.root,
+        freed: planner.freed,
+    })
+}
+
+// The pointers of the tree after a plan.
+#[derive(Drop)]
+struct NewTree {
+    maps: BTreeMap<ObjectId, ObjectMap>,
+    directories: Vec<Pointer>,
+    root: Pointer,
+}
+
+// The objects, the directories, the root.
+fn place_tree(
+    planner: &mut Planner,
+    source: &PlanSource<'_>,
+    objects: &BTreeMap<ObjectId, DirtyRecords>,
+) -> Result<NewTree, PoolError>
+    requires geometry { planner.old.geometry ≡ source.now.geometry }
+    requires free { vec_len source.now.free.now.flags ≡ block_count source.now.geometry }
+    requires none_freed { planner.old.freed.items ≡ [] }
+    ensures geometry { planner.new.geometry ≡ planner.old.geometry }
+    ensures count { IfOk result (λ tree. vec_len tree.directories ≡ 84) }
+    ensures goes { OnOk result (Goes source.now.free.now.flags.items (progress_of planner.old) (progress_of planner.new)) }
+    ensures walked { IfOk result (λ tree. IsWalked (progress_of planner.new) source.now.tree.now (contents_of source.now.contents.now).objects objects.now.entries tree.maps.entries tree.directories.items tree.root) }
+    ensures refused { IfErr result IsWant }
+{
+    let maps = place_objects(planner, source, objects)?;
+    let directories = place_directories(planner, source, objects, &maps)?;
+    let root = place_root(planner, source, objects, &directories)?;
+    Ok(NewTree {
         maps,
         directories,
         root,
-        freed: planner.freed,
     })
+}
+
+// The root, where an object changes.
+fn place_root(
+    planner: &mut Planner,
+    source: &PlanSource<'_>,
+    objects: &BTreeMap<ObjectId, DirtyRecords>,
+    directories: &[Pointer],
+) -> Result<Pointer, PoolError>
+    requires geometry { planner.old.geometry ≡ source.now.geometry }
+    requires free { vec_len source.now.free.now.flags ≡ block_count source.now.geometry }
+    requires count { length directories.now ≡ 84 }
+    ensures geometry { planner.new.geometry ≡ planner.old.geometry }
+    ensures goes { OnOk result (Goes source.now.free.now.flags.items (progress_of planner.old) (progress_of planner.new)) }
+    ensures planned { IfOk result (λ root. IsRootPlanned (progress_of planner.new) directories.now (is_any_touched objects.now.entries) source.now.tree.now.root root) }
+    ensures frees { OnOk result (RecordFrees planner.old.freed.items planner.new.freed.items (is_any_touched objects.now.entries) source.now.tree.now.root) }
+    ensures refused { IfErr result IsWant }
+{
+    let root = &source.tree.root;
+    if objects.is_empty() {
+        return Ok(*root);
+    }
+    let payload = payload_of(directories);
+    let pointer = planner.place(source.free, BlockPlace::Root, &payload, root)?;
+    Ok(pointer)
 }
 
 fn place_objects(
@@ -82,18 +139,47 @@ fn place_objects(
 ) -> Result<BTreeMap<ObjectId, ObjectMap>, PoolError>
     requires geometry { planner.old.geometry ≡ source.now.geometry }
     requires free { vec_len source.now.free.now.flags ≡ block_count source.now.geometry }
-    ensures { planner.new.geometry ≡ planner.old.geometry }
+    ensures geometry { planner.new.geometry ≡ planner.old.geometry }
+    ensures goes { OnOk result (Goes source.now.free.now.flags.items (progress_of planner.old) (progress_of planner.new)) }
+    ensures planned { IfOk result (λ maps. AreObjectsPlanned (progress_of planner.new) source.now.tree.now.maps.items (contents_of source.now.contents.now).objects objects.now.entries objects.now.entries maps.entries) }
+    ensures frees { IfOk result (λ maps. ObjectsFree planner.old.freed.items planner.new.freed.items source.now.tree.now.maps.items objects.now.entries maps.entries) }
+    ensures refused { IfErr result IsWant }
 {
     let mut maps = BTreeMap::new(source.alloc);
-    for (id, dirty) in objects {
-        if id.0 < OBJECT_COUNT && !dirty.is_empty() {
-            let bytes = source.contents.object(*id).unwrap_or(&[]);
-            let old = &source.tree.maps[id.0 as usize];
-            let map = planner.place_object(source.free, *id, bytes, old, dirty)?;
-            maps.insert(*id, map)?;
-        }
+    for (id, dirty) in objects.iter() {
+        place_changed(planner, source, &mut maps, *id, dirty)?;
     }
     Ok(maps)
+}
+
+// An object with dirty records.
+fn place_changed(
+    planner: &mut Planner,
+    source: &PlanSource<'_>,
+    maps: &mut BTreeMap<ObjectId, ObjectMap>,
+    id: ObjectId,
+    dirty: &DirtyRecords,
+) -> Result<(), PoolError>
+    requires geometry { planner.old.geometry ≡ source.now.geometry }
+    requires free { vec_len source.now.free.now.flags ≡ block_count source.now.geometry }
+    ensures geometry { planner.new.geometry ≡ planner.old.geometry }
+    ensures goes { OnOk result (Goes source.now.free.now.flags.items (progress_of planner.old) (progress_of planner.new)) }
+    ensures planned { OnOk result ((objects done : List (ObjectId × DirtyRecords)) → entry_of objects id.0 ≡ Some dirty.now
+        → AreObjectsPlanned (progress_of planner.old) source.now.tree.now.maps.items (contents_of source.now.contents.now).objects objects done maps.old.entries
+        → AreObjectsPlanned (progress_of planner.new) source.now.tree.now.maps.items (contents_of source.now.contents.now).objects objects (done ++ ((id, dirty.now) ∷ [])) maps.new.entries) }
+    ensures frees { OnOk result ((objects : List (ObjectId × DirtyRecords)) (first : List ℕ) → entry_of objects id.0 ≡ Some dirty.now
+        → ObjectsFree first planner.old.freed.items source.now.tree.now.maps.items objects maps.old.entries
+        → ObjectsFree first planner.new.freed.items source.now.tree.now.maps.items objects maps.new.entries) }
+    ensures refused { IfErr result IsWant }
+{
+    if id.0 >= OBJECT_COUNT || dirty.is_empty() {
+        return Ok(());
+    }
+    let bytes = source.contents.object(id).unwrap_or(&[]);
+    let old = &source.tree.maps[id.0 as usize];
+    let map = planner.place_object(source.free, id, bytes, old, dirty)?;
+    maps.insert(id, map)?;
+    Ok(())
 }
 
 fn place_directories(
@@ -106,21 +192,42 @@ fn place_directories(
     requires free { vec_len source.now.free.now.flags ≡ block_count source.now.geometry }
     ensures geometry { planner.new.geometry ≡ planner.old.geometry }
     ensures count { IfOk result (λ directories. vec_len directories ≡ 84) }
+    ensures goes { OnOk result (Goes source.now.free.now.flags.items (progress_of planner.old) (progress_of planner.new)) }
+    ensures planned { IfOk result (λ directories. AreDirectoriesPlanned (progress_of planner.new) source.now.tree.now.maps.items maps.now.entries (contents_of source.now.contents.now).objects objects.now.entries source.now.tree.now.directories.items 84 directories.items) }
+    ensures frees { OnOk result (DirectoriesFree planner.old.freed.items planner.new.freed.items objects.now.entries source.now.tree.now.directories.items 84) }
+    ensures refused { IfErr result IsWant }
 {
-    let touched = touched_directories(objects);
     let mut directories = Vec::with_capacity(source.alloc, POINTER_COUNT)?;
     for index in 0..POINTER_COUNT {
-        let mut pointer = source.tree.directories[index];
-        if touched[index] {
-            let payload = directory_payload(source.contents, source.tree, maps, index);
-            pointer = planner.place(
-                source.free,
-                BlockPlace::Directory(index),
-                &payload,
-                &pointer,
-            )?;
-        }
+        let touched = is_touched(objects, index);
+        let pointer = place_directory(planner, source, maps, index, touched)?;
         directories.push_reserved(pointer);
     }
     Ok(directories)
+}
+
+// A directory, where an object of it changes.
+fn place_directory(
+    planner: &mut Planner,
+    source: &PlanSource<'_>,
+    maps: &BTreeMap<ObjectId, ObjectMap>,
+    index: usize,
+    touched: bool,
+) -> Result<Pointer, PoolError>
+    requires geometry { planner.old.geometry ≡ source.now.geometry }
+    requires free { vec_len source.now.free.now.flags ≡ block_count source.now.geometry }
+    requires index { index < 84 }
+    ensures geometry { planner.new.geometry ≡ planner.old.geometry }
+    ensures goes { OnOk result (Goes source.now.free.now.flags.items (progress_of planner.old) (progress_of planner.new)) }
+    ensures planned { IfOk result (λ pointer. IsDirectoryPlanned (progress_of planner.new) source.now.tree.now.maps.items maps.now.entries (contents_of source.now.contents.now).objects index touched (slice_index_or source.now.tree.now.directories.items index no_pointer) pointer) }
+    ensures frees { OnOk result (RecordFrees planner.old.freed.items planner.new.freed.items touched (slice_index_or source.now.tree.now.directories.items index no_pointer)) }
+    ensures refused { IfErr result IsWant }
+{
+    let old = source.tree.directories[index];
+    if !touched {
+        return Ok(old);
+    }
+    let payload = directory_payload(source.contents, source.tree, maps, index);
+    let pointer = planner.place(source.free, BlockPlace::Directory(index), &payload, &old)?;
+    Ok(pointer)
 }
