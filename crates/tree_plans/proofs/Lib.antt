@@ -1,2 +1,4 @@
 pub mod Progress
 pub mod Payloads
+pub mod Entries
+pub mod Walks

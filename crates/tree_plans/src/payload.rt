@@ -1,10 +1,11 @@
 //! The payloads of a tree's blocks (On-Disk Specification, chapter 2).
 
-ghost use Rattle.std.specs.Prelude.{◌≡◌, ◌≢◌, ◌<◌, ◌≤◌, ℕ, length, slice_index_or};
+ghost use Rattle.std.specs.Prelude.{◌≡◌, ◌≢◌, ◌<◌, ◌≤◌, ℕ, length, option_map, replicate, slice_index_or};
 ghost use Rattle.base.specs.Fields.{entry_in, entry_length, entry_pointer, entry_present, no_pointer, pointer_in};
 ghost use Rattle.base.specs.Tree.{record_bytes};
+ghost use Rattle.checked_blocks.specs.Sealing.{zeros};
 ghost use Rattle.object_maps.specs.ContentsShown.{contents_of};
-ghost use Rattle.tree_plans.specs.Walks.{AreEntriesWritten, indirect_after};
+ghost use Rattle.tree_plans.specs.Walks.{AreEntriesWritten, IsEntryWritten, indirect_after};
 
 use base::{
     ENTRY_COUNT, ENTRY_SIZE, ObjectId, POINTER_SIZE, Pointer, RECORD_SIZE, write_pointer, write_u64,
@@ -62,15 +63,33 @@ pub fn directory_payload(
     ensures size { length result ≡ 4032 }
     ensures entries { AreEntriesWritten tree.now.maps.items maps.now.entries (contents_of contents.now).objects directory 63 result }
 {
-    let mut payload = [0; PAYLOAD_SIZE];
+    let mut payload = empty_payload();
     for index in 0..ENTRY_COUNT {
         let id = ObjectId((ENTRY_COUNT * directory + index) as u32);
-        if let Some(bytes) = contents.object(id) {
-            let indirect = planned_indirect(tree, maps, id);
-            write_entry(&mut payload, index, bytes.len(), &indirect);
-        }
+        let indirect = planned_indirect(tree, maps, id);
+        put_object(&mut payload, index, contents.object(id), &indirect);
     }
     payload
+}
+
+// Writes the entry of an object, if it is there. The entry is zeros before.
+fn put_object(payload: &mut [u8], index: usize, object: Option<&[u8]>, indirect: &Pointer)
+    requires size { length payload.old ≡ 4032 }
+    requires in_range { index < 63 }
+    requires empty { entry_in payload.old index ≡ replicate 64 0 }
+    ensures size { length payload.new ≡ 4032 }
+    ensures here { IsEntryWritten (entry_in payload.new index) indirect.now (option_map (λ bytes. bytes.now) object.entry) }
+    ensures others { (k : ℕ) → k < 63 → k ≢ index → entry_in payload.new k ≡ entry_in payload.old k }
+{
+    if let Some(bytes) = object {
+        write_entry(payload, index, bytes.len(), indirect);
+    }
+}
+
+fn empty_payload() -> [u8; 4032]
+    ensures { result ≡ zeros 4032 }
+{
+    [0; PAYLOAD_SIZE]
 }
 
 // The pointer to the indirect block of an object after the plan.

@@ -1,7 +1,7 @@
 //! The plan of a sync's tree: which blocks a group's operations make, where they lie, and what they replace. Live blocks
 //! are never overwritten (On-Disk Specification, chapter 2): each block is written to a free place.
 
-ghost use Rattle.std.specs.Prelude.{◌≡◌, ◌<◌, All, not, vec_len};
+ghost use Rattle.std.specs.Prelude.{◌≡◌, ◌<◌, All, vec_len};
 ghost use Rattle.std.specs.List.{list_any};
 ghost use Rattle.base.specs.Geometry.{block_count};
 ghost use Rattle.tree_plans.specs.declared.planner.PlannedBlock.{PlannedBlock};
@@ -58,10 +58,11 @@ impl DirtyRecords {
         }
     }
 
-    pub fn is_empty(&self) -> bool
-        ensures { result ≡ not (list_any (λ dirty. dirty) self.now.flags) }
+    /// Whether a record is dirty.
+    pub fn has_any(&self) -> bool
+        ensures { result ≡ list_any (λ dirty. dirty) self.now.flags }
     {
-        !self.flags.iter().any(|dirty| *dirty)
+        self.flags.iter().any(|dirty| *dirty)
     }
 }
 

@@ -172,7 +172,10 @@ fn place_changed(
         → ObjectsFree first planner.new.freed.items source.now.tree.now.maps.items objects maps.new.entries) }
     ensures refused { IfErr result IsWant }
 {
-    if id.0 >= OBJECT_COUNT || dirty.is_empty() {
+    if id.0 >= OBJECT_COUNT {
+        return Ok(());
+    }
+    if !dirty.has_any() {
         return Ok(());
     }
     let bytes = source.contents.object(id).unwrap_or(&[]);
