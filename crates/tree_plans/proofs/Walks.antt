@@ -1,6 +1,11 @@
 -- What a walk plans, step by step.
-use Rattle.std.proofs.Common.{◌≡◌, ◌≢◌, ◌==◌, ℕ, zero, suc, ◌+◌, ◌<◌, ◌≤◌, ◌⊎◌, inl, inr, Bool, true, false, not, ◌||◌, cond, List, [], ◌∷◌, ◌++◌, length, map, Option, Some, None, refl, sym, ◌∙◌, ap, append_assoc, arith}
-use Rattle.std.specs.Prelude.{slice_get, slice_index_or, is_some, unwrap_or}
+use Rattle.std.proofs.Common.{◌≡◌, ◌≢◌, ◌==◌, ℕ, zero, suc, ◌+◌, ◌<◌, ◌≤◌, ◌⊎◌, inl, inr, Bool, true, false, not, ◌||◌, cond, List, [], ◌∷◌, ◌++◌, length, map, Option, Ordering, Some, None, refl, sym, ◌∙◌, ap, append_assoc, arith}
+use Rattle.std.specs.Prelude.{slice_get, slice_index_or, is_some, unwrap_or, option_map, All, IsTrue}
+use Rattle.std.specs.Borrow.{Bor}
+use Rattle.std.specs.Map.{lookup}
+use Rattle.std.specs.BTreeMap as tree
+use Rattle.std.specs.BTreeMap.{BTreeMap, is_at}
+use Rattle.std.specs.Ordering.{is_eq}
 use Rattle.std.specs.List.{list_any}
 use Rattle.std.specs.Ordering.{nat_cmp}
 use Rattle.std.specs.FinMap as finite
@@ -172,10 +177,10 @@ pub frees_weaker : (old new : List ℕ) (was : Pointer) (dirty : Bool) → dirty
 frees_weaker old new was dirty is only address among = elim (only address among) [ inl before ↦ inl before | inr of ↦ inr (is, of) ]
 
 -- what comes back of a whole walk
-pub walk_frees : (f1 f2 f3 : List ℕ) (maps : List ObjectMap) (objects : List (ObjectId × DirtyRecords)) (planned : List (ObjectId × ObjectMap)) (was : List Pointer) (root : Pointer)
-    → ObjectsFree [] f1 maps objects planned → DirectoriesFree f1 f2 objects was 84 → RecordFrees f2 f3 (is_any_touched objects) root
+pub walk_frees : (f0 f1 f2 f3 : List ℕ) (maps : List ObjectMap) (objects : List (ObjectId × DirtyRecords)) (planned : List (ObjectId × ObjectMap)) (was : List Pointer) (root : Pointer)
+    → f0 ≡ [] → ObjectsFree f0 f1 maps objects planned → DirectoriesFree f1 f2 objects was 84 → RecordFrees f2 f3 (is_any_touched objects) root
     → (address : ℕ) → IsAmong f3 address → IsOfObject maps objects planned address ⊎ (IsOfDirectory objects was 84 address ⊎ ((is_any_touched objects ≡ true) × IsOf root address))
-walk_frees f1 f2 f3 maps objects planned was root one two three address among =
+walk_frees f0 f1 f2 f3 maps objects planned was root start one two three address among =
     elim (three address among) [
       | inr here ↦ inr (inr here)
       | inl before ↦ elim (two address before) [
@@ -184,5 +189,58 @@ walk_frees f1 f2 f3 maps objects planned was root one two three address among =
       ]
     ]
   where
-    nothing : (i : ℕ) → slice_get [] i ≡ Some address → ⊥
-    nothing i e = absurd (cc)
+    nothing : (i : ℕ) → slice_get f0 i ≡ Some address → ⊥
+    nothing i e = let at : slice_get [] i ≡ Some address = rw start at e in absurd (cc)
+
+-- an element that a slice gives, whatever is told where there is none
+pub at_any : {A : Type 0} (xs : List A) (i : ℕ) (x d : A) → i < length xs → x ≡ slice_index_or xs i x → x ≡ slice_index_or xs i d
+at_any [] i x d low is = absurd (omega arith)
+at_any (a ∷ xs) zero x d low is = is
+at_any (a ∷ xs) (suc i) x d low is = at_any xs i x d (omega arith) is
+
+pub get_at : {A : Type 0} (xs : List A) (i : ℕ) (x : A) → i < length xs → x ≡ slice_index_or xs i x → slice_get xs i ≡ Some x
+get_at [] i x low is = absurd (omega arith)
+get_at (a ∷ xs) zero x low is = ap Some (sym is)
+get_at (a ∷ xs) (suc i) x low is = get_at xs i x (omega arith) is
+
+-- an entry that comes next among all of them
+pub next_of : {A : Type 0} (P : A → Type 0) (all done rest : List A) (e : A) → all ≡ done ++ (e ∷ rest) → All P all → P e
+next_of {A} P all done rest e split holds =
+    let here : slice_index_or all (length done) e ≡ e = rw split (behind done) in
+    let low : length done < length all = rw split (longer done) in
+    rw here at (holds (length done) e low)
+  where
+    behind : (xs : List A) → slice_index_or (xs ++ (e ∷ rest)) (length xs) e ≡ e
+    behind [] = refl
+    behind (x ∷ xs) = behind xs
+
+    longer : (xs : List A) → length xs < length (xs ++ (e ∷ rest))
+    longer [] = omega arith
+    longer (x ∷ xs) = let h = longer xs in omega arith
+
+pub any_touched : (n : ℕ) (b : Bool) → (IsTrue b → n ≡ 0) × (n ≡ 0 → IsTrue b) → b ≡ false → not (n == 0) ≡ true
+any_touched n b iff none = elim (n == 0) as (λ t. (n == 0) ≡ t → not t ≡ true) [
+    | true ↦ λ e. let there : IsTrue b = iff.1 (eqb-true n 0 e) in absurd (cc)
+    | false ↦ λ e. refl
+  ] refl
+
+pub unwrapped : (o : Option (Bor (List ℕ))) (d : Bor (List ℕ)) (after : Option (List ℕ)) → option_map (λ (b : Bor (List ℕ)). b.now) o ≡ after → d.now ≡ [] → (unwrap_or o d).now ≡ unwrap_or after []
+unwrapped None d after e none = none ∙ ap (λ (a : Option (List ℕ)). unwrap_or a []) e
+unwrapped (Some b) d after e none = ap (λ (a : Option (List ℕ)). unwrap_or a []) e
+
+-- entries by number are those that the map has
+lookup_same : {X : Type 0} (f g : ObjectId → Bool) → ((id : ObjectId) → f id ≡ g id) → (es : List (ObjectId × X)) → lookup f es ≡ lookup g es
+lookup_same f g same [] = refl
+lookup_same f g same (e ∷ es) = rw (same e.0, lookup_same f g same es) refl
+
+module _ (R : ObjectId → ObjectId → Ordering) (ties : (a b : ObjectId) → is_eq (R a b) ≡ (a.0 == b.0)) where
+  pub entry_of-get : {X : Type 0} (m : BTreeMap ObjectId X) (q : ObjectId) → tree.get R m q ≡ entry_of m.entries q.0
+  entry_of-get m q = lookup_same (is_at (R q)) (λ id. q.0 == id.0) (ties q) m.entries
+
+  pub put_of : (old new : BTreeMap ObjectId ObjectMap) (id : ObjectId) (m : ObjectMap) → ((q : ObjectId) → tree.get R new q ≡ cond (is_at (R id) q) (Some m) (tree.get R old q)) → IsPut old.entries id m new.entries
+  put_of old new id m updates n =
+      let q : ObjectId = record { 0 = n } in
+      sym (entry_of-get new q) ∙ updates q ∙ ap (λ b. cond b (Some m) (tree.get R old q)) (ties id q) ∙ ap (λ o. cond (id.0 == n) (Some m) o) (entry_of-get old q)
+
+  pub found_of : (m : BTreeMap ObjectId DirtyRecords) → All (λ (e : ObjectId × DirtyRecords). tree.get R m e.0 ≡ Some e.1) m.entries → All (λ (e : ObjectId × DirtyRecords). entry_of m.entries e.0.0 ≡ Some e.1) m.entries
+  found_of m all k d low = sym (entry_of-get m (slice_index_or m.entries k d).0) ∙ all k d low
