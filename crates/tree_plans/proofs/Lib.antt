@@ -2,3 +2,4 @@ pub mod Progress
 pub mod Payloads
 pub mod Entries
 pub mod Walks
+pub mod Planned

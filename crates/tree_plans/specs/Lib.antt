@@ -1,3 +1,4 @@
 pub mod Pointers
 pub mod Plans
 pub mod Walks
+pub mod Changes

@@ -1,14 +1,20 @@
 //! The walk of a sync over a tree: objects, directories, the root.
 
-ghost use Rattle.std.specs.Prelude.{◌≡◌, ◌<◌, ◌++◌, ◌∷◌, [], ℕ, List, All, Some, length, slice_index_or, vec_len, IfOk, IfErr, OnOk};
+ghost use Rattle.std.specs.Prelude.{◌≡◌, ◌<◌, ◌++◌, ◌∷◌, [], ℕ, List, All, Some, true, false, length, map, slice_index_or, take, vec_len, IfOk, IfErr, OnOk};
+ghost use Rattle.std.specs.FinMap.{FinMap};
+ghost use Rattle.std.specs.Ordering.{nat_cmp};
 ghost use Rattle.base.specs.declared.names.ObjectId.{ObjectId};
 ghost use Rattle.base.specs.Fields.{no_pointer};
-ghost use Rattle.base.specs.Geometry.{block_count};
+ghost use Rattle.base.specs.Geometry.{IsBlockAddress, block_count};
+ghost use Rattle.base.specs.PlacedTrees.{ArePlaced};
+ghost use Rattle.base.specs.PlannedTrees.{AreFreed, IsTreePlan};
 ghost use Rattle.object_maps.specs.ContentsShown.{contents_of};
+ghost use Rattle.space.specs.FreeSets.{addresses_from};
+ghost use Rattle.tree_plans.specs.Changes.{AreBornBefore, AreChanges, HasNoOthers, IsCoveredBy, frame_of};
 ghost use Rattle.tree_plans.specs.declared.planner.DirtyRecords.{DirtyRecords};
 ghost use Rattle.tree_plans.specs.declared.planner.PlannedBlock.{PlannedBlock};
-ghost use Rattle.tree_plans.specs.Plans.{Goes, IsWant, RecordFrees, progress_of};
-ghost use Rattle.tree_plans.specs.Pointers.{entry_of};
+ghost use Rattle.tree_plans.specs.Plans.{Goes, IsWant, RecordFrees, address_of, new_block, progress_of};
+ghost use Rattle.tree_plans.specs.Pointers.{entry_of, planned_pointers, pointers_of};
 ghost use Rattle.tree_plans.specs.Walks.{AreDirectoriesPlanned, AreObjectsPlanned, DirectoriesFree, IsDirectoryPlanned, IsRootPlanned, IsWalked, ObjectsFree, is_any_touched, is_directory_touched};
 
 use crate::payload::{directory_payload, payload_of};
@@ -53,7 +59,17 @@ pub fn plan(
     objects: &BTreeMap<ObjectId, DirtyRecords>,
 ) -> Result<TreePlan, PoolError>
     requires { vec_len source.now.free.now.flags ≡ block_count source.now.geometry }
-    ensures { IfOk result (λ p. All (λ (b : PlannedBlock). b.index < block_count source.now.geometry) p.blocks.items) }
+    ensures within { IfOk result (λ p. All (λ (b : PlannedBlock). b.index < block_count source.now.geometry) p.blocks.items) }
+    ensures taken { IfOk result (λ p. map address_of p.blocks.items ≡ take (length p.blocks.items) (addresses_from 0 source.now.free.now.flags.items)) }
+    ensures planned { IfOk result (λ p. (before : FinMap nat_cmp (List ℕ)) → IsCoveredBy objects.now.entries before (contents_of source.now.contents.now).objects
+        → AreChanges objects.now.entries (contents_of source.now.contents.now).objects → HasNoOthers (pointers_of source.now.tree.now) (contents_of source.now.contents.now).objects
+        → IsTreePlan (map new_block p.blocks.items) (frame_of source.now.guid source.now.geometry source.now.group.0) (pointers_of source.now.tree.now) (planned_pointers source.now.tree.now p) before (contents_of source.now.contents.now).objects) }
+    ensures placed { IfOk result (λ p. ArePlaced (block_count source.now.geometry) (pointers_of source.now.tree.now) → ArePlaced (block_count source.now.geometry) (planned_pointers source.now.tree.now p)) }
+    ensures returned { IfOk result (λ p. ArePlaced (block_count source.now.geometry) (pointers_of source.now.tree.now) → All (λ address. IsBlockAddress (block_count source.now.geometry) address) p.freed.items) }
+    ensures freed { IfOk result (λ p. AreBornBefore source.now.group.0 (pointers_of source.now.tree.now) → AreFreed (pointers_of source.now.tree.now) (planned_pointers source.now.tree.now p) p.freed.items) }
+    ensures kept_root { IfOk result (λ p. is_any_touched objects.now.entries ≡ false → p.root ≡ source.now.tree.now.root) }
+    ensures new_root { IfOk result (λ p. is_any_touched objects.now.entries ≡ true → p.root.birth ≡ source.now.group.0) }
+    ensures refused { IfErr result IsWant }
 {
     let mut planner = Planner {
         alloc: source.alloc,
