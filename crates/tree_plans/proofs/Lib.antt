@@ -3,3 +3,4 @@ pub mod Payloads
 pub mod Entries
 pub mod Walks
 pub mod Planned
+pub mod Marked

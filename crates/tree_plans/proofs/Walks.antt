@@ -19,7 +19,7 @@ use Rattle.base.specs.Places.Place.{Root, Directory}
 use Rattle.checked_blocks.specs.Sealing.{padded}
 use Rattle.object_maps.specs.declared.tree.ObjectMap.{ObjectMap}
 use Rattle.tree_plans.specs.declared.planner.DirtyRecords.{DirtyRecords}
-use Rattle.tree_plans.specs.Pointers.{entry_of}
+use Rattle.tree_plans.specs.Pointers.{IsPut, entry_of}
 use Rattle.tree_plans.specs.Plans.{Progress, Goes, IsWritten, FreesOnly, RecordFrees, ObjectFrees, IsAmong, IsOf}
 use Rattle.tree_plans.specs.Walks.{AreDirectoriesPlanned, AreEntriesWritten, AreObjectsPlanned, DirectoriesFree, IsDirectoryPlanned, IsOfDirectory, IsOfObject, IsPlannedFrom, IsRootPlanned, ObjectsFree, is_any_touched, is_directory_touched}
 use Rattle.tree_plans.proofs.Payloads.{padded-full}
@@ -74,10 +74,6 @@ object_passed s maps after objects done planned id dirty none a = record {
       absurd (none (rw same low) r (rw alike flag))
   ];
 }
-
--- entries after one is put
-abbrev pub IsPut : List (ObjectId × ObjectMap) → ObjectId → ObjectMap → List (ObjectId × ObjectMap) → Type 0
-IsPut old id m new = (n : ℕ) → entry_of new n ≡ cond (id.0 == n) (Some m) (entry_of old n)
 
 -- an object is planned
 pub object_put : {flags : List Bool} {s t : Progress} (maps : List ObjectMap) (after : FinMap nat_cmp (List ℕ)) (objects done : List (ObjectId × DirtyRecords)) (old new : List (ObjectId × ObjectMap)) (id : ObjectId) (dirty : DirtyRecords) (m : ObjectMap)
@@ -237,7 +233,7 @@ module _ (R : ObjectId → ObjectId → Ordering) (ties : (a b : ObjectId) → i
   pub entry_of-get : {X : Type 0} (m : BTreeMap ObjectId X) (q : ObjectId) → tree.get R m q ≡ entry_of m.entries q.0
   entry_of-get m q = lookup_same (is_at (R q)) (λ id. q.0 == id.0) (ties q) m.entries
 
-  pub put_of : (old new : BTreeMap ObjectId ObjectMap) (id : ObjectId) (m : ObjectMap) → ((q : ObjectId) → tree.get R new q ≡ cond (is_at (R id) q) (Some m) (tree.get R old q)) → IsPut old.entries id m new.entries
+  pub put_of : {X : Type 0} (old new : BTreeMap ObjectId X) (id : ObjectId) (m : X) → ((q : ObjectId) → tree.get R new q ≡ cond (is_at (R id) q) (Some m) (tree.get R old q)) → IsPut old.entries id m new.entries
   put_of old new id m updates n =
       let q : ObjectId = record { 0 = n } in
       sym (entry_of-get new q) ∙ updates q ∙ ap (λ b. cond b (Some m) (tree.get R old q)) (ties id q) ∙ ap (λ o. cond (id.0 == n) (Some m) o) (entry_of-get old q)

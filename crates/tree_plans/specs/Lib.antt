@@ -2,3 +2,4 @@ pub mod Pointers
 pub mod Plans
 pub mod Walks
 pub mod Changes
+pub mod Marks

@@ -1,5 +1,5 @@
 -- The pointers of a tree as it is kept in memory, by place.
-use Rattle.std.specs.Prelude.{ℕ, ◌==◌, List, slice_get, slice_index_or, Option, Some, None}
+use Rattle.std.specs.Prelude.{ℕ, ◌≡◌, ◌==◌, cond, List, slice_get, slice_index_or, Option, Some, None}
 use Rattle.std.specs.Option.{option_map_or}
 use Rattle.std.specs.Map.{lookup}
 use Rattle.base.specs.declared.pointer.Pointer.{Pointer}
@@ -14,6 +14,10 @@ use Rattle.tree_plans.specs.declared.planner.TreePlan.{TreePlan}
 -- the value that entries by object number have at a number
 abbrev pub entry_of : {X : Type 0} → List (ObjectId × X) → ℕ → Option X
 entry_of entries n = lookup (λ (id : ObjectId). n == id.0) entries
+
+-- entries after one is put at its number
+abbrev pub IsPut : {X : Type 0} → List (ObjectId × X) → ObjectId → X → List (ObjectId × X) → Type 0
+IsPut old id x new = (n : ℕ) → entry_of new n ≡ cond (id.0 == n) (Some x) (entry_of old n)
 
 -- the pointer to a record, none past the last one
 abbrev pub record_in : ObjectMap → ℕ → Pointer

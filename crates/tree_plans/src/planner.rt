@@ -6,16 +6,17 @@ ghost use Rattle.std.specs.List.{list_any};
 ghost use Rattle.base.specs.Geometry.{block_count};
 ghost use Rattle.tree_plans.specs.declared.planner.PlannedBlock.{PlannedBlock};
 
+use crate::dirty::is_touched;
 use crate::freed::give_back;
 use crate::payload::{payload_of, record_of};
 use crate::place::{BlockPlace, RecordPlace};
 use crate::pointers::record_pointer;
-use base::{Group, ObjectId, Op, Ops, POINTER_COUNT, Pointer, PoolError, RECORD_SIZE};
+use base::{Group, ObjectId, Ops, POINTER_COUNT, Pointer, PoolError};
 use checked_blocks::{Block, seal};
 use labels::Geometry;
 use object_maps::ObjectMap;
 use space::FreeSet;
-use std::alloc::{AllocError, Global};
+use std::alloc::Global;
 use std::collections::BTreeMap;
 
 /// A committed transaction of an unsynced group.
@@ -41,18 +42,24 @@ pub struct DirtyRecords {
 }
 
 impl DirtyRecords {
-    fn none() -> Self {
+    ghost use Rattle.std.specs.Prelude.{ℕ, ◌<◌, ◌||◌, false, slice_index_or};
+    ghost use Rattle.base.specs.Syncs.{is_record_touched};
+
+    /// No record is dirty.
+    pub fn none() -> Self
+        ensures { (r : ℕ) → slice_index_or result.flags r false ≡ false }
+    {
         DirtyRecords {
             flags: [false; POINTER_COUNT],
         }
     }
 
-    // Marks each record that has a byte of a write.
-    fn mark(&mut self, offset: u64, count: usize) {
-        let end = offset.saturating_add(count as u64);
+    /// Marks each record that has a byte of a write.
+    pub fn mark(&mut self, offset: u64, count: usize)
+        ensures { (r : ℕ) → r < 84 → slice_index_or self.new.flags r false ≡ (is_record_touched r offset count || slice_index_or self.old.flags r false) }
+    {
         for index in 0..POINTER_COUNT {
-            let low = (RECORD_SIZE * index) as u64;
-            if offset < low + RECORD_SIZE as u64 && low < end {
+            if is_touched(index, offset, count) {
                 self.flags[index] = true;
             }
         }
@@ -64,39 +71,6 @@ impl DirtyRecords {
     {
         self.flags.iter().any(|dirty| *dirty)
     }
-}
-
-/// The objects that a group's operations create or write, rising, with their dirty records.
-pub fn dirty_objects(
-    alloc: Global,
-    pending: &[Committed],
-    group: Group,
-) -> Result<BTreeMap<ObjectId, DirtyRecords>, PoolError> {
-    let mut objects = BTreeMap::new(alloc);
-    for committed in pending {
-        if committed.group == group {
-            note_ops(&mut objects, committed.ops.as_slice())?;
-        }
-    }
-    Ok(objects)
-}
-
-fn note_ops(objects: &mut BTreeMap<ObjectId, DirtyRecords>, ops: &[Op]) -> Result<(), PoolError> {
-    for op in ops {
-        match op {
-            Op::Create(id) => {
-                objects.entry(*id)?.or_insert(DirtyRecords::none());
-            }
-            Op::Write(id, offset, bytes) => {
-                objects
-                    .entry(*id)?
-                    .or_insert(DirtyRecords::none())
-                    .mark(*offset, bytes.len());
-            }
-            _ => {}
-        }
-    }
-    Ok(())
 }
 
 /// What a sync makes of a tree.

@@ -4,7 +4,8 @@ use Rattle.std.specs.Cmp.{unsigned_tied}
 use Rattle.std.specs.FinMap as finite
 use Rattle.object_maps.specs.ContentsShown.{contents_of}
 use Rattle.object_maps.specs.declared.tree.ObjectMap.{ObjectMap}
-use Rattle.tree_plans.proofs.Walks.{IsPut, any_flag, get_at, object_passed, object_put, objects_free_put, put_of, unwrapped}
+use Rattle.tree_plans.specs.Pointers.{IsPut}
+use Rattle.tree_plans.proofs.Walks.{any_flag, get_at, object_passed, object_put, objects_free_put, put_of, unwrapped}
 use Rattle.tree_plans.proofs.walk.place_changed.Goals as goal
 
 pub returns-then-not-has_any-clause-planned : goal.returns-then-not-has_any-clause-planned
