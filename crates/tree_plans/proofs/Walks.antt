@@ -240,3 +240,7 @@ module _ (R : ObjectId → ObjectId → Ordering) (ties : (a b : ObjectId) → i
 
   pub found_of : (m : BTreeMap ObjectId DirtyRecords) → All (λ (e : ObjectId × DirtyRecords). tree.get R m e.0 ≡ Some e.1) m.entries → All (λ (e : ObjectId × DirtyRecords). entry_of m.entries e.0.0 ≡ Some e.1) m.entries
   found_of m all k d low = sym (entry_of-get m (slice_index_or m.entries k d).0) ∙ all k d low
+
+pub not_empty : {A : Type 0} (done : List A) (e : A) (rest : List A) → done ++ (e ∷ rest) ≡ [] → ⊥
+not_empty [] e rest is = absurd (cc)
+not_empty (x ∷ done) e rest is = absurd (cc)

@@ -69,6 +69,7 @@ pub fn plan(
     ensures freed { IfOk result (λ p. AreBornBefore source.now.group.0 (pointers_of source.now.tree.now) → AreFreed (pointers_of source.now.tree.now) (planned_pointers source.now.tree.now p) p.freed.items) }
     ensures kept_root { IfOk result (λ p. is_any_touched objects.now.entries ≡ false → p.root ≡ source.now.tree.now.root) }
     ensures new_root { IfOk result (λ p. is_any_touched objects.now.entries ≡ true → p.root.birth ≡ source.now.group.0) }
+    ensures none { IfOk result (λ p. objects.now.entries ≡ [] → p.blocks.items ≡ []) }
     ensures refused { IfErr result IsWant }
 {
     let mut planner = Planner {
@@ -111,6 +112,7 @@ fn place_tree(
     ensures count { IfOk result (λ tree. vec_len tree.directories ≡ 84) }
     ensures goes { OnOk result (Goes source.now.free.now.flags.items (progress_of planner.old) (progress_of planner.new)) }
     ensures walked { IfOk result (λ tree. IsWalked (progress_of planner.new) source.now.tree.now (contents_of source.now.contents.now).objects objects.now.entries tree.maps.entries tree.directories.items tree.root) }
+    ensures kept { OnOk result (objects.now.entries ≡ [] → planner.new ≡ planner.old) }
     ensures refused { IfErr result IsWant }
 {
     let maps = place_objects(planner, source, objects)?;
@@ -137,6 +139,7 @@ fn place_root(
     ensures goes { OnOk result (Goes source.now.free.now.flags.items (progress_of planner.old) (progress_of planner.new)) }
     ensures planned { IfOk result (λ root. IsRootPlanned (progress_of planner.new) directories.now (is_any_touched objects.now.entries) source.now.tree.now.root root) }
     ensures frees { OnOk result (RecordFrees planner.old.freed.items planner.new.freed.items (is_any_touched objects.now.entries) source.now.tree.now.root) }
+    ensures kept { OnOk result (objects.now.entries ≡ [] → planner.new ≡ planner.old) }
     ensures refused { IfErr result IsWant }
 {
     let root = &source.tree.root;
@@ -159,6 +162,7 @@ fn place_objects(
     ensures goes { OnOk result (Goes source.now.free.now.flags.items (progress_of planner.old) (progress_of planner.new)) }
     ensures planned { IfOk result (λ maps. AreObjectsPlanned (progress_of planner.new) source.now.tree.now.maps.items (contents_of source.now.contents.now).objects objects.now.entries objects.now.entries maps.entries) }
     ensures frees { IfOk result (λ maps. ObjectsFree planner.old.freed.items planner.new.freed.items source.now.tree.now.maps.items objects.now.entries maps.entries) }
+    ensures kept { OnOk result (objects.now.entries ≡ [] → planner.new ≡ planner.old) }
     ensures refused { IfErr result IsWant }
 {
     let mut maps = BTreeMap::new(source.alloc);
@@ -214,6 +218,7 @@ fn place_directories(
     ensures goes { OnOk result (Goes source.now.free.now.flags.items (progress_of planner.old) (progress_of planner.new)) }
     ensures planned { IfOk result (λ directories. AreDirectoriesPlanned (progress_of planner.new) source.now.tree.now.maps.items maps.now.entries (contents_of source.now.contents.now).objects objects.now.entries source.now.tree.now.directories.items 84 directories.items) }
     ensures frees { OnOk result (DirectoriesFree planner.old.freed.items planner.new.freed.items objects.now.entries source.now.tree.now.directories.items 84) }
+    ensures kept { OnOk result (objects.now.entries ≡ [] → planner.new ≡ planner.old) }
     ensures refused { IfErr result IsWant }
 {
     let mut directories = Vec::with_capacity(source.alloc, POINTER_COUNT)?;
@@ -240,6 +245,7 @@ fn place_directory(
     ensures goes { OnOk result (Goes source.now.free.now.flags.items (progress_of planner.old) (progress_of planner.new)) }
     ensures planned { IfOk result (λ pointer. IsDirectoryPlanned (progress_of planner.new) source.now.tree.now.maps.items maps.now.entries (contents_of source.now.contents.now).objects index touched (slice_index_or source.now.tree.now.directories.items index no_pointer) pointer) }
     ensures frees { OnOk result (RecordFrees planner.old.freed.items planner.new.freed.items touched (slice_index_or source.now.tree.now.directories.items index no_pointer)) }
+    ensures kept { OnOk result (touched ≡ false → planner.new ≡ planner.old) }
     ensures refused { IfErr result IsWant }
 {
     let old = source.tree.directories[index];

@@ -4,7 +4,7 @@ use Rattle.base.specs.declared.names.ObjectId.{ObjectId}
 use Rattle.tree_plans.specs.declared.planner.DirtyRecords.{DirtyRecords}
 use Rattle.tree_plans.specs.Pointers.{entry_of}
 use Rattle.tree_plans.proofs.Progress.{goes_twice}
-use Rattle.tree_plans.proofs.Walks.{found_of, next_of}
+use Rattle.tree_plans.proofs.Walks.{found_of, next_of, not_empty}
 use Rattle.tree_plans.proofs.walk.place_objects.Goals as goal
 
 pub loop-id-preserved : goal.loop-id-preserved
@@ -19,6 +19,7 @@ loop-id-preserved c =
       can = tt;
       ends = tt;
       geometry = c.in_ok-place_changed.ensures.geometry ∙ c.loop-id.invariant.geometry;
+      kept = λ none. absurd (not_empty done e rest (sym split ∙ none));
       goes = goes_twice c.loop-id.invariant.goes c.in_ok-place_changed.ensures.goes;
       done = done ++ (e ∷ []);
       split = split ∙ sym (append_assoc done (e ∷ []) rest);

@@ -1,4 +1,4 @@
-use Rattle.std.proofs.Common.{◌≡◌, ◌++◌, List}
+use Rattle.std.proofs.Common.{◌≡◌, ◌++◌, [], List}
 use Rattle.base.specs.declared.names.ObjectId.{ObjectId}
 use Rattle.object_maps.specs.ContentsShown.{contents_of}
 use Rattle.tree_plans.specs.declared.planner.DirtyRecords.{DirtyRecords}
@@ -11,6 +11,7 @@ invariant-loop-id l = record {
   can : (goal.iterator-loop-id).can_next l.id-iterator;
   ends : (goal.iterator-loop-id).is_finite l.id-iterator;
   geometry : l.planner.geometry ≡ l.fn.planner.geometry;
+  kept : l.objects.entries ≡ [] → l.planner ≡ l.fn.planner;
   goes : Goes l.source.free.now.flags.items (progress_of l.fn.planner) (progress_of l.planner);
   done : List (ObjectId × DirtyRecords);
   split : l.objects.entries ≡ done ++ l.id-iterator;
