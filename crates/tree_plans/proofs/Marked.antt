@@ -1,5 +1,5 @@
 -- The marks that operations leave, one after another.
-use Rattle.std.proofs.Common.{◌≡◌, ◌==◌, ℕ, zero, suc, ◌+◌, ◌<◌, ◌&&◌, ◌||◌, Bool, true, false, cond, List, [], ◌∷◌, ◌++◌, length, take, Option, Some, None, refl, sym, ◌∙◌, ap, append_assoc, arith}
+use Rattle.std.proofs.Common.{◌≡◌, ◌==◌, ℕ, zero, suc, ◌+◌, ◌<◌, ◌&&◌, ◌||◌, Bool, true, false, cond, List, [], ◌∷◌, ◌++◌, length, take, Option, Some, refl, sym, ◌∙◌, ap, append_assoc}
 use Rattle.std.specs.Prelude.{slice_index_or, is_some, replicate, filter}
 use Rattle.std.specs.List.{flat_map, list_any}
 use Rattle.std.specs.Option.{option_map_or}
@@ -88,7 +88,7 @@ pub pending_append : (group : ℕ) (xs ys : List Committed) → pending_ops grou
 pending_append group [] ys = refl
 pending_append group (x ∷ xs) ys =
     elim (x.group.0 == group) as (λ b. flat_map (λ (c : Committed). c.ops) (cond b (x ∷ filter (λ (c : Committed). c.group.0 == group) (xs ++ ys)) (filter (λ (c : Committed). c.group.0 == group) (xs ++ ys)))
-        ≡ flat_map (λ (c : Committed). c.ops) (cond b (x ∷ filter (λ (c : Committed). c.group.0 == group) xs) (filter (λ (c : Committed). c.group.0 == group) xs)) ++ pending_ops group ys) [
+    ≡ flat_map (λ (c : Committed). c.ops) (cond b (x ∷ filter (λ (c : Committed). c.group.0 == group) xs) (filter (λ (c : Committed). c.group.0 == group) xs)) ++ pending_ops group ys) [
       | true ↦ ap (λ l. x.ops ++ l) (pending_append group xs ys) ∙ sym (append_assoc x.ops (pending_ops group xs) (pending_ops group ys))
       | false ↦ pending_append group xs ys
     ]

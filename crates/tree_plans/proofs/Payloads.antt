@@ -1,12 +1,12 @@
 -- The payloads of the blocks of a tree.
-use Rattle.std.proofs.Common.{◌≡◌, ℕ, zero, suc, ◌+◌, ◌-◌, ◌*◌, ◌≤◌, ◌<◌, ◌≢◌, ◌^◌, ◌⊎◌, inl, inr, List, [], ◌++◌, length, take, drop, replicate, refl, sym, ◌∙◌, ap, arith, length-drop}
+use Rattle.std.proofs.Common.{◌≡◌, ℕ, ◌+◌, ◌-◌, ◌*◌, ◌≤◌, ◌<◌, ◌≢◌, ◌^◌, ◌⊎◌, inl, inr, List, [], ◌++◌, length, take, drop, refl, sym, ◌∙◌, arith, length-drop}
 use Rattle.std.specs.Prelude.{min}
 use Rattle.std.proofs.lemmas.List.{take_all, take_rest, drop_all, append-nil}
 use Rattle.std.proofs.lemmas.Bool.{cases_lt}
 use Rattle.std.proofs.lemmas.List.{length-append}
 use Rattle.base.specs.declared.pointer.Pointer.{Pointer}
 use Rattle.base.specs.Disk.{put}
-use Rattle.base.specs.Fields.{number_bytes, pointer_bytes, pointer_at, pointer_in, number_at, part}
+use Rattle.base.specs.Fields.{number_bytes, pointer_bytes, pointer_at, pointer_in}
 use Rattle.base.proofs.Put.{Apart, part-put_apart}
 use Rattle.base.proofs.FieldsRead.{length-number_bytes, number_at-put_apart, pointers_read_back}
 use Rattle.checked_blocks.specs.Sealing.{padded}

@@ -1,8 +1,6 @@
 -- What a whole walk makes of a tree, place by place.
-use Rattle.std.proofs.Common.{◌≡◌, ◌≢◌, ◌==◌, ℕ, zero, suc, ◌+◌, ◌*◌, ◌/◌, ◌<◌, ◌≤◌, ◌⊎◌, inl, inr, Bool, true, false, not, ◌||◌, List, [], ◌∷◌, ◌++◌, length, map, take, Option, Some, None, refl, sym, ◌∙◌, ap, subst, arith}
-use Rattle.std.specs.Prelude.{slice_get, slice_index_or, is_some, unwrap_or, All, IfSome, replicate}
-use Rattle.std.specs.List.{list_any}
-use Rattle.std.specs.Map.{keys_of}
+use Rattle.std.proofs.Common.{◌≡◌, ◌≢◌, ◌==◌, ℕ, suc, ◌+◌, ◌*◌, ◌/◌, ◌<◌, ◌≤◌, inl, inr, Bool, true, false, not, ◌||◌, List, [], ◌∷◌, ◌++◌, length, map, take, Option, Some, None, refl, sym, ◌∙◌, ap, subst, arith}
+use Rattle.std.specs.Prelude.{slice_get, slice_index_or, is_some, unwrap_or, All, IfSome}
 use Rattle.std.specs.Option.{option_map_or}
 use Rattle.std.specs.Ordering.{nat_cmp}
 use Rattle.std.specs.FinMap as finite
@@ -14,21 +12,21 @@ use Rattle.std.proofs.lemmas.Map.Entries.{place_from_lookup}
 use Rattle.base.specs.declared.pointer.Pointer.{Pointer}
 use Rattle.base.specs.declared.names.ObjectId.{ObjectId}
 use Rattle.base.specs.Limits.{object_count, max_length}
-use Rattle.base.specs.Fields.{no_pointer, pointer_in, entry_in}
+use Rattle.base.specs.Fields.{no_pointer, entry_in}
 use Rattle.base.specs.Geometry.{IsBlockAddress, block_address}
 use Rattle.base.specs.Blocks.{Frame}
 use Rattle.base.specs.Places.{Place, IsPlace}
 use Rattle.base.specs.Places.Place.{Root, Directory, Indirect, Data}
 use Rattle.base.specs.PlacedTrees.{IsEntryFor, IsPlaced, ArePlaced, padded_record}
-use Rattle.base.specs.PlannedTrees.{IsNewAt, IsPlannedAt, IsTreePlan, SameRecord, SameEntry, NewBlock, AreFreed}
+use Rattle.base.specs.PlannedTrees.{IsNewAt, IsPlannedAt, IsTreePlan, NewBlock, AreFreed}
 use Rattle.space.specs.FreeSets.{addresses_from, free_from}
 use Rattle.object_maps.specs.declared.tree.ObjectMap.{ObjectMap}
 use Rattle.object_maps.specs.declared.tree.Tree.{Tree}
 use Rattle.tree_plans.specs.declared.planner.DirtyRecords.{DirtyRecords}
 use Rattle.tree_plans.specs.declared.planner.PlannedBlock.{PlannedBlock}
 use Rattle.tree_plans.specs.Pointers.{entry_of, record_in, planned_map, pointers_from, pointers_of}
-use Rattle.tree_plans.specs.Plans.{Progress, IsRecordPlanned, Goes, HasTaken, IsWritten, IsAmong, IsOf, address_of, new_block}
-use Rattle.tree_plans.specs.Walks.{IsEntryWritten, IsPlannedFrom, AreObjectsPlanned, IsOfObject, IsOfDirectory, IsDirectoryPlanned, IsRootPlanned, IsWalked, indirect_after, is_any_touched, is_directory_touched}
+use Rattle.tree_plans.specs.Plans.{Progress, IsRecordPlanned, Goes, HasTaken, IsAmong, IsOf, address_of, new_block}
+use Rattle.tree_plans.specs.Walks.{IsEntryWritten, IsPlannedFrom, IsOfObject, IsDirectoryPlanned, IsRootPlanned, IsWalked, is_any_touched, is_directory_touched}
 use Rattle.tree_plans.specs.Changes.{AreBornBefore, AreChanges, HasNoOthers, IsCoveredBy, is_marked}
 
 -- the addresses that a plan has taken
@@ -69,7 +67,7 @@ untouched [] d n e none = refl
 untouched (o ∷ objects) d n e none =
     elim (n == o.0.0) as (λ t. (n == o.0.0) ≡ t → entry_of (o ∷ objects) n ≡ None) [
       | true ↦ λ is. let same : n ≡ o.0.0 = eqb-true n o.0.0 is in
-        let here : ((o.0.0 / 63) == d) ≡ true = eq-eqb (o.0.0 / 63) d (rw (← same) e) in absurd (clash _ _ here none)
+          let here : ((o.0.0 / 63) == d) ≡ true = eq-eqb (o.0.0 / 63) d (rw (← same) e) in absurd (clash _ _ here none)
       | false ↦ λ is. rw is (untouched objects d n e (rest _ _ none))
     ] refl
   where
@@ -111,14 +109,14 @@ module _ (s : Progress) (t : Tree) (after : FinMap nat_cmp (List ℕ)) (objects 
       go : (o : Option DirtyRecords) → entry_of objects n ≡ o → option_map_or (λ (dirty : DirtyRecords). slice_index_or dirty.flags r false) o false ≡ false
       go None e = refl
       go (Some dirty) e = elim (slice_index_or dirty.flags r false) as (λ f. slice_index_or dirty.flags r false ≡ f → f ≡ false) [
-          | true ↦ λ flag.
+        | true ↦ λ flag.
             let p = place_from_lookup (λ (id : ObjectId). n == id.0) objects dirty e in
             let same : n ≡ p.1.0 = eqb-true n p.1.0 p.3 in
             let there = w.objects_planned.all p.0 p.1 dirty p.2 (rw (← same) low) r flag in
             let none_there : is_some (entry_of planned n) ≡ true = rw (← same) at there in
             absurd (none_some (entry_of planned n) none none_there)
-          | false ↦ λ flag. refl
-        ] refl
+        | false ↦ λ flag. refl
+      ] refl
 
   data_kept : (n r : ℕ) → entry_of planned n ≡ None → new (Data n r) ≡ pointers_of t (Data n r)
   data_kept n r e = ap (data_in r) (planned_not t.maps.items planned n e)
@@ -145,9 +143,11 @@ module _ (s : Progress) (t : Tree) (after : FinMap nat_cmp (List ℕ)) (objects 
   record_planned before covered changes n r m f low e true flag written =
       let marked : is_marked objects n r ≡ true = ap (λ (o : Option DirtyRecords). option_map_or (λ (dirty : DirtyRecords). slice_index_or dirty.flags r false) o false) f.dirty_is ∙ flag in
       inr (if_some (λ (bytes : List ℕ). 4032 * r < length bytes) (λ (bytes : List ℕ). (4032 * r < length bytes) × IsNewAt s.blocks s.frame (Data n r) (new (Data n r)) (padded_record r bytes)) (finite.get after n)
-      (λ bytes is begins. (begins,
-      subst (λ (p : Pointer). IsNewAt s.blocks s.frame (Data n r) p (padded_record r bytes)) (sym (data_now n r m e))
-      (subst (λ (b : List ℕ). IsNewAt s.blocks s.frame (Data n r) (record_in m r) (padded_record r b)) (ap (λ (o : Option (List ℕ)). unwrap_or o []) is) written.block)))
+      (λ bytes is begins. (
+        begins,
+        subst (λ (p : Pointer). IsNewAt s.blocks s.frame (Data n r) p (padded_record r bytes)) (sym (data_now n r m e))
+            (subst (λ (b : List ℕ). IsNewAt s.blocks s.frame (Data n r) (record_in m r) (padded_record r b)) (ap (λ (o : Option (List ℕ)). unwrap_or o []) is) written.block),
+      ))
       (changes.within n r f.low marked))
   record_planned before covered changes n r m f low e false flag same =
       let unmarked : is_marked objects n r ≡ false = ap (λ (o : Option DirtyRecords). option_map_or (λ (dirty : DirtyRecords). slice_index_or dirty.flags r false) o false) f.dirty_is ∙ flag in
@@ -164,8 +164,11 @@ module _ (s : Progress) (t : Tree) (after : FinMap nat_cmp (List ℕ)) (objects 
   indirect_planned before n None e = inl (indirect_kept n e, λ r low. data_kept n r e)
   indirect_planned before n (Some m) e =
       let f = w.objects_planned.each n m e in
-      inr (f.planned.payload, subst (λ (p : Pointer). IsNewAt s.blocks s.frame (Indirect n) p f.planned.payload) (sym (indirect_now n m e)) f.planned.indirect.block,
-      λ r low. f.planned.pointers r low ∙ sym (data_now n r m e))
+      inr (
+        f.planned.payload,
+        subst (λ (p : Pointer). IsNewAt s.blocks s.frame (Indirect n) p f.planned.payload) (sym (indirect_now n m e)) f.planned.indirect.block,
+        λ r low. f.planned.pointers r low ∙ sym (data_now n r m e),
+      )
 
   -- an object that is not there has no indirect block after the plan either
   no_others : AreChanges objects after → HasNoOthers (pointers_of t) after → (n : ℕ) → n < object_count → finite.get after n ≡ None → (o : Option ObjectMap) → entry_of planned n ≡ o → new (Indirect n) ≡ no_pointer
@@ -182,17 +185,24 @@ module _ (s : Progress) (t : Tree) (after : FinMap nat_cmp (List ℕ)) (objects 
       → (b : Bool) → is_directory_touched objects d ≡ b → IsDirectoryPlanned s t.maps.items planned after d b (slice_index_or t.directories.items d no_pointer) (slice_index_or directories d no_pointer)
       → IsPlannedAt s.blocks s.frame (pointers_of t) new before after (Directory d)
   directory_planned before covered changes absent d low true e p =
-      inr (p.0, p.1.block, λ k below.
-      let there : 63 * d + k < object_count = omega (arith, low, below) in
-      entry_for (entry_in p.0 k) (new (Indirect (63 * d + k))) (finite.get after (63 * d + k)) (p.2 k below)
-      (λ none. no_others changes absent (63 * d + k) there none (entry_of planned (63 * d + k)) refl) (changes.sizes (63 * d + k)))
+      inr (
+        p.0,
+        p.1.block,
+        λ k below.
+            let there : 63 * d + k < object_count = omega (arith, low, below) in
+            entry_for (entry_in p.0 k) (new (Indirect (63 * d + k))) (finite.get after (63 * d + k)) (p.2 k below)
+            (λ none. no_others changes absent (63 * d + k) there none (entry_of planned (63 * d + k)) refl) (changes.sizes (63 * d + k)),
+      )
   directory_planned before covered changes absent d low false e same =
-      inl (same, λ k below.
-      let n : ℕ = 63 * d + k in
-      let there : 63 * d + k < object_count = omega (arith, low, below) in
-      let of : (63 * d + k) / 63 ≡ d = omega (arith, below) in
-      let none : entry_of objects (63 * d + k) ≡ None = untouched objects d (63 * d + k) of e in
-      (indirect_kept (63 * d + k) (not_planned (63 * d + k) none (entry_of planned (63 * d + k)) refl), covered.entries (63 * d + k) there (ap is_some none)))
+      inl (
+        same,
+        λ k below.
+            let n : ℕ = 63 * d + k in
+            let there : 63 * d + k < object_count = omega (arith, low, below) in
+            let of : (63 * d + k) / 63 ≡ d = omega (arith, below) in
+            let none : entry_of objects (63 * d + k) ≡ None = untouched objects d (63 * d + k) of e in
+            (indirect_kept (63 * d + k) (not_planned (63 * d + k) none (entry_of planned (63 * d + k)) refl), covered.entries (63 * d + k) there (ap is_some none)),
+      )
 
   root_planned : (before : FinMap nat_cmp (List ℕ)) → (b : Bool) → is_any_touched objects ≡ b → IsRootPlanned s directories b t.root root → IsPlannedAt s.blocks s.frame (pointers_of t) new before after Root
   root_planned before true e p = inr (p.0, p.1.block, p.2)
@@ -289,12 +299,12 @@ module _ (s : Progress) (t : Tree) (after : FinMap nat_cmp (List ℕ)) (objects 
 
   replaced : (address : ℕ) → IsAmong s.freed address → IsReplaced address
   replaced address among = elim (w.frees address among) [
-      | inl o ↦ object_replaced address o (entry_of planned o.number) refl
-      | inr more ↦ elim more [
-        | inl d ↦ record { place = Directory d.number; in_range = d.low; is_of = d.is_of; born = born_directory d.number _ _ _ d.touched (w.directories_planned d.number d.low) }
-        | inr r ↦ record { place = Root; in_range = tt; is_of = r.1; born = born_root _ _ _ r.0 w.root_planned }
-      ]
+    | inl o ↦ object_replaced address o (entry_of planned o.number) refl
+    | inr more ↦ elim more [
+      | inl d ↦ record { place = Directory d.number; in_range = d.low; is_of = d.is_of; born = born_directory d.number _ _ _ d.touched (w.directories_planned d.number d.low) }
+      | inr r ↦ record { place = Root; in_range = tt; is_of = r.1; born = born_root _ _ _ r.0 w.root_planned }
     ]
+  ]
 
   pub freed_in_area : ArePlaced s.frame.blocks (pointers_of t) → All (λ address. IsBlockAddress s.frame.blocks address) s.freed
   freed_in_area old k d low =

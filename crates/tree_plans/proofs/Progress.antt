@@ -3,17 +3,17 @@ use Rattle.std.proofs.Common.{◌≡◌, ◌≢◌, ℕ, zero, suc, ◌+◌, ◌
 use Rattle.std.specs.Prelude.{slice_get, slice_index_or}
 use Rattle.base.specs.declared.pointer.Pointer.{Pointer}
 use Rattle.base.specs.Fields.{no_pointer, part, pointer_in}
-use Rattle.base.specs.Geometry.{block_address, IsBlockAddress}
+use Rattle.base.specs.Geometry.{block_address}
 use Rattle.base.specs.Blocks.{Frame, IsBlock}
 use Rattle.base.specs.Places.{Place, kind_of, number_of}
-use Rattle.base.specs.Places.Place.{Data, Indirect}
+use Rattle.base.specs.Places.Place.{Indirect}
 use Rattle.base.specs.PlannedTrees.{NewBlock, IsNewAt}
 use Rattle.space.specs.FreeSets.{free_from}
 use Rattle.tree_plans.specs.declared.planner.PlannedBlock.{PlannedBlock}
 use Rattle.std.proofs.lemmas.Bool.{cases_lt}
 use Rattle.object_maps.specs.declared.tree.ObjectMap.{ObjectMap}
 use Rattle.tree_plans.specs.Pointers.{record_in}
-use Rattle.tree_plans.specs.Plans.{Progress, Keeps, IsAmong, HasTaken, Goes, IsWritten, IsRecordPlanned, AreRecordsPlanned, RecordFrees, RecordsFree, FreesOnly, ObjectFrees, IsObjectPlanned, IsOfRecord, new_block, IsOf}
+use Rattle.tree_plans.specs.Plans.{Progress, Keeps, IsAmong, Goes, IsWritten, IsRecordPlanned, AreRecordsPlanned, RecordFrees, RecordsFree, FreesOnly, ObjectFrees, IsObjectPlanned, new_block}
 use Rattle.checked_blocks.specs.Sealing.{padded}
 use Rattle.tree_plans.proofs.Payloads.{padded-full}
 

@@ -1,5 +1,5 @@
 -- What a walk plans, step by step.
-use Rattle.std.proofs.Common.{◌≡◌, ◌≢◌, ◌==◌, ℕ, zero, suc, ◌+◌, ◌<◌, ◌≤◌, ◌⊎◌, inl, inr, Bool, true, false, not, ◌||◌, cond, List, [], ◌∷◌, ◌++◌, length, map, Option, Ordering, Some, None, refl, sym, ◌∙◌, ap, append_assoc, arith}
+use Rattle.std.proofs.Common.{◌≡◌, ◌==◌, ℕ, zero, suc, ◌+◌, ◌<◌, ◌⊎◌, inl, inr, Bool, true, false, not, ◌||◌, cond, List, [], ◌∷◌, ◌++◌, length, Option, Ordering, Some, None, refl, sym, ◌∙◌, ap, arith}
 use Rattle.std.specs.Prelude.{slice_get, slice_index_or, is_some, unwrap_or, option_map, All, IsTrue}
 use Rattle.std.specs.Borrow.{Bor}
 use Rattle.std.specs.Map.{lookup}
@@ -69,9 +69,9 @@ object_passed s maps after objects done planned id dirty none a = record {
   all = λ i other flags at low r flag. elim (push_cases done (id, dirty) (other, flags) i at) [
     | inl before ↦ a.all i other flags before low r flag
     | inr e ↦
-      let same : id ≡ other = ap (λ (p : ObjectId × DirtyRecords). p.0) e in
-      let alike : dirty ≡ flags = ap (λ (p : ObjectId × DirtyRecords). p.1) e in
-      absurd (none (rw same low) r (rw alike flag))
+        let same : id ≡ other = ap (λ (p : ObjectId × DirtyRecords). p.0) e in
+        let alike : dirty ≡ flags = ap (λ (p : ObjectId × DirtyRecords). p.1) e in
+        absurd (none (rw same low) r (rw alike flag))
   ];
 }
 
@@ -216,9 +216,9 @@ next_of {A} P all done rest e split holds =
 
 pub any_touched : (n : ℕ) (b : Bool) → (IsTrue b → n ≡ 0) × (n ≡ 0 → IsTrue b) → b ≡ false → not (n == 0) ≡ true
 any_touched n b iff none = elim (n == 0) as (λ t. (n == 0) ≡ t → not t ≡ true) [
-    | true ↦ λ e. let there : IsTrue b = iff.1 (eqb-true n 0 e) in absurd (cc)
-    | false ↦ λ e. refl
-  ] refl
+  | true ↦ λ e. let there : IsTrue b = iff.1 (eqb-true n 0 e) in absurd (cc)
+  | false ↦ λ e. refl
+] refl
 
 pub unwrapped : (o : Option (Bor (List ℕ))) (d : Bor (List ℕ)) (after : Option (List ℕ)) → option_map (λ (b : Bor (List ℕ)). b.now) o ≡ after → d.now ≡ [] → (unwrap_or o d).now ≡ unwrap_or after []
 unwrapped None d after e none = none ∙ ap (λ (a : Option (List ℕ)). unwrap_or a []) e

@@ -1,5 +1,5 @@
 -- The pointers of a tree as it is kept in memory, by place.
-use Rattle.std.specs.Prelude.{ℕ, ◌≡◌, ◌==◌, cond, List, slice_get, slice_index_or, Option, Some, None}
+use Rattle.std.specs.Prelude.{ℕ, ◌≡◌, ◌==◌, cond, List, slice_get, slice_index_or, Option, Some}
 use Rattle.std.specs.Option.{option_map_or}
 use Rattle.std.specs.Map.{lookup}
 use Rattle.base.specs.declared.pointer.Pointer.{Pointer}

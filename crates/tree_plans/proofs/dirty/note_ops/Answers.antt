@@ -1,4 +1,3 @@
-use Rattle.std.proofs.Common.{◌≡◌}
 use Rattle.tree_plans.proofs.Marked.{front_more, marks_append}
 use Rattle.tree_plans.proofs.dirty.note_ops.Goals as goal
 

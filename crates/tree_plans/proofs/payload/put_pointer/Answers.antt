@@ -1,4 +1,4 @@
-use Rattle.std.proofs.Common.{◌≡◌, ◌^◌, ◌<◌, length, ap, ◌∙◌, rules, arith}
+use Rattle.std.proofs.Common.{◌≡◌, ◌^◌, ◌<◌, length, rules, arith}
 use Rattle.tree_plans.proofs.Payloads.{pointer_in-put, pointer_in-put_other}
 use Rattle.tree_plans.proofs.payload.put_pointer.Goals as goal
 

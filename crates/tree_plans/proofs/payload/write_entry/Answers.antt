@@ -1,4 +1,4 @@
-use Rattle.std.proofs.Common.{◌≡◌, ◌+◌, ◌*◌, ◌^◌, ◌<◌, ◌≤◌, length, rules, arith}
+use Rattle.std.proofs.Common.{◌≡◌, ◌*◌, ◌^◌, ◌<◌, length, rules, arith}
 use Rattle.tree_plans.proofs.Entries.{entry_is_present, entry_has_length, entry_has_pointer, entry_apart, entries_apart}
 use Rattle.tree_plans.proofs.payload.write_entry.Goals as goal
 

@@ -1,4 +1,4 @@
-use Rattle.std.proofs.Common.{◌≡◌, ◌+◌, ◌≤◌, length, arith, ap, ◌∙◌, sym, rules}
+use Rattle.std.proofs.Common.{◌≡◌, length, arith, ap, ◌∙◌}
 use Rattle.tree_plans.specs.Walks.{is_directory_touched}
 use Rattle.tree_plans.proofs.Progress.{goes_twice}
 use Rattle.tree_plans.proofs.Walks.{directories_push, directories_free_push}

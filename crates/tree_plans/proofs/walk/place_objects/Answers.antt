@@ -1,4 +1,4 @@
-use Rattle.std.proofs.Common.{◌≡◌, ℕ, List, [], ◌∷◌, ◌++◌, Some, append_assoc, ap, ◌∙◌, sym}
+use Rattle.std.proofs.Common.{◌≡◌, List, [], ◌∷◌, ◌++◌, Some, append_assoc, ap, ◌∙◌, sym}
 use Rattle.std.specs.Cmp.{unsigned_tied}
 use Rattle.base.specs.declared.names.ObjectId.{ObjectId}
 use Rattle.tree_plans.specs.declared.planner.DirtyRecords.{DirtyRecords}

@@ -1,5 +1,3 @@
-use Rattle.std.proofs.Common.{◌≡◌, ap}
-use Rattle.std.specs.Prelude.{slice_index_or}
 use Rattle.object_maps.specs.ContentsShown.{contents_of}
 use Rattle.tree_plans.proofs.Progress.{goes_twice}
 use Rattle.tree_plans.proofs.Walks.{directories_stay, objects_stay, walk_frees}

@@ -1,4 +1,4 @@
-use Rattle.std.proofs.Common.{◌≡◌, ℕ, List, ap, refl, map, subst}
+use Rattle.std.proofs.Common.{List, ap, refl, map, subst}
 use Rattle.std.specs.Prelude.{All}
 use Rattle.base.specs.Geometry.{IsBlockAddress}
 use Rattle.base.specs.Blocks.{Frame}

@@ -1,9 +1,8 @@
 use Rattle.std.proofs.Common.{◌≡◌, ◌<◌, arith, ap, ◌∙◌, refl, map, List, ◌++◌, ◌∷◌, []}
 use Rattle.std.proofs.lemmas.List.Elements.{All-push}
 use Rattle.base.specs.Geometry.{block_count}
-use Rattle.base.specs.PlannedTrees.{NewBlock}
 use Rattle.tree_plans.specs.declared.planner.PlannedBlock.{PlannedBlock}
-use Rattle.tree_plans.specs.Plans.{new_block, FreesOnly}
+use Rattle.tree_plans.specs.Plans.{new_block}
 use Rattle.tree_plans.proofs.Progress.{new_blocks-push, goes_on, written_at}
 use Rattle.tree_plans.proofs.planner.Planner.place.Goals as goal
 

@@ -1,4 +1,4 @@
-use Rattle.std.proofs.Common.{◌≡◌, length, ap, ◌∙◌}
+use Rattle.std.proofs.Common.{ap, ◌∙◌}
 use Rattle.std.specs.Prelude.{slice_index_or}
 use Rattle.base.specs.Fields.{no_pointer}
 use Rattle.tree_plans.proofs.Progress.{goes_twice, object_planned, object_frees}

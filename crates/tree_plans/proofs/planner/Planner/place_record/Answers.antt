@@ -1,7 +1,7 @@
-use Rattle.std.proofs.Common.{◌≡◌, ◌⊎◌, inl, inr, true, ℕ, List, Bool, rules}
+use Rattle.std.proofs.Common.{◌≡◌, inl, inr, true, ℕ, List, Bool, rules}
 use Rattle.std.proofs.lemmas.Result.{on_ok_weaker}
 use Rattle.base.specs.declared.pointer.Pointer.{Pointer}
-use Rattle.tree_plans.specs.Plans.{FreesOnly, RecordFrees, IsAmong, IsOf}
+use Rattle.tree_plans.specs.Plans.{FreesOnly, RecordFrees}
 use Rattle.tree_plans.proofs.planner.Planner.place_record.Goals as goal
 
 weaker : (old new : List ℕ) (was : Pointer) (dirty : Bool) → dirty ≡ true → FreesOnly old new was → RecordFrees old new dirty was

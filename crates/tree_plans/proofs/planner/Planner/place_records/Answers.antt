@@ -1,4 +1,4 @@
-use Rattle.std.proofs.Common.{◌≡◌, ◌+◌, ◌≤◌, length, arith, ap, ◌∙◌, sym, rules}
+use Rattle.std.proofs.Common.{◌≡◌, length, arith, ◌∙◌}
 use Rattle.tree_plans.proofs.Progress.{records_push, frees_push, goes_twice}
 use Rattle.tree_plans.proofs.planner.Planner.place_records.Goals as goal
 
