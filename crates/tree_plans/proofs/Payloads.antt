@@ -1,0 +1,80 @@
+-- The payloads of the blocks of a tree.
+use Rattle.std.proofs.Common.{◌≡◌, ℕ, ◌+◌, ◌-◌, ◌*◌, ◌≤◌, ◌<◌, ◌≢◌, ◌^◌, ◌⊎◌, inl, inr, List, [], ◌++◌, length, take, drop, refl, sym, ◌∙◌, arith, length-drop}
+use Rattle.std.specs.Prelude.{min}
+use Rattle.std.proofs.lemmas.List.{take_all, take_rest, drop_all, append-nil}
+use Rattle.std.proofs.lemmas.Bool.{cases_lt}
+use Rattle.std.proofs.lemmas.List.{length-append}
+use Rattle.base.specs.declared.pointer.Pointer.{Pointer}
+use Rattle.base.specs.Disk.{put}
+use Rattle.base.specs.Fields.{number_bytes, pointer_bytes, pointer_at, pointer_in}
+use Rattle.base.proofs.Put.{Apart, part-put_apart}
+use Rattle.base.proofs.FieldsRead.{length-number_bytes, number_at-put_apart, pointers_read_back}
+use Rattle.checked_blocks.specs.Sealing.{padded}
+
+take_none : (k : ℕ) → ◌≡◌ {A = List ℕ} (take k []) []
+take_none k = take_all k [] (omega arith)
+
+-- a part that is cut at the end of the bytes
+pub cut-part : (bytes : List ℕ) (a n low high : ℕ) → low ≡ min a (length bytes) → high ≡ min (a + n) (length bytes) → take (high - low) (drop low bytes) ≡ take n (drop a bytes)
+cut-part bytes a n low high l h = go (cases_lt a (length bytes))
+  where
+    go : (a < length bytes) ⊎ (length bytes ≤ a) → take (high - low) (drop low bytes) ≡ take n (drop a bytes)
+    go (inl below) = inside (omega arith) (cases_lt (length bytes) (a + n))
+      where
+        inside : low ≡ a → (length bytes < a + n) ⊎ (a + n ≤ length bytes) → take (high - low) (drop low bytes) ≡ take n (drop a bytes)
+        inside e (inl over) =
+            let long : high ≡ length bytes = omega arith in
+            let rest = length-drop a bytes in
+            rw (e, long, take_rest bytes a) (sym (take_all n (drop a bytes) (omega arith)))
+        inside e (inr within) =
+            let count : high - a ≡ n = omega arith in
+            rw (e, count) refl
+    go (inr past) =
+        let e : low ≡ length bytes = omega arith in
+        let none : drop (length bytes) bytes ≡ [] = drop_all (length bytes) bytes (omega arith) in
+        let none_too : drop a bytes ≡ [] = drop_all a bytes past in
+        rw (e, none, none_too) (take_none (high - length bytes) ∙ sym (take_none n))
+
+-- a payload that is full has no zeros behind it
+pub padded-full : (payload : List ℕ) → length payload ≡ 4032 → padded payload ≡ payload
+padded-full payload long = rw long (append-nil payload)
+
+pub length-pointer_bytes : (p : Pointer) → length p.check ≡ 32 → length (pointer_bytes p) ≡ 48
+length-pointer_bytes p long =
+    let a = length-number_bytes p.address in
+    let b = length-number_bytes p.birth in
+    let ab = length-append (number_bytes p.birth) p.check in
+    omega (arith, length-append (number_bytes p.address) (number_bytes p.birth ++ p.check), a, b, ab, long)
+
+-- a pointer stays where something else is written
+pub pointer_at-put_apart : (place : ℕ) (content bytes : List ℕ) (at : ℕ) → place + length content ≤ length bytes → Apart place (length content) at 48
+    → pointer_at (put place content bytes) at ≡ pointer_at bytes at
+pointer_at-put_apart place content bytes at fits apart =
+    same (number_at-put_apart place content bytes at fits (first apart))
+    (number_at-put_apart place content bytes (at + 8) fits (within 8 8 apart (omega arith)))
+    (part-put_apart place content bytes (at + 16) 32 fits (within 16 32 apart (omega arith)))
+  where
+    first : Apart place (length content) at 48 → Apart place (length content) at 8
+    first (inl before) = inl before
+    first (inr behind) = inr (omega arith)
+
+    within : (i n : ℕ) → Apart place (length content) at 48 → i + n ≤ 48 → Apart place (length content) (at + i) n
+    within i n (inl before) low = inl (omega arith)
+    within i n (inr behind) low = inr (omega arith)
+
+    same : {x y z w : ℕ} {a b : List ℕ} → x ≡ y → z ≡ w → a ≡ b → ◌≡◌ {A = Pointer} (record { address = x; birth = z; check = a }) (record { address = y; birth = w; check = b })
+    same e f g = rw (e, f, g) refl
+
+pub pointer_in-put : (index : ℕ) (p : Pointer) (bytes : List ℕ) → length bytes ≡ 4032 → index < 84 → p.address < 2 ^ 64 → p.birth < 2 ^ 64 → length p.check ≡ 32
+    → pointer_in (put (48 * index) (pointer_bytes p) bytes) index ≡ p
+pointer_in-put index p bytes long low address birth check = pointers_read_back (48 * index) p bytes (omega arith) address birth check
+
+pub pointer_in-put_other : (index r : ℕ) (p : Pointer) (bytes : List ℕ) → length bytes ≡ 4032 → index < 84 → length p.check ≡ 32 → r ≢ index
+    → pointer_in (put (48 * index) (pointer_bytes p) bytes) r ≡ pointer_in bytes r
+pointer_in-put_other index r p bytes long low check ne =
+    let size = length-pointer_bytes p check in
+    pointer_at-put_apart (48 * index) (pointer_bytes p) bytes (48 * r) (omega arith) (side (cases_lt r index))
+  where
+    side : (r < index) ⊎ (index ≤ r) → Apart (48 * index) (length (pointer_bytes p)) (48 * r) 48
+    side (inl before) = let size = length-pointer_bytes p check in inr (omega arith)
+    side (inr behind) = let size = length-pointer_bytes p check in let after : index < r = omega (arith, ne) in inl (omega arith)

@@ -1,0 +1,173 @@
+-- How a plan goes on: what it has stays, and the next block is the lowest free one.
+use Rattle.std.proofs.Common.{◌≡◌, ◌≢◌, ℕ, zero, suc, ◌+◌, ◌<◌, ◌⊎◌, inl, inr, Bool, true, false, List, [], ◌∷◌, ◌++◌, length, map, ◌≤◌, Some, refl, sym, ◌∙◌, ap, append_assoc, arith}
+use Rattle.std.specs.Prelude.{slice_get, slice_index_or}
+use Rattle.base.specs.declared.pointer.Pointer.{Pointer}
+use Rattle.base.specs.Fields.{no_pointer, part, pointer_in}
+use Rattle.base.specs.Geometry.{block_address}
+use Rattle.base.specs.Blocks.{Frame, IsBlock}
+use Rattle.base.specs.Places.{Place, kind_of, number_of}
+use Rattle.base.specs.Places.Place.{Indirect}
+use Rattle.base.specs.PlannedTrees.{NewBlock, IsNewAt}
+use Rattle.space.specs.FreeSets.{free_from}
+use Rattle.tree_plans.specs.declared.planner.PlannedBlock.{PlannedBlock}
+use Rattle.std.proofs.lemmas.Bool.{cases_lt}
+use Rattle.object_maps.specs.declared.tree.ObjectMap.{ObjectMap}
+use Rattle.tree_plans.specs.Pointers.{record_in}
+use Rattle.tree_plans.specs.Plans.{Progress, Keeps, IsAmong, Goes, IsWritten, IsRecordPlanned, AreRecordsPlanned, RecordFrees, RecordsFree, FreesOnly, ObjectFrees, IsObjectPlanned, new_block}
+use Rattle.checked_blocks.specs.Sealing.{padded}
+use Rattle.tree_plans.proofs.Payloads.{padded-full}
+
+pub new_blocks-push : (blocks : List PlannedBlock) (b : PlannedBlock) → map new_block (blocks ++ b ∷ []) ≡ map new_block blocks ++ new_block b ∷ []
+new_blocks-push [] b = refl
+new_blocks-push (x ∷ blocks) b = ap (λ l. new_block x ∷ l) (new_blocks-push blocks b)
+
+addresses-push : (blocks : List NewBlock) (b : NewBlock) → map (λ (x : NewBlock). x.address) (blocks ++ b ∷ []) ≡ map (λ (x : NewBlock). x.address) blocks ++ b.address ∷ []
+addresses-push [] b = refl
+addresses-push (x ∷ blocks) b = ap (λ l. x.address ∷ l) (addresses-push blocks b)
+
+pub keeps_push : {A : Type 0} (xs : List A) (a : A) → Keeps xs (xs ++ a ∷ [])
+keeps_push [] a i b e = absurd (cc)
+keeps_push (x ∷ xs) a zero b e = e
+keeps_push (x ∷ xs) a (suc i) b e = keeps_push xs a i b e
+
+pub last_push : {A : Type 0} (xs : List A) (a : A) → slice_get (xs ++ a ∷ []) (length xs) ≡ Some a
+last_push [] a = refl
+last_push (x ∷ xs) a = last_push xs a
+
+pub goes_nowhere : (flags : List Bool) (s : Progress) → Goes flags s s
+goes_nowhere flags s = record { frame = refl; taken = λ h. h; blocks = λ i b e. e; freed = λ i a e. e }
+
+pub goes_twice : {flags : List Bool} {r s t : Progress} → Goes flags r s → Goes flags s t → Goes flags r t
+goes_twice g h = record {
+  frame = h.frame ∙ g.frame;
+  taken = λ e. h.taken (g.taken e);
+  blocks = λ i b e. h.blocks i b (g.blocks i b e);
+  freed = λ i a e. h.freed i a (g.freed i a e);
+}
+
+-- a block is taken
+pub goes_on : (flags : List Bool) (next index : ℕ) (blocks after : List NewBlock) (block : NewBlock) (freed released : List ℕ) (frame : Frame)
+    → after ≡ blocks ++ block ∷ [] → block.address ≡ block_address index → free_from next flags ≡ block_address index ∷ free_from (index + 1) flags → Keeps freed released
+    → Goes flags (record { next = next; blocks = blocks; freed = freed; frame = frame }) (record { next = index + 1; blocks = after; freed = released; frame = frame })
+goes_on flags next index blocks after block freed released frame pushed here lowest kept = record {
+  frame = refl;
+  taken = λ all. ap (λ (l : List NewBlock). map (λ (b : NewBlock). b.address) l ++ free_from (index + 1) flags) pushed
+      ∙ ap (λ (l : List ℕ). l ++ free_from (index + 1) flags) (addresses-push blocks block)
+      ∙ append_assoc (map (λ (b : NewBlock). b.address) blocks) (block.address ∷ []) (free_from (index + 1) flags)
+      ∙ ap (λ (a : ℕ). map (λ (b : NewBlock). b.address) blocks ++ (a ∷ free_from (index + 1) flags)) here
+      ∙ ap (λ (l : List ℕ). map (λ (b : NewBlock). b.address) blocks ++ l) (sym lowest)
+      ∙ all;
+  blocks = λ i b e. rw pushed (keeps_push blocks block i b e);
+  freed = kept;
+}
+
+-- and it stands at its place
+pub written_at : (s : Progress) (blocks : List NewBlock) (block : NewBlock) (index kind number : ℕ) (place : Place) (old new : Pointer) (payload : List ℕ)
+    → s.blocks ≡ blocks ++ block ∷ [] → block.address ≡ block_address index → index < s.frame.blocks → new.address ≡ block_address index → new.birth ≡ s.frame.group
+    → new.check ≡ part block.content 32 32 → kind ≡ kind_of place → number ≡ number_of place → IsBlock block.content kind s.frame.guid s.frame.group number payload
+    → (old ≢ no_pointer → IsAmong s.freed old.address) → IsWritten s place old new payload
+written_at s blocks block index kind number place old new payload pushed here low address birth check kind_is number_is sealed freed = record {
+  block = record {
+    index = length blocks;
+    block = block;
+    found = rw pushed (last_push blocks block);
+    address = address ∙ sym here;
+    birth = birth;
+    check = sym check;
+    sealed = rw (← kind_is, ← number_is) sealed;
+  };
+  in_area = (index, low, address);
+  freed = freed;
+}
+
+-- what is planned stays planned
+pub new_stays : {flags : List Bool} {s t : Progress} {place : Place} {pointer : Pointer} {payload : List ℕ} → Goes flags s t → IsNewAt s.blocks s.frame place pointer payload → IsNewAt t.blocks t.frame place pointer payload
+new_stays g n = record {
+  index = n.index;
+  block = n.block;
+  found = g.blocks n.index n.block n.found;
+  address = n.address;
+  birth = rw g.frame n.birth;
+  check = n.check;
+  sealed = rw g.frame n.sealed;
+}
+
+pub written_stays : {flags : List Bool} {s t : Progress} {place : Place} {old new : Pointer} {payload : List ℕ} → Goes flags s t → IsWritten s place old new payload → IsWritten t place old new payload
+written_stays g w = record {
+  block = new_stays g w.block;
+  in_area = rw g.frame w.in_area;
+  freed = λ there. let f = w.freed there in (f.0, g.freed f.0 _ f.1);
+}
+
+pub record_stays : {flags : List Bool} {s t : Progress} (n r : ℕ) (bytes : List ℕ) (dirty : Bool) (old new : Pointer) → Goes flags s t → IsRecordPlanned s n r bytes dirty old new → IsRecordPlanned t n r bytes dirty old new
+record_stays n r bytes true old new g w = written_stays g w
+record_stays n r bytes false old new g e = e
+
+last_of : {A : Type 0} (xs : List A) (a d : A) → slice_index_or (xs ++ a ∷ []) (length xs) d ≡ a
+last_of [] a d = refl
+last_of (x ∷ xs) a d = last_of xs a d
+
+front_of : {A : Type 0} (xs : List A) (a d : A) (i : ℕ) → i < length xs → slice_index_or (xs ++ a ∷ []) i d ≡ slice_index_or xs i d
+front_of [] a d i low = absurd (omega arith)
+front_of (x ∷ xs) a d zero low = refl
+front_of (x ∷ xs) a d (suc i) low = front_of xs a d i (omega arith)
+
+-- what holds of each element below a number, and of the next one that is put behind them
+pub each_push : {A : Type 0} (P : ℕ → A → Type 0) (xs : List A) (a d : A) (i : ℕ) → length xs ≡ i → ((r : ℕ) → r < i → P r (slice_index_or xs r d)) → P i a
+    → (r : ℕ) → r < i + 1 → P r (slice_index_or (xs ++ a ∷ []) r d)
+each_push P xs a d i long each here r low = go (cases_lt r i)
+  where
+    go : (r < i) ⊎ (i ≤ r) → P r (slice_index_or (xs ++ a ∷ []) r d)
+    go (inl below) =
+        let in_front : r < length xs = omega arith in
+        rw (front_of xs a d r in_front) (each r below)
+    go (inr last) =
+        let e : r ≡ length xs = omega arith in
+        let f : length xs ≡ i = long in
+        rw (e, last_of xs a d) (rw f here)
+
+-- one record more is planned
+pub records_push : {flags : List Bool} {s t : Progress} (n : ℕ) (bytes : List ℕ) (dirty : List Bool) (old : ObjectMap) (i : ℕ) (records : List Pointer) (was new : Pointer)
+    → Goes flags s t → length records ≡ i → was ≡ record_in old i → AreRecordsPlanned s n bytes dirty old i records → IsRecordPlanned t n i bytes (slice_index_or dirty i false) was new
+    → AreRecordsPlanned t n bytes dirty old (i + 1) (records ++ new ∷ [])
+records_push {s = s} {t = t} n bytes dirty old i records was new g long is each here =
+    each_push (λ r p. IsRecordPlanned t n r bytes (slice_index_or dirty r false) (record_in old r) p) records new no_pointer i long
+    (λ r low. record_stays n r bytes (slice_index_or dirty r false) (record_in old r) (slice_index_or records r no_pointer) g (each r low)) (rw (← is) here)
+
+pub frees_push : (first old new : List ℕ) (dirty : List Bool) (map : ObjectMap) (i : ℕ) (was : Pointer) → was ≡ record_in map i → RecordsFree first old dirty map i → RecordFrees old new (slice_index_or dirty i false) was
+    → RecordsFree first new dirty map (i + 1)
+frees_push first old new dirty map i was is frees more address among =
+    elim (more address among) [
+      | inl before ↦ elim (frees address before) [ inl at_first ↦ inl at_first | inr of ↦ inr (record { index = of.index; low = (let low = of.low in omega arith); dirty_is = of.dirty_is; was = of.was }) ]
+      | inr here ↦ inr (record { index = i; low = omega arith; dirty_is = here.0; was = rw (← is) here.1 })
+    ]
+
+pub records_stay : {flags : List Bool} {s t : Progress} (n : ℕ) (bytes : List ℕ) (dirty : List Bool) (old : ObjectMap) (count : ℕ) (records : List Pointer)
+    → Goes flags s t → AreRecordsPlanned s n bytes dirty old count records → AreRecordsPlanned t n bytes dirty old count records
+records_stay n bytes dirty old count records g each r low = record_stays n r bytes (slice_index_or dirty r false) (record_in old r) (slice_index_or records r no_pointer) g (each r low)
+
+-- an object whose records are planned, and then its indirect block
+pub object_planned : {flags : List Bool} {s t : Progress} (n : ℕ) (bytes : List ℕ) (dirty : List Bool) (old new : ObjectMap) (payload : List ℕ)
+    → Goes flags s t → AreRecordsPlanned s n bytes dirty old 84 new.records.items → IsWritten t (Indirect n) old.indirect new.indirect (padded payload) → length payload ≡ 4032
+    → ((r : ℕ) → r < 84 → pointer_in payload r ≡ record_in new r) → IsObjectPlanned t n bytes dirty old new
+object_planned n bytes dirty old new payload g records indirect long pointers = record {
+  records = records_stay n bytes dirty old 84 new.records.items g records;
+  payload = padded payload;
+  indirect = indirect;
+  pointers = λ r low. rw (padded-full payload long) (pointers r low);
+}
+
+pub object_stays : {flags : List Bool} {s t : Progress} (n : ℕ) (bytes : List ℕ) (dirty : List Bool) (old new : ObjectMap) → Goes flags s t → IsObjectPlanned s n bytes dirty old new → IsObjectPlanned t n bytes dirty old new
+object_stays n bytes dirty old new g p = record {
+  records = records_stay n bytes dirty old 84 new.records.items g p.records;
+  payload = p.payload;
+  indirect = written_stays g p.indirect;
+  pointers = p.pointers;
+}
+
+pub object_frees : (first old new : List ℕ) (dirty : List Bool) (map : ObjectMap) → RecordsFree first old dirty map 84 → FreesOnly old new map.indirect → ObjectFrees first new dirty map
+object_frees first old new dirty map records indirect address among =
+    elim (indirect address among) [
+      | inl before ↦ elim (records address before) [ inl at_first ↦ inl at_first | inr of ↦ inr (inl of) ]
+      | inr here ↦ inr (inr here)
+    ]

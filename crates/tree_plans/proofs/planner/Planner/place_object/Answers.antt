@@ -1,0 +1,17 @@
+use Rattle.std.proofs.Common.{ap, ◌∙◌}
+use Rattle.std.specs.Prelude.{slice_index_or}
+use Rattle.base.specs.Fields.{no_pointer}
+use Rattle.tree_plans.proofs.Progress.{goes_twice, object_planned, object_frees}
+use Rattle.tree_plans.proofs.planner.Planner.place_object.Goals as goal
+
+pub returns-clause-goes : goal.returns-clause-goes
+returns-clause-goes c = goes_twice c.in_ok-records.ensures.goes c.in_ok-indirect.ensures.goes
+
+pub returns-clause-planned : goal.returns-clause-planned
+returns-clause-planned c =
+    object_planned c.args.id.0 c.args.bytes.now c.args.dirty.now.flags c.args.old.now _ c.payload_of-payload.result c.in_ok-indirect.ensures.goes c.in_ok-records.ensures.planned
+    c.in_ok-indirect.ensures.written c.payload_of-payload.ensures.size
+    (λ r low. c.payload_of-payload.ensures.pointers r low ∙ ap (λ l. slice_index_or l r no_pointer) c.deref.ensures.value)
+
+pub returns-clause-frees : goal.returns-clause-frees
+returns-clause-frees c = object_frees _ _ _ _ c.args.old.now c.in_ok-records.ensures.frees c.in_ok-indirect.ensures.frees

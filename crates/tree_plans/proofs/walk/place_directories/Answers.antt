@@ -1,0 +1,23 @@
+use Rattle.std.proofs.Common.{◌≡◌, length, arith, ap, ◌∙◌}
+use Rattle.tree_plans.specs.Walks.{is_directory_touched}
+use Rattle.tree_plans.proofs.Progress.{goes_twice}
+use Rattle.tree_plans.proofs.Walks.{directories_push, directories_free_push}
+use Rattle.tree_plans.proofs.walk.place_directories.Goals as goal
+
+pub loop-index-preserved : goal.loop-index-preserved
+loop-index-preserved c =
+    let long : length c.loop-index.directories.items ≡ c.loop-index.index = omega (arith, c.loop-index.directories.ok.0, c.loop-index.invariant.count) in
+    record {
+      geometry = c.in_ok-pointer.ensures.geometry ∙ c.loop-index.invariant.geometry;
+      count = omega (arith, c.push_reserved.ensures.len, c.loop-index.invariant.count);
+      room = omega (arith, c.push_reserved.ensures.capacity, c.loop-index.invariant.room);
+      kept = λ none. c.in_ok-pointer.ensures.kept (c.is_touched-touched.ensures ∙ ap (λ l. is_directory_touched l c.loop-index.index) none) ∙ c.loop-index.invariant.kept none;
+      goes = goes_twice c.loop-index.invariant.goes c.in_ok-pointer.ensures.goes;
+      planned = rw c.push_reserved.ensures.items (directories_push _ _ _ c.args.objects.now.entries c.args.source.now.tree.now.directories.items _ _ _ _ c.in_ok-pointer.ensures.goes long c.is_touched-touched.ensures c.loop-index.invariant.planned c.in_ok-pointer.ensures.planned);
+      frees = directories_free_push _ _ _ c.args.objects.now.entries c.args.source.now.tree.now.directories.items _ _ c.is_touched-touched.ensures c.loop-index.invariant.frees c.in_ok-pointer.ensures.frees;
+    }
+
+pub returns-clause-frees : goal.returns-clause-frees
+returns-clause-frees c =
+    let done : c.loop-index.index ≡ 84 = omega arith in
+    rw done at c.loop-index.invariant.frees

@@ -1,0 +1,16 @@
+use Rattle.std.proofs.Common.{◌≡◌, ◌≤◌, [], vec_len, vec_capacity}
+use Rattle.object_maps.specs.ContentsShown.{contents_of}
+use Rattle.tree_plans.specs.Plans.{Goes, progress_of}
+use Rattle.tree_plans.specs.Walks.{AreDirectoriesPlanned, DirectoriesFree}
+use Rattle.tree_plans.proofs.walk.place_directories.Given as goal
+
+abbrev pub invariant-loop-index : goal.invariant-loop-index
+invariant-loop-index l = record {
+  geometry : l.planner.geometry ≡ l.fn.planner.geometry;
+  count : vec_len l.directories ≡ l.index;
+  room : 84 ≤ vec_capacity l.directories;
+  kept : l.objects.entries ≡ [] → l.planner ≡ l.fn.planner;
+  goes : Goes l.source.free.now.flags.items (progress_of l.fn.planner) (progress_of l.planner);
+  planned : AreDirectoriesPlanned (progress_of l.planner) l.source.tree.now.maps.items l.maps.entries (contents_of l.source.contents.now).objects l.objects.entries l.source.tree.now.directories.items l.index l.directories.items;
+  frees : DirectoriesFree l.fn.planner.freed.items l.planner.freed.items l.objects.entries l.source.tree.now.directories.items l.index;
+}

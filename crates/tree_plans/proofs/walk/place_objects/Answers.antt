@@ -1,0 +1,28 @@
+use Rattle.std.proofs.Common.{◌≡◌, List, [], ◌∷◌, ◌++◌, Some, append_assoc, ap, ◌∙◌, sym}
+use Rattle.std.specs.Cmp.{unsigned_tied}
+use Rattle.base.specs.declared.names.ObjectId.{ObjectId}
+use Rattle.tree_plans.specs.declared.planner.DirtyRecords.{DirtyRecords}
+use Rattle.tree_plans.specs.Pointers.{entry_of}
+use Rattle.tree_plans.proofs.Progress.{goes_twice}
+use Rattle.tree_plans.proofs.Walks.{found_of, next_of, not_empty}
+use Rattle.tree_plans.proofs.walk.place_objects.Goals as goal
+
+pub loop-id-preserved : goal.loop-id-preserved
+loop-id-preserved c =
+    let all : List (ObjectId × DirtyRecords) = c.args.objects.now.entries in
+    let done : List (ObjectId × DirtyRecords) = c.loop-id.invariant.done in
+    let e : ObjectId × DirtyRecords = (c.in-Some.id.now, c.in-Some.dirty.now) in
+    let rest : List (ObjectId × DirtyRecords) = c.next.new.self in
+    let split : all ≡ done ++ (e ∷ rest) = c.loop-id.invariant.split ∙ ap (λ (l : List (ObjectId × DirtyRecords)). done ++ l) c.in-Some.ensures.steps in
+    let found : entry_of all e.0.0 ≡ Some e.1 = next_of (λ (x : ObjectId × DirtyRecords). entry_of all x.0.0 ≡ Some x.1) all done rest e split (found_of _ (λ a b. unsigned_tied a.0 b.0) c.args.objects.now c.iter-id-items.ensures.found) in
+    record {
+      can = tt;
+      ends = tt;
+      geometry = c.in_ok-place_changed.ensures.geometry ∙ c.loop-id.invariant.geometry;
+      kept = λ none. absurd (not_empty done e rest (sym split ∙ none));
+      goes = goes_twice c.loop-id.invariant.goes c.in_ok-place_changed.ensures.goes;
+      done = done ++ (e ∷ []);
+      split = split ∙ sym (append_assoc done (e ∷ []) rest);
+      planned = c.in_ok-place_changed.ensures.planned all done found c.loop-id.invariant.planned;
+      frees = c.in_ok-place_changed.ensures.frees all _ found c.loop-id.invariant.frees;
+    }

@@ -1,0 +1,20 @@
+use Rattle.std.proofs.Common.{◌≡◌, ◌++◌, [], List}
+use Rattle.base.specs.declared.names.ObjectId.{ObjectId}
+use Rattle.object_maps.specs.ContentsShown.{contents_of}
+use Rattle.tree_plans.specs.declared.planner.DirtyRecords.{DirtyRecords}
+use Rattle.tree_plans.specs.Plans.{Goes, progress_of}
+use Rattle.tree_plans.specs.Walks.{AreObjectsPlanned, ObjectsFree}
+use Rattle.tree_plans.proofs.walk.place_objects.Given as goal
+
+abbrev pub invariant-loop-id : goal.invariant-loop-id
+invariant-loop-id l = record {
+  can : (goal.iterator-loop-id).can_next l.id-iterator;
+  ends : (goal.iterator-loop-id).is_finite l.id-iterator;
+  geometry : l.planner.geometry ≡ l.fn.planner.geometry;
+  kept : l.objects.entries ≡ [] → l.planner ≡ l.fn.planner;
+  goes : Goes l.source.free.now.flags.items (progress_of l.fn.planner) (progress_of l.planner);
+  done : List (ObjectId × DirtyRecords);
+  split : l.objects.entries ≡ done ++ l.id-iterator;
+  planned : AreObjectsPlanned (progress_of l.planner) l.source.tree.now.maps.items (contents_of l.source.contents.now).objects l.objects.entries done l.maps.entries;
+  frees : ObjectsFree l.fn.planner.freed.items l.planner.freed.items l.source.tree.now.maps.items l.objects.entries l.maps.entries;
+}

@@ -1,0 +1,5 @@
+pub mod Pointers
+pub mod Plans
+pub mod Walks
+pub mod Changes
+pub mod Marks

@@ -1,0 +1,120 @@
+-- What a plan of a sync has done so far, and what its steps do.
+use Rattle.std.specs.Prelude.{ℕ, ◌≡◌, ◌≢◌, ◌<◌, ◌⊎◌, ◌++◌, Bool, true, false, List, map, slice_get, slice_index_or, Some}
+use Rattle.base.specs.declared.error.PoolError.{PoolError}
+use Rattle.base.specs.declared.error.PoolError.TheVariants as error
+use Rattle.base.specs.declared.pointer.Pointer.{Pointer}
+use Rattle.base.specs.Limits.{pointer_count}
+use Rattle.base.specs.Fields.{no_pointer, pointer_in}
+use Rattle.base.specs.Geometry.{block_address, block_count, IsBlockAddress}
+use Rattle.base.specs.Blocks.{Frame}
+use Rattle.base.specs.Places.{Place}
+use Rattle.base.specs.Places.Place.{Root as AtRoot, Directory as AtDirectory, Indirect as AtIndirect, Data as AtData}
+use Rattle.base.specs.PlacedTrees.{padded_record}
+use Rattle.base.specs.PlannedTrees.{NewBlock, IsNewAt}
+use Rattle.space.specs.FreeSets.{addresses_from, free_from}
+use Rattle.object_maps.specs.declared.tree.ObjectMap.{ObjectMap}
+use Rattle.tree_plans.specs.declared.planner.PlannedBlock.{PlannedBlock}
+use Rattle.tree_plans.specs.declared.planner.Planner.{Planner}
+use Rattle.tree_plans.specs.declared.place.BlockPlace.{BlockPlace}
+use Rattle.tree_plans.specs.declared.place.BlockPlace.TheVariants.{Root, Directory, Indirect, Data}
+use Rattle.tree_plans.specs.Pointers.{record_in}
+
+-- the address of a planned block, and the block as it is written
+abbrev pub address_of : PlannedBlock → ℕ
+address_of b = block_address b.index
+
+abbrev pub new_block : PlannedBlock → NewBlock
+new_block b = record { address = block_address b.index; content = b.block }
+
+-- the place that a block is planned for
+abbrev pub place_of : BlockPlace → Place
+place_of Root = AtRoot
+place_of (Directory d) = AtDirectory d
+place_of (Indirect id) = AtIndirect id.0
+place_of (Data id r) = AtData id.0 r
+
+-- a plan so far: the first block that may be taken next, the new blocks, the addresses that come back, and whose blocks they are
+pub record Progress : Type 0 where
+  pub next : ℕ
+  pub blocks : List NewBlock
+  pub freed : List ℕ
+  pub frame : Frame
+
+abbrev pub progress_of : Planner → Progress
+progress_of p = record {
+  next = p.next;
+  blocks = map new_block p.blocks.items;
+  freed = p.freed.items;
+  frame = record { guid = p.guid; blocks = block_count p.geometry; group = p.group.0 };
+}
+
+-- what a list has still stands at its index
+abbrev pub Keeps : {A : Type 0} → List A → List A → Type 0
+Keeps {A} old new = (i : ℕ) (a : A) → slice_get old i ≡ Some a → slice_get new i ≡ Some a
+
+-- a list has this address
+abbrev pub IsAmong : List ℕ → ℕ → Type 0
+IsAmong addresses address = (i : ℕ) × (slice_get addresses i ≡ Some address)
+
+-- the blocks have the lowest free addresses, and those from the next block on are left
+abbrev pub HasTaken : List Bool → Progress → Type 0
+HasTaken flags s = map (λ (b : NewBlock). b.address) s.blocks ++ free_from s.next flags ≡ addresses_from 0 flags
+
+-- a plan goes on: it takes the lowest free addresses, and what it has stays
+pub record Goes (flags : List Bool) (old new : Progress) : Type 0 where
+  pub frame : new.frame ≡ old.frame
+  pub taken : HasTaken flags old → HasTaken flags new
+  pub blocks : Keeps old.blocks new.blocks
+  pub freed : Keeps old.freed new.freed
+
+-- a place has a new block with this payload, and the block that it had comes back
+pub record IsWritten (s : Progress) (place : Place) (old new : Pointer) (payload : List ℕ) : Type 0 where
+  pub block : IsNewAt s.blocks s.frame place new payload
+  pub in_area : IsBlockAddress s.frame.blocks new.address
+  pub freed : old ≢ no_pointer → IsAmong s.freed old.address
+
+-- an address is that of a block that a pointer named
+abbrev pub IsOf : Pointer → ℕ → Type 0
+IsOf pointer address = (pointer ≢ no_pointer) × (pointer.address ≡ address)
+
+-- of what a pointer names, nothing else comes back
+abbrev pub FreesOnly : List ℕ → List ℕ → Pointer → Type 0
+FreesOnly old new replaced = (address : ℕ) → IsAmong new address → IsAmong old address ⊎ IsOf replaced address
+
+-- a plan is refused for want of blocks or of memory
+abbrev pub IsWant : PoolError → Type 0
+IsWant e = (e ≡ error.NoSpace) ⊎ (e ≡ error.NoMemory)
+
+-- what becomes of a record of an object: it is written where it is dirty, and stays otherwise
+abbrev pub IsRecordPlanned : Progress → ℕ → ℕ → List ℕ → Bool → Pointer → Pointer → Type 0
+IsRecordPlanned s n r bytes true old new = IsWritten s (AtData n r) old new (padded_record r bytes)
+IsRecordPlanned s n r bytes false old new = new ≡ old
+
+-- of a record, nothing comes back unless it is dirty
+abbrev pub RecordFrees : List ℕ → List ℕ → Bool → Pointer → Type 0
+RecordFrees old new dirty was = (address : ℕ) → IsAmong new address → IsAmong old address ⊎ ((dirty ≡ true) × IsOf was address)
+
+-- what becomes of the records below a number
+abbrev pub AreRecordsPlanned : Progress → ℕ → List ℕ → List Bool → ObjectMap → ℕ → List Pointer → Type 0
+AreRecordsPlanned s n bytes dirty old count records = (r : ℕ) → r < count
+    → IsRecordPlanned s n r bytes (slice_index_or dirty r false) (record_in old r) (slice_index_or records r no_pointer)
+
+-- the address is that of a dirty record below a number
+pub record IsOfRecord (dirty : List Bool) (old : ObjectMap) (count address : ℕ) : Type 0 where
+  pub index : ℕ
+  pub low : index < count
+  pub dirty_is : slice_index_or dirty index false ≡ true
+  pub was : IsOf (record_in old index) address
+
+abbrev pub RecordsFree : List ℕ → List ℕ → List Bool → ObjectMap → ℕ → Type 0
+RecordsFree old new dirty was count = (address : ℕ) → IsAmong new address → IsAmong old address ⊎ IsOfRecord dirty was count address
+
+-- an object whose records change: its dirty records are written, and then its indirect block
+pub record IsObjectPlanned (s : Progress) (n : ℕ) (bytes : List ℕ) (dirty : List Bool) (old new : ObjectMap) : Type 0 where
+  pub records : AreRecordsPlanned s n bytes dirty old pointer_count new.records.items
+  pub payload : List ℕ
+  pub indirect : IsWritten s (AtIndirect n) old.indirect new.indirect payload
+  pub pointers : (r : ℕ) → r < pointer_count → pointer_in payload r ≡ record_in new r
+
+abbrev pub ObjectFrees : List ℕ → List ℕ → List Bool → ObjectMap → Type 0
+ObjectFrees old new dirty was = (address : ℕ) → IsAmong new address → IsAmong old address ⊎ (IsOfRecord dirty was pointer_count address ⊎ IsOf was.indirect address)

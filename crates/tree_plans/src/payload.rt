@@ -1,0 +1,123 @@
+//! The payloads of a tree's blocks (On-Disk Specification, chapter 2).
+
+ghost use Rattle.std.specs.Prelude.{◌≡◌, ◌≢◌, ◌<◌, ◌≤◌, ℕ, length, option_map, replicate, slice_index_or};
+ghost use Rattle.base.specs.Fields.{entry_in, entry_length, entry_pointer, entry_present, no_pointer, pointer_in};
+ghost use Rattle.base.specs.Tree.{record_bytes};
+ghost use Rattle.checked_blocks.specs.Sealing.{zeros};
+ghost use Rattle.object_maps.specs.ContentsShown.{contents_of};
+ghost use Rattle.tree_plans.specs.Walks.{AreEntriesWritten, IsEntryWritten, indirect_after};
+
+use base::{
+    ENTRY_COUNT, ENTRY_SIZE, ObjectId, POINTER_SIZE, Pointer, RECORD_SIZE, write_pointer, write_u64,
+};
+use checked_blocks::PAYLOAD_SIZE;
+use object_maps::{Contents, ObjectMap, Tree};
+use std::collections::BTreeMap;
+
+/// The bytes of an object in a record, as far as it reaches.
+pub fn record_of(bytes: &[u8], index: usize) -> &[u8]
+    requires { index < 84 }
+    ensures bytes { result.now ≡ record_bytes index bytes.now }
+    ensures size { length result.now ≤ 4032 }
+{
+    let low = (RECORD_SIZE * index).min(bytes.len());
+    let high = (RECORD_SIZE * (index + 1)).min(bytes.len());
+    &bytes[low..high]
+}
+
+/// A payload of pointers.
+pub fn payload_of(pointers: &[Pointer]) -> [u8; 4032]
+    requires { length pointers.now ≡ 84 }
+    ensures size { length result ≡ 4032 }
+    ensures pointers { (r : ℕ) → r < 84 → pointer_in result r ≡ slice_index_or pointers.now r no_pointer }
+{
+    let mut payload = [0; PAYLOAD_SIZE];
+    for (index, pointer) in pointers.iter().enumerate() {
+        put_pointer(&mut payload, index, pointer);
+    }
+    payload
+}
+
+// Writes the pointer of this number.
+fn put_pointer(payload: &mut [u8], index: usize, pointer: &Pointer)
+    requires size { length payload.old ≡ 4032 }
+    requires index { index < 84 }
+    ensures size { length payload.new ≡ 4032 }
+    ensures here { pointer_in payload.new index ≡ pointer.now }
+    ensures others { (r : ℕ) → r ≢ index → pointer_in payload.new r ≡ pointer_in payload.old r }
+{
+    // Their types bound its numbers.
+    let _address = pointer.address;
+    let _birth = pointer.birth;
+    write_pointer(payload, POINTER_SIZE * index, pointer);
+}
+
+/// The payload of a directory: an entry for each of its objects that is there, and zeros for the others.
+pub fn directory_payload(
+    contents: &Contents,
+    tree: &Tree,
+    maps: &BTreeMap<ObjectId, ObjectMap>,
+    directory: usize,
+) -> [u8; 4032]
+    requires { directory < 84 }
+    ensures size { length result ≡ 4032 }
+    ensures entries { AreEntriesWritten tree.now.maps.items maps.now.entries (contents_of contents.now).objects directory 63 result }
+{
+    let mut payload = empty_payload();
+    for index in 0..ENTRY_COUNT {
+        let id = ObjectId((ENTRY_COUNT * directory + index) as u32);
+        let indirect = planned_indirect(tree, maps, id);
+        put_object(&mut payload, index, contents.object(id), &indirect);
+    }
+    payload
+}
+
+// Writes the entry of an object, if it is there. The entry is zeros before.
+fn put_object(payload: &mut [u8], index: usize, object: Option<&[u8]>, indirect: &Pointer)
+    requires size { length payload.old ≡ 4032 }
+    requires in_range { index < 63 }
+    requires empty { entry_in payload.old index ≡ replicate 64 0 }
+    ensures size { length payload.new ≡ 4032 }
+    ensures here { IsEntryWritten (entry_in payload.new index) indirect.now (option_map (λ bytes. bytes.now) object.entry) }
+    ensures others { (k : ℕ) → k < 63 → k ≢ index → entry_in payload.new k ≡ entry_in payload.old k }
+{
+    if let Some(bytes) = object {
+        write_entry(payload, index, bytes.len(), indirect);
+    }
+}
+
+fn empty_payload() -> [u8; 4032]
+    ensures { result ≡ zeros 4032 }
+{
+    [0; PAYLOAD_SIZE]
+}
+
+// The pointer to the indirect block of an object after the plan.
+fn planned_indirect(tree: &Tree, maps: &BTreeMap<ObjectId, ObjectMap>, id: ObjectId) -> Pointer
+    requires { id.0 < 5292 }
+    ensures { result ≡ indirect_after tree.now.maps.items maps.now.entries id.0 }
+{
+    match maps.get(&id) {
+        Some(map) => map.indirect,
+        None => tree.maps[id.0 as usize].indirect,
+    }
+}
+
+// Writes the entry of an object that is there: 1, its length, and the pointer to its indirect block.
+fn write_entry(payload: &mut [u8], index: usize, size: usize, indirect: &Pointer)
+    requires size { length payload.old ≡ 4032 }
+    requires in_range { index < 63 }
+    ensures size { length payload.new ≡ 4032 }
+    ensures present { entry_present (entry_in payload.new index) ≡ 1 }
+    ensures length { entry_length (entry_in payload.new index) ≡ size }
+    ensures pointer { entry_pointer (entry_in payload.new index) ≡ indirect.now }
+    ensures others { (k : ℕ) → k < 63 → k ≢ index → entry_in payload.new k ≡ entry_in payload.old k }
+{
+    // Their types bound its numbers.
+    let _address = indirect.address;
+    let _birth = indirect.birth;
+    let at = ENTRY_SIZE * index;
+    write_u64(payload, at, 1);
+    write_u64(payload, at + 8, size as u64);
+    write_pointer(payload, at + 16, indirect);
+}
