@@ -1,11 +1,13 @@
 -- Entries of a directory's payload.
-use Rattle.std.proofs.Common.{◌≡◌, ℕ, ◌+◌, ◌-◌, ◌*◌, ◌<◌, ◌≤◌, List, ◌++◌, length, take, drop, replicate, get_or, refl, ap, sym, ◌∙◌, arith, inl}
+use Rattle.std.proofs.Common.{◌≡◌, ℕ, ◌+◌, ◌-◌, ◌*◌, ◌<◌, ◌≤◌, List, ◌++◌, length, take, drop, replicate, get_or, refl, ap, sym, ◌∙◌, arith, ◌≢◌, inl, inr}
 use Rattle.std.specs.List.{All}
 use Rattle.std.specs.Int.{from_le_bytes, w64}
 use Rattle.std.proofs.lemmas.List.{drop-drop, drop-take, take-take, take-append-drop, length-drop}
 use Rattle.std.proofs.lemmas.List.Elements.{All-from_get_or}
 use Rattle.base.specs.declared.pointer.Pointer.{Pointer}
 use Rattle.base.specs.Fields.{part, number_at, number_bytes, pointer_at, entry_in, entry_present, entry_length, entry_pointer, no_pointer}
+use Rattle.base.specs.Limits.{max_length}
+use Rattle.base.specs.Faults.{IsEntryForm}
 use Rattle.base.proofs.Put.{length-part}
 use Rattle.checked_blocks.proofs.Placed.{number_bytes-number_at}
 
@@ -79,3 +81,17 @@ pub absent-entry : (payload : List ℕ) (k present size : ℕ) (pointer : Pointe
 absent-entry payload k present size pointer fits each is_present is_size is_pointer zero none nothing =
     absent-zeros payload k fits (All-from_get_or (λ b. b < 256) payload 0 (λ i _. each i))
     (present-at payload k ∙ sym is_present ∙ zero) (length-at payload k ∙ sym is_size ∙ none) (pointer-at payload k ∙ sym is_pointer ∙ nothing)
+
+no_entry : entry_present (replicate 64 0) ≡ 0
+unfolding number_at
+no_entry = refl
+
+-- an entry that is not present is all zeros
+pub entry_absent : (entry : List ℕ) → IsEntryForm entry → entry_present entry ≢ 1 → entry ≡ replicate 64 0
+entry_absent entry (inl zeros) not = zeros
+entry_absent entry (inr form) not = absurd (not form.0)
+
+-- an entry that is present has a length within the limit
+pub entry_short : (entry : List ℕ) → IsEntryForm entry → entry_present entry ≡ 1 → entry_length entry ≤ max_length
+entry_short entry (inl zeros) is = let e : entry_present entry ≡ 0 = ap entry_present zeros ∙ no_entry in absurd (omega (arith, e, is))
+entry_short entry (inr form) is = form.1

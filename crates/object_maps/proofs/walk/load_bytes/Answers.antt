@@ -1,4 +1,5 @@
 use Rattle.std.proofs.Common.{◌≡◌, ◌<◌, ◌∙◌, ℕ, List, length, drop, refl, sym, subst, ap, arith, Some}
+use Rattle.std.specs.Prelude.{IsTrue}
 use Rattle.std.proofs.lemmas.List.{take_at}
 use Rattle.base.specs.declared.pointer.Pointer.{Pointer}
 use Rattle.base.specs.Faults.{IsRecordPointerForm}
@@ -39,7 +40,7 @@ returns-clause-loaded g c = λ image shows.
     let same = still_shows keeps_model (g.D.SectorDevice.disk c.args.device.now) (g.D.SectorDevice.disk c.read_block.new.device) image read.disk shows in
     let all = subst (λ (l : List Pointer). AreLoadedRecords keeps_model image frame c.args.number l c.load_records.new.bytes 84) (c.deref.ensures.value ∙ items)
     (c.in_ok-load_records.ensures.loaded image same) in
-    let opens = λ keeps. subst (λ (l : List ℕ). OpensAt image frame (Indirect c.args.number) c.args.indirect.now l) (sym c.payload_of-payload.ensures.payload) (read.opens image shows keeps) in
+    let opens = λ (keeps : IsTrue keeps_model). subst (λ (l : List ℕ). OpensAt image frame (Indirect c.args.number) c.args.indirect.now l) (sym c.payload_of-payload.ensures.payload) (read.opens image shows keeps) in
     subst (λ (l : List Pointer). IsLoadedObject keeps_model image frame c.args.number (Some c.load_records.new.bytes) c.args.indirect.now l) (sym items)
     (object_loaded keeps_model image frame c.args.number c.args.indirect.now new c.load_records.new.bytes c.payload_of-payload.result.now
     read.placed opens c.read_pointers.ensures (omega (arith, c.load_records.auto.bytes, c.requires.bound)) all)
