@@ -225,6 +225,9 @@ same_directory keeps image frame d pointer old_slots slots old_maps maps es em h
     go (inl none) = inl (none.0, λ k low. same_empty (entry_count * d + k) old_slots slots old_maps maps (es k low) (em k low) (none.1 k low))
     go (inr block) = inr (block.0, block.1, λ k low. same_entry (entry_count * d + k) (entry_in block.0 k) old_slots slots old_maps maps (es k low) (em k low) (block.2 k low))
 
+pub empty_more : (count : ℕ) (slots : List Slot) (maps : List ObjectMap) → AreEmptyFrom (entry_count * count) slots maps → AreEmptyFrom (entry_count * (count + 1)) slots maps
+empty_more count slots maps empty = record { each = λ n high. empty.each n (omega (arith, high)) }
+
 -- what comes behind a directory is as empty as before
 pub empty_behind : (count : ℕ) (old_slots slots : List Slot) (old_maps maps : List ObjectMap) → AreEmptyFrom (entry_count * count) old_slots old_maps
     → SameBut (entry_count * count) entry_count old_slots slots old_maps maps → AreEmptyFrom (entry_count * (count + 1)) slots maps
