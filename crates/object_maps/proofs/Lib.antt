@@ -6,3 +6,4 @@ pub mod LoadedBlocks
 pub mod LoadedRecords
 pub mod LoadedEntries
 pub mod EntryForms
+pub mod LoadedTrees

@@ -186,7 +186,7 @@ pub directories_start : (keeps : Bool) (image : List ℕ) (frame : Frame) (direc
 directories_start keeps image frame directories slots maps empty = record { loaded = λ d low. absurd (omega (arith, low)); rest = empty }
 
 -- a directory that is not there
-no_directory : (keeps : Bool) (image : List ℕ) (frame : Frame) (d : ℕ) (pointer : Pointer) (slots : List Slot) (maps : List ObjectMap) → pointer ≡ no_pointer
+pub no_directory : (keeps : Bool) (image : List ℕ) (frame : Frame) (d : ℕ) (pointer : Pointer) (slots : List Slot) (maps : List ObjectMap) → pointer ≡ no_pointer
     → ((k : ℕ) → k < entry_count → IsEmptyAt slots maps (entry_count * d + k)) → IsLoadedDirectory keeps image frame d pointer slots maps
 no_directory keeps image frame d pointer slots maps none empty = record {
   placed = inl none;
