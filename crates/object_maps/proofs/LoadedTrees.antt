@@ -1,9 +1,11 @@
 -- A tree as it is loaded is the one that the image holds.
-use Rattle.std.proofs.Common.{◌≡◌, ℕ, ◌+◌, ◌*◌, ◌/◌, ◌%◌, ◌<◌, ◌≤◌, List, [], length, refl, ap, sym, subst, ◌∙◌, arith, ◌⊎◌, inl, inr, Some, None}
+use Rattle.std.proofs.Common.{◌≡◌, ℕ, zero, suc, false, take, drop, replicate, ◌++◌, ◌∷◌, ◌+◌, ◌*◌, ◌/◌, ◌%◌, ◌<◌, ◌≤◌, List, [], length, refl, ap, sym, subst, ◌∙◌, arith, ◌⊎◌, inl, inr, Some, None}
 use Rattle.std.specs.Prelude.{Bool, IsTrue, Option, IfSome, All, slice_get}
 use Rattle.std.specs.Option.{option_map_or}
 use Rattle.std.specs.FinMap as finite
 use Rattle.std.proofs.Math.Nat.{div-add-mod}
+use Rattle.std.proofs.lemmas.List.{take_at, get_or-replicate, get_or_past, length-replicate}
+use Rattle.std.proofs.lemmas.List.Elements.{All-head, All-tail}
 use Rattle.std.proofs.lemmas.Bool.{cases_lt}
 use Rattle.std.proofs.lemmas.Option.{slice_get_past}
 use Rattle.base.specs.declared.pointer.Pointer.{Pointer}
@@ -19,8 +21,9 @@ use Rattle.object_maps.specs.declared.contents.Slot.{Slot}
 use Rattle.object_maps.specs.declared.tree.ObjectMap.{ObjectMap}
 use Rattle.object_maps.specs.ContentsShown.{object_in, object_of}
 use Rattle.object_maps.specs.Pointers.{objects_of, pointers_at, pointer_of_list, indirect_of, records_of}
+use Rattle.object_maps.specs.EmptyMaps.{IsEmptyMap}
 use Rattle.object_maps.specs.Loading.{IsLoadedAt, IsEmptyAt, AreEmptyFrom, DirectoryStands, IsEntryAt, AreLoadedDirectories, IsLoadedTree}
-use Rattle.object_maps.proofs.ContentsShown.{get-objects}
+use Rattle.object_maps.proofs.ContentsShown.{get-objects, absent_at}
 use Rattle.object_maps.proofs.LoadedEntries.{no_directory}
 
 -- a tree with no root
@@ -93,3 +96,45 @@ tree_holds keeps image frame root directories slots maps long t k = record { no_
     stands (Indirect n) there = (object_loaded_at keeps image frame root directories slots maps t n there).stands k
     stands (Data n r) there =
         rw (get-objects slots n) ((object_loaded_at keeps image frame root directories slots maps t n there.0).records_stand k r there.1)
+
+-- pointers of objects that have none
+no_indirect : (maps : List ObjectMap) → All IsEmptyMap maps → (n : ℕ) → indirect_of maps n ≡ no_pointer
+no_indirect [] empty n = refl
+no_indirect (m ∷ maps) empty zero = (All-head IsEmptyMap m maps empty).0
+no_indirect (m ∷ maps) empty (suc n) = no_indirect maps (All-tail IsEmptyMap m maps empty) n
+
+no_records : (maps : List ObjectMap) → All IsEmptyMap maps → (n : ℕ) → records_of maps n ≡ []
+no_records [] empty n = refl
+no_records (m ∷ maps) empty zero = (All-head IsEmptyMap m maps empty).1
+no_records (m ∷ maps) empty (suc n) = no_records maps (All-tail IsEmptyMap m maps empty) n
+
+-- new slots and pointers have no object
+pub all_empty : (slots : List Slot) (maps : List ObjectMap) → All (λ (s : Slot). s.present ≡ false) slots → All IsEmptyMap maps → AreEmptyFrom 0 slots maps
+all_empty slots maps absent empty = record {
+  each = λ n _. record { object = absent_at slots n absent; indirect = no_indirect maps empty n; records = no_records maps empty n };
+}
+
+-- a list that stands in a Vec of its length
+abbrev standing : {X : Type 0} → List X → ℕ → List X → List X
+standing new len items = take len (new ++ drop (length new) items)
+
+-- the same tree, once its lists stand in their Vecs
+pub standing_tree : (keeps : Bool) (image : List ℕ) (frame : Frame) (root : Pointer) (directories old_directories : List Pointer) (slots old_slots : List Slot) (maps old_maps : List ObjectMap) (d s m : ℕ)
+    → length directories ≡ d → length slots ≡ s → length maps ≡ m → IsLoadedTree keeps image frame root directories slots maps
+    → IsLoadedTree keeps image frame root (standing directories d old_directories) (standing slots s old_slots) (standing maps m old_maps)
+standing_tree keeps image frame root directories old_directories slots old_slots maps old_maps d s m ld ls lm t =
+    let ed = take_at directories (drop (length directories) old_directories) d ld in
+    let es = take_at slots (drop (length slots) old_slots) s ls in
+    let em = take_at maps (drop (length maps) old_maps) m lm in
+    rw (ed, es, em) t
+
+pub length-standing : (slots old_slots : List Slot) (s : ℕ) → length slots ≡ s → length (standing slots s old_slots) ≡ s
+length-standing slots old_slots s long = ap length (take_at slots (drop (length slots) old_slots) s long) ∙ long
+
+-- pointers to nothing
+pub no_pointers : (pointers : List Pointer) (count : ℕ) → pointers ≡ replicate count no_pointer → (d : ℕ) → pointer_of_list pointers d ≡ no_pointer
+no_pointers pointers count none d = ap (λ (l : List Pointer). pointer_of_list l d) none ∙ go (cases_lt d count)
+  where
+    go : (d < count) ⊎ (count ≤ d) → pointer_of_list (replicate count no_pointer) d ≡ no_pointer
+    go (inl low) = get_or-replicate count d no_pointer no_pointer low
+    go (inr past) = get_or_past (replicate count no_pointer) d no_pointer (omega (arith, past, length-replicate count no_pointer))
