@@ -6,7 +6,7 @@ use Rattle.std.proofs.Math.ListN.{set}
 use Rattle.std.proofs.lemmas.List.{get_or_default}
 use Rattle.std.proofs.lemmas.Bool.{cases_eq}
 use Rattle.base.specs.declared.pointer.Pointer.{Pointer}
-use Rattle.base.specs.Limits.{max_length, pointer_count, entry_count}
+use Rattle.base.specs.Limits.{max_length, entry_count}
 use Rattle.base.specs.Fields.{entry_in, entry_present, entry_length, entry_pointer, no_pointer}
 use Rattle.base.specs.Geometry.{IsBlockAddress}
 use Rattle.base.specs.Blocks.{Frame}
@@ -233,7 +233,7 @@ pub empty_behind : (count : ℕ) (old_slots slots : List Slot) (old_maps maps : 
     → SameBut (entry_count * count) entry_count old_slots slots old_maps maps → AreEmptyFrom (entry_count * (count + 1)) slots maps
 empty_behind count old_slots slots old_maps maps empty others = record {
   each = λ n high. same_empty n old_slots slots old_maps maps (others.same_slots n (inr (omega (arith, high)))) (others.same_maps n (inr (omega (arith, high))))
-  (empty.each n (omega (arith, high)));
+      (empty.each n (omega (arith, high)));
 }
 
 -- one directory more, a block

@@ -1,6 +1,6 @@
 -- Records of an object as they are loaded, and the object that they make.
-use Rattle.std.proofs.Common.{◌≡◌, ℕ, zero, suc, ◌+◌, ◌-◌, ◌*◌, ◌<◌, ◌≤◌, ◌≢◌, min, List, [], ◌++◌, length, take, drop, replicate, get_or, refl, ap, sym, subst, ◌∙◌, arith, ◌⊎◌, inl, inr, Some, None}
-use Rattle.std.specs.Prelude.{Bool, IsTrue, Option, IfSome}
+use Rattle.std.proofs.Common.{◌≡◌, ℕ, ◌+◌, ◌-◌, ◌*◌, ◌<◌, ◌≤◌, ◌≢◌, min, List, [], ◌++◌, length, take, drop, replicate, get_or, refl, ap, sym, subst, ◌∙◌, arith, ◌⊎◌, inl, inr, Some, None}
+use Rattle.std.specs.Prelude.{Bool, IsTrue}
 use Rattle.std.proofs.lemmas.List.{ext_get_or, get_or-take, get_or-drop, get_or-replicate, get_or_past, get_or_default, length-replicate, length-take, length-take-le, length-drop, take_all, take-append-drop}
 use Rattle.std.proofs.lemmas.Bool.{cases_lt, cases_eq}
 use Rattle.base.specs.declared.pointer.Pointer.{Pointer}
@@ -11,10 +11,9 @@ use Rattle.base.specs.Geometry.{IsBlockAddress}
 use Rattle.base.specs.Blocks.{Frame}
 use Rattle.base.specs.Places.Place.{Indirect, Data}
 use Rattle.base.specs.Tree.{OpensAt, IsRecord, record_bytes}
-use Rattle.base.specs.PlacedTrees.{IsPlaced}
 use Rattle.base.proofs.Put.{length-put, part-put_same, part-put_apart}
 use Rattle.object_maps.specs.Pointers.{pointer_of_list}
-use Rattle.object_maps.specs.Loading.{IsLoadedRecord, IsZeroRecord, AreLoadedRecords, IndirectStands, IsLoadedObject}
+use Rattle.object_maps.specs.Loading.{IsLoadedRecord, IsZeroRecord, AreLoadedRecords, IsLoadedObject}
 
 -- bytes that are all zero
 zeros-by : (xs : List ℕ) → ((i : ℕ) → i < length xs → get_or xs i 0 ≡ 0) → xs ≡ replicate (length xs) 0
@@ -129,7 +128,7 @@ pub records_load : (keeps : Bool) (image : List ℕ) (frame : Frame) (n : ℕ) (
 records_load keeps image frame n records bytes new count so_far d within here others size = record {
   loaded = λ r low. go r low (cases_eq r count);
   rest = λ r high. let ne : r ≢ count = λ e. omega (arith, high, e) in
-  subst (λ (l : List ℕ). l ≡ replicate (length l) 0) (sym (others r ne)) (so_far.rest r (omega (arith, high)));
+      subst (λ (l : List ℕ). l ≡ replicate (length l) 0) (sym (others r ne)) (so_far.rest r (omega (arith, high)));
 }
   where
     go : (r : ℕ) → r < count + 1 → (r ≡ count) ⊎ (r ≢ count) → IsLoadedRecord keeps image frame n r (pointer_of_list records r) new

@@ -1,9 +1,8 @@
 -- A tree as it is loaded is the one that the image holds.
 use Rattle.std.proofs.Common.{◌≡◌, ℕ, zero, suc, false, take, drop, replicate, ◌++◌, ◌∷◌, ◌+◌, ◌*◌, ◌/◌, ◌%◌, ◌<◌, ◌≤◌, List, [], length, refl, ap, sym, subst, ◌∙◌, arith, ◌⊎◌, inl, inr, Some, None}
-use Rattle.std.specs.Prelude.{Bool, IsTrue, Option, IfSome, All, slice_get}
+use Rattle.std.specs.Prelude.{Bool, IsTrue, Option, IfSome, All}
 use Rattle.std.specs.Option.{option_map_or}
 use Rattle.std.specs.FinMap as finite
-use Rattle.std.proofs.Math.Nat.{div-add-mod}
 use Rattle.std.proofs.lemmas.List.{take_at, get_or-replicate, get_or_past, length-replicate}
 use Rattle.std.proofs.lemmas.List.Elements.{All-head, All-tail}
 use Rattle.std.proofs.lemmas.Bool.{cases_lt}
@@ -15,14 +14,14 @@ use Rattle.base.specs.Geometry.{IsBlockAddress}
 use Rattle.base.specs.Blocks.{Frame}
 use Rattle.base.specs.Places.{Place, IsPlace}
 use Rattle.base.specs.Places.Place.{Root, Directory, Indirect, Data}
-use Rattle.base.specs.Tree.{OpensAt, IsRecord}
-use Rattle.base.specs.PlacedTrees.{IsPlaced, ArePlaced, IsEntryFor, StandsAt, HoldsTree}
+use Rattle.base.specs.Tree.{OpensAt}
+use Rattle.base.specs.PlacedTrees.{ArePlaced, IsEntryFor, StandsAt, HoldsTree}
 use Rattle.object_maps.specs.declared.contents.Slot.{Slot}
 use Rattle.object_maps.specs.declared.tree.ObjectMap.{ObjectMap}
 use Rattle.object_maps.specs.ContentsShown.{object_in, object_of}
 use Rattle.object_maps.specs.Pointers.{objects_of, pointers_at, pointer_of_list, indirect_of, records_of}
 use Rattle.object_maps.specs.EmptyMaps.{IsEmptyMap}
-use Rattle.object_maps.specs.Loading.{IsLoadedAt, IsEmptyAt, AreEmptyFrom, DirectoryStands, IsEntryAt, AreLoadedDirectories, IsLoadedTree}
+use Rattle.object_maps.specs.Loading.{IsLoadedAt, AreEmptyFrom, DirectoryStands, AreLoadedDirectories, IsLoadedTree}
 use Rattle.object_maps.proofs.ContentsShown.{get-objects, absent_at}
 use Rattle.object_maps.proofs.LoadedEntries.{no_directory}
 
@@ -87,8 +86,12 @@ tree_holds keeps image frame root directories slots maps long t k = record { no_
   where
     in_slots : (d : ℕ) → DirectoryStands image frame d (pointer_of_list directories d) slots maps → StandsAt image frame (pointers_at root directories maps) (objects_of slots) (Directory d)
     in_slots d (inl none) = inl (none.0, λ e low. (get-objects slots (entry_count * d + e) ∙ (none.1 e low).object, (none.1 e low).indirect))
-    in_slots d (inr block) = inr (block.0, block.1, λ e low. subst (λ (o : Option (List ℕ)). IsEntryFor (entry_in block.0 e) (indirect_of maps (entry_count * d + e)) o)
-        (sym (get-objects slots (entry_count * d + e))) (block.2 e low))
+    in_slots d (inr block) = inr (
+      block.0,
+      block.1,
+      λ e low. subst (λ (o : Option (List ℕ)). IsEntryFor (entry_in block.0 e) (indirect_of maps (entry_count * d + e)) o)
+          (sym (get-objects slots (entry_count * d + e))) (block.2 e low),
+    )
 
     stands : (place : Place) → IsPlace place → StandsAt image frame (pointers_at root directories maps) (objects_of slots) place
     stands Root there = t.stands k

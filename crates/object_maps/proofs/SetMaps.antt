@@ -1,6 +1,6 @@
 -- The pointers of a tree after those of some objects are set.
 use Rattle.std.proofs.Common.{◌≡◌, ℕ, zero, suc, ◌<◌, ◌≤◌, ◌≢◌, List, [], ◌∷◌, Option, Some, None, refl, ap, sym, ◌∙◌, inl, inr, ◌⊎◌, length, arith, true, false, cond}
-use Rattle.std.specs.Prelude.{Bool, slice_get, ◌==◌}
+use Rattle.std.specs.Prelude.{slice_get}
 use Rattle.std.specs.Option.{option_map_or}
 use Rattle.std.specs.Map.{keys_of, lookup}
 use Rattle.std.specs.List.{AllByRecursion}

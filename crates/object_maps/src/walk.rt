@@ -374,7 +374,9 @@ fn load_directory<D: SectorDevice>(
     if !are_entries(payload) {
         return Err(damaged(Kind::Directory, pointer));
     }
-    load_entries(alloc, device, geometry, frame, directory, payload, slots, maps)
+    load_entries(
+        alloc, device, geometry, frame, directory, payload, slots, maps,
+    )
 }
 
 // Loads the objects that the entries of a directory name.
@@ -437,7 +439,15 @@ fn load_object<D: SectorDevice>(
         (λ o. IsLoadedObject D.keeps_model image (frame_of frame.now geometry) number (Some o.0.bytes.items) o.1.indirect o.1.records.items) }
 {
     let mut bytes = vec![in alloc; 0u8; entry.length as usize]?;
-    let records = load_bytes(alloc, device, geometry, frame, number, &entry.pointer, &mut bytes)?;
+    let records = load_bytes(
+        alloc,
+        device,
+        geometry,
+        frame,
+        number,
+        &entry.pointer,
+        &mut bytes,
+    )?;
     let slot = Slot {
         present: true,
         bytes,

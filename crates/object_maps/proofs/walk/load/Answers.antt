@@ -1,8 +1,5 @@
-use Rattle.std.proofs.Common.{◌≡◌, ◌∙◌, ℕ, List, length, refl, sym, subst, take, drop, ◌++◌}
-use Rattle.base.specs.declared.pointer.Pointer.{Pointer}
-use Rattle.base.specs.Fields.{no_pointer}
+use Rattle.std.proofs.Common.{◌∙◌, ℕ, List, refl}
 use Rattle.base.specs.Disk.{bytes_of}
-use Rattle.object_maps.specs.Pointers.{pointer_of_list}
 use Rattle.object_maps.specs.Loading.{frame_of}
 use Rattle.object_maps.proofs.LoadedTrees.{all_empty, no_pointers, standing_tree, length-standing, tree_placed, tree_bounded, tree_holds}
 use Rattle.object_maps.proofs.walk.load.Goals as goal

@@ -1,7 +1,7 @@
-use Rattle.std.proofs.Common.{◌≡◌, ◌<◌, ◌∙◌, ℕ, length, refl, arith}
+use Rattle.std.proofs.Common.{◌≡◌, ◌<◌, ◌∙◌, length, refl, arith}
 use Rattle.object_maps.specs.Loading.{frame_of}
 use Rattle.object_maps.proofs.LoadedBlocks.{still_shows}
-use Rattle.object_maps.proofs.LoadedEntries.{directories_start, directories_skip, directories_load, empty_more, empty_behind}
+use Rattle.object_maps.proofs.LoadedEntries.{directories_skip, directories_load, empty_more, empty_behind}
 use Rattle.object_maps.proofs.walk.load_directories.Goals as goal
 
 pub loop-index-preserved-then-is_none : goal.loop-index-preserved-then-is_none
@@ -14,7 +14,7 @@ loop-index-preserved-then-is_none g c =
       count = i.count;
       empty = empty_more c.loop-index.index c.loop-index.slots c.loop-index.maps i.empty;
       loaded = λ image shows. directories_skip g.D.SectorDevice.keeps_model image (frame_of c.args.frame.now c.args.geometry) c.args.directories.now c.loop-index.index
-      c.loop-index.slots c.loop-index.maps (i.loaded image shows) _ within (c.if-is_none.ensures.0 refl);
+          c.loop-index.slots c.loop-index.maps (i.loaded image shows) _ within (c.if-is_none.ensures.0 refl);
     }
 
 pub loop-index-preserved : goal.loop-index-preserved
@@ -28,8 +28,8 @@ loop-index-preserved g c =
       count = call.count ∙ i.count;
       empty = empty_behind c.loop-index.index c.loop-index.slots c.load_directory.new.slots c.loop-index.maps c.load_directory.new.maps i.empty call.others;
       loaded = λ image shows. directories_load g.D.SectorDevice.keeps_model image (frame_of c.args.frame.now c.args.geometry) c.args.directories.now c.loop-index.index
-      c.loop-index.slots c.load_directory.new.slots c.loop-index.maps c.load_directory.new.maps (i.loaded image shows) call.others _ within
-      (call.loaded image (still_shows g.D.SectorDevice.keeps_model (g.D.SectorDevice.disk c.args.device.now) (g.D.SectorDevice.disk c.loop-index.device) image i.disk shows));
+          c.loop-index.slots c.load_directory.new.slots c.loop-index.maps c.load_directory.new.maps (i.loaded image shows) call.others _ within
+          (call.loaded image (still_shows g.D.SectorDevice.keeps_model (g.D.SectorDevice.disk c.args.device.now) (g.D.SectorDevice.disk c.loop-index.device) image i.disk shows));
     }
 
 pub returns-clause-loaded : goal.returns-clause-loaded

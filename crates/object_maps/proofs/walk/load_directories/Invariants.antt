@@ -11,5 +11,5 @@ invariant-loop-index g l = record {
   count : g.D.SectorDevice.refused l.device ≡ g.D.SectorDevice.refused l.fn.device;
   empty : AreEmptyFrom (63 * l.index) l.slots l.maps;
   loaded : (image : List ℕ) → Shows g.D.SectorDevice.keeps_model (g.D.SectorDevice.disk l.fn.device) image
-    → AreLoadedDirectories g.D.SectorDevice.keeps_model image (frame_of l.frame l.geometry) l.directories l.index l.slots l.maps;
+      → AreLoadedDirectories g.D.SectorDevice.keeps_model image (frame_of l.frame l.geometry) l.directories l.index l.slots l.maps;
 }

@@ -4,7 +4,7 @@ use Rattle.base.specs.Fields.{entry_in, entry_present, entry_length}
 use Rattle.object_maps.specs.Loading.{frame_of}
 use Rattle.object_maps.proofs.LoadedBlocks.{still_shows}
 use Rattle.object_maps.proofs.EntryForms.{entry_absent, entry_short}
-use Rattle.object_maps.proofs.LoadedEntries.{entries_start, entries_skip, entries_put}
+use Rattle.object_maps.proofs.LoadedEntries.{entries_skip, entries_put}
 use Rattle.object_maps.proofs.walk.load_entries.Goals as goal
 
 pub loop-index-preserved-then-entry-ne1 : goal.loop-index-preserved-then-entry-ne1
@@ -17,7 +17,7 @@ loop-index-preserved-then-entry-ne1 g c =
       disk = i.disk;
       count = i.count;
       loaded = λ image shows. entries_skip g.D.SectorDevice.keeps_model image (frame_of c.args.frame.now c.args.geometry) c.args.directory c.args.payload.now c.loop-index.index
-      c.args.slots.now c.loop-index.slots c.args.maps.now c.loop-index.maps (i.loaded image shows) c.requires.empty absent;
+          c.args.slots.now c.loop-index.slots c.args.maps.now c.loop-index.maps (i.loaded image shows) c.requires.empty absent;
     }
 
 pub load_object-requires-clause-length : goal.load_object-requires-clause-length
@@ -42,9 +42,9 @@ loop-index-preserved g c =
       disk = λ keeps. call.disk keeps ∙ i.disk keeps;
       count = call.count ∙ i.count;
       loaded = λ image shows. entries_put g.D.SectorDevice.keeps_model image (frame_of c.args.frame.now c.args.geometry) c.args.directory payload k
-      c.args.slots.now c.loop-index.slots c.args.maps.now c.loop-index.maps c.in_ok-slot.slot c.in_ok-slot.map (i.loaded image shows) slot_in map_in call.present
-      (call.loaded image (still_shows g.D.SectorDevice.keeps_model (g.D.SectorDevice.disk c.args.device.now) (g.D.SectorDevice.disk c.loop-index.device) image i.disk shows))
-      is_present size (omega (arith, size, most)) (sym entry.pointer ∙ sym call.indirect);
+          c.args.slots.now c.loop-index.slots c.args.maps.now c.loop-index.maps c.in_ok-slot.slot c.in_ok-slot.map (i.loaded image shows) slot_in map_in call.present
+          (call.loaded image (still_shows g.D.SectorDevice.keeps_model (g.D.SectorDevice.disk c.args.device.now) (g.D.SectorDevice.disk c.loop-index.device) image i.disk shows))
+          is_present size (omega (arith, size, most)) (sym entry.pointer ∙ sym call.indirect);
     }
 
 pub returns-clause-loaded : goal.returns-clause-loaded

@@ -1,4 +1,4 @@
-use Rattle.std.proofs.Common.{◌≡◌, ◌∙◌, ℕ, List, length, drop, sym, subst, Some}
+use Rattle.std.proofs.Common.{◌∙◌, ℕ, List, length, drop, sym, subst, Some}
 use Rattle.std.proofs.lemmas.List.{take_at}
 use Rattle.object_maps.specs.Loading.{frame_of, IsLoadedObject}
 use Rattle.object_maps.proofs.walk.load_object.Goals as goal

@@ -1,4 +1,4 @@
-use Rattle.std.proofs.Common.{◌≡◌, ℕ, List, length, take, drop, replicate, refl, sym, subst, ap, ◌∙◌, arith}
+use Rattle.std.proofs.Common.{ℕ, List, refl, sym, subst}
 use Rattle.std.proofs.lemmas.List.{take_rest}
 use Rattle.base.specs.Places.Place.{Data}
 use Rattle.base.specs.Tree.{OpensAt}

@@ -1,7 +1,7 @@
-use Rattle.std.proofs.Common.{◌≡◌, ◌<◌, ◌∙◌, ℕ, length, refl, arith}
+use Rattle.std.proofs.Common.{◌≡◌, ◌<◌, ◌∙◌, length, refl, arith}
 use Rattle.object_maps.specs.Loading.{frame_of}
 use Rattle.object_maps.proofs.LoadedBlocks.{still_shows}
-use Rattle.object_maps.proofs.LoadedRecords.{records_start, records_skip, records_load}
+use Rattle.object_maps.proofs.LoadedRecords.{records_skip, records_load}
 use Rattle.object_maps.proofs.walk.load_records.Goals as goal
 
 pub loop-index-preserved-then-is_none : goal.loop-index-preserved-then-is_none
@@ -13,7 +13,7 @@ loop-index-preserved-then-is_none g c =
       disk = i.disk;
       count = i.count;
       loaded = λ image shows. records_skip g.D.SectorDevice.keeps_model image (frame_of c.args.frame.now c.args.geometry) c.args.number c.args.records.now c.loop-index.bytes
-      c.loop-index.index (i.loaded image shows) _ within (c.if-is_none.ensures.0 refl);
+          c.loop-index.index (i.loaded image shows) _ within (c.if-is_none.ensures.0 refl);
     }
 
 pub loop-index-preserved : goal.loop-index-preserved
@@ -26,9 +26,9 @@ loop-index-preserved g c =
       disk = λ keeps. call.disk keeps ∙ i.disk keeps;
       count = call.count ∙ i.count;
       loaded = λ image shows. records_load g.D.SectorDevice.keeps_model image (frame_of c.args.frame.now c.args.geometry) c.args.number c.args.records.now c.loop-index.bytes
-      c.load_record.new.bytes c.loop-index.index (i.loaded image shows) _ within
-      (call.loaded image (still_shows g.D.SectorDevice.keeps_model (g.D.SectorDevice.disk c.args.device.now) (g.D.SectorDevice.disk c.loop-index.device) image i.disk shows))
-      call.others c.load_record.auto.bytes;
+          c.load_record.new.bytes c.loop-index.index (i.loaded image shows) _ within
+          (call.loaded image (still_shows g.D.SectorDevice.keeps_model (g.D.SectorDevice.disk c.args.device.now) (g.D.SectorDevice.disk c.loop-index.device) image i.disk shows))
+          call.others c.load_record.auto.bytes;
     }
 
 pub returns-clause-loaded : goal.returns-clause-loaded

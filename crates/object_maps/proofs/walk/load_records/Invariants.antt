@@ -10,5 +10,5 @@ invariant-loop-index g l = record {
   disk : IsTrue g.D.SectorDevice.keeps_model → g.D.SectorDevice.disk l.device ≡ g.D.SectorDevice.disk l.fn.device;
   count : g.D.SectorDevice.refused l.device ≡ g.D.SectorDevice.refused l.fn.device;
   loaded : (image : List ℕ) → Shows g.D.SectorDevice.keeps_model (g.D.SectorDevice.disk l.fn.device) image
-    → AreLoadedRecords g.D.SectorDevice.keeps_model image (frame_of l.frame l.geometry) l.number l.records l.bytes l.index;
+      → AreLoadedRecords g.D.SectorDevice.keeps_model image (frame_of l.frame l.geometry) l.number l.records l.bytes l.index;
 }
