@@ -7,3 +7,5 @@ pub mod LoadedRecords
 pub mod LoadedEntries
 pub mod EntryForms
 pub mod LoadedTrees
+pub mod WalkOrder
+pub mod WalkFaults

@@ -6,3 +6,4 @@ pub mod EmptyMaps
 pub mod SetMaps
 pub mod Loading
 pub mod Kinds
+pub mod Walking

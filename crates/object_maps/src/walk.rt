@@ -15,6 +15,11 @@ ghost use Rattle.object_maps.specs.Pointers.{pointers_of, objects_of, pointer_of
 ghost use Rattle.object_maps.specs.Kinds.{kind_number};
 ghost use Rattle.object_maps.specs.Loading.{Shows, frame_of, IsLoadRefusal, IsLoadedRecord, AreLoadedRecords, IsZeroRecord, IsLoadedObject, AreEmptyFrom, SameBut, AreLoadedEntries, IsLoadedDirectory, AreLoadedDirectories, IsLoadedTree};
 
+ghost use Rattle.base.specs.declared.pointer.Pointer.{Pointer};
+ghost use Rattle.base.specs.Places.{walk_index_of};
+ghost use Rattle.base.specs.Places.Place.{Data};
+ghost use Rattle.object_maps.specs.Walking.{TellsBlock, TellsFault, AreSound, IsDataOf};
+
 use crate::contents::{Slot, empty_slots};
 use crate::tree::{ObjectMap, Tree, empty_maps};
 use base::{
@@ -89,6 +94,8 @@ fn read_block<D: SectorDevice>(
     ensures placed { OnOk result (IsBlockAddress (block_count geometry) pointer.now.address) }
     ensures opens { (image : List ℕ) → Shows D.keeps_model (D.disk device.old) image → OnOk result (IsTrue D.keeps_model
         → Opens image (frame_of frame.now geometry) (kind_number place.kind) place.number pointer.now (drop 64 buffer.new)) }
+    ensures refused { IsTrue D.keeps_model → (image : List ℕ) → bytes_of (D.disk device.old).now ≡ image → IfErr result
+        (TellsBlock image (frame_of frame.now geometry) (kind_number place.kind) place.number pointer.now) }
 {
     if !geometry.is_block_address(pointer.address) || pointer.birth > frame.group().0 {
         return Err(damaged(place.kind, pointer));
@@ -551,6 +558,12 @@ fn load_record<D: SectorDevice>(
     ensures loaded { (image : List ℕ) → Shows D.keeps_model (D.disk device.old) image → OnOk result
         (IsLoadedRecord D.keeps_model image (frame_of frame.now geometry) number index pointer.now bytes.new) }
     ensures others { OnOk result ((r : ℕ) → r ≢ index → record_bytes r bytes.new ≡ record_bytes r bytes.old) }
+    ensures sound { IsTrue D.keeps_model → (image : List ℕ) (top : Pointer) → bytes_of (D.disk device.old).now ≡ image
+        → IsDataOf image top number index pointer.now (length bytes.old)
+        → OnOk result (AreSound image (frame_of frame.now geometry) top (walk_index_of (Data number index)) (walk_index_of (Data number index) + 1)) }
+    ensures fault { IsTrue D.keeps_model → (image : List ℕ) (top : Pointer) → bytes_of (D.disk device.old).now ≡ image
+        → IsDataOf image top number index pointer.now (length bytes.old)
+        → IfErr result (TellsFault image (frame_of frame.now geometry) top (walk_index_of (Data number index))) }
 {
     let mut buffer = new_buffer();
     let place = BlockPlace {
