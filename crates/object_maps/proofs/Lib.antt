@@ -9,3 +9,4 @@ pub mod EntryForms
 pub mod LoadedTrees
 pub mod WalkOrder
 pub mod WalkFaults
+pub mod WalkParts

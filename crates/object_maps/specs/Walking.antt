@@ -6,7 +6,10 @@ use Rattle.base.specs.declared.pointer.Pointer.{Pointer}
 use Rattle.base.specs.Fields.{no_pointer}
 use Rattle.base.specs.Blocks.{Frame, Opens}
 use Rattle.base.specs.Places.{Place, IsPlace, kind_of, walk_index_of, pointer_of}
-use Rattle.base.specs.Places.Place.{Data}
+use Rattle.base.specs.Places.Place.{Directory, Indirect, Data}
+use Rattle.base.specs.Limits.{pointer_count}
+use Rattle.base.specs.Tree.{OpensAt}
+use Rattle.object_maps.specs.Pointers.{pointer_of_list}
 use Rattle.base.specs.Faults.{IsSoundAt, length_in}
 
 -- the places of the walk from one index up to another are sound
@@ -37,3 +40,23 @@ pub record IsDataOf (image : List ℕ) (root : Pointer) (n r : ℕ) (pointer : P
   pub at : pointer_of image root (Data n r) ≡ pointer
   pub there : pointer ≢ no_pointer
   pub size_is : length_in image root n ≡ size
+
+-- these pointers are to the records of object n in the image's tree, and the object has this length
+pub record AreDataOf (image : List ℕ) (root : Pointer) (n : ℕ) (records : List Pointer) (size : ℕ) : Type 0 where
+  pub at : (r : ℕ) → r < pointer_count → pointer_of image root (Data n r) ≡ pointer_of_list records r
+  pub size_is : length_in image root n ≡ size
+
+-- this pointer is to the indirect block of object n, and the object has this length
+pub record IsIndirectOf (image : List ℕ) (root : Pointer) (n : ℕ) (indirect : Pointer) (size : ℕ) : Type 0 where
+  pub at : pointer_of image root (Indirect n) ≡ indirect
+  pub size_is : length_in image root n ≡ size
+
+-- this is the payload of directory d
+pub record IsPayloadOf (image : List ℕ) (frame : Frame) (root : Pointer) (d : ℕ) (payload : List ℕ) : Type 0 where
+  pub pointer : Pointer
+  pub at : pointer_of image root (Directory d) ≡ pointer
+  pub opens : OpensAt image frame (Directory d) pointer payload
+
+-- these pointers are to the directories
+pub record AreDirectoriesOf (image : List ℕ) (root : Pointer) (directories : List Pointer) : Type 0 where
+  pub at : (d : ℕ) → d < pointer_count → pointer_of image root (Directory d) ≡ pointer_of_list directories d

@@ -16,9 +16,9 @@ ghost use Rattle.object_maps.specs.Kinds.{kind_number};
 ghost use Rattle.object_maps.specs.Loading.{Shows, frame_of, IsLoadRefusal, IsLoadedRecord, AreLoadedRecords, IsZeroRecord, IsLoadedObject, AreEmptyFrom, SameBut, AreLoadedEntries, IsLoadedDirectory, AreLoadedDirectories, IsLoadedTree};
 
 ghost use Rattle.base.specs.declared.pointer.Pointer.{Pointer};
-ghost use Rattle.base.specs.Places.{walk_index_of};
-ghost use Rattle.base.specs.Places.Place.{Data};
-ghost use Rattle.object_maps.specs.Walking.{TellsBlock, TellsFault, AreSound, IsDataOf};
+ghost use Rattle.base.specs.Places.{walk_index_of, walk_index_of_indirect, pointer_of};
+ghost use Rattle.base.specs.Places.Place.{Directory, Data};
+ghost use Rattle.object_maps.specs.Walking.{TellsBlock, TellsFault, AreSound, IsDataOf, AreDataOf, IsIndirectOf, IsPayloadOf, AreDirectoriesOf};
 
 use crate::contents::{Slot, empty_slots};
 use crate::tree::{ObjectMap, Tree, empty_maps};
@@ -115,7 +115,7 @@ fn has_form(pointer: &Pointer) -> bool
 // Whether each pointer of a payload names a block or is all zeros.
 fn have_form(payload: &[u8]) -> bool
     requires { length payload.now ≡ 4032 }
-    ensures { IsTrue result → (d : ℕ) → d < 84 → IsPointerForm (pointer_in payload.now d) }
+    ensures { IsTrue result ↔ ((d : ℕ) → d < 84 → IsPointerForm (pointer_in payload.now d)) }
 {
     for index in 0..POINTER_COUNT {
         if !has_form(&read_pointer(payload, POINTER_SIZE * index)) {
@@ -163,7 +163,7 @@ fn read_entry(payload: &[u8], index: usize) -> Entry
 fn is_entry(payload: &[u8], index: usize) -> bool
     requires size { length payload.now ≡ 4032 }
     requires in_range { index < 63 }
-    ensures { IsTrue result → IsEntryForm (entry_in payload.now index) }
+    ensures { IsTrue result ↔ IsEntryForm (entry_in payload.now index) }
 {
     let entry = read_entry(payload, index);
     match entry.present {
@@ -175,7 +175,7 @@ fn is_entry(payload: &[u8], index: usize) -> bool
 
 fn are_entries(payload: &[u8]) -> bool
     requires { length payload.now ≡ 4032 }
-    ensures { IsTrue result → (k : ℕ) → k < 63 → IsEntryForm (entry_in payload.now k) }
+    ensures { IsTrue result ↔ ((k : ℕ) → k < 63 → IsEntryForm (entry_in payload.now k)) }
 {
     for index in 0..ENTRY_COUNT {
         if !is_entry(payload, index) {
@@ -188,14 +188,14 @@ fn are_entries(payload: &[u8]) -> bool
 // Whether a pointer to a record names a block or is all zeros, and from the end of the object on is all zeros.
 fn is_record_pointer(pointer: &Pointer, index: usize, size: usize) -> bool
     requires { index < 84 }
-    ensures { IsTrue result → IsRecordPointerForm size index pointer.now }
+    ensures { IsTrue result ↔ IsRecordPointerForm size index pointer.now }
 {
     has_form(pointer) && (RECORD_SIZE * index < size || pointer.is_none())
 }
 
 fn are_records(payload: &[u8], size: usize) -> bool
     requires { length payload.now ≡ 4032 }
-    ensures { IsTrue result → (r : ℕ) → r < 84 → IsRecordPointerForm size r (pointer_in payload.now r) }
+    ensures { IsTrue result ↔ ((r : ℕ) → r < 84 → IsRecordPointerForm size r (pointer_in payload.now r)) }
 {
     for index in 0..POINTER_COUNT {
         let pointer = read_pointer(payload, POINTER_SIZE * index);
@@ -295,6 +295,8 @@ fn load_tree<D: SectorDevice>(
     ensures cause { IfErr result (IsLoadRefusal (D.refused device.old) (D.refused device.new)) }
     ensures loaded { (image : List ℕ) → Shows D.keeps_model (D.disk device.old) image → OnOk result
         (IsLoadedTree D.keeps_model image (frame_of frame.now geometry) root.now directories.new slots.new maps.new) }
+    ensures fault { IsTrue D.keeps_model → (image : List ℕ) → bytes_of (D.disk device.old).now ≡ image
+        → IfErr result (TellsFault image (frame_of frame.now geometry) root.now 0) }
 {
     if root.is_none() {
         return Ok(());
@@ -337,6 +339,10 @@ fn load_directories<D: SectorDevice>(
     ensures cause { IfErr result (IsLoadRefusal (D.refused device.old) (D.refused device.new)) }
     ensures loaded { (image : List ℕ) → Shows D.keeps_model (D.disk device.old) image → OnOk result
         (AreLoadedDirectories D.keeps_model image (frame_of frame.now geometry) directories.now 84 slots.new maps.new) }
+    ensures sound { IsTrue D.keeps_model → (image : List ℕ) (top : Pointer) → bytes_of (D.disk device.old).now ≡ image
+        → AreDirectoriesOf image top directories.now → OnOk result (AreSound image (frame_of frame.now geometry) top (1) (1 + 5356 * 84)) }
+    ensures fault { IsTrue D.keeps_model → (image : List ℕ) (top : Pointer) → bytes_of (D.disk device.old).now ≡ image
+        → AreDirectoriesOf image top directories.now → IfErr result (TellsFault image (frame_of frame.now geometry) top (1)) }
 {
     for index in 0..POINTER_COUNT {
         let pointer = directories[index];
@@ -370,6 +376,10 @@ fn load_directory<D: SectorDevice>(
     ensures loaded { (image : List ℕ) → Shows D.keeps_model (D.disk device.old) image → OnOk result
         (IsLoadedDirectory D.keeps_model image (frame_of frame.now geometry) directory pointer.now slots.new maps.new) }
     ensures others { OnOk result (SameBut (63 * directory) 63 slots.old slots.new maps.old maps.new) }
+    ensures sound { IsTrue D.keeps_model → (image : List ℕ) (top : Pointer) → bytes_of (D.disk device.old).now ≡ image
+        → pointer_of image top (Directory directory) ≡ pointer.now → pointer.now ≢ no_pointer → OnOk result (AreSound image (frame_of frame.now geometry) top (1 + 5356 * directory) (1 + 5356 * (directory + 1))) }
+    ensures fault { IsTrue D.keeps_model → (image : List ℕ) (top : Pointer) → bytes_of (D.disk device.old).now ≡ image
+        → pointer_of image top (Directory directory) ≡ pointer.now → pointer.now ≢ no_pointer → IfErr result (TellsFault image (frame_of frame.now geometry) top (1 + 5356 * directory)) }
 {
     let mut buffer = new_buffer();
     let place = BlockPlace {
@@ -410,6 +420,10 @@ fn load_entries<D: SectorDevice>(
     ensures cause { IfErr result (IsLoadRefusal (D.refused device.old) (D.refused device.new)) }
     ensures loaded { (image : List ℕ) → Shows D.keeps_model (D.disk device.old) image → OnOk result
         (AreLoadedEntries D.keeps_model image (frame_of frame.now geometry) directory payload.now 63 slots.old slots.new maps.old maps.new) }
+    ensures sound { IsTrue D.keeps_model → (image : List ℕ) (top : Pointer) → bytes_of (D.disk device.old).now ≡ image
+        → IsPayloadOf image (frame_of frame.now geometry) top directory payload.now → OnOk result (AreSound image (frame_of frame.now geometry) top (2 + 5356 * directory) (1 + 5356 * (directory + 1))) }
+    ensures fault { IsTrue D.keeps_model → (image : List ℕ) (top : Pointer) → bytes_of (D.disk device.old).now ≡ image
+        → IsPayloadOf image (frame_of frame.now geometry) top directory payload.now → IfErr result (TellsFault image (frame_of frame.now geometry) top (2 + 5356 * directory)) }
 {
     for index in 0..ENTRY_COUNT {
         let entry = read_entry(payload, index);
@@ -444,6 +458,10 @@ fn load_object<D: SectorDevice>(
     ensures indirect { IfOk result (λ o. o.1.indirect ≡ entry.now.pointer) }
     ensures loaded { (image : List ℕ) → Shows D.keeps_model (D.disk device.old) image → IfOk result
         (λ o. IsLoadedObject D.keeps_model image (frame_of frame.now geometry) number (Some o.0.bytes.items) o.1.indirect o.1.records.items) }
+    ensures sound { IsTrue D.keeps_model → (image : List ℕ) (top : Pointer) → bytes_of (D.disk device.old).now ≡ image
+        → IsIndirectOf image top number entry.now.pointer entry.now.length → OnOk result (AreSound image (frame_of frame.now geometry) top (walk_index_of_indirect number) (walk_index_of_indirect number + 85)) }
+    ensures fault { IsTrue D.keeps_model → (image : List ℕ) (top : Pointer) → bytes_of (D.disk device.old).now ≡ image
+        → IsIndirectOf image top number entry.now.pointer entry.now.length → IfErr result (TellsFault image (frame_of frame.now geometry) top (walk_index_of_indirect number)) }
 {
     let mut bytes = vec![in alloc; 0u8; entry.length as usize]?;
     let records = load_bytes(
@@ -486,6 +504,10 @@ fn load_bytes<D: SectorDevice>(
     ensures cause { IfErr result (IsLoadRefusal (D.refused device.old) (D.refused device.new)) }
     ensures loaded { (image : List ℕ) → Shows D.keeps_model (D.disk device.old) image → IfOk result
         (λ records. IsLoadedObject D.keeps_model image (frame_of frame.now geometry) number (Some bytes.new) indirect.now records.items) }
+    ensures sound { IsTrue D.keeps_model → (image : List ℕ) (top : Pointer) → bytes_of (D.disk device.old).now ≡ image
+        → IsIndirectOf image top number indirect.now (length bytes.old) → OnOk result (AreSound image (frame_of frame.now geometry) top (walk_index_of_indirect number) (walk_index_of_indirect number + 85)) }
+    ensures fault { IsTrue D.keeps_model → (image : List ℕ) (top : Pointer) → bytes_of (D.disk device.old).now ≡ image
+        → IsIndirectOf image top number indirect.now (length bytes.old) → IfErr result (TellsFault image (frame_of frame.now geometry) top (walk_index_of_indirect number)) }
 {
     if indirect.is_none() {
         return Ok(Vec::new(alloc));
@@ -526,6 +548,10 @@ fn load_records<D: SectorDevice>(
     ensures cause { IfErr result (IsLoadRefusal (D.refused device.old) (D.refused device.new)) }
     ensures loaded { (image : List ℕ) → Shows D.keeps_model (D.disk device.old) image → OnOk result
         (AreLoadedRecords D.keeps_model image (frame_of frame.now geometry) number records.now bytes.new 84) }
+    ensures sound { IsTrue D.keeps_model → (image : List ℕ) (top : Pointer) → bytes_of (D.disk device.old).now ≡ image
+        → AreDataOf image top number records.now (length bytes.old) → OnOk result (AreSound image (frame_of frame.now geometry) top (walk_index_of_indirect number + 1) (walk_index_of_indirect number + 85)) }
+    ensures fault { IsTrue D.keeps_model → (image : List ℕ) (top : Pointer) → bytes_of (D.disk device.old).now ≡ image
+        → AreDataOf image top number records.now (length bytes.old) → IfErr result (TellsFault image (frame_of frame.now geometry) top (walk_index_of_indirect number + 1)) }
 {
     for index in 0..POINTER_COUNT {
         let pointer = records[index];
