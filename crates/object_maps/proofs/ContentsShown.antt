@@ -94,7 +94,7 @@ pub object-written : (present : Bool) (f : List ℕ → List ℕ) (old new : Lis
 object-written true f old new e = ap Some e
 object-written false f old new e = refl
 
-absent_at : (slots : List Slot) (k : ℕ) → All (λ (s : Slot). s.present ≡ false) slots → object_in slots k ≡ None
+pub absent_at : (slots : List Slot) (k : ℕ) → All (λ (s : Slot). s.present ≡ false) slots → object_in slots k ≡ None
 absent_at [] k absent = refl
 absent_at (s ∷ slots) zero absent = let e : s.present ≡ false = All-head (λ (t : Slot). t.present ≡ false) s slots absent in rw e refl
 absent_at (s ∷ slots) (suc k) absent = absent_at slots k (All-tail (λ (t : Slot). t.present ≡ false) s slots absent)

@@ -2,3 +2,11 @@ pub mod ContentsShown
 pub mod Growth
 pub mod Judged
 pub mod SetMaps
+pub mod LoadedBlocks
+pub mod LoadedRecords
+pub mod LoadedEntries
+pub mod EntryForms
+pub mod LoadedTrees
+pub mod WalkOrder
+pub mod WalkFaults
+pub mod WalkParts

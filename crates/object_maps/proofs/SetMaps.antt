@@ -1,6 +1,6 @@
 -- The pointers of a tree after those of some objects are set.
 use Rattle.std.proofs.Common.{◌≡◌, ℕ, zero, suc, ◌<◌, ◌≤◌, ◌≢◌, List, [], ◌∷◌, Option, Some, None, refl, ap, sym, ◌∙◌, inl, inr, ◌⊎◌, length, arith, true, false, cond}
-use Rattle.std.specs.Prelude.{Bool, slice_get, ◌==◌}
+use Rattle.std.specs.Prelude.{slice_get}
 use Rattle.std.specs.Option.{option_map_or}
 use Rattle.std.specs.Map.{keys_of, lookup}
 use Rattle.std.specs.List.{AllByRecursion}
@@ -24,17 +24,17 @@ use Rattle.object_maps.specs.declared.tree.ObjectMap.{ObjectMap}
 use Rattle.object_maps.specs.Pointers.{pointers_at, pointer_of_list, indirect_of, records_of, with_maps, map_among, id_cmp}
 use Rattle.object_maps.specs.SetMaps.{set_maps}
 
-slice_get-set_same : (maps : List ObjectMap) (n : ℕ) (m : ObjectMap) → n < length maps → slice_get (set maps n m) n ≡ Some m
-slice_get-set_same [] n m low = absurd (omega arith)
-slice_get-set_same (t ∷ maps) zero m low = refl
-slice_get-set_same (t ∷ maps) (suc n) m low = slice_get-set_same maps n m (omega arith)
+pub map-set_same : (maps : List ObjectMap) (n : ℕ) (m : ObjectMap) → n < length maps → slice_get (set maps n m) n ≡ Some m
+map-set_same [] n m low = absurd (omega arith)
+map-set_same (t ∷ maps) zero m low = refl
+map-set_same (t ∷ maps) (suc n) m low = map-set_same maps n m (omega arith)
 
-slice_get-set_other : (maps : List ObjectMap) (n : ℕ) (m : ObjectMap) (k : ℕ) → k ≢ n → slice_get (set maps n m) k ≡ slice_get maps k
-slice_get-set_other [] n m k ne = refl
-slice_get-set_other (t ∷ maps) zero m zero ne = absurd (ne refl)
-slice_get-set_other (t ∷ maps) zero m (suc k) ne = refl
-slice_get-set_other (t ∷ maps) (suc n) m zero ne = refl
-slice_get-set_other (t ∷ maps) (suc n) m (suc k) ne = slice_get-set_other maps n m k (λ e. ne (ap suc e))
+pub map-set_other : (maps : List ObjectMap) (n : ℕ) (m : ObjectMap) (k : ℕ) → k ≢ n → slice_get (set maps n m) k ≡ slice_get maps k
+map-set_other [] n m k ne = refl
+map-set_other (t ∷ maps) zero m zero ne = absurd (ne refl)
+map-set_other (t ∷ maps) zero m (suc k) ne = refl
+map-set_other (t ∷ maps) (suc n) m zero ne = refl
+map-set_other (t ∷ maps) (suc n) m (suc k) ne = map-set_other maps n m k (λ e. ne (ap suc e))
 
 -- the new pointers of object n
 abbrev among : List (ObjectId × ObjectMap) → ℕ → Option ObjectMap
@@ -67,7 +67,7 @@ kept (e ∷ es) maps n none = go (cases_eq e.0.0 n) (kept es (set maps e.0.0 e.1
     go : (e.0.0 ≡ n) ⊎ (e.0.0 ≢ n) → (among es n ≡ None → slice_get (set_maps es (set maps e.0.0 e.1)) n ≡ slice_get (set maps e.0.0 e.1) n)
         → slice_get (set_maps es (set maps e.0.0 e.1)) n ≡ slice_get maps n
     go (inl here) more = absurd (none-some e.1 (sym none ∙ ap (λ b. cond b (Some e.1) (lookup (is_at (id_cmp (record { 0 = n }))) es)) (is_here n e.0.0 here)))
-    go (inr ne) more = more (rw (is_elsewhere n e.0.0 ne) at none) ∙ slice_get-set_other maps e.0.0 e.1 n (λ h. ne (sym h))
+    go (inr ne) more = more (rw (is_elsewhere n e.0.0 ne) at none) ∙ map-set_other maps e.0.0 e.1 n (λ h. ne (sym h))
 
 -- and each of these has its new ones
 found : (es : List (ObjectId × ObjectMap)) (maps : List ObjectMap) (n : ℕ) (m : ObjectMap) → n < length maps → IsStrictlySortedBy id_cmp (keys_of es)
@@ -81,7 +81,7 @@ found (e ∷ es) maps n m low sorted some = go (cases_eq e.0.0 n) (found es (set
     go : (e.0.0 ≡ n) ⊎ (e.0.0 ≢ n) → (among es n ≡ Some m → slice_get (set_maps es rest) n ≡ Some m) → slice_get (set_maps es rest) n ≡ Some m
     go (inl here) more =
         let behind : AllByRecursion (λ (y : ObjectId). nat_cmp e.0.0 y.0 ≡ Less) (keys_of es) = sorted_head id_cmp e.0 (keys_of es) sorted in
-        kept es rest n (none_behind n es (rw here at behind)) ∙ rw here (slice_get-set_same maps n e.1 low) ∙ (rw (is_here n e.0.0 here) at some)
+        kept es rest n (none_behind n es (rw here at behind)) ∙ rw here (map-set_same maps n e.1 low) ∙ (rw (is_here n e.0.0 here) at some)
     go (inr ne) more = more (rw (is_elsewhere n e.0.0 ne) at some)
 
 -- the pointer at each place after they are set

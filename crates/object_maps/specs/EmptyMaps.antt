@@ -1,5 +1,5 @@
 -- Objects of which none is there.
-use Rattle.std.specs.Prelude.{◌≡◌, List, []}
+use Rattle.std.specs.Prelude.{◌≡◌, []}
 use Rattle.base.specs.Fields.{no_pointer}
 use Rattle.object_maps.specs.declared.tree.ObjectMap.{ObjectMap}
 

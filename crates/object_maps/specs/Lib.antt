@@ -5,4 +5,5 @@ pub mod Pointers
 pub mod EmptyMaps
 pub mod SetMaps
 pub mod Loading
-pub mod Entries
+pub mod Kinds
+pub mod Walking

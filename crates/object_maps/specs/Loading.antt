@@ -67,6 +67,10 @@ pub record IsEmptyAt (slots : List Slot) (maps : List ObjectMap) (n : ℕ) : Typ
   pub indirect : indirect_of maps n ≡ no_pointer
   pub records : records_of maps n ≡ []
 
+-- they have no object from this one on
+pub record AreEmptyFrom (start : ℕ) (slots : List Slot) (maps : List ObjectMap) : Type 0 where
+  pub each : (n : ℕ) → start ≤ n → IsEmptyAt slots maps n
+
 -- the entry of object n
 abbrev pub IsEntryAt : List Slot → List ObjectMap → ℕ → List ℕ → Type 0
 IsEntryAt slots maps n entry = IsEntryFor entry (indirect_of maps n) (object_in slots n)
@@ -99,7 +103,7 @@ pub record IsLoadedDirectory (keeps : Bool) (image : List ℕ) (frame : Frame) (
 -- the objects of so many directories, and none of the others
 pub record AreLoadedDirectories (keeps : Bool) (image : List ℕ) (frame : Frame) (directories : List Pointer) (count : ℕ) (slots : List Slot) (maps : List ObjectMap) : Type 0 where
   pub loaded : (d : ℕ) → d < count → IsLoadedDirectory keeps image frame d (pointer_of_list directories d) slots maps
-  pub rest : (n : ℕ) → entry_count * count ≤ n → IsEmptyAt slots maps n
+  pub rest : AreEmptyFrom (entry_count * count) slots maps
 
 -- no root and no directories, or the block with the pointers to these
 abbrev pub RootStands : List ℕ → Frame → Pointer → List Pointer → Type 0

@@ -1,14 +1,30 @@
 //! The load of a tree from its device, in the order of its walk.
 
-ghost use Rattle.std.specs.Prelude.{◌≡◌, ℕ, ◌+◌, ◌*◌, ◌<◌, ◌≤◌, IfOk, IsTrue, length, vec_len};
-ghost use Rattle.base.specs.Fields.{number_at, pointer_at};
-ghost use Rattle.object_maps.specs.Entries.{HasLength};
+ghost use Rattle.std.specs.Prelude.{◌≡◌, ◌≢◌, ℕ, ◌+◌, ◌*◌, ◌<◌, ◌≤◌, ◌↔◌, List, IfOk, IfErr, OnOk, IfSome, IsTrue, Some, true, drop, get_or, length, replicate, vec_len};
+ghost use Rattle.std.specs.FinMap as finite;
+ghost use Rattle.base.specs.Limits.{object_count, max_length};
+ghost use Rattle.base.specs.Fields.{number_at, pointer_at, pointer_in, entry_in, entry_present, entry_length, entry_pointer, no_pointer};
+ghost use Rattle.base.specs.Disk.{bytes_of};
+ghost use Rattle.base.specs.Geometry.{block_count, IsBlockAddress};
+ghost use Rattle.base.specs.Blocks.{Opens};
+ghost use Rattle.base.specs.Tree.{record_bytes};
+ghost use Rattle.base.specs.Faults.{IsPointerForm, IsEntryForm, IsRecordPointerForm};
+ghost use Rattle.base.specs.PlacedTrees.{HoldsTree, ArePlaced};
+ghost use Rattle.checked_blocks.proofs.NamedBlocks.{IsNamed};
+ghost use Rattle.object_maps.specs.Pointers.{pointers_of, objects_of, pointer_of_list};
+ghost use Rattle.object_maps.specs.Kinds.{kind_number};
+ghost use Rattle.object_maps.specs.Loading.{Shows, frame_of, IsLoadRefusal, IsLoadedRecord, AreLoadedRecords, IsZeroRecord, IsLoadedObject, AreEmptyFrom, SameBut, AreLoadedEntries, IsLoadedDirectory, AreLoadedDirectories, IsLoadedTree};
+
+ghost use Rattle.base.specs.declared.pointer.Pointer.{Pointer};
+ghost use Rattle.base.specs.Places.{walk_index_of, walk_index_of_indirect, pointer_of};
+ghost use Rattle.base.specs.Places.Place.{Directory, Data};
+ghost use Rattle.object_maps.specs.Walking.{TellsBlock, TellsFault, AreSound, IsDataOf, AreDataOf, IsIndirectOf, IsPayloadOf, AreDirectoriesOf};
 
 use crate::contents::{Slot, empty_slots};
 use crate::tree::{ObjectMap, Tree, empty_maps};
 use base::{
     ENTRY_COUNT, ENTRY_SIZE, Group, MAX_LENGTH, POINTER_COUNT, POINTER_SIZE, Pointer, PoolError,
-    RECORD_SIZE, read_pointer, read_u64,
+    RECORD_SIZE, read_pointer, read_u64, write_bytes,
 };
 use checked_blocks::{Expected, Frame, Kind, open};
 use device_model::SectorDevice;
@@ -33,6 +49,34 @@ struct BlockPlace {
     number: u64,
 }
 
+// Room for the bytes of a block.
+fn new_buffer() -> [u8; 4096] {
+    [0; 4096]
+}
+
+// The payload of a block.
+fn payload_of(block: &[u8; 4096]) -> &[u8]
+    ensures payload { result.now ≡ drop 64 block.now }
+    ensures length { length result.now ≡ 4032 }
+{
+    &block[PAYLOAD..]
+}
+
+// What the block at a place has to be.
+fn expected(frame: &Frame, place: BlockPlace, pointer: &Pointer) -> Expected
+    ensures named { IsNamed result frame.now (kind_number place.kind) place.number pointer.now }
+    ensures address { result.address ≡ pointer.now.address }
+{
+    Expected {
+        address: pointer.address,
+        kind: place.kind as u64,
+        guid: frame.guid(),
+        number: place.number,
+        group: Some(Group(pointer.birth)),
+        check: Some(pointer.check),
+    }
+}
+
 // Reads the block that a pointer names into the buffer. Refused Damaged where it is none of this place.
 fn read_block<D: SectorDevice>(
     device: &mut D,
@@ -44,38 +88,52 @@ fn read_block<D: SectorDevice>(
 ) -> Result<(), PoolError>
     requires { D.size device.old ≡ geometry }
     ensures size { D.size device.new ≡ D.size device.old }
+    ensures disk { IsTrue D.keeps_model → D.disk device.new ≡ D.disk device.old }
+    ensures count { OnOk result (D.refused device.new ≡ D.refused device.old) }
+    ensures cause { IfErr result (IsLoadRefusal (D.refused device.old) (D.refused device.new)) }
+    ensures placed { OnOk result (IsBlockAddress (block_count geometry) pointer.now.address) }
+    ensures opens { (image : List ℕ) → Shows D.keeps_model (D.disk device.old) image → OnOk result (IsTrue D.keeps_model
+        → Opens image (frame_of frame.now geometry) (kind_number place.kind) place.number pointer.now (drop 64 buffer.new)) }
+    ensures refused { IsTrue D.keeps_model → (image : List ℕ) → bytes_of (D.disk device.old).now ≡ image → IfErr result
+        (TellsBlock image (frame_of frame.now geometry) (kind_number place.kind) place.number pointer.now) }
 {
     if !geometry.is_block_address(pointer.address) || pointer.birth > frame.group().0 {
-        return Err(PoolError::Damaged {
-            kind: place.kind as u64,
-            address: pointer.address,
-        });
+        return Err(damaged(place.kind, pointer));
     }
     device.read(pointer.address, &mut buffer[..])?;
-    open(
-        buffer,
-        &Expected {
-            address: pointer.address,
-            kind: place.kind as u64,
-            guid: frame.guid(),
-            number: place.number,
-            group: Some(Group(pointer.birth)),
-            check: Some(pointer.check),
-        },
-    )?;
+    open(buffer, &expected(frame, place, pointer))?;
     Ok(())
 }
 
 // Whether a pointer names a block or is all zeros.
-fn has_form(pointer: &Pointer) -> bool {
+fn has_form(pointer: &Pointer) -> bool
+    ensures { IsTrue result ↔ IsPointerForm pointer.now }
+{
     pointer.address != 0 || pointer.is_none()
 }
 
 // Whether each pointer of a payload names a block or is all zeros.
 fn have_form(payload: &[u8]) -> bool
     requires { length payload.now ≡ 4032 }
+    ensures { IsTrue result ↔ ((d : ℕ) → d < 84 → IsPointerForm (pointer_in payload.now d)) }
 {
-    (0..POINTER_COUNT).all(|index| has_form(&read_pointer(payload, POINTER_SIZE * index)))
+    for index in 0..POINTER_COUNT {
+        if !has_form(&read_pointer(payload, POINTER_SIZE * index)) {
+            return false;
+        }
+    }
+    true
+}
+
+// The pointers of a payload.
+fn read_pointers(payload: &[u8], pointers: &mut [Pointer])
+    requires payload { length payload.now ≡ 4032 }
+    requires pointers { length pointers.old ≡ 84 }
+    ensures { (k : ℕ) → k < 84 → pointer_of_list pointers.new k ≡ pointer_in payload.now k }
+{
+    for index in 0..POINTER_COUNT {
+        pointers[index] = read_pointer(payload, POINTER_SIZE * index);
+    }
 }
 
 // An entry of a directory.
@@ -89,9 +147,9 @@ struct Entry {
 fn read_entry(payload: &[u8], index: usize) -> Entry
     requires size { length payload.now ≡ 4032 }
     requires in_range { index < 63 }
-    ensures present { result.present ≡ number_at payload.now (64 * index) }
-    ensures length { result.length ≡ number_at payload.now (64 * index + 8) }
-    ensures pointer { result.pointer ≡ pointer_at payload.now (64 * index + 16) }
+    ensures present { result.present ≡ entry_present (entry_in payload.now index) }
+    ensures length { result.length ≡ entry_length (entry_in payload.now index) }
+    ensures pointer { result.pointer ≡ entry_pointer (entry_in payload.now index) }
 {
     let at = ENTRY_SIZE * index;
     Entry {
@@ -102,9 +160,12 @@ fn read_entry(payload: &[u8], index: usize) -> Entry
 }
 
 // Whether an entry is absent and all zeros, or present with a length and a pointer within their limits.
-fn is_entry(entry: &Entry) -> bool
-    ensures { IsTrue result → entry.now.present ≡ 1 → entry.now.length ≤ 338688 }
+fn is_entry(payload: &[u8], index: usize) -> bool
+    requires size { length payload.now ≡ 4032 }
+    requires in_range { index < 63 }
+    ensures { IsTrue result ↔ IsEntryForm (entry_in payload.now index) }
 {
+    let entry = read_entry(payload, index);
     match entry.present {
         0 => entry.length == 0 && entry.pointer.is_none(),
         1 => entry.length <= MAX_LENGTH && has_form(&entry.pointer),
@@ -114,27 +175,46 @@ fn is_entry(entry: &Entry) -> bool
 
 fn are_entries(payload: &[u8]) -> bool
     requires { length payload.now ≡ 4032 }
-    ensures { IsTrue result → (k : ℕ) → k < 63 → HasLength payload.now k }
+    ensures { IsTrue result ↔ ((k : ℕ) → k < 63 → IsEntryForm (entry_in payload.now k)) }
 {
     for index in 0..ENTRY_COUNT {
-        if !is_entry(&read_entry(payload, index)) {
+        if !is_entry(payload, index) {
             return false;
         }
     }
     true
 }
 
-// Whether each pointer to a record names a block or is all zeros, and from the end of the object on it is all zeros.
-fn are_records(payload: &[u8], size: usize) -> bool
-    requires { length payload.now ≡ 4032 }
+// Whether a pointer to a record names a block or is all zeros, and from the end of the object on is all zeros.
+fn is_record_pointer(pointer: &Pointer, index: usize, size: usize) -> bool
+    requires { index < 84 }
+    ensures { IsTrue result ↔ IsRecordPointerForm size index pointer.now }
 {
-    (0..POINTER_COUNT).all(|index| {
-        let pointer = read_pointer(payload, POINTER_SIZE * index);
-        has_form(&pointer) && (RECORD_SIZE * index < size || pointer.is_none())
-    })
+    has_form(pointer) && (RECORD_SIZE * index < size || pointer.is_none())
 }
 
-fn damaged(kind: Kind, pointer: &Pointer) -> PoolError {
+fn are_records(payload: &[u8], size: usize) -> bool
+    requires { length payload.now ≡ 4032 }
+    ensures { IsTrue result ↔ ((r : ℕ) → r < 84 → IsRecordPointerForm size r (pointer_in payload.now r)) }
+{
+    for index in 0..POINTER_COUNT {
+        let pointer = read_pointer(payload, POINTER_SIZE * index);
+        if !is_record_pointer(&pointer, index, size) {
+            return false;
+        }
+    }
+    true
+}
+
+fn are_zeros(bytes: &[u8]) -> bool
+    ensures { IsTrue result ↔ (bytes.now ≡ replicate (length bytes.now) 0) }
+{
+    bytes.iter().all(|byte| *byte == 0)
+}
+
+fn damaged(kind: Kind, pointer: &Pointer) -> PoolError
+    ensures { result ≡ PoolError.Damaged (kind_number kind) pointer.now.address }
+{
     PoolError::Damaged {
         kind: kind as u64,
         address: pointer.address,
@@ -145,7 +225,7 @@ fn damaged(kind: Kind, pointer: &Pointer) -> PoolError {
 ///
 /// # Errors
 /// `Damaged` with the first fault in the order of the walk: the root, then each directory, and for its entries each
-/// indirect block and its records, all rising. `Read`, `NoMemory`.
+/// indirect block and its records, all rising. `Read` where the device refuses a read, `NoMemory`.
 pub fn load<D: SectorDevice>(
     alloc: Global,
     device: &mut D,
@@ -155,22 +235,33 @@ pub fn load<D: SectorDevice>(
 ) -> Result<Loaded, PoolError>
     requires { D.size device.old ≡ geometry }
     ensures size { D.size device.new ≡ D.size device.old }
+    ensures disk { IsTrue D.keeps_model → D.disk device.new ≡ D.disk device.old }
+    ensures count { OnOk result (D.refused device.new ≡ D.refused device.old) }
+    ensures cause { IfErr result (IsLoadRefusal (D.refused device.old) (D.refused device.new)) }
+
+    // The tree has the root, pointers to blocks of the area alone, and objects within their limits.
+    ensures root { IfOk result (λ l. l.tree.root ≡ root) }
+    ensures placed { IfOk result (λ l. ArePlaced (block_count geometry) (pointers_of l.tree)) }
+    ensures bounded { IfOk result (λ l. (n : ℕ) → IfSome (finite.get (objects_of l.slots.items) n)
+        (λ bytes. (n < object_count) × (length bytes ≤ max_length))) }
+
+    // It is the one that the image holds.
+    ensures held { IsTrue D.keeps_model → IfOk result (λ l. HoldsTree (bytes_of (D.disk device.old).now)
+        (frame_of frame.now geometry) (pointers_of l.tree) (objects_of l.slots.items)) }
 {
     let mut slots = empty_slots(alloc)?;
     let mut maps = empty_maps(alloc)?;
     let mut directories = vec![in alloc; Pointer::NONE; POINTER_COUNT]?;
-    if !root.is_none() {
-        load_root(
-            alloc,
-            device,
-            geometry,
-            frame,
-            &root,
-            &mut directories,
-            &mut slots,
-            &mut maps,
-        )?;
-    }
+    load_tree(
+        alloc,
+        device,
+        geometry,
+        frame,
+        &root,
+        &mut directories,
+        &mut slots,
+        &mut maps,
+    )?;
     Ok(Loaded {
         slots,
         tree: Tree {
@@ -181,7 +272,8 @@ pub fn load<D: SectorDevice>(
     })
 }
 
-fn load_root<D: SectorDevice>(
+// Loads a tree into slots and pointers of which none is there.
+fn load_tree<D: SectorDevice>(
     alloc: Global,
     device: &mut D,
     geometry: Geometry,
@@ -193,28 +285,71 @@ fn load_root<D: SectorDevice>(
 ) -> Result<(), PoolError>
     requires size { D.size device.old ≡ geometry }
     requires directories { length directories.old ≡ 84 }
+    requires no_directories { (d : ℕ) → pointer_of_list directories.old d ≡ no_pointer }
     requires slots { length slots.old ≡ 5292 }
     requires maps { length maps.old ≡ 5292 }
+    requires empty { AreEmptyFrom 0 slots.old maps.old }
     ensures size { D.size device.new ≡ D.size device.old }
+    ensures disk { IsTrue D.keeps_model → D.disk device.new ≡ D.disk device.old }
+    ensures count { OnOk result (D.refused device.new ≡ D.refused device.old) }
+    ensures cause { IfErr result (IsLoadRefusal (D.refused device.old) (D.refused device.new)) }
+    ensures loaded { (image : List ℕ) → Shows D.keeps_model (D.disk device.old) image → OnOk result
+        (IsLoadedTree D.keeps_model image (frame_of frame.now geometry) root.now directories.new slots.new maps.new) }
+    ensures fault { IsTrue D.keeps_model → (image : List ℕ) → bytes_of (D.disk device.old).now ≡ image
+        → IfErr result (TellsFault image (frame_of frame.now geometry) root.now 0) }
 {
+    if root.is_none() {
+        return Ok(());
+    }
     if root.address == 0 {
         return Err(damaged(Kind::Root, root));
     }
-    let mut buffer = [0; 4096];
+    let mut buffer = new_buffer();
     let place = BlockPlace {
         kind: Kind::Root,
         number: 0,
     };
     read_block(device, geometry, frame, place, root, &mut buffer)?;
-    if !have_form(&buffer[PAYLOAD..]) {
+    let payload = payload_of(&buffer);
+    if !have_form(payload) {
         return Err(damaged(Kind::Root, root));
     }
+    read_pointers(payload, directories);
+    load_directories(alloc, device, geometry, frame, directories, slots, maps)
+}
+
+// Loads the directories that these pointers name.
+fn load_directories<D: SectorDevice>(
+    alloc: Global,
+    device: &mut D,
+    geometry: Geometry,
+    frame: &Frame,
+    directories: &[Pointer],
+    slots: &mut [Slot],
+    maps: &mut [ObjectMap],
+) -> Result<(), PoolError>
+    requires size { D.size device.old ≡ geometry }
+    requires directories { length directories.now ≡ 84 }
+    requires slots { length slots.old ≡ 5292 }
+    requires maps { length maps.old ≡ 5292 }
+    requires empty { AreEmptyFrom 0 slots.old maps.old }
+    ensures size { D.size device.new ≡ D.size device.old }
+    ensures disk { IsTrue D.keeps_model → D.disk device.new ≡ D.disk device.old }
+    ensures count { OnOk result (D.refused device.new ≡ D.refused device.old) }
+    ensures cause { IfErr result (IsLoadRefusal (D.refused device.old) (D.refused device.new)) }
+    ensures loaded { (image : List ℕ) → Shows D.keeps_model (D.disk device.old) image → OnOk result
+        (AreLoadedDirectories D.keeps_model image (frame_of frame.now geometry) directories.now 84 slots.new maps.new) }
+    ensures sound { IsTrue D.keeps_model → (image : List ℕ) (top : Pointer) → bytes_of (D.disk device.old).now ≡ image
+        → AreDirectoriesOf image top directories.now → OnOk result (AreSound image (frame_of frame.now geometry) top (1) (1 + 5356 * 84)) }
+    ensures fault { IsTrue D.keeps_model → (image : List ℕ) (top : Pointer) → bytes_of (D.disk device.old).now ≡ image
+        → AreDirectoriesOf image top directories.now → IfErr result (TellsFault image (frame_of frame.now geometry) top (1)) }
+{
     for index in 0..POINTER_COUNT {
-        let pointer = read_pointer(&buffer, PAYLOAD + POINTER_SIZE * index);
-        directories[index] = pointer;
-        if !pointer.is_none() {
-            load_directory(alloc, device, geometry, frame, index, &pointer, slots, maps)?;
+        let pointer = directories[index];
+        if pointer.is_none() {
+            continue;
         }
+        load_directory(alloc, device, geometry, frame, index, &pointer, slots, maps)?;
     }
     Ok(())
 }
@@ -233,25 +368,72 @@ fn load_directory<D: SectorDevice>(
     requires in_range { directory < 84 }
     requires slots { length slots.old ≡ 5292 }
     requires maps { length maps.old ≡ 5292 }
+    requires empty { AreEmptyFrom (63 * directory) slots.old maps.old }
     ensures size { D.size device.new ≡ D.size device.old }
+    ensures disk { IsTrue D.keeps_model → D.disk device.new ≡ D.disk device.old }
+    ensures count { OnOk result (D.refused device.new ≡ D.refused device.old) }
+    ensures cause { IfErr result (IsLoadRefusal (D.refused device.old) (D.refused device.new)) }
+    ensures loaded { (image : List ℕ) → Shows D.keeps_model (D.disk device.old) image → OnOk result
+        (IsLoadedDirectory D.keeps_model image (frame_of frame.now geometry) directory pointer.now slots.new maps.new) }
+    ensures others { OnOk result (SameBut (63 * directory) 63 slots.old slots.new maps.old maps.new) }
+    ensures sound { IsTrue D.keeps_model → (image : List ℕ) (top : Pointer) → bytes_of (D.disk device.old).now ≡ image
+        → pointer_of image top (Directory directory) ≡ pointer.now → pointer.now ≢ no_pointer → OnOk result (AreSound image (frame_of frame.now geometry) top (1 + 5356 * directory) (1 + 5356 * (directory + 1))) }
+    ensures fault { IsTrue D.keeps_model → (image : List ℕ) (top : Pointer) → bytes_of (D.disk device.old).now ≡ image
+        → pointer_of image top (Directory directory) ≡ pointer.now → pointer.now ≢ no_pointer → IfErr result (TellsFault image (frame_of frame.now geometry) top (1 + 5356 * directory)) }
 {
-    let mut buffer = [0; 4096];
+    let mut buffer = new_buffer();
     let place = BlockPlace {
         kind: Kind::Directory,
         number: directory as u64,
     };
     read_block(device, geometry, frame, place, pointer, &mut buffer)?;
-    if !are_entries(&buffer[PAYLOAD..]) {
+    let payload = payload_of(&buffer);
+    if !are_entries(payload) {
         return Err(damaged(Kind::Directory, pointer));
     }
+    load_entries(
+        alloc, device, geometry, frame, directory, payload, slots, maps,
+    )
+}
+
+// Loads the objects that the entries of a directory name.
+fn load_entries<D: SectorDevice>(
+    alloc: Global,
+    device: &mut D,
+    geometry: Geometry,
+    frame: &Frame,
+    directory: usize,
+    payload: &[u8],
+    slots: &mut [Slot],
+    maps: &mut [ObjectMap],
+) -> Result<(), PoolError>
+    requires size { D.size device.old ≡ geometry }
+    requires in_range { directory < 84 }
+    requires payload { length payload.now ≡ 4032 }
+    requires entries { (k : ℕ) → k < 63 → IsEntryForm (entry_in payload.now k) }
+    requires slots { length slots.old ≡ 5292 }
+    requires maps { length maps.old ≡ 5292 }
+    requires empty { AreEmptyFrom (63 * directory) slots.old maps.old }
+    ensures size { D.size device.new ≡ D.size device.old }
+    ensures disk { IsTrue D.keeps_model → D.disk device.new ≡ D.disk device.old }
+    ensures count { OnOk result (D.refused device.new ≡ D.refused device.old) }
+    ensures cause { IfErr result (IsLoadRefusal (D.refused device.old) (D.refused device.new)) }
+    ensures loaded { (image : List ℕ) → Shows D.keeps_model (D.disk device.old) image → OnOk result
+        (AreLoadedEntries D.keeps_model image (frame_of frame.now geometry) directory payload.now 63 slots.old slots.new maps.old maps.new) }
+    ensures sound { IsTrue D.keeps_model → (image : List ℕ) (top : Pointer) → bytes_of (D.disk device.old).now ≡ image
+        → IsPayloadOf image (frame_of frame.now geometry) top directory payload.now → OnOk result (AreSound image (frame_of frame.now geometry) top (2 + 5356 * directory) (1 + 5356 * (directory + 1))) }
+    ensures fault { IsTrue D.keeps_model → (image : List ℕ) (top : Pointer) → bytes_of (D.disk device.old).now ≡ image
+        → IsPayloadOf image (frame_of frame.now geometry) top directory payload.now → IfErr result (TellsFault image (frame_of frame.now geometry) top (2 + 5356 * directory)) }
+{
     for index in 0..ENTRY_COUNT {
-        let entry = read_entry(&buffer[PAYLOAD..], index);
-        if entry.present == 1 {
-            let number = ENTRY_COUNT * directory + index;
-            let (slot, map) = load_object(alloc, device, geometry, frame, number, &entry)?;
-            slots[number] = slot;
-            maps[number] = map;
+        let entry = read_entry(payload, index);
+        if entry.present != 1 {
+            continue;
         }
+        let number = ENTRY_COUNT * directory + index;
+        let (slot, map) = load_object(alloc, device, geometry, frame, number, &entry)?;
+        slots[number] = slot;
+        maps[number] = map;
     }
     Ok(())
 }
@@ -268,21 +450,29 @@ fn load_object<D: SectorDevice>(
     requires in_range { number < 5292 }
     requires length { entry.now.length ≤ 338688 }
     ensures size { D.size device.new ≡ D.size device.old }
+    ensures disk { IsTrue D.keeps_model → D.disk device.new ≡ D.disk device.old }
+    ensures count { OnOk result (D.refused device.new ≡ D.refused device.old) }
+    ensures cause { IfErr result (IsLoadRefusal (D.refused device.old) (D.refused device.new)) }
+    ensures present { IfOk result (λ o. o.0.present ≡ true) }
+    ensures length { IfOk result (λ o. length o.0.bytes.items ≡ entry.now.length) }
+    ensures indirect { IfOk result (λ o. o.1.indirect ≡ entry.now.pointer) }
+    ensures loaded { (image : List ℕ) → Shows D.keeps_model (D.disk device.old) image → IfOk result
+        (λ o. IsLoadedObject D.keeps_model image (frame_of frame.now geometry) number (Some o.0.bytes.items) o.1.indirect o.1.records.items) }
+    ensures sound { IsTrue D.keeps_model → (image : List ℕ) (top : Pointer) → bytes_of (D.disk device.old).now ≡ image
+        → IsIndirectOf image top number entry.now.pointer entry.now.length → OnOk result (AreSound image (frame_of frame.now geometry) top (walk_index_of_indirect number) (walk_index_of_indirect number + 85)) }
+    ensures fault { IsTrue D.keeps_model → (image : List ℕ) (top : Pointer) → bytes_of (D.disk device.old).now ≡ image
+        → IsIndirectOf image top number entry.now.pointer entry.now.length → IfErr result (TellsFault image (frame_of frame.now geometry) top (walk_index_of_indirect number)) }
 {
-    let size = entry.length as usize;
-    let mut bytes = vec![in alloc; 0u8; size]?;
-    let mut records = Vec::new(alloc);
-    if !entry.pointer.is_none() {
-        records = load_records(
-            alloc,
-            device,
-            geometry,
-            frame,
-            number,
-            &entry.pointer,
-            &mut bytes,
-        )?;
-    }
+    let mut bytes = vec![in alloc; 0u8; entry.length as usize]?;
+    let records = load_bytes(
+        alloc,
+        device,
+        geometry,
+        frame,
+        number,
+        &entry.pointer,
+        &mut bytes,
+    )?;
     let slot = Slot {
         present: true,
         bytes,
@@ -294,7 +484,8 @@ fn load_object<D: SectorDevice>(
     Ok((slot, map))
 }
 
-fn load_records<D: SectorDevice>(
+// Loads the bytes of an object over zeros. The pointers to its records come back.
+fn load_bytes<D: SectorDevice>(
     alloc: Global,
     device: &mut D,
     geometry: Geometry,
@@ -305,58 +496,113 @@ fn load_records<D: SectorDevice>(
 ) -> Result<Vec<Pointer>, PoolError>
     requires size { D.size device.old ≡ geometry }
     requires in_range { number < 5292 }
+    requires bound { length bytes.old ≤ 338688 }
+    requires zeros { bytes.old ≡ replicate (length bytes.old) 0 }
     ensures size { D.size device.new ≡ D.size device.old }
+    ensures disk { IsTrue D.keeps_model → D.disk device.new ≡ D.disk device.old }
+    ensures count { OnOk result (D.refused device.new ≡ D.refused device.old) }
+    ensures cause { IfErr result (IsLoadRefusal (D.refused device.old) (D.refused device.new)) }
+    ensures loaded { (image : List ℕ) → Shows D.keeps_model (D.disk device.old) image → IfOk result
+        (λ records. IsLoadedObject D.keeps_model image (frame_of frame.now geometry) number (Some bytes.new) indirect.now records.items) }
+    ensures sound { IsTrue D.keeps_model → (image : List ℕ) (top : Pointer) → bytes_of (D.disk device.old).now ≡ image
+        → IsIndirectOf image top number indirect.now (length bytes.old) → OnOk result (AreSound image (frame_of frame.now geometry) top (walk_index_of_indirect number) (walk_index_of_indirect number + 85)) }
+    ensures fault { IsTrue D.keeps_model → (image : List ℕ) (top : Pointer) → bytes_of (D.disk device.old).now ≡ image
+        → IsIndirectOf image top number indirect.now (length bytes.old) → IfErr result (TellsFault image (frame_of frame.now geometry) top (walk_index_of_indirect number)) }
 {
-    let mut records = Vec::with_capacity(alloc, POINTER_COUNT)?;
-    let mut buffer = [0; 4096];
+    if indirect.is_none() {
+        return Ok(Vec::new(alloc));
+    }
+    let mut records = vec![in alloc; Pointer::NONE; POINTER_COUNT]?;
+    let mut buffer = new_buffer();
     let place = BlockPlace {
         kind: Kind::Indirect,
         number: number as u64,
     };
     read_block(device, geometry, frame, place, indirect, &mut buffer)?;
-    if !are_records(&buffer[PAYLOAD..], bytes.len()) {
+    let payload = payload_of(&buffer);
+    if !are_records(payload, bytes.len()) {
         return Err(damaged(Kind::Indirect, indirect));
     }
-    for index in 0..POINTER_COUNT {
-        let pointer = read_pointer(&buffer, PAYLOAD + POINTER_SIZE * index);
-        records.push_reserved(pointer);
-        if !pointer.is_none() && RECORD_SIZE * index < bytes.len() {
-            load_record(
-                device,
-                geometry,
-                frame,
-                POINTER_COUNT * number + index,
-                &pointer,
-                &mut bytes[RECORD_SIZE * index..],
-            )?;
-        }
-    }
+    read_pointers(payload, &mut records);
+    load_records(device, geometry, frame, number, &records, bytes)?;
     Ok(records)
 }
 
-// Loads a record into the front of the bytes that an object has from there on.
+// Loads the records that these pointers name over zeros.
+fn load_records<D: SectorDevice>(
+    device: &mut D,
+    geometry: Geometry,
+    frame: &Frame,
+    number: usize,
+    records: &[Pointer],
+    bytes: &mut [u8],
+) -> Result<(), PoolError>
+    requires size { D.size device.old ≡ geometry }
+    requires in_range { number < 5292 }
+    requires count { length records.now ≡ 84 }
+    requires forms { (r : ℕ) → r < 84 → IsRecordPointerForm (length bytes.old) r (pointer_of_list records.now r) }
+    requires zeros { (r : ℕ) → IsZeroRecord r bytes.old }
+    ensures size { D.size device.new ≡ D.size device.old }
+    ensures disk { IsTrue D.keeps_model → D.disk device.new ≡ D.disk device.old }
+    ensures count { OnOk result (D.refused device.new ≡ D.refused device.old) }
+    ensures cause { IfErr result (IsLoadRefusal (D.refused device.old) (D.refused device.new)) }
+    ensures loaded { (image : List ℕ) → Shows D.keeps_model (D.disk device.old) image → OnOk result
+        (AreLoadedRecords D.keeps_model image (frame_of frame.now geometry) number records.now bytes.new 84) }
+    ensures sound { IsTrue D.keeps_model → (image : List ℕ) (top : Pointer) → bytes_of (D.disk device.old).now ≡ image
+        → AreDataOf image top number records.now (length bytes.old) → OnOk result (AreSound image (frame_of frame.now geometry) top (walk_index_of_indirect number + 1) (walk_index_of_indirect number + 85)) }
+    ensures fault { IsTrue D.keeps_model → (image : List ℕ) (top : Pointer) → bytes_of (D.disk device.old).now ≡ image
+        → AreDataOf image top number records.now (length bytes.old) → IfErr result (TellsFault image (frame_of frame.now geometry) top (walk_index_of_indirect number + 1)) }
+{
+    for index in 0..POINTER_COUNT {
+        let pointer = records[index];
+        if pointer.is_none() {
+            continue;
+        }
+        load_record(device, geometry, frame, number, index, &pointer, bytes)?;
+    }
+    Ok(())
+}
+
+// Loads a record into its place among the bytes of an object.
 fn load_record<D: SectorDevice>(
     device: &mut D,
     geometry: Geometry,
     frame: &Frame,
     number: usize,
+    index: usize,
     pointer: &Pointer,
     bytes: &mut [u8],
 ) -> Result<(), PoolError>
-    requires { D.size device.old ≡ geometry }
+    requires size { D.size device.old ≡ geometry }
+    requires number { number < 5292 }
+    requires index { index < 84 }
+    requires within { 4032 * index < length bytes.old }
     ensures size { D.size device.new ≡ D.size device.old }
+    ensures disk { IsTrue D.keeps_model → D.disk device.new ≡ D.disk device.old }
+    ensures count { OnOk result (D.refused device.new ≡ D.refused device.old) }
+    ensures cause { IfErr result (IsLoadRefusal (D.refused device.old) (D.refused device.new)) }
+    ensures loaded { (image : List ℕ) → Shows D.keeps_model (D.disk device.old) image → OnOk result
+        (IsLoadedRecord D.keeps_model image (frame_of frame.now geometry) number index pointer.now bytes.new) }
+    ensures others { OnOk result ((r : ℕ) → r ≢ index → record_bytes r bytes.new ≡ record_bytes r bytes.old) }
+    ensures sound { IsTrue D.keeps_model → (image : List ℕ) (top : Pointer) → bytes_of (D.disk device.old).now ≡ image
+        → IsDataOf image top number index pointer.now (length bytes.old)
+        → OnOk result (AreSound image (frame_of frame.now geometry) top (walk_index_of (Data number index)) (walk_index_of (Data number index) + 1)) }
+    ensures fault { IsTrue D.keeps_model → (image : List ℕ) (top : Pointer) → bytes_of (D.disk device.old).now ≡ image
+        → IsDataOf image top number index pointer.now (length bytes.old)
+        → IfErr result (TellsFault image (frame_of frame.now geometry) top (walk_index_of (Data number index))) }
 {
-    let mut buffer = [0; 4096];
+    let mut buffer = new_buffer();
     let place = BlockPlace {
         kind: Kind::Data,
-        number: number as u64,
+        number: (POINTER_COUNT * number + index) as u64,
     };
     read_block(device, geometry, frame, place, pointer, &mut buffer)?;
-    let payload = &buffer[PAYLOAD..];
-    let count = bytes.len().min(RECORD_SIZE);
-    if payload[count..].iter().any(|byte| *byte != 0) {
+    let payload = payload_of(&buffer);
+    let at = RECORD_SIZE * index;
+    let count = (bytes.len() - at).min(RECORD_SIZE);
+    if !are_zeros(&payload[count..]) {
         return Err(damaged(Kind::Data, pointer));
     }
-    bytes[..count].copy_from_slice(&payload[..count]);
+    write_bytes(bytes, at, &payload[..count]);
     Ok(())
 }

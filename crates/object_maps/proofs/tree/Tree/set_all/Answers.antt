@@ -1,10 +1,7 @@
 use Rattle.std.proofs.Common.{◌≡◌, ◌∙◌, sym}
-use Rattle.std.specs.Prelude.{List}
 use Rattle.std.specs.BTreeMap as tree
-use Rattle.base.specs.Limits.{object_count}
-use Rattle.object_maps.specs.declared.tree.ObjectMap.{ObjectMap}
 use Rattle.object_maps.specs.SetMaps.{set_maps}
-use Rattle.object_maps.specs.Pointers.{id_cmp, pointers_at, with_maps, map_among}
+use Rattle.object_maps.specs.Pointers.{id_cmp}
 use Rattle.object_maps.proofs.SetMaps.{set_all-pointers}
 use Rattle.object_maps.proofs.tree.Tree.set_all.Goals as goal
 

@@ -1,0 +1,96 @@
+-- Entries of a directory's payload.
+use Rattle.std.proofs.Common.{◌≡◌, ℕ, ◌+◌, ◌-◌, ◌*◌, ◌<◌, ◌≤◌, List, ◌++◌, length, take, drop, replicate, get_or, refl, ap, sym, ◌∙◌, arith, ◌≢◌, inl, inr}
+use Rattle.std.specs.List.{All}
+use Rattle.std.specs.Int.{from_le_bytes, w64}
+use Rattle.std.proofs.lemmas.List.{drop-drop, drop-take, take-take, take-append-drop}
+use Rattle.std.proofs.lemmas.List.Elements.{All-from_get_or}
+use Rattle.base.specs.declared.pointer.Pointer.{Pointer}
+use Rattle.base.specs.Fields.{part, number_at, number_bytes, pointer_at, entry_in, entry_present, entry_length, entry_pointer, no_pointer}
+use Rattle.base.specs.Limits.{max_length}
+use Rattle.base.specs.Faults.{IsEntryForm}
+use Rattle.checked_blocks.proofs.Placed.{number_bytes-number_at}
+
+-- a part of a part
+part-part : (bytes : List ℕ) (at size i n : ℕ) → i + n ≤ size → part (part bytes at size) i n ≡ part bytes (at + i) n
+part-part bytes at size i n fits = go (size - i) (omega (arith, fits)) (omega (arith, fits))
+  where
+    go : (rest : ℕ) → size ≡ i + rest → n ≤ rest → part (part bytes at size) i n ≡ part bytes (at + i) n
+    go rest whole low =
+        ap (λ (k : ℕ). part (part bytes at k) i n) whole
+        ∙ ap (λ (l : List ℕ). take n l) (drop-take i rest (drop at bytes))
+        ∙ take-take n rest (drop i (drop at bytes)) low
+        ∙ ap (λ (l : List ℕ). take n l) (drop-drop i at bytes)
+        ∙ ap (λ (k : ℕ). part bytes k n) (omega arith)
+
+number-part : (bytes : List ℕ) (at size i : ℕ) → i + 8 ≤ size → number_at (part bytes at size) i ≡ number_at bytes (at + i)
+unfolding number_at
+number-part bytes at size i fits = ap (λ (l : List ℕ). from_le_bytes w64 l) (part-part bytes at size i 8 fits)
+
+-- the fields of an entry as they lie in the payload
+pub present-at : (payload : List ℕ) (k : ℕ) → number_at payload (64 * k) ≡ entry_present (entry_in payload k)
+present-at payload k = let e : 64 * k ≡ 64 * k + 0 = omega arith in ap (number_at payload) e ∙ sym (number-part payload (64 * k) 64 0 (omega arith))
+
+pub length-at : (payload : List ℕ) (k : ℕ) → number_at payload (64 * k + 8) ≡ entry_length (entry_in payload k)
+length-at payload k = sym (number-part payload (64 * k) 64 8 (omega arith))
+
+pub pointer-at : (payload : List ℕ) (k : ℕ) → pointer_at payload (64 * k + 16) ≡ entry_pointer (entry_in payload k)
+pointer-at payload k =
+    same (sym (number-part payload (64 * k) 64 16 (omega arith)))
+    (ap (number_at payload) (let e : 64 * k + 16 + 8 ≡ 64 * k + 24 = omega arith in e) ∙ sym (number-part payload (64 * k) 64 24 (omega arith)))
+    (ap (λ (i : ℕ). part payload i 32) (let e : 64 * k + 16 + 16 ≡ 64 * k + 32 = omega arith in e) ∙ sym (part-part payload (64 * k) 64 32 32 (omega arith)))
+  where
+    same : {a b c d : ℕ} {x y : List ℕ} → a ≡ b → c ≡ d → x ≡ y → ◌≡◌ {A = Pointer} (record { address = a; birth = c; check = x }) (record { address = b; birth = d; check = y })
+    same e f g = rw (e, f, g) refl
+
+-- a number that is zero has eight zero bytes
+zero-bytes : (bytes : List ℕ) (at : ℕ) → at + 8 ≤ length bytes → All (λ b. b < 256) bytes → number_at bytes at ≡ 0 → part bytes at 8 ≡ replicate 8 0
+unfolding number_bytes
+zero-bytes bytes at fits each zero = sym (number_bytes-number_at bytes at fits each) ∙ ap number_bytes zero
+
+-- what is left of a part behind its front
+part-split : (bytes : List ℕ) (at m n : ℕ) → part bytes at (m + n) ≡ part bytes at m ++ part bytes (at + m) n
+part-split bytes at m n =
+    sym (take-append-drop m (part bytes at (m + n)))
+    ∙ ap (λ (l : List ℕ). l ++ drop m (part bytes at (m + n))) (take-take m (m + n) (drop at bytes) (omega arith))
+    ∙ ap (λ (l : List ℕ). part bytes at m ++ l) (drop-take m n (drop at bytes) ∙ ap (λ (l : List ℕ). take n l) (drop-drop m at bytes) ∙ ap (λ (k : ℕ). part bytes k n) (omega arith))
+
+-- an entry whose fields are all zero is all zeros
+absent-zeros : (payload : List ℕ) (k : ℕ) → 64 * k + 64 ≤ length payload → All (λ b. b < 256) payload
+    → number_at payload (64 * k) ≡ 0 → number_at payload (64 * k + 8) ≡ 0 → pointer_at payload (64 * k + 16) ≡ no_pointer → entry_in payload k ≡ replicate 64 0
+absent-zeros payload k fits each present size pointer =
+    let at : ℕ = 64 * k in
+    let a : part payload at 8 ≡ replicate 8 0 = zero-bytes payload at (omega (arith, fits)) each present in
+    let b : part payload (at + 8) 8 ≡ replicate 8 0 = zero-bytes payload (at + 8) (omega (arith, fits)) each size in
+    let c : part payload (at + 8 + 8) 8 ≡ replicate 8 0 = ap (λ (i : ℕ). part payload i 8) (let e : at + 8 + 8 ≡ at + 16 = omega arith in e)
+    ∙ zero-bytes payload (at + 16) (omega (arith, fits)) each (ap (λ (p : Pointer). p.address) pointer) in
+    let d : part payload (at + 8 + 8 + 8) 8 ≡ replicate 8 0 = ap (λ (i : ℕ). part payload i 8) (let e : at + 8 + 8 + 8 ≡ at + 16 + 8 = omega arith in e)
+    ∙ zero-bytes payload (at + 16 + 8) (omega (arith, fits)) each (ap (λ (p : Pointer). p.birth) pointer) in
+    let f : part payload (at + 8 + 8 + 8 + 8) 32 ≡ replicate 32 0 = ap (λ (i : ℕ). part payload i 32) (let e : at + 8 + 8 + 8 + 8 ≡ at + 16 + 16 = omega arith in e)
+    ∙ ap (λ (p : Pointer). p.check) pointer in
+    part-split payload at 8 56 ∙ ap (λ (l : List ℕ). l ++ part payload (at + 8) 56) a
+    ∙ ap (λ (l : List ℕ). replicate 8 0 ++ l) (part-split payload (at + 8) 8 48 ∙ ap (λ (l : List ℕ). l ++ part payload (at + 8 + 8) 48) b
+    ∙ ap (λ (l : List ℕ). replicate 8 0 ++ l) (part-split payload (at + 8 + 8) 8 40 ∙ ap (λ (l : List ℕ). l ++ part payload (at + 8 + 8 + 8) 40) c
+    ∙ ap (λ (l : List ℕ). replicate 8 0 ++ l) (part-split payload (at + 8 + 8 + 8) 8 32 ∙ ap (λ (l : List ℕ). l ++ part payload (at + 8 + 8 + 8 + 8) 32) d
+    ∙ ap (λ (l : List ℕ). replicate 8 0 ++ l) f)))
+
+-- the same, from the entry's own fields
+pub absent-entry : (payload : List ℕ) (k present size : ℕ) (pointer : Pointer) → 64 * k + 64 ≤ length payload → ((i : ℕ) → get_or payload i 0 < 256)
+    → present ≡ entry_present (entry_in payload k) → size ≡ entry_length (entry_in payload k) → pointer ≡ entry_pointer (entry_in payload k)
+    → present ≡ 0 → size ≡ 0 → pointer ≡ no_pointer → entry_in payload k ≡ replicate 64 0
+absent-entry payload k present size pointer fits each is_present is_size is_pointer zero none nothing =
+    absent-zeros payload k fits (All-from_get_or (λ b. b < 256) payload 0 (λ i _. each i))
+    (present-at payload k ∙ sym is_present ∙ zero) (length-at payload k ∙ sym is_size ∙ none) (pointer-at payload k ∙ sym is_pointer ∙ nothing)
+
+no_entry : entry_present (replicate 64 0) ≡ 0
+unfolding number_at
+no_entry = refl
+
+-- an entry that is not present is all zeros
+pub entry_absent : (entry : List ℕ) → IsEntryForm entry → entry_present entry ≢ 1 → entry ≡ replicate 64 0
+entry_absent entry (inl zeros) not = zeros
+entry_absent entry (inr form) not = absurd (not form.0)
+
+-- an entry that is present has a length within the limit
+pub entry_short : (entry : List ℕ) → IsEntryForm entry → entry_present entry ≡ 1 → entry_length entry ≤ max_length
+entry_short entry (inl zeros) is = let e : entry_present entry ≡ 0 = ap entry_present zeros ∙ no_entry in absurd (omega (arith, e, is))
+entry_short entry (inr form) is = form.1

@@ -1,0 +1,7 @@
+use Rattle.std.proofs.Common.{ℕ, ◌<◌}
+use Rattle.base.specs.Fields.{pointer_in}
+use Rattle.base.specs.Faults.{IsRecordPointerForm}
+use Rattle.object_maps.proofs.walk.are_records.Given as goal
+
+abbrev pub invariant-loop-index : goal.invariant-loop-index
+invariant-loop-index l = (r : ℕ) → r < l.index → IsRecordPointerForm l.size r (pointer_in l.payload r)

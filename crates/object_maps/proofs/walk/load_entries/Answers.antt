@@ -1,0 +1,53 @@
+use Rattle.std.proofs.Common.{◌≡◌, ◌<◌, ◌≤◌, ◌+◌, ◌*◌, ◌∙◌, ℕ, List, length, sym, arith}
+use Rattle.base.specs.Limits.{max_length}
+use Rattle.base.specs.Fields.{entry_in, entry_present, entry_length}
+use Rattle.object_maps.specs.Loading.{frame_of}
+use Rattle.object_maps.proofs.LoadedBlocks.{still_shows}
+use Rattle.object_maps.proofs.EntryForms.{entry_absent, entry_short}
+use Rattle.object_maps.proofs.LoadedEntries.{entries_skip, entries_put}
+use Rattle.object_maps.proofs.walk.load_entries.Goals as goal
+
+pub loop-index-preserved-then-entry-ne1 : goal.loop-index-preserved-then-entry-ne1
+loop-index-preserved-then-entry-ne1 g c =
+    let i = c.loop-index.invariant in
+    let entry : List ℕ = entry_in c.args.payload.now c.loop-index.index in
+    let absent = entry_absent entry (c.requires.entries c.loop-index.index c.loop-index-test.true) (λ p. c.if-entry-ne1.true (c.read_entry-entry.ensures.present ∙ p)) in
+    record {
+      size = i.size;
+      disk = i.disk;
+      count = i.count;
+      loaded = λ image shows. entries_skip g.D.SectorDevice.keeps_model image (frame_of c.args.frame.now c.args.geometry) c.args.directory c.args.payload.now c.loop-index.index
+          c.args.slots.now c.loop-index.slots c.args.maps.now c.loop-index.maps (i.loaded image shows) c.requires.empty absent;
+    }
+
+pub load_object-requires-clause-length : goal.load_object-requires-clause-length
+load_object-requires-clause-length g c =
+    let entry = c.read_entry-entry.ensures in
+    rw entry.length (entry_short (entry_in c.args.payload.now c.loop-index.index) (c.requires.entries c.loop-index.index c.loop-index-test.true) (sym entry.present ∙ c.if-entry-ne1.false))
+
+pub loop-index-preserved : goal.loop-index-preserved
+loop-index-preserved g c =
+    let i = c.loop-index.invariant in
+    let call = c.in_ok-slot.ensures in
+    let entry = c.read_entry-entry.ensures in
+    let payload : List ℕ = c.args.payload.now in
+    let k : ℕ = c.loop-index.index in
+    let is_present : entry_present (entry_in payload k) ≡ 1 = sym entry.present ∙ c.if-entry-ne1.false in
+    let most : entry_length (entry_in payload k) ≤ max_length = entry_short (entry_in payload k) (c.requires.entries k c.loop-index-test.true) is_present in
+    let size : entry_length (entry_in payload k) ≡ length c.in_ok-slot.slot.bytes.items = sym entry.length ∙ sym call.length in
+    let slot_in : 63 * c.args.directory + k < length c.loop-index.slots = omega (arith, c.requires.in_range, c.loop-index-test.true, c.loop-index.auto.slots, c.requires.slots) in
+    let map_in : 63 * c.args.directory + k < length c.loop-index.maps = omega (arith, c.requires.in_range, c.loop-index-test.true, c.loop-index.auto.maps, c.requires.maps) in
+    record {
+      size = call.size ∙ i.size;
+      disk = λ keeps. call.disk keeps ∙ i.disk keeps;
+      count = call.count ∙ i.count;
+      loaded = λ image shows. entries_put g.D.SectorDevice.keeps_model image (frame_of c.args.frame.now c.args.geometry) c.args.directory payload k
+          c.args.slots.now c.loop-index.slots c.args.maps.now c.loop-index.maps c.in_ok-slot.slot c.in_ok-slot.map (i.loaded image shows) slot_in map_in call.present
+          (call.loaded image (still_shows g.D.SectorDevice.keeps_model (g.D.SectorDevice.disk c.args.device.now) (g.D.SectorDevice.disk c.loop-index.device) image i.disk shows))
+          is_present size (omega (arith, size, most)) (sym entry.pointer ∙ sym call.indirect);
+    }
+
+pub returns-clause-loaded : goal.returns-clause-loaded
+returns-clause-loaded g c = λ image shows.
+    let e : c.loop-index.index ≡ 63 = omega (arith, c.loop-index.auto.index-end, c.loop-index-test.false) in
+    rw e at (c.loop-index.invariant.loaded image shows)

@@ -1,0 +1,62 @@
+-- The soundness of parts of a tree, by the order of its walk.
+use Rattle.std.specs.Prelude.{ℕ, ◌≡◌, ◌≢◌, ◌≤◌, ◌<◌, List}
+use Rattle.base.specs.declared.error.PoolError.{PoolError}
+use Rattle.base.specs.declared.error.PoolError.TheVariants.{Damaged}
+use Rattle.base.specs.declared.pointer.Pointer.{Pointer}
+use Rattle.base.specs.Fields.{no_pointer}
+use Rattle.base.specs.Blocks.{Frame, Opens}
+use Rattle.base.specs.Places.{Place, IsPlace, kind_of, walk_index_of, pointer_of}
+use Rattle.base.specs.Places.Place.{Directory, Indirect, Data}
+use Rattle.base.specs.Limits.{pointer_count}
+use Rattle.base.specs.Tree.{OpensAt}
+use Rattle.object_maps.specs.Pointers.{pointer_of_list}
+use Rattle.base.specs.Faults.{IsSoundAt, length_in}
+
+-- the places of the walk from one index up to another are sound
+pub record AreSound (image : List ℕ) (frame : Frame) (root : Pointer) (start end : ℕ) : Type 0 where
+  pub each : (other : Place) → IsPlace other → start ≤ walk_index_of other → walk_index_of other < end → IsSoundAt image frame root other
+
+-- the first fault of the walk from an index on
+pub record IsFaultFrom (image : List ℕ) (frame : Frame) (root : Pointer) (start kind address : ℕ) : Type 0 where
+  pub place : Place
+  pub in_range : IsPlace place
+  pub kind_is : kind_of place ≡ kind
+  pub address_is : (pointer_of image root place).address ≡ address
+  pub faulty : IsSoundAt image frame root place → ⊥
+  pub reached : start ≤ walk_index_of place
+  pub before : AreSound image frame root start (walk_index_of place)
+
+-- a Damaged tells the first fault of the walk from an index on
+abbrev pub TellsFault : List ℕ → Frame → Pointer → ℕ → PoolError → Type 0
+TellsFault image frame root start e = (kind address : ℕ) → e ≡ Damaged kind address → IsFaultFrom image frame root start kind address
+
+-- a Damaged tells the block that a pointer names, and the image does not have it there
+abbrev pub TellsBlock : List ℕ → Frame → ℕ → ℕ → Pointer → PoolError → Type 0
+TellsBlock image frame kind number pointer e = (k : ℕ) (address : ℕ) → e ≡ Damaged k address
+    → (kind ≡ k) × ((pointer.address ≡ address) × ((payload : List ℕ) → Opens image frame kind number pointer payload → ⊥))
+
+-- this pointer is to record r of object n in the image's tree, and the object has this length
+pub record IsDataOf (image : List ℕ) (root : Pointer) (n r : ℕ) (pointer : Pointer) (size : ℕ) : Type 0 where
+  pub at : pointer_of image root (Data n r) ≡ pointer
+  pub there : pointer ≢ no_pointer
+  pub size_is : length_in image root n ≡ size
+
+-- these pointers are to the records of object n in the image's tree, and the object has this length
+pub record AreDataOf (image : List ℕ) (root : Pointer) (n : ℕ) (records : List Pointer) (size : ℕ) : Type 0 where
+  pub at : (r : ℕ) → r < pointer_count → pointer_of image root (Data n r) ≡ pointer_of_list records r
+  pub size_is : length_in image root n ≡ size
+
+-- this pointer is to the indirect block of object n, and the object has this length
+pub record IsIndirectOf (image : List ℕ) (root : Pointer) (n : ℕ) (indirect : Pointer) (size : ℕ) : Type 0 where
+  pub at : pointer_of image root (Indirect n) ≡ indirect
+  pub size_is : length_in image root n ≡ size
+
+-- this is the payload of directory d
+pub record IsPayloadOf (image : List ℕ) (frame : Frame) (root : Pointer) (d : ℕ) (payload : List ℕ) : Type 0 where
+  pub pointer : Pointer
+  pub at : pointer_of image root (Directory d) ≡ pointer
+  pub opens : OpensAt image frame (Directory d) pointer payload
+
+-- these pointers are to the directories
+pub record AreDirectoriesOf (image : List ℕ) (root : Pointer) (directories : List Pointer) : Type 0 where
+  pub at : (d : ℕ) → d < pointer_count → pointer_of image root (Directory d) ≡ pointer_of_list directories d
