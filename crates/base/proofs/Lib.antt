@@ -44,3 +44,4 @@ pub mod WrittenRecords
 pub mod ReadTrees
 pub mod KeptTables
 pub mod AnySteps
+pub mod StoredTrees
