@@ -45,3 +45,4 @@ pub mod ReadTrees
 pub mod KeptTables
 pub mod AnySteps
 pub mod StoredTrees
+pub mod StoredSteps

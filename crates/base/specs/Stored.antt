@@ -1,9 +1,11 @@
 -- What a pool keeps of its device: the synced tree with its pointers, the free blocks, and of a running sync the tree and the blocks that it plans.
-use Rattle.std.specs.Prelude.{ℕ, ◌≡◌, ◌≢◌, ◌≤◌, ◌<◌, ◌+◌, ◌⊎◌, true, List, [], map, length, slice_get, All, Option, Some, None, IfSome, Ok}
+use Rattle.std.specs.Prelude.{ℕ, ◌≡◌, ◌≢◌, ◌≤◌, ◌<◌, ◌+◌, ◌⊎◌, Bool, true, false, List, [], map, length, slice_get, All, Option, Some, None, IfSome, Ok}
 use Rattle.std.specs.List.{list_all}
 use Rattle.std.specs.Ordering.{nat_cmp}
 use Rattle.std.specs.FinMap.{FinMap}
 use Rattle.base.specs.declared.pointer.Pointer.{Pointer}
+use Rattle.base.specs.declared.step.Reply.{Reply}
+use Rattle.base.specs.declared.step.Reply.TheVariants as reply
 use Rattle.base.specs.Contents.{Contents}
 use Rattle.base.specs.Fields.{part, no_pointer}
 use Rattle.base.specs.Geometry.{block_size, block_count, IsBlockAddress}
@@ -117,3 +119,9 @@ abbrev pub Advances : ℕ → List ℕ → List ℕ → NewTree → NewTree → 
 Advances blocks now later old new =
     ((b : NewBlock) × (slice_get old.blocks old.made ≡ Some b) × (later ≡ put b.address b.content now) × (new ≡ record old { made = old.made + 1 }))
     ⊎ (SameBlocks blocks now later × (new ≡ old))
+
+-- whether a reply says that the sync of a group was started, or is done: what is kept of the device turns then
+abbrev pub is_turn : Reply → Bool
+is_turn (reply.Syncing group) = true
+is_turn (reply.Synced group) = true
+is_turn _ = false
