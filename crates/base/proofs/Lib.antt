@@ -44,5 +44,6 @@ pub mod WrittenRecords
 pub mod ReadTrees
 pub mod KeptTables
 pub mod AnySteps
+pub mod StoredSets
 pub mod StoredTrees
 pub mod StoredSteps
