@@ -47,3 +47,4 @@ pub mod AnySteps
 pub mod StoredSets
 pub mod StoredTrees
 pub mod StoredSteps
+pub mod StoredStarts
