@@ -48,3 +48,4 @@ pub mod StoredSets
 pub mod StoredTrees
 pub mod StoredSteps
 pub mod StoredStarts
+pub mod StoredSyncs
