@@ -49,3 +49,5 @@ pub mod StoredTrees
 pub mod StoredSteps
 pub mod StoredStarts
 pub mod StoredSyncs
+pub mod StoredCover
+pub mod StoredImports
