@@ -51,3 +51,4 @@ pub mod StoredStarts
 pub mod StoredSyncs
 pub mod StoredCover
 pub mod StoredImports
+pub mod StoredRuns

@@ -276,8 +276,8 @@ module _ (now : List ℕ) (pointers : Place → Pointer) (running : Option NewTr
       let same : is_turn r ≡ true = ap is_turn given ∙ ap (λ (a : Result ℕ PoolError). is_turn (reply_of (λ (g : ℕ). reply.Syncing (record { 0 = g })) a)) is in
       false≢true (sym off ∙ same)
 
-  start : (keeps : Type 0) (moment : ℕ) (answer : Result ℕ PoolError) (old new : State) → ((group : ℕ) → answer ≡ Ok group → ⊥) → IsKeptState old → stage.StartSync keeps now moment answer old new → IsKeptState new
-  start keeps moment answer old new off x h = by_answer answer (refusal.start_refusal old.shown) old new _ _
+  start : (keeps : Type 0) (bytes : List ℕ) (moment : ℕ) (answer : Result ℕ PoolError) (old new : State) → ((group : ℕ) → answer ≡ Ok group → ⊥) → IsKeptState old → stage.StartSync keeps bytes moment answer old new → IsKeptState new
+  start keeps bytes moment answer old new off x h = by_answer answer (refusal.start_refusal old.shown) old new _ _
       (λ group is none d. absurd (off group is)) (λ e own. subst IsKeptState (sym own.1) x) x h
 
   -- nor of one that is done
@@ -292,15 +292,16 @@ module _ (now : List ℕ) (pointers : Place → Pointer) (running : Option NewTr
       (λ made is none d. progress made d.0 d.1 old new (off made is) x d.3 d.4)
       (λ e own. subst IsKeptState (sym own.1) (let t : State = steps.suspended_state old in stays old.shown t.shown old.past t.past x)) x h
 
-  -- each step but the start of a sync and its end keeps what is kept, over the same bytes and pointers
-  pub steps_keep_kept : (keeps : Type 0) (s : declared_step.Step) (r : declared_reply.Reply) (old new : State) → Step keeps now s r old new → is_turn r ≡ false → IsExplainedNow old.shown old.past
+  -- Each step but the start of a sync and its end keeps what is kept, over the same bytes and pointers. (The bytes that the step itself
+  -- names are any.)
+  pub steps_keep_kept : (keeps : Type 0) (bytes : List ℕ) (s : declared_step.Step) (r : declared_reply.Reply) (old new : State) → Step keeps bytes s r old new → is_turn r ≡ false → IsExplainedNow old.shown old.past
       → IsKept now old.shown pointers running old.past → IsKept now new.shown pointers running new.past
-  steps_keep_kept keeps (step.Lock owner n range mode) r old new (answer, is, h) off explained x = lock owner.0 (refusal.object_range n.0 range.low range.high) mode answer old new x h
-  steps_keep_kept keeps (step.Unlock owner id) r old new (answer, is, h) off explained x = unlock owner.0 id.0 answer old new x h
-  steps_keep_kept keeps (step.Begin owner plan) r old new (answer, is, h) off explained x = begin owner.0 plan answer old new x h
-  steps_keep_kept keeps (step.Commit tx ops) r old new (answer, is, h) off explained x = commit tx.0 ops answer old new explained x h
-  steps_keep_kept keeps (step.Read owner n range) r old new (answer, is, h) off explained x = read keeps owner.0 (refusal.object_range n.0 range.low range.high) answer old new x h
-  steps_keep_kept keeps step.CloseGroup r old new (answer, is, h) off explained x = close answer old new explained x h
-  steps_keep_kept keeps step.MarkQuiesced r old new (answer, is, h) off explained x = quiesce answer old new x h
-  steps_keep_kept keeps (step.StartSync moment) r old new (answer, is, h) off explained x = start keeps moment answer old new (λ group. no_start answer group r is off) x h
-  steps_keep_kept keeps step.SyncStep r old new (answer, is, h) off explained x = sync_step answer old new (λ made. no_end answer made r is off) x h
+  steps_keep_kept keeps bytes (step.Lock owner n range mode) r old new (answer, is, h) off explained x = lock owner.0 (refusal.object_range n.0 range.low range.high) mode answer old new x h
+  steps_keep_kept keeps bytes (step.Unlock owner id) r old new (answer, is, h) off explained x = unlock owner.0 id.0 answer old new x h
+  steps_keep_kept keeps bytes (step.Begin owner plan) r old new (answer, is, h) off explained x = begin owner.0 plan answer old new x h
+  steps_keep_kept keeps bytes (step.Commit tx ops) r old new (answer, is, h) off explained x = commit tx.0 ops answer old new explained x h
+  steps_keep_kept keeps bytes (step.Read owner n range) r old new (answer, is, h) off explained x = read keeps owner.0 (refusal.object_range n.0 range.low range.high) answer old new x h
+  steps_keep_kept keeps bytes step.CloseGroup r old new (answer, is, h) off explained x = close answer old new explained x h
+  steps_keep_kept keeps bytes step.MarkQuiesced r old new (answer, is, h) off explained x = quiesce answer old new x h
+  steps_keep_kept keeps bytes (step.StartSync moment) r old new (answer, is, h) off explained x = start keeps bytes moment answer old new (λ group. no_start answer group r is off) x h
+  steps_keep_kept keeps bytes step.SyncStep r old new (answer, is, h) off explained x = sync_step answer old new (λ made. no_end answer made r is off) x h

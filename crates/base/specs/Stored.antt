@@ -21,6 +21,8 @@ use Rattle.base.specs.Past.{Past}
 use Rattle.base.specs.Shown.{Shown, SyncPlan}
 use Rattle.base.specs.Stage.{is_shape_built}
 use Rattle.base.specs.Exact.{AreFree}
+use Rattle.base.specs.ExactNow.{IsExplainedNow}
+use Rattle.base.specs.Steps.{State}
 
 -- whole blocks of the area, no two at one address
 pub record AreBlocks (blocks : ℕ) (bs : List NewBlock) : Type 0 where
@@ -125,3 +127,39 @@ abbrev pub is_turn : Reply → Bool
 is_turn (reply.Syncing group) = true
 is_turn (reply.Synced group) = true
 is_turn _ = false
+
+-- a pool over its device: what is shown with its past, the bytes, the pointers of the synced tree, and the running sync
+pub record Held : Type 0 where
+  pub state : State
+  pub now : List ℕ
+  pub pointers : Place → Pointer
+  pub running : Option NewTree
+
+-- its past explains it, and what it keeps of its device is so
+pub record IsHeld (h : Held) : Type 0 where
+  pub explained : IsExplainedNow h.state.shown h.state.past
+  pub kept : IsKept h.now h.state.shown h.pointers h.running h.state.past
+
+-- the sync of a group was started: its tree and blocks are planned from the stored tree, and nothing is written
+pub record Starts (group : ℕ) (old new : Held) : Type 0 where
+  pub same : SameBlocks old.state.shown.blocks old.now new.now
+  pub pointers : new.pointers ≡ old.pointers
+  pub tree : Place → Pointer
+  pub bs : List NewBlock
+  pub plan : SyncPlan
+  pub running : new.running ≡ Some (record { pointers = tree; blocks = bs; made = 0 })
+  pub plan_is : new.state.shown.sync ≡ Some plan
+  pub planned : (x : IsHeld old) → IsPlannedSync (frame_at old.state.shown group) old.pointers tree bs x.kept.stored.synced.objects old.state.shown.contents.objects plan
+
+-- a device call of a running sync was made
+pub record Calls (old new : Held) (after : NewTree) : Type 0 where
+  pub before : NewTree
+  pub running : old.running ≡ Some before
+  pub advances : Advances old.state.shown.blocks old.now new.now before after
+
+-- how a step moves the bytes, the pointers and the running sync, by its reply
+abbrev pub Moves : Reply → Held → Held → Type 0
+Moves (reply.Syncing group) old new = Starts group.0 old new
+Moves reply.More old new = (after : NewTree) × Calls old new after × (new.pointers ≡ old.pointers) × (new.running ≡ Some after)
+Moves (reply.Synced group) old new = (after : NewTree) × Calls old new after × (after.made ≡ length after.blocks) × (new.pointers ≡ after.pointers) × (new.running ≡ None)
+Moves _ old new = SameBlocks old.state.shown.blocks old.now new.now × (new.pointers ≡ old.pointers) × (new.running ≡ old.running)
