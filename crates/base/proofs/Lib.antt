@@ -50,5 +50,6 @@ pub mod StoredSteps
 pub mod StoredStarts
 pub mod StoredSyncs
 pub mod StoredCover
+pub mod StoredWrites
 pub mod StoredImports
 pub mod StoredRuns

@@ -31,7 +31,7 @@ use Rattle.base.proofs.StoredStarts.{next-group, all_up_to}
 use Rattle.base.proofs.StoredSyncs.{up_to-all}
 
 -- what holds of each element that passes a test holds of all that the test keeps
-All-passing : {A : Type 0} (P : A → Type 0) (p : A → Bool) (xs : List A) → ((i : ℕ) (x : A) → slice_get xs i ≡ Some x → p x ≡ true → P x) → All P (filter p xs)
+pub All-passing : {A : Type 0} (P : A → Type 0) (p : A → Bool) (xs : List A) → ((i : ℕ) (x : A) → slice_get xs i ≡ Some x → p x ≡ true → P x) → All P (filter p xs)
 All-passing P p [] each = All-nil P
 All-passing {A} P p (x ∷ xs) each = go (p x) refl (All-passing P p xs (λ i y at. each (suc i) y at))
   where
@@ -73,7 +73,7 @@ module _ (now : List ℕ) (s : Shown) (p : Past) (pointers : Place → Pointer) 
       ap (λ (g : ℕ). replay (entries_in g p.entries) x.synced) next ∙ f.1 ∙ sym f.2 ∙ reached
 
   -- each entry has operations of built shapes
-  entry-built : (i : ℕ) (e : Entry) → slice_get p.entries i ≡ Some e → list_all is_shape_built (map shape_of e.ops) ≡ true
+  pub entry-built : (i : ℕ) (e : Entry) → slice_get p.entries i ≡ Some e → list_all is_shape_built (map shape_of e.ops) ≡ true
   entry-built i e at =
       let c = explained.exact.groups.members.committed i e at in
       ap (λ plan. list_all is_shape_built plan) c.3 ∙ x.built e.tx c.0 c.1

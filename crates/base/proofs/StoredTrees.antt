@@ -1,14 +1,14 @@
 -- What a pool keeps of its device, while its bytes change and nothing that is shown does.
-use Rattle.std.proofs.Common.{◌≡◌, ℕ, ◌+◌, ◌-◌, ◌*◌, ◌/◌, ◌<◌, ◌≤◌, Bool, true, false, List, [], ◌∷◌, length, refl, ap, sym, subst, ◌∙◌, arith, ◌⊎◌, inl, inr}
-use Rattle.std.specs.Prelude.{Option, Some, None, slice_get, ◌≢◌}
+use Rattle.std.proofs.Common.{◌≡◌, ℕ, zero, suc, ◌+◌, ◌-◌, ◌*◌, ◌/◌, ◌%◌, ◌<◌, ◌≤◌, ◌&&◌, Bool, true, false, List, [], ◌∷◌, length, refl, ap, sym, subst, ◌∙◌, arith, ◌⊎◌, inl, inr}
+use Rattle.std.specs.Prelude.{Option, Some, None, slice_get, nat_le, ◌==◌, ◌≢◌}
 use Rattle.std.specs.Ordering.{nat_cmp}
 use Rattle.std.specs.FinMap.{FinMap}
 use Rattle.std.specs.FinSet as set
-use Rattle.std.proofs.lemmas.Bool.{cases_lt, cases_eq}
+use Rattle.std.proofs.lemmas.Bool.{cases_lt, and_parts, leb-true}
 use Rattle.std.proofs.lemmas.Option.{slice_get_within}
 use Rattle.base.specs.declared.pointer.Pointer.{Pointer}
 use Rattle.base.specs.Fields.{part, no_pointer}
-use Rattle.base.specs.Geometry.{block_area, block_size, block_address, block_count, IsBlockAddress}
+use Rattle.base.specs.Geometry.{block_area, block_size, block_address, block_count, label_place, IsGeometry, IsBlockAddress}
 use Rattle.base.specs.Blocks.{Frame}
 use Rattle.base.specs.Disk.{put, SameOutside, IsInRange}
 use Rattle.base.specs.Locks.{is_in}
@@ -225,3 +225,36 @@ module _ (now later : List ℕ) (s : Shown) (pointers : Place → Pointer) (past
   pub same-keeps : (running : Option NewTree) → IsKept now s pointers running past → SameBlocks s.blocks now later → IsKept later s pointers running past
   same-keeps None x same = record { stored = same-stored x.stored same; sync = x.sync }
   same-keeps (Some new) x same = record { stored = same-stored x.stored same; sync = same-syncing new x.sync same }
+
+-- bytes that are put outside the block area leave each block as it was
+pub outside-put : (blocks : ℕ) (now : List ℕ) (place : ℕ) (content : List ℕ) → place + length content ≤ length now → (place + length content ≤ block_area) ⊎ (block_area + block_size * blocks ≤ place)
+    → SameBlocks blocks now (put place content now)
+outside-put blocks now place content fits out = record {
+  size = length-put place content now fits;
+  each = λ address is. part-put_apart place content now address block_size fits (away address is out);
+}
+  where
+    away : (address : ℕ) → IsBlockAddress blocks address → (place + length content ≤ block_area) ⊎ (block_area + block_size * blocks ≤ place) → Apart place (length content) address block_size
+    away address is (inl before) = let at : address ≡ block_address is.0 = is.2 in inl (omega (arith, at, before))
+    away address is (inr behind) =
+        let at : address ≡ block_address is.0 = is.2 in
+        let below : is.0 < blocks = is.1 in
+        inr (omega (arith, at, below, behind))
+
+-- the labels lie before and behind the block area
+label-apart : (size label place n : ℕ) → 6291456 ≤ size → label < 4 → label_place size label ≤ place → place + n ≤ label_place size label + 262144
+    → (place + n ≤ size) × ((place + n ≤ block_area) ⊎ (block_area + block_size * block_count size ≤ place))
+label-apart size zero place n large below from to = (omega (arith, large, from, to), inl (omega (arith, from, to)))
+label-apart size (suc zero) place n large below from to = (omega (arith, large, from, to), inl (omega (arith, from, to)))
+label-apart size (suc (suc zero)) place n large below from to = (omega (arith, large, from, to), inr (omega (arith, large, from, to)))
+label-apart size (suc (suc (suc zero))) place n large below from to = (omega (arith, large, from, to), inr (omega (arith, large, from, to)))
+label-apart size (suc (suc (suc (suc k)))) place n large below from to = absurd (omega (arith, below))
+
+-- so a write of a config or an uberblock leaves each block as it was
+pub label-put : (now : List ℕ) (label place : ℕ) (content : List ℕ) → IsGeometry (length now) → label < 4 → label_place (length now) label ≤ place
+    → place + length content ≤ label_place (length now) label + 262144 → SameBlocks (block_count (length now)) now (put place content now)
+label-put now label place content geometry below from to =
+    let limits = and_parts (nat_le 6291456 (length now) && nat_le (length now) 1073741824) ((length now % 262144) == 0) geometry in
+    let large : 6291456 ≤ length now = leb-true 6291456 (length now) (and_parts (nat_le 6291456 (length now)) (nat_le (length now) 1073741824) limits.0).0 in
+    let apart = label-apart (length now) label place (length content) large below from to in
+    outside-put (block_count (length now)) now place content apart.0 apart.1
