@@ -13,16 +13,13 @@ use Rattle.base.specs.Places.{Place, IsPlace, IsInTree}
 use Rattle.base.specs.Places.Place.{Root, Directory, Indirect, Data}
 use Rattle.base.specs.PlacedTrees.{padded_record, HoldsTree}
 use Rattle.base.specs.PlannedTrees.{NewBlock, IsNewAt, IsPlannedAt, IsTreePlan, AreFreed}
+pub use Rattle.base.specs.Stored.{AreUsed}
 use Rattle.base.proofs.PlacedTrees.{absent-data, some-by_address, in-tree, told-in_tree, places-apart}
-use Rattle.base.proofs.WrittenBlocks.{AreBlocks, LeavesTree}
+use Rattle.base.specs.Stored.{AreBlocks, LeavesTree}
 
 -- one of the new blocks is at this address
 abbrev pub IsNewAddress : List NewBlock → ℕ → Type 0
 IsNewAddress bs address = (i : ℕ) × (b : NewBlock) × (slice_get bs i ≡ Some b) × (b.address ≡ address)
-
--- each new block is one of the new tree
-abbrev pub AreUsed : List NewBlock → (Place → Pointer) → Type 0
-AreUsed bs new = (i : ℕ) (b : NewBlock) → slice_get bs i ≡ Some b → (place : Place) × IsPlace place × ((new place).address ≡ b.address)
 
 module _ (image other : List ℕ) (frame grown : Frame) (bs : List NewBlock) (old new : Place → Pointer) (before after : FinMap nat_cmp (List ℕ))
     (olds : HoldsTree image frame old before) (news : HoldsTree other grown new after) (planned : IsTreePlan bs grown old new before after) (leaves : LeavesTree bs old) where

@@ -44,3 +44,12 @@ pub mod WrittenRecords
 pub mod ReadTrees
 pub mod KeptTables
 pub mod AnySteps
+pub mod StoredSets
+pub mod StoredTrees
+pub mod StoredSteps
+pub mod StoredStarts
+pub mod StoredSyncs
+pub mod StoredCover
+pub mod StoredWrites
+pub mod StoredImports
+pub mod StoredRuns

@@ -15,6 +15,7 @@ use Rattle.base.specs.Places.{Place, IsPlace, IsInTree}
 use Rattle.base.specs.Places.Place.{Root}
 use Rattle.base.specs.PlacedTrees.{HoldsTree, ArePlaced}
 use Rattle.base.specs.PlannedTrees.{NewBlock, IsTreePlan, SameBlock, StandsIn}
+pub use Rattle.base.specs.Stored.{AreBlocks, IsUnwritten, LeavesTree}
 use Rattle.base.proofs.Put.{Apart, length-put, part-put_same, part-put_apart, part_same}
 use Rattle.base.proofs.PlacedTrees.{holds-placed, told-in_tree}
 use Rattle.base.proofs.PlannedTrees.{holds-elsewhere, planned-holds}
@@ -24,23 +25,9 @@ abbrev pub put_blocks : List NewBlock → List ℕ → List ℕ
 put_blocks [] image = image
 put_blocks (b ∷ bs) image = put_blocks bs (put b.address b.content image)
 
--- whole blocks of the area, no two at one address
-pub record AreBlocks (blocks : ℕ) (bs : List NewBlock) : Type 0 where
-  pub in_area : (i : ℕ) (b : NewBlock) → slice_get bs i ≡ Some b → IsBlockAddress blocks b.address
-  pub whole : (i : ℕ) (b : NewBlock) → slice_get bs i ≡ Some b → length b.content ≡ block_size
-  pub apart : (i j : ℕ) (b c : NewBlock) → slice_get bs i ≡ Some b → slice_get bs j ≡ Some c → b.address ≡ c.address → i ≡ j
-
--- none of the blocks is at this address
-abbrev pub IsUnwritten : List NewBlock → ℕ → Type 0
-IsUnwritten bs address = (i : ℕ) (b : NewBlock) → slice_get bs i ≡ Some b → b.address ≢ address
-
 -- a byte of one of the blocks
 abbrev pub IsInBlocks : List NewBlock → ℕ → Type 0
 IsInBlocks bs i = (j : ℕ) × (b : NewBlock) × (slice_get bs j ≡ Some b) × IsInRange b.address block_size i
-
--- none of the blocks is at an address that the old tree has
-abbrev pub LeavesTree : List NewBlock → (Place → Pointer) → Type 0
-LeavesTree bs old = (place : Place) → IsPlace place → old place ≢ no_pointer → IsUnwritten bs (old place).address
 
 -- two blocks at different addresses have no byte in common
 pub blocks-apart : (blocks a b : ℕ) → IsBlockAddress blocks a → IsBlockAddress blocks b → a ≢ b → Apart a block_size b block_size
