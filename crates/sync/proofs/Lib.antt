@@ -1,3 +1,4 @@
 pub mod CallPlaces
 pub mod Targets
 pub mod Written
+pub mod Steps
