@@ -35,12 +35,14 @@ pub struct SyncRun {
 }
 
 impl SyncRun {
-    ghost use Rattle.std.specs.Prelude.{Some, slice_get, length};
+    ghost use Rattle.std.specs.Prelude.{ℕ, List, length};
+    ghost use Rattle.base.specs.Disk.{bytes_of};
     ghost use Rattle.base.specs.SyncOrder.{DeviceCall};
     ghost use Rattle.base.specs.SyncOrder.{DeviceCall as device_call};
     ghost use Rattle.base.specs.Calls.{Counts};
     ghost use Rattle.sync.specs.CallOrder.{call_said};
     ghost use Rattle.sync.specs.Calls.{HasCall, IsNextCall, MakesCall, TargetFits, calls_of, plain_answer, refusal_of};
+    ghost use Rattle.sync.specs.Made.{HasDistinctBlocks, HasMade};
     ghost use Rattle.sync.specs.Runs.{SameSync, call_count, other_calls};
 
     /// How many device calls the sync has in all.
@@ -71,7 +73,12 @@ impl SyncRun {
             → MakesCall self.old call (D.disk device.old) (plain_answer result) (D.disk device.new) }
         ensures count { (call : DeviceCall) → IsNextCall self.old call
             → Counts (D.refused device.old) (D.refused device.new) (refusal_of call) (plain_answer result) }
+        ensures kept { IsTrue D.keeps_model → HasDistinctBlocks self.old → (base : List ℕ)
+            → HasMade base self.old (bytes_of (D.disk device.old).now)
+            → HasMade base self.new (bytes_of (D.disk device.new).now) }
     {
+        // Places lie apart, as the size is one of a pool's device.
+        let _size = self.geometry.size();
         self.make(device, self.call())?;
         self.done += 1;
         Ok(self.done == self.total())
