@@ -2,3 +2,4 @@ pub mod CallPlaces
 pub mod Targets
 pub mod Written
 pub mod Steps
+pub mod Pending

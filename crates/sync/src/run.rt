@@ -42,7 +42,7 @@ impl SyncRun {
     ghost use Rattle.base.specs.Calls.{Counts};
     ghost use Rattle.sync.specs.CallOrder.{call_said};
     ghost use Rattle.sync.specs.Calls.{HasCall, IsNextCall, MakesCall, TargetFits, calls_of, plain_answer, refusal_of};
-    ghost use Rattle.sync.specs.Made.{HasDistinctBlocks, HasMade};
+    ghost use Rattle.sync.specs.Made.{HasDistinctBlocks, HasMade, HasPending};
     ghost use Rattle.sync.specs.Runs.{SameSync, call_count, other_calls};
 
     /// How many device calls the sync has in all.
@@ -76,6 +76,8 @@ impl SyncRun {
         ensures kept { IsTrue D.keeps_model → HasDistinctBlocks self.old → (base : List ℕ)
             → HasMade base self.old (bytes_of (D.disk device.old).now)
             → HasMade base self.new (bytes_of (D.disk device.new).now) }
+        ensures pending { IsTrue D.keeps_model → HasPending self.old (D.disk device.old).now
+            → HasPending self.new (D.disk device.new).now }
     {
         // Places lie apart, as the size is one of a pool's device.
         let _size = self.geometry.size();
