@@ -3,3 +3,4 @@ pub mod Targets
 pub mod Written
 pub mod Steps
 pub mod Pending
+pub mod Blocks

@@ -23,13 +23,13 @@ use Rattle.sync.specs.Made.{IsTarget, targets_of, HasDistinctBlocks}
 use Rattle.sync.proofs.CallPlaces.{block_stands, others_stand}
 
 -- a call into a label is one into the labels 0 to 3
-abbrev InLabels : DeviceCall → Type 0
+abbrev pub InLabels : DeviceCall → Type 0
 InLabels (Block k) = Unit {0}
 InLabels (Config label) = label < 4
 InLabels (Uberblock label) = label < 4
 InLabels Flush = Unit {0}
 
-each-at : (P : DeviceCall → Type 0) (calls : List DeviceCall) (k : ℕ) (call : DeviceCall) → AllByRecursion P calls → slice_get calls k ≡ Some call → P call
+pub each-at : (P : DeviceCall → Type 0) (calls : List DeviceCall) (k : ℕ) (call : DeviceCall) → AllByRecursion P calls → slice_get calls k ≡ Some call → P call
 each-at P [] k call each at = absurd (let no_way : None ≡ Some call = at in cc)
 each-at P (c ∷ calls) zero call each at = let same : c ≡ call = cc in subst P same each.0
 each-at P (c ∷ calls) (suc k) call each at = each-at P calls k call each.1 at
@@ -44,7 +44,7 @@ behind_in_labels (Some stages) = by_stage stages.first
     by_stage Even = (tt, (omega arith, (omega arith, (tt, (omega arith, (omega arith, (omega arith, (omega arith, (tt, (omega arith, (omega arith, (tt, tt))))))))))))
     by_stage Odd = (tt, (omega arith, (omega arith, (tt, (omega arith, (omega arith, (omega arith, (omega arith, (tt, (omega arith, (omega arith, (tt, tt))))))))))))
 
-call_in_labels : (run : SyncRun) (k : ℕ) (call : DeviceCall) → slice_get (calls_of run) k ≡ Some call → InLabels call
+pub call_in_labels : (run : SyncRun) (k : ℕ) (call : DeviceCall) → slice_get (calls_of run) k ≡ Some call → InLabels call
 call_in_labels run k call at = elim (cases_lt k (vec_len run.blocks)) [
   | inl before ↦
       let stands : slice_get (calls_of run) k ≡ Some (Block k) = block_stands (vec_len run.blocks) (is_some run.stages) (first_labels run.stages) (last_labels run.stages) k before in
@@ -155,22 +155,22 @@ one_target : (o : Option Target) (t u : Target) → o ≡ Some t → o ≡ Some 
 one_target o t u is_t is_u = let same : u ≡ t = cc in inl same
 
 -- a target that lies in a label
-record LiesIn (size label : ℕ) (t : Target) : Type 0 where
-  from : label_place size label ≤ t.place
-  to : t.place + t.size ≤ label_place size label + 262144
+pub record LiesIn (size label : ℕ) (t : Target) : Type 0 where
+  pub from : label_place size label ≤ t.place
+  pub to : t.place + t.size ≤ label_place size label + 262144
 
-config_lies : (run : SyncRun) (label : ℕ) (t : Target) → target_of run (Config label) ≡ Some t → LiesIn run.geometry label t × (t.place + t.size ≤ label_place run.geometry label + 131072)
+pub config_lies : (run : SyncRun) (label : ℕ) (t : Target) → target_of run (Config label) ≡ Some t → LiesIn run.geometry label t × (t.place + t.size ≤ label_place run.geometry label + 131072)
 config_lies run label t is =
     let (stages, at, same) = mapped (config_target run.geometry label) run.stages t is in
     subst (λ (u : Target). LiesIn run.geometry label u × (u.place + u.size ≤ label_place run.geometry label + 131072)) same (record { from = omega arith; to = omega arith }, omega arith)
 
-uberblock_lies : (run : SyncRun) → IsSound run → (label : ℕ) (t : Target) → target_of run (Uberblock label) ≡ Some t → LiesIn run.geometry label t × (label_place run.geometry label + 131072 ≤ t.place)
+pub uberblock_lies : (run : SyncRun) → IsSound run → (label : ℕ) (t : Target) → target_of run (Uberblock label) ≡ Some t → LiesIn run.geometry label t × (label_place run.geometry label + 131072 ≤ t.place)
 uberblock_lies run sound label t is =
     let same : record { place = slot_place run.geometry label run.slot; size = 1024; content = run.uberblock } ≡ t = cc in
     subst (λ (u : Target). LiesIn run.geometry label u × (label_place run.geometry label + 131072 ≤ u.place)) same (record { from = omega arith; to = omega (arith, sound.slot) }, omega arith)
 
 -- the block of a target
-block_lies : (run : SyncRun) → IsSound run → (k : ℕ) (t : Target) → target_of run (Block k) ≡ Some t → (b : PlannedBlock) × (slice_get run.blocks.items k ≡ Some b) × (b.index < block_count run.geometry) × (block_target b ≡ t)
+pub block_lies : (run : SyncRun) → IsSound run → (k : ℕ) (t : Target) → target_of run (Block k) ≡ Some t → (b : PlannedBlock) × (slice_get run.blocks.items k ≡ Some b) × (b.index < block_count run.geometry) × (block_target b ≡ t)
 block_lies run sound k t is =
     let (b, at, same) = mapped block_target (slice_get run.blocks.items k) t is in
     (b, at, All-at (λ (b : PlannedBlock). b.index < block_count run.geometry) run.blocks.items k b sound.placed at, same)
