@@ -67,11 +67,15 @@ call_of_target run k t at = mapped (target_of run) (slice_get (calls_of run) k) 
 pub target_of_call : (run : SyncRun) (k : ℕ) (call : DeviceCall) → slice_get (calls_of run) k ≡ Some call → slice_get (targets_of run) k ≡ Some (target_of run call)
 target_of_call run k call at = slice_get-map (target_of run) (calls_of run) k ∙ ap (λ (o : Option DeviceCall). option_map (target_of run) o) at
 
--- what a run's types say
+-- The size is one of a device, and each block and the slot have their places.
 pub record IsSound (run : SyncRun) : Type 0 where
   pub geometry : IsGeometry run.geometry
   pub placed : All (λ (b : PlannedBlock). b.index < block_count run.geometry) run.blocks.items
   pub slot : run.slot < 128
+
+-- two of these its ghost fields keep
+pub is_sound : (run : SyncRun) → IsGeometry run.geometry → IsSound run
+is_sound run g = record { geometry = g; placed = run.placed; slot = run.slot_in_range }
 
 target_writable : (run : SyncRun) → IsSound run → (call : DeviceCall) (t : Target) → InLabels call → target_of run call ≡ Some t → IsWritable run.geometry t.place t.size
 target_writable run sound (Block k) t within is =

@@ -1,6 +1,6 @@
 use Rattle.std.proofs.Common.{◌≡◌, ◌<◌, Ok, Err, ◌∙◌}
 use Rattle.sync.specs.CallOrder.{call_said}
-use Rattle.sync.proofs.Targets.{IsSound}
+use Rattle.sync.proofs.Targets.{is_sound}
 use Rattle.sync.proofs.Steps.{after_call}
 use Rattle.sync.proofs.Pending.{pending_after}
 use Rattle.sync.proofs.run.SyncRun.next.Goals as goal
@@ -8,7 +8,7 @@ use Rattle.sync.proofs.run.SyncRun.next.Goals as goal
 pub returns-clause-kept : goal.returns-clause-kept
 returns-clause-kept g c = λ keeps distinct base so_far.
     let run = c.args.self.now in
-    let sound : IsSound run = record { geometry = c.size-size.ensures.geometry; placed = run.placed; slot = run.slot_in_range } in
+    let sound = is_sound run c.size-size.ensures.geometry in
     let sized = g.met.D.SectorDevice.sized keeps c.args.device.now ∙ c.requires.sized in
     after_call base run sound distinct (call_said c.call.result) (g.D.SectorDevice.disk c.args.device.now) (g.D.SectorDevice.disk c.make.new.device) (Ok tt) c.call.ensures.next c.in_ok-make.ensures.fits sized so_far
     (c.in_ok-make.ensures.called keeps)
@@ -16,7 +16,7 @@ returns-clause-kept g c = λ keeps distinct base so_far.
 pub returns-in_err-make-clause-kept : goal.returns-in_err-make-clause-kept
 returns-in_err-make-clause-kept g c = λ keeps distinct base so_far.
     let run = c.args.self.now in
-    let sound : IsSound run = record { geometry = c.size-size.ensures.geometry; placed = run.placed; slot = run.slot_in_range } in
+    let sound = is_sound run c.size-size.ensures.geometry in
     let sized = g.met.D.SectorDevice.sized keeps c.args.device.now ∙ c.requires.sized in
     after_call base run sound distinct (call_said c.call.result) (g.D.SectorDevice.disk c.args.device.now) (g.D.SectorDevice.disk c.make.new.device) (Err c.in_err-make.field-0.0) c.call.ensures.next c.in_err-make.ensures.fits sized so_far
     (c.in_err-make.ensures.called keeps)
