@@ -17,8 +17,9 @@ use Rattle.labels.specs.declared.stage.Stage.TheVariants.{Even, Odd}
 use Rattle.tree_plans.specs.declared.planner.PlannedBlock.{PlannedBlock}
 use Rattle.sync.specs.declared.run.LabelStages.{LabelStages}
 use Rattle.sync.specs.declared.run.SyncRun.{SyncRun}
-use Rattle.sync.specs.CallOrder.{calls_behind_staged_blocks}
-use Rattle.sync.specs.Calls.{Target, block_target, target_of, calls_of, first_labels, last_labels, MakesCall}
+use Rattle.sync.specs.CallOrder.{calls_behind_blocks, calls_behind_staged_blocks}
+use Rattle.sync.specs.Runs.{call_count, other_calls}
+use Rattle.sync.specs.Calls.{Target, block_target, target_of, calls_of, first_labels, last_labels, IsNextCall, MakesCall}
 use Rattle.sync.specs.Made.{AreWritten, BlocksWritten, IsTarget, targets_of, HasMade, HasPending}
 use Rattle.sync.proofs.CallPlaces.{block_stands, others_stand}
 use Rattle.sync.proofs.Targets.{IsSound, InLabels, LiesIn, each-at, call_in_labels, call_of_target, target_of_call, config_lies, uberblock_lies, block_lies}
@@ -114,7 +115,35 @@ flush_stands run =
 pub flush_cleans : (run : SyncRun) (before after : Disk) → MakesCall run Flush before (Ok tt) after → after.now.unflushed ≡ []
 flush_cleans run before after makes = (flushed_clean before after makes).0
 
--- behind that flush no byte of the block area is unflushed
+last_behind : (stages : Option LabelStages) (p : ℕ) → p + 1 ≡ other_calls stages → slice_get (calls_in_order 0 (is_some stages) (first_labels stages) (last_labels stages)) p ≡ Some Flush
+last_behind None p last = let here : p ≡ 5 = omega (arith, last) in subst (λ (n : ℕ). slice_get calls_behind_blocks n ≡ Some Flush) (sym here) refl
+last_behind (Some stages) p last =
+    let here : p ≡ 11 = omega (arith, last) in
+    subst (λ (n : ℕ). slice_get (calls_behind_staged_blocks stages.first) n ≡ Some Flush) (sym here) (by_stage stages.first)
+  where
+    by_stage : (first : Stage) → slice_get (calls_behind_staged_blocks first) 11 ≡ Some Flush
+    by_stage Even = refl
+    by_stage Odd = refl
+
+-- the last call is a flush
+pub last_stands : (run : SyncRun) (k : ℕ) → k + 1 ≡ call_count run → slice_get (calls_of run) k ≡ Some Flush
+last_stands run k last =
+    let some : 6 ≤ other_calls run.stages = at_least run.stages in
+    others_stand (vec_len run.blocks) (is_some run.stages) (first_labels run.stages) (last_labels run.stages) k (k - vec_len run.blocks) (omega (arith, last, some))
+    ∙ last_behind run.stages (k - vec_len run.blocks) (omega (arith, last, some))
+  where
+    at_least : (stages : Option LabelStages) → 6 ≤ other_calls stages
+    at_least None = omega arith
+    at_least (Some stages) = omega arith
+
+-- after the last call nothing is unflushed
+pub last_cleans : (run : SyncRun) (call : DeviceCall) (before after : Disk) → run.done + 1 ≡ call_count run → IsNextCall run call → MakesCall run call before (Ok tt) after → after.now.unflushed ≡ []
+last_cleans run call before after last at makes =
+    let stands : slice_get (calls_of run) run.done ≡ Some Flush = last_stands run run.done last in
+    let same : call ≡ Flush = cc in
+    flush_cleans run before after (subst (λ (d : DeviceCall). MakesCall run d before (Ok tt) after) same makes)
+
+-- behind the flush that follows the blocks no byte of the block area is unflushed
 pub blocks_settled : (run : SyncRun) (m : Moment) → IsSound run → HasPending run m → vec_len run.blocks < run.done
     → (i : ℕ) → block_area ≤ i → i < block_area + block_size * block_count run.geometry → IsTouched m.unflushed i → ⊥
 blocks_settled run m sound pending behind i from to touched =

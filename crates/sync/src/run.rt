@@ -35,7 +35,7 @@ pub struct SyncRun {
 }
 
 impl SyncRun {
-    ghost use Rattle.std.specs.Prelude.{ℕ, List, length};
+    ghost use Rattle.std.specs.Prelude.{ℕ, List, [], length};
     ghost use Rattle.base.specs.Disk.{bytes_of};
     ghost use Rattle.base.specs.SyncOrder.{DeviceCall};
     ghost use Rattle.base.specs.SyncOrder.{DeviceCall as device_call};
@@ -78,6 +78,8 @@ impl SyncRun {
             → HasMade base self.new (bytes_of (D.disk device.new).now) }
         ensures pending { IsTrue D.keeps_model → HasPending self.old (D.disk device.old).now
             → HasPending self.new (D.disk device.new).now }
+        ensures finished { IsTrue D.keeps_model
+            → IfOk result (λ last. IsTrue last → (D.disk device.new).now.unflushed ≡ []) }
     {
         // Places lie apart, as the size is one of a pool's device.
         let _size = self.geometry.size();
