@@ -1,5 +1,5 @@
 -- What a sync has made of the block area.
-use Rattle.std.proofs.Common.{◌≡◌, ◌⊎◌, inl, inr, ℕ, zero, suc, ◌+◌, ◌-◌, ◌*◌, ◌<◌, ◌≤◌, List, [], Option, Some, None, Ok, refl, sym, ◌∙◌, ap, subst, arith, vec_len}
+use Rattle.std.proofs.Common.{◌≡◌, inl, inr, ℕ, zero, suc, ◌+◌, ◌-◌, ◌*◌, ◌<◌, ◌≤◌, List, [], Option, Some, None, Ok, refl, sym, ◌∙◌, ap, subst, arith, vec_len}
 use Rattle.std.specs.Prelude.{slice_get, is_some}
 use Rattle.std.specs.Option.{option_map}
 use Rattle.std.specs.List.{AllByRecursion}
@@ -7,7 +7,7 @@ use Rattle.std.proofs.lemmas.Bool.{cases_lt}
 use Rattle.std.proofs.lemmas.Option.{slice_get_within}
 use Rattle.base.specs.Fields.{part}
 use Rattle.base.specs.Disk.{Moment, Disk, IsInRange, IsTouched}
-use Rattle.base.specs.Geometry.{IsGeometry, block_area, block_count, block_size, block_address, label_place}
+use Rattle.base.specs.Geometry.{IsGeometry, block_area, block_count, block_size}
 use Rattle.base.specs.SyncOrder.{DeviceCall, calls_in_order}
 use Rattle.base.specs.SyncOrder.DeviceCall.{Block, Config, Uberblock, Flush}
 use Rattle.base.proofs.Regions.{flushed_clean}
@@ -20,7 +20,7 @@ use Rattle.sync.specs.declared.run.SyncRun.{SyncRun}
 use Rattle.sync.specs.CallOrder.{calls_behind_blocks, calls_behind_staged_blocks}
 use Rattle.sync.specs.Runs.{call_count, other_calls}
 use Rattle.sync.specs.Calls.{Target, block_target, target_of, calls_of, first_labels, last_labels, IsNextCall, MakesCall}
-use Rattle.sync.specs.Made.{AreWritten, BlocksWritten, IsTarget, targets_of, HasMade, HasPending}
+use Rattle.sync.specs.Made.{BlocksWritten, IsTarget, targets_of, HasMade, HasPending}
 use Rattle.sync.proofs.CallPlaces.{block_stands, others_stand}
 use Rattle.sync.proofs.Targets.{IsSound, InLabels, LiesIn, each-at, call_in_labels, call_of_target, target_of_call, config_lies, uberblock_lies, block_lies}
 
@@ -98,8 +98,8 @@ pub blocks_written : (base image : List ℕ) (run : SyncRun) → IsSound run →
 blocks_written base image run sound made = record {
   each = λ k b below at. made.each k (block_target b) below (block_is_target run k b at);
   others = λ i from to out. made.others i (λ k t below at here.
-    let (b, at_b, same) = target_in_area run sound k i t at from to here in
-    out k b below at_b (subst (λ (u : Target). IsInRange u.place u.size i) (sym same) here));
+      let (b, at_b, same) = target_in_area run sound k i t at from to here in
+      out k b below at_b (subst (λ (u : Target). IsInRange u.place u.size i) (sym same) here));
 }
 
 -- the flush behind the blocks

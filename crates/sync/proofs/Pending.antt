@@ -1,5 +1,5 @@
 -- What of a sync is not flushed yet.
-use Rattle.std.proofs.Common.{◌≡◌, ◌⊎◌, inl, inr, ⊎_elim, ℕ, ◌+◌, ◌<◌, ◌≤◌, Bool, true, false, List, [], length, Option, Some, None, Result, Ok, Err, refl, sym, ◌∙◌, ap, subst, arith}
+use Rattle.std.proofs.Common.{◌≡◌, inl, inr, ⊎_elim, ℕ, ◌+◌, ◌<◌, ◌≤◌, List, length, Option, Some, None, Result, Ok, Err, sym, ◌∙◌, ap, subst, arith}
 use Rattle.std.specs.Prelude.{slice_get, IfSome}
 use Rattle.std.proofs.lemmas.Bool.{cases_lt}
 use Rattle.base.specs.declared.error.PoolError.{PoolError}
@@ -9,7 +9,7 @@ use Rattle.base.specs.SyncOrder.{DeviceCall}
 use Rattle.base.specs.SyncOrder.DeviceCall.{Block, Config, Uberblock, Flush}
 use Rattle.base.proofs.Regions.{flushed_clean}
 use Rattle.sync.specs.declared.run.SyncRun.{SyncRun}
-use Rattle.sync.specs.Calls.{Target, target_of, calls_of, IsNextCall, MakesCall, WritesTarget, TargetFits}
+use Rattle.sync.specs.Calls.{Target, target_of, IsNextCall, MakesCall, WritesTarget, TargetFits}
 use Rattle.sync.specs.Made.{IsTarget, IsPending, targets_of, HasPending}
 use Rattle.sync.proofs.Targets.{target_of_call}
 

@@ -1,6 +1,6 @@
 -- What a sync has written after its next call.
-use Rattle.std.proofs.Common.{◌≡◌, ◌⊎◌, inl, inr, ℕ, ◌+◌, ◌<◌, ◌≤◌, true, false, List, length, Option, Some, None, Result, Ok, Err, refl, sym, ◌∙◌, ap, subst, arith}
-use Rattle.std.specs.Prelude.{slice_get, is_ok, IfSome, if◌then◌else◌}
+use Rattle.std.proofs.Common.{◌≡◌, inl, inr, ℕ, ◌+◌, ◌≤◌, List, length, Option, Some, None, Result, Ok, Err, sym, ap, subst, arith}
+use Rattle.std.specs.Prelude.{slice_get, IfSome}
 use Rattle.base.specs.declared.error.PoolError.{PoolError}
 use Rattle.base.specs.Disk.{Disk, bytes_of, put}
 use Rattle.base.specs.Calls.{Flushes}
@@ -8,8 +8,8 @@ use Rattle.base.specs.SyncOrder.{DeviceCall}
 use Rattle.base.specs.SyncOrder.DeviceCall.{Block, Config, Uberblock, Flush}
 use Rattle.base.proofs.Regions.{flushed_clean}
 use Rattle.sync.specs.declared.run.SyncRun.{SyncRun}
-use Rattle.sync.specs.Calls.{Target, target_of, calls_of, IsNextCall, MakesCall, WritesTarget, TargetFits}
-use Rattle.sync.specs.Made.{AreWritten, IsTarget, targets_of, HasMade, HasDistinctBlocks}
+use Rattle.sync.specs.Calls.{Target, target_of, IsNextCall, MakesCall, WritesTarget, TargetFits}
+use Rattle.sync.specs.Made.{AreWritten, targets_of, HasMade, HasDistinctBlocks}
 use Rattle.sync.proofs.Targets.{IsSound, target_of_call, targets_parted}
 use Rattle.sync.proofs.Written.{written_more, nothing_more}
 

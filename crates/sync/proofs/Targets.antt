@@ -1,12 +1,11 @@
 -- What a sync's calls write, and that no two of them write one byte.
-use Rattle.std.proofs.Common.{◌≡◌, ◌⊎◌, inl, inr, ℕ, zero, suc, ◌+◌, ◌-◌, ◌*◌, ◌<◌, ◌≤◌, Bool, true, false, List, [], ◌∷◌, map, length, Option, Some, None, refl, sym, ◌∙◌, ap, subst, arith, vec_len}
+use Rattle.std.proofs.Common.{◌≡◌, ◌⊎◌, inl, inr, ℕ, zero, suc, ◌+◌, ◌-◌, ◌<◌, ◌≤◌, false, List, [], ◌∷◌, map, Option, Some, None, refl, sym, ◌∙◌, ap, subst, arith, vec_len}
 use Rattle.std.specs.Prelude.{All, slice_get, is_some, nat_eq}
 use Rattle.std.specs.List.{AllByRecursion, IsDistinct}
 use Rattle.std.specs.Option.{option_map}
 use Rattle.std.proofs.lemmas.Bool.{cases_eq, cases_lt, cases_order, eqb-false}
-use Rattle.std.proofs.lemmas.Bool.Decides.{nat_tests}
 use Rattle.std.proofs.lemmas.Option.{slice_get-map}
-use Rattle.base.specs.Geometry.{IsGeometry, IsWritable, block_address, block_area, block_count, block_size, config_place, label_place, slot_place}
+use Rattle.base.specs.Geometry.{IsGeometry, IsWritable, block_address, block_count, block_size, label_place, slot_place}
 use Rattle.base.specs.SyncOrder.{DeviceCall, calls_in_order}
 use Rattle.base.specs.SyncOrder.DeviceCall.{Block, Config, Uberblock, Flush}
 use Rattle.base.proofs.CommitOrder.{All-at}
@@ -33,7 +32,6 @@ pub each-at : (P : DeviceCall → Type 0) (calls : List DeviceCall) (k : ℕ) (c
 each-at P [] k call each at = absurd (let no_way : None ≡ Some call = at in cc)
 each-at P (c ∷ calls) zero call each at = let same : c ≡ call = cc in subst P same each.0
 each-at P (c ∷ calls) (suc k) call each at = each-at P calls k call each.1 at
-
 
 -- the calls behind the blocks
 behind_in_labels : (stages : Option LabelStages) → AllByRecursion InLabels (calls_in_order 0 (is_some stages) (first_labels stages) (last_labels stages))

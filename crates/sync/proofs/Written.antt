@@ -1,5 +1,5 @@
 -- What a sync has written, from call to call.
-use Rattle.std.proofs.Common.{◌≡◌, ◌⊎◌, inl, inr, ⊎_elim, ℕ, ◌+◌, ◌<◌, ◌≤◌, List, length, get_or, Option, Some, None, refl, sym, ◌∙◌, ap, subst, arith}
+use Rattle.std.proofs.Common.{◌≡◌, ◌⊎◌, inl, inr, ℕ, ◌+◌, ◌<◌, ◌≤◌, List, length, get_or, Option, Some, None, sym, ◌∙◌, ap, subst, arith}
 use Rattle.std.specs.Prelude.{slice_get}
 use Rattle.std.proofs.lemmas.Bool.{cases_lt}
 use Rattle.base.specs.Fields.{part}
@@ -36,9 +36,9 @@ written_more base image targets done t so_far at long within parted = record {
     each : (k : ℕ) (u : Target) → k < done + 1 → IsTarget targets k u → part (put t.place t.content image) u.place u.size ≡ u.content
     each k u below at_u = elim (cases_lt k done) [
       | inl before ↦ elim (parted k u before at_u) [
-          | inl same ↦ subst (λ (v : Target). part (put t.place t.content image) v.place v.size ≡ v.content) (sym same) stands
-          | inr apart ↦ part-put_apart t.place t.content image u.place u.size fits (subst (λ (n : ℕ). Apart t.place n u.place u.size) (sym long) apart) ∙ so_far.each k u before at_u
-        ]
+        | inl same ↦ subst (λ (v : Target). part (put t.place t.content image) v.place v.size ≡ v.content) (sym same) stands
+        | inr apart ↦ part-put_apart t.place t.content image u.place u.size fits (subst (λ (n : ℕ). Apart t.place n u.place u.size) (sym long) apart) ∙ so_far.each k u before at_u
+      ]
       | inr behind ↦
           let here : k ≡ done = omega (arith, below, behind) in
           let found : slice_get targets done ≡ Some (Some u) = ap (λ (i : ℕ). slice_get targets i) (sym here) ∙ at_u in

@@ -4,7 +4,6 @@ use Rattle.std.specs.List.{IsDistinct}
 use Rattle.base.specs.Fields.{part}
 use Rattle.base.specs.Disk.{Moment, IsInRange, IsTouched}
 use Rattle.base.specs.Geometry.{block_address, block_area, block_count, block_size}
-use Rattle.base.specs.SyncOrder.{DeviceCall}
 use Rattle.tree_plans.specs.declared.planner.PlannedBlock.{PlannedBlock}
 use Rattle.sync.specs.declared.run.SyncRun.{SyncRun}
 use Rattle.sync.specs.Calls.{Target, target_of, calls_of}
