@@ -1,3 +1,6 @@
 pub mod CallPlaces
 pub mod Targets
 pub mod Written
+pub mod Steps
+pub mod Pending
+pub mod Blocks

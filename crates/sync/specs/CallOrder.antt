@@ -1,7 +1,6 @@
 -- The device calls of a sync, in order.
-use Rattle.std.specs.Prelude.{ℕ, true, false, List, [], ◌∷◌, ◌++◌, map, Option, Some, None, is_some, vec_len}
-use Rattle.std.specs.List.{range_with_len}
-use Rattle.base.specs.SyncOrder.{DeviceCall, calls_in_order, label_stage}
+use Rattle.std.specs.Prelude.{true, false, List, []}
+use Rattle.base.specs.SyncOrder.{DeviceCall, calls_in_order}
 use Rattle.base.specs.SyncOrder.DeviceCall.{Block, Config, Uberblock, Flush}
 use Rattle.labels.specs.declared.stage.Stage.{Stage}
 use Rattle.labels.specs.declared.stage.Stage.TheVariants.{Even, Odd}

@@ -1,9 +1,9 @@
 -- What a sync has written so far.
-use Rattle.std.specs.Prelude.{ℕ, ◌≡◌, ◌<◌, List, map, Option, Some, nat_eq, length, slice_get, slice_index}
+use Rattle.std.specs.Prelude.{ℕ, ◌≡◌, ◌+◌, ◌*◌, ◌<◌, ◌≤◌, List, map, Option, Some, None, nat_eq, length, slice_get, slice_index}
 use Rattle.std.specs.List.{IsDistinct}
 use Rattle.base.specs.Fields.{part}
-use Rattle.base.specs.Disk.{IsInRange}
-use Rattle.base.specs.SyncOrder.{DeviceCall}
+use Rattle.base.specs.Disk.{Moment, IsInRange, IsTouched}
+use Rattle.base.specs.Geometry.{block_address, block_area, block_count, block_size}
 use Rattle.tree_plans.specs.declared.planner.PlannedBlock.{PlannedBlock}
 use Rattle.sync.specs.declared.run.SyncRun.{SyncRun}
 use Rattle.sync.specs.Calls.{Target, target_of, calls_of}
@@ -30,3 +30,22 @@ HasMade base run image = AreWritten base (targets_of run) run.done image
 -- no two blocks have one place
 abbrev pub HasDistinctBlocks : SyncRun → Type 0
 HasDistinctBlocks run = IsDistinct nat_eq (map (λ (b : PlannedBlock). b.index) run.blocks.items)
+
+-- Of these targets the first so many are written. The byte lies in one of them, or in the next, and no flush came behind it.
+pub record IsPending (targets : List (Option Target)) (done i : ℕ) : Type 0 where
+  pub k : ℕ
+  pub target : Target
+  pub at : IsTarget targets k target
+  pub tried : k ≤ done
+  pub unflushed : (j : ℕ) → k ≤ j → j < done → slice_get targets j ≡ Some None → ⊥
+  pub within : IsInRange target.place target.size i
+
+-- What is not flushed are the sync's own writes, since its last flush that was done.
+abbrev pub HasPending : SyncRun → Moment → Type 0
+HasPending run m = (i : ℕ) → IsTouched m.unflushed i → IsPending (targets_of run) run.done i
+
+-- Of the block area these bytes have changed: the first so many blocks stand in it, and each other byte is as in the base.
+pub record BlocksWritten (base : List ℕ) (size : ℕ) (blocks : List PlannedBlock) (done : ℕ) (image : List ℕ) : Type 0 where
+  pub each : (k : ℕ) (b : PlannedBlock) → k < done → slice_get blocks k ≡ Some b → part image (block_address b.index) block_size ≡ b.block
+  pub others : (i : ℕ) → block_area ≤ i → i < block_area + block_size * block_count size
+      → ((k : ℕ) (b : PlannedBlock) → k < done → slice_get blocks k ≡ Some b → IsInRange (block_address b.index) block_size i → ⊥) → slice_index image i ≡ slice_index base i

@@ -9,7 +9,7 @@ use labels::Stage;
 
 /// A device call of a sync.
 #[derive(Clone, Copy)]
-pub enum Call {
+pub(crate) enum Call {
     /// The write of the block of this number.
     Block(usize),
     /// The write of the config of this label.

@@ -2,7 +2,10 @@
 #![tactic(auto)]
 
 mod call;
+mod laws;
 mod run;
 
-pub use call::Call;
+pub use laws::{
+    blocks_are_settled, blocks_are_written, calls_are_writable, syncs_begin_with_nothing,
+};
 pub use run::{LabelStages, SyncRun};

@@ -35,12 +35,13 @@ pub struct SyncRun {
 }
 
 impl SyncRun {
-    ghost use Rattle.std.specs.Prelude.{Some, slice_get, length};
+    ghost use Rattle.std.specs.Prelude.{ℕ, List, [], length};
+    ghost use Rattle.base.specs.Disk.{bytes_of};
     ghost use Rattle.base.specs.SyncOrder.{DeviceCall};
-    ghost use Rattle.base.specs.SyncOrder.{DeviceCall as device_call};
     ghost use Rattle.base.specs.Calls.{Counts};
     ghost use Rattle.sync.specs.CallOrder.{call_said};
     ghost use Rattle.sync.specs.Calls.{HasCall, IsNextCall, MakesCall, TargetFits, calls_of, plain_answer, refusal_of};
+    ghost use Rattle.sync.specs.Made.{HasDistinctBlocks, HasMade, HasPending};
     ghost use Rattle.sync.specs.Runs.{SameSync, call_count, other_calls};
 
     /// How many device calls the sync has in all.
@@ -55,7 +56,11 @@ impl SyncRun {
     }
 
     /// Makes the next device call, the one that has this place in the order of the sync's calls, and says whether it was
-    /// the last. A call that the device refuses is made again by the next `next`.
+    /// the last. A call that the device refused is the next one still.
+    ///
+    /// What the sync has written, and that it has written nothing else, holds after each call: `HasMade`, where no two
+    /// blocks have one place. So does that what is not flushed are its own writes since its last flush: `HasPending`. After
+    /// the last call nothing is unflushed.
     ///
     /// # Errors
     /// `Write`, `Flush`: what the call was, where the device refused it.
@@ -71,7 +76,16 @@ impl SyncRun {
             → MakesCall self.old call (D.disk device.old) (plain_answer result) (D.disk device.new) }
         ensures count { (call : DeviceCall) → IsNextCall self.old call
             → Counts (D.refused device.old) (D.refused device.new) (refusal_of call) (plain_answer result) }
+        ensures kept { IsTrue D.keeps_model → HasDistinctBlocks self.old → (base : List ℕ)
+            → HasMade base self.old (bytes_of (D.disk device.old).now)
+            → HasMade base self.new (bytes_of (D.disk device.new).now) }
+        ensures pending { IsTrue D.keeps_model → HasPending self.old (D.disk device.old).now
+            → HasPending self.new (D.disk device.new).now }
+        ensures finished { IsTrue D.keeps_model
+            → IfOk result (λ last. IsTrue last → (D.disk device.new).now.unflushed ≡ []) }
     {
+        // Places lie apart, as the size is one of a pool's device.
+        let _size = self.geometry.size();
         self.make(device, self.call())?;
         self.done += 1;
         Ok(self.done == self.total())
@@ -113,11 +127,11 @@ impl SyncRun {
 
     fn write_block<D: SectorDevice>(&self, device: &mut D, number: usize) -> Result<(), PoolError>
         requires sized { D.size device.old ≡ self.now.geometry }
-        requires there { HasCall self.now (device_call.Block number) }
+        requires there { HasCall self.now (DeviceCall.Block number) }
         ensures size { D.size device.new ≡ D.size device.old }
-        ensures fits { TargetFits self.now (device_call.Block number) }
+        ensures fits { TargetFits self.now (DeviceCall.Block number) }
         ensures called { IsTrue D.keeps_model
-            → MakesCall self.now (device_call.Block number) (D.disk device.old) result (D.disk device.new) }
+            → MakesCall self.now (DeviceCall.Block number) (D.disk device.old) result (D.disk device.new) }
         ensures count { Counts (D.refused device.old) (D.refused device.new) PoolError.Write result }
     {
         let planned = &self.blocks[number];
@@ -127,11 +141,11 @@ impl SyncRun {
 
     fn write_config<D: SectorDevice>(&self, device: &mut D, label: usize) -> Result<(), PoolError>
         requires sized { D.size device.old ≡ self.now.geometry }
-        requires there { HasCall self.now (device_call.Config label) }
+        requires there { HasCall self.now (DeviceCall.Config label) }
         ensures size { D.size device.new ≡ D.size device.old }
-        ensures fits { TargetFits self.now (device_call.Config label) }
+        ensures fits { TargetFits self.now (DeviceCall.Config label) }
         ensures called { IsTrue D.keeps_model
-            → MakesCall self.now (device_call.Config label) (D.disk device.old) result (D.disk device.new) }
+            → MakesCall self.now (DeviceCall.Config label) (D.disk device.old) result (D.disk device.new) }
         ensures count { Counts (D.refused device.old) (D.refused device.new) PoolError.Write result }
     {
         let Some(stages) = &self.stages else {
@@ -146,11 +160,11 @@ impl SyncRun {
         label: usize,
     ) -> Result<(), PoolError>
         requires sized { D.size device.old ≡ self.now.geometry }
-        requires there { HasCall self.now (device_call.Uberblock label) }
+        requires there { HasCall self.now (DeviceCall.Uberblock label) }
         ensures size { D.size device.new ≡ D.size device.old }
-        ensures fits { TargetFits self.now (device_call.Uberblock label) }
+        ensures fits { TargetFits self.now (DeviceCall.Uberblock label) }
         ensures called { IsTrue D.keeps_model
-            → MakesCall self.now (device_call.Uberblock label) (D.disk device.old) result (D.disk device.new) }
+            → MakesCall self.now (DeviceCall.Uberblock label) (D.disk device.old) result (D.disk device.new) }
         ensures count { Counts (D.refused device.old) (D.refused device.new) PoolError.Write result }
     {
         device.write(self.geometry.slot_place(label, self.slot), &self.uberblock)

@@ -1,4 +1,4 @@
-use Rattle.std.proofs.Common.{◌≡◌, vec_len, arith, ap}
+use Rattle.std.proofs.Common.{vec_len, arith, ap}
 use Rattle.sync.specs.Runs.{other_calls}
 use Rattle.sync.proofs.CallPlaces.{count_calls}
 use Rattle.sync.proofs.run.SyncRun.total.Goals as goal
