@@ -13,3 +13,4 @@ pub mod ExplainedRuns
 pub mod Starts
 pub mod SyncSteps
 pub mod FreeBlocks
+pub mod PlannedPointers

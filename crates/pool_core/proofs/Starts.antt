@@ -1,6 +1,6 @@
 -- A sync that starts, step by step.
 use Rattle.std.proofs.Common.{ℕ, ◌≡◌, ◌+◌, ◌<◌, Bool, true, false, not, ◌&&◌, ◌||◌, cond, List, [], ◌∷◌, ◌++◌, map, length, nat_lt, refl, ap, sym, subst, ◌∙◌, ◌⊎◌, inl, inr, arith, take, All}
-use Rattle.std.specs.Prelude.{Option, Some, None, Ok, Err, filter, find, ◌==◌, is_some, is_none, IfSome, option_map, unwrap_or, if◌then◌else◌}
+use Rattle.std.specs.Prelude.{Option, Some, None, Result, Ok, Err, IfErr, filter, find, ◌==◌, is_some, is_none, IfSome, option_map, unwrap_or, if◌then◌else◌}
 use Rattle.std.specs.List.{list_any, enumerate_from, flat_map}
 use Rattle.std.specs.FinSet as set
 use Rattle.std.proofs.lemmas.Bool.{eqb-true, false≢true, lt-ltb, true≢false}
@@ -27,7 +27,9 @@ use Rattle.space.specs.FreeSets.{addresses_from, free_of}
 use Rattle.space.proofs.FreeLists.{rising-free_of}
 use Rattle.tree_plans.specs.declared.planner.Committed.{Committed}
 use Rattle.tree_plans.specs.declared.planner.PlannedBlock.{PlannedBlock}
-use Rattle.pool_core.specs.Areas.{address_of}
+use Rattle.tree_plans.specs.declared.planner.TreePlan.{TreePlan}
+use Rattle.tree_plans.specs.Plans.{IsWant}
+use Rattle.tree_plans.specs.Plans.{address_of}
 use Rattle.pool_core.specs.Lines.{MayNotStart}
 use Rattle.pool_core.specs.Meets.{MeetsExplained}
 use Rattle.pool_core.specs.Shows.{record_of as shown_record}
@@ -119,3 +121,9 @@ pending_names (c ∷ cs) h =
 pub lowest_taken : (blocks : List PlannedBlock) (flags : List Bool) → map address_of blocks ≡ take (length blocks) (addresses_from 0 flags)
     → map address_of blocks ≡ take (length (map address_of blocks)) (rising (free_of flags))
 lowest_taken blocks flags taken = taken ∙ sym (ap (λ n. take n (rising (free_of flags))) (length-map blocks address_of) ∙ ap (take (length blocks)) (rising-free_of flags))
+
+-- a plan is refused for want of memory or of blocks
+pub turn_want : (r : Result TreePlan PoolError) → IfErr r IsWant → IfErr r (λ e. (e ≡ error.NoMemory) ⊎ (e ≡ error.NoSpace))
+turn_want (Ok p) h = tt
+turn_want (Err e) (inl space) = inr space
+turn_want (Err e) (inr memory) = inl memory

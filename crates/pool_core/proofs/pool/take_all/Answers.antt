@@ -3,7 +3,7 @@ use Rattle.std.specs.FinSet as set
 use Rattle.std.proofs.lemmas.List.{take_all}
 use Rattle.tree_plans.specs.declared.planner.PlannedBlock.{PlannedBlock}
 use Rattle.space.specs.FreeSets.{free_of}
-use Rattle.pool_core.specs.Areas.{address_of}
+use Rattle.tree_plans.specs.Plans.{address_of}
 use Rattle.pool_core.proofs.FreeBlocks.{difference_none, taken_more}
 use Rattle.pool_core.proofs.pool.take_all.Goals as goal
 

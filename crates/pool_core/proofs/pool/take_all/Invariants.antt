@@ -1,7 +1,7 @@
 use Rattle.std.proofs.Common.{◌≡◌, map, take, vec_len}
 use Rattle.std.specs.FinSet as set
 use Rattle.space.specs.FreeSets.{free_of}
-use Rattle.pool_core.specs.Areas.{address_of}
+use Rattle.tree_plans.specs.Plans.{address_of}
 use Rattle.pool_core.proofs.pool.take_all.Given as goal
 
 -- the blocks so far are taken

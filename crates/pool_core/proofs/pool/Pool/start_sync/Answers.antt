@@ -7,7 +7,7 @@ use Rattle.base.specs.PlacedTrees.{ArePlaced}
 use Rattle.sync.specs.Runs.{call_count}
 use Rattle.tree_plans.specs.declared.planner.PlannedBlock.{PlannedBlock}
 use Rattle.pool_core.specs.declared.pool.RunningSync.{RunningSync}
-use Rattle.pool_core.specs.Areas.{address_of}
+use Rattle.tree_plans.specs.Plans.{address_of}
 use Rattle.pool_core.specs.Pointers.{pointers_after}
 use Rattle.pool_core.specs.Shows.{new_plan, shown_of}
 use Rattle.pool_core.proofs.SameSyncs.{kept_sync}
