@@ -1,1 +1,4 @@
 pub mod CreateRefusals
+pub mod Cleared
+pub mod Creations
+pub mod Labelled

@@ -1,8 +1,13 @@
 //! A new pool.
 
-ghost use Rattle.std.specs.Prelude.{◌≡◌, ◌⊎◌, IfErr, IfOk, OnOk};
+ghost use Rattle.std.specs.Prelude.{◌≡◌, ◌⊎◌, IfErr, IfOk, IsTrue, List, OnOk, [], ℕ};
 ghost use Rattle.base.specs.Calls.{HasCause};
+ghost use Rattle.base.specs.Disk.{CrashLeaves, bytes_of};
+ghost use Rattle.base.specs.Geometry.{IsGeometry};
+ghost use Rattle.import_replay.specs.Cleared.{AreTailsCleared, IsCleared, zeros};
 ghost use Rattle.import_replay.specs.CreateRefusals.{CanCreate, IsCreateRefusal};
+ghost use Rattle.import_replay.specs.Creations.{IsCreatedOn, IsNewPool, first_config};
+ghost use Rattle.import_replay.specs.Labelled.{HoldConfig, IsLabelled};
 
 use base::{FIRST_GROUP, Group, Pointer, PoolError, PoolName};
 use checked_blocks::Block;
@@ -19,7 +24,9 @@ const TAIL_SIZE: usize = 245_760;
 ///
 /// The name/value areas, the uberblock arrays and all blocks are cleared to zeros and flushed; then four configs of group
 /// 4 are written and flushed, and then uberblock 4, with no tree and no log, in each label (On-Disk Specification, chapter
-/// 1). A create that is refused while it writes promises nothing of the device. It takes no memory.
+/// 1), which are flushed too. So a device that keeps the model of a disk then holds all this, whatever a crash makes of
+/// it, and mounts an empty pool. A create that is refused while it writes promises nothing of what the device holds. It
+/// takes no memory.
 ///
 /// # Errors
 /// `BadGeometry` where the device's size is none that a pool may have; `BadRange` where the name is none; before either no
@@ -34,7 +41,13 @@ pub fn create<D: SectorDevice>(
     ensures made { OnOk result (CanCreate (D.size device) name.now) }
     ensures count { IfOk result (λ d. D.refused d ≡ D.refused device) }
     ensures given_back { IfErr result (λ e. D.size e.1 ≡ D.size device) }
+    ensures untouched { IfErr result (λ e. (e.0 ≡ PoolError.BadGeometry) ⊎ (e.0 ≡ PoolError.BadRange) → e.1 ≡ device) }
     ensures refused { IfErr result (λ e. IsCreateRefusal (D.size device) name.now (D.refused device) (D.refused e.1) e.0) }
+    ensures created { IfOk result (λ d. IsTrue D.keeps_model → IsCreatedOn (bytes_of (D.disk d).now) name.now guid) }
+    ensures settled { IfOk result (λ d. IsTrue D.keeps_model
+        → CrashLeaves (λ image. IsCreatedOn image name.now guid) (D.disk d).now) }
+    ensures written { IfOk result (λ d. IsTrue D.keeps_model
+        → CrashLeaves (λ image. IsNewPool image name.now guid moment) (D.disk d).now) }
 {
     let geometry = match Geometry::of(device.sectors()) {
         Ok(geometry) => geometry,
@@ -56,10 +69,14 @@ fn initialize<D: SectorDevice>(
     guid: u64,
     moment: u64,
 ) -> Result<(), PoolError>
-    requires { D.size device.old ≡ geometry }
+    requires size { D.size device.old ≡ geometry }
+    requires geometry { IsGeometry geometry }
     ensures size { D.size device.new ≡ D.size device.old }
     ensures cause { HasCause (D.refused device.old) (D.refused device.new) result }
     ensures named { IfErr result (λ e. (e ≡ PoolError.Write) ⊎ (e ≡ PoolError.Flush)) }
+    ensures labels { IsTrue D.keeps_model
+        → OnOk result (IsLabelled geometry name guid moment (bytes_of (D.disk device.new).now)) }
+    ensures settled { IsTrue D.keeps_model → OnOk result ((D.disk device.new).now.unflushed ≡ []) }
 {
     clear_labels(device, geometry)?;
     clear_blocks(device, geometry)?;
@@ -71,10 +88,12 @@ fn initialize<D: SectorDevice>(
 }
 
 fn clear_labels<D: SectorDevice>(device: &mut D, geometry: Geometry) -> Result<(), PoolError>
-    requires { D.size device.old ≡ geometry }
+    requires size { D.size device.old ≡ geometry }
+    requires geometry { IsGeometry geometry }
     ensures size { D.size device.new ≡ D.size device.old }
     ensures cause { HasCause (D.refused device.old) (D.refused device.new) result }
     ensures named { IfErr result (λ e. (e ≡ PoolError.Write) ⊎ (e ≡ PoolError.Flush)) }
+    ensures cleared { IsTrue D.keeps_model → OnOk result (AreTailsCleared geometry 4 (bytes_of (D.disk device.new).now)) }
 {
     let zeros = zero_tail();
     for label in 0..4 {
@@ -83,15 +102,20 @@ fn clear_labels<D: SectorDevice>(device: &mut D, geometry: Geometry) -> Result<(
     Ok(())
 }
 
-fn zero_tail() -> [u8; TAIL_SIZE] {
+fn zero_tail() -> [u8; TAIL_SIZE]
+    ensures { result ≡ zeros 245760 }
+{
     [0; TAIL_SIZE]
 }
 
 fn clear_blocks<D: SectorDevice>(device: &mut D, geometry: Geometry) -> Result<(), PoolError>
-    requires { D.size device.old ≡ geometry }
+    requires size { D.size device.old ≡ geometry }
+    requires geometry { IsGeometry geometry }
     ensures size { D.size device.new ≡ D.size device.old }
     ensures cause { HasCause (D.refused device.old) (D.refused device.new) result }
     ensures named { IfErr result (λ e. (e ≡ PoolError.Write) ⊎ (e ≡ PoolError.Flush)) }
+    ensures cleared { IsTrue D.keeps_model → AreTailsCleared geometry 4 (bytes_of (D.disk device.old).now)
+        → OnOk result (IsCleared geometry (bytes_of (D.disk device.new).now)) }
 {
     let zeros = [0; 4096];
     for index in 0..geometry.blocks() {
@@ -106,10 +130,15 @@ fn write_configs<D: SectorDevice>(
     name: PoolName,
     guid: u64,
 ) -> Result<(), PoolError>
-    requires { D.size device.old ≡ geometry }
+    requires size { D.size device.old ≡ geometry }
+    requires geometry { IsGeometry geometry }
     ensures size { D.size device.new ≡ D.size device.old }
     ensures cause { HasCause (D.refused device.old) (D.refused device.new) result }
     ensures named { IfErr result (λ e. (e ≡ PoolError.Write) ⊎ (e ≡ PoolError.Flush)) }
+    ensures cleared { IsTrue D.keeps_model → IsCleared geometry (bytes_of (D.disk device.old).now)
+        → OnOk result (IsCleared geometry (bytes_of (D.disk device.new).now)) }
+    ensures configs { IsTrue D.keeps_model
+        → OnOk result (HoldConfig geometry 4 (first_config name guid geometry) (bytes_of (D.disk device.new).now)) }
 {
     let config = LabelConfig::new(guid, Group(FIRST_GROUP), geometry.size(), name);
     let block = config.encode();
@@ -125,10 +154,14 @@ fn write_uberblocks<D: SectorDevice>(
     guid: u64,
     moment: u64,
 ) -> Result<(), PoolError>
-    requires { D.size device.old ≡ geometry }
+    requires size { D.size device.old ≡ geometry }
+    requires geometry { IsGeometry geometry }
     ensures size { D.size device.new ≡ D.size device.old }
     ensures cause { HasCause (D.refused device.old) (D.refused device.new) result }
     ensures named { IfErr result (λ e. (e ≡ PoolError.Write) ⊎ (e ≡ PoolError.Flush)) }
+    ensures labels { IsTrue D.keeps_model → IsCleared geometry (bytes_of (D.disk device.old).now) → (name : List ℕ)
+        → HoldConfig geometry 4 (first_config name guid geometry) (bytes_of (D.disk device.old).now)
+        → OnOk result (IsLabelled geometry name guid moment (bytes_of (D.disk device.new).now)) }
 {
     let uberblock = Uberblock {
         group: Group(FIRST_GROUP),

@@ -8,6 +8,7 @@ use Rattle.std.proofs.lemmas.List.{take_more, map-append}
 use Rattle.std.proofs.lemmas.List.Folds.{list_any-append}
 use Rattle.std.proofs.lemmas.Cmp.{nat_cmp_total}
 use Rattle.std.proofs.Math.Logic.{∥∥₁_elim}
+use mathlib.Core.Bool.{Bool-set}
 use Rattle.std.proofs.lemmas.Bool.{and_from, and_parts, eq-eqb, eqb-true, le-leb, leb-true, lt-ltb, ltb-true}
 use Rattle.std.specs.FinSet as set
 use Rattle.std.specs.FinSet.{FinSet, contains-empty, contains-insert, contains-remove, contains-from_list, contains-difference, contains-union, same_set, nat_cmp-IsAntisymmetric}
@@ -108,23 +109,13 @@ block_of blocks address h =
 -- and the address of a block passes it
 pub block_passes : (blocks address : ℕ) → IsBlockAddress blocks address → is_block_of blocks address ≡ true
 block_passes blocks address (k, low, at) =
-    let offset : address - block_area ≡ block_size * k = omega arith in
-    let whole : (address - block_area) % block_size ≡ 0 = ap (λ n. n % block_size) offset ∙ mod-mul k in
-    let index : (address - block_area) / block_size ≡ k = ap (λ n. n / block_size) offset ∙ div-mul k in
+    let whole : (address - block_area) % block_size ≡ 0 = omega arith in
+    let index : (address - block_area) / block_size ≡ k = omega arith in
     let above : block_area ≤ address = omega arith in
     let within : (address - block_area) / block_size < blocks = omega (arith, index, low) in
     and_from (nat_le block_area address && (((address - block_area) % block_size) == 0)) (nat_lt ((address - block_area) / block_size) blocks)
     (and_from (nat_le block_area address) (((address - block_area) % block_size) == 0) (le-leb block_area address above) (eq-eqb ((address - block_area) % block_size) 0 whole))
     (lt-ltb ((address - block_area) / block_size) blocks within)
-  where
-    parts : (k : ℕ) → _
-    parts k = div-add-mod (block_size * k) block_size
-
-    mod-mul : (k : ℕ) → (block_size * k) % block_size ≡ 0
-    mod-mul k = let p = parts k in let low = mod-lt (block_size * k) block_size in omega (arith, p, low)
-
-    div-mul : (k : ℕ) → (block_size * k) / block_size ≡ k
-    div-mul k = let p = parts k in let low = mod-lt (block_size * k) block_size in omega (arith, p, low)
 
 -- the addresses that come back are those of blocks, where the pointers of the tree are placed
 pub are_blocks : (blocks : ℕ) (tree : Tree) (freed : List ℕ) → ∥ ArePlaced blocks (kept.pointers_of tree) ∥₁

@@ -1,6 +1,15 @@
 use Rattle.std.proofs.Common.{◌≡◌}
+use Rattle.std.specs.Prelude.{IsTrue}
+use Rattle.base.specs.Disk.{bytes_of}
+use Rattle.import_replay.specs.Cleared.{AreTailsCleared, AreBlocksCleared}
 use Rattle.import_replay.proofs.creation.clear_blocks.Given as goal
 
--- the device keeps its size, and refused no call
+-- the device keeps its size, and refused no call; where it keeps the model, this is what its labels hold so far
 abbrev pub invariant-loop-index : goal.invariant-loop-index
-invariant-loop-index g l = (g.D.SectorDevice.size l.device ≡ l.geometry) × (g.D.SectorDevice.size l.device ≡ g.D.SectorDevice.size l.fn.device) × (g.D.SectorDevice.refused l.device ≡ g.D.SectorDevice.refused l.fn.device)
+invariant-loop-index g l = record {
+  sized : g.D.SectorDevice.size l.device ≡ l.geometry;
+  size : g.D.SectorDevice.size l.device ≡ g.D.SectorDevice.size l.fn.device;
+  refused : g.D.SectorDevice.refused l.device ≡ g.D.SectorDevice.refused l.fn.device;
+  blocks : IsTrue g.D.SectorDevice.keeps_model → AreBlocksCleared l.index (bytes_of (g.D.SectorDevice.disk l.device).now);
+  tails : IsTrue g.D.SectorDevice.keeps_model → AreTailsCleared l.geometry 4 (bytes_of (g.D.SectorDevice.disk l.fn.device).now) → AreTailsCleared l.geometry 4 (bytes_of (g.D.SectorDevice.disk l.device).now);
+}

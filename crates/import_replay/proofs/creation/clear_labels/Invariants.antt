@@ -1,6 +1,14 @@
 use Rattle.std.proofs.Common.{◌≡◌}
+use Rattle.std.specs.Prelude.{IsTrue}
+use Rattle.base.specs.Disk.{bytes_of}
+use Rattle.import_replay.specs.Cleared.{AreTailsCleared}
 use Rattle.import_replay.proofs.creation.clear_labels.Given as goal
 
--- the device keeps its size, and refused no call
+-- the device keeps its size, and refused no call; where it keeps the model, this is what its labels hold so far
 abbrev pub invariant-loop-label : goal.invariant-loop-label
-invariant-loop-label g l = (g.D.SectorDevice.size l.device ≡ l.geometry) × (g.D.SectorDevice.size l.device ≡ g.D.SectorDevice.size l.fn.device) × (g.D.SectorDevice.refused l.device ≡ g.D.SectorDevice.refused l.fn.device)
+invariant-loop-label g l = record {
+  sized : g.D.SectorDevice.size l.device ≡ l.geometry;
+  size : g.D.SectorDevice.size l.device ≡ g.D.SectorDevice.size l.fn.device;
+  refused : g.D.SectorDevice.refused l.device ≡ g.D.SectorDevice.refused l.fn.device;
+  cleared : IsTrue g.D.SectorDevice.keeps_model → AreTailsCleared l.geometry l.label (bytes_of (g.D.SectorDevice.disk l.device).now);
+}

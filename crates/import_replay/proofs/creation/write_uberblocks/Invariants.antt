@@ -1,6 +1,19 @@
-use Rattle.std.proofs.Common.{◌≡◌}
+use Rattle.std.proofs.Common.{ℕ, ◌≡◌, List}
+use Rattle.std.specs.Prelude.{IsTrue}
+use Rattle.base.specs.Disk.{bytes_of}
+use Rattle.import_replay.specs.Creations.{first_config, first_uberblock}
+use Rattle.import_replay.specs.Cleared.{IsCleared}
+use Rattle.import_replay.specs.Labelled.{HoldConfig, HoldUberblock}
 use Rattle.import_replay.proofs.creation.write_uberblocks.Given as goal
 
--- the device keeps its size, and refused no call
+-- the device keeps its size, and refused no call; where it keeps the model, this is what its labels hold so far
 abbrev pub invariant-loop-label : goal.invariant-loop-label
-invariant-loop-label g l = (g.D.SectorDevice.size l.device ≡ l.geometry) × (g.D.SectorDevice.size l.device ≡ g.D.SectorDevice.size l.fn.device) × (g.D.SectorDevice.refused l.device ≡ g.D.SectorDevice.refused l.fn.device)
+invariant-loop-label g l = record {
+  sized : g.D.SectorDevice.size l.device ≡ l.geometry;
+  size : g.D.SectorDevice.size l.device ≡ g.D.SectorDevice.size l.fn.device;
+  refused : g.D.SectorDevice.refused l.device ≡ g.D.SectorDevice.refused l.fn.device;
+  cleared : IsTrue g.D.SectorDevice.keeps_model → IsCleared l.geometry (bytes_of (g.D.SectorDevice.disk l.fn.device).now) → IsCleared l.geometry (bytes_of (g.D.SectorDevice.disk l.device).now);
+  configs : IsTrue g.D.SectorDevice.keeps_model → (name : List ℕ) → HoldConfig l.geometry 4 (first_config name l.guid l.geometry) (bytes_of (g.D.SectorDevice.disk l.fn.device).now)
+      → HoldConfig l.geometry 4 (first_config name l.guid l.geometry) (bytes_of (g.D.SectorDevice.disk l.device).now);
+  uberblocks : IsTrue g.D.SectorDevice.keeps_model → HoldUberblock l.geometry l.label (first_uberblock l.guid l.moment) (bytes_of (g.D.SectorDevice.disk l.device).now);
+}

@@ -1,0 +1,2 @@
+pub mod LabelWrites
+pub mod NewLabels

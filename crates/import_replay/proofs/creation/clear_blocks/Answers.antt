@@ -1,0 +1,29 @@
+use Rattle.std.proofs.Common.{ℕ, ◌≡◌, ◌<◌, ◌+◌, ◌∙◌, replicate, refl, subst, arith}
+use Rattle.std.proofs.lemmas.List.{length-replicate}
+use Rattle.base.specs.Disk.{bytes_of}
+use Rattle.base.specs.Geometry.{block_count}
+use Rattle.import_replay.specs.Cleared.{AreBlocksCleared, AreTailsCleared}
+use Rattle.import_replay.proofs.LabelWrites.{after_write, block_beside, block_next}
+use Rattle.import_replay.proofs.creation.clear_blocks.Goals as goal
+
+pub loop-index-preserved : goal.loop-index-preserved
+loop-index-preserved g c =
+    let below : c.loop-index.index < block_count c.args.geometry = omega (arith, c.loop-index-test.true, c.blocks-index-end.ensures) in
+    record {
+      sized = c.write.ensures.size ∙ c.loop-index.invariant.sized;
+      size = c.write.ensures.size ∙ c.loop-index.invariant.size;
+      refused = c.in_ok-write.ensures.count.answered ∙ c.loop-index.invariant.refused;
+      blocks = λ keeps.
+          let long = g.met.D.SectorDevice.sized keeps c.loop-index.device ∙ c.loop-index.invariant.sized in
+          after_write (AreBlocksCleared (c.loop-index.index + 1)) _ _ _ _ _ (c.in_ok-write.ensures.disk keeps) c.block_address.ensures.address
+          (block_next c.args.geometry c.requires.geometry _ long c.loop-index.index 4096 (replicate 4096 0) below (length-replicate {A = ℕ} 4096 0) refl (c.loop-index.invariant.blocks keeps));
+      tails = λ keeps cleared.
+          let long = g.met.D.SectorDevice.sized keeps c.loop-index.device ∙ c.loop-index.invariant.sized in
+          after_write (AreTailsCleared c.args.geometry 4) _ _ _ _ _ (c.in_ok-write.ensures.disk keeps) c.block_address.ensures.address
+          (block_beside c.args.geometry c.requires.geometry _ long c.loop-index.index (replicate 4096 0) below (length-replicate {A = ℕ} 4096 0) (c.loop-index.invariant.tails keeps cleared));
+    }
+
+pub returns-clause-cleared : goal.returns-clause-cleared
+returns-clause-cleared g c = λ keeps cleared.
+    let end : c.loop-index.index ≡ block_count c.args.geometry = omega (arith, c.blocks-index-end.ensures) in
+    (c.loop-index.invariant.tails keeps cleared, subst (λ (n : ℕ). AreBlocksCleared n (bytes_of (g.D.SectorDevice.disk c.loop-index.device).now)) end (c.loop-index.invariant.blocks keeps))

@@ -1,0 +1,19 @@
+use Rattle.import_replay.specs.Creations.{first_config}
+use Rattle.import_replay.specs.Cleared.{IsCleared}
+use Rattle.import_replay.specs.Labelled.{HoldConfig, IsLabelled}
+use Rattle.import_replay.proofs.LabelWrites.{after_flush, after_last_flush, settles}
+use Rattle.import_replay.proofs.creation.initialize.Goals as goal
+
+pub returns-clause-labels : goal.returns-clause-labels
+returns-clause-labels g c = λ keeps.
+    let disk = g.D.SectorDevice.disk in
+    let cleared = c.in_ok-clear_blocks.ensures.cleared keeps (c.in_ok-clear_labels.ensures.cleared keeps) in
+    let flushed = after_flush (IsCleared c.args.geometry) (disk c.clear_blocks.new.device) (disk c.flush.new.self) (c.in_ok-flush.ensures.disk keeps) cleared in
+    let beside = after_flush (IsCleared c.args.geometry) (disk c.write_configs.new.device) (disk c.flush-2.new.self) (c.in_ok-flush-2.ensures.disk keeps) (c.in_ok-write_configs.ensures.cleared keeps flushed) in
+    let configs = after_flush (HoldConfig c.args.geometry 4 (first_config c.args.name c.args.guid c.args.geometry)) (disk c.write_configs.new.device) (disk c.flush-2.new.self) (c.in_ok-flush-2.ensures.disk keeps) (c.in_ok-write_configs.ensures.configs keeps) in
+    after_last_flush (IsLabelled c.args.geometry c.args.name c.args.guid c.args.moment) (disk c.write_uberblocks.new.device) (disk c.flush-3.new.self) c.flush-3.result (c.flush-3.ensures.disk keeps)
+    (c.in_ok-write_uberblocks.ensures.labels keeps beside c.args.name configs)
+
+pub returns-clause-settled : goal.returns-clause-settled
+returns-clause-settled g c = λ keeps.
+    settles (g.D.SectorDevice.disk c.write_uberblocks.new.device) (g.D.SectorDevice.disk c.flush-3.new.self) c.flush-3.result (c.flush-3.ensures.disk keeps)

@@ -1,0 +1,23 @@
+-- How far the labels of a new pool are written, on a device of so many bytes.
+use Rattle.std.specs.Prelude.{ℕ, ◌<◌, List}
+use Rattle.base.specs.Fields.{part}
+use Rattle.base.specs.Limits.{first_group}
+use Rattle.base.specs.Geometry.{block_size, config_place, slot_place, slot_of}
+use Rattle.base.specs.Uberblocks.{Uberblock, IsUberblock, slot_size}
+use Rattle.base.specs.Labels.{Config}
+use Rattle.labels.specs.Configs.{IsConfigBlock}
+use Rattle.import_replay.specs.Cleared.{IsCleared}
+use Rattle.import_replay.specs.Creations.{first_config, first_uberblock}
+
+-- the labels below n hold this config
+abbrev pub HoldConfig : ℕ → ℕ → Config → List ℕ → Type 0
+HoldConfig size n config image = (label : ℕ) → label < n → IsConfigBlock (part image (config_place size label) block_size) size config
+
+-- the labels below n have this uberblock in the slot of the first group
+abbrev pub HoldUberblock : ℕ → ℕ → Uberblock → List ℕ → Type 0
+HoldUberblock size n u image = (label : ℕ) → label < n → IsUberblock (part image (slot_place size label (slot_of first_group)) slot_size) u
+
+-- a new pool is written
+abbrev pub IsLabelled : ℕ → List ℕ → ℕ → ℕ → List ℕ → Type 0
+IsLabelled size name guid moment image =
+    IsCleared size image × HoldConfig size 4 (first_config name guid size) image × HoldUberblock size 4 (first_uberblock guid moment) image
