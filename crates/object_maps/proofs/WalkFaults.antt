@@ -28,7 +28,7 @@ block_missing image frame size kind number pointer e bytes named at not payload 
     (record { kind_is = named.kind_is; guid_is = named.guid_is; number_is = named.number_is; group_is = named.group_is; check_is = named.check_is }) at opens)
 
 -- a block has an address
-there : (image : List ℕ) (frame : Frame) (kind number : ℕ) (pointer : Pointer) (payload : List ℕ) → Opens image frame kind number pointer payload → (pointer.address ≡ 0) → ⊥
+pub there : (image : List ℕ) (frame : Frame) (kind number : ℕ) (pointer : Pointer) (payload : List ℕ) → Opens image frame kind number pointer payload → (pointer.address ≡ 0) → ⊥
 there image frame kind number pointer payload opens zero = let a = opens.in_area in omega (arith, a.2, zero)
 
 same_payload : (image : List ℕ) (frame : Frame) (kind number : ℕ) (pointer : Pointer) (a b : List ℕ) → Opens image frame kind number pointer a → Opens image frame kind number pointer b → a ≡ b
@@ -103,10 +103,10 @@ record_sound image frame root n r size count pointer payload hn hr named_by open
     sound_one image frame root (Data n r) (walk_index_of (Data n r)) (walk_index_of (Data n r) + 1) (hn, hr) refl refl
     (sound_at image frame root (Data n r) pointer payload named_by.at opens (subst (λ (k : ℕ). drop k payload ≡ replicate (record_size - k) 0) (sym past) padded))
 
-same-kind : (k a m b : ℕ) → Damaged k a ≡ Damaged m b → k ≡ m
+pub same-kind : (k a m b : ℕ) → Damaged k a ≡ Damaged m b → k ≡ m
 same-kind k a m b e = cc
 
-same-address : (k a m b : ℕ) → Damaged k a ≡ Damaged m b → a ≡ b
+pub same-address : (k a m b : ℕ) → Damaged k a ≡ Damaged m b → a ≡ b
 same-address k a m b e = cc
 
 -- a block that does not open is what its refusal tells

@@ -8,7 +8,7 @@ ghost use Rattle.base.specs.Disk.{bytes_of};
 ghost use Rattle.base.specs.Geometry.{block_count, IsBlockAddress};
 ghost use Rattle.base.specs.Blocks.{Opens};
 ghost use Rattle.base.specs.Tree.{record_bytes};
-ghost use Rattle.base.specs.Faults.{IsPointerForm, IsEntryForm, IsRecordPointerForm};
+ghost use Rattle.base.specs.Faults.{IsPointerForm, IsEntryForm, IsRecordPointerForm, IsFirstFault};
 ghost use Rattle.base.specs.PlacedTrees.{HoldsTree, ArePlaced};
 ghost use Rattle.checked_blocks.proofs.NamedBlocks.{IsNamed};
 ghost use Rattle.object_maps.specs.Pointers.{pointers_of, objects_of, pointer_of_list};
@@ -248,6 +248,10 @@ pub fn load<D: SectorDevice>(
     // It is the one that the image holds.
     ensures held { IsTrue D.keeps_model → IfOk result (λ l. HoldsTree (bytes_of (D.disk device.old).now)
         (frame_of frame.now geometry) (pointers_of l.tree) (objects_of l.slots.items)) }
+
+    // And the block that is told damaged is the first fault of the walk.
+    ensures fault { IsTrue D.keeps_model → IfErr result (λ e. (kind address : ℕ) → e ≡ PoolError.Damaged kind address
+        → IsFirstFault (bytes_of (D.disk device.old).now) (frame_of frame.now geometry) root kind address) }
 {
     let mut slots = empty_slots(alloc)?;
     let mut maps = empty_maps(alloc)?;

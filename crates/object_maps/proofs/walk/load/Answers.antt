@@ -2,6 +2,8 @@ use Rattle.std.proofs.Common.{◌∙◌, ℕ, List, refl}
 use Rattle.base.specs.Disk.{bytes_of}
 use Rattle.object_maps.specs.Loading.{frame_of}
 use Rattle.object_maps.proofs.LoadedTrees.{all_empty, no_pointers, standing_tree, length-standing, tree_placed, tree_bounded, tree_holds}
+use Rattle.std.proofs.lemmas.Result.{err_from_is_err_and}
+use Rattle.object_maps.proofs.WalkParts.{first_fault}
 use Rattle.object_maps.proofs.walk.load.Goals as goal
 
 pub load_tree-requires-clause-no_directories : goal.load_tree-requires-clause-no_directories
@@ -44,3 +46,9 @@ returns-clause-held g c =
     (c.in_ok-load_tree.ensures.loaded image (λ keeps. refl)) in
     let long = length-standing c.load_tree.new.slots c.in_ok-slots.slots.items c.in_ok-slots.slots.len (c.load_tree.auto.slots ∙ c.deref_mut-2.ensures.len) ∙ c.in_ok-slots.ensures.0 in
     tree_holds g.D.SectorDevice.keeps_model image (frame_of c.args.frame.now c.args.geometry) c.args.root _ _ _ long tree
+
+pub returns-in_err-load_tree-clause-fault : goal.returns-in_err-load_tree-clause-fault
+returns-in_err-load_tree-clause-fault g c = λ keeps.
+    let p = err_from_is_err_and c.from_residual-in_err-load_tree.result c.from_residual-in_err-load_tree.ensures.1 in
+    let image : List ℕ = bytes_of (g.D.SectorDevice.disk c.args.device.now).now in
+    rw (p.1, p.2) (first_fault image (frame_of c.args.frame.now c.args.geometry) c.args.root c.in_err-load_tree.field-0.0 (c.in_err-load_tree.ensures.fault keeps image refl))

@@ -1,12 +1,15 @@
-use Rattle.std.proofs.Common.{ℕ, List, refl, sym, subst}
+use Rattle.std.proofs.Common.{◌≡◌, ◌+◌, ◌*◌, ◌∙◌, ℕ, List, refl, ap, sym, subst}
 use Rattle.std.specs.Prelude.{IsTrue}
-use Rattle.std.proofs.lemmas.Result.{on_ok_weaker}
-use Rattle.base.specs.Disk.{bytes_of}
+use Rattle.std.proofs.lemmas.Result.{on_ok_weaker, IfErr-weaker, err_from_is_err_and}
+use Rattle.base.specs.Disk.{Disk, bytes_of}
 use Rattle.base.specs.Places.Place.{Directory}
 use Rattle.base.specs.Tree.{OpensAt}
 use Rattle.object_maps.specs.Loading.{frame_of}
 use Rattle.object_maps.proofs.LoadedBlocks.{still_shows}
 use Rattle.object_maps.proofs.LoadedEntries.{directory_loaded}
+use Rattle.object_maps.specs.Walking.{TellsFault}
+use Rattle.object_maps.proofs.WalkFaults.{sound_at, missing_fault, formless_fault}
+use Rattle.object_maps.proofs.WalkParts.{directory_sound, directory_tells}
 use Rattle.object_maps.proofs.walk.load_directory.Goals as goal
 
 pub returns-clause-loaded : goal.returns-clause-loaded
@@ -26,3 +29,40 @@ pub returns-clause-others : goal.returns-clause-others
 returns-clause-others g c =
     on_ok_weaker c.load_entries.result (λ loaded. loaded.others)
     (c.load_entries.ensures.loaded (bytes_of (g.D.SectorDevice.disk c.read_block.new.device).now) (λ keeps. refl))
+
+pub returns-in_err-read_block-clause-fault : goal.returns-in_err-read_block-clause-fault
+returns-in_err-read_block-clause-fault g c = λ keeps image top shows at named.
+    let p = err_from_is_err_and c.from_residual.result c.from_residual.ensures.1 in
+    rw (p.1, p.2) (missing_fault image (frame_of c.args.frame.now c.args.geometry) top (Directory c.args.directory) (1 + 5356 * c.args.directory) c.args.pointer.now
+    c.in_err-read_block.field-0.0 c.requires.in_range refl at named (c.in_err-read_block.ensures.refused keeps image shows))
+
+pub returns-then-not-are_entries-clause-fault : goal.returns-then-not-are_entries-clause-fault
+returns-then-not-are_entries-clause-fault g c = λ keeps image top shows at named.
+    let frame = frame_of c.args.frame.now c.args.geometry in
+    let opens = subst (λ (l : List ℕ). OpensAt image frame (Directory c.args.directory) c.args.pointer.now l) (sym c.payload_of-payload.ensures.payload)
+    (c.in_ok-read_block.ensures.opens image (λ k. shows) keeps) in
+    formless_fault image frame top (Directory c.args.directory) (1 + 5356 * c.args.directory) c.args.pointer.now c.payload_of-payload.result.now c.damaged.result c.requires.in_range refl at named
+    opens (λ formed. let no = c.if-not-are_entries.ensures.1 formed in cc) c.damaged.ensures
+
+pub returns-clause-sound : goal.returns-clause-sound
+returns-clause-sound g c = λ keeps image top shows at named.
+    let frame = frame_of c.args.frame.now c.args.geometry in
+    let payload : List ℕ = c.payload_of-payload.result.now in
+    let opens = subst (λ (l : List ℕ). OpensAt image frame (Directory c.args.directory) c.args.pointer.now l) (sym c.payload_of-payload.ensures.payload)
+    (c.in_ok-read_block.ensures.opens image (λ k. shows) keeps) in
+    on_ok_weaker c.load_entries.result
+    (directory_sound image frame top c.args.directory c.requires.in_range (sound_at image frame top (Directory c.args.directory) c.args.pointer.now payload at opens (c.if-not-are_entries.ensures.0 refl)))
+    (c.load_entries.ensures.sound keeps image top (ap (λ (d : Disk). bytes_of d.now) (c.in_ok-read_block.ensures.disk keeps) ∙ shows)
+    (record { pointer = c.args.pointer.now; at = at; opens = opens }))
+
+pub returns-clause-fault : goal.returns-clause-fault
+returns-clause-fault g c = λ keeps image top shows at named.
+    let frame = frame_of c.args.frame.now c.args.geometry in
+    let payload : List ℕ = c.payload_of-payload.result.now in
+    let opens = subst (λ (l : List ℕ). OpensAt image frame (Directory c.args.directory) c.args.pointer.now l) (sym c.payload_of-payload.ensures.payload)
+    (c.in_ok-read_block.ensures.opens image (λ k. shows) keeps) in
+    IfErr-weaker c.load_entries.result (TellsFault image frame top (2 + 5356 * c.args.directory)) (TellsFault image frame top (1 + 5356 * c.args.directory))
+    (λ e. directory_tells image frame top c.args.directory e c.requires.in_range
+    (sound_at image frame top (Directory c.args.directory) c.args.pointer.now payload at opens (c.if-not-are_entries.ensures.0 refl)))
+    (c.load_entries.ensures.fault keeps image top (ap (λ (d : Disk). bytes_of d.now) (c.in_ok-read_block.ensures.disk keeps) ∙ shows)
+    (record { pointer = c.args.pointer.now; at = at; opens = opens }))

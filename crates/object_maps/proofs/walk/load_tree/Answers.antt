@@ -1,11 +1,15 @@
-use Rattle.std.proofs.Common.{ℕ, List, refl, sym, subst}
+use Rattle.std.proofs.Common.{◌≡◌, ◌∙◌, ℕ, List, refl, ap, sym, subst, arith}
 use Rattle.std.specs.Prelude.{IsTrue}
-use Rattle.std.proofs.lemmas.Result.{on_ok_weaker}
+use Rattle.std.proofs.lemmas.Result.{on_ok_weaker, IfErr-weaker, err_from_is_err_and}
 use Rattle.base.specs.Places.Place.{Root}
 use Rattle.base.specs.Tree.{OpensAt}
 use Rattle.object_maps.specs.Loading.{frame_of}
 use Rattle.object_maps.proofs.LoadedBlocks.{still_shows}
 use Rattle.object_maps.proofs.LoadedTrees.{no_tree, tree_loaded}
+use Rattle.base.specs.Disk.{Disk, bytes_of}
+use Rattle.object_maps.specs.Walking.{TellsFault}
+use Rattle.object_maps.proofs.WalkFaults.{missing_fault, formless_fault}
+use Rattle.object_maps.proofs.WalkParts.{tells_behind, root_sound, root_fault, directories_linked}
 use Rattle.object_maps.proofs.walk.load_tree.Goals as goal
 
 pub returns-then-is_none-clause-loaded : goal.returns-then-is_none-clause-loaded
@@ -25,3 +29,31 @@ returns-clause-loaded g c = λ image shows.
     (tree_loaded keeps_model image frame c.args.root.now c.read_pointers.new.pointers c.payload_of-payload.result.now c.load_directories.new.slots
     c.load_directories.new.maps read.placed opens c.read_pointers.ensures)
     (c.load_directories.ensures.loaded image same)
+
+pub returns-then-root-eq0-clause-fault : goal.returns-then-root-eq0-clause-fault
+returns-then-root-eq0-clause-fault g c = λ keeps image shows.
+    root_fault image (frame_of c.args.frame.now c.args.geometry) c.args.root.now c.damaged.result c.if-root-eq0.true (λ none. let no = c.if-is_none.ensures.1 none in cc) c.damaged.ensures
+
+pub returns-in_err-read_block-clause-fault : goal.returns-in_err-read_block-clause-fault
+returns-in_err-read_block-clause-fault g c = λ keeps image shows.
+    let p = err_from_is_err_and c.from_residual.result c.from_residual.ensures.1 in
+    rw (p.1, p.2) (missing_fault image (frame_of c.args.frame.now c.args.geometry) c.args.root.now Root 0 c.args.root.now
+    c.in_err-read_block.field-0.0 (tt {0}) refl refl (λ none. let no = c.if-is_none.ensures.1 none in cc) (c.in_err-read_block.ensures.refused keeps image shows))
+
+pub returns-then-not-have_form-clause-fault : goal.returns-then-not-have_form-clause-fault
+returns-then-not-have_form-clause-fault g c = λ keeps image shows.
+    let frame = frame_of c.args.frame.now c.args.geometry in
+    let opens = subst (λ (l : List ℕ). OpensAt image frame Root c.args.root.now l) (sym c.payload_of-payload.ensures.payload) (c.in_ok-read_block.ensures.opens image (λ k. shows) keeps) in
+    formless_fault image frame c.args.root.now Root 0 c.args.root.now c.payload_of-payload.result.now c.damaged-then-not-have_form.result (tt {0}) refl refl (λ none. let no = c.if-is_none.ensures.1 none in cc)
+    opens (λ formed. let no = c.if-not-have_form.ensures.1 formed in cc) c.damaged-then-not-have_form.ensures
+
+pub returns-clause-fault : goal.returns-clause-fault
+returns-clause-fault g c = λ keeps image shows.
+    let frame = frame_of c.args.frame.now c.args.geometry in
+    let root = c.args.root.now in
+    let payload : List ℕ = c.payload_of-payload.result.now in
+    let opens = subst (λ (l : List ℕ). OpensAt image frame Root c.args.root.now l) (sym c.payload_of-payload.ensures.payload) (c.in_ok-read_block.ensures.opens image (λ k. shows) keeps) in
+    IfErr-weaker c.load_directories.result (TellsFault image frame root 1) (TellsFault image frame root 0)
+    (λ e. tells_behind image frame root 0 1 1 e (omega arith) refl (root_sound image frame root payload opens (c.if-not-have_form.ensures.0 refl)))
+    (c.load_directories.ensures.fault keeps image root (ap (λ (d : Disk). bytes_of d.now) (c.in_ok-read_block.ensures.disk keeps) ∙ shows)
+    (directories_linked image frame root payload c.read_pointers.new.pointers opens c.read_pointers.ensures))
