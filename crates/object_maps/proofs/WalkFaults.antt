@@ -2,16 +2,14 @@
 use Rattle.std.proofs.Common.{◌≡◌, ◌≢◌, ℕ, ◌+◌, ◌-◌, ◌*◌, ◌<◌, ◌≤◌, min, List, [], length, drop, replicate, refl, ap, sym, subst, ◌∙◌, arith, ◌⊎◌, inl, inr}
 use Rattle.std.proofs.lemmas.Bool.{cases_lt, ne_eqb}
 use Rattle.std.proofs.lemmas.List.{length-drop, drop_all}
-use Rattle.std.specs.Prelude.{Bool, true, false, IsTrue}
 use Rattle.base.specs.declared.error.PoolError.{PoolError}
 use Rattle.base.specs.declared.error.PoolError.TheVariants.{Damaged}
 use Rattle.base.specs.declared.pointer.Pointer.{Pointer}
 use Rattle.base.specs.Limits.{object_count, pointer_count, record_size}
-use Rattle.base.specs.Fields.{part, pointer_in, no_pointer}
-use Rattle.base.specs.Geometry.{block_count, block_address, IsBlockAddress}
-use Rattle.base.specs.Blocks.{Frame, Opens, payload_at}
+use Rattle.base.specs.Fields.{part, no_pointer}
+use Rattle.base.specs.Blocks.{Frame, Opens}
 use Rattle.base.specs.Places.{Place, IsPlace, kind_of, number_of, walk_index_of, pointer_of, pointer_below}
-use Rattle.base.specs.Places.Place.{Root, Directory, Indirect, Data}
+use Rattle.base.specs.Places.Place.{Data}
 use Rattle.base.specs.Faults.{IsSoundAt, IsWellFormed, length_in}
 use Rattle.checked_blocks.specs.declared.expected.Expected.{Expected}
 use Rattle.checked_blocks.specs.Opening.{IsExpected}

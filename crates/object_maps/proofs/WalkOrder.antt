@@ -1,8 +1,8 @@
 -- The order of the walk, and parts of it that are sound.
-use Rattle.std.proofs.Common.{◌≡◌, ℕ, ◌+◌, ◌*◌, ◌/◌, ◌%◌, ◌<◌, ◌≤◌, List, refl, ap, sym, subst, ◌∙◌, arith, ◌⊎◌, inl, inr}
+use Rattle.std.proofs.Common.{◌≡◌, ℕ, ◌+◌, ◌*◌, ◌/◌, ◌%◌, ◌<◌, ◌≤◌, List, refl, ap, subst, arith, ◌⊎◌, inl, inr}
 use Rattle.std.proofs.lemmas.Bool.{cases_lt}
 use Rattle.base.specs.declared.pointer.Pointer.{Pointer}
-use Rattle.base.specs.Limits.{object_count, pointer_count, entry_count}
+use Rattle.base.specs.Limits.{entry_count}
 use Rattle.base.specs.Blocks.{Frame}
 use Rattle.base.specs.Places.{Place, IsPlace, walk_index_of, walk_index_of_indirect}
 use Rattle.base.specs.Places.Place.{Root, Directory, Indirect, Data}

@@ -1,16 +1,16 @@
 -- Parts of the walk, one behind another.
-use Rattle.std.proofs.Common.{◌≡◌, ◌≢◌, ℕ, zero, suc, ◌+◌, ◌-◌, ◌*◌, ◌/◌, ◌%◌, ◌<◌, ◌≤◌, List, length, replicate, get_or, refl, ap, sym, subst, ◌∙◌, arith, ◌⊎◌, inl, inr}
+use Rattle.std.proofs.Common.{◌≡◌, ℕ, zero, suc, ◌+◌, ◌*◌, ◌/◌, ◌%◌, ◌<◌, ◌≤◌, List, length, replicate, get_or, refl, ap, sym, subst, ◌∙◌, arith, inl}
 use Rattle.std.proofs.lemmas.List.{get_or_default}
 use Rattle.base.specs.declared.error.PoolError.{PoolError}
 use Rattle.base.specs.declared.error.PoolError.TheVariants.{Damaged}
 use Rattle.base.specs.declared.pointer.Pointer.{Pointer}
 use Rattle.base.specs.Limits.{object_count, pointer_count, entry_count}
 use Rattle.base.specs.Fields.{number_at, pointer_in, entry_in, entry_length, entry_pointer, no_pointer}
-use Rattle.base.specs.Blocks.{Frame, Opens, payload_at}
-use Rattle.base.specs.Places.{Place, IsPlace, walk_index_of, walk_index_of_indirect, pointer_of, pointer_below, directory_pointer, indirect_pointer}
+use Rattle.base.specs.Blocks.{Frame, payload_at}
+use Rattle.base.specs.Places.{walk_index_of_indirect, pointer_of, pointer_below, directory_pointer}
 use Rattle.base.specs.Places.Place.{Root, Directory, Indirect, Data}
 use Rattle.base.specs.Tree.{OpensAt}
-use Rattle.base.specs.Faults.{IsPointerForm, IsSoundAt, IsWellFormed, IsRecordPointerForm, IsFirstFault, length_in}
+use Rattle.base.specs.Faults.{IsPointerForm, IsSoundAt, IsRecordPointerForm, IsFirstFault}
 use Rattle.object_maps.specs.Pointers.{pointer_of_list}
 use Rattle.object_maps.specs.Walking.{AreSound, IsFaultFrom, TellsFault, IsDataOf, AreDataOf, IsIndirectOf, IsPayloadOf, AreDirectoriesOf}
 use Rattle.object_maps.proofs.WalkOrder.{index_within, sound_none, sound_more, sound_one, fault_behind}
@@ -110,11 +110,11 @@ entry_linked image frame root d k payload low p =
     let above : directory_pointer image root ((entry_count * d + k) / entry_count) ≡ p.pointer = ap (λ (i : ℕ). directory_pointer image root i) q ∙ p.at in
     record {
       at = ap (λ (a : Pointer). pointer_below image a (λ (l : List ℕ). entry_pointer (entry_in l ((entry_count * d + k) % entry_count)))) above
-      ∙ below_block image frame 3 d p.pointer payload (λ (l : List ℕ). entry_pointer (entry_in l ((entry_count * d + k) % entry_count))) p.opens
-      ∙ ap (λ (i : ℕ). entry_pointer (entry_in payload i)) m;
+          ∙ below_block image frame 3 d p.pointer payload (λ (l : List ℕ). entry_pointer (entry_in l ((entry_count * d + k) % entry_count))) p.opens
+          ∙ ap (λ (i : ℕ). entry_pointer (entry_in payload i)) m;
       size_is = ap (λ (a : Pointer). entry_length (entry_in (payload_at image a.address) ((entry_count * d + k) % entry_count))) above
-      ∙ ap (λ (l : List ℕ). entry_length (entry_in l ((entry_count * d + k) % entry_count))) p.opens.block.payload_is
-      ∙ ap (λ (i : ℕ). entry_length (entry_in payload i)) m;
+          ∙ ap (λ (l : List ℕ). entry_length (entry_in l ((entry_count * d + k) % entry_count))) p.opens.block.payload_is
+          ∙ ap (λ (i : ℕ). entry_length (entry_in payload i)) m;
     }
 
 pub linked_entry : (image : List ℕ) (frame : Frame) (root : Pointer) (d k : ℕ) (payload : List ℕ) (pointer : Pointer) (size : ℕ) → k < entry_count → IsPayloadOf image frame root d payload

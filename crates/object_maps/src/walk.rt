@@ -14,7 +14,6 @@ ghost use Rattle.checked_blocks.proofs.NamedBlocks.{IsNamed};
 ghost use Rattle.object_maps.specs.Pointers.{pointers_of, objects_of, pointer_of_list};
 ghost use Rattle.object_maps.specs.Kinds.{kind_number};
 ghost use Rattle.object_maps.specs.Loading.{Shows, frame_of, IsLoadRefusal, IsLoadedRecord, AreLoadedRecords, IsZeroRecord, IsLoadedObject, AreEmptyFrom, SameBut, AreLoadedEntries, IsLoadedDirectory, AreLoadedDirectories, IsLoadedTree};
-
 ghost use Rattle.base.specs.declared.pointer.Pointer.{Pointer};
 ghost use Rattle.base.specs.Places.{walk_index_of, walk_index_of_indirect, pointer_of};
 ghost use Rattle.base.specs.Places.Place.{Directory, Data};

@@ -21,7 +21,7 @@ loop-index-preserved-then-is_none g c =
       count = i.count;
       empty = empty_more c.loop-index.index c.loop-index.slots c.loop-index.maps i.empty;
       sound = λ keeps image top shows all. directory_skip image (frame_of c.args.frame.now c.args.geometry) top c.loop-index.index c.args.directories.now _ c.loop-index-test.true all within
-      (c.if-is_none.ensures.0 refl) (i.sound keeps image top shows all);
+          (c.if-is_none.ensures.0 refl) (i.sound keeps image top shows all);
       loaded = λ image shows. directories_skip g.D.SectorDevice.keeps_model image (frame_of c.args.frame.now c.args.geometry) c.args.directories.now c.loop-index.index
           c.loop-index.slots c.loop-index.maps (i.loaded image shows) _ within (c.if-is_none.ensures.0 refl);
     }
@@ -37,10 +37,10 @@ loop-index-preserved g c =
       count = call.count ∙ i.count;
       empty = empty_behind c.loop-index.index c.loop-index.slots c.load_directory.new.slots c.loop-index.maps c.load_directory.new.maps i.empty call.others;
       sound = λ keeps image top shows all.
-      sound_more image (frame_of c.args.frame.now c.args.geometry) top 1 (1 + 5356 * c.loop-index.index) (1 + 5356 * (c.loop-index.index + 1)) (i.sound keeps image top shows all)
-      (call.sound keeps image top (ap (λ (d : Disk). bytes_of d.now) (i.disk keeps) ∙ shows)
-      (all.at c.loop-index.index c.loop-index-test.true ∙ get_or_default c.args.directories.now c.loop-index.index no_pointer _ within)
-      (λ none. let no = c.if-is_none.ensures.1 none in cc));
+          sound_more image (frame_of c.args.frame.now c.args.geometry) top 1 (1 + 5356 * c.loop-index.index) (1 + 5356 * (c.loop-index.index + 1)) (i.sound keeps image top shows all)
+          (call.sound keeps image top (ap (λ (d : Disk). bytes_of d.now) (i.disk keeps) ∙ shows)
+          (all.at c.loop-index.index c.loop-index-test.true ∙ get_or_default c.args.directories.now c.loop-index.index no_pointer _ within)
+          (λ none. let no = c.if-is_none.ensures.1 none in cc));
       loaded = λ image shows. directories_load g.D.SectorDevice.keeps_model image (frame_of c.args.frame.now c.args.geometry) c.args.directories.now c.loop-index.index
           c.loop-index.slots c.load_directory.new.slots c.loop-index.maps c.load_directory.new.maps (i.loaded image shows) call.others _ within
           (call.loaded image (still_shows g.D.SectorDevice.keeps_model (g.D.SectorDevice.disk c.args.device.now) (g.D.SectorDevice.disk c.loop-index.device) image i.disk shows));

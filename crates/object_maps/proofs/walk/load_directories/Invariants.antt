@@ -14,7 +14,7 @@ invariant-loop-index g l = record {
   count : g.D.SectorDevice.refused l.device ≡ g.D.SectorDevice.refused l.fn.device;
   empty : AreEmptyFrom (63 * l.index) l.slots l.maps;
   sound : IsTrue g.D.SectorDevice.keeps_model → (image : List ℕ) (top : Pointer) → bytes_of (g.D.SectorDevice.disk l.fn.device).now ≡ image
-    → AreDirectoriesOf image top l.directories → AreSound image (frame_of l.frame l.geometry) top 1 (1 + 5356 * l.index);
+      → AreDirectoriesOf image top l.directories → AreSound image (frame_of l.frame l.geometry) top 1 (1 + 5356 * l.index);
   loaded : (image : List ℕ) → Shows g.D.SectorDevice.keeps_model (g.D.SectorDevice.disk l.fn.device) image
       → AreLoadedDirectories g.D.SectorDevice.keeps_model image (frame_of l.frame l.geometry) l.directories l.index l.slots l.maps;
 }

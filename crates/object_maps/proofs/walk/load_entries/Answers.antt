@@ -21,7 +21,7 @@ loop-index-preserved-then-entry-ne1 g c =
       disk = i.disk;
       count = i.count;
       sound = λ keeps image top shows payload. entry_skip image (frame_of c.args.frame.now c.args.geometry) top c.args.directory c.loop-index.index c.args.payload.now
-      c.requires.in_range c.loop-index-test.true payload absent (i.sound keeps image top shows payload);
+          c.requires.in_range c.loop-index-test.true payload absent (i.sound keeps image top shows payload);
       loaded = λ image shows. entries_skip g.D.SectorDevice.keeps_model image (frame_of c.args.frame.now c.args.geometry) c.args.directory c.args.payload.now c.loop-index.index
           c.args.slots.now c.loop-index.slots c.args.maps.now c.loop-index.maps (i.loaded image shows) c.requires.empty absent;
     }
@@ -48,10 +48,10 @@ loop-index-preserved g c =
       disk = λ keeps. call.disk keeps ∙ i.disk keeps;
       count = call.count ∙ i.count;
       sound = λ keeps image top shows of_directory.
-      object_more image (frame_of c.args.frame.now c.args.geometry) top c.args.directory k c.loop-index-test.true (i.sound keeps image top shows of_directory)
-      (call.sound keeps image top (ap (λ (d : Disk). bytes_of d.now) (i.disk keeps) ∙ shows)
-      (linked_entry image (frame_of c.args.frame.now c.args.geometry) top c.args.directory k payload c.read_entry-entry.result.pointer c.read_entry-entry.result.length
-      c.loop-index-test.true of_directory entry.pointer entry.length));
+          object_more image (frame_of c.args.frame.now c.args.geometry) top c.args.directory k c.loop-index-test.true (i.sound keeps image top shows of_directory)
+          (call.sound keeps image top (ap (λ (d : Disk). bytes_of d.now) (i.disk keeps) ∙ shows)
+          (linked_entry image (frame_of c.args.frame.now c.args.geometry) top c.args.directory k payload c.read_entry-entry.result.pointer c.read_entry-entry.result.length
+          c.loop-index-test.true of_directory entry.pointer entry.length));
       loaded = λ image shows. entries_put g.D.SectorDevice.keeps_model image (frame_of c.args.frame.now c.args.geometry) c.args.directory payload k
           c.args.slots.now c.loop-index.slots c.args.maps.now c.loop-index.maps c.in_ok-slot.slot c.in_ok-slot.map (i.loaded image shows) slot_in map_in call.present
           (call.loaded image (still_shows g.D.SectorDevice.keeps_model (g.D.SectorDevice.disk c.args.device.now) (g.D.SectorDevice.disk c.loop-index.device) image i.disk shows))

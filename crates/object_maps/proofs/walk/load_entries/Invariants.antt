@@ -13,8 +13,8 @@ invariant-loop-index g l = record {
   disk : IsTrue g.D.SectorDevice.keeps_model → g.D.SectorDevice.disk l.device ≡ g.D.SectorDevice.disk l.fn.device;
   count : g.D.SectorDevice.refused l.device ≡ g.D.SectorDevice.refused l.fn.device;
   sound : IsTrue g.D.SectorDevice.keeps_model → (image : List ℕ) (top : Pointer) → bytes_of (g.D.SectorDevice.disk l.fn.device).now ≡ image
-    → IsPayloadOf image (frame_of l.frame l.geometry) top l.directory l.payload
-    → AreSound image (frame_of l.frame l.geometry) top (2 + 5356 * l.directory) (2 + 5356 * l.directory + 85 * l.index);
+      → IsPayloadOf image (frame_of l.frame l.geometry) top l.directory l.payload
+      → AreSound image (frame_of l.frame l.geometry) top (2 + 5356 * l.directory) (2 + 5356 * l.directory + 85 * l.index);
   loaded : (image : List ℕ) → Shows g.D.SectorDevice.keeps_model (g.D.SectorDevice.disk l.fn.device) image
       → AreLoadedEntries g.D.SectorDevice.keeps_model image (frame_of l.frame l.geometry) l.directory l.payload l.index l.fn.slots l.slots l.fn.maps l.maps;
 }

@@ -18,7 +18,7 @@ loop-index-preserved-then-is_none g c =
       disk = i.disk;
       count = i.count;
       sound = λ keeps image top shows all. record_skip image (frame_of c.args.frame.now c.args.geometry) top c.args.number c.loop-index.index (length c.args.bytes.now) c.args.records.now _
-      c.requires.in_range c.loop-index-test.true all within (c.if-is_none.ensures.0 refl) (i.sound keeps image top shows all);
+          c.requires.in_range c.loop-index-test.true all within (c.if-is_none.ensures.0 refl) (i.sound keeps image top shows all);
       loaded = λ image shows. records_skip g.D.SectorDevice.keeps_model image (frame_of c.args.frame.now c.args.geometry) c.args.number c.args.records.now c.loop-index.bytes
           c.loop-index.index (i.loaded image shows) _ within (c.if-is_none.ensures.0 refl);
     }
@@ -33,11 +33,11 @@ loop-index-preserved g c =
       disk = λ keeps. call.disk keeps ∙ i.disk keeps;
       count = call.count ∙ i.count;
       sound = λ keeps image top shows all.
-      sound_then image (frame_of c.args.frame.now c.args.geometry) top (walk_index_of_indirect c.args.number + 1) (walk_index_of_indirect c.args.number + 1 + c.loop-index.index) _ _
-      (walk_index_of_indirect c.args.number + 1 + (c.loop-index.index + 1)) refl (omega arith) (i.sound keeps image top shows all)
-      (call.sound keeps image top (ap (λ (d : Disk). bytes_of d.now) (i.disk keeps) ∙ shows)
-      (data_of image top c.args.number c.loop-index.index c.args.records.now _ (length c.args.bytes.now) (length c.loop-index.bytes) all (sym c.loop-index.auto.bytes) c.loop-index-test.true within
-      (λ none. let no = c.if-is_none.ensures.1 none in cc)));
+          sound_then image (frame_of c.args.frame.now c.args.geometry) top (walk_index_of_indirect c.args.number + 1) (walk_index_of_indirect c.args.number + 1 + c.loop-index.index) _ _
+          (walk_index_of_indirect c.args.number + 1 + (c.loop-index.index + 1)) refl (omega arith) (i.sound keeps image top shows all)
+          (call.sound keeps image top (ap (λ (d : Disk). bytes_of d.now) (i.disk keeps) ∙ shows)
+          (data_of image top c.args.number c.loop-index.index c.args.records.now _ (length c.args.bytes.now) (length c.loop-index.bytes) all (sym c.loop-index.auto.bytes) c.loop-index-test.true within
+          (λ none. let no = c.if-is_none.ensures.1 none in cc)));
       loaded = λ image shows. records_load g.D.SectorDevice.keeps_model image (frame_of c.args.frame.now c.args.geometry) c.args.number c.args.records.now c.loop-index.bytes
           c.load_record.new.bytes c.loop-index.index (i.loaded image shows) _ within
           (call.loaded image (still_shows g.D.SectorDevice.keeps_model (g.D.SectorDevice.disk c.args.device.now) (g.D.SectorDevice.disk c.loop-index.device) image i.disk shows))

@@ -14,8 +14,8 @@ invariant-loop-index g l = record {
   disk : IsTrue g.D.SectorDevice.keeps_model → g.D.SectorDevice.disk l.device ≡ g.D.SectorDevice.disk l.fn.device;
   count : g.D.SectorDevice.refused l.device ≡ g.D.SectorDevice.refused l.fn.device;
   sound : IsTrue g.D.SectorDevice.keeps_model → (image : List ℕ) (top : Pointer) → bytes_of (g.D.SectorDevice.disk l.fn.device).now ≡ image
-    → AreDataOf image top l.number l.records (length l.fn.bytes)
-    → AreSound image (frame_of l.frame l.geometry) top (walk_index_of_indirect l.number + 1) (walk_index_of_indirect l.number + 1 + l.index);
+      → AreDataOf image top l.number l.records (length l.fn.bytes)
+      → AreSound image (frame_of l.frame l.geometry) top (walk_index_of_indirect l.number + 1) (walk_index_of_indirect l.number + 1 + l.index);
   loaded : (image : List ℕ) → Shows g.D.SectorDevice.keeps_model (g.D.SectorDevice.disk l.fn.device) image
       → AreLoadedRecords g.D.SectorDevice.keeps_model image (frame_of l.frame l.geometry) l.number l.records l.bytes l.index;
 }
