@@ -50,7 +50,12 @@ pub struct PlanSource<'a> {
 }
 
 /// Plans the tree after a group whose objects change so: for rising objects their dirty records rising and then their
-/// indirect block; then directories rising; then the root. Each takes the lowest free block.
+/// indirect block; then directories rising; then the root. Each takes the lowest free block. Live blocks are not
+/// overwritten (On-Disk Specification, chapter 2): what is replaced comes back by its address.
+///
+/// The contents are those after the group. The clause `planned` says what becomes of each place of the tree, where the
+/// dirty records and the objects that change cover all that differs from before, where each of these objects is there and
+/// its dirty records begin within it, and where an object that is not there has no indirect block.
 ///
 /// # Errors
 /// `NoSpace` where the free blocks do not suffice, `NoMemory`.
