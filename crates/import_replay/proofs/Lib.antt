@@ -1,2 +1,9 @@
 pub mod LabelWrites
 pub mod NewLabels
+pub mod FreeBlocks
+pub mod Rings
+pub mod Configs
+pub mod Reasons
+pub mod LabelSyncs
+pub mod ByteObjects
+pub mod MountedPools

@@ -2,3 +2,8 @@ pub mod CreateRefusals
 pub mod Cleared
 pub mod Creations
 pub mod Labelled
+pub mod Found
+pub mod FreeBlocks
+pub mod ImportRefusals
+pub mod LabelSyncs
+pub mod Mounts

@@ -1,63 +1,39 @@
 //! The import of a pool: what its image mounts, and a sync that makes the image the run's own.
 
-ghost use Rattle.std.specs.Prelude.{◌≡◌, ◌<◌, ◌+◌, ◌*◌, ◌≤◌, ◌^◌, IfErr, IfOk, length, vec_len};
-ghost use Rattle.base.specs.Geometry.{block_count};
+ghost use Rattle.std.specs.Prelude.{◌≡◌, ◌<◌, ◌+◌, ◌*◌, ◌≤◌, ◌^◌, ℕ, [], true, false, IfErr, IfOk, IfSome, IsTrue, OnOk, length, vec_len};
+ghost use Rattle.std.specs.FinMap as finite;
+ghost use Rattle.base.specs.Disk.{bytes_of};
+ghost use Rattle.base.specs.Exact.{AreFree, IsBounded};
+ghost use Rattle.base.specs.ExactNow.{IsExplainedNow};
+ghost use Rattle.base.specs.Geometry.{IsGeometry, block_count};
+ghost use Rattle.base.specs.Imports as numbers;
+ghost use Rattle.base.specs.Imports.{IsImportOf, is_dirty_max_allowed};
+ghost use Rattle.base.specs.Limits.{max_length, object_count};
+ghost use Rattle.base.specs.Mount.{IsChainOf};
+ghost use Rattle.base.specs.Past.{new_past};
+ghost use Rattle.base.specs.PlacedTrees.{ArePlaced, HoldsTree};
+ghost use Rattle.base.specs.Uberblocks as image;
+ghost use Rattle.base.specs.Uberblocks.{IsActive};
 ghost use Rattle.uberblocks.specs.Slots.{IsWithinLimits, fields_of};
+ghost use Rattle.object_maps.specs.ContentsShown.{contents_of};
+ghost use Rattle.object_maps.specs.Loading.{IsLoadRefusal, frame_of};
+ghost use Rattle.object_maps.specs.Pointers.{objects_of, pointers_of};
+ghost use Rattle.import_replay.specs.ImportRefusals.{CanImport, IsImportRefusal, IsMountRefusal, IsOpenRefusal, IsReason};
+ghost use Rattle.import_replay.specs.LabelSyncs.{HasSameBlocks};
+ghost use Rattle.import_replay.specs.Mounts.{IsImport, IsMountedFrom, frame_of_import, shown_of_import};
 
-use base::{
-    GREATEST_DIRTY_MAX, Group, LAST_NUMBER, LEAST_DIRTY_MAX, Pointer, PoolError, PoolName,
-};
+use crate::bounds::see_bytes;
+use crate::finding::{Found, copy_name, find_pool};
+use crate::free_blocks::{free_set, take_lowest};
+use crate::label_sync::sync_labels;
+use crate::mounted::{Imported, Mounted};
+use base::{GREATEST_DIRTY_MAX, Group, LAST_NUMBER, LEAST_DIRTY_MAX, Pointer, PoolError};
 use checked_blocks::Frame;
 use device_model::SectorDevice;
-use labels::{Geometry, LabelConfig, Stage, choose, is_kept_in_odd};
-use object_maps::{Contents, Tree, load};
-use space::FreeSet;
+use labels::{Geometry, LabelConfig};
+use object_maps::{Contents, Loaded, load};
 use std::alloc::Global;
-use sync::{LabelStages, SyncRun};
-use uberblocks::{ARRAY_SIZE, LABEL_COUNT, Uberblock, active, slot};
-
-/// Where a label's uberblock array begins.
-const ARRAY_AT: u64 = 131_072;
-
-/// An imported pool, with the device that it lies on.
-#[derive(Drop)]
-pub struct Imported<D: SectorDevice> {
-    pub device: D,
-    pub mounted: Mounted,
-    ghost sized: { D.size device ≡ mounted.geometry },
-}
-
-/// What an import mounted and wrote.
-#[derive(Drop)]
-pub struct Mounted {
-    pub alloc: Global,
-    pub geometry: Geometry,
-    pub guid: u64,
-    /// The group that the import synced.
-    pub group: Group,
-    pub import_number: u64,
-    pub contents: Contents,
-    pub tree: Tree,
-    pub free: FreeSet,
-    /// The address of the first log block.
-    pub log_address: u64,
-    pub dirty_max: u64,
-    ghost free_sized: { vec_len free.flags ≡ block_count geometry },
-    ghost group_fits: { (4 ≤ group.0) × (group.0 < 2 ^ 60) },
-    ghost import_fits: { import_number ≤ 2 ^ 60 },
-}
-
-impl<D: SectorDevice> Imported<D> {
-    /// The group that the import synced. The one behind it is open.
-    pub fn group(&self) -> Group {
-        self.mounted.group
-    }
-
-    /// How many log records were replayed.
-    pub fn records(&self) -> u64 {
-        0
-    }
-}
+use uberblocks::Uberblock;
 
 /// Imports the pool on a device, with a limit of the bytes that may be dirty. The moment is stored in the uberblocks.
 ///
@@ -75,7 +51,29 @@ pub fn import<D: SectorDevice>(
     dirty_max: u64,
     moment: u64,
 ) -> Result<Imported<D>, (PoolError, D)>
-    ensures { IfErr result (λ e. D.size e.1 ≡ D.size device) }
+    // The pool is that of the active uberblock, where it has no log chain, and the device holds its tree.
+    ensures imported { IsTrue D.keeps_model → IfOk result (λ i. (u : image.Uberblock) → IsActive (bytes_of (D.disk device).now) u
+        → IsChainOf (bytes_of (D.disk device).now) u []
+        → IsImportOf (bytes_of (D.disk device).now) (bytes_of (D.disk i.device).now) dirty_max 0 (shown_of_import i.mounted)) }
+    ensures free { IsTrue D.keeps_model → IfOk result
+        (λ i. AreFree (bytes_of (D.disk i.device).now) (shown_of_import i.mounted)) }
+    ensures tree { IsTrue D.keeps_model → IfOk result
+        (λ i. HoldsTree (bytes_of (D.disk i.device).now) (frame_of_import i.mounted) (pointers_of i.mounted.tree)
+        (contents_of i.mounted.contents).objects) }
+
+    // On each device what is shown of it is exact, with a past in which nothing happened.
+    ensures explained { IfOk result (λ i. (created : ℕ) → IsExplainedNow (shown_of_import i.mounted)
+        (new_past (contents_of i.mounted.contents) created dirty_max)) }
+    ensures bounded { IfOk result (λ i. IsBounded (contents_of i.mounted.contents)) }
+    ensures group { IfOk result (λ i. (4 ≤ i.mounted.group.0) × (i.mounted.group.0 < 2 ^ 60)) }
+    ensures size { IfOk result (λ i. D.size i.device ≡ D.size device) }
+    ensures made { OnOk result (CanImport (D.size device) dirty_max) }
+    ensures count { IfOk result (λ i. D.refused i.device ≡ D.refused device) }
+
+    ensures refused { IfErr result
+        (λ e. IsImportRefusal (D.size device) dirty_max (D.refused device) (D.refused e.1) e.0) }
+    ensures reason { IsTrue D.keeps_model → IfErr result (λ e. IsReason (bytes_of (D.disk device).now) e.0) }
+    ensures given_back { IfErr result (λ e. D.size e.1 ≡ D.size device) }
 {
     match mount(alloc, &mut device, dirty_max, moment) {
         Ok(mounted) => Ok(Imported { device, mounted }),
@@ -90,35 +88,113 @@ fn mount<D: SectorDevice>(
     moment: u64,
 ) -> Result<Mounted, PoolError>
     ensures size { D.size device.new ≡ D.size device.old }
-    ensures mounted { IfOk result (λ m. m.geometry ≡ D.size device.old) }
+    ensures geometry { IfOk result (λ m. m.geometry ≡ D.size device.old) }
+    ensures made { OnOk result (CanImport (D.size device.old) dirty_max) }
+    ensures count { OnOk result (D.refused device.new ≡ D.refused device.old) }
+    ensures refused { IfErr result
+        (IsImportRefusal (D.size device.old) dirty_max (D.refused device.old) (D.refused device.new)) }
+    ensures reason { IsTrue D.keeps_model → IfErr result (IsReason (bytes_of (D.disk device.old).now)) }
+    ensures explained { IfOk result (λ m. (created : ℕ) → IsExplainedNow (shown_of_import m)
+        (new_past (contents_of m.contents) created dirty_max)) }
+    ensures bounded { IfOk result (λ m. IsBounded (contents_of m.contents)) }
+    ensures imported { IsTrue D.keeps_model → IfOk result
+        (IsImport (bytes_of (D.disk device.old).now) (bytes_of (D.disk device.new).now) dirty_max) }
 {
     let geometry = Geometry::of(device.sectors())?;
     if dirty_max < LEAST_DIRTY_MAX || GREATEST_DIRTY_MAX < dirty_max {
         return Err(PoolError::BadRange);
     }
+    mount_pool(alloc, device, geometry, dirty_max, moment)
+}
+
+// The import of a device whose size and limit are within bounds.
+fn mount_pool<D: SectorDevice>(
+    alloc: Global,
+    device: &mut D,
+    geometry: Geometry,
+    dirty_max: u64,
+    moment: u64,
+) -> Result<Mounted, PoolError>
+    requires sized { D.size device.old ≡ geometry }
+    requires geometry { IsGeometry geometry }
+    requires limit { is_dirty_max_allowed dirty_max ≡ true }
+    ensures size { D.size device.new ≡ D.size device.old }
+    ensures geometry { IfOk result (λ m. m.geometry ≡ geometry) }
+    ensures count { OnOk result (D.refused device.new ≡ D.refused device.old) }
+    ensures refused { IfErr result (IsMountRefusal (D.refused device.old) (D.refused device.new)) }
+    ensures reason { IsTrue D.keeps_model → IfErr result (IsReason (bytes_of (D.disk device.old).now)) }
+    ensures explained { IfOk result (λ m. (created : ℕ) → IsExplainedNow (shown_of_import m)
+        (new_past (contents_of m.contents) created dirty_max)) }
+    ensures bounded { IfOk result (λ m. IsBounded (contents_of m.contents)) }
+    ensures imported { IsTrue D.keeps_model → IfOk result
+        (IsImport (bytes_of (D.disk device.old).now) (bytes_of (D.disk device.new).now) dirty_max) }
+{
     device.flush()?;
-    let uberblock = read_uberblock(alloc, device, geometry)?;
-    let (name, first) = read_name(device, geometry, &uberblock)?;
-    let frame = Frame::new(uberblock.guid, geometry.blocks(), uberblock.group);
-    let loaded = load(alloc, device, geometry, &frame, uberblock.root)?;
-    if uberblock.group.0 + 5 > LAST_NUMBER || uberblock.import_number + 1 > LAST_NUMBER {
+    let found = find_pool(alloc, device, geometry)?;
+    let frame = Frame::new(
+        found.uberblock.guid,
+        geometry.blocks(),
+        found.uberblock.group,
+    );
+    let loaded = load(alloc, device, geometry, &frame, found.uberblock.root)?;
+    // The name is one, and the objects hold bytes, as their types say.
+    let _name = found.name.as_slice();
+    see_bytes(loaded.slots.as_slice());
+    if is_past_last(&found.uberblock) {
         return Err(PoolError::TooMany);
     }
+    open_pool(alloc, device, geometry, found, loaded, dirty_max, moment)
+}
+
+// Whether an import would pass the last number.
+fn is_past_last(uberblock: &Uberblock) -> bool
+    requires { IsWithinLimits (fields_of uberblock.now) }
+    ensures { result ≡ numbers.is_past_last uberblock.now.group.0 uberblock.now.import_number }
+{
+    uberblock.group.0 + 5 > LAST_NUMBER || uberblock.import_number + 1 > LAST_NUMBER
+}
+
+// Makes a loaded tree the run's own: takes a block for the log, and writes the labels.
+fn open_pool<D: SectorDevice>(
+    alloc: Global,
+    device: &mut D,
+    geometry: Geometry,
+    found: Found,
+    loaded: Loaded,
+    dirty_max: u64,
+    moment: u64,
+) -> Result<Mounted, PoolError>
+    requires sized { D.size device.old ≡ geometry }
+    requires geometry { IsGeometry geometry }
+    requires limits { IsWithinLimits (fields_of found.uberblock) }
+    requires within { numbers.is_past_last found.uberblock.group.0 found.uberblock.import_number ≡ false }
+    requires placed { ArePlaced (block_count geometry) (pointers_of loaded.tree) }
+    ensures size { D.size device.new ≡ D.size device.old }
+    ensures geometry { IfOk result (λ m. m.geometry ≡ geometry) }
+    ensures count { OnOk result (D.refused device.new ≡ D.refused device.old) }
+    ensures refused { IfErr result (IsOpenRefusal (D.refused device.old) (D.refused device.new)) }
+    ensures mounted { IfOk result
+        (IsMountedFrom (fields_of found.uberblock) found.name loaded.slots.items loaded.tree dirty_max) }
+    ensures kept { IsTrue D.keeps_model
+        → OnOk result (HasSameBlocks geometry (bytes_of (D.disk device.old).now) (bytes_of (D.disk device.new).now)) }
+{
     let mut free = free_set(alloc, geometry, &loaded.tree)?;
-    let Some(log_block) = free.next_from(0) else {
-        return Err(PoolError::NoSpace);
-    };
-    free.take(log_block);
+    let log_block = take_lowest(&mut free)?;
     let next = Uberblock {
-        group: Group(uberblock.group.0 + 4),
+        group: Group(found.uberblock.group.0 + 4),
         moment,
-        import_number: uberblock.import_number + 1,
+        import_number: found.uberblock.import_number + 1,
         log_address: geometry.block_address(log_block as u64),
         log_number: 0,
-        ..uberblock
+        ..found.uberblock
     };
-    let config = LabelConfig::new(next.guid, next.group, geometry.size(), name.clone()?);
-    sync_import(alloc, device, geometry, &next, &config, first)?;
+    let config = LabelConfig::new(
+        next.guid,
+        next.group,
+        geometry.size(),
+        copy_name(&found.name)?,
+    );
+    sync_labels(alloc, device, geometry, &next, &config, found.first)?;
     Ok(Mounted {
         alloc,
         geometry,
@@ -126,7 +202,7 @@ fn mount<D: SectorDevice>(
         group: next.group,
         import_number: next.import_number,
         contents: Contents {
-            name,
+            name: found.name,
             slots: loaded.slots,
         },
         tree: loaded.tree,
@@ -134,121 +210,4 @@ fn mount<D: SectorDevice>(
         log_address: next.log_address,
         dirty_max,
     })
-}
-
-// The active uberblock of the four arrays.
-fn read_uberblock<D: SectorDevice>(
-    alloc: Global,
-    device: &mut D,
-    geometry: Geometry,
-) -> Result<Uberblock, PoolError>
-    requires { D.size device.old ≡ geometry }
-    ensures size { D.size device.new ≡ D.size device.old }
-    ensures limits { IfOk result (λ u. IsWithinLimits (fields_of u)) }
-{
-    let mut ring = blank(alloc, LABEL_COUNT * ARRAY_SIZE)?;
-    for label in 0..LABEL_COUNT {
-        let at = geometry.label_place(label) + ARRAY_AT;
-        device.read(at, &mut ring[ARRAY_SIZE * label..ARRAY_SIZE * (label + 1)])?;
-    }
-    active(&ring).ok_or(PoolError::NoPool)
-}
-
-fn blank(alloc: Global, size: usize) -> Result<Vec<u8>, PoolError>
-    ensures { IfOk result (λ bytes. vec_len bytes ≡ size) }
-{
-    Ok(vec![in alloc; 0u8; size]?)
-}
-
-// The name of the pool of an active uberblock, and the pair of labels that an import may write first: the even ones where
-// an odd label holds the chosen config, so that it stands until another pair is flushed.
-fn read_name<D: SectorDevice>(
-    device: &mut D,
-    geometry: Geometry,
-    uberblock: &Uberblock,
-) -> Result<(PoolName, Stage), PoolError>
-    requires { D.size device.old ≡ geometry }
-    ensures size { D.size device.new ≡ D.size device.old }
-{
-    let configs = [
-        read_config(device, geometry, 0)?,
-        read_config(device, geometry, 1)?,
-        read_config(device, geometry, 2)?,
-        read_config(device, geometry, 3)?,
-    ];
-    let chosen = choose(&configs, uberblock.guid, uberblock.group)?;
-    let first = if is_kept_in_odd(&configs, chosen) {
-        Stage::Even
-    } else {
-        Stage::Odd
-    };
-    Ok((chosen.name().clone()?, first))
-}
-
-fn read_config<D: SectorDevice>(
-    device: &mut D,
-    geometry: Geometry,
-    label: usize,
-) -> Result<Option<LabelConfig>, PoolError>
-    requires sized { D.size device.old ≡ geometry }
-    requires label { label < 4 }
-    ensures size { D.size device.new ≡ D.size device.old }
-{
-    let mut buffer = [0; 4096];
-    device.read(geometry.config_place(label), &mut buffer[..])?;
-    Ok(LabelConfig::decode(&buffer, geometry.size()))
-}
-
-// Each block that the tree does not name is free.
-fn free_set(alloc: Global, geometry: Geometry, tree: &Tree) -> Result<FreeSet, PoolError>
-    ensures { IfOk result (λ free. vec_len free.flags ≡ block_count geometry) }
-{
-    let mut free = FreeSet::new(alloc, geometry.blocks() as usize)?;
-    take_block(&mut free, geometry, &tree.root);
-    for pointer in &tree.directories {
-        take_block(&mut free, geometry, pointer);
-    }
-    for map in &tree.maps {
-        take_block(&mut free, geometry, &map.indirect);
-        for pointer in &map.records {
-            take_block(&mut free, geometry, pointer);
-        }
-    }
-    Ok(free)
-}
-
-fn take_block(free: &mut FreeSet, geometry: Geometry, pointer: &Pointer)
-    ensures { vec_len free.new.flags ≡ vec_len free.old.flags }
-{
-    if geometry.is_block_address(pointer.address) {
-        free.take(geometry.block_index(pointer.address) as usize);
-    }
-}
-
-// The sync of an import: no blocks, and both label stages.
-fn sync_import<D: SectorDevice>(
-    alloc: Global,
-    device: &mut D,
-    geometry: Geometry,
-    uberblock: &Uberblock,
-    config: &LabelConfig,
-    first: Stage,
-) -> Result<(), PoolError>
-    requires sized { D.size device.old ≡ geometry }
-    requires limits { IsWithinLimits (fields_of uberblock.now) }
-    ensures size { D.size device.new ≡ D.size device.old }
-{
-    let mut run = SyncRun {
-        geometry,
-        blocks: Vec::new(alloc),
-        uberblock: uberblock.encode(),
-        slot: slot(uberblock.group),
-        stages: Some(LabelStages {
-            config: config.encode(),
-            first,
-        }),
-        done: 0,
-    };
-    while !run.next(device)? {}
-    Ok(())
 }

@@ -2,11 +2,17 @@
 //! there (On-Disk Specification, chapter 1).
 #![tactic(auto)]
 
+mod bounds;
 mod creation;
+mod finding;
+mod free_blocks;
 mod imported;
+mod label_sync;
+mod mounted;
 
 pub use creation::create;
-pub use imported::{Imported, Mounted, import};
+pub use imported::import;
+pub use mounted::{Imported, Mounted};
 
 #[cfg(test)]
 mod tests;

@@ -102,6 +102,7 @@ pub struct Pool {
 }
 
 impl Pool {
+    ghost use Rattle.import_replay.specs.Mounts.{shown_of_import};
     ghost use Rattle.pool_core.specs.Calls.{CallsNext};
     ghost use Rattle.pool_core.specs.Lines.{MayNotStart, MayStart, line_of};
     ghost use Rattle.pool_core.specs.Meets.{MayCommit, Meets, MeetsExplained};
@@ -112,7 +113,9 @@ impl Pool {
 
     /// The pool that an import mounted. It takes no memory.
     pub fn new(mounted: Mounted) -> Self
-        ensures { result.geometry ≡ mounted.geometry }
+        ensures geometry { result.geometry ≡ mounted.geometry }
+        ensures shown { shown_of result ≡ shown_of_import mounted }
+        ensures tree { result.tree ≡ mounted.tree }
     {
         let Mounted {
             alloc,

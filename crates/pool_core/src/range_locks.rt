@@ -1,6 +1,6 @@
 //! Range locks in order of grant (`zfs_rlock.c`): readers may overlap readers, a writer overlaps nothing.
 
-ghost use Rattle.std.specs.Prelude.{◌≤◌, ◌<◌, ◌+◌, ◌^◌, ◌≡◌, IfSome, IsTrue, vec_len};
+ghost use Rattle.std.specs.Prelude.{[], ◌≤◌, ◌<◌, ◌+◌, ◌^◌, ◌≡◌, IfSome, IsTrue, vec_len};
 ghost use Rattle.std.specs.Prelude.{◌&&◌, ◌==◌, filter, not};
 ghost use Rattle.std.specs.List.{find, list_any};
 ghost use Rattle.base.specs.Locks as locks;
@@ -71,7 +71,10 @@ impl RangeLocks {
     ghost use Rattle.pool_core.specs.Tables.{Locks, result_map};
 
     /// No locks. It takes no memory.
-    pub fn new(alloc: Global) -> Self {
+    pub fn new(alloc: Global) -> Self
+        ensures none { result.locks.items ≡ [] }
+        ensures next { result.next ≡ 0 }
+    {
         RangeLocks {
             locks: Vec::new(alloc),
             next: 0,

@@ -35,6 +35,7 @@ pub struct PoolState<D: SectorDevice> {
 }
 
 impl<D: SectorDevice> PoolState<D> {
+    ghost use Rattle.import_replay.specs.Mounts.{shown_of_import};
     ghost use Rattle.pool_core.specs.Calls.{CallsNext};
     ghost use Rattle.pool_core.specs.Meets.{Meets, MeetsExplained};
     ghost use Rattle.pool_core.specs.Progresses.{progress_of};
@@ -42,7 +43,10 @@ impl<D: SectorDevice> PoolState<D> {
     ghost use Rattle.pool_core.specs.Tables.{result_map};
 
     /// The pool that an import gave. It takes no memory.
-    pub fn new(imported: Imported<D>) -> Self {
+    pub fn new(imported: Imported<D>) -> Self
+        ensures shown { shown_of result.pool ≡ shown_of_import imported.mounted }
+        ensures device { result.device ≡ imported.device }
+    {
         let Imported { device, mounted } = imported;
         PoolState {
             device,

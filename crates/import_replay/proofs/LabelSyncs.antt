@@ -1,0 +1,125 @@
+-- What each call of a sync of the labels leaves of the blocks.
+use Rattle.std.proofs.Common.{◌≡◌, ◌≢◌, ◌⊎◌, inl, inr, ℕ, zero, suc, ◌+◌, ◌-◌, ◌*◌, ◌<◌, ◌≤◌, List, [], length, Option, Some, None, Ok, Err, Bool, true, false, IsTrue, ◌↔◌, refl, sym, ◌∙◌, ap, subst, arith}
+use Rattle.std.specs.Prelude.{IfSome, slice_get, vec_len}
+use Rattle.std.specs.Option.{option_map}
+use Rattle.std.proofs.lemmas.Bool.{cases_eq, false≢true}
+use Rattle.base.specs.declared.error.PoolError.{PoolError}
+use Rattle.base.specs.declared.error.PoolError.TheVariants as refusal
+use Rattle.base.specs.Disk.{Disk, bytes_of, put, written}
+use Rattle.base.specs.Calls.{Counts}
+use Rattle.base.specs.Geometry.{IsGeometry, block_address, block_count, label_place, config_place, slot_place}
+use Rattle.base.specs.SyncOrder.{DeviceCall}
+use Rattle.base.specs.SyncOrder.DeviceCall.{Block, Config, Uberblock, Flush}
+use Rattle.base.proofs.Put.{Apart, length-put, part-put_apart}
+use Rattle.base.proofs.Regions.{flushed_clean}
+use Rattle.labels.proofs.Places.{IsGeometry-IsSize}
+use Rattle.sync.specs.declared.run.LabelStages.{LabelStages}
+use Rattle.sync.specs.declared.run.SyncRun.{SyncRun}
+use Rattle.sync.specs.Calls.{MakesCall, Target, WritesTarget, block_target, config_target, refusal_of}
+use Rattle.sync.specs.Runs.{SameSync, call_count, other_calls}
+use Rattle.import_replay.specs.ImportRefusals.{IsSyncRefusal}
+use Rattle.import_replay.specs.LabelSyncs.{HasSameBlocks, IsLabelSync}
+
+pub same_blocks : (size : ℕ) (bytes : List ℕ) → HasSameBlocks size bytes bytes
+same_blocks size bytes = record { length_is = refl; each = λ k low. refl }
+
+pub blocks_then : (size : ℕ) (a b c : List ℕ) → HasSameBlocks size a b → HasSameBlocks size b c → HasSameBlocks size a c
+blocks_then size a b c first second = record { length_is = second.length_is ∙ first.length_is; each = λ k low. second.each k low ∙ first.each k low }
+
+-- a range of the device before the blocks or behind them
+abbrev IsOutside : ℕ → ℕ → ℕ → Type 0
+IsOutside size place n = (place + n ≤ size) × ((place + n ≤ 4194304) ⊎ (size - 524288 ≤ place))
+
+outside_label : (size label at n : ℕ) → 6291456 ≤ size → at + n ≤ 262144 → IsOutside size (label_place size label + at) n
+outside_label size zero at n least fits = (omega arith, inl (omega arith))
+outside_label size (suc zero) at n least fits = (omega arith, inl (omega arith))
+outside_label size (suc (suc zero)) at n least fits = (omega arith, inr (omega arith))
+outside_label size (suc (suc (suc k))) at n least fits = (omega arith, inr (omega arith))
+
+apart : (size place n k : ℕ) → 6291456 ≤ size → k < block_count size → IsOutside size place n → Apart place n (block_address k) 4096
+apart size place n k least low (fits, inl before) = inl (omega arith)
+apart size place n k least low (fits, inr behind) =
+    let room : 4096 * (k + 1) ≤ size - 524288 - 4194304 = omega arith in
+    inr (omega (arith, room, behind, least))
+
+put_outside : (size place : ℕ) (content bytes : List ℕ) → 6291456 ≤ size → length bytes ≡ size → IsOutside size place (length content) → HasSameBlocks size bytes (put place content bytes)
+put_outside size place content bytes least long out = record {
+  length_is = length-put place content bytes fits;
+  each = λ k low. part-put_apart place content bytes (block_address k) 4096 fits (apart size place (length content) k least low out);
+}
+  where
+    fits : place + length content ≤ length bytes
+    fits = subst (λ n. place + length content ≤ n) (sym long) out.0
+
+config_outside : (size label : ℕ) (content : List ℕ) → 6291456 ≤ size → length content ≡ 4096 → IsOutside size (config_place size label) (length content)
+config_outside size label content least long = subst (λ n. IsOutside size (config_place size label) n) (sym long) (outside_label size label 16384 4096 least (omega arith))
+
+slot_outside : (size label slot : ℕ) (content : List ℕ) → 6291456 ≤ size → slot < 128 → length content ≡ 1024 → IsOutside size (slot_place size label slot) (length content)
+slot_outside size label slot content least low long =
+    let there : label_place size label + (131072 + 1024 * slot) ≡ slot_place size label slot = omega arith in
+    subst (λ p. IsOutside size p (length content)) there
+    (subst (λ n. IsOutside size (label_place size label + (131072 + 1024 * slot)) n) (sym long) (outside_label size label (131072 + 1024 * slot) 1024 least (omega arith)))
+
+module _ (size : ℕ) (run : SyncRun) (old new : Disk) (geometry : IsGeometry size) (is : IsLabelSync size run) (long : length (bytes_of old.now) ≡ size) where
+  abbrev Keeps : Type 0
+  Keeps = HasSameBlocks size (bytes_of old.now) (bytes_of new.now)
+
+  least : 6291456 ≤ size
+  least = (IsGeometry-IsSize size geometry).least
+
+  wrote : (place : ℕ) (content : List ℕ) → IsOutside size place (length content) → new ≡ written place content true old → Keeps
+  wrote place content out writes =
+      subst (λ (d : Disk). HasSameBlocks size (bytes_of old.now) (bytes_of d.now)) (sym writes) (put_outside size place content (bytes_of old.now) least long out)
+
+  wrote_config : (label : ℕ) (stages : Option LabelStages) → IfSome stages (λ (s : LabelStages). length s.config ≡ 4096)
+      → WritesTarget (option_map (config_target run.geometry label) stages) old (Ok tt) new → Keeps
+  wrote_config label None short writes = absurd writes
+  wrote_config label (Some s) short writes =
+      wrote (config_place run.geometry label) s.config
+      (subst (λ n. IsOutside size (config_place n label) (length s.config)) (sym is.geometry) (config_outside size label s.config least short)) writes
+
+  wrote_block : {A : Type 0} (f : A → Target) (k : ℕ) (blocks : List A) → blocks ≡ [] → WritesTarget (option_map f (slice_get blocks k)) old (Ok tt) new → Keeps
+  wrote_block {A} f k blocks none writes =
+      absurd (subst (λ (bs : List A). WritesTarget (option_map f (slice_get bs k)) old (Ok tt) new) none writes)
+
+  -- a call that answers Ok leaves the blocks
+  pub call_keeps : (call : DeviceCall) → MakesCall run call old (Ok tt) new → Keeps
+  call_keeps (Block k) made = wrote_block block_target k run.blocks.items is.blocks made
+  call_keeps (Config label) made = wrote_config label run.stages is.config made
+  call_keeps (Uberblock label) made =
+      wrote (slot_place run.geometry label run.slot) run.uberblock
+      (subst (λ n. IsOutside size (slot_place n label run.slot) (length run.uberblock)) (sym is.geometry) (slot_outside size label run.slot run.uberblock least is.slot is.uberblock)) made
+  call_keeps Flush made =
+      subst (λ (bytes : List ℕ). HasSameBlocks size (bytes_of old.now) bytes) (sym (flushed_clean old new made).1) (same_blocks size (bytes_of old.now))
+
+-- the sync goes on as it was
+pub sync_goes_on : (size : ℕ) (old new : SyncRun) → SameSync old new → IsLabelSync size old → IsLabelSync size new
+sync_goes_on size old new same is = record {
+  geometry = same.geometry ∙ is.geometry;
+  blocks = ap (λ b. b.items) same.blocks ∙ is.blocks;
+  uberblock = ap length same.uberblock ∙ is.uberblock;
+  slot = subst (λ n. n < 128) (sym same.slot) is.slot;
+  config = subst (λ (s : Option LabelStages). IfSome s (λ (t : LabelStages). length t.config ≡ 4096)) (sym same.stages) is.config;
+}
+
+-- the refusal of a call is that of the sync
+pub sync_refused : (before mid after : ℕ) (call : DeviceCall) (e : PoolError) → mid ≡ before → Counts mid after (refusal_of call) (Err e) → IsSyncRefusal before after e
+sync_refused before mid after call e same counts = (by_call call counts.named, λ low. let one = counts.refused (omega (arith, low, same)) in omega (arith, one, same))
+  where
+    by_call : (c : DeviceCall) → e ≡ refusal_of c → (e ≡ refusal.Write) ⊎ (e ≡ refusal.Flush)
+    by_call (Block k) is = inl is
+    by_call (Config label) is = inl is
+    by_call (Uberblock label) is = inl is
+    by_call Flush is = inr is
+
+-- after a call that was not the last, there are calls left
+pub sync_left : (old new : SyncRun) (last : Bool) → SameSync old new → old.done < call_count old → new.done ≡ old.done + 1 → IsTrue last ↔ (new.done ≡ call_count new) → last ≡ false
+    → new.done < call_count new
+sync_left old new last same left done told not_last = by_place (cases_eq new.done (call_count new))
+  where
+    count : call_count new ≡ call_count old
+    count = ap (λ b. vec_len b + other_calls new.stages) same.blocks ∙ ap (λ (s : Option LabelStages). vec_len old.blocks + other_calls s) same.stages
+
+    by_place : (new.done ≡ call_count new) ⊎ (new.done ≢ call_count new) → new.done < call_count new
+    by_place (inl at_end) = absurd (false≢true (subst (λ b. IsTrue b) not_last (told.1 at_end)))
+    by_place (inr before) = omega (arith, count, before, done, left)

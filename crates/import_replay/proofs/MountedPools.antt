@@ -1,0 +1,188 @@
+-- The pool that an import gives, from what it found, loaded and wrote.
+use Rattle.std.proofs.Common.{◌≡◌, ◌≢◌, ◌⊎◌, inl, inr, ℕ, ◌+◌, ◌≤◌, true, false, List, [], length, Some, None, refl, sym, subst, ap, ◌∙◌, arith}
+use Rattle.std.specs.Prelude.{nat_lt}
+use Rattle.std.specs.Ordering.{nat_cmp}
+use Rattle.std.specs.FinMap.{FinMap, get-empty}
+use Rattle.std.specs.FinSet as set
+use Rattle.std.proofs.lemmas.Bool.{or_parts, ltb-false}
+use Rattle.base.specs.declared.pointer.Pointer.{Pointer}
+use Rattle.base.specs.Blocks.{Frame}
+use Rattle.base.specs.Exact.{AreFree, IsBounded, IsInLog}
+use Rattle.base.specs.ExactNow.{IsExplainedNow}
+use Rattle.base.specs.Fields.{part}
+use Rattle.base.specs.Geometry.{IsBlockAddress, block_count, block_size}
+use Rattle.base.specs.Imports.{IsFirstLogBlock, IsImported, IsImportOf, is_dirty_max_allowed}
+use Rattle.base.specs.Limits.{last_number}
+use Rattle.base.specs.Mount.{HasPool, IsChainOf, IsUsed, Mounts}
+use Rattle.base.specs.Past.{new_past}
+use Rattle.base.specs.PlacedTrees.{HoldsTree, IsPlaced}
+use Rattle.base.specs.Places.{Place, IsInTree}
+use Rattle.base.specs.Places.Place.{Root}
+use Rattle.base.specs.PlannedTrees.{SameBlock}
+use Rattle.base.specs.Shown.{Shown}
+use Rattle.base.specs.Tree.{IsTree}
+use Rattle.base.specs.Uberblocks.{Uberblock}
+use Rattle.base.proofs.KeptTables.{new_pools_are_explained}
+use Rattle.base.proofs.PlacedTrees.{holds-tree, holds-placed, in-tree, told-in_tree}
+use Rattle.base.proofs.PlannedTrees.{holds-elsewhere}
+use Rattle.uberblocks.proofs.Stands.{actives_agree}
+use Rattle.object_maps.specs.declared.contents.Slot.{Slot}
+use Rattle.object_maps.specs.declared.tree.Tree.{Tree}
+use Rattle.object_maps.specs.ContentsShown.{contents_of}
+use Rattle.object_maps.specs.Pointers.{objects_of, pointers_of}
+use Rattle.import_replay.specs.FreeBlocks.{IsNamed}
+use Rattle.import_replay.specs.LabelSyncs.{HasSameBlocks}
+use Rattle.import_replay.specs.Mounts.{IsImport, IsMountedFrom, frame_of_import, shown_of_import}
+use Rattle.import_replay.specs.declared.mounted.Mounted.{Mounted}
+
+-- the frame of an active uberblock, on a device of so many bytes
+abbrev pub frame_at : Uberblock → ℕ → Frame
+frame_at u size = record { guid = u.guid; blocks = block_count size; group = u.group }
+
+not_zero : (blocks address : ℕ) → IsBlockAddress blocks address → address ≢ 0
+not_zero blocks address is none = let e = is.2 in omega (arith, e, none)
+
+-- in an image that holds a tree, the addresses of its blocks are those that its pointers name
+module _ (image : List ℕ) (frame : Frame) (pointers : Place → Pointer) (objects : FinMap nat_cmp (List ℕ)) (holds : HoldsTree image frame pointers objects) (address : ℕ) where
+  named-of_tree : IsInTree image (pointers Root) address → IsNamed pointers address
+  named-of_tree is = let t = in-tree image frame pointers objects holds address is in (t.0, t.1, t.2)
+
+  tree-of_named : address ≢ 0 → IsNamed pointers address → IsInTree image (pointers Root) address
+  tree-of_named some (place, in_range, is) =
+      subst (λ (a : ℕ). IsInTree image (pointers Root) a) is
+      (told-in_tree image frame pointers objects holds place in_range (λ none. some (sym is ∙ ap (λ (p : Pointer). p.address) none)))
+
+module _ (size : ℕ) (u : Uberblock) (name : List ℕ) (slots : List Slot) (tree : Tree) (dirty_max : ℕ) (m : Mounted) (from : IsMountedFrom u name slots tree dirty_max m) (sized : m.geometry ≡ size) where
+  abbrev shown : Shown
+  shown = shown_of_import m
+
+  pub is_imported : IsImported u (block_count size) (contents_of m.contents) dirty_max shown
+  is_imported = record {
+    suspended = refl;
+    guid = from.guid;
+    blocks_are = ap block_count sized;
+    import_number = from.import_number;
+    limit = from.limit;
+    locks = refl;
+    next_lock = refl;
+    line = (let open_is : m.group.0 + 1 ≡ u.group + 5 = omega (arith, from.group) in λ i. record { synced = from.group i; syncing = None; middle = None; open_group = open_is i });
+    transactions = refl;
+    next_tx = refl;
+    contents_are = refl;
+    next_ordinal = refl;
+    dirty = λ g. get-empty {X = ℕ} nat_cmp g;
+    reserved = λ g. get-empty {X = ℕ} nat_cmp g;
+    pending = refl;
+    kept = refl;
+    log_number = refl;
+    sync = refl;
+  }
+
+  within_last : u.group + 5 ≤ last_number
+  within_last = ltb-false last_number (u.group + 5) (or_parts (nat_lt last_number (u.group + 5)) (nat_lt last_number (u.import_number + 1)) from.within).0
+
+  -- what is shown of it is exact, with the empty past
+  pub is_explained : IsBounded (contents_of m.contents) → (created : ℕ) → IsExplainedNow shown (new_past (contents_of m.contents) created dirty_max)
+  is_explained bounded created = new_pools_are_explained u (block_count size) (contents_of m.contents) created dirty_max shown is_imported bounded within_last
+
+  module _ (image now : List ℕ) (long : length image ≡ size) (pool : HasPool image u name) (root : tree.root ≡ u.root) (limit : is_dirty_max_allowed dirty_max ≡ true)
+      (loaded : HoldsTree image (frame_at u size) (pointers_of tree) (objects_of slots)) (same : HasSameBlocks size image now) where
+    abbrev pointers : Place → Pointer
+    pointers = pointers_of m.tree
+
+    abbrev objects : FinMap nat_cmp (List ℕ)
+    objects = (contents_of m.contents).objects
+
+    held : HoldsTree image (frame_at u size) pointers objects
+    held =
+        subst (λ (t : Tree). HoldsTree image (frame_at u size) (pointers_of t) objects) (sym from.tree_is)
+        (subst (λ (l : List Slot). HoldsTree image (frame_at u size) (pointers_of tree) (objects_of l)) (sym from.slots_are) loaded)
+
+    root_is : m.tree.root ≡ u.root
+    root_is = ap (λ (t : Tree). t.root) from.tree_is ∙ root
+
+    block_stands : (p : Pointer) → IsPlaced (block_count size) p → SameBlock image now p
+    block_stands p (inl none) some = absurd (some none)
+    block_stands p (inr (k, low, is)) some = subst (λ (a : ℕ). part now a block_size ≡ part image a block_size) (sym is) (same.each k low)
+
+    -- the tree stands in what the import leaves, for the group that it synced
+    pub holds_now : HoldsTree now (frame_of_import m) pointers objects
+    holds_now = holds-elsewhere image now (frame_at u size) (frame_of_import m) from.guid (ap block_count sized) (omega (arith, from.group)) pointers objects held
+        (λ place in_range. block_stands (pointers place) (holds-placed image (frame_at u size) pointers objects held place in_range))
+
+    in_now : (address : ℕ) → address ≢ 0 → IsNamed pointers address → IsInTree now m.tree.root address
+    in_now address = tree-of_named now (frame_of_import m) pointers objects holds_now address
+
+    now_named : (address : ℕ) → IsInTree now m.tree.root address → IsNamed pointers address
+    now_named address = named-of_tree now (frame_of_import m) pointers objects holds_now address
+
+    old_named : (address : ℕ) → IsInTree image u.root address → IsNamed pointers address
+    old_named address is = named-of_tree image (frame_at u size) pointers objects held address (subst (λ (p : Pointer). IsInTree image p address) (sym root_is) is)
+
+    same_count : block_count m.geometry ≡ block_count (length image)
+    same_count = ap block_count (sized ∙ sym long)
+
+    first_log_block : IsFirstLogBlock image u [] now m.tree.root m.log_address
+    first_log_block = record {
+      in_area = subst (λ (n : ℕ). IsBlockAddress n m.log_address) same_count from.log.is_block;
+      not_old = not_used;
+      not_new = λ is. from.log.is_unnamed (now_named m.log_address is);
+      lowest = λ other below is.
+          (let block : IsBlockAddress (block_count m.geometry) other = subst (λ (n : ℕ). IsBlockAddress n other) (sym same_count) is in
+          inr (in_now other (not_zero (block_count m.geometry) other block) (from.log.lowest other below block)));
+    }
+      where
+        not_used : IsUsed image u.root [] m.log_address → ⊥
+        not_used (inl is) = from.log.is_unnamed (old_named m.log_address is)
+        not_used (inr is) = let low = is.1 in omega (arith, low)
+
+    -- and the free blocks are those in neither the tree nor the log
+    pub are_free : AreFree now shown
+    are_free = record {
+      in_area = from.log.in_area;
+      not_in_tree = λ address free is. from.log.unnamed address free (now_named address is);
+      not_in_log = λ address free is. not_logged address free is;
+      not_taken = λ address free. refl;
+      all_others = λ address used block. other address block (from.log.others address used block);
+    }
+      where
+        not_logged : (address : ℕ) → set.contains shown.free address ≡ true → IsInLog shown.log address → ⊥
+        not_logged address free (inl is) = from.log.not_taken address free is
+        not_logged address free (inr is) = let none : None ≡ Some is.1 = is.2 in cc
+
+        other : (address : ℕ) → IsBlockAddress (block_count m.geometry) address → IsNamed pointers address ⊎ (address ≡ m.log_address)
+            → IsInTree now m.tree.root address ⊎ (IsInLog shown.log address ⊎ (false ≡ true))
+        other address block (inl named) = inl (in_now address (not_zero (block_count m.geometry) address block) named)
+        other address block (inr is) = inr (inl (inl is))
+
+    mounts : IsChainOf image u [] → Mounts image u [] (contents_of m.contents)
+    mounts chain = record {
+      synced = contents_of m.contents;
+      found = record {
+        pool = subst (λ (n : List ℕ). HasPool image u n) (sym from.name_is) pool;
+        tree = subst (λ (n : ℕ). IsTree image (frame_at u n) u.root objects) (sym long)
+            (subst (λ (p : Pointer). IsTree image (frame_at u size) p objects) root_is (holds-tree image (frame_at u size) pointers objects held));
+        chain_is = chain;
+      };
+      applied = refl;
+    }
+
+    import_of : IsChainOf image u [] → IsImportOf image now dirty_max 0 shown
+    import_of chain = record {
+      u = u;
+      chain = [];
+      contents = contents_of m.contents;
+      mounts = mounts chain;
+      records_are = refl;
+      limit_allowed = limit;
+      within = from.within;
+      log_block = first_log_block;
+      imported = subst (λ (n : ℕ). IsImported u (block_count n) (contents_of m.contents) dirty_max shown) (sym long) is_imported;
+    }
+
+    pub is_import : IsImport image now dirty_max m
+    is_import = record {
+      imported = λ v active chain. import_of (subst (λ (w : Uberblock). IsChainOf image w []) (actives_agree image v u active pool.active) chain);
+      free = are_free;
+      tree = holds_now;
+    }

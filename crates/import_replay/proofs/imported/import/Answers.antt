@@ -1,0 +1,4 @@
+use Rattle.import_replay.proofs.imported.import.Goals as goal
+
+pub returns-in-Ok-clause-imported : goal.returns-in-Ok-clause-imported
+returns-in-Ok-clause-imported g c = λ keeps. (c.in-Ok.ensures.imported keeps).imported

@@ -1,0 +1,86 @@
+use Rattle.std.proofs.Common.{◌≡◌, ℕ, List, length, sym, subst, ap, ◌∙◌, true}
+use Rattle.std.specs.Prelude.{IfSome, nat_lt}
+use Rattle.std.specs.List.{list_all}
+use Rattle.std.specs.FinMap as finite
+use Rattle.base.specs.Blocks.{Frame}
+use Rattle.base.specs.Names.{IsName}
+use Rattle.object_maps.specs.Loading.{frame_of}
+use Rattle.base.specs.Disk.{Disk, bytes_of}
+use Rattle.base.specs.Exact.{IsBounded}
+use Rattle.base.specs.Mount.{HasPool}
+use Rattle.base.specs.PlacedTrees.{HoldsTree}
+use Rattle.base.proofs.Regions.{flushed_clean}
+use Rattle.uberblocks.specs.Slots.{fields_of}
+use Rattle.base.specs.Uberblocks.{Uberblock}
+use Rattle.object_maps.specs.declared.contents.Slot.{Slot}
+use Rattle.object_maps.specs.declared.tree.Tree.{Tree}
+use Rattle.object_maps.specs.ContentsShown.{contents_of}
+use Rattle.object_maps.specs.Pointers.{objects_of, pointers_of}
+use Rattle.import_replay.specs.declared.mounted.Mounted.{Mounted}
+use Rattle.import_replay.specs.LabelSyncs.{HasSameBlocks}
+use Rattle.import_replay.specs.Mounts.{IsMountedFrom}
+use Rattle.import_replay.proofs.ByteObjects.{is_bounded}
+use Rattle.import_replay.proofs.Configs.{ok_weaker, ok_both, ok_on}
+use Rattle.import_replay.proofs.MountedPools.{frame_at, is_explained, is_import}
+use Rattle.import_replay.proofs.Reasons.{reason-many}
+use Rattle.import_replay.proofs.imported.mount_pool.Goals as goal
+
+pub returns-then-is_past_last-clause-reason : goal.returns-then-is_past_last-clause-reason
+returns-then-is_past_last-clause-reason g c = λ keeps.
+    let image : List ℕ = bytes_of (g.D.SectorDevice.disk c.args.device.now).now in
+    let u = c.in_ok-found.found.uberblock in
+    let flushed = (flushed_clean (g.D.SectorDevice.disk c.args.device.now) (g.D.SectorDevice.disk c.flush.new.self) (c.in_ok-flush.ensures.disk keeps)).1 in
+    let pool : HasPool image (fields_of u) c.in_ok-found.found.name =
+    subst (λ (b : List ℕ). HasPool b (fields_of u) c.in_ok-found.found.name) flushed (c.in_ok-found.ensures.pool keeps) in
+    reason-many image (fields_of u) pool.active (sym c.if-is_past_last.ensures)
+
+pub returns-clause-bounded : goal.returns-clause-bounded
+returns-clause-bounded g c =
+    let u : Uberblock = fields_of c.in_ok-found.found.uberblock in
+    let name : List ℕ = c.in_ok-found.found.name in
+    let slots : List Slot = c.in_ok-loaded.loaded.slots.items in
+    let bytes : (n : ℕ) → IfSome (finite.get (objects_of slots) n) (λ (b : List ℕ). list_all (λ x. nat_lt x 256) b ≡ true) =
+    subst (λ (l : List Slot). (n : ℕ) → IfSome (finite.get (objects_of l) n) (λ (b : List ℕ). list_all (λ x. nat_lt x 256) b ≡ true)) c.as_slice.ensures.value c.see_bytes.ensures in
+    ok_weaker c.open_pool.result (IsMountedFrom u name slots c.in_ok-loaded.loaded.tree c.args.dirty_max) (λ (m : Mounted). IsBounded (contents_of m.contents))
+    (λ m from. is_bounded m.contents slots from.slots_are (subst (λ (n : List ℕ). IsName n) (sym from.name_is) c.as_slice-name.ensures.name) c.in_ok-loaded.ensures.bounded bytes)
+    c.open_pool.ensures.mounted
+
+pub returns-clause-explained : goal.returns-clause-explained
+returns-clause-explained g c =
+    let u : Uberblock = fields_of c.in_ok-found.found.uberblock in
+    let name : List ℕ = c.in_ok-found.found.name in
+    let slots : List Slot = c.in_ok-loaded.loaded.slots.items in
+    let tree : Tree = c.in_ok-loaded.loaded.tree in
+    let size : ℕ = c.args.geometry in
+    let dirty_max : ℕ = c.args.dirty_max in
+    let sized = ok_both c.open_pool.result (IsMountedFrom u name slots tree dirty_max) (λ (m : Mounted). m.geometry ≡ size) c.open_pool.ensures.mounted c.open_pool.ensures.geometry in
+    let all = ok_both c.open_pool.result (λ (m : Mounted). IsMountedFrom u name slots tree dirty_max m × (m.geometry ≡ size)) (λ (m : Mounted). IsBounded (contents_of m.contents))
+    sized (returns-clause-bounded g c) in
+    ok_weaker c.open_pool.result _ _ (λ m h. is_explained size u name slots tree dirty_max m h.0.0 h.0.1 h.1) all
+
+pub returns-clause-imported : goal.returns-clause-imported
+returns-clause-imported g c = λ keeps.
+    let image : List ℕ = bytes_of (g.D.SectorDevice.disk c.args.device.now).now in
+    let now : List ℕ = bytes_of (g.D.SectorDevice.disk c.open_pool.new.device).now in
+    let u : Uberblock = fields_of c.in_ok-found.found.uberblock in
+    let name : List ℕ = c.in_ok-found.found.name in
+    let slots : List Slot = c.in_ok-loaded.loaded.slots.items in
+    let tree : Tree = c.in_ok-loaded.loaded.tree in
+    let size : ℕ = c.args.geometry in
+    let dirty_max : ℕ = c.args.dirty_max in
+    let long : length image ≡ size = g.met.D.SectorDevice.sized keeps c.args.device.now ∙ c.requires.sized in
+    let flushed : bytes_of (g.D.SectorDevice.disk c.flush.new.self).now ≡ image =
+    (flushed_clean (g.D.SectorDevice.disk c.args.device.now) (g.D.SectorDevice.disk c.flush.new.self) (c.in_ok-flush.ensures.disk keeps)).1 in
+    let found : bytes_of (g.D.SectorDevice.disk c.find_pool.new.device).now ≡ image = ap (λ (d : Disk). bytes_of d.now) (c.find_pool.ensures.disk keeps) ∙ flushed in
+    let loaded : bytes_of (g.D.SectorDevice.disk c.load.new.device).now ≡ image = ap (λ (d : Disk). bytes_of d.now) (c.load.ensures.disk keeps) ∙ found in
+    let pool : HasPool image u name = subst (λ (b : List ℕ). HasPool b u name) flushed (c.in_ok-found.ensures.pool keeps) in
+    let framed : HoldsTree (bytes_of (g.D.SectorDevice.disk c.find_pool.new.device).now) (frame_at u size) (pointers_of tree) (objects_of slots) =
+    subst (λ (f : Frame). HoldsTree (bytes_of (g.D.SectorDevice.disk c.find_pool.new.device).now) (frame_of f size) (pointers_of tree) (objects_of slots)) c.new-frame.ensures
+    (c.in_ok-loaded.ensures.held keeps) in
+    let held : HoldsTree image (frame_at u size) (pointers_of tree) (objects_of slots) =
+    subst (λ (b : List ℕ). HoldsTree b (frame_at u size) (pointers_of tree) (objects_of slots)) found framed in
+    let sized = ok_both c.open_pool.result (IsMountedFrom u name slots tree dirty_max) (λ (m : Mounted). m.geometry ≡ size) c.open_pool.ensures.mounted c.open_pool.ensures.geometry in
+    let all = ok_both c.open_pool.result (λ (m : Mounted). IsMountedFrom u name slots tree dirty_max m × (m.geometry ≡ size))
+    (λ (m : Mounted). HasSameBlocks size (bytes_of (g.D.SectorDevice.disk c.load.new.device).now) now) sized (ok_on c.open_pool.result _ (c.open_pool.ensures.kept keeps)) in
+    ok_weaker c.open_pool.result _ _ (λ m h. is_import size u name slots tree dirty_max m h.0.0 h.0.1 image now long pool c.in_ok-loaded.ensures.root c.requires.limit held
+    (subst (λ (b : List ℕ). HasSameBlocks size b now) loaded h.1)) all

@@ -1,0 +1,64 @@
+-- What an import mounts, as contracts see the pool that it gives.
+use Rattle.std.specs.Prelude.{ℕ, ◌≡◌, ◌+◌, false, List, [], None}
+use Rattle.std.specs.FinMap as finite
+use Rattle.base.specs.Blocks.{Frame}
+use Rattle.base.specs.Geometry.{block_count}
+use Rattle.base.specs.Exact.{AreFree}
+use Rattle.base.specs.Imports.{IsImportOf, is_past_last}
+use Rattle.base.specs.Mount.{IsChainOf}
+use Rattle.base.specs.PlacedTrees.{HoldsTree}
+use Rattle.base.specs.Shown.{Shown}
+use Rattle.base.specs.Uberblocks.{Uberblock, IsActive}
+use Rattle.object_maps.specs.declared.contents.Slot.{Slot}
+use Rattle.object_maps.specs.declared.tree.Tree.{Tree}
+use Rattle.object_maps.specs.ContentsShown.{contents_of}
+use Rattle.object_maps.specs.Pointers.{pointers_of}
+use Rattle.space.specs.FreeSets.{free_of}
+use Rattle.import_replay.specs.FreeBlocks.{HasTakenLowest}
+use Rattle.import_replay.specs.declared.mounted.Mounted.{Mounted}
+
+-- the pool as it is shown when the import is done: the synced group is the import's, the next one is open, and nothing else has happened
+abbrev pub shown_of_import : Mounted → Shown
+shown_of_import m = record {
+  suspended = false;
+  guid = m.guid;
+  blocks = block_count m.geometry;
+  import_number = m.import_number;
+  dirty_max = m.dirty_max;
+  locks = [];
+  next_lock = 0;
+  line = record { synced = m.group.0; syncing = None; middle = None; open_group = m.group.0 + 1 };
+  transactions = [];
+  next_tx = 0;
+  contents = contents_of m.contents;
+  next_ordinal = 0;
+  dirty = finite.empty;
+  reserved = finite.empty;
+  free = free_of m.free.flags.items;
+  log = record { pending = []; kept = []; next = record { address = m.log_address; number = 0 } };
+  root = m.tree.root;
+  sync = None;
+}
+
+-- the pool's frame, of its synced group
+abbrev pub frame_of_import : Mounted → Frame
+frame_of_import m = record { guid = m.guid; blocks = block_count m.geometry; group = m.group.0 }
+
+-- what was mounted is of this active uberblock and name, with these slots and this tree
+pub record IsMountedFrom (u : Uberblock) (name : List ℕ) (slots : List Slot) (tree : Tree) (dirty_max : ℕ) (m : Mounted) : Type 0 where
+  pub guid : m.guid ≡ u.guid
+  pub group : m.group.0 ≡ u.group + 4
+  pub import_number : m.import_number ≡ u.import_number + 1
+  pub within : is_past_last u.group u.import_number ≡ false
+  pub name_is : m.contents.name ≡ name
+  pub slots_are : m.contents.slots.items ≡ slots
+  pub tree_is : m.tree ≡ tree
+  pub limit : m.dirty_max ≡ dirty_max
+  pub log : HasTakenLowest (pointers_of m.tree) (block_count m.geometry) m.log_address (free_of m.free.flags.items)
+
+-- an import of an image that leaves these bytes: for the active uberblock, where it has no chain, the pool that the import gives;
+-- the blocks that it takes for free; and its tree
+pub record IsImport (image now : List ℕ) (dirty_max : ℕ) (m : Mounted) : Type 0 where
+  pub imported : (u : Uberblock) → IsActive image u → IsChainOf image u [] → IsImportOf image now dirty_max 0 (shown_of_import m)
+  pub free : AreFree now (shown_of_import m)
+  pub tree : HoldsTree now (frame_of_import m) (pointers_of m.tree) (contents_of m.contents).objects

@@ -1,0 +1,199 @@
+//! The pool that a device has: its active uberblock, and its name.
+
+ghost use Rattle.std.specs.Prelude.{◌≡◌, ◌<◌, ◌≤◌, ◌+◌, ◌*◌, ◌⊎◌, IfErr, IfOk, IsTrue, OnOk, length, vec_len};
+ghost use Rattle.base.specs.Calls.{HasCause};
+ghost use Rattle.base.specs.Disk.{bytes_of, put};
+ghost use Rattle.base.specs.Fields.{part};
+ghost use Rattle.base.specs.Geometry.{IsGeometry, slot_place};
+ghost use Rattle.base.specs.Labels.{HasNoCandidate};
+ghost use Rattle.base.specs.Mount.{HasPool};
+ghost use Rattle.base.specs.Uberblocks.{IsActive};
+ghost use Rattle.uberblocks.specs.Slots.{IsWithinLimits, fields_of};
+ghost use Rattle.labels.specs.Choices.{AreRead, IsRead};
+ghost use Rattle.import_replay.specs.ImportRefusals.{IsFindRefusal, IsReason};
+ghost use Rattle.import_replay.specs.Found.{HasChosen, HasName, LacksName, LacksUberblock};
+
+use base::{PoolError, PoolName};
+use device_model::SectorDevice;
+use labels::{Geometry, LabelConfig, Stage, choose, is_kept_in_odd};
+use std::alloc::Global;
+use uberblocks::{ARRAY_SIZE, LABEL_COUNT, Uberblock, active};
+
+/// Where a label's uberblock array begins.
+const ARRAY_AT: u64 = 131_072;
+
+/// A pool that was found on a device.
+#[derive(Drop)]
+pub(crate) struct Found {
+    pub uberblock: Uberblock,
+    pub name: PoolName,
+    /// The pair of labels that an import may write first.
+    pub first: Stage,
+}
+
+// The pool of a device: its active uberblock, and the name of the config that is chosen for it.
+pub(crate) fn find_pool<D: SectorDevice>(
+    alloc: Global,
+    device: &mut D,
+    geometry: Geometry,
+) -> Result<Found, PoolError>
+    requires sized { D.size device.old ≡ geometry }
+    requires geometry { IsGeometry geometry }
+    ensures size { D.size device.new ≡ D.size device.old }
+    ensures disk { IsTrue D.keeps_model → D.disk device.new ≡ D.disk device.old }
+    ensures count { OnOk result (D.refused device.new ≡ D.refused device.old) }
+    ensures refused { IfErr result (IsFindRefusal (D.refused device.old) (D.refused device.new)) }
+    ensures limits { IfOk result (λ f. IsWithinLimits (fields_of f.uberblock)) }
+    ensures pool { IsTrue D.keeps_model → IfOk result
+        (λ f. HasPool (bytes_of (D.disk device.old).now) (fields_of f.uberblock) f.name) }
+    ensures reason { IsTrue D.keeps_model → IfErr result (IsReason (bytes_of (D.disk device.old).now)) }
+{
+    let uberblock = read_uberblock(alloc, device, geometry)?;
+    let (name, first) = read_name(device, geometry, &uberblock)?;
+    Ok(Found {
+        uberblock,
+        name,
+        first,
+    })
+}
+
+// The active uberblock of the four arrays.
+fn read_uberblock<D: SectorDevice>(
+    alloc: Global,
+    device: &mut D,
+    geometry: Geometry,
+) -> Result<Uberblock, PoolError>
+    requires { D.size device.old ≡ geometry }
+    ensures size { D.size device.new ≡ D.size device.old }
+    ensures disk { IsTrue D.keeps_model → D.disk device.new ≡ D.disk device.old }
+    ensures count { OnOk result (D.refused device.new ≡ D.refused device.old) }
+    ensures refused { IfErr result (IsFindRefusal (D.refused device.old) (D.refused device.new)) }
+    ensures limits { IfOk result (λ u. IsWithinLimits (fields_of u)) }
+    ensures active { IsTrue D.keeps_model → IfOk result
+        (λ u. IsActive (bytes_of (D.disk device.old).now) (fields_of u)) }
+    ensures none { IsTrue D.keeps_model → IfErr result (LacksUberblock (bytes_of (D.disk device.old).now)) }
+{
+    let mut ring = blank(alloc, LABEL_COUNT * ARRAY_SIZE)?;
+    for label in 0..LABEL_COUNT {
+        read_array(device, geometry, label, ring.as_mut_slice())?;
+    }
+    active(&ring).ok_or(PoolError::NoPool)
+}
+
+fn blank(alloc: Global, size: usize) -> Result<Vec<u8>, PoolError>
+    ensures size { IfOk result (λ bytes. vec_len bytes ≡ size) }
+    ensures refused { IfErr result (λ e. e ≡ PoolError.NoMemory) }
+{
+    Ok(vec![in alloc; 0u8; size]?)
+}
+
+// Reads the uberblock array of a label into its place of a ring.
+fn read_array<D: SectorDevice>(
+    device: &mut D,
+    geometry: Geometry,
+    label: usize,
+    ring: &mut [u8],
+) -> Result<(), PoolError>
+    requires sized { D.size device.old ≡ geometry }
+    requires label { label < 4 }
+    requires ring { length ring.old ≡ 524288 }
+    ensures size { D.size device.new ≡ D.size device.old }
+    ensures disk { IsTrue D.keeps_model → D.disk device.new ≡ D.disk device.old }
+    ensures count { OnOk result (D.refused device.new ≡ D.refused device.old) }
+    ensures refused { IfErr result (λ e. e ≡ PoolError.Read) }
+    ensures cause { HasCause (D.refused device.old) (D.refused device.new) result }
+    ensures length { length ring.new ≡ 524288 }
+    ensures within { slot_place geometry label 0 + 131072 ≤ geometry }
+    ensures array { IsTrue D.keeps_model → OnOk result (ring.new
+        ≡ put (131072 * label) (part (bytes_of (D.disk device.old).now) (slot_place geometry label 0) 131072) ring.old) }
+{
+    let at = geometry.label_place(label) + ARRAY_AT;
+    device.read(at, &mut ring[ARRAY_SIZE * label..ARRAY_SIZE * (label + 1)])
+}
+
+// The name of the pool of an active uberblock, and the pair of labels that an import may write first: the even ones where
+// an odd label holds the chosen config, so that it stands until another pair is flushed.
+fn read_name<D: SectorDevice>(
+    device: &mut D,
+    geometry: Geometry,
+    uberblock: &Uberblock,
+) -> Result<(PoolName, Stage), PoolError>
+    requires { D.size device.old ≡ geometry }
+    ensures size { D.size device.new ≡ D.size device.old }
+    ensures disk { IsTrue D.keeps_model → D.disk device.new ≡ D.disk device.old }
+    ensures count { OnOk result (D.refused device.new ≡ D.refused device.old) }
+    ensures refused { IfErr result (IsFindRefusal (D.refused device.old) (D.refused device.new)) }
+    ensures name { IsTrue D.keeps_model → IfOk result
+        (λ r. HasName (bytes_of (D.disk device.old).now) uberblock.now.guid uberblock.now.group.0 r.0) }
+    ensures none { IsTrue D.keeps_model → IfErr result
+        (LacksName (bytes_of (D.disk device.old).now) uberblock.now.guid uberblock.now.group.0) }
+{
+    let configs = read_configs(device, geometry)?;
+    choose_name(&configs, uberblock)
+}
+
+// The name of the config that is chosen, and the pair of labels that may be written first.
+fn choose_name(
+    configs: &[Option<LabelConfig>; 4],
+    uberblock: &Uberblock,
+) -> Result<(PoolName, Stage), PoolError>
+    ensures name { IfOk result (λ r. HasChosen configs.now uberblock.now.guid uberblock.now.group.0 r.0) }
+    ensures none { IfErr result (λ e. e ≡ PoolError.NoPool
+        → HasNoCandidate configs.now uberblock.now.guid uberblock.now.group.0) }
+    ensures refused { IfErr result (λ e. (e ≡ PoolError.NoMemory) ⊎ (e ≡ PoolError.NoPool)) }
+{
+    let chosen = choose(configs, uberblock.guid, uberblock.group)?;
+    let first = if is_kept_in_odd(configs, chosen) {
+        Stage::Even
+    } else {
+        Stage::Odd
+    };
+    Ok((copy_name(chosen.name())?, first))
+}
+
+pub(crate) fn copy_name(name: &PoolName) -> Result<PoolName, PoolError>
+    ensures same { IfOk result (λ n. n ≡ name.now) }
+    ensures refused { IfErr result (λ e. e ≡ PoolError.NoMemory) }
+{
+    Ok(name.clone()?)
+}
+
+// What the four labels hold.
+fn read_configs<D: SectorDevice>(
+    device: &mut D,
+    geometry: Geometry,
+) -> Result<[Option<LabelConfig>; 4], PoolError>
+    requires { D.size device.old ≡ geometry }
+    ensures size { D.size device.new ≡ D.size device.old }
+    ensures disk { IsTrue D.keeps_model → D.disk device.new ≡ D.disk device.old }
+    ensures count { OnOk result (D.refused device.new ≡ D.refused device.old) }
+    ensures refused { IfErr result (λ e. e ≡ PoolError.Read) }
+    ensures cause { HasCause (D.refused device.old) (D.refused device.new) result }
+    ensures configs { IsTrue D.keeps_model → IfOk result (AreRead (bytes_of (D.disk device.old).now)) }
+{
+    Ok([
+        read_config(device, geometry, 0)?,
+        read_config(device, geometry, 1)?,
+        read_config(device, geometry, 2)?,
+        read_config(device, geometry, 3)?,
+    ])
+}
+
+fn read_config<D: SectorDevice>(
+    device: &mut D,
+    geometry: Geometry,
+    label: usize,
+) -> Result<Option<LabelConfig>, PoolError>
+    requires sized { D.size device.old ≡ geometry }
+    requires label { label < 4 }
+    ensures size { D.size device.new ≡ D.size device.old }
+    ensures disk { IsTrue D.keeps_model → D.disk device.new ≡ D.disk device.old }
+    ensures count { OnOk result (D.refused device.new ≡ D.refused device.old) }
+    ensures refused { IfErr result (λ e. e ≡ PoolError.Read) }
+    ensures cause { HasCause (D.refused device.old) (D.refused device.new) result }
+    ensures config { IsTrue D.keeps_model → IfOk result (IsRead (bytes_of (D.disk device.old).now) label) }
+{
+    let mut buffer = [0; 4096];
+    device.read(geometry.config_place(label), &mut buffer[..])?;
+    Ok(LabelConfig::decode(&buffer, geometry.size()))
+}
