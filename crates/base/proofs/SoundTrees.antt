@@ -32,22 +32,22 @@ zeros-past r bytes size is =
     ∙ ap (λ n. replicate n 0) left
 
 -- an absent entry names nothing
-zero_entry : entry_pointer (replicate 64 0) ≡ no_pointer
+pub zero_entry : entry_pointer (replicate 64 0) ≡ no_pointer
 unfolding number_at
 zero_entry = refl
 
 module _ (image : List ℕ) (frame : Frame) where
   -- a pointer whose block opens has an address
-  opens-address : (kind number : ℕ) (p : Pointer) (payload : List ℕ) → Opens image frame kind number p payload → p.address ≢ 0
+  pub opens-address : (kind number : ℕ) (p : Pointer) (payload : List ℕ) → Opens image frame kind number p payload → p.address ≢ 0
   opens-address kind number p payload o = λ zero_is. let at : p.address ≡ block_address o.in_area.0 = o.in_area.2 in absurd (omega arith)
 
   -- and what is below it is read from its payload
-  pointer_below-opens : (kind number : ℕ) (p : Pointer) (payload : List ℕ) (f : List ℕ → Pointer) → Opens image frame kind number p payload → pointer_below image p f ≡ f payload
+  pub pointer_below-opens : (kind number : ℕ) (p : Pointer) (payload : List ℕ) (f : List ℕ → Pointer) → Opens image frame kind number p payload → pointer_below image p f ≡ f payload
   pointer_below-opens kind number p payload f o =
       ap (λ b. cond b no_pointer (f (payload_at image p.address))) (ne_eqb p.address 0 (opens-address kind number p payload o)) ∙ ap f o.block.payload_is
 
   -- below no pointer is no pointer
-  pointer_below-none : (p : Pointer) (f : List ℕ → Pointer) → p ≡ no_pointer → pointer_below image p f ≡ no_pointer
+  pub pointer_below-none : (p : Pointer) (f : List ℕ → Pointer) → p ≡ no_pointer → pointer_below image p f ≡ no_pointer
   pointer_below-none p f e = ap (λ (q : Pointer). pointer_below image q f) e
 
   -- a block that opens at a pointer opens at one that is equal to it
@@ -72,7 +72,7 @@ module _ (image : List ℕ) (frame : Frame) where
   entry-form n entry (Some bytes) h = inr (h.0, subst (λ x. x ≤ max_length) (sym h.1) h.2, object-form n (entry_pointer entry) bytes h.3)
 
   module _ (root : Pointer) (objects : FinMap nat_cmp (List ℕ)) (tree : IsTree image frame root objects) where
-    directory-at : (d : ℕ) → d < pointer_count → IsDirectory image frame d (directory_pointer image root d) objects
+    pub directory-at : (d : ℕ) → d < pointer_count → IsDirectory image frame d (directory_pointer image root d) objects
     directory-at d below =
         elim (tree.directories) as (λ _. IsDirectory image frame d (directory_pointer image root d) objects) [
           | inl h ↦ inl (pointer_below-none root (λ payload. pointer_in payload d) h.0, λ k _. h.1 (entry_count * d + k))

@@ -46,3 +46,4 @@ pub mod Crashes
 pub mod SyncOrder
 pub mod ExactNow
 pub mod Errors
+pub mod Stored

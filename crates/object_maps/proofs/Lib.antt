@@ -1,3 +1,4 @@
-pub mod Growth
 pub mod ContentsShown
+pub mod Growth
 pub mod Judged
+pub mod SetMaps

@@ -1,7 +1,8 @@
 //! The tree of blocks that holds a pool's objects (On-Disk Specification, chapter 2): a root, directories, and for each
 //! object an indirect block over its records. Its pointers are kept in memory.
 
-ghost use Rattle.std.specs.Prelude.{◌≡◌, IfOk, vec_len};
+ghost use Rattle.std.specs.Prelude.{◌≡◌, IfOk, All, vec_len};
+ghost use Rattle.object_maps.specs.EmptyMaps.{IsEmptyMap};
 
 use base::{OBJECT_COUNT, ObjectId, Pointer};
 use std::alloc::{AllocError, Global};
@@ -15,8 +16,13 @@ pub struct ObjectMap {
 }
 
 impl ObjectMap {
+    ghost use Rattle.std.specs.Prelude.{◌≡◌, get_or};
+    ghost use Rattle.base.specs.Fields.{no_pointer};
+
     /// The pointer to a record, or to nothing.
-    pub fn record(&self, index: usize) -> Pointer {
+    pub fn record(&self, index: usize) -> Pointer
+        ensures { result ≡ get_or self.now.records.items index no_pointer }
+    {
         match self.records.get(index) {
             Some(pointer) => *pointer,
             None => Pointer::NONE,
@@ -36,7 +42,8 @@ pub struct Tree {
 
 /// The pointers of objects of which none is there.
 pub fn empty_maps(alloc: Global) -> Result<Vec<ObjectMap>, AllocError>
-    ensures { IfOk result (λ maps. vec_len maps ≡ 5292) }
+    ensures count { IfOk result (λ maps. vec_len maps ≡ 5292) }
+    ensures empty { IfOk result (λ maps. All IsEmptyMap maps.items) }
 {
     let mut maps = Vec::with_capacity(alloc, OBJECT_COUNT as usize)?;
     for _i in 0..OBJECT_COUNT {
@@ -49,14 +56,28 @@ pub fn empty_maps(alloc: Global) -> Result<Vec<ObjectMap>, AllocError>
 }
 
 impl Tree {
-    /// Sets the pointers of these objects.
-    pub fn set_all(&mut self, maps: BTreeMap<ObjectId, ObjectMap>) {
+    ghost use Rattle.std.specs.Prelude.{◌≡◌};
+    ghost use Rattle.base.specs.Places.{Place, IsPlace};
+    ghost use Rattle.object_maps.specs.Pointers.{pointers_of, with_maps, map_among};
+    ghost use Rattle.std.proofs.Math.ListN.{set};
+
+    /// Sets the pointers of these objects. Those with no place in the tree are let go.
+    pub fn set_all(&mut self, maps: BTreeMap<ObjectId, ObjectMap>)
+        ensures pointers { (place : Place) → IsPlace place
+            → pointers_of self.new place ≡ with_maps (map_among maps) (pointers_of self.old) place }
+        ensures root { self.new.root ≡ self.old.root }
+        ensures directories { self.new.directories ≡ self.old.directories }
+    {
         for (id, map) in maps {
             self.set(id, map);
         }
     }
 
-    fn set(&mut self, id: ObjectId, map: ObjectMap) {
+    fn set(&mut self, id: ObjectId, map: ObjectMap)
+        ensures maps { self.new.maps.items ≡ set self.old.maps.items id.0 map }
+        ensures root { self.new.root ≡ self.old.root }
+        ensures directories { self.new.directories ≡ self.old.directories }
+    {
         if (id.0 as usize) < self.maps.len() {
             self.maps[id.0 as usize] = map;
         }

@@ -10,3 +10,4 @@ pub mod ReadSteps
 pub mod Opens
 pub mod RepliedSteps
 pub mod ExplainedRuns
+pub mod Starts

@@ -6,3 +6,7 @@ pub mod Meets
 pub mod Lines
 pub mod StepReplies
 pub mod ExplainedRuns
+pub mod Areas
+pub mod Pointers
+pub mod Progresses
+pub mod Calls

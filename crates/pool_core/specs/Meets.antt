@@ -3,6 +3,7 @@ use Rattle.std.specs.Prelude.{ℕ, ◌≡◌, List, Result, Ok, Some, None}
 use Rattle.base.specs.declared.error.PoolError.{PoolError}
 use Rattle.base.specs.declared.operation.Op.{Op}
 use Rattle.base.specs.Contents.{Contents}
+use Rattle.base.specs.ExactNow.{IsExplainedNow}
 use Rattle.base.specs.Groups.{Admission}
 use Rattle.base.specs.History.{apply_all}
 use Rattle.base.specs.Past.{Past}
@@ -14,6 +15,10 @@ use Rattle.base.specs.Steps.{State}
 -- whatever the past of a run, the step leads with this answer from what was shown before to what is shown after, and to a later past
 abbrev pub Meets : {A : Type 0} → (Result A PoolError → State → State → Type 0) → Result A PoolError → Shown → Shown → Type 0
 Meets Step answer old new = (past : Past) → (later : Past) × Step answer (record { shown = old; past = past }) (record { shown = new; past = later })
+
+-- and so it does for each past that explains what was shown
+abbrev pub MeetsExplained : {A : Type 0} → (Result A PoolError → State → State → Type 0) → Result A PoolError → Shown → Shown → Type 0
+MeetsExplained Step answer old new = (past : Past) → IsExplainedNow old past → (later : Past) × Step answer (record { shown = old; past = past }) (record { shown = new; past = later })
 
 -- a transaction may commit: no test of its commit applies, it is open in this group, and its operations take place
 pub record MayCommit (tx : ℕ) (ops : List Op) (group : ℕ) (s : Shown) : Type 0 where

@@ -1,9 +1,10 @@
 -- What contracts show of a pool, read off its fields.
-use Rattle.std.specs.Prelude.{ℕ, ◌-◌, ◌+◌, Bool, true, false, List, [], ◌∷◌, map, option_map}
+use Rattle.std.specs.Prelude.{ℕ, ◌-◌, ◌+◌, Bool, true, false, List, [], ◌∷◌, filter, length, map, nat_lt, option_map}
 use Rattle.std.specs.Ordering.{nat_cmp}
 use Rattle.std.specs.FinMap as finite
 use Rattle.std.specs.FinSet as set
 use Rattle.std.specs.FinSet.{FinSet}
+use Rattle.base.specs.declared.pointer.Pointer.{Pointer}
 use Rattle.base.specs.Locks.{Grant}
 use Rattle.base.specs.Groups.{Admission}
 use Rattle.base.specs.Geometry.{block_address, block_count}
@@ -44,6 +45,17 @@ plan_of address r = record {
   header = record { address = address; number = 0 };
 }
 
+-- the plan of a sync that starts, with the addresses that it takes and those that come back
+abbrev pub new_plan : ℕ → ℕ → List ℕ → List ℕ → Pointer → SyncPlan
+new_plan moment address taken freed root = record {
+  steps_left = length taken + 6;
+  taken = taken;
+  freed = freed;
+  moment = moment;
+  root = root;
+  header = record { address = address; number = 0 };
+}
+
 abbrev pub shown_of : Pool → Shown
 shown_of p = record {
   suspended = p.suspended;
@@ -64,4 +76,12 @@ shown_of p = record {
   log = log_of p.pending.items p.log_address;
   root = p.tree.root;
   sync = option_map (plan_of p.log_address) p.sync;
+}
+
+-- what is shown once the tree of a synced group is the pool's
+abbrev pub shown_after_tree : ℕ → List ℕ → Pointer → Shown → Shown
+shown_after_tree group freed root s = record s {
+  free = set.union s.free (set.from_list freed);
+  log = record s.log { pending = filter (λ (r : Record). nat_lt group r.group) s.log.pending };
+  root = root;
 }

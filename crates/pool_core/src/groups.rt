@@ -1,7 +1,7 @@
 //! The line of transaction groups (`txg.c`): one is synced, then at most one is syncing, at most one quiesces or is
 //! quiesced and waits (this rule is the project's), and one is always open.
 
-ghost use Rattle.std.specs.Prelude.{◌≡◌, ◌<◌, ◌≤◌, ◌+◌, ◌^◌, true, false, IfErr, IfOk, option_map};
+ghost use Rattle.std.specs.Prelude.{◌≡◌, ◌<◌, ◌≤◌, ◌+◌, ◌^◌, true, false, IfErr, IfOk, None, option_map};
 ghost use Rattle.std.specs.Option.{ForSome};
 ghost use Rattle.base.specs.Refusals.{quiesced_group, quiescing_group};
 ghost use Rattle.base.specs.Stage.{has_older_group};
@@ -35,6 +35,7 @@ impl Groups {
     pub fn new(synced: Group) -> Self
         requires low { 4 ≤ synced.0 }
         requires high { synced.0 < 2 ^ 60 }
+        ensures { line_of result ≡ record { synced = synced.0; syncing = None; middle = None; open_group = synced.0 + 1 } }
     {
         Groups {
             synced,

@@ -1,18 +1,28 @@
 //! A pool without its device, and each of its steps.
 
-ghost use Rattle.std.specs.Prelude.{◌≡◌, ◌<◌, ◌+◌, ◌-◌, ◌≤◌, ◌^◌, ◌||◌, All, IfOk, IfSome, IsTrue, MatchResult, None, OnOk, Some, false, map, nat_le, nat_lt, not, true, vec_len};
-ghost use Rattle.std.specs.List.{list_all};
+ghost use Rattle.std.specs.Prelude.{◌≡◌, ◌<◌, ◌+◌, ◌-◌, ◌≤◌, ◌^◌, ◌||◌, ◌⊎◌, [], All, IfErr, IfOk, IfSome, IsTrue, MatchResult, None, OnOk, Some, false, filter, is_some, map, nat_le, nat_lt, not, option_map, take, true, vec_len};
+ghost use Rattle.std.specs.FinSet as set;
+ghost use Rattle.std.proofs.Props.{props};
+ghost use Rattle.std.specs.List.{list_all, list_any};
 ghost use Rattle.std.specs.Option.{ForSome};
 ghost use Rattle.base.specs.declared.names.Receipt.{Receipt};
 ghost use Rattle.base.specs.Fields.{part};
 ghost use Rattle.base.specs.Geometry.{block_count};
 ghost use Rattle.base.specs.Limits.{last_number, max_transactions, name_number, object_count};
 ghost use Rattle.base.specs.Locks as held;
+ghost use Rattle.base.specs.PlacedTrees.{ArePlaced};
+ghost use Rattle.base.specs.Places.{IsPlace, Place};
 ghost use Rattle.base.specs.Refusals.{is_lock_in_use, object_range};
 ghost use Rattle.base.specs.Stage as stage;
 ghost use Rattle.base.specs.Stage.{has_older_group, is_plan_built};
 ghost use Rattle.base.specs.Steps as steps;
+ghost use Rattle.base.specs.Syncs.{is_rename};
+ghost use Rattle.pool_core.specs.Areas.{address_of, is_block_of};
 ghost use Rattle.pool_core.specs.Numbers.{IsGroup};
+ghost use Rattle.pool_core.specs.Pointers.{pointers_after};
+ghost use Rattle.space.specs.FreeSets.{addresses_from, free_of};
+ghost use Rattle.object_maps.specs.Pointers.{pointers_of};
+ghost use Rattle.tree_plans.specs.declared.planner.Committed.{Committed};
 ghost use Rattle.object_maps.specs.Ops.{AreOpsAllowed};
 ghost use Rattle.sync.specs.Runs.{call_count};
 ghost use Rattle.tree_plans.specs.declared.planner.PlannedBlock.{PlannedBlock};
@@ -53,6 +63,8 @@ struct RunningSync {
     // the addresses of the blocks that come back
     freed: Vec<u64>,
     ghost all_directories: { vec_len directories ≡ 84 },
+    ghost no_stages: { is_some run.stages ≡ false },
+    ghost freed_placed: { All (λ address. is_block_of (block_count run.geometry) address ≡ true) freed.items },
 }
 
 /// What a running pool keeps in memory: all but its device. Each step changes it, or leaves it as it was.
@@ -82,12 +94,18 @@ pub struct Pool {
     ghost next_ordinal_fits: { next_ordinal ≤ 2 ^ 60 + 1 },
     ghost plans_built: { All (λ (t : OpenTransaction). is_plan_built t.plan ≡ true) transactions.items },
     ghost running: { ForSome sync (λ r. (r.run.geometry ≡ geometry) × (r.run.done < call_count r.run)) },
+    ghost planned: { ForSome sync (λ r. ∥ ArePlaced (block_count geometry) (pointers_after r.root r.directories.items r.maps tree) ∥₁) },
+    ghost sync_line: { option_map (λ r. r.group.0) sync ≡ option_map (λ g. g.0) groups.syncing } by { Prim.hlevel props },
+    ghost pending_built: { All (λ (c : Committed). list_any is_rename c.ops ≡ false) pending.items },
+    ghost tree_placed: { ∥ ArePlaced (block_count geometry) (pointers_of tree) ∥₁ },
 }
 
 impl Pool {
-    ghost use Rattle.pool_core.specs.Lines.{line_of};
-    ghost use Rattle.pool_core.specs.Meets.{MayCommit, Meets};
-    ghost use Rattle.pool_core.specs.Shows.{grant_of, shown_of};
+    ghost use Rattle.pool_core.specs.Calls.{CallsNext};
+    ghost use Rattle.pool_core.specs.Lines.{MayNotStart, MayStart, line_of};
+    ghost use Rattle.pool_core.specs.Meets.{MayCommit, Meets, MeetsExplained};
+    ghost use Rattle.pool_core.specs.Progresses.{progress_of};
+    ghost use Rattle.pool_core.specs.Shows.{grant_of, new_plan, plan_of, shown_after_tree, shown_of};
     ghost use Rattle.pool_core.specs.Tables.{result_map};
     ghost use Rattle.pool_core.specs.Targets.{kept_range_of};
 
@@ -377,14 +395,10 @@ impl Pool {
     /// do not suffice; `NoMemory`.
     pub fn start_sync(&mut self, moment: u64) -> Result<Group, PoolError>
         ensures geometry { self.new.geometry ≡ self.old.geometry }
+        ensures step { MeetsExplained (stage.StartSync ⊥ [] moment) (result_map (λ group. group.0) result) (shown_of self.old) (shown_of self.new) }
     {
         self.check_running()?;
-        let Some(group) = self.groups.quiesced() else {
-            return Err(PoolError::NotReady);
-        };
-        if self.sync.is_some() {
-            return Err(PoolError::NotReady);
-        }
+        let group = self.check_start()?;
         let planned = self.plan_group(group)?;
         take_all(&mut self.free, &planned.blocks);
         self.sync = Some(self.running_sync(group, moment, planned));
@@ -392,8 +406,23 @@ impl Pool {
         Ok(group)
     }
 
+    // The quiesced group, where a sync of it may start.
+    fn check_start(&self) -> Result<Group, PoolError>
+        ensures group { IfOk result (λ group. IsGroup group.0) }
+        ensures may { MatchResult result (λ group. MayStart group.0 (line_of self.now.groups)) (λ e. (e ≡ PoolError.NotReady) × MayNotStart (line_of self.now.groups)) }
+    {
+        if self.sync.is_some() {
+            return Err(PoolError::NotReady);
+        }
+        self.groups.quiesced().ok_or(PoolError::NotReady)
+    }
+
     fn plan_group(&self, group: Group) -> Result<TreePlan, PoolError>
-        ensures { IfOk result (λ p. All (λ (b : PlannedBlock). b.index < block_count self.now.geometry) p.blocks.items) }
+        ensures within { IfOk result (λ p. All (λ (b : PlannedBlock). b.index < block_count self.now.geometry) p.blocks.items) }
+        ensures taken { IfOk result (λ p. map address_of p.blocks.items ≡ take (vec_len p.blocks) (addresses_from 0 self.now.free.flags.items)) }
+        ensures freed { IfOk result (λ p. All (λ address. is_block_of (block_count self.now.geometry) address ≡ true) p.freed.items) }
+        ensures placed { IfOk result (λ p. ∥ ArePlaced (block_count self.now.geometry) (pointers_after p.root p.directories.items p.maps self.now.tree) ∥₁) }
+        ensures refused { IfErr result (λ e. (e ≡ PoolError.NoMemory) ⊎ (e ≡ PoolError.NoSpace)) }
     {
         let objects = dirty_objects(self.alloc, &self.pending, group)?;
         let source = PlanSource {
@@ -410,9 +439,15 @@ impl Pool {
 
     fn running_sync(&self, group: Group, moment: u64, planned: TreePlan) -> RunningSync
         requires group { IsGroup group.0 }
-        requires placed { All (λ (b : PlannedBlock). b.index < block_count self.now.geometry) planned.blocks.items }
+        requires within { All (λ (b : PlannedBlock). b.index < block_count self.now.geometry) planned.blocks.items }
+        requires freed { All (λ address. is_block_of (block_count self.now.geometry) address ≡ true) planned.freed.items }
         ensures geometry { result.run.geometry ≡ self.now.geometry }
         ensures left { result.run.done < call_count result.run }
+        ensures group { result.group ≡ group }
+        ensures maps { result.maps ≡ planned.maps }
+        ensures directories { result.directories ≡ planned.directories }
+        ensures root { result.root ≡ planned.root }
+        ensures plan { plan_of self.now.log_address result ≡ new_plan moment self.now.log_address (map address_of planned.blocks.items) planned.freed.items planned.root }
     {
         let TreePlan {
             blocks,
@@ -458,6 +493,8 @@ impl Pool {
         requires { D.size device.old ≡ self.old.geometry }
         ensures size { D.size device.new ≡ D.size device.old }
         ensures geometry { self.new.geometry ≡ self.old.geometry }
+        ensures step { Meets steps.SyncStep (result_map progress_of result) (shown_of self.old) (shown_of self.new) }
+        ensures called { IsTrue D.keeps_model → CallsNext self.old.suspended self.old.sync (D.disk device.old) result (D.disk device.new) }
     {
         self.check_running()?;
         let Some(mut running) = self.sync.take() else {
@@ -466,7 +503,8 @@ impl Pool {
         match running.run.next(device) {
             Ok(true) => {
                 let group = running.group;
-                self.finish_sync(running);
+                self.groups.finish_sync(group);
+                self.finish_tree(running);
                 Ok(Progress::Synced(group))
             }
             Ok(false) => {
@@ -482,8 +520,13 @@ impl Pool {
     }
 
     // The synced group's tree is the pool's, what it replaced is free, and its transactions are no longer pending.
-    fn finish_sync(&mut self, running: RunningSync)
+    fn finish_tree(&mut self, running: RunningSync)
+        requires none { is_some self.old.sync ≡ false }
+        requires geometry { running.run.geometry ≡ self.old.geometry }
+        requires placed { ∥ ArePlaced (block_count self.old.geometry) (pointers_after running.root running.directories.items running.maps self.old.tree) ∥₁ }
         ensures geometry { self.new.geometry ≡ self.old.geometry }
+        ensures shown { shown_of self.new ≡ shown_after_tree running.group.0 running.freed.items running.root (shown_of self.old) }
+        ensures pointers { (place : Place) → IsPlace place → pointers_of self.new.tree place ≡ pointers_after running.root running.directories.items running.maps self.old.tree place }
     {
         let RunningSync {
             group,
@@ -498,8 +541,7 @@ impl Pool {
         self.tree.directories = directories;
         self.tree.set_all(maps);
         give_all(&mut self.free, self.geometry, &freed);
-        self.pending.retain(|committed| committed.group > group);
-        self.groups.finish_sync(group);
+        drop_synced(&mut self.pending, group);
     }
 }
 
@@ -530,7 +572,8 @@ fn bytes_in(bytes: &[u8], range: Range) -> &[u8]
 
 // These blocks are taken.
 fn take_all(free: &mut FreeSet, blocks: &[PlannedBlock])
-    ensures { vec_len free.new.flags ≡ vec_len free.old.flags }
+    ensures count { vec_len free.new.flags ≡ vec_len free.old.flags }
+    ensures free { free_of free.new.flags.items ≡ set.difference (free_of free.old.flags.items) (set.from_list (map address_of blocks.now)) }
 {
     for planned in blocks {
         free.take(planned.index);
@@ -539,11 +582,21 @@ fn take_all(free: &mut FreeSet, blocks: &[PlannedBlock])
 
 // The blocks at these addresses come back.
 fn give_all(free: &mut FreeSet, geometry: Geometry, addresses: &[u64])
-    ensures { vec_len free.new.flags ≡ vec_len free.old.flags }
+    requires count { vec_len free.old.flags ≡ block_count geometry }
+    requires placed { All (λ address. is_block_of (block_count geometry) address ≡ true) addresses.now }
+    ensures count { vec_len free.new.flags ≡ vec_len free.old.flags }
+    ensures free { free_of free.new.flags.items ≡ set.union (free_of free.old.flags.items) (set.from_list addresses.now) }
 {
     for address in addresses {
         if geometry.is_block_address(*address) {
             free.give(geometry.block_index(*address) as usize);
         }
     }
+}
+
+// The transactions of a synced group are no longer pending, nor are those of older ones.
+fn drop_synced(pending: &mut Vec<Committed>, group: Group)
+    ensures { pending.new.items ≡ filter (λ (c : Committed). nat_lt group.0 c.group.0) pending.old.items }
+{
+    pending.retain(|committed| committed.group > group);
 }

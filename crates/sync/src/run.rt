@@ -1,11 +1,11 @@
 //! The device calls of a sync, one at a time: its blocks and a flush, for a new name or an import the configs of two
-//! labels and a flush, the uberblock in each label and a flush, and then the other two labels. Labels are changed in two
-//! stages (On-Disk Specification, chapter 1).
+//! labels and a flush, the uberblock in each label and a flush, and then the other two labels.
 
 ghost use Rattle.std.specs.Prelude.{◌≡◌, ◌<◌, ◌+◌, ◌≤◌, ◌↔◌, All, IfOk, IsTrue, if◌then◌else◌, is_ok, vec_len};
 ghost use Rattle.base.specs.Geometry.{block_count};
 ghost use Rattle.tree_plans.specs.declared.planner.PlannedBlock.{PlannedBlock};
 
+use crate::call::{Call, plain_call, staged_call};
 use base::PoolError;
 use checked_blocks::Block;
 use device_model::SectorDevice;
@@ -17,14 +17,6 @@ use tree_plans::PlannedBlock;
 pub struct LabelStages {
     pub config: Block,
     pub first: Stage,
-}
-
-/// The stage that comes after this one.
-fn other(stage: Stage) -> Stage {
-    match stage {
-        Stage::Even => Stage::Odd,
-        Stage::Odd => Stage::Even,
-    }
 }
 
 /// A sync that runs.
@@ -43,11 +35,18 @@ pub struct SyncRun {
 }
 
 impl SyncRun {
+    ghost use Rattle.std.specs.Prelude.{Some, slice_get, length};
+    ghost use Rattle.base.specs.SyncOrder.{DeviceCall};
+    ghost use Rattle.base.specs.SyncOrder.{DeviceCall as device_call};
+    ghost use Rattle.base.specs.Calls.{Counts};
+    ghost use Rattle.sync.specs.CallOrder.{call_said};
+    ghost use Rattle.sync.specs.Calls.{HasCall, IsNextCall, MakesCall, TargetFits, calls_of, plain_answer, refusal_of};
     ghost use Rattle.sync.specs.Runs.{SameSync, call_count, other_calls};
 
     /// How many device calls the sync has in all.
     pub fn total(&self) -> usize
-        ensures { result ≡ call_count self.now }
+        ensures count { result ≡ call_count self.now }
+        ensures calls { result ≡ length (calls_of self.now) }
     {
         match self.stages {
             Some(_) => self.blocks.len() + 12,
@@ -55,10 +54,11 @@ impl SyncRun {
         }
     }
 
-    /// Makes the next device call, and says whether it was the last.
+    /// Makes the next device call, the one that has this place in the order of the sync's calls, and says whether it was
+    /// the last. A call that the device refuses is made again by the next `next`.
     ///
     /// # Errors
-    /// `Write`, `Flush`.
+    /// `Write`, `Flush`: what the call was, where the device refused it.
     pub fn next<D: SectorDevice>(&mut self, device: &mut D) -> Result<bool, PoolError>
         requires sized { D.size device.old ≡ self.old.geometry }
         requires left { self.old.done < call_count self.old }
@@ -66,61 +66,78 @@ impl SyncRun {
         ensures sync { SameSync self.old self.new }
         ensures done { self.new.done ≡ (if is_ok result then self.old.done + 1 else self.old.done) }
         ensures last { IfOk result (λ last. IsTrue last ↔ (self.new.done ≡ call_count self.new)) }
+        ensures there { (call : DeviceCall) × IsNextCall self.old call }
+        ensures called { IsTrue D.keeps_model → (call : DeviceCall) → IsNextCall self.old call
+            → MakesCall self.old call (D.disk device.old) (plain_answer result) (D.disk device.new) }
+        ensures count { (call : DeviceCall) → IsNextCall self.old call
+            → Counts (D.refused device.old) (D.refused device.new) (refusal_of call) (plain_answer result) }
     {
-        let blocks = self.blocks.len();
-        if self.done < blocks {
-            self.write_block(device, self.done)?;
-        } else if let Some(stages) = &self.stages {
-            self.make_staged_call(device, stages, self.done - blocks)?;
-        } else {
-            self.make_call(device, self.done - blocks)?;
-        }
+        self.make(device, self.call())?;
         self.done += 1;
         Ok(self.done == self.total())
     }
 
+    // The call that is made next.
+    fn call(&self) -> Call
+        requires { self.now.done < call_count self.now }
+        ensures next { IsNextCall self.now (call_said result) }
+        ensures there { HasCall self.now (call_said result) }
+    {
+        let blocks = self.blocks.len();
+        if self.done < blocks {
+            return Call::Block(self.done);
+        }
+        match &self.stages {
+            Some(stages) => staged_call(stages.first, self.done - blocks),
+            None => plain_call(self.done - blocks),
+        }
+    }
+
+    // Makes a call of the sync.
+    fn make<D: SectorDevice>(&self, device: &mut D, call: Call) -> Result<(), PoolError>
+        requires sized { D.size device.old ≡ self.now.geometry }
+        requires there { HasCall self.now (call_said call) }
+        ensures size { D.size device.new ≡ D.size device.old }
+        ensures fits { TargetFits self.now (call_said call) }
+        ensures called { IsTrue D.keeps_model
+            → MakesCall self.now (call_said call) (D.disk device.old) result (D.disk device.new) }
+        ensures count { Counts (D.refused device.old) (D.refused device.new) (refusal_of (call_said call)) result }
+    {
+        match call {
+            Call::Block(number) => self.write_block(device, number),
+            Call::Config(label) => self.write_config(device, label),
+            Call::Uberblock(label) => self.write_uberblock(device, label),
+            Call::Flush => device.flush(),
+        }
+    }
+
     fn write_block<D: SectorDevice>(&self, device: &mut D, number: usize) -> Result<(), PoolError>
         requires sized { D.size device.old ≡ self.now.geometry }
-        requires in_range { number < vec_len self.now.blocks }
-        ensures { D.size device.new ≡ D.size device.old }
+        requires there { HasCall self.now (device_call.Block number) }
+        ensures size { D.size device.new ≡ D.size device.old }
+        ensures fits { TargetFits self.now (device_call.Block number) }
+        ensures called { IsTrue D.keeps_model
+            → MakesCall self.now (device_call.Block number) (D.disk device.old) result (D.disk device.new) }
+        ensures count { Counts (D.refused device.old) (D.refused device.new) PoolError.Write result }
     {
         let planned = &self.blocks[number];
         let at = self.geometry.block_address(planned.index as u64);
         device.write(at, planned.block.as_bytes())
     }
 
-    // The calls behind the blocks of a sync that leaves the labels: a flush, four uberblocks, a flush.
-    fn make_call<D: SectorDevice>(&self, device: &mut D, position: usize) -> Result<(), PoolError>
+    fn write_config<D: SectorDevice>(&self, device: &mut D, label: usize) -> Result<(), PoolError>
         requires sized { D.size device.old ≡ self.now.geometry }
-        requires in_range { position < 6 }
-        ensures { D.size device.new ≡ D.size device.old }
+        requires there { HasCall self.now (device_call.Config label) }
+        ensures size { D.size device.new ≡ D.size device.old }
+        ensures fits { TargetFits self.now (device_call.Config label) }
+        ensures called { IsTrue D.keeps_model
+            → MakesCall self.now (device_call.Config label) (D.disk device.old) result (D.disk device.new) }
+        ensures count { Counts (D.refused device.old) (D.refused device.new) PoolError.Write result }
     {
-        match position {
-            0 | 5 => device.flush(),
-            _ => self.write_uberblock(device, position - 1),
-        }
-    }
-
-    // The calls behind the blocks of a sync that changes the labels: a flush, two configs and a flush, four uberblocks
-    // and a flush, two configs and a flush.
-    fn make_staged_call<D: SectorDevice>(
-        &self,
-        device: &mut D,
-        stages: &LabelStages,
-        position: usize,
-    ) -> Result<(), PoolError>
-        requires sized { D.size device.old ≡ self.now.geometry }
-        requires in_range { position < 12 }
-        ensures { D.size device.new ≡ D.size device.old }
-    {
-        match position {
-            0 | 3 | 8 | 11 => device.flush(),
-            1 => self.write_config(device, &stages.config, stages.first.labels()[0]),
-            2 => self.write_config(device, &stages.config, stages.first.labels()[1]),
-            9 => self.write_config(device, &stages.config, other(stages.first).labels()[0]),
-            10 => self.write_config(device, &stages.config, other(stages.first).labels()[1]),
-            _ => self.write_uberblock(device, position - 4),
-        }
+        let Some(stages) = &self.stages else {
+            unreachable!()
+        };
+        device.write(self.geometry.config_place(label), stages.config.as_bytes())
     }
 
     fn write_uberblock<D: SectorDevice>(
@@ -129,22 +146,13 @@ impl SyncRun {
         label: usize,
     ) -> Result<(), PoolError>
         requires sized { D.size device.old ≡ self.now.geometry }
-        requires label { label < 4 }
-        ensures { D.size device.new ≡ D.size device.old }
+        requires there { HasCall self.now (device_call.Uberblock label) }
+        ensures size { D.size device.new ≡ D.size device.old }
+        ensures fits { TargetFits self.now (device_call.Uberblock label) }
+        ensures called { IsTrue D.keeps_model
+            → MakesCall self.now (device_call.Uberblock label) (D.disk device.old) result (D.disk device.new) }
+        ensures count { Counts (D.refused device.old) (D.refused device.new) PoolError.Write result }
     {
         device.write(self.geometry.slot_place(label, self.slot), &self.uberblock)
-    }
-
-    fn write_config<D: SectorDevice>(
-        &self,
-        device: &mut D,
-        config: &Block,
-        label: usize,
-    ) -> Result<(), PoolError>
-        requires sized { D.size device.old ≡ self.now.geometry }
-        requires label { label < 4 }
-        ensures { D.size device.new ≡ D.size device.old }
-    {
-        device.write(self.geometry.config_place(label), config.as_bytes())
     }
 }

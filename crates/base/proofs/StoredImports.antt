@@ -1,0 +1,79 @@
+-- What an import that answers Ok keeps of its device: the tree that the image had, and no log.
+use Rattle.std.proofs.Common.{◌≡◌, ℕ, ◌+◌, ◌≤◌, List, [], length, refl, ap, sym, subst, ◌∙◌, arith}
+use Rattle.std.specs.Prelude.{Option, Some, None, Ok, slice_get, IfSome}
+use Rattle.std.specs.Ordering.{nat_cmp}
+use Rattle.std.specs.FinMap.{FinMap}
+use Rattle.base.specs.declared.pointer.Pointer.{Pointer}
+use Rattle.base.specs.Contents.{Contents}
+use Rattle.base.specs.Geometry.{block_count, IsBlockAddress}
+use Rattle.base.specs.Blocks.{Frame}
+use Rattle.base.specs.Groups.{Line, Middle}
+use Rattle.base.specs.History.{Entry}
+use Rattle.base.specs.Places.{Place, IsPlace, IsInTree}
+use Rattle.base.specs.Places.Place.{Root}
+use Rattle.base.specs.PlacedTrees.{HoldsTree, ArePlaced}
+use Rattle.base.specs.Uberblocks.{Uberblock}
+use Rattle.base.specs.Imports.{IsImported}
+use Rattle.base.specs.Mount.{frame_of}
+use Rattle.base.specs.Past.{Past, new_past}
+use Rattle.base.specs.Shown.{Shown}
+use Rattle.base.specs.Exact.{AreFree}
+use Rattle.base.specs.Stored.{IsStored, IsKept, SameBlocks, AreUpTo, frame_at}
+use Rattle.base.proofs.KeptLists.{none_at}
+use Rattle.base.proofs.PlacedTrees.{holds-placed}
+use Rattle.base.proofs.PlannedTrees.{holds-elsewhere}
+use Rattle.base.proofs.StoredTrees.{tree-along, free-along, blocks-along}
+
+module _ (image now : List ℕ) (u : Uberblock) (contents : Contents) (pointers : Place → Pointer) (created dirty_max : ℕ) (s : Shown) (is : IsImported u (block_count (length image)) contents dirty_max s)
+    (holds : HoldsTree image (frame_of image u) pointers contents.objects) (same : SameBlocks (block_count (length image)) image now) where
+  abbrev grown : Frame
+  grown = record { guid = u.guid; blocks = block_count (length image); group = u.group + 4 }
+
+  -- the tree is held after the import as before it
+  held : HoldsTree now grown pointers contents.objects
+  held = holds-elsewhere image now (frame_of image u) grown refl refl (omega arith) pointers contents.objects holds
+      (blocks-along (block_count (length image)) image now pointers (holds-placed image (frame_of image u) pointers contents.objects holds) same)
+
+  frames : grown ≡ frame_at s s.line.synced
+  frames =
+      let guids : u.guid ≡ s.guid = sym is.guid in
+      let counts : block_count (length image) ≡ s.blocks = sym is.blocks_are in
+      let groups : u.group + 4 ≡ s.line.synced = ap (λ (l : Line). l.synced) (sym is.line) in
+      λ i. record { guid = guids i; blocks = counts i; group = groups i }
+
+  pub import-tree : HoldsTree now (frame_at s s.line.synced) pointers contents.objects
+  import-tree = subst (λ (f : Frame). HoldsTree now f pointers contents.objects) frames held
+
+  -- its addresses are those that the image had
+  pub import-there : (address : ℕ) → IsInTree image (pointers Root) address → IsInTree now (pointers Root) address
+  import-there = tree-along image now (frame_of image u) grown pointers contents.objects contents.objects holds held
+
+  pub import-back : (address : ℕ) → IsInTree now (pointers Root) address → IsInTree image (pointers Root) address
+  import-back = tree-along now image grown (frame_of image u) pointers contents.objects contents.objects held holds
+
+  -- so the free blocks of the image are those of now
+  pub import-free : pointers Root ≡ s.root → AreFree image s → AreFree now s
+  import-free root = free-along image now s
+      (λ address. subst (λ (r : Pointer). IsInTree image r address → IsInTree now r address) root (import-there address))
+      (λ address. subst (λ (r : Pointer). IsInTree now r address → IsInTree image r address) root (import-back address))
+
+  -- with the empty past, the contents are those of the tree
+  pub imported-stored : pointers Root ≡ s.root → AreFree now s → IsBlockAddress s.blocks s.log.next.address → (IsInTree now s.root s.log.next.address → ⊥)
+      → IsKept now s pointers None (new_past contents created dirty_max)
+  imported-stored root free log_block apart = record {
+    stored = record {
+      synced = contents;
+      replayed = refl;
+      blocks = is.blocks_are ∙ ap (λ (n : ℕ). block_count n) (sym same.size);
+      tree = import-tree;
+      root = root;
+      free = free;
+      no_log = is.kept;
+      log_block = log_block;
+      log_apart = apart;
+      middle = subst (λ (o : Option Middle). IfSome o (λ (m : Middle). AreUpTo m.group [])) (ap (λ (l : Line). l.middle) (sym is.line)) tt;
+      syncing = subst (λ (o : Option ℕ). IfSome o (λ group. AreUpTo group [])) (ap (λ (l : Line). l.syncing) (sym is.line)) tt;
+      built = λ i a at. absurd (none_at i a at);
+    };
+    sync = is.sync;
+  }

@@ -1,0 +1,165 @@
+-- What a pool keeps of its device: the synced tree with its pointers, the free blocks, and of a running sync the tree and the blocks that it plans.
+use Rattle.std.specs.Prelude.{ℕ, ◌≡◌, ◌≢◌, ◌≤◌, ◌<◌, ◌+◌, ◌⊎◌, Bool, true, false, List, [], map, length, slice_get, All, Option, Some, None, IfSome, Ok}
+use Rattle.std.specs.List.{list_all}
+use Rattle.std.specs.Ordering.{nat_cmp}
+use Rattle.std.specs.FinMap.{FinMap}
+use Rattle.base.specs.declared.pointer.Pointer.{Pointer}
+use Rattle.base.specs.declared.step.Reply.{Reply}
+use Rattle.base.specs.declared.step.Reply.TheVariants as reply
+use Rattle.base.specs.Contents.{Contents}
+use Rattle.base.specs.Fields.{part, no_pointer}
+use Rattle.base.specs.Geometry.{block_size, block_count, IsBlockAddress}
+use Rattle.base.specs.History.{Entry, replay, entries_up_to}
+use Rattle.base.specs.Groups.{Middle, Admission}
+use Rattle.base.specs.Blocks.{Frame}
+use Rattle.base.specs.Disk.{put}
+use Rattle.base.specs.Places.{Place, IsPlace, IsInTree}
+use Rattle.base.specs.Places.Place.{Root}
+use Rattle.base.specs.PlacedTrees.{HoldsTree}
+use Rattle.base.specs.PlannedTrees.{NewBlock, IsTreePlan, StandsIn, AreFreed}
+use Rattle.base.specs.Past.{Past}
+use Rattle.base.specs.Shown.{Shown, SyncPlan}
+use Rattle.base.specs.Stage.{is_shape_built}
+use Rattle.base.specs.Exact.{AreFree}
+use Rattle.base.specs.ExactNow.{IsExplainedNow}
+use Rattle.base.specs.Steps.{State}
+
+-- whole blocks of the area, no two at one address
+pub record AreBlocks (blocks : ℕ) (bs : List NewBlock) : Type 0 where
+  pub in_area : (i : ℕ) (b : NewBlock) → slice_get bs i ≡ Some b → IsBlockAddress blocks b.address
+  pub whole : (i : ℕ) (b : NewBlock) → slice_get bs i ≡ Some b → length b.content ≡ block_size
+  pub apart : (i j : ℕ) (b c : NewBlock) → slice_get bs i ≡ Some b → slice_get bs j ≡ Some c → b.address ≡ c.address → i ≡ j
+
+-- none of the blocks is at this address
+abbrev pub IsUnwritten : List NewBlock → ℕ → Type 0
+IsUnwritten bs address = (i : ℕ) (b : NewBlock) → slice_get bs i ≡ Some b → b.address ≢ address
+
+-- none of the blocks is at an address that the old tree has
+abbrev pub LeavesTree : List NewBlock → (Place → Pointer) → Type 0
+LeavesTree bs old = (place : Place) → IsPlace place → old place ≢ no_pointer → IsUnwritten bs (old place).address
+
+-- each new block is one of the new tree
+abbrev pub AreUsed : List NewBlock → (Place → Pointer) → Type 0
+AreUsed bs new = (i : ℕ) (b : NewBlock) → slice_get bs i ≡ Some b → (place : Place) × IsPlace place × ((new place).address ≡ b.address)
+
+-- the guid and the blocks of a pool, with births up to a group
+abbrev pub frame_at : Shown → ℕ → Frame
+frame_at s group = record { guid = s.guid; blocks = s.blocks; group = group }
+
+-- no entry is of a group above this one
+abbrev pub AreUpTo : ℕ → List Entry → Type 0
+AreUpTo group entries = All (λ (e : Entry). e.group ≤ group) entries
+
+-- each plan has only shapes that are built so far
+abbrev pub AreBuilt : List Admission → Type 0
+AreBuilt admissions = (i : ℕ) (a : Admission) → slice_get admissions i ≡ Some a → list_all is_shape_built a.plan ≡ true
+
+-- The bytes hold the synced tree with these pointers, and the free blocks are the others but for the next log block. While an older
+-- group is unsynced no entry is above it, as no transaction commits then.
+pub record IsStored (now : List ℕ) (s : Shown) (pointers : Place → Pointer) (past : Past) : Type 0 where
+  pub synced : Contents
+  pub replayed : replay (entries_up_to s.line.synced past.entries) past.base ≡ Ok synced
+  pub blocks : s.blocks ≡ block_count (length now)
+  pub tree : HoldsTree now (frame_at s s.line.synced) pointers synced.objects
+  pub root : pointers Root ≡ s.root
+  pub free : AreFree now s
+  pub no_log : s.log.kept ≡ []
+  pub log_block : IsBlockAddress s.blocks s.log.next.address
+  pub log_apart : IsInTree now s.root s.log.next.address → ⊥
+  pub middle : IfSome s.line.middle (λ (m : Middle). AreUpTo m.group past.entries)
+  pub syncing : IfSome s.line.syncing (λ group. AreUpTo group past.entries)
+  pub built : AreBuilt past.admissions
+
+-- what a running sync makes: the pointers of the new tree, its blocks, and how many of them are written
+pub record NewTree : Type 0 where
+  pub pointers : Place → Pointer
+  pub blocks : List NewBlock
+  pub made : ℕ
+
+-- from the tree of the old pointers, of the objects before, a sync makes one of the new pointers and the objects after by writing these blocks
+pub record IsPlannedSync (frame : Frame) (old new : Place → Pointer) (bs : List NewBlock) (before after : FinMap nat_cmp (List ℕ)) (plan : SyncPlan) : Type 0 where
+  pub planned : IsTreePlan bs frame old new before after
+  pub taken : map (λ (b : NewBlock). b.address) bs ≡ plan.taken
+  pub whole : (i : ℕ) (b : NewBlock) → slice_get bs i ≡ Some b → length b.content ≡ block_size
+  pub freed : AreFreed old new plan.freed
+  pub used : AreUsed bs new
+  pub root : new Root ≡ plan.root
+
+-- The sync of the syncing group runs: it makes the tree of the contents, none of its blocks is one of the old tree or of the log, and
+-- the first so many of them are written.
+pub record IsSyncing (now : List ℕ) (s : Shown) (old : Place → Pointer) (new : NewTree) (past : Past) : Type 0 where
+  pub group : ℕ
+  pub plan : SyncPlan
+  pub syncing : s.line.syncing ≡ Some group
+  pub running : s.sync ≡ Some plan
+  pub synced : Contents
+  pub replayed : replay (entries_up_to s.line.synced past.entries) past.base ≡ Ok synced
+  pub planned : IsPlannedSync (frame_at s group) old new.pointers new.blocks synced.objects s.contents.objects plan
+  pub are : AreBlocks s.blocks new.blocks
+  pub leaves : LeavesTree new.blocks old
+  pub log_apart : IsUnwritten new.blocks s.log.next.address
+  pub made : new.made ≤ length new.blocks
+  pub written : (i : ℕ) (b : NewBlock) → i < new.made → slice_get new.blocks i ≡ Some b → StandsIn now s.blocks b
+
+-- the sync that runs, or that none does
+abbrev pub RunsAs : List ℕ → Shown → (Place → Pointer) → Option NewTree → Past → Type 0
+RunsAs now s old None past = s.sync ≡ None
+RunsAs now s old (Some new) past = IsSyncing now s old new past
+
+-- all of it
+pub record IsKept (now : List ℕ) (s : Shown) (pointers : Place → Pointer) (running : Option NewTree) (past : Past) : Type 0 where
+  pub stored : IsStored now s pointers past
+  pub sync : RunsAs now s pointers running past
+
+-- of so many blocks each is the same in both images
+pub record SameBlocks (blocks : ℕ) (before after : List ℕ) : Type 0 where
+  pub size : length after ≡ length before
+  pub each : (address : ℕ) → IsBlockAddress blocks address → part after address block_size ≡ part before address block_size
+
+-- a device call of a sync wrote the next of its blocks, or left each block of the area as it was
+abbrev pub Advances : ℕ → List ℕ → List ℕ → NewTree → NewTree → Type 0
+Advances blocks now later old new =
+    ((b : NewBlock) × (slice_get old.blocks old.made ≡ Some b) × (later ≡ put b.address b.content now) × (new ≡ record old { made = old.made + 1 }))
+    ⊎ (SameBlocks blocks now later × (new ≡ old))
+
+-- whether a reply says that the sync of a group was started, or is done: what is kept of the device turns then
+abbrev pub is_turn : Reply → Bool
+is_turn (reply.Syncing group) = true
+is_turn (reply.Synced group) = true
+is_turn _ = false
+
+-- a pool over its device: what is shown with its past, the bytes, the pointers of the synced tree, and the running sync
+pub record Held : Type 0 where
+  pub state : State
+  pub now : List ℕ
+  pub pointers : Place → Pointer
+  pub running : Option NewTree
+
+-- its past explains it, and what it keeps of its device is so
+pub record IsHeld (h : Held) : Type 0 where
+  pub explained : IsExplainedNow h.state.shown h.state.past
+  pub kept : IsKept h.now h.state.shown h.pointers h.running h.state.past
+
+-- the sync of a group was started: its tree and blocks are planned from the stored tree, and nothing is written
+pub record Starts (group : ℕ) (old new : Held) : Type 0 where
+  pub same : SameBlocks old.state.shown.blocks old.now new.now
+  pub pointers : new.pointers ≡ old.pointers
+  pub tree : Place → Pointer
+  pub bs : List NewBlock
+  pub plan : SyncPlan
+  pub running : new.running ≡ Some (record { pointers = tree; blocks = bs; made = 0 })
+  pub plan_is : new.state.shown.sync ≡ Some plan
+  pub planned : (x : IsHeld old) → IsPlannedSync (frame_at old.state.shown group) old.pointers tree bs x.kept.stored.synced.objects old.state.shown.contents.objects plan
+
+-- a device call of a running sync was made
+pub record Calls (old new : Held) (after : NewTree) : Type 0 where
+  pub before : NewTree
+  pub running : old.running ≡ Some before
+  pub advances : Advances old.state.shown.blocks old.now new.now before after
+
+-- how a step moves the bytes, the pointers and the running sync, by its reply
+abbrev pub Moves : Reply → Held → Held → Type 0
+Moves (reply.Syncing group) old new = Starts group.0 old new
+Moves reply.More old new = (after : NewTree) × Calls old new after × (new.pointers ≡ old.pointers) × (new.running ≡ Some after)
+Moves (reply.Synced group) old new = (after : NewTree) × Calls old new after × (after.made ≡ length after.blocks) × (new.pointers ≡ after.pointers) × (new.running ≡ None)
+Moves _ old new = SameBlocks old.state.shown.blocks old.now new.now × (new.pointers ≡ old.pointers) × (new.running ≡ old.running)

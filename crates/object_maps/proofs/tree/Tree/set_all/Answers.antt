@@ -1,0 +1,18 @@
+use Rattle.std.proofs.Common.{◌≡◌, ◌∙◌, sym}
+use Rattle.std.specs.Prelude.{List}
+use Rattle.std.specs.BTreeMap as tree
+use Rattle.base.specs.Limits.{object_count}
+use Rattle.object_maps.specs.declared.tree.ObjectMap.{ObjectMap}
+use Rattle.object_maps.specs.SetMaps.{set_maps}
+use Rattle.object_maps.specs.Pointers.{id_cmp, pointers_at, with_maps, map_among}
+use Rattle.object_maps.proofs.SetMaps.{set_all-pointers}
+use Rattle.object_maps.proofs.tree.Tree.set_all.Goals as goal
+
+pub returns-clause-pointers : goal.returns-clause-pointers
+returns-clause-pointers c =
+    let h = c.into_iter-id-iterator.ensures.into_iter_gives in
+    let o : tree.IsOrdered id_cmp c.args.maps = h.5 in
+    let i = c.loop-id.invariant in
+    let empty = (rw c.in-None.is at c.next.ensures.steps).0 in
+    let done : c.loop-id.self.maps.items ≡ set_maps c.args.maps.entries c.args.self.now.maps.items = (rw empty at i.maps) in
+    rw (i.root, i.directories, done) (set_all-pointers c.args.self.now.root c.args.self.now.directories.items c.args.self.now.maps.items c.args.maps (sym c.args.self.now.maps.ok.0 ∙ c.args.self.now.all_objects) o)

@@ -1,0 +1,114 @@
+-- What a load of a tree puts into memory, and how it stands for what the image has.
+use Rattle.std.specs.Prelude.{ℕ, ◌≡◌, ◌≤◌, ◌<◌, ◌+◌, ◌-◌, ◌*◌, ◌^◌, ◌⊎◌, Bool, IsTrue, List, [], Option, None, IfSome, length, slice_get, replicate}
+use Rattle.base.specs.declared.error.PoolError.{PoolError}
+use Rattle.base.specs.declared.error.PoolError.TheVariants.{NoMemory, Read, Damaged}
+use Rattle.base.specs.declared.pointer.Pointer.{Pointer}
+use Rattle.base.specs.Limits.{max_length, pointer_count, entry_count}
+use Rattle.base.specs.Fields.{pointer_in, entry_in, no_pointer}
+use Rattle.base.specs.Disk.{Disk, bytes_of}
+use Rattle.base.specs.Geometry.{block_count}
+use Rattle.base.specs.Blocks.{Frame}
+use Rattle.base.specs.Places.Place.{Root, Directory, Indirect}
+use Rattle.base.specs.Tree.{OpensAt, IsRecord, record_bytes}
+use Rattle.base.specs.PlacedTrees.{IsEntryFor, IsPlaced}
+use Rattle.object_maps.specs.declared.contents.Slot.{Slot}
+use Rattle.object_maps.specs.declared.tree.ObjectMap.{ObjectMap}
+use Rattle.object_maps.specs.ContentsShown.{object_in}
+use Rattle.object_maps.specs.Pointers.{pointer_of_list, indirect_of, records_of}
+
+-- a device that keeps the model has this image now
+abbrev pub Shows : Bool → Disk → List ℕ → Type 0
+Shows keeps disk image = IsTrue keeps → bytes_of disk.now ≡ image
+
+-- the pool that a frame tells of, on a device of so many bytes
+abbrev pub frame_of : Frame → ℕ → Frame
+frame_of frame size = record { guid = frame.guid; blocks = block_count size; group = frame.group }
+
+-- Why a load is refused: there is no memory, the device refused a read, or a block is damaged. The count of refused calls
+-- is told below its limit.
+abbrev pub IsLoadRefusal : ℕ → ℕ → PoolError → Type 0
+IsLoadRefusal old new e = (e ≡ NoMemory) ⊎ (((e ≡ Read) × (old < 2 ^ 64 - 1 → old < new)) ⊎ ((kind : ℕ) × (address : ℕ) × (e ≡ Damaged kind address)))
+
+-- record r of object n, with this pointer to it and these bytes of the object
+pub record IsLoadedRecord (keeps : Bool) (image : List ℕ) (frame : Frame) (n r : ℕ) (pointer : Pointer) (bytes : List ℕ) : Type 0 where
+  pub placed : IsPlaced frame.blocks pointer
+  pub stands : IsTrue keeps → IsRecord image frame n r pointer bytes
+
+-- an object has zeros in its record r
+abbrev pub IsZeroRecord : ℕ → List ℕ → Type 0
+IsZeroRecord r bytes = record_bytes r bytes ≡ replicate (length (record_bytes r bytes)) 0
+
+-- so many records of object n, and zeros for the others
+pub record AreLoadedRecords (keeps : Bool) (image : List ℕ) (frame : Frame) (n : ℕ) (records : List Pointer) (bytes : List ℕ) (count : ℕ) : Type 0 where
+  pub loaded : (r : ℕ) → r < count → IsLoadedRecord keeps image frame n r (pointer_of_list records r) bytes
+  pub rest : (r : ℕ) → count ≤ r → IsZeroRecord r bytes
+
+-- no indirect block and no records, or the block with the pointers to the records
+abbrev pub IndirectStands : List ℕ → Frame → ℕ → Pointer → List Pointer → Type 0
+IndirectStands image frame n indirect records =
+    ((indirect ≡ no_pointer) × ((r : ℕ) → r < pointer_count → pointer_of_list records r ≡ no_pointer))
+    ⊎ ((payload : List ℕ) × OpensAt image frame (Indirect n) indirect payload × ((r : ℕ) → r < pointer_count → pointer_in payload r ≡ pointer_of_list records r))
+
+-- object n, with these pointers to its indirect block and its records
+pub record IsLoadedObject (keeps : Bool) (image : List ℕ) (frame : Frame) (n : ℕ) (object : Option (List ℕ)) (indirect : Pointer) (records : List Pointer) : Type 0 where
+  pub placed : IsPlaced frame.blocks indirect
+  pub records_placed : (r : ℕ) → r < pointer_count → IsPlaced frame.blocks (pointer_of_list records r)
+  pub bounded : IfSome object (λ bytes. length bytes ≤ max_length)
+  pub stands : IsTrue keeps → IndirectStands image frame n indirect records
+  pub records_stand : IsTrue keeps → (r : ℕ) → r < pointer_count → IfSome object (λ bytes. IsRecord image frame n r (pointer_of_list records r) bytes)
+
+-- object n of the slots, with its pointers
+abbrev pub IsLoadedAt : Bool → List ℕ → Frame → List Slot → List ObjectMap → ℕ → Type 0
+IsLoadedAt keeps image frame slots maps n = IsLoadedObject keeps image frame n (object_in slots n) (indirect_of maps n) (records_of maps n)
+
+-- the slots have no object n, and no pointers of it
+pub record IsEmptyAt (slots : List Slot) (maps : List ObjectMap) (n : ℕ) : Type 0 where
+  pub object : object_in slots n ≡ None
+  pub indirect : indirect_of maps n ≡ no_pointer
+  pub records : records_of maps n ≡ []
+
+-- the entry of object n
+abbrev pub IsEntryAt : List Slot → List ObjectMap → ℕ → List ℕ → Type 0
+IsEntryAt slots maps n entry = IsEntryFor entry (indirect_of maps n) (object_in slots n)
+
+-- all but so many objects from this one on are as before
+pub record SameBut (start count : ℕ) (old_slots slots : List Slot) (old_maps maps : List ObjectMap) : Type 0 where
+  pub same_slots : (n : ℕ) → (n < start) ⊎ (start + count ≤ n) → slice_get slots n ≡ slice_get old_slots n
+  pub same_maps : (n : ℕ) → (n < start) ⊎ (start + count ≤ n) → slice_get maps n ≡ slice_get old_maps n
+
+-- so many objects of directory d as its entries say, the others as before
+pub record AreLoadedEntries (keeps : Bool) (image : List ℕ) (frame : Frame) (d : ℕ) (payload : List ℕ) (count : ℕ)
+    (old_slots slots : List Slot) (old_maps maps : List ObjectMap) : Type 0 where
+  pub objects : (k : ℕ) → k < count → IsLoadedAt keeps image frame slots maps (entry_count * d + k)
+  pub entries : (k : ℕ) → k < count → IsEntryAt slots maps (entry_count * d + k) (entry_in payload k)
+  pub others : SameBut (entry_count * d) count old_slots slots old_maps maps
+
+-- no directory and none of its objects, or the block with their entries
+abbrev pub DirectoryStands : List ℕ → Frame → ℕ → Pointer → List Slot → List ObjectMap → Type 0
+DirectoryStands image frame d pointer slots maps =
+    ((pointer ≡ no_pointer) × ((k : ℕ) → k < entry_count → IsEmptyAt slots maps (entry_count * d + k)))
+    ⊎ ((payload : List ℕ) × OpensAt image frame (Directory d) pointer payload
+    × ((k : ℕ) → k < entry_count → IsEntryAt slots maps (entry_count * d + k) (entry_in payload k)))
+
+-- the objects of directory d, with this pointer to it
+pub record IsLoadedDirectory (keeps : Bool) (image : List ℕ) (frame : Frame) (d : ℕ) (pointer : Pointer) (slots : List Slot) (maps : List ObjectMap) : Type 0 where
+  pub placed : IsPlaced frame.blocks pointer
+  pub objects : (k : ℕ) → k < entry_count → IsLoadedAt keeps image frame slots maps (entry_count * d + k)
+  pub stands : IsTrue keeps → DirectoryStands image frame d pointer slots maps
+
+-- the objects of so many directories, and none of the others
+pub record AreLoadedDirectories (keeps : Bool) (image : List ℕ) (frame : Frame) (directories : List Pointer) (count : ℕ) (slots : List Slot) (maps : List ObjectMap) : Type 0 where
+  pub loaded : (d : ℕ) → d < count → IsLoadedDirectory keeps image frame d (pointer_of_list directories d) slots maps
+  pub rest : (n : ℕ) → entry_count * count ≤ n → IsEmptyAt slots maps n
+
+-- no root and no directories, or the block with the pointers to these
+abbrev pub RootStands : List ℕ → Frame → Pointer → List Pointer → Type 0
+RootStands image frame root directories =
+    ((root ≡ no_pointer) × ((d : ℕ) → d < pointer_count → pointer_of_list directories d ≡ no_pointer))
+    ⊎ ((payload : List ℕ) × OpensAt image frame Root root payload × ((d : ℕ) → d < pointer_count → pointer_in payload d ≡ pointer_of_list directories d))
+
+-- a tree, with the pointers to its root and its directories
+pub record IsLoadedTree (keeps : Bool) (image : List ℕ) (frame : Frame) (root : Pointer) (directories : List Pointer) (slots : List Slot) (maps : List ObjectMap) : Type 0 where
+  pub placed : IsPlaced frame.blocks root
+  pub stands : IsTrue keeps → RootStands image frame root directories
+  pub each : (d : ℕ) → d < pointer_count → IsLoadedDirectory keeps image frame d (pointer_of_list directories d) slots maps

@@ -1,0 +1,13 @@
+-- The pointers of a tree once a sync is done.
+use Rattle.std.specs.Prelude.{List}
+use Rattle.std.specs.BTreeMap.{BTreeMap}
+use Rattle.base.specs.declared.names.ObjectId.{ObjectId}
+use Rattle.base.specs.declared.pointer.Pointer.{Pointer}
+use Rattle.base.specs.Places.{Place}
+use Rattle.object_maps.specs.declared.tree.ObjectMap.{ObjectMap}
+use Rattle.object_maps.specs.declared.tree.Tree.{Tree}
+use Rattle.object_maps.specs.Pointers.{map_among, pointers_at, with_maps}
+
+-- the new root and directories, the new pointers of the objects that have some, and those of the tree for all others
+abbrev pub pointers_after : Pointer → List Pointer → BTreeMap ObjectId ObjectMap → Tree → Place → Pointer
+pointers_after root directories maps tree = with_maps (map_among maps) (pointers_at root directories tree.maps.items)

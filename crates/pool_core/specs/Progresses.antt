@@ -1,0 +1,9 @@
+-- What a step of a sync answers, as definitions speak of it.
+use Rattle.base.specs.Steps as steps
+use Rattle.base.specs.Steps.Progress.{More as more, Synced as synced}
+use Rattle.pool_core.specs.declared.state.Progress.{Progress}
+use Rattle.pool_core.specs.declared.state.Progress.TheVariants.{More, Synced}
+
+abbrev pub progress_of : Progress → steps.Progress
+progress_of More = more
+progress_of (Synced group) = synced group.0

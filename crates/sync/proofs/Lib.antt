@@ -1,0 +1,3 @@
+pub mod CallPlaces
+pub mod Targets
+pub mod Written

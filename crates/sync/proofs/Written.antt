@@ -1,0 +1,1 @@
+-- What a sync has written, from call to call.

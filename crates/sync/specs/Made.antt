@@ -1,0 +1,32 @@
+-- What a sync has written so far.
+use Rattle.std.specs.Prelude.{ℕ, ◌≡◌, ◌<◌, List, map, Option, Some, nat_eq, length, slice_get, slice_index}
+use Rattle.std.specs.List.{IsDistinct}
+use Rattle.base.specs.Fields.{part}
+use Rattle.base.specs.Disk.{IsInRange}
+use Rattle.base.specs.SyncOrder.{DeviceCall}
+use Rattle.tree_plans.specs.declared.planner.PlannedBlock.{PlannedBlock}
+use Rattle.sync.specs.declared.run.SyncRun.{SyncRun}
+use Rattle.sync.specs.Calls.{Target, target_of, calls_of}
+
+-- the targets of a sync's calls, in order; a flush has none
+abbrev pub targets_of : SyncRun → List (Option Target)
+targets_of run = map (target_of run) (calls_of run)
+
+-- this is the target of the k-th call
+abbrev pub IsTarget : List (Option Target) → ℕ → Target → Type 0
+IsTarget targets k t = slice_get targets k ≡ Some (Some t)
+
+-- Of these targets the first so many are written, and no other byte: each written target has its bytes, and each byte outside of
+-- them is as in the base.
+pub record AreWritten (base : List ℕ) (targets : List (Option Target)) (done : ℕ) (image : List ℕ) : Type 0 where
+  pub size : length image ≡ length base
+  pub each : (k : ℕ) (t : Target) → k < done → IsTarget targets k t → part image t.place t.size ≡ t.content
+  pub others : (i : ℕ) → ((k : ℕ) (t : Target) → k < done → IsTarget targets k t → IsInRange t.place t.size i → ⊥) → slice_index image i ≡ slice_index base i
+
+-- the image is the base with what the sync has written so far
+abbrev pub HasMade : List ℕ → SyncRun → List ℕ → Type 0
+HasMade base run image = AreWritten base (targets_of run) run.done image
+
+-- no two blocks have one place
+abbrev pub HasDistinctBlocks : SyncRun → Type 0
+HasDistinctBlocks run = IsDistinct nat_eq (map (λ (b : PlannedBlock). b.index) run.blocks.items)
