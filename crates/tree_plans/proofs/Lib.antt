@@ -4,3 +4,4 @@ pub mod Entries
 pub mod Walks
 pub mod Planned
 pub mod Marked
+pub mod Uses

@@ -103,11 +103,11 @@ pub record_stays : {flags : List Bool} {s t : Progress} (n r : ℕ) (bytes : Lis
 record_stays n r bytes true old new g w = written_stays g w
 record_stays n r bytes false old new g e = e
 
-last_of : {A : Type 0} (xs : List A) (a d : A) → slice_index_or (xs ++ a ∷ []) (length xs) d ≡ a
+pub last_of : {A : Type 0} (xs : List A) (a d : A) → slice_index_or (xs ++ a ∷ []) (length xs) d ≡ a
 last_of [] a d = refl
 last_of (x ∷ xs) a d = last_of xs a d
 
-front_of : {A : Type 0} (xs : List A) (a d : A) (i : ℕ) → i < length xs → slice_index_or (xs ++ a ∷ []) i d ≡ slice_index_or xs i d
+pub front_of : {A : Type 0} (xs : List A) (a d : A) (i : ℕ) → i < length xs → slice_index_or (xs ++ a ∷ []) i d ≡ slice_index_or xs i d
 front_of [] a d i low = absurd (omega arith)
 front_of (x ∷ xs) a d zero low = refl
 front_of (x ∷ xs) a d (suc i) low = front_of xs a d i (omega arith)

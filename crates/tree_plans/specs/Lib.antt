@@ -3,3 +3,4 @@ pub mod Plans
 pub mod Walks
 pub mod Changes
 pub mod Marks
+pub mod Uses

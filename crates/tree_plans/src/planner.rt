@@ -1,7 +1,7 @@
 //! The plan of a sync's tree: which blocks a group's operations make, where they lie, and what they replace. Live blocks
 //! are never overwritten (On-Disk Specification, chapter 2): each block is written to a free place.
 
-ghost use Rattle.std.specs.Prelude.{◌≡◌, ◌<◌, All, vec_len};
+ghost use Rattle.std.specs.Prelude.{◌≡◌, ◌<◌, All, length, vec_len};
 ghost use Rattle.std.specs.List.{list_any};
 ghost use Rattle.base.specs.Geometry.{block_count};
 ghost use Rattle.tree_plans.specs.declared.planner.PlannedBlock.{PlannedBlock};
@@ -100,6 +100,7 @@ pub struct Planner {
     pub blocks: Vec<PlannedBlock>,
     pub freed: Vec<u64>,
     ghost placed: { All (λ (b : PlannedBlock). b.index < block_count geometry) blocks.items },
+    ghost whole: { All (λ (b : PlannedBlock). length b.block ≡ 4096) blocks.items },
 }
 
 impl Planner {
@@ -107,6 +108,7 @@ impl Planner {
     ghost use Rattle.base.specs.Places.{IsPlace};
     ghost use Rattle.checked_blocks.specs.Sealing.{padded};
     ghost use Rattle.tree_plans.specs.Plans.{AreRecordsPlanned, FreesOnly, Goes, IsObjectPlanned, IsRecordPlanned, IsWant, IsWritten, ObjectFrees, RecordFrees, RecordsFree, place_of, progress_of};
+    ghost use Rattle.tree_plans.specs.Uses.{ObjectUses, PointersUse, UsesOnly};
 
     /// Takes the lowest free block for this payload. What it replaces comes back.
     pub fn place(
@@ -123,6 +125,7 @@ impl Planner {
         ensures goes { OnOk result (Goes free.now.flags.items (progress_of self.old) (progress_of self.new)) }
         ensures written { IfOk result (λ pointer. IsWritten (progress_of self.new) (place_of place) replaced.now pointer (padded payload.now)) }
         ensures frees { OnOk result (FreesOnly self.old.freed.items self.new.freed.items replaced.now) }
+        ensures uses { IfOk result (λ pointer. UsesOnly (progress_of self.old).blocks (progress_of self.new).blocks pointer.address) }
         ensures refused { IfErr result IsWant }
     {
         let Some(index) = free.next_from(self.next) else {
@@ -158,6 +161,7 @@ impl Planner {
         ensures goes { OnOk result (Goes free.now.flags.items (progress_of self.old) (progress_of self.new)) }
         ensures planned { IfOk result (λ pointer. IsRecordPlanned (progress_of self.new) place.id.0 place.index bytes.now dirty old.now pointer) }
         ensures frees { OnOk result (RecordFrees self.old.freed.items self.new.freed.items dirty old.now) }
+        ensures uses { IfOk result (λ pointer. UsesOnly (progress_of self.old).blocks (progress_of self.new).blocks pointer.address) }
         ensures refused { IfErr result IsWant }
     {
         if !dirty {
@@ -187,6 +191,7 @@ impl Planner {
         ensures goes { OnOk result (Goes free.now.flags.items (progress_of self.old) (progress_of self.new)) }
         ensures planned { IfOk result (λ records. AreRecordsPlanned (progress_of self.new) id.0 bytes.now dirty.now.flags old.now 84 records.items) }
         ensures frees { OnOk result (RecordsFree self.old.freed.items self.new.freed.items dirty.now.flags old.now 84) }
+        ensures uses { IfOk result (λ records. PointersUse (progress_of self.old).blocks (progress_of self.new).blocks records.items 84) }
         ensures refused { IfErr result IsWant }
     {
         let mut records = Vec::with_capacity(self.alloc, POINTER_COUNT)?;
@@ -214,6 +219,7 @@ impl Planner {
         ensures goes { OnOk result (Goes free.now.flags.items (progress_of self.old) (progress_of self.new)) }
         ensures planned { IfOk result (λ map. IsObjectPlanned (progress_of self.new) id.0 bytes.now dirty.now.flags old.now map) }
         ensures frees { OnOk result (ObjectFrees self.old.freed.items self.new.freed.items dirty.now.flags old.now) }
+        ensures uses { IfOk result (λ map. ObjectUses (progress_of self.old).blocks (progress_of self.new).blocks map) }
         ensures refused { IfErr result IsWant }
     {
         let records = self.place_records(free, id, bytes, old, dirty)?;

@@ -1,20 +1,22 @@
 //! The walk of a sync over a tree: objects, directories, the root.
 
-ghost use Rattle.std.specs.Prelude.{◌≡◌, ◌<◌, ◌++◌, ◌∷◌, [], ℕ, List, All, Some, true, false, length, map, slice_index_or, take, vec_len, IfOk, IfErr, OnOk};
+ghost use Rattle.std.specs.Prelude.{◌≡◌, ◌<◌, ◌++◌, ◌∷◌, [], ℕ, ◌==◌, List, All, Some, None, true, false, length, map, slice_get, slice_index_or, take, vec_len, IfOk, IfErr, OnOk};
 ghost use Rattle.std.specs.FinMap.{FinMap};
 ghost use Rattle.std.specs.Ordering.{nat_cmp};
 ghost use Rattle.base.specs.declared.names.ObjectId.{ObjectId};
 ghost use Rattle.base.specs.Fields.{no_pointer};
-ghost use Rattle.base.specs.Geometry.{IsBlockAddress, block_count};
+ghost use Rattle.base.specs.Geometry.{IsBlockAddress, block_count, block_size};
 ghost use Rattle.base.specs.PlacedTrees.{ArePlaced};
-ghost use Rattle.base.specs.PlannedTrees.{AreFreed, IsTreePlan};
+ghost use Rattle.base.specs.PlannedTrees.{AreFreed, IsTreePlan, NewBlock};
+ghost use Rattle.base.specs.Stored.{AreUsed};
 ghost use Rattle.object_maps.specs.ContentsShown.{contents_of};
 ghost use Rattle.space.specs.FreeSets.{addresses_from};
 ghost use Rattle.tree_plans.specs.Changes.{AreBornBefore, AreChanges, HasNoOthers, IsCoveredBy, frame_of};
 ghost use Rattle.tree_plans.specs.declared.planner.DirtyRecords.{DirtyRecords};
 ghost use Rattle.tree_plans.specs.declared.planner.PlannedBlock.{PlannedBlock};
 ghost use Rattle.tree_plans.specs.Plans.{Goes, IsWant, RecordFrees, address_of, new_block, progress_of};
-ghost use Rattle.tree_plans.specs.Pointers.{entry_of, planned_pointers, pointers_of};
+ghost use Rattle.tree_plans.specs.Pointers.{entry_of, planned_map, planned_pointers, pointers_from, pointers_of};
+ghost use Rattle.tree_plans.specs.Uses.{ObjectsUse, PointersUse, UsesOnly};
 ghost use Rattle.tree_plans.specs.Walks.{AreDirectoriesPlanned, AreObjectsPlanned, DirectoriesFree, IsDirectoryPlanned, IsRootPlanned, IsWalked, ObjectsFree, is_any_touched, is_directory_touched};
 
 use crate::payload::{directory_payload, payload_of};
@@ -75,6 +77,8 @@ pub fn plan(
     ensures kept_root { IfOk result (λ p. is_any_touched objects.now.entries ≡ false → p.root ≡ source.now.tree.now.root) }
     ensures new_root { IfOk result (λ p. is_any_touched objects.now.entries ≡ true → p.root.birth ≡ source.now.group.0) }
     ensures none { IfOk result (λ p. objects.now.entries ≡ [] → p.blocks.items ≡ []) }
+    ensures used { IfOk result (λ p. AreUsed (map new_block p.blocks.items) (planned_pointers source.now.tree.now p)) }
+    ensures whole { IfOk result (λ p. (i : ℕ) (b : NewBlock) → slice_get (map new_block p.blocks.items) i ≡ Some b → length b.content ≡ block_size) }
     ensures refused { IfErr result IsWant }
 {
     let mut planner = Planner {
@@ -113,10 +117,12 @@ fn place_tree(
     requires geometry { planner.old.geometry ≡ source.now.geometry }
     requires free { vec_len source.now.free.now.flags ≡ block_count source.now.geometry }
     requires none_freed { planner.old.freed.items ≡ [] }
+    requires none_planned { planner.old.blocks.items ≡ [] }
     ensures geometry { planner.new.geometry ≡ planner.old.geometry }
     ensures count { IfOk result (λ tree. vec_len tree.directories ≡ 84) }
     ensures goes { OnOk result (Goes source.now.free.now.flags.items (progress_of planner.old) (progress_of planner.new)) }
     ensures walked { IfOk result (λ tree. IsWalked (progress_of planner.new) source.now.tree.now (contents_of source.now.contents.now).objects objects.now.entries tree.maps.entries tree.directories.items tree.root) }
+    ensures used { IfOk result (λ tree. AreUsed (map new_block planner.new.blocks.items) (pointers_from tree.root tree.directories.items (planned_map source.now.tree.now.maps.items tree.maps.entries))) }
     ensures kept { OnOk result (objects.now.entries ≡ [] → planner.new ≡ planner.old) }
     ensures refused { IfErr result IsWant }
 {
@@ -144,6 +150,7 @@ fn place_root(
     ensures goes { OnOk result (Goes source.now.free.now.flags.items (progress_of planner.old) (progress_of planner.new)) }
     ensures planned { IfOk result (λ root. IsRootPlanned (progress_of planner.new) directories.now (is_any_touched objects.now.entries) source.now.tree.now.root root) }
     ensures frees { OnOk result (RecordFrees planner.old.freed.items planner.new.freed.items (is_any_touched objects.now.entries) source.now.tree.now.root) }
+    ensures uses { IfOk result (λ root. UsesOnly (progress_of planner.old).blocks (progress_of planner.new).blocks root.address) }
     ensures kept { OnOk result (objects.now.entries ≡ [] → planner.new ≡ planner.old) }
     ensures refused { IfErr result IsWant }
 {
@@ -167,6 +174,7 @@ fn place_objects(
     ensures goes { OnOk result (Goes source.now.free.now.flags.items (progress_of planner.old) (progress_of planner.new)) }
     ensures planned { IfOk result (λ maps. AreObjectsPlanned (progress_of planner.new) source.now.tree.now.maps.items (contents_of source.now.contents.now).objects objects.now.entries objects.now.entries maps.entries) }
     ensures frees { IfOk result (λ maps. ObjectsFree planner.old.freed.items planner.new.freed.items source.now.tree.now.maps.items objects.now.entries maps.entries) }
+    ensures uses { IfOk result (λ maps. ObjectsUse (progress_of planner.old).blocks (progress_of planner.new).blocks maps.entries) }
     ensures kept { OnOk result (objects.now.entries ≡ [] → planner.new ≡ planner.old) }
     ensures refused { IfErr result IsWant }
 {
@@ -195,6 +203,9 @@ fn place_changed(
     ensures frees { OnOk result ((objects : List (ObjectId × DirtyRecords)) (first : List ℕ) → entry_of objects id.0 ≡ Some dirty.now
         → ObjectsFree first planner.old.freed.items source.now.tree.now.maps.items objects maps.old.entries
         → ObjectsFree first planner.new.freed.items source.now.tree.now.maps.items objects maps.new.entries) }
+    ensures uses { OnOk result ((first : List NewBlock) → entry_of maps.old.entries id.0 ≡ None
+        → ObjectsUse first (progress_of planner.old).blocks maps.old.entries → ObjectsUse first (progress_of planner.new).blocks maps.new.entries) }
+    ensures others { OnOk result ((n : ℕ) → (id.0 == n) ≡ false → entry_of maps.new.entries n ≡ entry_of maps.old.entries n) }
     ensures refused { IfErr result IsWant }
 {
     if id.0 >= OBJECT_COUNT {
@@ -223,6 +234,7 @@ fn place_directories(
     ensures goes { OnOk result (Goes source.now.free.now.flags.items (progress_of planner.old) (progress_of planner.new)) }
     ensures planned { IfOk result (λ directories. AreDirectoriesPlanned (progress_of planner.new) source.now.tree.now.maps.items maps.now.entries (contents_of source.now.contents.now).objects objects.now.entries source.now.tree.now.directories.items 84 directories.items) }
     ensures frees { OnOk result (DirectoriesFree planner.old.freed.items planner.new.freed.items objects.now.entries source.now.tree.now.directories.items 84) }
+    ensures uses { IfOk result (λ directories. PointersUse (progress_of planner.old).blocks (progress_of planner.new).blocks directories.items 84) }
     ensures kept { OnOk result (objects.now.entries ≡ [] → planner.new ≡ planner.old) }
     ensures refused { IfErr result IsWant }
 {
@@ -250,6 +262,7 @@ fn place_directory(
     ensures goes { OnOk result (Goes source.now.free.now.flags.items (progress_of planner.old) (progress_of planner.new)) }
     ensures planned { IfOk result (λ pointer. IsDirectoryPlanned (progress_of planner.new) source.now.tree.now.maps.items maps.now.entries (contents_of source.now.contents.now).objects index touched (slice_index_or source.now.tree.now.directories.items index no_pointer) pointer) }
     ensures frees { OnOk result (RecordFrees planner.old.freed.items planner.new.freed.items touched (slice_index_or source.now.tree.now.directories.items index no_pointer)) }
+    ensures uses { IfOk result (λ pointer. UsesOnly (progress_of planner.old).blocks (progress_of planner.new).blocks pointer.address) }
     ensures kept { OnOk result (touched ≡ false → planner.new ≡ planner.old) }
     ensures refused { IfErr result IsWant }
 {

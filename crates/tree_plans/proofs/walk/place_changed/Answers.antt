@@ -6,6 +6,7 @@ use Rattle.object_maps.specs.ContentsShown.{contents_of}
 use Rattle.object_maps.specs.declared.tree.ObjectMap.{ObjectMap}
 use Rattle.tree_plans.specs.Pointers.{IsPut}
 use Rattle.tree_plans.proofs.Walks.{any_flag, get_at, object_passed, object_put, objects_free_put, put_of, unwrapped}
+use Rattle.tree_plans.proofs.Uses.{objects_use_put, others_put}
 use Rattle.tree_plans.proofs.walk.place_changed.Goals as goal
 
 pub returns-then-not-has_any-clause-planned : goal.returns-then-not-has_any-clause-planned
@@ -36,3 +37,13 @@ returns-clause-frees c = λ objects first is frees.
     let put : IsPut c.args.maps.now.entries c.args.id c.in_ok-map.map c.insert.new.self.entries = put_of _ (λ a b. unsigned_tied a.0 b.0) c.args.maps.now c.insert.new.self c.args.id c.in_ok-map.map c.in_ok-insert.ensures.updates.0 in
     objects_free_put first _ _ maps objects c.args.maps.now.entries c.insert.new.self.entries c.args.id c.args.dirty.now c.index-old.result.now c.in_ok-map.map put c.if-id-ge-OBJECT_COUNT.false is
     (get_at maps c.args.id.0 c.index-old.result.now low c.index-old.ensures) c.in_ok-map.ensures.frees frees
+
+pub returns-clause-uses : goal.returns-clause-uses
+returns-clause-uses c = λ first none uses.
+    let put : IsPut c.args.maps.now.entries c.args.id c.in_ok-map.map c.insert.new.self.entries = put_of _ (λ a b. unsigned_tied a.0 b.0) c.args.maps.now c.insert.new.self c.args.id c.in_ok-map.map c.in_ok-insert.ensures.updates.0 in
+    objects_use_put first _ _ c.args.maps.now.entries c.insert.new.self.entries c.args.id c.in_ok-map.map put none c.if-id-ge-OBJECT_COUNT.false c.in_ok-map.ensures.uses uses
+
+pub returns-clause-others : goal.returns-clause-others
+returns-clause-others c =
+    let put : IsPut c.args.maps.now.entries c.args.id c.in_ok-map.map c.insert.new.self.entries = put_of _ (λ a b. unsigned_tied a.0 b.0) c.args.maps.now c.insert.new.self c.args.id c.in_ok-map.map c.in_ok-insert.ensures.updates.0 in
+    others_put c.args.maps.now.entries c.insert.new.self.entries c.args.id c.in_ok-map.map put

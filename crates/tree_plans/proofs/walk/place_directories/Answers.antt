@@ -2,6 +2,7 @@ use Rattle.std.proofs.Common.{◌≡◌, length, arith, ap, ◌∙◌}
 use Rattle.tree_plans.specs.Walks.{is_directory_touched}
 use Rattle.tree_plans.proofs.Progress.{goes_twice}
 use Rattle.tree_plans.proofs.Walks.{directories_push, directories_free_push}
+use Rattle.tree_plans.proofs.Uses.{pointers_use_push}
 use Rattle.tree_plans.proofs.walk.place_directories.Goals as goal
 
 pub loop-index-preserved : goal.loop-index-preserved
@@ -15,9 +16,15 @@ loop-index-preserved c =
       goes = goes_twice c.loop-index.invariant.goes c.in_ok-pointer.ensures.goes;
       planned = rw c.push_reserved.ensures.items (directories_push _ _ _ c.args.objects.now.entries c.args.source.now.tree.now.directories.items _ _ _ _ c.in_ok-pointer.ensures.goes long c.is_touched-touched.ensures c.loop-index.invariant.planned c.in_ok-pointer.ensures.planned);
       frees = directories_free_push _ _ _ c.args.objects.now.entries c.args.source.now.tree.now.directories.items _ _ c.is_touched-touched.ensures c.loop-index.invariant.frees c.in_ok-pointer.ensures.frees;
+      uses = rw c.push_reserved.ensures.items (pointers_use_push _ _ _ _ _ _ long c.loop-index.invariant.uses c.in_ok-pointer.ensures.uses);
     }
 
 pub returns-clause-frees : goal.returns-clause-frees
 returns-clause-frees c =
     let done : c.loop-index.index ≡ 84 = omega arith in
     rw done at c.loop-index.invariant.frees
+
+pub returns-clause-uses : goal.returns-clause-uses
+returns-clause-uses c =
+    let done : c.loop-index.index ≡ 84 = omega arith in
+    rw done at c.loop-index.invariant.uses

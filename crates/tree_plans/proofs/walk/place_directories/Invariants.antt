@@ -2,6 +2,7 @@ use Rattle.std.proofs.Common.{◌≡◌, ◌≤◌, [], vec_len, vec_capacity}
 use Rattle.object_maps.specs.ContentsShown.{contents_of}
 use Rattle.tree_plans.specs.Plans.{Goes, progress_of}
 use Rattle.tree_plans.specs.Walks.{AreDirectoriesPlanned, DirectoriesFree}
+use Rattle.tree_plans.specs.Uses.{PointersUse}
 use Rattle.tree_plans.proofs.walk.place_directories.Given as goal
 
 abbrev pub invariant-loop-index : goal.invariant-loop-index
@@ -13,4 +14,5 @@ invariant-loop-index l = record {
   goes : Goes l.source.free.now.flags.items (progress_of l.fn.planner) (progress_of l.planner);
   planned : AreDirectoriesPlanned (progress_of l.planner) l.source.tree.now.maps.items l.maps.entries (contents_of l.source.contents.now).objects l.objects.entries l.source.tree.now.directories.items l.index l.directories.items;
   frees : DirectoriesFree l.fn.planner.freed.items l.planner.freed.items l.objects.entries l.source.tree.now.directories.items l.index;
+  uses : PointersUse (progress_of l.fn.planner).blocks (progress_of l.planner).blocks l.directories.items l.index;
 }

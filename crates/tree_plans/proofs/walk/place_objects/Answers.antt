@@ -5,6 +5,7 @@ use Rattle.tree_plans.specs.declared.planner.DirtyRecords.{DirtyRecords}
 use Rattle.tree_plans.specs.Pointers.{entry_of}
 use Rattle.tree_plans.proofs.Progress.{goes_twice}
 use Rattle.tree_plans.proofs.Walks.{found_of, next_of, not_empty}
+use Rattle.tree_plans.proofs.Uses.{are_of_more, next_is_new}
 use Rattle.tree_plans.proofs.walk.place_objects.Goals as goal
 
 pub loop-id-preserved : goal.loop-id-preserved
@@ -15,6 +16,7 @@ loop-id-preserved c =
     let rest : List (ObjectId × DirtyRecords) = c.next.new.self in
     let split : all ≡ done ++ (e ∷ rest) = c.loop-id.invariant.split ∙ ap (λ (l : List (ObjectId × DirtyRecords)). done ++ l) c.in-Some.ensures.steps in
     let found : entry_of all e.0.0 ≡ Some e.1 = next_of (λ (x : ObjectId × DirtyRecords). entry_of all x.0.0 ≡ Some x.1) all done rest e split (found_of _ (λ a b. unsigned_tied a.0 b.0) c.args.objects.now c.iter-id-items.ensures.found) in
+    let unplanned = c.loop-id.invariant.are_of e.0.0 (next_is_new _ (λ a b. unsigned_tied a.0 b.0) all done rest e split c.iter-id-items.ensures.ordered) in
     record {
       can = tt;
       ends = tt;
@@ -25,4 +27,6 @@ loop-id-preserved c =
       split = split ∙ sym (append_assoc done (e ∷ []) rest);
       planned = c.in_ok-place_changed.ensures.planned all done found c.loop-id.invariant.planned;
       frees = c.in_ok-place_changed.ensures.frees all _ found c.loop-id.invariant.frees;
+      are_of = are_of_more done e _ _ c.loop-id.invariant.are_of c.in_ok-place_changed.ensures.others;
+      uses = c.in_ok-place_changed.ensures.uses _ unplanned c.loop-id.invariant.uses;
     }

@@ -4,6 +4,7 @@ use Rattle.object_maps.specs.ContentsShown.{contents_of}
 use Rattle.tree_plans.specs.declared.planner.DirtyRecords.{DirtyRecords}
 use Rattle.tree_plans.specs.Plans.{Goes, progress_of}
 use Rattle.tree_plans.specs.Walks.{AreObjectsPlanned, ObjectsFree}
+use Rattle.tree_plans.specs.Uses.{AreOf, ObjectsUse}
 use Rattle.tree_plans.proofs.walk.place_objects.Given as goal
 
 abbrev pub invariant-loop-id : goal.invariant-loop-id
@@ -17,4 +18,6 @@ invariant-loop-id l = record {
   split : l.objects.entries ≡ done ++ l.id-iterator;
   planned : AreObjectsPlanned (progress_of l.planner) l.source.tree.now.maps.items (contents_of l.source.contents.now).objects l.objects.entries done l.maps.entries;
   frees : ObjectsFree l.fn.planner.freed.items l.planner.freed.items l.source.tree.now.maps.items l.objects.entries l.maps.entries;
+  are_of : AreOf done l.maps.entries;
+  uses : ObjectsUse (progress_of l.fn.planner).blocks (progress_of l.planner).blocks l.maps.entries;
 }

@@ -10,6 +10,7 @@ use Rattle.tree_plans.specs.declared.planner.PlannedBlock.{PlannedBlock}
 use Rattle.tree_plans.specs.Plans.{new_block, progress_of}
 use Rattle.tree_plans.specs.Pointers.{planned_map, pointers_from, pointers_of}
 use Rattle.tree_plans.proofs.Planned.{all_freed, freed_in_area, taken_lowest, tree_placed, tree_planned}
+use Rattle.tree_plans.proofs.Uses.{all_whole}
 use Rattle.tree_plans.proofs.walk.plan.Goals as goal
 
 pub returns-clause-taken : goal.returns-clause-taken
@@ -51,3 +52,9 @@ returns-clause-freed c =
     subst (λ (f : Frame). AreBornBefore f.group (pointers_of t) → AreFreed (pointers_of t) (pointers_from c.in_ok-tree.tree.root c.in_ok-tree.tree.directories.items (planned_map t.maps.items c.in_ok-tree.tree.maps.entries)) s.freed)
     c.in_ok-tree.ensures.goes.frame
     (all_freed s t after c.args.objects.now.entries c.in_ok-tree.tree.maps.entries c.in_ok-tree.tree.directories.items c.in_ok-tree.tree.root c.in_ok-tree.ensures.walked)
+
+pub returns-clause-used : goal.returns-clause-used
+returns-clause-used c = c.in_ok-tree.ensures.used
+
+pub returns-clause-whole : goal.returns-clause-whole
+returns-clause-whole c = all_whole c.place_tree.new.planner.blocks.items c.place_tree.new.planner.whole

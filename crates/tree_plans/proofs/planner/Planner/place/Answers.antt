@@ -1,16 +1,21 @@
-use Rattle.std.proofs.Common.{◌≡◌, ◌<◌, arith, ap, ◌∙◌, refl, map, List, ◌++◌, ◌∷◌, []}
+use Rattle.std.proofs.Common.{◌≡◌, ◌<◌, length, arith, ap, ◌∙◌, refl, map, List, ◌++◌, ◌∷◌, []}
 use Rattle.std.proofs.lemmas.List.Elements.{All-push}
 use Rattle.base.specs.Geometry.{block_count}
 use Rattle.tree_plans.specs.declared.planner.PlannedBlock.{PlannedBlock}
 use Rattle.tree_plans.specs.Plans.{new_block}
 use Rattle.tree_plans.proofs.Progress.{new_blocks-push, goes_on, written_at}
+use Rattle.tree_plans.proofs.Uses.{uses_one}
 use Rattle.tree_plans.proofs.planner.Planner.place.Goals as goal
 
 pub invariant_of-self-2 : goal.invariant_of-self-2
 invariant_of-self-2 c =
     let P : PlannedBlock → Type 0 = λ b. b.index < block_count c.args.self.now.geometry in
     let within : c.in-Some.index < block_count c.args.self.now.geometry = omega (arith, c.in-Some.ensures.within, c.requires.free) in
-    record { placed = rw (c.push_reserved.ensures.items, c.reserve.ensures.items) (All-push P c.args.self.now.blocks.items _ c.args.self.now.placed within) }
+    let W : PlannedBlock → Type 0 = λ b. length b.block ≡ 4096 in
+    record {
+      placed = rw (c.push_reserved.ensures.items, c.reserve.ensures.items) (All-push P c.args.self.now.blocks.items _ c.args.self.now.placed within);
+      whole = rw (c.push_reserved.ensures.items, c.reserve.ensures.items) (All-push W c.args.self.now.blocks.items _ c.args.self.now.whole c.in_ok-block.ensures.block.size);
+    }
 
 pub returns-clause-goes : goal.returns-clause-goes
 returns-clause-goes c =
@@ -29,3 +34,10 @@ returns-clause-written c =
 
 pub returns-clause-frees : goal.returns-clause-frees
 returns-clause-frees c = rw (← c.reserve-2.ensures.items) c.give_back.ensures.only
+
+pub returns-clause-uses : goal.returns-clause-uses
+returns-clause-uses c =
+    let b : PlannedBlock = record { index = c.in-Some.index; block = c.in_ok-block.block } in
+    let pushed : map new_block c.push_reserved.new.self.items ≡ map new_block c.args.self.now.blocks.items ++ new_block b ∷ [] =
+    ap (λ (l : List PlannedBlock). map new_block l) (c.push_reserved.ensures.items ∙ ap (λ (l : List PlannedBlock). l ++ b ∷ []) c.reserve.ensures.items) ∙ new_blocks-push c.args.self.now.blocks.items b in
+    uses_one _ _ (new_block b) _ pushed c.block_address.ensures.address

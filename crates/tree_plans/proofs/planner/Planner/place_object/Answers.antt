@@ -2,6 +2,7 @@ use Rattle.std.proofs.Common.{ap, ◌∙◌}
 use Rattle.std.specs.Prelude.{slice_index_or}
 use Rattle.base.specs.Fields.{no_pointer}
 use Rattle.tree_plans.proofs.Progress.{goes_twice, object_planned, object_frees}
+use Rattle.tree_plans.proofs.Uses.{object_uses}
 use Rattle.tree_plans.proofs.planner.Planner.place_object.Goals as goal
 
 pub returns-clause-goes : goal.returns-clause-goes
@@ -15,3 +16,6 @@ returns-clause-planned c =
 
 pub returns-clause-frees : goal.returns-clause-frees
 returns-clause-frees c = object_frees _ _ _ _ c.args.old.now c.in_ok-records.ensures.frees c.in_ok-indirect.ensures.frees
+
+pub returns-clause-uses : goal.returns-clause-uses
+returns-clause-uses c = object_uses _ _ _ _ _ c.in_ok-records.ensures.uses c.in_ok-indirect.ensures.uses

@@ -1,5 +1,6 @@
 use Rattle.std.proofs.Common.{◌≡◌, ◌≤◌, vec_len, vec_capacity}
 use Rattle.tree_plans.specs.Plans.{AreRecordsPlanned, Goes, RecordsFree, progress_of}
+use Rattle.tree_plans.specs.Uses.{PointersUse}
 use Rattle.tree_plans.proofs.planner.Planner.place_records.Given as goal
 
 abbrev pub invariant-loop-index : goal.invariant-loop-index
@@ -10,4 +11,5 @@ invariant-loop-index l = record {
   goes : Goes l.free.flags.items (progress_of l.fn.self) (progress_of l.self);
   planned : AreRecordsPlanned (progress_of l.self) l.id.0 l.bytes l.dirty.flags l.old l.index l.records.items;
   frees : RecordsFree l.fn.self.freed.items l.self.freed.items l.dirty.flags l.old l.index;
+  uses : PointersUse (progress_of l.fn.self).blocks (progress_of l.self).blocks l.records.items l.index;
 }
