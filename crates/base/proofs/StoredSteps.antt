@@ -197,16 +197,16 @@ module _ (now : List ℕ) (pointers : Place → Pointer) (running : Option NewTr
   close : (answer : Result ℕ PoolError) (old new : State) → IsExplainedNow old.shown old.past → IsKeptState old → stage.CloseGroup answer old new → IsKeptState new
   close answer old new explained x h = by_answer answer (stage.close_refusal old.shown) old new _ _
       (λ group is none d. subst IsKeptState (sym d.1) (
-        let t : State = steps.with_line (steps.line_after_close old.shown.line) old in
-        kept-state now old.shown t.shown pointers old.past t.past running x explained.exact.isolated.admitted.committed x.stored.built
+      let t : State = steps.with_line (steps.line_after_close old.shown.line) old in
+      kept-state now old.shown t.shown pointers old.past t.past running x explained.exact.isolated.admitted.committed x.stored.built
       )) (λ e own. absurd own) x h
 
   quiesce : (answer : Result ℕ PoolError) (old new : State) → IsKeptState old → steps.MarkQuiesced answer old new → IsKeptState new
   quiesce answer old new x h = by_answer answer (refusal.quiesce_refusal old.shown) old new _ _
       (λ group is none d. subst IsKeptState (sym d.1) (
-        let t : State = steps.with_line (steps.line_after_quiesce group old.shown.line) old in
-        kept-state now old.shown t.shown pointers old.past t.past running x
-        (subst (λ (o : Option Middle). IfSome o (λ (m : Middle). AreUpTo m.group old.past.entries)) (quiescing_is old.shown.line group d.0) x.stored.middle) x.stored.built
+      let t : State = steps.with_line (steps.line_after_quiesce group old.shown.line) old in
+      kept-state now old.shown t.shown pointers old.past t.past running x
+      (subst (λ (o : Option Middle). IfSome o (λ (m : Middle). AreUpTo m.group old.past.entries)) (quiescing_is old.shown.line group d.0) x.stored.middle) x.stored.built
       )) (λ e own. absurd own) x h
 
   -- what waits for older groups is done while there is none

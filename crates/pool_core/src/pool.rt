@@ -37,8 +37,8 @@ use crate::transactions::{
     is_plan_allowed, is_too_large, range_of, remove_transaction,
 };
 use base::{
-    Bytes, Group, LAST_NUMBER, LockId, MAX_TRANSACTIONS, Mode, OBJECT_COUNT, ObjectId, Op, Ops, Ordinal,
-    Owner, Plan, Pointer, PoolError, Range, Receipt, Shape, TxId,
+    Bytes, Group, LAST_NUMBER, LockId, MAX_TRANSACTIONS, Mode, OBJECT_COUNT, ObjectId, Op, Ops,
+    Ordinal, Owner, Plan, Pointer, PoolError, Range, Receipt, Shape, TxId,
 };
 use device_model::SectorDevice;
 use import_replay::Mounted;

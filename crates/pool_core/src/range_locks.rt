@@ -8,9 +8,7 @@ ghost use Rattle.base.specs.Plans.{lies_in, overlaps};
 ghost use Rattle.pool_core.specs.declared.range_locks.HeldLock.{HeldLock};
 ghost use Rattle.pool_core.specs.Targets.{target_of};
 
-use base::{
-    LAST_NUMBER, LockId, MAX_LENGTH, MAX_LOCKS, Mode, ObjectId, Owner, PoolError, Range,
-};
+use base::{LAST_NUMBER, LockId, MAX_LENGTH, MAX_LOCKS, Mode, ObjectId, Owner, PoolError, Range};
 use std::alloc::{AllocFailed, Global};
 
 /// A byte range of an object, or of the name's number.

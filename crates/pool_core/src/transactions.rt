@@ -13,7 +13,8 @@ ghost use Rattle.pool_core.specs.declared.transactions.OpenTransaction.{OpenTran
 
 use crate::range_locks::{HeldLock, ObjectRange, is_reader};
 use base::{
-    Group, MAX_LENGTH, MAX_LOG_RECORD, MAX_NAME, OBJECT_COUNT, ObjectId, Op, Owner, Plan, Range, Shape, TxId,
+    Group, MAX_LENGTH, MAX_LOG_RECORD, MAX_NAME, OBJECT_COUNT, ObjectId, Op, Owner, Plan, Range,
+    Shape, TxId,
 };
 
 /// A transaction that was admitted and has not ended.
