@@ -12,7 +12,7 @@ use Rattle.pool_core.specs.StepReplies.{IsStep, StepReplies, tells}
 use Rattle.pool_core.specs.ExplainedRuns.{RunsOn}
 
 -- a step from what a past explains leads to a later past
-one_step : (s : declared_step.Step) (r : declared_reply.Reply) (old new : Shown) → StepReplies s r old new
+pub one_step : (s : declared_step.Step) (r : declared_reply.Reply) (old new : Shown) → StepReplies s r old new
     → (past : Past) → IsExplainedNow old past → (later : Past) × IsStep s r (record { shown = old; past = past }) (record { shown = new; past = later })
 one_step (step.Lock owner n range mode) r old new h past explained = h past
 one_step (step.Unlock owner id) r old new h past explained = h past

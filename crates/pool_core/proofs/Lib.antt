@@ -10,6 +10,11 @@ pub mod ReadSteps
 pub mod Opens
 pub mod RepliedSteps
 pub mod ExplainedRuns
+pub mod HeldRuns
+pub mod StillSteps
+pub mod SyncLeads
+pub mod PlannedGroups
+pub mod StartLeads
 pub mod Starts
 pub mod SyncSteps
 pub mod FreeBlocks

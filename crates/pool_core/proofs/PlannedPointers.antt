@@ -71,6 +71,15 @@ module _ (tree : Tree) (root : Pointer) (directories : List Pointer) (maps : BTr
       by None (Some m) = refl
       by (Some m) k = refl
 
+module _ (tree : Tree) (root : Pointer) (directories : List Pointer) (maps : BTreeMap ObjectId ObjectMap) where
+  -- what is told of the pointers of a plan is told of those of the pool
+  pub retold : (P : (Place → Pointer) → (Place → Pointer) → Type 0) → P (plans.pointers_of tree) (plans.pointers_from root directories (planned_map tree.maps.items maps.entries))
+      → P (kept.pointers_of tree) (pointers_after root directories maps tree)
+  retold P h =
+      let old : kept.pointers_of tree ≡ plans.pointers_of tree = λ k place. same_tree tree place k in
+      let new : pointers_after root directories maps tree ≡ plans.pointers_from root directories (planned_map tree.maps.items maps.entries) = λ k place. same_plan tree root directories maps place k in
+      subst (λ (f : Place → Pointer). P f (pointers_after root directories maps tree)) (sym old) (subst (λ (f : Place → Pointer). P (plans.pointers_of tree) f) (sym new) h)
+
 -- what holds of a result holds in another form
 pub IfOk_map : {A : Type 0} {P Q : A → Type 0} (r : Result A PoolError) → ((a : A) → P a → Q a) → IfOk r P → IfOk r Q
 IfOk_map (Ok a) f h = f a h

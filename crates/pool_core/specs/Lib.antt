@@ -6,6 +6,8 @@ pub mod Meets
 pub mod Lines
 pub mod StepReplies
 pub mod ExplainedRuns
+pub mod Holds
+pub mod GroupPlans
 pub mod Areas
 pub mod Pointers
 pub mod Progresses

@@ -1,24 +1,29 @@
 //! A pool without its device, and each of its steps.
 
-ghost use Rattle.std.specs.Prelude.{◌≡◌, ◌<◌, ◌+◌, ◌-◌, ◌≤◌, ◌^◌, ◌||◌, ◌⊎◌, [], All, IfErr, IfOk, IfSome, IsTrue, MatchResult, None, OnOk, Some, false, filter, is_some, length, map, nat_le, nat_lt, not, option_map, take, true, vec_len};
+ghost use Rattle.std.specs.Prelude.{◌≡◌, ◌<◌, ◌+◌, ◌-◌, ◌≤◌, ◌^◌, ◌||◌, ◌⊎◌, [], All, IfErr, IfOk, IfSome, IsTrue, MatchResult, None, OnOk, Some, false, filter, is_some, length, map, nat_le, nat_lt, not, option_map, slice_get, take, true, vec_len};
 ghost use Rattle.std.specs.FinSet as set;
 ghost use Rattle.std.proofs.Props.{props};
 ghost use Rattle.std.specs.List.{list_all, list_any};
 ghost use Rattle.std.specs.Option.{ForSome};
 ghost use Rattle.base.specs.declared.names.Receipt.{Receipt};
 ghost use Rattle.base.specs.Fields.{part};
-ghost use Rattle.base.specs.Geometry.{block_count};
+ghost use Rattle.base.specs.Geometry.{IsGeometry, block_count, block_size};
 ghost use Rattle.base.specs.Limits.{last_number, max_transactions, name_number, object_count};
 ghost use Rattle.base.specs.Locks as held;
 ghost use Rattle.base.specs.PlacedTrees.{ArePlaced};
 ghost use Rattle.base.specs.Places.{IsPlace, Place};
+ghost use Rattle.base.specs.PlannedTrees.{AreFreed, NewBlock};
+ghost use Rattle.base.specs.Stored.{AreUsed, frame_at};
 ghost use Rattle.base.specs.Refusals.{is_lock_in_use, object_range};
 ghost use Rattle.base.specs.Stage as stage;
 ghost use Rattle.base.specs.Stage.{has_older_group, is_plan_built};
 ghost use Rattle.base.specs.Steps as steps;
 ghost use Rattle.base.specs.Syncs.{is_rename};
 ghost use Rattle.pool_core.specs.Areas.{is_block_of};
-ghost use Rattle.tree_plans.specs.Plans.{address_of};
+ghost use Rattle.tree_plans.specs.Changes.{AreBornBefore};
+ghost use Rattle.tree_plans.specs.Plans.{address_of, new_block};
+ghost use Rattle.pool_core.specs.GroupPlans.{IsPlannedFrom};
+ghost use Rattle.object_maps.specs.ContentsShown.{contents_of};
 ghost use Rattle.pool_core.specs.Numbers.{IsGroup};
 ghost use Rattle.pool_core.specs.Pointers.{pointers_after};
 ghost use Rattle.space.specs.FreeSets.{addresses_from, free_of};
@@ -65,6 +70,8 @@ struct RunningSync {
     freed: Vec<u64>,
     ghost all_directories: { vec_len directories ≡ 84 },
     ghost no_stages: { is_some run.stages ≡ false },
+    ghost sized: { IsGeometry run.geometry },
+    ghost coded: { length run.uberblock ≡ 1024 },
     ghost freed_placed: { All (λ address. is_block_of (block_count run.geometry) address ≡ true) freed.items },
 }
 
@@ -103,7 +110,10 @@ pub struct Pool {
 
 impl Pool {
     ghost use Rattle.import_replay.specs.Mounts.{shown_of_import};
+    ghost use Rattle.std.specs.Prelude.{ℕ, List};
+    ghost use Rattle.base.specs.Disk.{bytes_of};
     ghost use Rattle.pool_core.specs.Calls.{CallsNext};
+    ghost use Rattle.pool_core.specs.Holds.{Leads, start_reply, sync_reply, told_of};
     ghost use Rattle.pool_core.specs.Lines.{MayNotStart, MayStart, line_of};
     ghost use Rattle.pool_core.specs.Meets.{MayCommit, Meets, MeetsExplained};
     ghost use Rattle.pool_core.specs.Progresses.{progress_of};
@@ -188,6 +198,7 @@ impl Pool {
         range: Range,
         mode: Mode,
     ) -> Result<LockId, PoolError>
+        ensures rest { (self.new.tree ≡ self.old.tree) × (self.new.sync ≡ self.old.sync) }
         ensures geometry { self.new.geometry ≡ self.old.geometry }
         ensures step { Meets (steps.Lock owner.0 (object_range object.0 range.low range.high) mode) (result_map (λ id. id.0) result) (shown_of self.old) (shown_of self.new) }
     {
@@ -204,6 +215,7 @@ impl Pool {
     /// In this order: `Suspended`; `NoSuchLock` where the owner holds none of this name; `LockInUse` exactly where it is a
     /// writer lock in which a range of an open transaction lies.
     pub fn unlock(&mut self, owner: Owner, id: LockId) -> Result<(), PoolError>
+        ensures rest { (self.new.tree ≡ self.old.tree) × (self.new.sync ≡ self.old.sync) }
         ensures geometry { self.new.geometry ≡ self.old.geometry }
         ensures step { Meets (steps.Unlock owner.0 id.0) result (shown_of self.old) (shown_of self.new) }
     {
@@ -233,6 +245,7 @@ impl Pool {
     /// a range of an open transaction; `TooMany` where 64 transactions are open or the next name would pass 2^60;
     /// `NoMemory`.
     pub fn begin(&mut self, owner: Owner, plan: Plan) -> Result<(TxId, Group), PoolError>
+        ensures rest { (self.new.tree ≡ self.old.tree) × (self.new.sync ≡ self.old.sync) }
         ensures geometry { self.new.geometry ≡ self.old.geometry }
         ensures step { Meets (stage.Begin owner.0 plan) (result_map (λ a. (a.0.0, a.1.0)) result) (shown_of self.old) (shown_of self.new) }
     {
@@ -317,6 +330,7 @@ impl Pool {
     /// the first operation that can't take place on the contents after those before it; `TooMany` where the next ordinal
     /// would pass 2^60; `NoMemory`. After each the transaction is still open.
     pub fn commit(&mut self, tx: TxId, ops: Ops) -> Result<Receipt, PoolError>
+        ensures rest { (self.new.tree ≡ self.old.tree) × (self.new.sync ≡ self.old.sync) }
         ensures geometry { self.new.geometry ≡ self.old.geometry }
         ensures step { Meets (stage.Commit tx.0 ops) (result_map (λ (r : Receipt). (r.ordinal.0, r.group.0)) result) (shown_of self.old) (shown_of self.new) }
     {
@@ -364,6 +378,7 @@ impl Pool {
     /// # Errors
     /// In this order: `Suspended`; `NotReady` where an older group is unsynced, or the open group is 2^60.
     pub fn close_group(&mut self) -> Result<Group, PoolError>
+        ensures rest { (self.new.tree ≡ self.old.tree) × (self.new.sync ≡ self.old.sync) }
         ensures geometry { self.new.geometry ≡ self.old.geometry }
         ensures step { Meets stage.CloseGroup (result_map (λ group. group.0) result) (shown_of self.old) (shown_of self.new) }
     {
@@ -377,6 +392,7 @@ impl Pool {
     /// # Errors
     /// In this order: `Suspended`; `NotReady` where no group quiesces, or a transaction of it is open.
     pub fn mark_quiesced(&mut self) -> Result<Group, PoolError>
+        ensures rest { (self.new.tree ≡ self.old.tree) × (self.new.sync ≡ self.old.sync) }
         ensures geometry { self.new.geometry ≡ self.old.geometry }
         ensures step { Meets steps.MarkQuiesced (result_map (λ group. group.0) result) (shown_of self.old) (shown_of self.new) }
     {
@@ -400,6 +416,7 @@ impl Pool {
     pub fn start_sync(&mut self, moment: u64) -> Result<Group, PoolError>
         ensures geometry { self.new.geometry ≡ self.old.geometry }
         ensures step { MeetsExplained (stage.StartSync ⊥ [] moment) (result_map (λ group. group.0) result) (shown_of self.old) (shown_of self.new) }
+        ensures leads { (now : List ℕ) → Leads (start_reply result) (told_of now self.old) (told_of now self.new) }
     {
         self.check_running()?;
         let group = self.check_start()?;
@@ -426,6 +443,12 @@ impl Pool {
         ensures taken { IfOk result (λ p. map address_of p.blocks.items ≡ take (length p.blocks.items) (addresses_from 0 self.now.free.flags.items)) }
         ensures freed { IfOk result (λ p. All (λ address. is_block_of (block_count self.now.geometry) address ≡ true) p.freed.items) }
         ensures placed { IfOk result (λ p. ∥ ArePlaced (block_count self.now.geometry) (pointers_after p.root p.directories.items p.maps self.now.tree) ∥₁) }
+        ensures planned { IfOk result (λ p. IsPlannedFrom group.0 self.now.pending.items (frame_at (shown_of self.now) group.0) (pointers_of self.now.tree)
+            (pointers_after p.root p.directories.items p.maps self.now.tree) (map new_block p.blocks.items) (contents_of self.now.contents).objects) }
+        ensures freed_are { IfOk result (λ p. AreBornBefore group.0 (pointers_of self.now.tree)
+            → AreFreed (pointers_of self.now.tree) (pointers_after p.root p.directories.items p.maps self.now.tree) p.freed.items) }
+        ensures used { IfOk result (λ p. AreUsed (map new_block p.blocks.items) (pointers_after p.root p.directories.items p.maps self.now.tree)) }
+        ensures whole { IfOk result (λ p. (i : ℕ) (b : NewBlock) → slice_get (map new_block p.blocks.items) i ≡ Some b → length b.content ≡ block_size) }
         ensures refused { IfErr result (λ e. (e ≡ PoolError.NoMemory) ⊎ (e ≡ PoolError.NoSpace)) }
     {
         let objects = dirty_objects(self.alloc, &self.pending, group)?;
@@ -447,12 +470,16 @@ impl Pool {
         requires freed { All (λ address. is_block_of (block_count self.now.geometry) address ≡ true) planned.freed.items }
         ensures geometry { result.run.geometry ≡ self.now.geometry }
         ensures left { result.run.done < call_count result.run }
+        ensures blocks { result.run.blocks ≡ planned.blocks }
+        ensures done { result.run.done ≡ 0 }
         ensures group { result.group ≡ group }
         ensures maps { result.maps ≡ planned.maps }
         ensures directories { result.directories ≡ planned.directories }
         ensures root { result.root ≡ planned.root }
         ensures plan { plan_of self.now.log_address result ≡ new_plan moment self.now.log_address (map address_of planned.blocks.items) planned.freed.items planned.root }
     {
+        // Labels lie apart from the blocks, as the size is one of a pool's device.
+        let _size = self.geometry.size();
         let TreePlan {
             blocks,
             maps,
@@ -499,6 +526,7 @@ impl Pool {
         ensures geometry { self.new.geometry ≡ self.old.geometry }
         ensures step { Meets steps.SyncStep (result_map progress_of result) (shown_of self.old) (shown_of self.new) }
         ensures called { IsTrue D.keeps_model → CallsNext self.old.suspended self.old.sync (D.disk device.old) result (D.disk device.new) }
+        ensures leads { IsTrue D.keeps_model → Leads (sync_reply result) (told_of (bytes_of (D.disk device.old).now) self.old) (told_of (bytes_of (D.disk device.new).now) self.new) }
     {
         self.check_running()?;
         let Some(mut running) = self.sync.take() else {
@@ -529,6 +557,7 @@ impl Pool {
         requires geometry { running.run.geometry ≡ self.old.geometry }
         requires placed { ∥ ArePlaced (block_count self.old.geometry) (pointers_after running.root running.directories.items running.maps self.old.tree) ∥₁ }
         ensures geometry { self.new.geometry ≡ self.old.geometry }
+        ensures sync { self.new.sync ≡ self.old.sync }
         ensures shown { shown_of self.new ≡ shown_after_tree running.group.0 running.freed.items running.root (shown_of self.old) }
         ensures pointers { (place : Place) → IsPlace place → pointers_of self.new.tree place ≡ pointers_after running.root running.directories.items running.maps self.old.tree place }
     {

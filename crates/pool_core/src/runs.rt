@@ -1,8 +1,10 @@
 //! Steps as values, one after another.
 
-ghost use Rattle.std.specs.Prelude.{◌≡◌, IfOk, MatchResult, OnErr, vec_len};
+ghost use Rattle.std.specs.Prelude.{◌≡◌, IfOk, IsTrue, MatchResult, OnErr, vec_len};
 ghost use Rattle.std.specs.Result.{ForOk};
 ghost use Rattle.base.specs.Runs.{Run};
+ghost use Rattle.base.specs.Disk.{bytes_of};
+ghost use Rattle.pool_core.specs.Holds.{HoldsOn, Leads, told_of};
 ghost use Rattle.pool_core.specs.ExplainedRuns.{RunsOn};
 ghost use Rattle.pool_core.specs.Shows.{shown_of};
 ghost use Rattle.pool_core.specs.StepReplies.{StepReplies};
@@ -14,7 +16,8 @@ use device_model::SectorDevice;
 impl<D: SectorDevice> PoolState<D> {
     /// Makes one step.
     pub fn step(&mut self, step: Step) -> Reply
-        ensures { StepReplies step result (shown_of self.old.pool) (shown_of self.new.pool) }
+        ensures replied { StepReplies step result (shown_of self.old.pool) (shown_of self.new.pool) }
+        ensures leads { IsTrue D.keeps_model → Leads result (told_of (bytes_of (D.disk self.old.device).now) self.old.pool) (told_of (bytes_of (D.disk self.new.device).now) self.new.pool) }
     {
         match step {
             Step::Lock(owner, object, range, mode) => reply(
@@ -67,6 +70,7 @@ pub fn run<D: SectorDevice>(
 ) -> Result<Vec<Reply>, PoolError>
     ensures each { IfOk result (λ replies. vec_len replies ≡ vec_len steps) }
     ensures ran { IfOk result (λ replies. Run StepReplies steps.items replies.items (shown_of state.old.pool) (shown_of state.new.pool)) }
+    ensures held { IsTrue D.keeps_model → IfOk result (λ replies. HoldsOn steps.items replies.items (told_of (bytes_of (D.disk state.old.device).now) state.old.pool) (told_of (bytes_of (D.disk state.new.device).now) state.new.pool)) }
     ensures explained { IfOk result (λ replies. RunsOn steps.items replies.items (shown_of state.old.pool) (shown_of state.new.pool)) }
     ensures kept { OnErr result (state.new ≡ state.old) }
 {

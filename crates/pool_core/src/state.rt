@@ -36,7 +36,10 @@ pub struct PoolState<D: SectorDevice> {
 
 impl<D: SectorDevice> PoolState<D> {
     ghost use Rattle.import_replay.specs.Mounts.{shown_of_import};
+    ghost use Rattle.std.specs.Prelude.{ℕ, List};
+    ghost use Rattle.base.specs.Disk.{bytes_of};
     ghost use Rattle.pool_core.specs.Calls.{CallsNext};
+    ghost use Rattle.pool_core.specs.Holds.{Leads, start_reply, sync_reply, told_of};
     ghost use Rattle.pool_core.specs.Meets.{Meets, MeetsExplained};
     ghost use Rattle.pool_core.specs.Progresses.{progress_of};
     ghost use Rattle.pool_core.specs.Shows.{shown_of};
@@ -82,6 +85,7 @@ impl<D: SectorDevice> PoolState<D> {
         mode: Mode,
     ) -> Result<LockId, PoolError>
         ensures step { Meets (steps.Lock owner.0 (object_range object.0 range.low range.high) mode) (result_map (λ id. id.0) result) (shown_of self.old.pool) (shown_of self.new.pool) }
+        ensures rest { (self.new.pool.tree ≡ self.old.pool.tree) × (self.new.pool.sync ≡ self.old.pool.sync) }
         ensures device { self.new.device ≡ self.old.device }
     {
         self.pool.lock(owner, object, range, mode)
@@ -94,6 +98,7 @@ impl<D: SectorDevice> PoolState<D> {
     /// writer lock in which a range of an open transaction lies.
     pub fn unlock(&mut self, owner: Owner, id: LockId) -> Result<(), PoolError>
         ensures step { Meets (steps.Unlock owner.0 id.0) result (shown_of self.old.pool) (shown_of self.new.pool) }
+        ensures rest { (self.new.pool.tree ≡ self.old.pool.tree) × (self.new.pool.sync ≡ self.old.pool.sync) }
         ensures device { self.new.device ≡ self.old.device }
     {
         self.pool.unlock(owner, id)
@@ -109,6 +114,7 @@ impl<D: SectorDevice> PoolState<D> {
     /// `NoMemory`.
     pub fn begin(&mut self, owner: Owner, plan: Plan) -> Result<(TxId, Group), PoolError>
         ensures step { Meets (stage.Begin owner.0 plan) (result_map (λ a. (a.0.0, a.1.0)) result) (shown_of self.old.pool) (shown_of self.new.pool) }
+        ensures rest { (self.new.pool.tree ≡ self.old.pool.tree) × (self.new.pool.sync ≡ self.old.pool.sync) }
         ensures device { self.new.device ≡ self.old.device }
     {
         self.pool.begin(owner, plan)
@@ -123,6 +129,7 @@ impl<D: SectorDevice> PoolState<D> {
     /// would pass 2^60; `NoMemory`. After each the transaction is still open.
     pub fn commit(&mut self, tx: TxId, ops: Ops) -> Result<Receipt, PoolError>
         ensures step { Meets (stage.Commit tx.0 ops) (result_map (λ (r : Receipt). (r.ordinal.0, r.group.0)) result) (shown_of self.old.pool) (shown_of self.new.pool) }
+        ensures rest { (self.new.pool.tree ≡ self.old.pool.tree) × (self.new.pool.sync ≡ self.old.pool.sync) }
         ensures device { self.new.device ≡ self.old.device }
     {
         self.pool.commit(tx, ops)
@@ -145,6 +152,7 @@ impl<D: SectorDevice> PoolState<D> {
     /// In this order: `Suspended`; `NotReady` where an older group is unsynced, or the open group is 2^60.
     pub fn close_group(&mut self) -> Result<Group, PoolError>
         ensures step { Meets stage.CloseGroup (result_map (λ group. group.0) result) (shown_of self.old.pool) (shown_of self.new.pool) }
+        ensures rest { (self.new.pool.tree ≡ self.old.pool.tree) × (self.new.pool.sync ≡ self.old.pool.sync) }
         ensures device { self.new.device ≡ self.old.device }
     {
         self.pool.close_group()
@@ -156,6 +164,7 @@ impl<D: SectorDevice> PoolState<D> {
     /// In this order: `Suspended`; `NotReady` where no group quiesces, or a transaction of it is open.
     pub fn mark_quiesced(&mut self) -> Result<Group, PoolError>
         ensures step { Meets steps.MarkQuiesced (result_map (λ group. group.0) result) (shown_of self.old.pool) (shown_of self.new.pool) }
+        ensures rest { (self.new.pool.tree ≡ self.old.pool.tree) × (self.new.pool.sync ≡ self.old.pool.sync) }
         ensures device { self.new.device ≡ self.old.device }
     {
         self.pool.mark_quiesced()
@@ -169,6 +178,7 @@ impl<D: SectorDevice> PoolState<D> {
     /// do not suffice; `NoMemory`.
     pub fn start_sync(&mut self, moment: u64) -> Result<Group, PoolError>
         ensures step { MeetsExplained (stage.StartSync ⊥ [] moment) (result_map (λ group. group.0) result) (shown_of self.old.pool) (shown_of self.new.pool) }
+        ensures leads { (now : List ℕ) → Leads (start_reply result) (told_of now self.old.pool) (told_of now self.new.pool) }
         ensures device { self.new.device ≡ self.old.device }
     {
         self.pool.start_sync(moment)
@@ -182,6 +192,7 @@ impl<D: SectorDevice> PoolState<D> {
     /// the pool is suspended.
     pub fn sync_step(&mut self) -> Result<Progress, PoolError>
         ensures step { Meets steps.SyncStep (result_map progress_of result) (shown_of self.old.pool) (shown_of self.new.pool) }
+        ensures leads { IsTrue D.keeps_model → Leads (sync_reply result) (told_of (bytes_of (D.disk self.old.device).now) self.old.pool) (told_of (bytes_of (D.disk self.new.device).now) self.new.pool) }
         ensures called { IsTrue D.keeps_model → CallsNext self.old.pool.suspended self.old.pool.sync (D.disk self.old.device) result (D.disk self.new.device) }
     {
         self.pool.sync_step(&mut self.device)

@@ -148,7 +148,7 @@ module _ (s : Progress) (t : Tree) (after : FinMap nat_cmp (List ℕ)) (objects 
         subst (λ (p : Pointer). IsNewAt s.blocks s.frame (Data n r) p (padded_record r bytes)) (sym (data_now n r m e))
             (subst (λ (b : List ℕ). IsNewAt s.blocks s.frame (Data n r) (record_in m r) (padded_record r b)) (ap (λ (o : Option (List ℕ)). unwrap_or o []) is) written.block),
       ))
-      (changes.within n r f.low marked))
+      (changes.within n r f.low low marked))
   record_planned before covered changes n r m f low e false flag same =
       let unmarked : is_marked objects n r ≡ false = ap (λ (o : Option DirtyRecords). option_map_or (λ (dirty : DirtyRecords). slice_index_or dirty.flags r false) o false) f.dirty_is ∙ flag in
       inl (data_now n r m e ∙ same ∙ sym (data_was n r f.old f.old_is), covered.records n r f.low low unmarked)

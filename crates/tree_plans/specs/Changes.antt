@@ -28,7 +28,7 @@ pub record IsCoveredBy (objects : List (ObjectId × DirtyRecords)) (before after
 -- the objects that change are there, each dirty record begins within its object, and no object is too long
 pub record AreChanges (objects : List (ObjectId × DirtyRecords)) (after : FinMap nat_cmp (List ℕ)) : Type 0 where
   pub there : (n : ℕ) → n < object_count → is_some (entry_of objects n) ≡ true → is_some (finite.get after n) ≡ true
-  pub within : (n r : ℕ) → n < object_count → is_marked objects n r ≡ true → IfSome (finite.get after n) (λ bytes. record_size * r < length bytes)
+  pub within : (n r : ℕ) → n < object_count → r < pointer_count → is_marked objects n r ≡ true → IfSome (finite.get after n) (λ bytes. record_size * r < length bytes)
   pub sizes : (n : ℕ) → IfSome (finite.get after n) (λ bytes. length bytes ≤ max_length)
 
 -- an object that is not there has no indirect block

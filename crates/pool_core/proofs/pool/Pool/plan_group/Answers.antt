@@ -1,15 +1,22 @@
-use Rattle.std.proofs.Common.{◌≡◌, ◌<◌, ◌⊎◌, ℕ, ap, sym, subst, inl, inr, true, All, length}
-use Rattle.std.specs.Prelude.{Err, IfOk}
-use Rattle.std.proofs.Math.Logic.{∥∥₁_elim, ∥∥₁_map}
+use Rattle.std.proofs.Common.{List, map, inl, subst}
 use Rattle.std.proofs.lemmas.Result.{err_from_is_err_and}
-use Rattle.base.specs.Geometry.{IsBlockAddress, block_count}
-use Rattle.base.specs.Places.{IsPlace, Place}
-use Rattle.base.specs.PlacedTrees.{ArePlaced, IsPlaced}
+use Rattle.base.specs.declared.names.ObjectId.{ObjectId}
+use Rattle.base.specs.declared.pointer.Pointer.{Pointer}
+use Rattle.base.specs.Geometry.{block_count}
+use Rattle.base.specs.Places.{Place}
+use Rattle.base.specs.PlannedTrees.{AreFreed}
+use Rattle.base.specs.Stored.{AreUsed, frame_at}
+use Rattle.object_maps.specs.ContentsShown.{contents_of}
+use Rattle.tree_plans.specs.declared.planner.Committed.{Committed}
+use Rattle.tree_plans.specs.declared.planner.DirtyRecords.{DirtyRecords}
 use Rattle.tree_plans.specs.declared.planner.TreePlan.{TreePlan}
-use Rattle.pool_core.specs.Areas.{is_block_of}
-use Rattle.pool_core.specs.Pointers.{pointers_after}
+use Rattle.tree_plans.specs.Changes.{AreBornBefore}
+use Rattle.tree_plans.specs.Marks.{AreMarks, pending_ops}
+use Rattle.tree_plans.specs.Plans.{new_block}
+use Rattle.pool_core.specs.GroupPlans.{IsPlannedFrom}
+use Rattle.pool_core.specs.Shows.{shown_of}
 use Rattle.pool_core.proofs.FreeBlocks.{are_blocks}
-use Rattle.pool_core.proofs.PlannedPointers.{IfOk_map, plan_placed}
+use Rattle.pool_core.proofs.PlannedPointers.{IfOk_map, plan_placed, retold}
 use Rattle.pool_core.proofs.Starts.{turn_want}
 use Rattle.pool_core.proofs.pool.Pool.plan_group.Goals as goal
 
@@ -23,6 +30,25 @@ returns-clause-freed c = IfOk_map c.plan.result (λ (p : TreePlan) returned. are
 
 pub returns-clause-placed : goal.returns-clause-placed
 returns-clause-placed c = IfOk_map c.plan.result (λ (p : TreePlan) placed. plan_placed c.args.self.now.tree p.root p.directories.items p.maps (block_count c.args.self.now.geometry) c.args.self.now.tree_placed placed) c.plan.ensures.placed
+
+pub returns-clause-planned : goal.returns-clause-planned
+returns-clause-planned c =
+    let pool = c.args.self.now in
+    let objects : List (ObjectId × DirtyRecords) = c.in_ok-objects.objects.entries in
+    let marks : AreMarks (pending_ops c.args.group.0 pool.pending.items) objects = subst (λ (l : List Committed). AreMarks (pending_ops c.args.group.0 l) objects) c.deref.ensures.value c.in_ok-objects.ensures.marks in
+    IfOk_map c.plan.result (λ (p : TreePlan) told. retold pool.tree p.root p.directories.items p.maps
+    (λ (old new : Place → Pointer). IsPlannedFrom c.args.group.0 pool.pending.items (frame_at (shown_of pool) c.args.group.0) old new (map new_block p.blocks.items) (contents_of pool.contents).objects)
+    (objects, marks, told)) c.plan.ensures.planned
+
+pub returns-clause-freed_are : goal.returns-clause-freed_are
+returns-clause-freed_are c =
+    IfOk_map c.plan.result (λ (p : TreePlan) freed. retold c.args.self.now.tree p.root p.directories.items p.maps
+    (λ (old new : Place → Pointer). AreBornBefore c.args.group.0 old → AreFreed old new p.freed.items) freed) c.plan.ensures.freed
+
+pub returns-clause-used : goal.returns-clause-used
+returns-clause-used c =
+    IfOk_map c.plan.result (λ (p : TreePlan) used. retold c.args.self.now.tree p.root p.directories.items p.maps
+    (λ (old new : Place → Pointer). AreUsed (map new_block p.blocks.items) new) used) c.plan.ensures.used
 
 pub returns-clause-refused : goal.returns-clause-refused
 returns-clause-refused c = turn_want c.plan.result c.plan.ensures.refused

@@ -10,6 +10,16 @@ use Rattle.pool_core.specs.declared.pool.RunningSync.{RunningSync}
 use Rattle.tree_plans.specs.Plans.{address_of}
 use Rattle.pool_core.specs.Pointers.{pointers_after}
 use Rattle.pool_core.specs.Shows.{new_plan, shown_of}
+use Rattle.std.specs.Prelude.{Result}
+use Rattle.base.specs.declared.error.PoolError.{PoolError}
+use Rattle.base.specs.declared.names.Group.{Group}
+use Rattle.base.specs.Shown.{SyncPlan}
+use Rattle.base.specs.Stored.{NewTree}
+use Rattle.base.proofs.StoredTrees.{no-change}
+use Rattle.tree_plans.specs.Plans.{new_block}
+use Rattle.pool_core.specs.Holds.{start_reply}
+use Rattle.pool_core.proofs.StartLeads.{group_planned, nothing_made}
+use Rattle.pool_core.proofs.StillSteps.{still_pool}
 use Rattle.pool_core.proofs.SameSyncs.{kept_sync}
 use Rattle.pool_core.proofs.Starts.{lowest_taken, pending_names, start_done, start_not_ready, start_suspended, start_wants}
 use Rattle.pool_core.proofs.pool.Pool.start_sync.Goals as goal
@@ -64,3 +74,38 @@ returns-clause-step c =
     start_done s _ c.args.moment c.in_ok-group.group.0 plan c.in_ok-check_running.ensures may.0 may.1 (pending_names pool.pending.items pool.pending_built) refl refl
     (lowest_taken blocks pool.free.flags.items c.in_ok-planned.ensures.taken) refl refl
     (rw (c.start_sync.ensures, c.take_all.ensures.free, c.running_sync.ensures.plan) (ap (λ (l : List PlannedBlock). record s { line = record s.line { syncing = Some c.in_ok-group.group.0; middle = None }; free = set.difference s.free (set.from_list (map address_of l)); sync = Some plan }) c.deref.ensures.value))
+
+pub returns-in_err-check_running-clause-leads : goal.returns-in_err-check_running-clause-leads
+returns-in_err-check_running-clause-leads c = λ now.
+    let p = err_from_is_err_and c.from_residual.result c.from_residual.ensures.1 in
+    still_pool (start_reply c.from_residual.result) p.0 now c.args.self.now (ap (λ (r : Result Group PoolError). start_reply r) p.1)
+
+pub returns-in_err-group-clause-leads : goal.returns-in_err-group-clause-leads
+returns-in_err-group-clause-leads c = λ now.
+    let p = err_from_is_err_and c.from_residual-in_err-group.result c.from_residual-in_err-group.ensures.1 in
+    still_pool (start_reply c.from_residual-in_err-group.result) p.0 now c.args.self.now (ap (λ (r : Result Group PoolError). start_reply r) p.1)
+
+pub returns-in_err-planned-clause-leads : goal.returns-in_err-planned-clause-leads
+returns-in_err-planned-clause-leads c = λ now.
+    let p = err_from_is_err_and c.from_residual-in_err-planned.result c.from_residual-in_err-planned.ensures.1 in
+    still_pool (start_reply c.from_residual-in_err-planned.result) p.0 now c.args.self.now (ap (λ (r : Result Group PoolError). start_reply r) p.1)
+
+pub returns-clause-leads : goal.returns-clause-leads
+returns-clause-leads c = λ now past later.
+    let pool = c.args.self.now in
+    let planned = c.in_ok-planned.planned in
+    let told = c.in_ok-planned.ensures in
+    let rs = c.running_sync.result in
+    let ens = c.running_sync.ensures in
+    let made = nothing_made pool.tree rs planned.root planned.directories planned.maps planned.blocks ens.root ens.directories ens.maps ens.blocks ens.done in
+    record {
+      same = no-change (block_count pool.geometry) now;
+      pointers = refl;
+      tree = pointers_after planned.root planned.directories.items planned.maps pool.tree;
+      bs = map new_block planned.blocks.items;
+      plan = new_plan c.args.moment pool.log_address (map address_of planned.blocks.items) planned.freed.items planned.root;
+      running = ap (λ (t : NewTree). Some t) made;
+      plan_is = ap (λ (q : SyncPlan). Some q) ens.plan;
+      planned = λ x. group_planned now past pool c.in_ok-group.group.0 c.args.moment planned.blocks.items planned.freed.items planned.root planned.directories.items planned.maps
+          c.in_ok-group.ensures.may told.planned told.freed_are told.used told.whole x;
+    }

@@ -1,5 +1,5 @@
 use Rattle.std.proofs.Common.{ℕ, ◌≡◌, ◌∙◌, ◌<◌, ◌-◌, ap, map, sym, subst, refl, true, Some, None}
-use Rattle.std.specs.Prelude.{Option, option_map}
+use Rattle.std.specs.Prelude.{Option, Result, option_map}
 use Rattle.std.proofs.lemmas.Bool.{true≢false}
 use Rattle.std.proofs.lemmas.Result.{err_from_is_err_and}
 use Rattle.base.specs.Geometry.{block_address, block_count}
@@ -12,6 +12,13 @@ use Rattle.pool_core.specs.declared.pool.RunningSync.{RunningSync}
 use Rattle.pool_core.specs.Pointers.{pointers_after}
 use Rattle.pool_core.specs.Shows.{plan_of, shown_of}
 use Rattle.pool_core.proofs.SameSyncs.{as_many, kept_sync, left_as_before, more_left, one_left, one_less, refused_as, same_taken}
+use Rattle.base.specs.Disk.{bytes_of}
+use Rattle.base.proofs.StoredTrees.{no-change}
+use Rattle.base.specs.declared.error.PoolError.{PoolError}
+use Rattle.pool_core.specs.declared.state.Progress.{Progress}
+use Rattle.pool_core.specs.Holds.{made_by, new_tree_of, sync_reply}
+use Rattle.pool_core.proofs.StillSteps.{still_pool}
+use Rattle.pool_core.proofs.SyncLeads.{advanced, failed_running, failed_same, synced_told, was_running}
 use Rattle.pool_core.proofs.SyncSteps.{step_failed, step_more, step_not_ready, step_suspended, step_synced}
 use Rattle.pool_core.proofs.pool.Pool.sync_step.Goals as goal
 
@@ -126,3 +133,48 @@ returns-in-Err-clause-step g c =
     step_failed s _ c.in-Some.running.group.0 plan c.in-Err.error c.in_ok-check_running.ensures syncing
     (refused_as told.there.0 c.in-Err.error ((told.count told.there.0 told.there.1).named))
     (λ k. record s { suspended = true; sync = same k })
+
+pub returns-in_err-check_running-clause-leads : goal.returns-in_err-check_running-clause-leads
+returns-in_err-check_running-clause-leads g c = λ keeps.
+    let p = err_from_is_err_and c.from_residual.result c.from_residual.ensures.1 in
+    still_pool (sync_reply c.from_residual.result) p.0 (bytes_of (g.D.SectorDevice.disk c.args.device.now).now) c.args.self.now (ap (λ (r : Result Progress PoolError). sync_reply r) p.1)
+
+pub returns-in_default-clause-leads : goal.returns-in_default-clause-leads
+returns-in_default-clause-leads g c = λ keeps past later. (
+  no-change (block_count c.args.self.now.geometry) (bytes_of (g.D.SectorDevice.disk c.args.device.now).now),
+  refl,
+  ap (λ (o : Option RunningSync). option_map (new_tree_of c.args.self.now.tree) o) (c.take.ensures.after ∙ c.in_default.ensures.value),
+)
+
+pub returns-in-Ok-true-clause-leads : goal.returns-in-Ok-true-clause-leads
+returns-in-Ok-true-clause-leads g c = λ keeps.
+    let pool = c.args.self.now in
+    let is = sym c.in-Some.ensures.value in
+    let was = pool.running c.in-Some.running is in
+    let told = c.in-Ok-true.ensures in
+    let sized = g.met.D.SectorDevice.sized keeps c.args.device.now ∙ c.requires in
+    synced_told pool c.in-Some.running c.next.new.self (g.D.SectorDevice.disk c.args.device.now) (g.D.SectorDevice.disk c.next.new.device) is told.sync sized was.0 told.there
+    c.finish_tree.new.self c.in-Some.running.group told.done (told.last.0 c.in-Ok-true.field-0-test) (told.called keeps) (c.finish_tree.ensures.sync ∙ c.take.ensures.after) c.finish_tree.ensures.pointers
+
+pub returns-in-Ok-false-clause-leads : goal.returns-in-Ok-false-clause-leads
+returns-in-Ok-false-clause-leads g c = λ keeps past later.
+    let pool = c.args.self.now in
+    let r = c.in-Some.running in
+    let is = sym c.in-Some.ensures.value in
+    let size = (pool.running r is).0 in
+    let told = c.in-Ok-false.ensures in
+    let sized = g.met.D.SectorDevice.sized keeps c.args.device.now ∙ c.requires in
+    let before = g.D.SectorDevice.disk c.args.device.now in
+    let after = g.D.SectorDevice.disk c.next.new.device in
+    let advances = advanced pool r c.next.new.self before after is told.sync sized size told.there told.done (told.called keeps) in
+    (made_by (pointers_after r.root r.directories.items r.maps pool.tree) c.next.new.self, record { before = made_by (pointers_after r.root r.directories.items r.maps pool.tree) r.run; running = was_running pool r is; advances = advances }, refl, refl)
+
+pub returns-in-Err-clause-leads : goal.returns-in-Err-clause-leads
+returns-in-Err-clause-leads g c = λ keeps past later.
+    let pool = c.args.self.now in
+    let r = c.in-Some.running in
+    let is = sym c.in-Some.ensures.value in
+    let told = c.in-Err.ensures in
+    let before = g.D.SectorDevice.disk c.args.device.now in
+    let after = g.D.SectorDevice.disk c.next.new.device in
+    (failed_same r.run told.there.0 c.in-Err.error before after (block_count pool.geometry) (told.called keeps told.there.0 told.there.1), refl, failed_running pool r c.next.new.self is told.sync told.done)

@@ -1,0 +1,105 @@
+-- Steps one after another keep what a pool keeps of its device.
+use Rattle.std.proofs.Common.{◌≡◌, ℕ, ◌+◌, ◌*◌, ◌<◌, List, [], ◌∷◌, refl, ap, sym, subst, ◌∙◌, arith, ◌⊎◌, inl, inr}
+use Rattle.std.specs.Prelude.{Option, None, Some, IfSome}
+use Rattle.std.specs.Ordering.{nat_cmp}
+use Rattle.std.specs.FinMap as finite
+use Rattle.std.specs.FinMap.{FinMap}
+use Rattle.base.specs.declared.pointer.Pointer.{Pointer}
+use Rattle.base.specs.declared.step.Step as declared_step
+use Rattle.base.specs.declared.step.Reply as declared_reply
+use Rattle.base.specs.declared.step.Reply.TheVariants as reply
+use Rattle.base.specs.Blocks.{Frame}
+use Rattle.base.specs.Limits.{object_count, pointer_count, entry_count}
+use Rattle.base.specs.Past.{Past}
+use Rattle.base.specs.PlacedTrees.{HoldsTree, StandsAt}
+use Rattle.base.specs.Places.{Place, IsPlace}
+use Rattle.base.specs.Places.Place.{Root, Directory, Indirect, Data}
+use Rattle.base.specs.Runs.{Run}
+use Rattle.base.specs.Shown.{Shown}
+use Rattle.base.specs.Stored.{Held, IsHeld, IsKept, IsStored, Moves, NewTree, RunsAs, frame_at}
+use Rattle.base.specs.Tree.{IsRecord, OpensAt}
+use Rattle.base.specs.PlacedTrees.{IsEntryFor}
+use Rattle.base.specs.Fields.{entry_in}
+use Rattle.base.proofs.StoredRuns.{moves-keep}
+use Rattle.pool_core.specs.Holds.{HoldsOn, Leads, SamePlaces, StepHolds, Told, held_with}
+use Rattle.pool_core.specs.StepReplies.{IsStep, tells}
+use Rattle.pool_core.proofs.ExplainedRuns.{one_step}
+
+module _ (image : List ℕ) (frame : Frame) (old new : Place → Pointer) (same : SamePlaces new old) (objects : FinMap nat_cmp (List ℕ)) where
+  -- what stands at a place by its pointers stands there by others that are the same
+  stands_as : (place : Place) → IsPlace place → StandsAt image frame old objects place → StandsAt image frame new objects place
+  stands_as Root is (inl (none, below)) = inl (same Root tt ∙ none, λ d low. same (Directory d) low ∙ below d low)
+  stands_as Root is (inr (payload, opens, below)) =
+      inr (payload, subst (λ (p : Pointer). OpensAt image frame Root p payload) (sym (same Root tt)) opens, λ d low. below d low ∙ sym (same (Directory d) low))
+  stands_as (Directory d) is (inl (none, below)) =
+      inl (same (Directory d) is ∙ none, λ k low. ((below k low).0, same (Indirect (entry_count * d + k)) (omega (arith, is, low)) ∙ (below k low).1))
+  stands_as (Directory d) is (inr (payload, opens, below)) =
+      inr (
+        payload,
+        subst (λ (p : Pointer). OpensAt image frame (Directory d) p payload) (sym (same (Directory d) is)) opens,
+        λ k low. subst (λ (p : Pointer). IsEntryFor (entry_in payload k) p (finite.get objects (entry_count * d + k))) (sym (same (Indirect (entry_count * d + k)) (omega (arith, is, low)))) (below k low),
+      )
+  stands_as (Indirect n) is (inl (none, below)) = inl (same (Indirect n) is ∙ none, λ r low. same (Data n r) (is, low) ∙ below r low)
+  stands_as (Indirect n) is (inr (payload, opens, below)) =
+      inr (payload, subst (λ (p : Pointer). OpensAt image frame (Indirect n) p payload) (sym (same (Indirect n) is)) opens, λ r low. below r low ∙ sym (same (Data n r) (is, low)))
+  stands_as (Data n r) is stands = subst (λ (p : Pointer). IfSome (finite.get objects n) (λ bytes. IsRecord image frame n r p bytes)) (sym (same (Data n r) is)) stands
+
+  holds_as : HoldsTree image frame old objects → HoldsTree image frame new objects
+  holds_as x = record { no_others = x.no_others; each = λ place is. stands_as place is (x.each place is) }
+
+stored_as : (now : List ℕ) (s : Shown) (old new : Place → Pointer) (past : Past) → SamePlaces new old → IsStored now s old past → IsStored now s new past
+stored_as now s old new past same x = record {
+  synced = x.synced;
+  replayed = x.replayed;
+  blocks = x.blocks;
+  tree = holds_as now (frame_at s s.line.synced) old new same x.synced.objects x.tree;
+  root = same Root tt ∙ x.root;
+  free = x.free;
+  no_log = x.no_log;
+  log_block = x.log_block;
+  log_apart = x.log_apart;
+  middle = x.middle;
+  syncing = x.syncing;
+  built = x.built;
+}
+
+-- where no sync runs, what is kept with some pointers is kept with others that are the same at each place
+kept_as : (t : Told) (pointers : Place → Pointer) (past : Past) → SamePlaces t.pointers pointers → t.running ≡ None → IsHeld (held_with (record t { pointers = pointers }) past) → IsHeld (held_with t past)
+kept_as t pointers past same none x = record {
+  explained = x.explained;
+  kept = record {
+    stored = stored_as t.now t.shown pointers t.pointers past same x.kept.stored;
+    sync = subst (λ (o : Option NewTree). RunsAs t.now t.shown t.pointers o past) (sym none) (subst (λ (o : Option NewTree). RunsAs t.now t.shown pointers o past) none x.kept.sync);
+  };
+}
+
+module _ (s : declared_step.Step) (old new : Told) (past later : Past) (x : IsHeld (held_with old past)) where
+  plain : (r : declared_reply.Reply) → IsStep s r (record { shown = old.shown; past = past }) (record { shown = new.shown; past = later }) → ((p q : Past) → Moves r (held_with old p) (held_with new q)) → IsHeld (held_with new later)
+  plain r h m = moves-keep (held_with old past) (held_with new later) x (tells s) [] s r h (m past later)
+
+  -- a step that leads so keeps it
+  leads_keep : (r : declared_reply.Reply) → IsStep s r (record { shown = old.shown; past = past }) (record { shown = new.shown; past = later }) → Leads r old new → IsHeld (held_with new later)
+  leads_keep (reply.Refused e) h m = plain (reply.Refused e) h m
+  leads_keep reply.Done h m = plain reply.Done h m
+  leads_keep (reply.Locked id) h m = plain (reply.Locked id) h m
+  leads_keep (reply.Began tx group) h m = plain (reply.Began tx group) h m
+  leads_keep (reply.Committed receipt) h m = plain (reply.Committed receipt) h m
+  leads_keep (reply.Bytes all) h m = plain (reply.Bytes all) h m
+  leads_keep (reply.Opened group) h m = plain (reply.Opened group) h m
+  leads_keep (reply.Quiesced group) h m = plain (reply.Quiesced group) h m
+  leads_keep reply.More h m = plain reply.More h m
+  leads_keep (reply.Syncing group) h m = plain (reply.Syncing group) h m
+  leads_keep (reply.Synced group) h (pointers, same, m) =
+      let at = m past later in
+      kept_as new pointers later same at.4 (moves-keep (held_with old past) (held_with (record new { pointers = pointers }) later) x (tells s) [] s (reply.Synced group) h at)
+
+-- From a run of such steps to what is held behind it.
+pub holds_on : (ss : List declared_step.Step) (rs : List declared_reply.Reply) (old new : Told) → Run StepHolds ss rs old new → HoldsOn ss rs old new
+holds_on [] [] old new same past x = (past, rw same refl, subst (λ (t : Told). IsHeld (held_with t past)) (sym same) x)
+holds_on (s ∷ ss) (r ∷ rs) old new (middle, one, rest) past x =
+    let first = one_step s r old.shown middle.shown one.0 past x.explained in
+    let kept = leads_keep s old middle past first.0 x r first.1 one.1 in
+    let more = holds_on ss rs middle new rest first.0 kept in
+    (more.0, (record { shown = middle.shown; past = first.0 }, first.1, more.1), more.2)
+holds_on [] (r ∷ rs) old new h past x = absurd h
+holds_on (s ∷ ss) [] old new h past x = absurd h

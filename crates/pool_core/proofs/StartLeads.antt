@@ -1,0 +1,56 @@
+-- The start of a sync, with what is planned of its tree.
+use Rattle.std.proofs.Common.{◌≡◌, ℕ, List, [], ◌∷◌, length, map, min, refl, ap, sym, ◌∙◌}
+use Rattle.std.specs.Prelude.{Some, slice_get}
+use Rattle.std.specs.BTreeMap.{BTreeMap}
+use Rattle.std.specs.Global.{Vec}
+use Rattle.std.proofs.Math.Nat.{zero-min}
+use Rattle.base.specs.declared.names.ObjectId.{ObjectId}
+use Rattle.base.specs.declared.pointer.Pointer.{Pointer}
+use Rattle.base.specs.Past.{Past}
+use Rattle.base.specs.Places.{Place}
+use Rattle.base.specs.PlannedTrees.{AreFreed, NewBlock}
+use Rattle.base.specs.Stored.{AreUsed, IsHeld, IsPlannedSync, NewTree, frame_at}
+use Rattle.base.proofs.KeptGroups.{none_there, quiesced_is}
+use Rattle.object_maps.specs.declared.tree.ObjectMap.{ObjectMap}
+use Rattle.object_maps.specs.declared.tree.Tree.{Tree}
+use Rattle.object_maps.specs.ContentsShown.{contents_of}
+use Rattle.object_maps.specs.Pointers.{pointers_of}
+use Rattle.tree_plans.specs.declared.planner.PlannedBlock.{PlannedBlock}
+use Rattle.tree_plans.specs.Changes.{AreBornBefore}
+use Rattle.tree_plans.specs.Plans.{address_of, new_block}
+use Rattle.pool_core.specs.declared.pool.Pool.{Pool}
+use Rattle.pool_core.specs.declared.pool.RunningSync.{RunningSync}
+use Rattle.pool_core.specs.GroupPlans.{IsPlannedFrom}
+use Rattle.pool_core.specs.Holds.{held_with, new_tree_of, told_of}
+use Rattle.pool_core.specs.Lines.{MayStart, line_of}
+use Rattle.pool_core.specs.Pointers.{pointers_after}
+use Rattle.pool_core.specs.Shows.{new_plan, shown_of}
+use Rattle.pool_core.proofs.PlannedGroups.{planned_sync}
+
+-- the addresses of blocks as they are written
+addresses_are : (blocks : List PlannedBlock) → map (λ (b : NewBlock). b.address) (map new_block blocks) ≡ map address_of blocks
+addresses_are [] = refl
+addresses_are (b ∷ blocks) = ap (λ (l : List ℕ). address_of b ∷ l) (addresses_are blocks)
+
+-- before its first call a sync has written none of its blocks
+pub nothing_made : (tree : Tree) (r : RunningSync) (root : Pointer) (directories : Vec Pointer) (maps : BTreeMap ObjectId ObjectMap) (blocks : Vec PlannedBlock) → r.root ≡ root → r.directories ≡ directories → r.maps ≡ maps
+    → r.run.blocks ≡ blocks → r.run.done ≡ 0 → new_tree_of tree r ≡ record { pointers = pointers_after root directories.items maps tree; blocks = map new_block blocks.items; made = 0 }
+nothing_made tree r root directories maps blocks root_is directories_are maps_are blocks_are none =
+    let at : ℕ → NewTree = λ n. record { pointers = pointers_after root directories.items maps tree; blocks = map new_block blocks.items; made = n } in
+    let first : new_tree_of tree r ≡ at (min 0 (length (map new_block blocks.items))) = λ k.
+    record { pointers = pointers_after (root_is k) (directories_are k).items (maps_are k) tree; blocks = map new_block (blocks_are k).items; made = min (none k) (length (map new_block (blocks_are k).items)) } in
+    first ∙ ap at (zero-min (length (map new_block blocks.items)))
+
+-- what the plan of a group says is what a start of its sync asks, with each past
+pub group_planned : (now : List ℕ) (past : Past) (pool : Pool) (group moment : ℕ) (blocks : List PlannedBlock) (freed : List ℕ) (root : Pointer) (directories : List Pointer) (maps : BTreeMap ObjectId ObjectMap)
+    → MayStart group (line_of pool.groups)
+    → IsPlannedFrom group pool.pending.items (frame_at (shown_of pool) group) (pointers_of pool.tree) (pointers_after root directories maps pool.tree) (map new_block blocks) (contents_of pool.contents).objects
+    → (AreBornBefore group (pointers_of pool.tree) → AreFreed (pointers_of pool.tree) (pointers_after root directories maps pool.tree) freed)
+    → AreUsed (map new_block blocks) (pointers_after root directories maps pool.tree) → ((i : ℕ) (b : NewBlock) → slice_get (map new_block blocks) i ≡ Some b → length b.content ≡ 4096)
+    → (x : IsHeld (held_with (told_of now pool) past))
+    → IsPlannedSync (frame_at (shown_of pool) group) (pointers_of pool.tree) (pointers_after root directories maps pool.tree) (map new_block blocks) x.kept.stored.synced.objects (contents_of pool.contents).objects
+    (new_plan moment pool.log_address (map address_of blocks) freed root)
+group_planned now past pool group moment blocks freed root directories maps may planned freed_are used whole x =
+    planned_sync now (shown_of pool) past (pointers_of pool.tree) x.kept.stored x.explained group (none_there (line_of pool.groups).syncing may.1) (quiesced_is (line_of pool.groups) group may.0)
+    pool.pending.items refl (pointers_after root directories maps pool.tree) (map new_block blocks) (new_plan moment pool.log_address (map address_of blocks) freed root)
+    planned (addresses_are blocks) whole freed_are used refl

@@ -1,0 +1,75 @@
+-- What a pool keeps of its device, step by step.
+use Rattle.std.specs.Prelude.{ℕ, ◌≡◌, List, map, length, min, Option, option_map, Result}
+use Rattle.base.specs.declared.error.PoolError.{PoolError}
+use Rattle.base.specs.declared.names.Group.{Group}
+use Rattle.base.specs.declared.pointer.Pointer.{Pointer}
+use Rattle.base.specs.declared.step.Step as declared_step
+use Rattle.base.specs.declared.step.Reply as declared_reply
+use Rattle.base.specs.declared.step.Reply.TheVariants as reply
+use Rattle.base.specs.Past.{Past}
+use Rattle.base.specs.Places.{Place, IsPlace}
+use Rattle.base.specs.Runs.{Run, progress_reply, reply_of}
+use Rattle.base.specs.Shown.{Shown}
+use Rattle.base.specs.Stored.{Held, IsHeld, Moves, NewTree}
+use Rattle.object_maps.specs.declared.tree.Tree.{Tree}
+use Rattle.object_maps.specs.Pointers.{pointers_of}
+use Rattle.sync.specs.declared.run.SyncRun.{SyncRun}
+use Rattle.tree_plans.specs.Plans.{new_block}
+use Rattle.pool_core.specs.declared.pool.Pool.{Pool}
+use Rattle.pool_core.specs.declared.pool.RunningSync.{RunningSync}
+use Rattle.pool_core.specs.declared.state.Progress.{Progress}
+use Rattle.pool_core.specs.Pointers.{pointers_after}
+use Rattle.pool_core.specs.Progresses.{progress_of}
+use Rattle.pool_core.specs.Shows.{shown_of}
+use Rattle.pool_core.specs.StepReplies.{IsStep, StepReplies}
+
+-- what is shown of a pool, the bytes of its device, the pointers of its tree, and what its running sync makes
+pub record Told : Type 0 where
+  pub shown : Shown
+  pub now : List ℕ
+  pub pointers : Place → Pointer
+  pub running : Option NewTree
+
+-- the tree of these pointers that a sync makes, its blocks as they are written, and how many of them are
+abbrev pub made_by : (Place → Pointer) → SyncRun → NewTree
+made_by pointers run = record { pointers = pointers; blocks = map new_block run.blocks.items; made = min run.done (length (map new_block run.blocks.items)) }
+
+-- the one that a running sync makes of this tree
+abbrev pub new_tree_of : Tree → RunningSync → NewTree
+new_tree_of tree r = made_by (pointers_after r.root r.directories.items r.maps tree) r.run
+
+-- a pool over a device with these bytes
+abbrev pub told_of : List ℕ → Pool → Told
+told_of now p = record { shown = shown_of p; now = now; pointers = pointers_of p.tree; running = option_map (new_tree_of p.tree) p.sync }
+
+-- the same with a past
+abbrev pub held_with : Told → Past → Held
+held_with t past = record { state = record { shown = t.shown; past = past }; now = t.now; pointers = t.pointers; running = t.running }
+
+-- the replies with the answers of a start and of a step of a sync
+abbrev pub start_reply : Result Group PoolError → declared_reply.Reply
+start_reply answer = reply_of (λ (g : Group). reply.Syncing g) answer
+
+abbrev pub sync_reply : Result Progress PoolError → declared_reply.Reply
+sync_reply answer = reply_of (λ (p : Progress). progress_reply (progress_of p)) answer
+
+-- the same pointer at each place of a tree
+abbrev pub SamePlaces : (Place → Pointer) → (Place → Pointer) → Type 0
+SamePlaces f g = (place : Place) → IsPlace place → f place ≡ g place
+
+-- Whatever the past, a step with this reply moves the bytes, the pointers and the running sync as the definitions say. At the end of a
+-- sync the pointers are those of its tree at each place of a tree.
+abbrev pub Leads : declared_reply.Reply → Told → Told → Type 0
+Leads (reply.Synced group) old new = (pointers : Place → Pointer) × SamePlaces new.pointers pointers
+    × ((past later : Past) → Moves (reply.Synced group) (held_with old past) (held_with (record new { pointers = pointers }) later))
+Leads r old new = (past later : Past) → Moves r (held_with old past) (held_with new later)
+
+-- a step of a pool over its device: it replies as the definitions say, and moves so
+abbrev pub StepHolds : declared_step.Step → declared_reply.Reply → Told → Told → Type 0
+StepHolds s r old new = StepReplies s r old.shown new.shown × Leads r old new
+
+-- From each past that explains what is shown and with which the device holds what it should, the steps with these replies are a run of
+-- the definitions to a later past, which explains what is shown then, and with which the device holds what it should then.
+abbrev pub HoldsOn : List declared_step.Step → List declared_reply.Reply → Told → Told → Type 0
+HoldsOn ss rs old new = (past : Past) → IsHeld (held_with old past)
+    → (later : Past) × Run IsStep ss rs (record { shown = old.shown; past = past }) (record { shown = new.shown; past = later }) × IsHeld (held_with new later)
