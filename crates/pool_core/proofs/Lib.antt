@@ -19,3 +19,4 @@ pub mod Starts
 pub mod SyncSteps
 pub mod FreeBlocks
 pub mod PlannedPointers
+pub mod NewStates

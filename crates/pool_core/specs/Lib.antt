@@ -12,3 +12,4 @@ pub mod Areas
 pub mod Pointers
 pub mod Progresses
 pub mod Calls
+pub mod NewStates

@@ -126,6 +126,7 @@ impl Pool {
         ensures geometry { result.geometry ≡ mounted.geometry }
         ensures shown { shown_of result ≡ shown_of_import mounted }
         ensures tree { result.tree ≡ mounted.tree }
+        ensures idle { result.sync ≡ None }
     {
         let Mounted {
             alloc,
