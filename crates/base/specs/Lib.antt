@@ -25,6 +25,7 @@ pub mod Records
 pub mod Chain
 pub mod Mount
 pub mod Syncs
+pub mod PlannedPlaces
 pub mod Past
 pub mod Logs
 pub mod Rising
