@@ -21,9 +21,7 @@ use Rattle.base.specs.Tree.{IsRecord, OpensAt}
 use Rattle.base.specs.PlacedTrees.{IsEntryFor}
 use Rattle.base.specs.Fields.{entry_in}
 use Rattle.base.proofs.StoredRuns.{moves-keep}
-use Rattle.pool_core.specs.Holds.{HoldsOn, Leads, SamePlaces, StepHolds, Told, held_with}
-use Rattle.pool_core.specs.StepReplies.{IsStep, tells}
-use Rattle.pool_core.proofs.ExplainedRuns.{one_step}
+use Rattle.pool_core.specs.Holds.{HoldsOn, IsStepOver, Leads, SamePlaces, StepHolds, Told, held_with}
 
 module _ (image : List ℕ) (frame : Frame) (old new : Place → Pointer) (same : SamePlaces new old) (objects : FinMap nat_cmp (List ℕ)) where
   -- what stands at a place by its pointers stands there by others that are the same
@@ -74,11 +72,11 @@ kept_as t pointers past same none x = record {
 }
 
 module _ (s : declared_step.Step) (old new : Told) (past later : Past) (x : IsHeld (held_with old past)) where
-  plain : (r : declared_reply.Reply) → IsStep s r (record { shown = old.shown; past = past }) (record { shown = new.shown; past = later }) → ((p q : Past) → Moves r (held_with old p) (held_with new q)) → IsHeld (held_with new later)
-  plain r h m = moves-keep (held_with old past) (held_with new later) x (tells s) [] s r h (m past later)
+  plain : (r : declared_reply.Reply) → IsStepOver s r (held_with old past) (held_with new later) → ((p q : Past) → Moves r (held_with old p) (held_with new q)) → IsHeld (held_with new later)
+  plain r h m = moves-keep (held_with old past) (held_with new later) x (Unit {0}) old.now s r h (m past later)
 
   -- a step that leads so keeps it
-  leads_keep : (r : declared_reply.Reply) → IsStep s r (record { shown = old.shown; past = past }) (record { shown = new.shown; past = later }) → Leads r old new → IsHeld (held_with new later)
+  leads_keep : (r : declared_reply.Reply) → IsStepOver s r (held_with old past) (held_with new later) → Leads r old new → IsHeld (held_with new later)
   leads_keep (reply.Refused e) h m = plain (reply.Refused e) h m
   leads_keep reply.Done h m = plain reply.Done h m
   leads_keep (reply.Locked id) h m = plain (reply.Locked id) h m
@@ -91,15 +89,15 @@ module _ (s : declared_step.Step) (old new : Told) (past later : Past) (x : IsHe
   leads_keep (reply.Syncing group) h m = plain (reply.Syncing group) h m
   leads_keep (reply.Synced group) h (pointers, same, m) =
       let at = m past later in
-      kept_as new pointers later same at.4 (moves-keep (held_with old past) (held_with (record new { pointers = pointers }) later) x (tells s) [] s (reply.Synced group) h at)
+      kept_as new pointers later same at.4 (moves-keep (held_with old past) (held_with (record new { pointers = pointers }) later) x (Unit {0}) old.now s (reply.Synced group) h at)
 
 -- From a run of such steps to what is held behind it.
 pub holds_on : (ss : List declared_step.Step) (rs : List declared_reply.Reply) (old new : Told) → Run StepHolds ss rs old new → HoldsOn ss rs old new
-holds_on [] [] old new same past x = (past, rw same refl, subst (λ (t : Told). IsHeld (held_with t past)) (sym same) x)
+holds_on [] [] old new same past x = (past, ap (λ (t : Told). held_with t past) same, subst (λ (t : Told). IsHeld (held_with t past)) (sym same) x)
 holds_on (s ∷ ss) (r ∷ rs) old new (middle, one, rest) past x =
-    let first = one_step s r old.shown middle.shown one.0 past x.explained in
+    let first = one.0 past x in
     let kept = leads_keep s old middle past first.0 x r first.1 one.1 in
     let more = holds_on ss rs middle new rest first.0 kept in
-    (more.0, (record { shown = middle.shown; past = first.0 }, first.1, more.1), more.2)
+    (more.0, (held_with middle first.0, first.1, more.1), more.2)
 holds_on [] (r ∷ rs) old new h past x = absurd h
 holds_on (s ∷ ss) [] old new h past x = absurd h

@@ -11,9 +11,11 @@ pub mod Opens
 pub mod RepliedSteps
 pub mod ExplainedRuns
 pub mod HeldRuns
+pub mod StepsOver
 pub mod StillSteps
 pub mod SyncLeads
 pub mod PlannedGroups
+pub mod PlannedCounts
 pub mod StartLeads
 pub mod Starts
 pub mod SyncSteps

@@ -120,14 +120,14 @@ any_at p (o ∷ ops) h = by (p o) refl (λ any. any_at p ops any) h
     by true is rest h = (zero, o, refl, is)
     by false is rest h = let found = rest h in (suc found.0, found.1, found.2, found.3)
 
-touch_writes : (n r : ℕ) (op : Op) → writes_record n r op ≡ touches n r op
+pub touch_writes : (n r : ℕ) (op : Op) → writes_record n r op ≡ touches n r op
 touch_writes n r (Create m) = refl
 touch_writes n r (Remove m) = refl
 touch_writes n r (Write m offset bytes) = refl
 touch_writes n r (SetLength m new) = refl
 touch_writes n r (SetName bytes) = refl
 
-on_changes : (n : ℕ) (op : Op) → IsBuilt op → is_on n op ≡ changes n op
+pub on_changes : (n : ℕ) (op : Op) → IsBuilt op → is_on n op ≡ changes n op
 on_changes n (Create m) built = refl
 on_changes n (Remove m) built = absurd (false≢true built)
 on_changes n (Write m offset bytes) built = refl
@@ -189,7 +189,7 @@ module _ (n : ℕ) where
   one_changes (SetName bytes) c d is h = absurd (false≢true is)
 
   -- an object that operations create or write is there after them
-  there_after : (ops : List Op) (before after : Contents) → All IsBuilt ops → apply_all ops before ≡ Ok after → list_any (changes n) ops ≡ true → is_some (finite.get after.objects n) ≡ true
+  pub there_after : (ops : List Op) (before after : Contents) → All IsBuilt ops → apply_all ops before ≡ Ok after → list_any (changes n) ops ≡ true → is_some (finite.get after.objects n) ≡ true
   there_after [] before after built h any = absurd (false≢true any)
   there_after (op ∷ ops) before after built h any =
       let p = parted (apply op before) (in_turn apply ops) after h in
@@ -214,7 +214,7 @@ bounded_sizes (Some x) n h = h.1
 
 module _ (now : List ℕ) (s : Shown) (p : Past) (pointers : Place → Pointer) (x : IsStored now s pointers p) (explained : IsExplainedNow s p) (group : ℕ) (idle : s.line.syncing ≡ None)
     (middle : s.line.middle ≡ Some (record { group = group; quiesced = true })) (pending : List Committed) (log : s.log.pending ≡ map shown_record pending) where
-  ops_are : ops_of_group group p.entries ≡ pending_ops group pending
+  pub ops_are : ops_of_group group p.entries ≡ pending_ops group pending
   ops_are =
       let next : group ≡ s.line.synced + 1 = next-group now s p pointers x explained group idle middle in
       let below : s.line.synced < group = omega (arith, next) in
@@ -222,10 +222,10 @@ module _ (now : List ℕ) (s : Shown) (p : Past) (pointers : Place → Pointer) 
       let told : map shown_record pending ≡ all_above [] = sym log ∙ explained.exact.log.pending ∙ ap all_above x.no_log in
       sym (entry_ops s.line.synced group below 0 p.entries) ∙ ap (λ (rs : List Record). record_ops group rs) (sym told) ∙ told_ops group pending
 
-  follows : apply_all (pending_ops group pending) x.synced ≡ Ok s.contents
+  pub follows : apply_all (pending_ops group pending) x.synced ≡ Ok s.contents
   follows = subst (λ (ops : List Op). apply_all ops x.synced ≡ Ok s.contents) ops_are (flat_replay (entries_in group p.entries) x.synced s.contents (group-follows now s p pointers x explained group idle middle))
 
-  built : All IsBuilt (pending_ops group pending)
+  pub built : All IsBuilt (pending_ops group pending)
   built = subst (λ (ops : List Op). All IsBuilt ops) ops_are (built_flat (entries_in group p.entries)
       (All-passing IsBuiltEntry (λ (e : Entry). e.group == group) p.entries (λ i e at is. entry-built now s p pointers x explained group idle middle i e at)))
 
@@ -259,8 +259,8 @@ module _ (now : List ℕ) (s : Shown) (p : Past) (pointers : Place → Pointer) 
   pub planned_sync : (new : Place → Pointer) (bs : List NewBlock) (plan : SyncPlan) → IsPlannedFrom group pending (frame_at s group) pointers new bs s.contents.objects
       → map (λ (b : NewBlock). b.address) bs ≡ plan.taken → ((i : ℕ) (b : NewBlock) → slice_get bs i ≡ Some b → length b.content ≡ 4096) → (AreBornBefore group pointers → AreFreed pointers new plan.freed)
       → AreUsed bs new → new Root ≡ plan.root → IsPlannedSync (frame_at s group) pointers new bs x.synced.objects s.contents.objects plan
-  planned_sync new bs plan (objects, marks, planned) taken whole freed used root = record {
-    planned = planned x.synced.objects (covered objects marks) (group_changes objects marks) no_others;
+  planned_sync new bs plan from taken whole freed used root = record {
+    planned = from.planned x.synced.objects (covered from.objects from.marks) (group_changes from.objects from.marks) no_others;
     taken = taken;
     whole = whole;
     freed = freed born_before;

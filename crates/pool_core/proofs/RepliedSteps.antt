@@ -30,3 +30,9 @@ pub replied_explained : {A B : Type 0} (Step : Result B PoolError → State → 
     → (past : Past) → IsExplainedNow old past → (later : Past) × Replies make given (λ x. Step x (record { shown = old; past = past }) (record { shown = new; past = later }))
 replied_explained Step f make (Ok a) given old new meets told = λ past explained. let m = meets past explained in (m.0, (Ok (f a), told, m.1))
 replied_explained Step f make (Err e) given old new meets told = λ past explained. let m = meets past explained in (m.0, (Err e, told, m.1))
+
+-- and of one of which the answer and the later past are known
+pub replied_with : {A B : Type 0} (Holds : Result B PoolError → Past → Type 0) (f : A → B) (make : B → Reply) (answer : Result A PoolError) (given : Reply) → (later : Past) × Holds (result_map f answer) later
+    → MatchResult answer (λ a. given ≡ make (f a)) (λ e. given ≡ reply.Refused e) → (later : Past) × Replies make given (λ x. Holds x later)
+replied_with Holds f make (Ok a) given m told = (m.0, (Ok (f a), told, m.1))
+replied_with Holds f make (Err e) given m told = (m.0, (Err e, told, m.1))

@@ -7,9 +7,12 @@ use Rattle.std.proofs.Math.Nat.{zero-min}
 use Rattle.base.specs.declared.names.ObjectId.{ObjectId}
 use Rattle.base.specs.declared.pointer.Pointer.{Pointer}
 use Rattle.base.specs.Past.{Past}
-use Rattle.base.specs.Places.{Place}
+use Rattle.base.specs.Places.{Place, has_block}
 use Rattle.base.specs.PlannedTrees.{AreFreed, NewBlock}
+use Rattle.base.specs.Shown.{SyncPlan}
+use Rattle.base.specs.Steps.{TakesForEach, ops_of_group}
 use Rattle.base.specs.Stored.{AreUsed, IsHeld, IsPlannedSync, NewTree, frame_at}
+use Rattle.base.specs.Syncs.{written_places}
 use Rattle.base.proofs.KeptGroups.{none_there, quiesced_is}
 use Rattle.object_maps.specs.declared.tree.ObjectMap.{ObjectMap}
 use Rattle.object_maps.specs.declared.tree.Tree.{Tree}
@@ -25,10 +28,11 @@ use Rattle.pool_core.specs.Holds.{held_with, new_tree_of, told_of}
 use Rattle.pool_core.specs.Lines.{MayStart, line_of}
 use Rattle.pool_core.specs.Pointers.{pointers_after}
 use Rattle.pool_core.specs.Shows.{new_plan, shown_of}
+use Rattle.pool_core.proofs.PlannedCounts.{takes_for_each, takes_in_order}
 use Rattle.pool_core.proofs.PlannedGroups.{planned_sync}
 
 -- the addresses of blocks as they are written
-addresses_are : (blocks : List PlannedBlock) → map (λ (b : NewBlock). b.address) (map new_block blocks) ≡ map address_of blocks
+pub addresses_are : (blocks : List PlannedBlock) → map (λ (b : NewBlock). b.address) (map new_block blocks) ≡ map address_of blocks
 addresses_are [] = refl
 addresses_are (b ∷ blocks) = ap (λ (l : List ℕ). address_of b ∷ l) (addresses_are blocks)
 
@@ -54,3 +58,21 @@ group_planned now past pool group moment blocks freed root directories maps may 
     planned_sync now (shown_of pool) past (pointers_of pool.tree) x.kept.stored x.explained group (none_there (line_of pool.groups).syncing may.1) (quiesced_is (line_of pool.groups) group may.0)
     pool.pending.items refl (pointers_after root directories maps pool.tree) (map new_block blocks) (new_plan moment pool.log_address (map address_of blocks) freed root)
     planned (addresses_are blocks) whole freed_are used refl
+
+-- what a started sync takes is what its tree has at the places that it writes, in order
+module _ (now : List ℕ) (past : Past) (pool : Pool) (group moment : ℕ) (blocks : List PlannedBlock) (freed : List ℕ) (root : Pointer) (directories : List Pointer) (maps : BTreeMap ObjectId ObjectMap)
+    (may : MayStart group (line_of pool.groups))
+    (planned : IsPlannedFrom group pool.pending.items (frame_at (shown_of pool) group) (pointers_of pool.tree) (pointers_after root directories maps pool.tree) (map new_block blocks) (contents_of pool.contents).objects)
+    (x : IsHeld (held_with (told_of now pool) past)) where
+  abbrev pub plan : SyncPlan
+  plan = new_plan moment pool.log_address (map address_of blocks) freed root
+
+  pub group_takes : map (λ (place : Place). (pointers_after root directories maps pool.tree place).address) (written_places (ops_of_group group past.entries) x.kept.stored.synced (has_block now (shown_of pool).root)) ≡ plan.taken
+  group_takes =
+      takes_in_order now (shown_of pool) past (pointers_of pool.tree) x.kept.stored x.explained group (none_there (line_of pool.groups).syncing may.1) (quiesced_is (line_of pool.groups) group may.0) pool.pending.items refl
+      (pointers_after root directories maps pool.tree) (map new_block blocks) plan planned (addresses_are blocks)
+
+  pub group_takes_each : TakesForEach now (record { shown = shown_of pool; past = past }) group plan
+  group_takes_each =
+      takes_for_each now (shown_of pool) past (pointers_of pool.tree) x.kept.stored x.explained group (none_there (line_of pool.groups).syncing may.1) (quiesced_is (line_of pool.groups) group may.0) pool.pending.items refl
+      (pointers_after root directories maps pool.tree) (map new_block blocks) plan planned (addresses_are blocks)

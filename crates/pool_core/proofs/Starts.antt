@@ -19,7 +19,7 @@ use Rattle.base.specs.Records.{Record}
 use Rattle.base.specs.Refusals.{quiesced_group, start_refusal}
 use Rattle.base.specs.Shown.{Shown, SyncPlan}
 use Rattle.base.specs.Stage.{StartSync}
-use Rattle.base.specs.Steps.{IsPlanned, lowest_free, ops_of_group, State}
+use Rattle.base.specs.Steps.{IsPlanned, TakesForEach, lowest_free, ops_of_group, State}
 use Rattle.base.specs.Syncs.{is_rename, other_step_count}
 use Rattle.base.proofs.KeptGroups.{quiesced_is}
 use Rattle.base.specs.Rising.{rising}
@@ -31,7 +31,6 @@ use Rattle.tree_plans.specs.declared.planner.TreePlan.{TreePlan}
 use Rattle.tree_plans.specs.Plans.{IsWant}
 use Rattle.tree_plans.specs.Plans.{address_of}
 use Rattle.pool_core.specs.Lines.{MayNotStart}
-use Rattle.pool_core.specs.Meets.{MeetsExplained}
 use Rattle.pool_core.specs.Shows.{record_of as shown_record}
 
 -- no operation of a record gives a new name
@@ -78,37 +77,40 @@ quiesced_above l group x none is =
     no_sync None e = refl
     no_sync (Some g) e = absurd (true≢false e)
 
-pub start_suspended : (s : Shown) (moment : ℕ) → s.suspended ≡ true → MeetsExplained (StartSync ⊥ [] moment) (Err error.Suspended) s s
-start_suspended s moment h = λ past explained. (past, rw h (refl, refl))
+-- a step from one of the states of a past to another
+abbrev pub StartsAt : Type 0 → List ℕ → ℕ → Result ℕ PoolError → Past → Shown → Shown → Type 0
+StartsAt keeps now moment answer past s n = StartSync keeps now moment answer (record { shown = s; past = past }) (record { shown = n; past = past })
 
-pub start_not_ready : (s : Shown) (moment : ℕ) → s.suspended ≡ false → MayNotStart s.line → MeetsExplained (StartSync ⊥ [] moment) (Err error.NotReady) s s
-start_not_ready s moment h not_now = λ past explained. (past, let e : start_refusal s ≡ Some error.NotReady = rw (h, not_now) refl in rw e (refl, refl))
+module _ (keeps : Type 0) (now : List ℕ) (past : Past) (s : Shown) (moment : ℕ) where
+  pub start_suspended : s.suspended ≡ true → StartsAt keeps now moment (Err error.Suspended) past s s
+  start_suspended h = rw h (refl, refl)
 
-abbrev passes : (s : Shown) (group : ℕ) → Type 0
-passes s group = (s.suspended ≡ false) × (quiesced_group s.line ≡ Some group) × (is_some s.line.syncing ≡ false)
+  pub start_not_ready : s.suspended ≡ false → MayNotStart s.line → StartsAt keeps now moment (Err error.NotReady) past s s
+  start_not_ready h not_now = let e : start_refusal s ≡ Some error.NotReady = rw (h, not_now) refl in rw e (refl, refl)
 
-starts : (s : Shown) (group : ℕ) → passes s group → start_refusal s ≡ None
-starts s group (h, is, none) = rw (h, is, none) refl
+  starts : (group : ℕ) → s.suspended ≡ false → quiesced_group s.line ≡ Some group → is_some s.line.syncing ≡ false → start_refusal s ≡ None
+  starts group h is none = rw (h, is, none) refl
 
-pub start_wants : (s : Shown) (moment group : ℕ) (e : PoolError) → s.suspended ≡ false → quiesced_group s.line ≡ Some group → is_some s.line.syncing ≡ false → (e ≡ error.NoMemory) ⊎ (e ≡ error.NoSpace)
-    → MeetsExplained (StartSync ⊥ [] moment) (Err e) s s
-start_wants s moment group e h is none wants = λ past explained. (past, rw (starts s group (h, is, none)) (wants, refl))
+  pub start_wants : (group : ℕ) (e : PoolError) → s.suspended ≡ false → quiesced_group s.line ≡ Some group → is_some s.line.syncing ≡ false → (e ≡ error.NoMemory) ⊎ (e ≡ error.NoSpace)
+      → StartsAt keeps now moment (Err e) past s s
+  start_wants group e h is none wants = rw (starts group h is none) (wants, refl)
 
--- a sync that is planned starts, for each past that explains what was shown
-pub start_done : (s n : Shown) (moment group : ℕ) (plan : SyncPlan) → s.suspended ≡ false → quiesced_group s.line ≡ Some group → is_some s.line.syncing ≡ false
-    → All HasNoName s.log.pending → s.log.kept ≡ [] → plan.moment ≡ moment → plan.taken ≡ lowest_free (length plan.taken) s → plan.steps_left ≡ length plan.taken + 6 → plan.header ≡ s.log.next
-    → n ≡ record s { line = record s.line { syncing = Some group; middle = None }; free = set.difference s.free (set.from_list plan.taken); sync = Some plan }
-    → MeetsExplained (StartSync ⊥ [] moment) (Ok group) s n
-start_done s n moment group plan h is none built kept at_moment taken left header same = λ past explained.
-    let above = quiesced_above s.line group explained.exact.groups.line none is in
-    let all_above : List KeptBlock → List Record = λ k. filter (λ (r : Record). nat_lt s.line.synced r.group && not (list_any (λ b. has_record b (committed_of r)) k)) (map record_of (enumerate_from 0 past.entries)) in
-    let pending : s.log.pending ≡ all_above [] = explained.exact.log.pending ∙ ap all_above kept in
-    let names = no_names s.line.synced group above 0 past.entries (subst (All HasNoName) pending built) in
-    let steps : plan.steps_left ≡ length plan.taken + other_step_count (ops_of_group group past.entries) =
-    left ∙ ap (λ b. length plan.taken + (6 + (if b then 6 else 0))) (sym names) in
-    let at : plan.header ≡ header_for group s.log = header ∙ sym (ap (λ k. unwrap_or (option_map header_at (find (reaches_above group) k)) s.log.next) kept) in
-    let planned : IsPlanned (record { shown = s; past = past }) moment group plan = record { moment_is = at_moment; taken = taken; steps = steps; header = at } in
-    (past, rw (starts s group (h, is, none)) (plan, is, planned, (λ never. absurd never), ap (λ (x : Shown). let state : State = record { shown = x; past = past } in state) same))
+  -- a sync that is planned starts, where the past explains what was shown
+  pub start_done : (n : Shown) (group : ℕ) (plan : SyncPlan) → IsExplainedNow s past → (keeps → TakesForEach now (record { shown = s; past = past }) group plan)
+      → s.suspended ≡ false → quiesced_group s.line ≡ Some group → is_some s.line.syncing ≡ false
+      → All HasNoName s.log.pending → s.log.kept ≡ [] → plan.moment ≡ moment → plan.taken ≡ lowest_free (length plan.taken) s → plan.steps_left ≡ length plan.taken + 6 → plan.header ≡ s.log.next
+      → n ≡ record s { line = record s.line { syncing = Some group; middle = None }; free = set.difference s.free (set.from_list plan.taken); sync = Some plan }
+      → StartsAt keeps now moment (Ok group) past s n
+  start_done n group plan explained takes h is none built kept at_moment taken left header same =
+      let above = quiesced_above s.line group explained.exact.groups.line none is in
+      let all_above : List KeptBlock → List Record = λ k. filter (λ (r : Record). nat_lt s.line.synced r.group && not (list_any (λ b. has_record b (committed_of r)) k)) (map record_of (enumerate_from 0 past.entries)) in
+      let pending : s.log.pending ≡ all_above [] = explained.exact.log.pending ∙ ap all_above kept in
+      let names = no_names s.line.synced group above 0 past.entries (subst (All HasNoName) pending built) in
+      let steps : plan.steps_left ≡ length plan.taken + other_step_count (ops_of_group group past.entries) =
+      left ∙ ap (λ b. length plan.taken + (6 + (if b then 6 else 0))) (sym names) in
+      let at : plan.header ≡ header_for group s.log = header ∙ sym (ap (λ k. unwrap_or (option_map header_at (find (reaches_above group) k)) s.log.next) kept) in
+      let planned : IsPlanned (record { shown = s; past = past }) moment group plan = record { moment_is = at_moment; taken = taken; steps = steps; header = at } in
+      rw (starts group h is none) (plan, is, planned, takes, ap (λ (x : Shown). let state : State = record { shown = x; past = past } in state) same)
 
 -- the pending transactions of a pool give no new name
 pub pending_names : (pending : List Committed) → All (λ (c : Committed). list_any is_rename c.ops ≡ false) pending → All HasNoName (map shown_record pending)

@@ -1,16 +1,21 @@
 -- What a pool keeps of its device, step by step.
-use Rattle.std.specs.Prelude.{ℕ, ◌≡◌, List, map, length, min, Option, option_map, Result}
+use Rattle.std.specs.Prelude.{ℕ, ◌≡◌, List, map, length, min, Option, Some, option_map, Result, Ok}
 use Rattle.base.specs.declared.error.PoolError.{PoolError}
 use Rattle.base.specs.declared.names.Group.{Group}
 use Rattle.base.specs.declared.pointer.Pointer.{Pointer}
 use Rattle.base.specs.declared.step.Step as declared_step
 use Rattle.base.specs.declared.step.Reply as declared_reply
 use Rattle.base.specs.declared.step.Reply.TheVariants as reply
+use Rattle.base.specs.Contents.{Contents}
+use Rattle.base.specs.History.{entries_up_to, replay}
 use Rattle.base.specs.Past.{Past}
-use Rattle.base.specs.Places.{Place, IsPlace}
+use Rattle.base.specs.Places.{Place, IsPlace, has_block}
+use Rattle.base.specs.Runs as runs
 use Rattle.base.specs.Runs.{Run, progress_reply, reply_of}
-use Rattle.base.specs.Shown.{Shown}
+use Rattle.base.specs.Shown.{Shown, SyncPlan}
+use Rattle.base.specs.Steps.{State, ops_of_group}
 use Rattle.base.specs.Stored.{Held, IsHeld, Moves, NewTree}
+use Rattle.base.specs.Syncs.{written_places}
 use Rattle.object_maps.specs.declared.tree.Tree.{Tree}
 use Rattle.object_maps.specs.Pointers.{pointers_of}
 use Rattle.sync.specs.declared.run.SyncRun.{SyncRun}
@@ -21,7 +26,6 @@ use Rattle.pool_core.specs.declared.state.Progress.{Progress}
 use Rattle.pool_core.specs.Pointers.{pointers_after}
 use Rattle.pool_core.specs.Progresses.{progress_of}
 use Rattle.pool_core.specs.Shows.{shown_of}
-use Rattle.pool_core.specs.StepReplies.{IsStep, StepReplies}
 
 -- what is shown of a pool, the bytes of its device, the pointers of its tree, and what its running sync makes
 pub record Told : Type 0 where
@@ -64,12 +68,35 @@ Leads (reply.Synced group) old new = (pointers : Place → Pointer) × SamePlace
     × ((past later : Past) → Moves (reply.Synced group) (held_with old past) (held_with (record new { pointers = pointers }) later))
 Leads r old new = (past later : Past) → Moves r (held_with old past) (held_with new later)
 
+-- a step from each past that explains what is shown and with which the device, of these bytes, holds what it should
+abbrev pub MeetsHeld : {A : Type 0} → (List ℕ → Result A PoolError → State → State → Type 0) → Result A PoolError → Pool → Pool → Type 0
+MeetsHeld Step answer old new = (now : List ℕ) (past : Past) → IsHeld (held_with (told_of now old) past)
+    → (later : Past) × Step now answer (record { shown = shown_of old; past = past }) (record { shown = shown_of new; past = later })
+
+-- The blocks that a started sync of a group takes are those that its tree has at the places that it writes, one for each, in their order.
+pub record TakesInOrder (group : ℕ) (past : Past) (old new : Told) : Type 0 where
+  pub synced : Contents
+  pub replayed : replay (entries_up_to old.shown.line.synced past.entries) past.base ≡ Ok synced
+  pub tree : NewTree
+  pub running : new.running ≡ Some tree
+  pub plan : SyncPlan
+  pub plan_is : new.shown.sync ≡ Some plan
+  pub each : map (λ (place : Place). (tree.pointers place).address) (written_places (ops_of_group group past.entries) synced (has_block old.now old.shown.root)) ≡ plan.taken
+
+-- a step with its reply, over a device with the bytes of the old state
+abbrev pub IsStepOver : declared_step.Step → declared_reply.Reply → Held → Held → Type 0
+IsStepOver s r old new = runs.Step (Unit {0}) old.now s r old.state new.state
+
+-- from each past with which the device holds what it should, the step is one of the definitions to a later past
+abbrev pub StepsOver : declared_step.Step → declared_reply.Reply → Told → Told → Type 0
+StepsOver s r old new = (past : Past) → IsHeld (held_with old past) → (later : Past) × IsStepOver s r (held_with old past) (held_with new later)
+
 -- a step of a pool over its device: it replies as the definitions say, and moves so
 abbrev pub StepHolds : declared_step.Step → declared_reply.Reply → Told → Told → Type 0
-StepHolds s r old new = StepReplies s r old.shown new.shown × Leads r old new
+StepHolds s r old new = StepsOver s r old new × Leads r old new
 
 -- From each past that explains what is shown and with which the device holds what it should, the steps with these replies are a run of
--- the definitions to a later past, which explains what is shown then, and with which the device holds what it should then.
+-- the definitions, each over the bytes that the device has then, to a later past, which explains what is shown at the end, and with which
+-- the device holds what it should then.
 abbrev pub HoldsOn : List declared_step.Step → List declared_reply.Reply → Told → Told → Type 0
-HoldsOn ss rs old new = (past : Past) → IsHeld (held_with old past)
-    → (later : Past) × Run IsStep ss rs (record { shown = old.shown; past = past }) (record { shown = new.shown; past = later }) × IsHeld (held_with new later)
+HoldsOn ss rs old new = (past : Past) → IsHeld (held_with old past) → (later : Past) × Run IsStepOver ss rs (held_with old past) (held_with new later) × IsHeld (held_with new later)

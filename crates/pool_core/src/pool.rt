@@ -13,7 +13,8 @@ ghost use Rattle.base.specs.Locks as held;
 ghost use Rattle.base.specs.PlacedTrees.{ArePlaced};
 ghost use Rattle.base.specs.Places.{IsPlace, Place};
 ghost use Rattle.base.specs.PlannedTrees.{AreFreed, NewBlock};
-ghost use Rattle.base.specs.Stored.{AreUsed, frame_at};
+ghost use Rattle.base.specs.Past.{Past};
+ghost use Rattle.base.specs.Stored.{AreUsed, IsHeld, frame_at};
 ghost use Rattle.base.specs.Refusals.{is_lock_in_use, object_range};
 ghost use Rattle.base.specs.Stage as stage;
 ghost use Rattle.base.specs.Stage.{has_older_group, is_plan_built};
@@ -113,7 +114,7 @@ impl Pool {
     ghost use Rattle.std.specs.Prelude.{ℕ, List};
     ghost use Rattle.base.specs.Disk.{bytes_of};
     ghost use Rattle.pool_core.specs.Calls.{CallsNext};
-    ghost use Rattle.pool_core.specs.Holds.{Leads, start_reply, sync_reply, told_of};
+    ghost use Rattle.pool_core.specs.Holds.{Leads, MeetsHeld, TakesInOrder, held_with, start_reply, sync_reply, told_of};
     ghost use Rattle.pool_core.specs.Lines.{MayNotStart, MayStart, line_of};
     ghost use Rattle.pool_core.specs.Meets.{MayCommit, Meets, MeetsExplained};
     ghost use Rattle.pool_core.specs.Progresses.{progress_of};
@@ -417,6 +418,8 @@ impl Pool {
     pub fn start_sync(&mut self, moment: u64) -> Result<Group, PoolError>
         ensures geometry { self.new.geometry ≡ self.old.geometry }
         ensures step { MeetsExplained (stage.StartSync ⊥ [] moment) (result_map (λ group. group.0) result) (shown_of self.old) (shown_of self.new) }
+        ensures held { MeetsHeld (λ now. stage.StartSync (Unit {0}) now moment) (result_map (λ group. group.0) result) self.old self.new }
+        ensures order { (now : List ℕ) (past : Past) → IsHeld (held_with (told_of now self.old) past) → IfOk result (λ group. TakesInOrder group.0 past (told_of now self.old) (told_of now self.new)) }
         ensures leads { (now : List ℕ) → Leads (start_reply result) (told_of now self.old) (told_of now self.new) }
     {
         self.check_running()?;

@@ -4,7 +4,7 @@ ghost use Rattle.std.specs.Prelude.{◌≡◌, IfOk, IsTrue, MatchResult, OnErr,
 ghost use Rattle.std.specs.Result.{ForOk};
 ghost use Rattle.base.specs.Runs.{Run};
 ghost use Rattle.base.specs.Disk.{bytes_of};
-ghost use Rattle.pool_core.specs.Holds.{HoldsOn, Leads, told_of};
+ghost use Rattle.pool_core.specs.Holds.{HoldsOn, Leads, StepsOver, told_of};
 ghost use Rattle.pool_core.specs.ExplainedRuns.{RunsOn};
 ghost use Rattle.pool_core.specs.Shows.{shown_of};
 ghost use Rattle.pool_core.specs.StepReplies.{StepReplies};
@@ -17,6 +17,7 @@ impl<D: SectorDevice> PoolState<D> {
     /// Makes one step.
     pub fn step(&mut self, step: Step) -> Reply
         ensures replied { StepReplies step result (shown_of self.old.pool) (shown_of self.new.pool) }
+        ensures over { StepsOver step result (told_of (bytes_of (D.disk self.old.device).now) self.old.pool) (told_of (bytes_of (D.disk self.new.device).now) self.new.pool) }
         ensures leads { IsTrue D.keeps_model → Leads result (told_of (bytes_of (D.disk self.old.device).now) self.old.pool) (told_of (bytes_of (D.disk self.new.device).now) self.new.pool) }
     {
         match step {

@@ -1,9 +1,11 @@
 //! A running pool on its device, and each of its steps.
 
-ghost use Rattle.std.specs.Prelude.{◌≡◌, [], IsTrue};
+ghost use Rattle.std.specs.Prelude.{◌≡◌, [], IfOk, IsTrue};
+ghost use Rattle.base.specs.Past.{Past};
 ghost use Rattle.base.specs.Refusals.{object_range};
 ghost use Rattle.base.specs.Stage as stage;
 ghost use Rattle.base.specs.Steps as steps;
+ghost use Rattle.base.specs.Stored.{IsHeld};
 ghost use Rattle.base.specs.declared.names.Receipt.{Receipt};
 
 use crate::pool::Pool;
@@ -39,7 +41,7 @@ impl<D: SectorDevice> PoolState<D> {
     ghost use Rattle.std.specs.Prelude.{ℕ, List};
     ghost use Rattle.base.specs.Disk.{bytes_of};
     ghost use Rattle.pool_core.specs.Calls.{CallsNext};
-    ghost use Rattle.pool_core.specs.Holds.{Leads, start_reply, sync_reply, told_of};
+    ghost use Rattle.pool_core.specs.Holds.{Leads, MeetsHeld, TakesInOrder, held_with, start_reply, sync_reply, told_of};
     ghost use Rattle.pool_core.specs.Meets.{Meets, MeetsExplained};
     ghost use Rattle.pool_core.specs.NewStates.{IsHeldFrom};
     ghost use Rattle.pool_core.specs.Progresses.{progress_of};
@@ -180,6 +182,8 @@ impl<D: SectorDevice> PoolState<D> {
     /// do not suffice; `NoMemory`.
     pub fn start_sync(&mut self, moment: u64) -> Result<Group, PoolError>
         ensures step { MeetsExplained (stage.StartSync ⊥ [] moment) (result_map (λ group. group.0) result) (shown_of self.old.pool) (shown_of self.new.pool) }
+        ensures held { MeetsHeld (λ now. stage.StartSync (Unit {0}) now moment) (result_map (λ group. group.0) result) self.old.pool self.new.pool }
+        ensures order { (now : List ℕ) (past : Past) → IsHeld (held_with (told_of now self.old.pool) past) → IfOk result (λ group. TakesInOrder group.0 past (told_of now self.old.pool) (told_of now self.new.pool)) }
         ensures leads { (now : List ℕ) → Leads (start_reply result) (told_of now self.old.pool) (told_of now self.new.pool) }
         ensures device { self.new.device ≡ self.old.device }
     {

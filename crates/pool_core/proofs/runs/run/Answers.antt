@@ -33,7 +33,7 @@ loop-step-preserved g c = (
   λ keeps.
       one_more StepHolds (into_iter_items c.loop-step.step-iterator) c.in-Some.step (into_iter_items c.next.new.self) c.loop-step.replies.items c.push_reserved.new.self.items
       c.step-reply.result c.args.steps.items (told_of (bytes_of (g.D.SectorDevice.disk c.args.state.now.device).now) c.args.state.now.pool) (told_of (bytes_of (g.D.SectorDevice.disk c.loop-step.state.device).now) c.loop-step.state.pool) (told_of (bytes_of (g.D.SectorDevice.disk c.step-reply.new.self.device).now) c.step-reply.new.self.pool)
-      c.in-Some.ensures.steps.0 c.push_reserved.ensures.items (c.step-reply.ensures.replied, c.step-reply.ensures.leads keeps) (c.loop-step.invariant.5 keeps),
+      c.in-Some.ensures.steps.0 c.push_reserved.ensures.items (c.step-reply.ensures.over, c.step-reply.ensures.leads keeps) (c.loop-step.invariant.5 keeps),
 )
 
 pub returns-clause-ran : goal.returns-clause-ran

@@ -38,7 +38,7 @@ returns-clause-planned c =
     let marks : AreMarks (pending_ops c.args.group.0 pool.pending.items) objects = subst (λ (l : List Committed). AreMarks (pending_ops c.args.group.0 l) objects) c.deref.ensures.value c.in_ok-objects.ensures.marks in
     IfOk_map c.plan.result (λ (p : TreePlan) told. retold pool.tree p.root p.directories.items p.maps
     (λ (old new : Place → Pointer). IsPlannedFrom c.args.group.0 pool.pending.items (frame_at (shown_of pool) c.args.group.0) old new (map new_block p.blocks.items) (contents_of pool.contents).objects)
-    (objects, marks, told)) c.plan.ensures.planned
+    (record { objects = objects; marks = marks; planned = told; order = ? })) c.plan.ensures.planned
 
 pub returns-clause-freed_are : goal.returns-clause-freed_are
 returns-clause-freed_are c =

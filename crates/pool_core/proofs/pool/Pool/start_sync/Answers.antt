@@ -1,4 +1,4 @@
-use Rattle.std.proofs.Common.{ℕ, ◌≡◌, ◌<◌, ◌∙◌, ap, sym, subst, refl, map, List, Some, None}
+use Rattle.std.proofs.Common.{ℕ, ◌≡◌, ◌<◌, ◌∙◌, ap, sym, subst, refl, map, List, [], Some, None}
 use Rattle.std.specs.FinSet as set
 use Rattle.std.proofs.lemmas.Result.{err_from_is_err_and}
 use Rattle.base.specs.Geometry.{block_count}
@@ -18,7 +18,7 @@ use Rattle.base.specs.Stored.{NewTree}
 use Rattle.base.proofs.StoredTrees.{no-change}
 use Rattle.tree_plans.specs.Plans.{new_block}
 use Rattle.pool_core.specs.Holds.{start_reply}
-use Rattle.pool_core.proofs.StartLeads.{group_planned, nothing_made}
+use Rattle.pool_core.proofs.StartLeads.{group_planned, group_takes, group_takes_each, nothing_made}
 use Rattle.pool_core.proofs.StillSteps.{still_pool}
 use Rattle.pool_core.proofs.SameSyncs.{kept_sync}
 use Rattle.pool_core.proofs.Starts.{lowest_taken, pending_names, start_done, start_not_ready, start_suspended, start_wants}
@@ -28,19 +28,52 @@ pub returns-in_err-check_running-clause-step : goal.returns-in_err-check_running
 returns-in_err-check_running-clause-step c =
     let p = err_from_is_err_and c.from_residual.result c.from_residual.ensures.1 in
     let told = c.in_err-check_running.ensures in
-    rw (p.1, p.2, told.0) (start_suspended (shown_of c.args.self.now) c.args.moment told.1)
+    rw (p.1, p.2, told.0) (λ past explained. (past, start_suspended ⊥ [] past (shown_of c.args.self.now) c.args.moment told.1))
 
 pub returns-in_err-group-clause-step : goal.returns-in_err-group-clause-step
 returns-in_err-group-clause-step c =
     let p = err_from_is_err_and c.from_residual-in_err-group.result c.from_residual-in_err-group.ensures.1 in
     let told = c.in_err-group.ensures.may in
-    rw (p.1, p.2, told.0) (start_not_ready (shown_of c.args.self.now) c.args.moment c.in_ok-check_running.ensures told.1)
+    rw (p.1, p.2, told.0) (λ past explained. (past, start_not_ready ⊥ [] past (shown_of c.args.self.now) c.args.moment c.in_ok-check_running.ensures told.1))
 
 pub returns-in_err-planned-clause-step : goal.returns-in_err-planned-clause-step
 returns-in_err-planned-clause-step c =
     let p = err_from_is_err_and c.from_residual-in_err-planned.result c.from_residual-in_err-planned.ensures.1 in
     let may = c.in_ok-group.ensures.may in
-    rw (p.1, p.2) (start_wants (shown_of c.args.self.now) c.args.moment c.in_ok-group.group.0 c.in_err-planned.field-0.0 c.in_ok-check_running.ensures may.0 may.1 c.in_err-planned.ensures.refused)
+    rw (p.1, p.2) (λ past explained. (past, start_wants ⊥ [] past (shown_of c.args.self.now) c.args.moment c.in_ok-group.group.0 c.in_err-planned.field-0.0 c.in_ok-check_running.ensures may.0 may.1 c.in_err-planned.ensures.refused))
+
+pub returns-in_err-check_running-clause-held : goal.returns-in_err-check_running-clause-held
+returns-in_err-check_running-clause-held c =
+    let p = err_from_is_err_and c.from_residual.result c.from_residual.ensures.1 in
+    let told = c.in_err-check_running.ensures in
+    rw (p.1, p.2, told.0) (λ now past x. (past, start_suspended (Unit {0}) now past (shown_of c.args.self.now) c.args.moment told.1))
+
+pub returns-in_err-group-clause-held : goal.returns-in_err-group-clause-held
+returns-in_err-group-clause-held c =
+    let p = err_from_is_err_and c.from_residual-in_err-group.result c.from_residual-in_err-group.ensures.1 in
+    let told = c.in_err-group.ensures.may in
+    rw (p.1, p.2, told.0) (λ now past x. (past, start_not_ready (Unit {0}) now past (shown_of c.args.self.now) c.args.moment c.in_ok-check_running.ensures told.1))
+
+pub returns-in_err-planned-clause-held : goal.returns-in_err-planned-clause-held
+returns-in_err-planned-clause-held c =
+    let p = err_from_is_err_and c.from_residual-in_err-planned.result c.from_residual-in_err-planned.ensures.1 in
+    let may = c.in_ok-group.ensures.may in
+    rw (p.1, p.2) (λ now past x. (past, start_wants (Unit {0}) now past (shown_of c.args.self.now) c.args.moment c.in_ok-group.group.0 c.in_err-planned.field-0.0 c.in_ok-check_running.ensures may.0 may.1 c.in_err-planned.ensures.refused))
+
+pub returns-in_err-check_running-clause-order : goal.returns-in_err-check_running-clause-order
+returns-in_err-check_running-clause-order c =
+    let p = err_from_is_err_and c.from_residual.result c.from_residual.ensures.1 in
+    rw (p.1) (λ now past x. tt)
+
+pub returns-in_err-group-clause-order : goal.returns-in_err-group-clause-order
+returns-in_err-group-clause-order c =
+    let p = err_from_is_err_and c.from_residual-in_err-group.result c.from_residual-in_err-group.ensures.1 in
+    rw (p.1) (λ now past x. tt)
+
+pub returns-in_err-planned-clause-order : goal.returns-in_err-planned-clause-order
+returns-in_err-planned-clause-order c =
+    let p = err_from_is_err_and c.from_residual-in_err-planned.result c.from_residual-in_err-planned.ensures.1 in
+    rw (p.1) (λ now past x. tt)
 
 pub invariant_of-self-2 : goal.invariant_of-self-2
 invariant_of-self-2 c =
@@ -65,15 +98,51 @@ invariant_of-self-2 c =
     }
 
 pub returns-clause-step : goal.returns-clause-step
-returns-clause-step c =
+returns-clause-step c = λ past explained.
     let pool = c.args.self.now in
     let s = shown_of pool in
     let blocks : List PlannedBlock = c.in_ok-planned.planned.blocks.items in
     let plan = new_plan c.args.moment pool.log_address (map address_of blocks) c.in_ok-planned.planned.freed.items c.in_ok-planned.planned.root in
-    let may = c.in_ok-group.ensures.may in
-    start_done s _ c.args.moment c.in_ok-group.group.0 plan c.in_ok-check_running.ensures may.0 may.1 (pending_names pool.pending.items pool.pending_built) refl refl
-    (lowest_taken blocks pool.free.flags.items c.in_ok-planned.ensures.taken) refl refl
-    (rw (c.start_sync.ensures, c.take_all.ensures.free, c.running_sync.ensures.plan) (ap (λ (l : List PlannedBlock). record s { line = record s.line { syncing = Some c.in_ok-group.group.0; middle = None }; free = set.difference s.free (set.from_list (map address_of l)); sync = Some plan }) c.deref.ensures.value))
+    let may = c.in_ok-group.ensures.may in (
+      past,
+      start_done ⊥ [] past s c.args.moment _ c.in_ok-group.group.0 plan explained (λ never. absurd never)
+          c.in_ok-check_running.ensures may.0 may.1 (pending_names pool.pending.items pool.pending_built) refl refl
+          (lowest_taken blocks pool.free.flags.items c.in_ok-planned.ensures.taken) refl refl
+          (rw (c.start_sync.ensures, c.take_all.ensures.free, c.running_sync.ensures.plan) (ap (λ (l : List PlannedBlock). record s { line = record s.line { syncing = Some c.in_ok-group.group.0; middle = None }; free = set.difference s.free (set.from_list (map address_of l)); sync = Some plan }) c.deref.ensures.value)),
+    )
+
+pub returns-clause-held : goal.returns-clause-held
+returns-clause-held c = λ now past x.
+    let pool = c.args.self.now in
+    let s = shown_of pool in
+    let planned = c.in_ok-planned.planned in
+    let blocks : List PlannedBlock = planned.blocks.items in
+    let plan = new_plan c.args.moment pool.log_address (map address_of blocks) planned.freed.items planned.root in
+    let may = c.in_ok-group.ensures.may in (
+      past,
+      start_done (Unit {0}) now past s c.args.moment _ c.in_ok-group.group.0 plan x.explained
+          (λ keeps. group_takes_each now past pool c.in_ok-group.group.0 c.args.moment blocks planned.freed.items planned.root planned.directories.items planned.maps may c.in_ok-planned.ensures.planned x)
+          c.in_ok-check_running.ensures may.0 may.1 (pending_names pool.pending.items pool.pending_built) refl refl
+          (lowest_taken blocks pool.free.flags.items c.in_ok-planned.ensures.taken) refl refl
+          (rw (c.start_sync.ensures, c.take_all.ensures.free, c.running_sync.ensures.plan) (ap (λ (l : List PlannedBlock). record s { line = record s.line { syncing = Some c.in_ok-group.group.0; middle = None }; free = set.difference s.free (set.from_list (map address_of l)); sync = Some plan }) c.deref.ensures.value)),
+    )
+
+pub returns-clause-order : goal.returns-clause-order
+returns-clause-order c = λ now past x.
+    let pool = c.args.self.now in
+    let planned = c.in_ok-planned.planned in
+    let rs = c.running_sync.result in
+    let ens = c.running_sync.ensures in
+    record {
+      synced = x.kept.stored.synced;
+      replayed = x.kept.stored.replayed;
+      tree = record { pointers = pointers_after planned.root planned.directories.items planned.maps pool.tree; blocks = map new_block planned.blocks.items; made = 0 };
+      running = ap (λ (t : NewTree). Some t) (nothing_made pool.tree rs planned.root planned.directories planned.maps planned.blocks ens.root ens.directories ens.maps ens.blocks ens.done);
+      plan = new_plan c.args.moment pool.log_address (map address_of planned.blocks.items) planned.freed.items planned.root;
+      plan_is = ap (λ (q : SyncPlan). Some q) ens.plan;
+      each = group_takes now past pool c.in_ok-group.group.0 c.args.moment planned.blocks.items planned.freed.items planned.root planned.directories.items planned.maps
+          c.in_ok-group.ensures.may c.in_ok-planned.ensures.planned x;
+    }
 
 pub returns-in_err-check_running-clause-leads : goal.returns-in_err-check_running-clause-leads
 returns-in_err-check_running-clause-leads c = λ now.

@@ -12,6 +12,7 @@ use Rattle.pool_core.specs.declared.state.Progress.{Progress}
 use Rattle.pool_core.specs.Progresses.{progress_of}
 use Rattle.pool_core.specs.Shows.{shown_of}
 use Rattle.pool_core.specs.Holds.{sync_reply}
+use Rattle.pool_core.proofs.StepsOver.{any_device, is_start, start_over}
 use Rattle.pool_core.proofs.StillSteps.{leads_as, start_told, still_on, still_replied}
 use Rattle.pool_core.proofs.RepliedSteps.{replied, replied_explained, replied_same}
 use Rattle.pool_core.proofs.state.PoolState.step.Goals as goal
@@ -68,6 +69,59 @@ returns-in-Ok-Synced-clause-replied g c =
 pub returns-in-Err-sync_step-clause-replied : goal.returns-in-Err-sync_step-clause-replied
 returns-in-Err-sync_step-clause-replied g c =
     rw c.in-SyncStep.is (replied steps.SyncStep progress_of progress_reply (Err c.in-Err-sync_step.error) (reply.Refused c.in-Err-sync_step.error) (shown_of c.args.self.now.pool) (shown_of c.sync_step.new.self.pool) c.in-Err-sync_step.ensures.step refl)
+
+pub returns-in-Lock-clause-over : goal.returns-in-Lock-clause-over
+returns-in-Lock-clause-over g c =
+    any_device g.D.SectorDevice.disk c.reply.result c.args.self.now.device c.lock.new.self.device c.args.self.now.pool c.lock.new.self.pool c.args.step (ap is_start c.in-Lock.is) (returns-in-Lock-clause-replied g c)
+
+pub returns-in-Commit-clause-over : goal.returns-in-Commit-clause-over
+returns-in-Commit-clause-over g c =
+    any_device g.D.SectorDevice.disk c.reply-in-Commit.result c.args.self.now.device c.commit.new.self.device c.args.self.now.pool c.commit.new.self.pool c.args.step (ap is_start c.in-Commit.is) (returns-in-Commit-clause-replied g c)
+
+pub returns-in-Read-clause-over : goal.returns-in-Read-clause-over
+returns-in-Read-clause-over g c =
+    any_device g.D.SectorDevice.disk c.reply-in-Read.result c.args.self.now.device c.args.self.now.device c.args.self.now.pool c.args.self.now.pool c.args.step (ap is_start c.in-Read.is) (returns-in-Read-clause-replied g c)
+
+pub returns-in-CloseGroup-clause-over : goal.returns-in-CloseGroup-clause-over
+returns-in-CloseGroup-clause-over g c =
+    any_device g.D.SectorDevice.disk c.reply-in-CloseGroup.result c.args.self.now.device c.close_group.new.self.device c.args.self.now.pool c.close_group.new.self.pool c.args.step (ap is_start c.in-CloseGroup.is) (returns-in-CloseGroup-clause-replied g c)
+
+pub returns-in-MarkQuiesced-clause-over : goal.returns-in-MarkQuiesced-clause-over
+returns-in-MarkQuiesced-clause-over g c =
+    any_device g.D.SectorDevice.disk c.reply-in-MarkQuiesced.result c.args.self.now.device c.mark_quiesced.new.self.device c.args.self.now.pool c.mark_quiesced.new.self.pool c.args.step (ap is_start c.in-MarkQuiesced.is) (returns-in-MarkQuiesced-clause-replied g c)
+
+pub returns-in-Ok-clause-over : goal.returns-in-Ok-clause-over
+returns-in-Ok-clause-over g c =
+    any_device g.D.SectorDevice.disk reply.Done c.args.self.now.device c.unlock.new.self.device c.args.self.now.pool c.unlock.new.self.pool c.args.step (ap is_start c.in-Unlock.is) (returns-in-Ok-clause-replied g c)
+
+pub returns-in-Err-clause-over : goal.returns-in-Err-clause-over
+returns-in-Err-clause-over g c =
+    any_device g.D.SectorDevice.disk (reply.Refused c.in-Err.error) c.args.self.now.device c.unlock.new.self.device c.args.self.now.pool c.unlock.new.self.pool c.args.step (ap is_start c.in-Unlock.is) (returns-in-Err-clause-replied g c)
+
+pub returns-in-Ok-begin-clause-over : goal.returns-in-Ok-begin-clause-over
+returns-in-Ok-begin-clause-over g c =
+    any_device g.D.SectorDevice.disk (reply.Began c.in-Ok-begin.tx c.in-Ok-begin.group) c.args.self.now.device c.begin.new.self.device c.args.self.now.pool c.begin.new.self.pool c.args.step (ap is_start c.in-Begin.is) (returns-in-Ok-begin-clause-replied g c)
+
+pub returns-in-Err-begin-clause-over : goal.returns-in-Err-begin-clause-over
+returns-in-Err-begin-clause-over g c =
+    any_device g.D.SectorDevice.disk (reply.Refused c.in-Err-begin.error) c.args.self.now.device c.begin.new.self.device c.args.self.now.pool c.begin.new.self.pool c.args.step (ap is_start c.in-Begin.is) (returns-in-Err-begin-clause-replied g c)
+
+pub returns-in-StartSync-clause-over : goal.returns-in-StartSync-clause-over
+returns-in-StartSync-clause-over g c =
+    rw c.in-StartSync.is (start_over g.D.SectorDevice.disk c.reply-in-StartSync.result c.args.self.now.device c.start_sync.new.self.device c.args.self.now.pool c.start_sync.new.self.pool
+    c.in-StartSync.moment c.start_sync.result c.start_sync.ensures.held c.reply-in-StartSync.ensures)
+
+pub returns-in-Ok-More-clause-over : goal.returns-in-Ok-More-clause-over
+returns-in-Ok-More-clause-over g c =
+    any_device g.D.SectorDevice.disk reply.More c.args.self.now.device c.sync_step.new.self.device c.args.self.now.pool c.sync_step.new.self.pool c.args.step (ap is_start c.in-SyncStep.is) (returns-in-Ok-More-clause-replied g c)
+
+pub returns-in-Ok-Synced-clause-over : goal.returns-in-Ok-Synced-clause-over
+returns-in-Ok-Synced-clause-over g c =
+    any_device g.D.SectorDevice.disk (reply.Synced c.in-Ok-Synced.group) c.args.self.now.device c.sync_step.new.self.device c.args.self.now.pool c.sync_step.new.self.pool c.args.step (ap is_start c.in-SyncStep.is) (returns-in-Ok-Synced-clause-replied g c)
+
+pub returns-in-Err-sync_step-clause-over : goal.returns-in-Err-sync_step-clause-over
+returns-in-Err-sync_step-clause-over g c =
+    any_device g.D.SectorDevice.disk (reply.Refused c.in-Err-sync_step.error) c.args.self.now.device c.sync_step.new.self.device c.args.self.now.pool c.sync_step.new.self.pool c.args.step (ap is_start c.in-SyncStep.is) (returns-in-Err-sync_step-clause-replied g c)
 
 pub returns-in-Lock-clause-leads : goal.returns-in-Lock-clause-leads
 returns-in-Lock-clause-leads g c = λ keeps.

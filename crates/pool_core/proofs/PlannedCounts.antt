@@ -1,0 +1,111 @@
+-- The places that the sync of a group writes, told by the marks of its plan: it takes one block for each, in their order.
+use Rattle.std.proofs.Common.{◌≡◌, ℕ, ◌<◌, ◌≤◌, Bool, true, ◌||◌, List, [], ◌∷◌, ◌++◌, length, map, refl, ap, sym, subst, ◌∙◌}
+use Rattle.std.specs.Prelude.{Option, Some, None, Ok, is_some, nat_lt, IfSome, All, ◌==◌, slice_get}
+use Rattle.std.specs.List.{list_all, list_any, flat_map}
+use Rattle.std.specs.FinMap as finite
+use Rattle.std.proofs.lemmas.Bool.{false≢true}
+use Rattle.std.proofs.lemmas.List.{length-map}
+use Rattle.std.proofs.lemmas.List.Elements.{All-nil, All-cons, All-head, All-tail}
+use Rattle.base.specs.declared.names.ObjectId.{ObjectId}
+use Rattle.base.specs.declared.operation.Op.{Op}
+use Rattle.base.specs.declared.operation.Op.TheVariants.{Create, Remove, Write, SetLength, SetName}
+use Rattle.base.specs.declared.pointer.Pointer.{Pointer}
+use Rattle.base.specs.Contents.{Contents}
+use Rattle.base.specs.ExactNow.{IsExplainedNow}
+use Rattle.base.specs.Groups.{Middle}
+use Rattle.base.specs.History.{Entry, apply_all, entries_in}
+use Rattle.base.specs.Limits.{max_length, object_count, pointer_count}
+use Rattle.base.specs.Past.{Past}
+use Rattle.base.specs.Places.{Place, has_block}
+use Rattle.base.specs.PlannedPlaces.{written_by}
+use Rattle.base.specs.PlannedTrees.{NewBlock}
+use Rattle.base.specs.Shown.{Shown, SyncPlan}
+use Rattle.base.specs.Steps.{TakesForEach, ops_of_group}
+use Rattle.base.specs.Stored.{IsStored, frame_at}
+use Rattle.base.specs.Syncs.{is_on, written_places}
+use Rattle.base.proofs.StoredCover.{All-passing}
+use Rattle.base.proofs.UntouchedRecords.{writes_record}
+use Rattle.base.proofs.WrittenRecords.{IsBuilt}
+use Rattle.tree_plans.specs.declared.planner.Committed.{Committed}
+use Rattle.tree_plans.specs.declared.planner.DirtyRecords.{DirtyRecords}
+use Rattle.tree_plans.specs.Changes.{is_marked}
+use Rattle.tree_plans.specs.Marks.{AreMarks, changes, pending_ops, touches}
+use Rattle.tree_plans.specs.Pointers.{entry_of}
+use Rattle.pool_core.specs.GroupPlans.{AreInRange, IsPlannedFrom}
+use Rattle.pool_core.specs.Shows.{record_of as shown_record}
+use Rattle.pool_core.proofs.PlannedGroups.{built, follows, on_changes, ops_are, there_after, touch_writes}
+
+-- until base has these
+abbrev pub HasBytes : Op → Type 0
+HasBytes (Write m offset bytes) = (0 < length bytes)
+HasBytes _ = Unit {0}
+
+built-places : (ops : List Op) (synced after : Contents) (had : Place → Bool) → apply_all ops synced ≡ Ok after → All IsBuilt ops → All HasBytes ops → (is_dirty : ℕ → ℕ → Bool) (is_changed : ℕ → Bool)
+    → ((n r : ℕ) → n < object_count → r < pointer_count → is_dirty n r ≡ list_any (writes_record n r) ops) → ((n : ℕ) → n < object_count → is_changed n ≡ list_any (is_on n) ops)
+    → written_places ops synced had ≡ written_by is_dirty is_changed
+built-places ops synced after had h built bytes is_dirty is_changed dirty changed = ?
+
+-- operations that create and write are on an object where they create or write it
+any_on : (n : ℕ) (ops : List Op) → All IsBuilt ops → list_any (changes n) ops ≡ list_any (is_on n) ops
+any_on n [] h = refl
+any_on n (o ∷ ops) h =
+    ap (λ (b : Bool). b || list_any (changes n) ops) (sym (on_changes n o (All-head IsBuilt o ops h))) ∙ ap (λ (b : Bool). is_on n o || b) (any_on n ops (All-tail IsBuilt o ops h))
+
+any_writes : (n r : ℕ) (ops : List Op) → list_any (touches n r) ops ≡ list_any (writes_record n r) ops
+any_writes n r [] = refl
+any_writes n r (o ∷ ops) = ap (λ (b : Bool). b || list_any (touches n r) ops) (sym (touch_writes n r o)) ∙ ap (λ (b : Bool). writes_record n r o || b) (any_writes n r ops)
+
+-- what all entries have, all of their operations have
+all_first : (P : Op → Type 0) (ops rest : List Op) → All P ops → All P rest → All P (ops ++ rest)
+all_first P [] rest h all = all
+all_first P (o ∷ ops) rest h all = All-cons P o (ops ++ rest) (All-head P o ops h) (all_first P ops rest (All-tail P o ops h) all)
+
+all_flat : (P : Op → Type 0) (es : List Entry) → All (λ (e : Entry). All P e.ops) es → All P (flat_map (λ (e : Entry). e.ops) es)
+all_flat P [] h = All-nil P
+all_flat P (e ∷ es) h =
+    all_first P e.ops (flat_map (λ (x : Entry). x.ops) es) (All-head (λ (x : Entry). All P x.ops) e es h) (all_flat P es (All-tail (λ (x : Entry). All P x.ops) e es h))
+
+-- an object of bounded contents has a number in range
+in_bounds : (o : Option (List ℕ)) (n : ℕ) → is_some o ≡ true → IfSome o (λ bytes. (n < object_count) × (length bytes ≤ max_length) × (list_all (λ b. nat_lt b 256) bytes ≡ true)) → n < object_count
+in_bounds None n there h = absurd (false≢true there)
+in_bounds (Some bytes) n there h = h.0
+
+module _ (now : List ℕ) (s : Shown) (p : Past) (pointers : Place → Pointer) (x : IsStored now s pointers p) (explained : IsExplainedNow s p) (group : ℕ) (idle : s.line.syncing ≡ None)
+    (middle : s.line.middle ≡ Some (record { group = group; quiesced = true })) (pending : List Committed) (log : s.log.pending ≡ map shown_record pending) where
+  abbrev pub places : List Place
+  places = written_places (ops_of_group group p.entries) x.synced (has_block now s.root)
+
+  leads : apply_all (pending_ops group pending) x.synced ≡ Ok s.contents
+  leads = follows now s p pointers x explained group idle middle pending log
+
+  are_built : All IsBuilt (pending_ops group pending)
+  are_built = built now s p pointers x explained group idle middle pending log
+
+  have_bytes : All HasBytes (pending_ops group pending)
+  have_bytes = ?
+
+  module _ (objects : List (ObjectId × DirtyRecords)) (marks : AreMarks (pending_ops group pending) objects) where
+    in_range : AreInRange objects
+    in_range n is =
+        in_bounds (finite.get s.contents.objects n) n (there_after n (pending_ops group pending) x.synced s.contents are_built leads (sym (marks.there n) ∙ is)) (explained.exact.bounded.objects n)
+
+    -- the places that the group's sync writes are those that are marked
+    places_are : places ≡ written_by (is_marked objects) (λ n. is_some (entry_of objects n))
+    places_are =
+        ap (λ (ops : List Op). written_places ops x.synced (has_block now s.root)) (ops_are now s p pointers x explained group idle middle pending log)
+        ∙ built-places (pending_ops group pending) x.synced s.contents (has_block now s.root) leads are_built have_bytes (is_marked objects) (λ n. is_some (entry_of objects n))
+        (λ n r low below. marks.marked n r below ∙ any_writes n r (pending_ops group pending)) (λ n low. marks.there n ∙ any_on n (pending_ops group pending) are_built)
+
+  module _ (new : Place → Pointer) (bs : List NewBlock) (plan : SyncPlan) (from : IsPlannedFrom group pending (frame_at s group) pointers new bs s.contents.objects) (taken : map (λ (b : NewBlock). b.address) bs ≡ plan.taken) where
+    -- the new tree has the taken addresses at them, in order
+    pub takes_in_order : map (λ (place : Place). (new place).address) places ≡ plan.taken
+    takes_in_order =
+        ap (λ (ps : List Place). map (λ (place : Place). (new place).address) ps) (places_are from.objects from.marks) ∙ sym (from.order (in_range from.objects from.marks)) ∙ taken
+
+    -- so it takes one for each
+    pub takes_for_each : TakesForEach now (record { shown = s; past = p }) group plan
+    takes_for_each = record {
+      synced = x.synced;
+      replayed = x.replayed;
+      each = ap (λ (l : List ℕ). length l) (sym takes_in_order) ∙ length-map places (λ (place : Place). (new place).address);
+    }
