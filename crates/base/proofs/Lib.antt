@@ -41,6 +41,7 @@ pub mod UntouchedRecords
 pub mod WrittenBlocks
 pub mod FreedBlocks
 pub mod WrittenRecords
+pub mod BuiltPlaces
 pub mod ReadTrees
 pub mod KeptTables
 pub mod AnySteps
