@@ -23,7 +23,7 @@ use Rattle.base.specs.Shown.{Shown, SyncPlan}
 use Rattle.base.specs.Steps.{TakesForEach, ops_of_group}
 use Rattle.base.specs.Stored.{IsStored, frame_at}
 use Rattle.base.specs.Syncs.{is_on, written_places}
-use Rattle.base.proofs.StoredCover.{All-passing}
+use Rattle.base.proofs.BuiltPlaces.{HasBytes, built-places, group-bytes}
 use Rattle.base.proofs.UntouchedRecords.{writes_record}
 use Rattle.base.proofs.WrittenRecords.{IsBuilt}
 use Rattle.tree_plans.specs.declared.planner.Committed.{Committed}
@@ -35,16 +35,6 @@ use Rattle.pool_core.specs.GroupPlans.{AreInRange, IsPlannedFrom}
 use Rattle.pool_core.specs.Shows.{record_of as shown_record}
 use Rattle.pool_core.proofs.PlannedGroups.{built, follows, on_changes, ops_are, there_after, touch_writes}
 
--- until base has these
-abbrev pub HasBytes : Op → Type 0
-HasBytes (Write m offset bytes) = (0 < length bytes)
-HasBytes _ = Unit {0}
-
-built-places : (ops : List Op) (synced after : Contents) (had : Place → Bool) → apply_all ops synced ≡ Ok after → All IsBuilt ops → All HasBytes ops → (is_dirty : ℕ → ℕ → Bool) (is_changed : ℕ → Bool)
-    → ((n r : ℕ) → n < object_count → r < pointer_count → is_dirty n r ≡ list_any (writes_record n r) ops) → ((n : ℕ) → n < object_count → is_changed n ≡ list_any (is_on n) ops)
-    → written_places ops synced had ≡ written_by is_dirty is_changed
-built-places ops synced after had h built bytes is_dirty is_changed dirty changed = ?
-
 -- operations that create and write are on an object where they create or write it
 any_on : (n : ℕ) (ops : List Op) → All IsBuilt ops → list_any (changes n) ops ≡ list_any (is_on n) ops
 any_on n [] h = refl
@@ -54,16 +44,6 @@ any_on n (o ∷ ops) h =
 any_writes : (n r : ℕ) (ops : List Op) → list_any (touches n r) ops ≡ list_any (writes_record n r) ops
 any_writes n r [] = refl
 any_writes n r (o ∷ ops) = ap (λ (b : Bool). b || list_any (touches n r) ops) (sym (touch_writes n r o)) ∙ ap (λ (b : Bool). writes_record n r o || b) (any_writes n r ops)
-
--- what all entries have, all of their operations have
-all_first : (P : Op → Type 0) (ops rest : List Op) → All P ops → All P rest → All P (ops ++ rest)
-all_first P [] rest h all = all
-all_first P (o ∷ ops) rest h all = All-cons P o (ops ++ rest) (All-head P o ops h) (all_first P ops rest (All-tail P o ops h) all)
-
-all_flat : (P : Op → Type 0) (es : List Entry) → All (λ (e : Entry). All P e.ops) es → All P (flat_map (λ (e : Entry). e.ops) es)
-all_flat P [] h = All-nil P
-all_flat P (e ∷ es) h =
-    all_first P e.ops (flat_map (λ (x : Entry). x.ops) es) (All-head (λ (x : Entry). All P x.ops) e es h) (all_flat P es (All-tail (λ (x : Entry). All P x.ops) e es h))
 
 -- an object of bounded contents has a number in range
 in_bounds : (o : Option (List ℕ)) (n : ℕ) → is_some o ≡ true → IfSome o (λ bytes. (n < object_count) × (length bytes ≤ max_length) × (list_all (λ b. nat_lt b 256) bytes ≡ true)) → n < object_count
@@ -82,7 +62,7 @@ module _ (now : List ℕ) (s : Shown) (p : Past) (pointers : Place → Pointer) 
   are_built = built now s p pointers x explained group idle middle pending log
 
   have_bytes : All HasBytes (pending_ops group pending)
-  have_bytes = ?
+  have_bytes = subst (λ (ops : List Op). All HasBytes ops) (ops_are now s p pointers x explained group idle middle pending log) (group-bytes s p explained group)
 
   module _ (objects : List (ObjectId × DirtyRecords)) (marks : AreMarks (pending_ops group pending) objects) where
     in_range : AreInRange objects

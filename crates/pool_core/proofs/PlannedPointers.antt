@@ -85,6 +85,11 @@ pub IfOk_map : {A : Type 0} {P Q : A → Type 0} (r : Result A PoolError) → ((
 IfOk_map (Ok a) f h = f a h
 IfOk_map (Err e) f h = tt
 
+-- and what two facts give together
+pub IfOk_both : {A : Type 0} {P Q R : A → Type 0} (r : Result A PoolError) → ((a : A) → P a → Q a → R a) → IfOk r P → IfOk r Q → IfOk r R
+IfOk_both (Ok a) f h k = f a h k
+IfOk_both (Err e) f h k = tt
+
 -- where the pointers of a tree are placed, so are those of its plan
 pub plan_placed : (tree : Tree) (root : Pointer) (directories : List Pointer) (maps : BTreeMap ObjectId ObjectMap) (blocks : ℕ) → ∥ ArePlaced blocks (kept.pointers_of tree) ∥₁
     → (ArePlaced blocks (plans.pointers_of tree) → ArePlaced blocks (plans.pointers_from root directories (planned_map tree.maps.items maps.entries)))
