@@ -33,14 +33,9 @@ use Rattle.tree_plans.specs.Marks.{AreMarks, changes, pending_ops, touches}
 use Rattle.tree_plans.specs.Pointers.{entry_of}
 use Rattle.pool_core.specs.GroupPlans.{AreInRange, IsPlannedFrom}
 use Rattle.pool_core.specs.Shows.{record_of as shown_record}
-use Rattle.pool_core.proofs.PlannedGroups.{built, follows, on_changes, ops_are, there_after, touch_writes}
+use Rattle.pool_core.proofs.PlannedGroups.{any_on, built, follows, ops_are, there, touch_writes}
 
--- operations that create and write are on an object where they create or write it
-any_on : (n : ℕ) (ops : List Op) → All IsBuilt ops → list_any (changes n) ops ≡ list_any (is_on n) ops
-any_on n [] h = refl
-any_on n (o ∷ ops) h =
-    ap (λ (b : Bool). b || list_any (changes n) ops) (sym (on_changes n o (All-head IsBuilt o ops h))) ∙ ap (λ (b : Bool). is_on n o || b) (any_on n ops (All-tail IsBuilt o ops h))
-
+-- whether one of them writes a record, by both words for it
 any_writes : (n r : ℕ) (ops : List Op) → list_any (touches n r) ops ≡ list_any (writes_record n r) ops
 any_writes n r [] = refl
 any_writes n r (o ∷ ops) = ap (λ (b : Bool). b || list_any (touches n r) ops) (sym (touch_writes n r o)) ∙ ap (λ (b : Bool). writes_record n r o || b) (any_writes n r ops)
@@ -52,6 +47,7 @@ in_bounds (Some bytes) n there h = h.0
 
 module _ (now : List ℕ) (s : Shown) (p : Past) (pointers : Place → Pointer) (x : IsStored now s pointers p) (explained : IsExplainedNow s p) (group : ℕ) (idle : s.line.syncing ≡ None)
     (middle : s.line.middle ≡ Some (record { group = group; quiesced = true })) (pending : List Committed) (log : s.log.pending ≡ map shown_record pending) where
+  -- the places that the sync of the group writes
   abbrev pub places : List Place
   places = written_places (ops_of_group group p.entries) x.synced (has_block now s.root)
 
@@ -65,11 +61,11 @@ module _ (now : List ℕ) (s : Shown) (p : Past) (pointers : Place → Pointer) 
   have_bytes = subst (λ (ops : List Op). All HasBytes ops) (ops_are now s p pointers x explained group idle middle pending log) (group-bytes s p explained group)
 
   module _ (objects : List (ObjectId × DirtyRecords)) (marks : AreMarks (pending_ops group pending) objects) where
+    -- what is marked is in range
     in_range : AreInRange objects
-    in_range n is =
-        in_bounds (finite.get s.contents.objects n) n (there_after n (pending_ops group pending) x.synced s.contents are_built leads (sym (marks.there n) ∙ is)) (explained.exact.bounded.objects n)
+    in_range n is = in_bounds (finite.get s.contents.objects n) n (there now s p pointers x explained group idle middle pending log objects marks n is) (explained.exact.bounded.objects n)
 
-    -- the places that the group's sync writes are those that are marked
+    -- they are those that are marked
     places_are : places ≡ written_by (is_marked objects) (λ n. is_some (entry_of objects n))
     places_are =
         ap (λ (ops : List Op). written_places ops x.synced (has_block now s.root)) (ops_are now s p pointers x explained group idle middle pending log)

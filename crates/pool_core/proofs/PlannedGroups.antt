@@ -30,7 +30,7 @@ use Rattle.base.specs.Stage.{is_shape_built}
 use Rattle.base.specs.Steps.{ops_of_group}
 use Rattle.base.specs.Stored.{AreUsed, IsPlannedSync, IsStored, frame_at}
 use Rattle.base.specs.Syncs.{is_on}
-use Rattle.base.proofs.Objects.{get-stored_same, reached}
+use Rattle.base.proofs.BuiltPlaces.{still-there, there-after}
 use Rattle.base.proofs.PlacedTrees.{absent-indirect}
 use Rattle.base.proofs.Sequences.{in_turn-append, parted}
 use Rattle.base.proofs.StoredCover.{All-passing, entry-built, group-follows}
@@ -127,12 +127,18 @@ touch_writes n r (Write m offset bytes) = refl
 touch_writes n r (SetLength m new) = refl
 touch_writes n r (SetName bytes) = refl
 
-pub on_changes : (n : ℕ) (op : Op) → IsBuilt op → is_on n op ≡ changes n op
+on_changes : (n : ℕ) (op : Op) → IsBuilt op → is_on n op ≡ changes n op
 on_changes n (Create m) built = refl
 on_changes n (Remove m) built = absurd (false≢true built)
 on_changes n (Write m offset bytes) built = refl
 on_changes n (SetLength m new) built = absurd (false≢true built)
 on_changes n (SetName bytes) built = absurd (false≢true built)
+
+-- operations that create and write are on an object where they create or write it
+pub any_on : (n : ℕ) (ops : List Op) → All IsBuilt ops → list_any (changes n) ops ≡ list_any (is_on n) ops
+any_on n [] h = refl
+any_on n (o ∷ ops) h =
+    ap (λ (b : Bool). b || list_any (changes n) ops) (sym (on_changes n o (All-head IsBuilt o ops h))) ∙ ap (λ (b : Bool). is_on n o || b) (any_on n ops (All-tail IsBuilt o ops h))
 
 leave_record : (n r : ℕ) (ops : List Op) → All IsBuilt ops → list_any (touches n r) ops ≡ false → All (LeavesRecord n r) ops
 leave_record n r [] built none = All-nil (LeavesRecord n r)
@@ -145,60 +151,6 @@ leave_object n [] built none = All-nil (LeavesObject n)
 leave_object n (o ∷ ops) built none =
     let both = or_parts (changes n o) (list_any (changes n) ops) none in
     All-cons (LeavesObject n) o ops (on_changes n o (All-head IsBuilt o ops built) ∙ both.0) (leave_object n ops (All-tail IsBuilt o ops built) both.1)
-
-there_created : (o p : Option (List ℕ)) → created o ≡ Ok p → is_some p ≡ true
-there_created None p h = let is : Some [] ≡ p = cc in ap (λ (q : Option (List ℕ)). is_some q) (sym is)
-there_created (Some x) p h = cc
-
-there_changed : (f : List ℕ → List ℕ) (o p : Option (List ℕ)) → changed f o ≡ Ok p → is_some p ≡ true
-there_changed f None p h = cc
-there_changed f (Some x) p h = let is : Some (f x) ≡ p = cc in ap (λ (q : Option (List ℕ)). is_some q) (sym is)
-
-abbrev StaysThere : Option (List ℕ) → Option (List ℕ) → Type 0
-StaysThere o p = is_some o ≡ true → is_some p ≡ true
-
--- an operation on an object leaves it there
-object_there : (m n : ℕ) (f : Option (List ℕ) → Result (Option (List ℕ)) PoolError) (c d : Contents) → m ≡ n → at_object m f c ≡ Ok d → ((o p : Option (List ℕ)) → f o ≡ Ok p → is_some p ≡ true)
-    → is_some (finite.get d.objects n) ≡ true
-object_there m n f c d e h each = go (reached m f c d h)
-  where
-    go : (o : Option (List ℕ)) × (f (finite.get c.objects m) ≡ Ok o) × (with_object c m o ≡ d) → is_some (finite.get d.objects n) ≡ true
-    go (o, first, is) =
-        let there : finite.get d.objects n ≡ o = ap (λ (x : Contents). finite.get x.objects n) (sym is) ∙ ap (λ (i : ℕ). finite.get (stored c.objects m o) i) (sym e) ∙ get-stored_same c.objects m o in
-        ap (λ (q : Option (List ℕ)). is_some q) there ∙ each (finite.get c.objects m) o first
-
-module _ (n : ℕ) where
-  one_stays : (op : Op) (c d : Contents) → IsBuilt op → apply op c ≡ Ok d → StaysThere (finite.get c.objects n) (finite.get d.objects n)
-  one_stays (Create m) c d built h = at_object-leaves StaysThere m.0 n created c d h (λ o is. is) (λ e o p made is. there_created o p made)
-  one_stays (Remove m) c d built h = absurd (false≢true built)
-  one_stays (Write m offset bytes) c d built h = at_object-leaves StaysThere m.0 n (changed (bytes_after_write offset bytes)) c d h (λ o is. is) (λ e o p made is. there_changed (bytes_after_write offset bytes) o p made)
-  one_stays (SetLength m new) c d built h = absurd (false≢true built)
-  one_stays (SetName bytes) c d built h = absurd (false≢true built)
-
-  all_stay : (ops : List Op) (before after : Contents) → All IsBuilt ops → apply_all ops before ≡ Ok after → StaysThere (finite.get before.objects n) (finite.get after.objects n)
-  all_stay [] before after built h is = let e : before ≡ after = cc in subst (λ (c : Contents). is_some (finite.get c.objects n) ≡ true) e is
-  all_stay (op ∷ ops) before after built h is =
-      let p = parted (apply op before) (in_turn apply ops) after h in
-      all_stay ops p.0 after (All-tail IsBuilt op ops built) p.2 (one_stays op before p.0 (All-head IsBuilt op ops built) p.1 is)
-
-  one_changes : (op : Op) (c d : Contents) → changes n op ≡ true → apply op c ≡ Ok d → is_some (finite.get d.objects n) ≡ true
-  one_changes (Create m) c d is h = object_there m.0 n created c d (eqb-true m.0 n is) h there_created
-  one_changes (Remove m) c d is h = absurd (false≢true is)
-  one_changes (Write m offset bytes) c d is h = object_there m.0 n (changed (bytes_after_write offset bytes)) c d (eqb-true m.0 n is) h (there_changed (bytes_after_write offset bytes))
-  one_changes (SetLength m new) c d is h = absurd (false≢true is)
-  one_changes (SetName bytes) c d is h = absurd (false≢true is)
-
-  -- an object that operations create or write is there after them
-  pub there_after : (ops : List Op) (before after : Contents) → All IsBuilt ops → apply_all ops before ≡ Ok after → list_any (changes n) ops ≡ true → is_some (finite.get after.objects n) ≡ true
-  there_after [] before after built h any = absurd (false≢true any)
-  there_after (op ∷ ops) before after built h any =
-      let p = parted (apply op before) (in_turn apply ops) after h in
-      by p.0 p.1 p.2 (λ later. there_after ops p.0 after (All-tail IsBuilt op ops built) p.2 later) (changes n op) refl any
-    where
-      by : (c : Contents) → apply op before ≡ Ok c → apply_all ops c ≡ Ok after → (list_any (changes n) ops ≡ true → is_some (finite.get after.objects n) ≡ true) → (b : Bool) → changes n op ≡ b
-          → (b || list_any (changes n) ops) ≡ true → is_some (finite.get after.objects n) ≡ true
-      by c first rest later true is h = all_stay ops c after (All-tail IsBuilt op ops built) rest (one_changes op before c is first)
-      by c first rest later false is h = later h
 
 -- a record that is there begins before the end of its object
 record_within : (r : ℕ) (o : Option (List ℕ)) → HasRecord r o → IfSome o (λ bytes. record_size * r < length bytes)
@@ -236,9 +188,13 @@ module _ (now : List ℕ) (s : Shown) (p : Past) (pointers : Place → Pointer) 
       entries = λ n low none. untouched-entry n (pending_ops group pending) x.synced s.contents (leave_object n (pending_ops group pending) built (sym (marks.there n) ∙ none)) follows;
     }
 
+    -- an object that changes is there after
+    pub there : (n : ℕ) → is_some (entry_of objects n) ≡ true → is_some (finite.get s.contents.objects n) ≡ true
+    there n is = there-after n (pending_ops group pending) x.synced s.contents built follows (sym (any_on n (pending_ops group pending) built) ∙ sym (marks.there n) ∙ is)
+
     group_changes : AreChanges objects s.contents.objects
     group_changes = record {
-      there = λ n low is. there_after n (pending_ops group pending) x.synced s.contents built follows (sym (marks.there n) ∙ is);
+      there = λ n low is. there n is;
       within = λ n r low below is.
           (let one = any_at (touches n r) (pending_ops group pending) (sym (marks.marked n r below) ∙ is) in
           record_within r (finite.get s.contents.objects n) (written-record n r (pending_ops group pending) x.synced s.contents one.0 one.1 built follows one.2 (touch_writes n r one.1 ∙ one.3)));
@@ -247,7 +203,7 @@ module _ (now : List ℕ) (s : Shown) (p : Past) (pointers : Place → Pointer) 
 
   no_others : HasNoOthers pointers s.contents.objects
   no_others n low none = absent-indirect now (frame_at s s.line.synced) pointers x.synced.objects x.tree n low
-      (not_there (finite.get x.synced.objects n) (finite.get s.contents.objects n) (all_stay n (pending_ops group pending) x.synced s.contents built follows) none)
+      (not_there (finite.get x.synced.objects n) (finite.get s.contents.objects n) (still-there n (pending_ops group pending) x.synced s.contents built follows) none)
 
   born_before : AreBornBefore group pointers
   born_before place is =

@@ -19,8 +19,9 @@ use Rattle.tree_plans.specs.Pointers.{entry_of}
 abbrev pub AreInRange : List (ObjectId × DirtyRecords) → Type 0
 AreInRange entries = (n : ℕ) → is_some (entry_of entries n) ≡ true → n < object_count
 
--- Of objects with just the marks of the group's pending operations these blocks make the tree after it from the old one, whatever objects
--- were there before of which the operations leave the rest as they were. They are those of the places that are marked, in their order.
+-- Some objects have just the marks of the group's pending operations. For them these blocks make the tree after the group from the old one,
+-- whatever objects were there before of which the operations leave the rest as they were; and they are those of the marked places, one for
+-- each, in their order.
 pub record IsPlannedFrom (group : ℕ) (pending : List Committed) (frame : Frame) (old new : Place → Pointer) (bs : List NewBlock) (after : FinMap nat_cmp (List ℕ)) : Type 0 where
   pub objects : List (ObjectId × DirtyRecords)
   pub marks : AreMarks (pending_ops group pending) objects

@@ -174,8 +174,8 @@ impl<D: SectorDevice> PoolState<D> {
         self.pool.mark_quiesced()
     }
 
-    /// Starts the sync of the quiesced group: plans its blocks and takes the room for all its steps. The moment is stored in
-    /// its uberblocks.
+    /// Starts the sync of the quiesced group: plans its blocks, one for each place of the tree that it writes, and takes the
+    /// room for all its steps. The moment is stored in its uberblocks.
     ///
     /// # Errors
     /// In this order: `Suspended`; `NotReady` where no group is quiesced or one is syncing; `NoSpace` where the free blocks
