@@ -5,3 +5,4 @@ pub mod Walks
 pub mod Planned
 pub mod Marked
 pub mod Uses
+pub mod Order

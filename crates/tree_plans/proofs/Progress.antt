@@ -21,7 +21,7 @@ pub new_blocks-push : (blocks : List PlannedBlock) (b : PlannedBlock) → map ne
 new_blocks-push [] b = refl
 new_blocks-push (x ∷ blocks) b = ap (λ l. new_block x ∷ l) (new_blocks-push blocks b)
 
-addresses-push : (blocks : List NewBlock) (b : NewBlock) → map (λ (x : NewBlock). x.address) (blocks ++ b ∷ []) ≡ map (λ (x : NewBlock). x.address) blocks ++ b.address ∷ []
+pub addresses-push : (blocks : List NewBlock) (b : NewBlock) → map (λ (x : NewBlock). x.address) (blocks ++ b ∷ []) ≡ map (λ (x : NewBlock). x.address) blocks ++ b.address ∷ []
 addresses-push [] b = refl
 addresses-push (x ∷ blocks) b = ap (λ l. x.address ∷ l) (addresses-push blocks b)
 

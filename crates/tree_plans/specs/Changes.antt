@@ -31,6 +31,10 @@ pub record AreChanges (objects : List (ObjectId × DirtyRecords)) (after : FinMa
   pub within : (n r : ℕ) → n < object_count → r < pointer_count → is_marked objects n r ≡ true → IfSome (finite.get after n) (λ bytes. record_size * r < length bytes)
   pub sizes : (n : ℕ) → IfSome (finite.get after n) (λ bytes. length bytes ≤ max_length)
 
+-- each object that changes has a number below the last one
+abbrev pub AreInRange : List (ObjectId × DirtyRecords) → Type 0
+AreInRange objects = (n : ℕ) → is_some (entry_of objects n) ≡ true → n < object_count
+
 -- an object that is not there has no indirect block
 abbrev pub HasNoOthers : (Place → Pointer) → FinMap nat_cmp (List ℕ) → Type 0
 HasNoOthers pointers objects = (n : ℕ) → n < object_count → finite.get objects n ≡ None → pointers (Indirect n) ≡ no_pointer

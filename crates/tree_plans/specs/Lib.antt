@@ -4,3 +4,4 @@ pub mod Walks
 pub mod Changes
 pub mod Marks
 pub mod Uses
+pub mod Order

@@ -42,7 +42,7 @@ pub struct DirtyRecords {
 }
 
 impl DirtyRecords {
-    ghost use Rattle.std.specs.Prelude.{ℕ, ◌<◌, ◌||◌, false, slice_index_or};
+    ghost use Rattle.std.specs.Prelude.{ℕ, ◌<◌, ◌||◌, false, length, slice_index_or};
     ghost use Rattle.base.specs.Syncs.{is_record_touched};
 
     /// No record is dirty.
@@ -67,7 +67,8 @@ impl DirtyRecords {
 
     /// Whether a record is dirty.
     pub fn has_any(&self) -> bool
-        ensures { result ≡ list_any (λ dirty. dirty) self.now.flags }
+        ensures any { result ≡ list_any (λ dirty. dirty) self.now.flags }
+        ensures size { length self.now.flags ≡ 84 }
     {
         self.flags.iter().any(|dirty| *dirty)
     }
@@ -104,10 +105,13 @@ pub struct Planner {
 }
 
 impl Planner {
-    ghost use Rattle.std.specs.Prelude.{◌≤◌, ◌<◌, length, IfOk, IfErr, OnOk};
+    ghost use Rattle.std.specs.Prelude.{◌≤◌, ◌<◌, ◌++◌, ◌∷◌, [], false, length, slice_index_or, IfOk, IfErr, OnOk};
+    ghost use Rattle.base.specs.Fields.{no_pointer};
     ghost use Rattle.base.specs.Places.{IsPlace};
     ghost use Rattle.checked_blocks.specs.Sealing.{padded};
     ghost use Rattle.tree_plans.specs.Plans.{AreRecordsPlanned, FreesOnly, Goes, IsObjectPlanned, IsRecordPlanned, IsWant, IsWritten, ObjectFrees, RecordFrees, RecordsFree, place_of, progress_of};
+    ghost use Rattle.tree_plans.specs.Order.{Adds, address_if, addresses_where};
+    ghost use Rattle.tree_plans.specs.Pointers.{record_in};
     ghost use Rattle.tree_plans.specs.Uses.{ObjectUses, PointersUse, UsesOnly};
 
     /// Takes the lowest free block for this payload. What it replaces comes back.
@@ -126,6 +130,7 @@ impl Planner {
         ensures written { IfOk result (λ pointer. IsWritten (progress_of self.new) (place_of place) replaced.now pointer (padded payload.now)) }
         ensures frees { OnOk result (FreesOnly self.old.freed.items self.new.freed.items replaced.now) }
         ensures uses { IfOk result (λ pointer. UsesOnly (progress_of self.old).blocks (progress_of self.new).blocks pointer.address) }
+        ensures adds { IfOk result (λ pointer. Adds (progress_of self.old).blocks (progress_of self.new).blocks (pointer.address ∷ [])) }
         ensures refused { IfErr result IsWant }
     {
         let Some(index) = free.next_from(self.next) else {
@@ -162,6 +167,7 @@ impl Planner {
         ensures planned { IfOk result (λ pointer. IsRecordPlanned (progress_of self.new) place.id.0 place.index bytes.now dirty old.now pointer) }
         ensures frees { OnOk result (RecordFrees self.old.freed.items self.new.freed.items dirty old.now) }
         ensures uses { IfOk result (λ pointer. UsesOnly (progress_of self.old).blocks (progress_of self.new).blocks pointer.address) }
+        ensures adds { IfOk result (λ pointer. Adds (progress_of self.old).blocks (progress_of self.new).blocks (address_if dirty pointer)) }
         ensures refused { IfErr result IsWant }
     {
         if !dirty {
@@ -192,6 +198,7 @@ impl Planner {
         ensures planned { IfOk result (λ records. AreRecordsPlanned (progress_of self.new) id.0 bytes.now dirty.now.flags old.now 84 records.items) }
         ensures frees { OnOk result (RecordsFree self.old.freed.items self.new.freed.items dirty.now.flags old.now 84) }
         ensures uses { IfOk result (λ records. PointersUse (progress_of self.old).blocks (progress_of self.new).blocks records.items 84) }
+        ensures adds { IfOk result (λ records. Adds (progress_of self.old).blocks (progress_of self.new).blocks (addresses_where (λ r. slice_index_or dirty.now.flags r false) (λ r. slice_index_or records.items r no_pointer) 84)) }
         ensures refused { IfErr result IsWant }
     {
         let mut records = Vec::with_capacity(self.alloc, POINTER_COUNT)?;
@@ -220,6 +227,7 @@ impl Planner {
         ensures planned { IfOk result (λ map. IsObjectPlanned (progress_of self.new) id.0 bytes.now dirty.now.flags old.now map) }
         ensures frees { OnOk result (ObjectFrees self.old.freed.items self.new.freed.items dirty.now.flags old.now) }
         ensures uses { IfOk result (λ map. ObjectUses (progress_of self.old).blocks (progress_of self.new).blocks map) }
+        ensures adds { IfOk result (λ map. Adds (progress_of self.old).blocks (progress_of self.new).blocks (addresses_where (λ r. slice_index_or dirty.now.flags r false) (λ r. record_in map r) 84 ++ map.indirect.address ∷ [])) }
         ensures refused { IfErr result IsWant }
     {
         let records = self.place_records(free, id, bytes, old, dirty)?;

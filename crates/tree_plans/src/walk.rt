@@ -1,19 +1,22 @@
 //! The walk of a sync over a tree: objects, directories, the root.
 
-ghost use Rattle.std.specs.Prelude.{◌≡◌, ◌<◌, ◌++◌, ◌∷◌, [], ℕ, ◌==◌, List, All, Some, None, true, false, length, map, slice_get, slice_index_or, take, vec_len, IfOk, IfErr, OnOk};
+ghost use Rattle.std.specs.Prelude.{◌≡◌, ◌<◌, ◌++◌, ◌∷◌, [], ℕ, ◌==◌, List, All, Some, None, true, false, is_some, length, map, slice_get, slice_index_or, take, vec_len, IfOk, IfErr, OnOk};
 ghost use Rattle.std.specs.FinMap.{FinMap};
 ghost use Rattle.std.specs.Ordering.{nat_cmp};
 ghost use Rattle.base.specs.declared.names.ObjectId.{ObjectId};
 ghost use Rattle.base.specs.Fields.{no_pointer};
 ghost use Rattle.base.specs.Geometry.{IsBlockAddress, block_count, block_size};
 ghost use Rattle.base.specs.PlacedTrees.{ArePlaced};
+ghost use Rattle.base.specs.Places.{Place};
+ghost use Rattle.base.specs.PlannedPlaces.{written_by};
 ghost use Rattle.base.specs.PlannedTrees.{AreFreed, IsTreePlan, NewBlock};
 ghost use Rattle.base.specs.Stored.{AreUsed};
 ghost use Rattle.object_maps.specs.ContentsShown.{contents_of};
 ghost use Rattle.space.specs.FreeSets.{addresses_from};
-ghost use Rattle.tree_plans.specs.Changes.{AreBornBefore, AreChanges, HasNoOthers, IsCoveredBy, frame_of};
+ghost use Rattle.tree_plans.specs.Changes.{AreBornBefore, AreChanges, AreInRange, HasNoOthers, IsCoveredBy, frame_of, is_marked};
 ghost use Rattle.tree_plans.specs.declared.planner.DirtyRecords.{DirtyRecords};
 ghost use Rattle.tree_plans.specs.declared.planner.PlannedBlock.{PlannedBlock};
+ghost use Rattle.tree_plans.specs.Order.{Adds, AreInOrder, address_if, addresses_of, addresses_where, all_addresses, object_addresses};
 ghost use Rattle.tree_plans.specs.Plans.{Goes, IsWant, RecordFrees, address_of, new_block, progress_of};
 ghost use Rattle.tree_plans.specs.Pointers.{entry_of, planned_map, planned_pointers, pointers_from, pointers_of};
 ghost use Rattle.tree_plans.specs.Uses.{ObjectsUse, PointersUse, UsesOnly};
@@ -59,6 +62,9 @@ pub struct PlanSource<'a> {
 /// dirty records and the objects that change cover all that differs from before, where each of these objects is there and
 /// its dirty records begin within it, and where an object that is not there has no indirect block.
 ///
+/// The clause `order` says that the blocks stand in the order of these places, one for each, where each object that changes
+/// has a number below 5,292.
+///
 /// # Errors
 /// `NoSpace` where the free blocks do not suffice, `NoMemory`.
 pub fn plan(
@@ -78,6 +84,9 @@ pub fn plan(
     ensures new_root { IfOk result (λ p. is_any_touched objects.now.entries ≡ true → p.root.birth ≡ source.now.group.0) }
     ensures none { IfOk result (λ p. objects.now.entries ≡ [] → p.blocks.items ≡ []) }
     ensures used { IfOk result (λ p. AreUsed (map new_block p.blocks.items) (planned_pointers source.now.tree.now p)) }
+    ensures order { IfOk result (λ p. AreInRange objects.now.entries
+        → map address_of p.blocks.items ≡ map (λ (place : Place). (planned_pointers source.now.tree.now p place).address)
+        (written_by (is_marked objects.now.entries) (λ n. is_some (entry_of objects.now.entries n)))) }
     ensures whole { IfOk result (λ p. (i : ℕ) (b : NewBlock) → slice_get (map new_block p.blocks.items) i ≡ Some b → length b.content ≡ block_size) }
     ensures refused { IfErr result IsWant }
 {
@@ -123,6 +132,7 @@ fn place_tree(
     ensures goes { OnOk result (Goes source.now.free.now.flags.items (progress_of planner.old) (progress_of planner.new)) }
     ensures walked { IfOk result (λ tree. IsWalked (progress_of planner.new) source.now.tree.now (contents_of source.now.contents.now).objects objects.now.entries tree.maps.entries tree.directories.items tree.root) }
     ensures used { IfOk result (λ tree. AreUsed (map new_block planner.new.blocks.items) (pointers_from tree.root tree.directories.items (planned_map source.now.tree.now.maps.items tree.maps.entries))) }
+    ensures order { IfOk result (λ tree. AreInRange objects.now.entries → AreInOrder (addresses_of (progress_of planner.new).blocks) (pointers_from tree.root tree.directories.items (planned_map source.now.tree.now.maps.items tree.maps.entries)) objects.now.entries) }
     ensures kept { OnOk result (objects.now.entries ≡ [] → planner.new ≡ planner.old) }
     ensures refused { IfErr result IsWant }
 {
@@ -151,6 +161,7 @@ fn place_root(
     ensures planned { IfOk result (λ root. IsRootPlanned (progress_of planner.new) directories.now (is_any_touched objects.now.entries) source.now.tree.now.root root) }
     ensures frees { OnOk result (RecordFrees planner.old.freed.items planner.new.freed.items (is_any_touched objects.now.entries) source.now.tree.now.root) }
     ensures uses { IfOk result (λ root. UsesOnly (progress_of planner.old).blocks (progress_of planner.new).blocks root.address) }
+    ensures adds { IfOk result (λ root. Adds (progress_of planner.old).blocks (progress_of planner.new).blocks (address_if (is_any_touched objects.now.entries) root)) }
     ensures kept { OnOk result (objects.now.entries ≡ [] → planner.new ≡ planner.old) }
     ensures refused { IfErr result IsWant }
 {
@@ -175,6 +186,7 @@ fn place_objects(
     ensures planned { IfOk result (λ maps. AreObjectsPlanned (progress_of planner.new) source.now.tree.now.maps.items (contents_of source.now.contents.now).objects objects.now.entries objects.now.entries maps.entries) }
     ensures frees { IfOk result (λ maps. ObjectsFree planner.old.freed.items planner.new.freed.items source.now.tree.now.maps.items objects.now.entries maps.entries) }
     ensures uses { IfOk result (λ maps. ObjectsUse (progress_of planner.old).blocks (progress_of planner.new).blocks maps.entries) }
+    ensures adds { IfOk result (λ maps. AreInRange objects.now.entries → Adds (progress_of planner.old).blocks (progress_of planner.new).blocks (all_addresses (is_marked objects.now.entries) (planned_map source.now.tree.now.maps.items maps.entries) 5292)) }
     ensures kept { OnOk result (objects.now.entries ≡ [] → planner.new ≡ planner.old) }
     ensures refused { IfErr result IsWant }
 {
@@ -206,6 +218,8 @@ fn place_changed(
     ensures uses { OnOk result ((first : List NewBlock) → entry_of maps.old.entries id.0 ≡ None
         → ObjectsUse first (progress_of planner.old).blocks maps.old.entries → ObjectsUse first (progress_of planner.new).blocks maps.new.entries) }
     ensures others { OnOk result ((n : ℕ) → (id.0 == n) ≡ false → entry_of maps.new.entries n ≡ entry_of maps.old.entries n) }
+    ensures adds { OnOk result ((objects : List (ObjectId × DirtyRecords)) → entry_of objects id.0 ≡ Some dirty.now → id.0 < 5292
+        → Adds (progress_of planner.old).blocks (progress_of planner.new).blocks (object_addresses (is_marked objects id.0) (planned_map source.now.tree.now.maps.items maps.new.entries id.0))) }
     ensures refused { IfErr result IsWant }
 {
     if id.0 >= OBJECT_COUNT {
@@ -235,6 +249,7 @@ fn place_directories(
     ensures planned { IfOk result (λ directories. AreDirectoriesPlanned (progress_of planner.new) source.now.tree.now.maps.items maps.now.entries (contents_of source.now.contents.now).objects objects.now.entries source.now.tree.now.directories.items 84 directories.items) }
     ensures frees { OnOk result (DirectoriesFree planner.old.freed.items planner.new.freed.items objects.now.entries source.now.tree.now.directories.items 84) }
     ensures uses { IfOk result (λ directories. PointersUse (progress_of planner.old).blocks (progress_of planner.new).blocks directories.items 84) }
+    ensures adds { IfOk result (λ directories. Adds (progress_of planner.old).blocks (progress_of planner.new).blocks (addresses_where (is_directory_touched objects.now.entries) (λ d. slice_index_or directories.items d no_pointer) 84)) }
     ensures kept { OnOk result (objects.now.entries ≡ [] → planner.new ≡ planner.old) }
     ensures refused { IfErr result IsWant }
 {
@@ -263,6 +278,7 @@ fn place_directory(
     ensures planned { IfOk result (λ pointer. IsDirectoryPlanned (progress_of planner.new) source.now.tree.now.maps.items maps.now.entries (contents_of source.now.contents.now).objects index touched (slice_index_or source.now.tree.now.directories.items index no_pointer) pointer) }
     ensures frees { OnOk result (RecordFrees planner.old.freed.items planner.new.freed.items touched (slice_index_or source.now.tree.now.directories.items index no_pointer)) }
     ensures uses { IfOk result (λ pointer. UsesOnly (progress_of planner.old).blocks (progress_of planner.new).blocks pointer.address) }
+    ensures adds { IfOk result (λ pointer. Adds (progress_of planner.old).blocks (progress_of planner.new).blocks (address_if touched pointer)) }
     ensures kept { OnOk result (touched ≡ false → planner.new ≡ planner.old) }
     ensures refused { IfErr result IsWant }
 {

@@ -1,9 +1,23 @@
-use Rattle.std.proofs.Common.{◌≡◌, length, arith, ap, ◌∙◌}
+use Rattle.std.proofs.Common.{◌≡◌, length, arith, ap, inl, refl, rules, ◌∙◌}
 use Rattle.tree_plans.specs.Walks.{is_directory_touched}
-use Rattle.tree_plans.proofs.Progress.{goes_twice}
+use Rattle.tree_plans.proofs.Progress.{goes_nowhere, goes_twice}
 use Rattle.tree_plans.proofs.Walks.{directories_push, directories_free_push}
 use Rattle.tree_plans.proofs.Uses.{pointers_use_push}
+use Rattle.tree_plans.proofs.Order.{adds_begun, adds_push}
 use Rattle.tree_plans.proofs.walk.place_directories.Goals as goal
+
+pub loop-index-init : goal.loop-index-init
+loop-index-init c = record {
+  geometry = search rules;
+  count = search rules;
+  room = search rules;
+  kept = λ none. refl;
+  goes = goes_nowhere _ _;
+  planned = λ r low. absurd (omega arith);
+  frees = λ address among. inl among;
+  uses = λ address taken. inl taken;
+  adds = adds_begun _ _ _;
+}
 
 pub loop-index-preserved : goal.loop-index-preserved
 loop-index-preserved c =
@@ -17,6 +31,7 @@ loop-index-preserved c =
       planned = rw c.push_reserved.ensures.items (directories_push _ _ _ c.args.objects.now.entries c.args.source.now.tree.now.directories.items _ _ _ _ c.in_ok-pointer.ensures.goes long c.is_touched-touched.ensures c.loop-index.invariant.planned c.in_ok-pointer.ensures.planned);
       frees = directories_free_push _ _ _ c.args.objects.now.entries c.args.source.now.tree.now.directories.items _ _ c.is_touched-touched.ensures c.loop-index.invariant.frees c.in_ok-pointer.ensures.frees;
       uses = rw c.push_reserved.ensures.items (pointers_use_push _ _ _ _ _ _ long c.loop-index.invariant.uses c.in_ok-pointer.ensures.uses);
+      adds = rw c.push_reserved.ensures.items (adds_push (is_directory_touched c.args.objects.now.entries) _ _ _ _ _ _ _ long c.is_touched-touched.ensures c.loop-index.invariant.adds c.in_ok-pointer.ensures.adds);
     }
 
 pub returns-clause-frees : goal.returns-clause-frees
@@ -28,3 +43,8 @@ pub returns-clause-uses : goal.returns-clause-uses
 returns-clause-uses c =
     let done : c.loop-index.index ≡ 84 = omega arith in
     rw done at c.loop-index.invariant.uses
+
+pub returns-clause-adds : goal.returns-clause-adds
+returns-clause-adds c =
+    let done : c.loop-index.index ≡ 84 = omega arith in
+    rw done at c.loop-index.invariant.adds

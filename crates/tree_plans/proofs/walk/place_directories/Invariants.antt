@@ -1,7 +1,9 @@
-use Rattle.std.proofs.Common.{◌≡◌, ◌≤◌, [], vec_len, vec_capacity}
+use Rattle.std.proofs.Common.{◌≡◌, ◌≤◌, [], slice_index_or, vec_len, vec_capacity}
+use Rattle.base.specs.Fields.{no_pointer}
 use Rattle.object_maps.specs.ContentsShown.{contents_of}
+use Rattle.tree_plans.specs.Order.{Adds, addresses_where}
 use Rattle.tree_plans.specs.Plans.{Goes, progress_of}
-use Rattle.tree_plans.specs.Walks.{AreDirectoriesPlanned, DirectoriesFree}
+use Rattle.tree_plans.specs.Walks.{AreDirectoriesPlanned, DirectoriesFree, is_directory_touched}
 use Rattle.tree_plans.specs.Uses.{PointersUse}
 use Rattle.tree_plans.proofs.walk.place_directories.Given as goal
 
@@ -15,4 +17,5 @@ invariant-loop-index l = record {
   planned : AreDirectoriesPlanned (progress_of l.planner) l.source.tree.now.maps.items l.maps.entries (contents_of l.source.contents.now).objects l.objects.entries l.source.tree.now.directories.items l.index l.directories.items;
   frees : DirectoriesFree l.fn.planner.freed.items l.planner.freed.items l.objects.entries l.source.tree.now.directories.items l.index;
   uses : PointersUse (progress_of l.fn.planner).blocks (progress_of l.planner).blocks l.directories.items l.index;
+  adds : Adds (progress_of l.fn.planner).blocks (progress_of l.planner).blocks (addresses_where (is_directory_touched l.objects.entries) (λ d. slice_index_or l.directories.items d no_pointer) l.index);
 }

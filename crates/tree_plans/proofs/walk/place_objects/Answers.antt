@@ -1,11 +1,14 @@
-use Rattle.std.proofs.Common.{◌≡◌, List, [], ◌∷◌, ◌++◌, Some, append_assoc, ap, ◌∙◌, sym}
+use Rattle.std.proofs.Common.{◌≡◌, List, [], ◌∷◌, ◌++◌, None, Some, is_some, append_assoc, ap, ◌∙◌, sym}
 use Rattle.std.specs.Cmp.{unsigned_tied}
+use Rattle.std.proofs.lemmas.List.{append-nil}
 use Rattle.base.specs.declared.names.ObjectId.{ObjectId}
 use Rattle.tree_plans.specs.declared.planner.DirtyRecords.{DirtyRecords}
+use Rattle.tree_plans.specs.Changes.{is_marked}
 use Rattle.tree_plans.specs.Pointers.{entry_of}
 use Rattle.tree_plans.proofs.Progress.{goes_twice}
 use Rattle.tree_plans.proofs.Walks.{found_of, next_of, not_empty}
 use Rattle.tree_plans.proofs.Uses.{are_of_more, next_is_new}
+use Rattle.tree_plans.proofs.Order.{all_added, less_below, objects_added}
 use Rattle.tree_plans.proofs.walk.place_objects.Goals as goal
 
 pub loop-id-preserved : goal.loop-id-preserved
@@ -16,7 +19,8 @@ loop-id-preserved c =
     let rest : List (ObjectId × DirtyRecords) = c.next.new.self in
     let split : all ≡ done ++ (e ∷ rest) = c.loop-id.invariant.split ∙ ap (λ (l : List (ObjectId × DirtyRecords)). done ++ l) c.in-Some.ensures.steps in
     let found : entry_of all e.0.0 ≡ Some e.1 = next_of (λ (x : ObjectId × DirtyRecords). entry_of all x.0.0 ≡ Some x.1) all done rest e split (found_of _ (λ a b. unsigned_tied a.0 b.0) c.args.objects.now c.iter-id-items.ensures.found) in
-    let unplanned = c.loop-id.invariant.are_of e.0.0 (next_is_new _ (λ a b. unsigned_tied a.0 b.0) all done rest e split c.iter-id-items.ensures.ordered) in
+    let new : entry_of done e.0.0 ≡ None = next_is_new _ (λ a b. unsigned_tied a.0 b.0) all done rest e split c.iter-id-items.ensures.ordered in
+    let unplanned = c.loop-id.invariant.are_of e.0.0 new in
     record {
       can = tt;
       ends = tt;
@@ -29,4 +33,13 @@ loop-id-preserved c =
       frees = c.in_ok-place_changed.ensures.frees all _ found c.loop-id.invariant.frees;
       are_of = are_of_more done e _ _ c.loop-id.invariant.are_of c.in_ok-place_changed.ensures.others;
       uses = c.in_ok-place_changed.ensures.uses _ unplanned c.loop-id.invariant.uses;
+      adds = λ within. objects_added (is_marked all) _ _ _ _ _ _ done e new c.in_ok-place_changed.ensures.others (c.loop-id.invariant.adds within)
+          (c.in_ok-place_changed.ensures.adds all found (within e.0.0 (ap is_some found)));
     }
+
+pub returns-clause-adds : goal.returns-clause-adds
+returns-clause-adds c = λ within.
+    let all : List (ObjectId × DirtyRecords) = c.args.objects.now.entries in
+    let done : List (ObjectId × DirtyRecords) = c.loop-id.invariant.done in
+    let whole : done ≡ all = sym (append-nil done) ∙ ap (λ (l : List (ObjectId × DirtyRecords)). done ++ l) (sym c.in-None.ensures.steps.0) ∙ sym c.loop-id.invariant.split in
+    all_added _ (λ a b. less_below a.0 b.0) 5292 c.args.source.now.tree.now.maps.items c.loop-id.maps.entries all done _ _ whole c.iter-id-items.ensures.ordered within (c.loop-id.invariant.adds within)

@@ -1,7 +1,10 @@
-use Rattle.std.proofs.Common.{◌≡◌, ◌++◌, [], List}
+use Rattle.std.proofs.Common.{◌≡◌, ◌++◌, [], List, flat_map}
 use Rattle.base.specs.declared.names.ObjectId.{ObjectId}
 use Rattle.object_maps.specs.ContentsShown.{contents_of}
 use Rattle.tree_plans.specs.declared.planner.DirtyRecords.{DirtyRecords}
+use Rattle.tree_plans.specs.Changes.{AreInRange, is_marked}
+use Rattle.tree_plans.specs.Order.{Adds, object_addresses}
+use Rattle.tree_plans.specs.Pointers.{planned_map}
 use Rattle.tree_plans.specs.Plans.{Goes, progress_of}
 use Rattle.tree_plans.specs.Walks.{AreObjectsPlanned, ObjectsFree}
 use Rattle.tree_plans.specs.Uses.{AreOf, ObjectsUse}
@@ -20,4 +23,6 @@ invariant-loop-id l = record {
   frees : ObjectsFree l.fn.planner.freed.items l.planner.freed.items l.source.tree.now.maps.items l.objects.entries l.maps.entries;
   are_of : AreOf done l.maps.entries;
   uses : ObjectsUse (progress_of l.fn.planner).blocks (progress_of l.planner).blocks l.maps.entries;
+  adds : AreInRange l.objects.entries → Adds (progress_of l.fn.planner).blocks (progress_of l.planner).blocks
+      (flat_map (λ (e : ObjectId × DirtyRecords). object_addresses (is_marked l.objects.entries e.0.0) (planned_map l.source.tree.now.maps.items l.maps.entries e.0.0)) done);
 }

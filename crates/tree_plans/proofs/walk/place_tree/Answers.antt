@@ -4,6 +4,7 @@ use Rattle.tree_plans.proofs.Progress.{goes_twice}
 use Rattle.tree_plans.proofs.Walks.{directories_stay, objects_stay, walk_frees}
 use Rattle.tree_plans.specs.Plans.{new_block}
 use Rattle.tree_plans.proofs.Uses.{tree_used}
+use Rattle.tree_plans.proofs.Order.{tree_in_order}
 use Rattle.tree_plans.proofs.walk.place_tree.Goals as goal
 
 pub returns-clause-walked : goal.returns-clause-walked
@@ -23,3 +24,8 @@ pub returns-clause-used : goal.returns-clause-used
 returns-clause-used c =
     tree_used _ _ _ _ c.args.source.now.tree.now.maps.items c.in_ok-maps.maps.entries c.in_ok-directories.directories.items _ (ap (map new_block) c.requires.none_planned)
     c.in_ok-maps.ensures.uses c.in_ok-directories.ensures.uses c.in_ok-root.ensures.uses
+
+pub returns-clause-order : goal.returns-clause-order
+returns-clause-order c = λ within.
+    tree_in_order c.args.source.now.tree.now.maps.items c.in_ok-maps.maps.entries c.in_ok-directories.directories.items _ c.args.objects.now.entries _ _ _ _ (ap (map new_block) c.requires.none_planned) within
+    (c.in_ok-maps.ensures.adds within) c.in_ok-directories.ensures.adds c.in_ok-root.ensures.adds

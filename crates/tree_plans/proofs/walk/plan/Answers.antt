@@ -11,6 +11,7 @@ use Rattle.tree_plans.specs.Plans.{new_block, progress_of}
 use Rattle.tree_plans.specs.Pointers.{planned_map, pointers_from, pointers_of}
 use Rattle.tree_plans.proofs.Planned.{all_freed, freed_in_area, taken_lowest, tree_placed, tree_planned}
 use Rattle.tree_plans.proofs.Uses.{all_whole}
+use Rattle.tree_plans.proofs.Order.{planned_in_order}
 use Rattle.tree_plans.proofs.walk.plan.Goals as goal
 
 pub returns-clause-taken : goal.returns-clause-taken
@@ -58,3 +59,7 @@ returns-clause-used c = c.in_ok-tree.ensures.used
 
 pub returns-clause-whole : goal.returns-clause-whole
 returns-clause-whole c = all_whole c.place_tree.new.planner.blocks.items c.place_tree.new.planner.whole
+
+pub returns-clause-order : goal.returns-clause-order
+returns-clause-order c = λ within.
+    planned_in_order c.place_tree.new.planner.blocks.items _ c.args.objects.now.entries (c.in_ok-tree.ensures.order within)

@@ -5,6 +5,7 @@ use Rattle.tree_plans.specs.declared.planner.PlannedBlock.{PlannedBlock}
 use Rattle.tree_plans.specs.Plans.{new_block}
 use Rattle.tree_plans.proofs.Progress.{new_blocks-push, goes_on, written_at}
 use Rattle.tree_plans.proofs.Uses.{uses_one}
+use Rattle.tree_plans.proofs.Order.{adds_one}
 use Rattle.tree_plans.proofs.planner.Planner.place.Goals as goal
 
 pub invariant_of-self-2 : goal.invariant_of-self-2
@@ -41,3 +42,10 @@ returns-clause-uses c =
     let pushed : map new_block c.push_reserved.new.self.items ≡ map new_block c.args.self.now.blocks.items ++ new_block b ∷ [] =
     ap (λ (l : List PlannedBlock). map new_block l) (c.push_reserved.ensures.items ∙ ap (λ (l : List PlannedBlock). l ++ b ∷ []) c.reserve.ensures.items) ∙ new_blocks-push c.args.self.now.blocks.items b in
     uses_one _ _ (new_block b) _ pushed c.block_address.ensures.address
+
+pub returns-clause-adds : goal.returns-clause-adds
+returns-clause-adds c =
+    let b : PlannedBlock = record { index = c.in-Some.index; block = c.in_ok-block.block } in
+    let pushed : map new_block c.push_reserved.new.self.items ≡ map new_block c.args.self.now.blocks.items ++ new_block b ∷ [] =
+    ap (λ (l : List PlannedBlock). map new_block l) (c.push_reserved.ensures.items ∙ ap (λ (l : List PlannedBlock). l ++ b ∷ []) c.reserve.ensures.items) ∙ new_blocks-push c.args.self.now.blocks.items b in
+    adds_one _ _ (new_block b) _ pushed c.block_address.ensures.address

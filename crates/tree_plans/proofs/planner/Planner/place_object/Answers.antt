@@ -3,6 +3,7 @@ use Rattle.std.specs.Prelude.{slice_index_or}
 use Rattle.base.specs.Fields.{no_pointer}
 use Rattle.tree_plans.proofs.Progress.{goes_twice, object_planned, object_frees}
 use Rattle.tree_plans.proofs.Uses.{object_uses}
+use Rattle.tree_plans.proofs.Order.{adds_twice}
 use Rattle.tree_plans.proofs.planner.Planner.place_object.Goals as goal
 
 pub returns-clause-goes : goal.returns-clause-goes
@@ -19,3 +20,6 @@ returns-clause-frees c = object_frees _ _ _ _ c.args.old.now c.in_ok-records.ens
 
 pub returns-clause-uses : goal.returns-clause-uses
 returns-clause-uses c = object_uses _ _ _ _ _ c.in_ok-records.ensures.uses c.in_ok-indirect.ensures.uses
+
+pub returns-clause-adds : goal.returns-clause-adds
+returns-clause-adds c = adds_twice _ _ _ _ _ c.in_ok-records.ensures.adds c.in_ok-indirect.ensures.adds

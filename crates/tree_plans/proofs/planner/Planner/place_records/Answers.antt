@@ -1,7 +1,20 @@
-use Rattle.std.proofs.Common.{◌≡◌, length, arith, ◌∙◌}
-use Rattle.tree_plans.proofs.Progress.{records_push, frees_push, goes_twice}
+use Rattle.std.proofs.Common.{◌≡◌, length, false, slice_index_or, arith, inl, refl, rules, ◌∙◌}
+use Rattle.tree_plans.proofs.Order.{adds_begun, adds_push}
+use Rattle.tree_plans.proofs.Progress.{records_push, frees_push, goes_nowhere, goes_twice}
 use Rattle.tree_plans.proofs.Uses.{pointers_use_push}
 use Rattle.tree_plans.proofs.planner.Planner.place_records.Goals as goal
+
+pub loop-index-init : goal.loop-index-init
+loop-index-init c = record {
+  geometry = search rules;
+  count = search rules;
+  room = search rules;
+  goes = goes_nowhere _ _;
+  planned = λ r low. absurd (omega arith);
+  frees = λ address among. inl among;
+  uses = λ address taken. inl taken;
+  adds = adds_begun _ _ _;
+}
 
 pub loop-index-preserved : goal.loop-index-preserved
 loop-index-preserved c =
@@ -14,6 +27,7 @@ loop-index-preserved c =
       planned = rw c.push_reserved.ensures.items (records_push _ _ _ c.args.old.now _ _ _ _ c.in_ok-pointer.ensures.goes long c.record_pointer-was.ensures c.loop-index.invariant.planned c.in_ok-pointer.ensures.planned);
       frees = frees_push _ _ _ _ c.args.old.now _ _ c.record_pointer-was.ensures c.loop-index.invariant.frees c.in_ok-pointer.ensures.frees;
       uses = rw c.push_reserved.ensures.items (pointers_use_push _ _ _ _ _ _ long c.loop-index.invariant.uses c.in_ok-pointer.ensures.uses);
+      adds = rw c.push_reserved.ensures.items (adds_push (λ r. slice_index_or c.args.dirty.now.flags r false) _ _ _ _ _ _ _ long refl c.loop-index.invariant.adds c.in_ok-pointer.ensures.adds);
     }
 
 pub returns-clause-frees : goal.returns-clause-frees
@@ -25,3 +39,8 @@ pub returns-clause-uses : goal.returns-clause-uses
 returns-clause-uses c =
     let done : c.loop-index.index ≡ 84 = omega arith in
     rw done at c.loop-index.invariant.uses
+
+pub returns-clause-adds : goal.returns-clause-adds
+returns-clause-adds c =
+    let done : c.loop-index.index ≡ 84 = omega arith in
+    rw done at c.loop-index.invariant.adds

@@ -1,4 +1,6 @@
-use Rattle.std.proofs.Common.{◌≡◌, ◌≤◌, vec_len, vec_capacity}
+use Rattle.std.proofs.Common.{◌≡◌, ◌≤◌, false, slice_index_or, vec_len, vec_capacity}
+use Rattle.base.specs.Fields.{no_pointer}
+use Rattle.tree_plans.specs.Order.{Adds, addresses_where}
 use Rattle.tree_plans.specs.Plans.{AreRecordsPlanned, Goes, RecordsFree, progress_of}
 use Rattle.tree_plans.specs.Uses.{PointersUse}
 use Rattle.tree_plans.proofs.planner.Planner.place_records.Given as goal
@@ -12,4 +14,5 @@ invariant-loop-index l = record {
   planned : AreRecordsPlanned (progress_of l.self) l.id.0 l.bytes l.dirty.flags l.old l.index l.records.items;
   frees : RecordsFree l.fn.self.freed.items l.self.freed.items l.dirty.flags l.old l.index;
   uses : PointersUse (progress_of l.fn.self).blocks (progress_of l.self).blocks l.records.items l.index;
+  adds : Adds (progress_of l.fn.self).blocks (progress_of l.self).blocks (addresses_where (λ r. slice_index_or l.dirty.flags r false) (λ r. slice_index_or l.records.items r no_pointer) l.index);
 }

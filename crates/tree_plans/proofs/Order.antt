@@ -1,0 +1,373 @@
+-- The blocks of a plan stand in the order of their places.
+use Rattle.std.proofs.Common.{◌≡◌, ◌==◌, ℕ, zero, suc, ◌+◌, ◌*◌, ◌/◌, ◌≤◌, ◌<◌, inl, inr, Bool, true, false, cond, ◌||◌, List, [], ◌∷◌, ◌++◌, length, map, filter, Option, Ordering, Less, Equal, Greater, Some, None, refl, sym, ◌∙◌, ap, append_assoc, arith, nat_lt, ltb-true, if◌then◌else◌}
+use Rattle.std.specs.Prelude.{slice_get, slice_index_or, is_some}
+use Rattle.std.specs.List.{AllByRecursion, list_any, flat_map, range_with_len}
+use Rattle.std.specs.List.Sorted.{IsStrictlySortedBy}
+use Rattle.std.specs.Map.{keys_of}
+use Rattle.std.specs.Option.{option_map_or}
+use Rattle.std.specs.Ordering.{nat_cmp}
+use Rattle.std.proofs.lemmas.Bool.{cases_lt, cases_eq, eq-eqb, eqb-true, ne_eqb}
+use Rattle.std.proofs.lemmas.List.{append-nil, map-append, map-id}
+use Rattle.std.proofs.lemmas.List.Elements.{filter-append}
+use Rattle.std.proofs.lemmas.List.FromFn.{map-range_with_len_more}
+use Rattle.std.proofs.lemmas.Grind.{flat_map-append}
+use Rattle.std.proofs.lemmas.Simd.{map-map}
+use Rattle.base.specs.declared.pointer.Pointer.{Pointer}
+use Rattle.base.specs.declared.names.ObjectId.{ObjectId}
+use Rattle.base.specs.Fields.{no_pointer}
+use Rattle.base.specs.Places.{Place}
+use Rattle.base.specs.Places.Place.{Root, Directory, Indirect, Data}
+use Rattle.base.specs.PlannedPlaces.{has_changed, object_places, written_by}
+use Rattle.base.specs.PlannedTrees.{NewBlock}
+use Rattle.object_maps.specs.declared.tree.ObjectMap.{ObjectMap}
+use Rattle.tree_plans.specs.declared.planner.DirtyRecords.{DirtyRecords}
+use Rattle.tree_plans.specs.Pointers.{IsPut, entry_of, planned_map, pointers_from, record_in}
+use Rattle.tree_plans.specs.Changes.{AreInRange, is_marked}
+use Rattle.tree_plans.specs.declared.planner.PlannedBlock.{PlannedBlock}
+use Rattle.tree_plans.specs.Plans.{address_of, new_block}
+use Rattle.tree_plans.specs.Walks.{is_any_touched, is_directory_touched}
+use Rattle.tree_plans.specs.Order.{Adds, AreInOrder, address_if, addresses_of, addresses_where, all_addresses, object_addresses}
+use Rattle.tree_plans.proofs.Progress.{addresses-push, front_of, last_of}
+use Rattle.tree_plans.proofs.Walks.{any_flag}
+
+-- blocks that are added one after another
+pub adds_none : (s : List NewBlock) → Adds s s []
+adds_none s = sym (append-nil (addresses_of s))
+
+pub adds_one : (s t : List NewBlock) (block : NewBlock) (at : ℕ) → t ≡ s ++ block ∷ [] → at ≡ block.address → Adds s t (at ∷ [])
+adds_one s t block at pushed here = ap addresses_of pushed ∙ addresses-push s block ∙ ap (λ (a : ℕ). addresses_of s ++ a ∷ []) (sym here)
+
+pub adds_twice : (r s t : List NewBlock) (xs ys : List ℕ) → Adds r s xs → Adds s t ys → Adds r t (xs ++ ys)
+adds_twice r s t xs ys one two = two ∙ ap (λ (l : List ℕ). l ++ ys) one ∙ append_assoc (addresses_of r) xs ys
+
+pub adds_if : (s t : List NewBlock) (b : Bool) (p : Pointer) → b ≡ true → Adds s t (p.address ∷ []) → Adds s t (address_if b p)
+adds_if s t b p e one = rw e one
+
+pub adds_not : (s : List NewBlock) (b : Bool) (p : Pointer) → b ≡ false → Adds s s (address_if b p)
+adds_not s b p e = rw e (adds_none s)
+
+-- pointers one after another: those below a number, and then the next
+range_more : (n : ℕ) → range_with_len 0 (n + 1) ≡ range_with_len 0 n ++ n ∷ []
+range_more n = sym (map-id _) ∙ map-range_with_len_more (λ (k : ℕ). k) 0 n n (omega arith) ∙ ap (λ (l : List ℕ). l ++ n ∷ []) (map-id _)
+
+same_below : (p : ℕ → Bool) (f g : ℕ → Pointer) (a n : ℕ) → ((r : ℕ) → r < a + n → f r ≡ g r)
+    → map (λ i. (f i).address) (filter p (range_with_len a n)) ≡ map (λ i. (g i).address) (filter p (range_with_len a n))
+same_below p f g a zero same = refl
+same_below p f g a (suc n) same =
+    let rest = same_below p f g (a + 1) n (λ r low. same r (omega arith)) in
+    let here : f a ≡ g a = same a (omega arith) in
+    elim (p a) as (λ b. map (λ i. (f i).address) (cond b (a ∷ filter p (range_with_len (a + 1) n)) (filter p (range_with_len (a + 1) n)))
+    ≡ map (λ i. (g i).address) (cond b (a ∷ filter p (range_with_len (a + 1) n)) (filter p (range_with_len (a + 1) n)))) [
+      | true ↦ rw (here, rest) refl
+      | false ↦ rest
+    ]
+
+pub addresses_more : (p : ℕ → Bool) (f g : ℕ → Pointer) (n : ℕ) → ((r : ℕ) → r < n → f r ≡ g r) → addresses_where p g (n + 1) ≡ addresses_where p f n ++ address_if (p n) (g n)
+unfolding addresses_where
+addresses_more p f g n same =
+    let of = λ (l : List ℕ). map (λ i. (g i).address) (filter p l) in
+    ap of (range_more n) ∙ ap (map (λ i. (g i).address)) (filter-append p (range_with_len 0 n) (n ∷ [])) ∙ map-append (λ i. (g i).address) (filter p (range_with_len 0 n)) (filter p (n ∷ []))
+    ∙ ap (λ (l : List ℕ). l ++ of (n ∷ [])) (sym (same_below p f g 0 n (λ r low. same r (omega arith))))
+    ∙ ap (λ (l : List ℕ). map (λ i. (f i).address) (filter p (range_with_len 0 n)) ++ l) (last (p n))
+  where
+    last : (b : Bool) → map (λ i. (g i).address) (cond b (n ∷ []) []) ≡ address_if b (g n)
+    last true = refl
+    last false = refl
+
+pub adds_push : (p : ℕ → Bool) (first s t : List NewBlock) (pointers : List Pointer) (i : ℕ) (b : Bool) (new : Pointer) → length pointers ≡ i → b ≡ p i
+    → Adds first s (addresses_where p (λ r. slice_index_or pointers r no_pointer) i) → Adds s t (address_if b new)
+    → Adds first t (addresses_where p (λ r. slice_index_or (pointers ++ new ∷ []) r no_pointer) (i + 1))
+adds_push p first s t pointers i b new long is before more =
+    let last : slice_index_or (pointers ++ new ∷ []) i no_pointer ≡ new = rw (← long) (last_of pointers new no_pointer) in
+    let same : (r : ℕ) → r < i → slice_index_or pointers r no_pointer ≡ slice_index_or (pointers ++ new ∷ []) r no_pointer = λ r low. sym (front_of pointers new no_pointer r (omega (arith, long))) in
+    adds_twice first s t _ _ before more
+    ∙ ap (λ (l : List ℕ). addresses_of first ++ l)
+    (ap (λ (c : Bool). addresses_where p (λ r. slice_index_or pointers r no_pointer) i ++ address_if c new) is
+    ∙ ap (λ (q : Pointer). addresses_where p (λ r. slice_index_or pointers r no_pointer) i ++ address_if (p i) q) (sym last)
+    ∙ sym (addresses_more p _ _ i same))
+
+pub adds_begun : (p : ℕ → Bool) (pointers : ℕ → Pointer) (s : List NewBlock) → Adds s s (addresses_where p pointers 0)
+unfolding addresses_where
+adds_begun p pointers s = adds_none s
+
+-- no block of an object without dirty records
+none_passes : (p : ℕ → Bool) → ((r : ℕ) → p r ≡ false) → (xs : List ℕ) → filter p xs ≡ []
+none_passes p none [] = refl
+none_passes p none (x ∷ xs) = rw (none x) (none_passes p none xs)
+
+none_of : {A : Type 0} (p : A → Bool) → ((r : A) → p r ≡ false) → (xs : List A) → list_any p xs ≡ false
+none_of p none [] = refl
+none_of p none (x ∷ xs) = rw (none x) (none_of p none xs)
+
+no_addresses : (p : ℕ → Bool) (f : ℕ → Pointer) (count : ℕ) → ((r : ℕ) → p r ≡ false) → addresses_where p f count ≡ []
+unfolding addresses_where
+no_addresses p f count none = ap (map (λ i. (f i).address)) (none_passes p none _)
+
+pub none_dirty : (p : ℕ → Bool) (o : Option ObjectMap) → ((r : ℕ) → p r ≡ false) → object_addresses p o ≡ []
+unfolding object_addresses
+none_dirty p o none = ap (λ (l : List ℕ). l ++ address_if (list_any p (range_with_len 0 84)) (option_map_or (λ (m : ObjectMap). m.indirect) o no_pointer)) (no_addresses p _ 84 none)
+    ∙ ap (λ (b : Bool). address_if b (option_map_or (λ (m : ObjectMap). m.indirect) o no_pointer)) (none_of p none (range_with_len 0 84))
+
+-- a number of a range that passes
+pub passes_at : (p : ℕ → Bool) (a n k : ℕ) → a ≤ k → k < a + n → p k ≡ true → list_any p (range_with_len a n) ≡ true
+passes_at p a zero k low high is = absurd (omega arith)
+passes_at p a (suc n) k low high is = elim (cases_eq a k) [
+  | inl same ↦ let here : p a ≡ true = rw same is in rw here refl
+  | inr other ↦ rw (passes_at p (a + 1) n k (omega (arith, other)) (omega arith) is) (or_true (p a))
+]
+  where
+    or_true : (b : Bool) → (b || true) ≡ true
+    or_true true = refl
+    or_true false = refl
+
+flagged : (objects : List (ObjectId × DirtyRecords)) (n : ℕ) (dirty : DirtyRecords) → entry_of objects n ≡ Some dirty → (r : ℕ) → is_marked objects n r ≡ slice_index_or dirty.flags r false
+flagged objects n dirty is r = ap (λ (o : Option DirtyRecords). option_map_or (λ (dirty : DirtyRecords). slice_index_or dirty.flags r false) o false) is
+
+some_flag : (flags : List Bool) → list_any (λ (dirty : Bool). dirty) flags ≡ true → (r : ℕ) × (r < length flags) × (slice_index_or flags r false ≡ true)
+some_flag [] e = absurd (cc)
+some_flag (true ∷ flags) e = (0, omega arith, refl)
+some_flag (false ∷ flags) e = let h = some_flag flags e in (suc h.0, (let low = h.1 in omega arith), h.2)
+
+-- an object that is gone over
+pub object_skipped : (objects : List (ObjectId × DirtyRecords)) (n : ℕ) (dirty : DirtyRecords) (o : Option ObjectMap) (s : List NewBlock) → entry_of objects n ≡ Some dirty
+    → list_any (λ (dirty : Bool). dirty) dirty.flags ≡ false → Adds s s (object_addresses (is_marked objects n) o)
+object_skipped objects n dirty o s is none =
+    adds_none s ∙ ap (λ (l : List ℕ). addresses_of s ++ l) (sym (none_dirty (is_marked objects n) o (λ r. flagged objects n dirty is r ∙ unmarked r)))
+  where
+    unmarked : (r : ℕ) → slice_index_or dirty.flags r false ≡ false
+    unmarked r = elim (slice_index_or dirty.flags r false) as (λ b. slice_index_or dirty.flags r false ≡ b → b ≡ false) [
+      | true ↦ λ flag. let some = any_flag dirty.flags r flag in absurd (cc)
+      | false ↦ λ flag. refl
+    ] refl
+
+-- an object with a dirty record
+object_written : (p : ℕ → Bool) (flags : List Bool) (m : ObjectMap) (s t : List NewBlock) → length flags ≡ 84 → ((r : ℕ) → p r ≡ slice_index_or flags r false) → list_any (λ (dirty : Bool). dirty) flags ≡ true
+    → Adds s t (addresses_where (λ r. slice_index_or flags r false) (λ r. record_in m r) 84 ++ m.indirect.address ∷ []) → Adds s t (object_addresses p (Some m))
+unfolding object_addresses
+object_written p flags m s t long same some added =
+    let h = some_flag flags some in
+    let any : list_any p (range_with_len 0 84) ≡ true = passes_at p 0 84 h.0 (omega arith) (let low = h.1 in omega (arith, long)) (same h.0 ∙ h.2) in
+    let flags_are : (λ (r : ℕ). slice_index_or flags r false) ≡ p = λ k r. sym (same r) k in
+    added ∙ ap (λ (q : ℕ → Bool). addresses_of s ++ (addresses_where q (λ r. record_in m r) 84 ++ m.indirect.address ∷ [])) flags_are
+    ∙ ap (λ (b : Bool). addresses_of s ++ (addresses_where p (λ r. record_in m r) 84 ++ address_if b m.indirect)) (sym any)
+
+pub object_added : (objects : List (ObjectId × DirtyRecords)) (n : ℕ) (dirty : DirtyRecords) (m : ObjectMap) (o : Option ObjectMap) (s t : List NewBlock) → entry_of objects n ≡ Some dirty → o ≡ Some m
+    → length dirty.flags ≡ 84 → list_any (λ (dirty : Bool). dirty) dirty.flags ≡ true
+    → Adds s t (addresses_where (λ r. slice_index_or dirty.flags r false) (λ r. record_in m r) 84 ++ m.indirect.address ∷ []) → Adds s t (object_addresses (is_marked objects n) o)
+object_added objects n dirty m o s t is there long some added =
+    object_written (is_marked objects n) dirty.flags m s t long (flagged objects n dirty is) some added ∙ ap (λ (q : Option ObjectMap). addresses_of s ++ object_addresses (is_marked objects n) q) (sym there)
+
+pub map_put : (maps : List ObjectMap) (old new : List (ObjectId × ObjectMap)) (id : ObjectId) (m : ObjectMap) → IsPut old id m new → planned_map maps new id.0 ≡ Some m
+map_put maps old new id m put =
+    ap (λ (o : Option ObjectMap). option_map_or (λ (m : ObjectMap). Some m) o (slice_get maps id.0)) (put id.0 ∙ ap (λ b. cond b (Some m) (entry_of old id.0)) (eq-eqb id.0 id.0 refl))
+
+-- one object more: what the others have stays
+same_elsewhere : {X : Type 0} (F G : ℕ → List ℕ) (n : ℕ) (done : List (ObjectId × X)) → entry_of done n ≡ None → ((k : ℕ) → (n == k) ≡ false → F k ≡ G k)
+    → flat_map (λ (e : ObjectId × X). F e.0.0) done ≡ flat_map (λ (e : ObjectId × X). G e.0.0) done
+same_elsewhere F G n [] none same = refl
+same_elsewhere {X} F G n (x ∷ done) none same =
+    elim (n == x.0.0) as (λ t. (n == x.0.0) ≡ t → cond t (Some x.1) (entry_of done n) ≡ None → F x.0.0 ++ flat_map (λ (e : ObjectId × X). F e.0.0) done ≡ G x.0.0 ++ flat_map (λ (e : ObjectId × X). G e.0.0) done) [
+      | true ↦ λ is e. absurd (cc)
+      | false ↦ λ is e. rw (same x.0.0 is, same_elsewhere F G n done e same) refl
+    ] refl none
+
+pub objects_added : {X : Type 0} (d : ℕ → ℕ → Bool) (maps : List ObjectMap) (old new : List (ObjectId × ObjectMap)) (first s t : List NewBlock) (done : List (ObjectId × X)) (e : ObjectId × X)
+    → entry_of done e.0.0 ≡ None → ((n : ℕ) → (e.0.0 == n) ≡ false → entry_of new n ≡ entry_of old n)
+    → Adds first s (flat_map (λ (x : ObjectId × X). object_addresses (d x.0.0) (planned_map maps old x.0.0)) done) → Adds s t (object_addresses (d e.0.0) (planned_map maps new e.0.0))
+    → Adds first t (flat_map (λ (x : ObjectId × X). object_addresses (d x.0.0) (planned_map maps new x.0.0)) (done ++ e ∷ []))
+objects_added {X} d maps old new first s t done e fresh others before more =
+    let F : List (ObjectId × ObjectMap) → ℕ → List ℕ = λ planned n. object_addresses (d n) (planned_map maps planned n) in
+    let same : (k : ℕ) → (e.0.0 == k) ≡ false → F old k ≡ F new k = λ k other. let h = others k other in rw h refl in
+    adds_twice first s t _ _ before more
+    ∙ ap (λ (l : List ℕ). addresses_of first ++ (l ++ F new e.0.0)) (same_elsewhere (F old) (F new) e.0.0 done fresh same)
+    ∙ ap (λ (l : List ℕ). addresses_of first ++ (flat_map (λ (x : ObjectId × X). F new x.0.0) done ++ l)) (sym (append-nil (F new e.0.0)))
+    ∙ ap (λ (l : List ℕ). addresses_of first ++ l) (sym (flat_map-append (λ (x : ObjectId × X). F new x.0.0) done (e ∷ [])))
+
+-- entries with rising numbers, from low up to high
+abbrev IsRising : {X : Type 0} → ℕ → ℕ → List (ObjectId × X) → Type 0
+IsRising low high [] = Unit {0}
+IsRising low high (e ∷ es) = (low ≤ e.0.0) × (e.0.0 < high) × IsRising (e.0.0 + 1) high es
+
+rising_absent : {X : Type 0} (es : List (ObjectId × X)) (low high n : ℕ) → IsRising low high es → n < low → entry_of es n ≡ None
+rising_absent [] low high n rising below = refl
+rising_absent (e ∷ es) low high n rising below =
+    let behind = rising.0 in
+    let other : (n == e.0.0) ≡ false = ne_eqb n e.0.0 (λ same. omega arith) in
+    rw other (rising_absent es (e.0.0 + 1) high n rising.2 (omega arith))
+
+-- what is told of each entry is told of each number, where a number without an entry has nothing
+all_numbers : {X : Type 0} (F : ℕ → List ℕ) (count low high : ℕ) (es : List (ObjectId × X)) → low + count ≡ high → IsRising low high es → ((n : ℕ) → low ≤ n → entry_of es n ≡ None → F n ≡ [])
+    → flat_map (λ (e : ObjectId × X). F e.0.0) es ≡ flat_map F (range_with_len low count)
+all_numbers F zero low high [] sum rising none = refl
+all_numbers F zero low high (e ∷ es) sum rising none = let behind = rising.0 in let below = rising.1 in absurd (omega arith)
+all_numbers F (suc count) low high [] sum rising none =
+    rw (none low (omega arith) refl) (all_numbers F count (low + 1) high [] (omega arith) tt (λ n behind e. none n (omega arith) e))
+all_numbers {X} F (suc count) low high (e ∷ es) sum rising none = elim (cases_lt low e.0.0) [
+  | inl above ↦
+      let next : IsRising (low + 1) high (e ∷ es) = (omega arith, rising.1, rising.2) in
+      let rest = all_numbers F count (low + 1) high (e ∷ es) (omega arith) next (λ n behind absent. none n (omega arith) absent) in
+      rest ∙ ap (λ (l : List ℕ). l ++ flat_map F (range_with_len (low + 1) count)) (sym (none low (omega arith) (rising_absent (e ∷ es) (low + 1) high low next (omega arith))))
+  | inr at ↦
+      let behind = rising.0 in
+      let same : e.0.0 ≡ low = omega arith in
+      let rest = all_numbers F count (low + 1) high es (omega arith) (rw same at rising.2) (tail_none same) in
+      ap (λ (n : ℕ). F n ++ flat_map (λ (e : ObjectId × X). F e.0.0) es) same ∙ ap (λ (l : List ℕ). F low ++ l) rest
+]
+  where
+    tail_none : e.0.0 ≡ low → (n : ℕ) → low + 1 ≤ n → entry_of es n ≡ None → F n ≡ []
+    tail_none same n behind absent =
+        let other : (n == e.0.0) ≡ false = ne_eqb n e.0.0 (λ is. omega arith) in
+        none n (omega arith) (rw other absent)
+
+pub less_below : (x y : ℕ) → nat_cmp x y ≡ Less → x < y
+less_below x y is = elim (nat_lt x y) as (λ b. nat_lt x y ≡ b → cond b Less (cond (x == y) Equal Greater) ≡ Less → x < y) [
+  | true ↦ λ below _. ltb-true x y below
+  | false ↦ λ _ e. absurd (elim (x == y) as (λ b. cond b Equal Greater ≡ Less → ⊥) [ true ↦ λ f. absurd (cc) | false ↦ λ f. absurd (cc) ] e)
+] refl is
+
+-- entries of a map have rising numbers
+module _ (R : ObjectId → ObjectId → Ordering) (less : (a b : ObjectId) → R a b ≡ Less → a.0 < b.0) where
+  all_behind : (x : ObjectId) (ys : List ObjectId) → AllByRecursion (λ y. R x y ≡ Less) ys → AllByRecursion (λ (y : ObjectId). x.0 + 1 ≤ y.0) ys
+  all_behind x [] all = tt
+  all_behind x (y ∷ ys) all = let h = less x y all.0 in (omega arith, all_behind x ys all.1)
+
+  rising_of : {X : Type 0} (low high : ℕ) (es : List (ObjectId × X)) → AllByRecursion (λ (y : ObjectId). low ≤ y.0) (keys_of es) → IsStrictlySortedBy R (keys_of es)
+      → ((n : ℕ) → is_some (entry_of es n) ≡ true → n < high) → IsRising low high es
+  unfolding IsStrictlySortedBy
+  rising_of low high [] from sorted within = tt
+  rising_of low high (e ∷ es) from sorted within = (
+    from.0,
+    within e.0.0 (rw (eq-eqb e.0.0 e.0.0 refl) refl),
+    rising_of (e.0.0 + 1) high es (all_behind e.0 (keys_of es) sorted.0) sorted.1 (λ n there. within n (either n (n == e.0.0) there)),
+  )
+    where
+      either : (n : ℕ) (b : Bool) → is_some (entry_of es n) ≡ true → is_some (cond b (Some e.1) (entry_of es n)) ≡ true
+      either n true there = refl
+      either n false there = there
+
+  all_from_none : (ys : List ObjectId) → AllByRecursion (λ (y : ObjectId). 0 ≤ y.0) ys
+  all_from_none [] = tt
+  all_from_none (y ∷ ys) = (omega arith, all_from_none ys)
+
+  pub all_added : (count : ℕ) (maps : List ObjectMap) (planned : List (ObjectId × ObjectMap)) (objects done : List (ObjectId × DirtyRecords)) (s t : List NewBlock)
+      → done ≡ objects → IsStrictlySortedBy R (keys_of objects) → ((n : ℕ) → is_some (entry_of objects n) ≡ true → n < count)
+      → Adds s t (flat_map (λ (e : ObjectId × DirtyRecords). object_addresses (is_marked objects e.0.0) (planned_map maps planned e.0.0)) done)
+      → Adds s t (all_addresses (is_marked objects) (planned_map maps planned) count)
+  unfolding all_addresses
+  all_added count maps planned objects done s t whole sorted within added =
+      added ∙ ap (λ (l : List (ObjectId × DirtyRecords)). addresses_of s ++ flat_map (λ (e : ObjectId × DirtyRecords). object_addresses (is_marked objects e.0.0) (planned_map maps planned e.0.0)) l) whole
+      ∙ ap (λ (l : List ℕ). addresses_of s ++ l) (all_numbers (λ n. object_addresses (is_marked objects n) (planned_map maps planned n)) count 0 count objects (omega arith)
+      (rising_of 0 count objects (all_from_none (keys_of objects)) sorted within)
+      (λ n low absent. none_dirty (is_marked objects n) (planned_map maps planned n) (λ r. ap (λ (o : Option DirtyRecords). option_map_or (λ (dirty : DirtyRecords). slice_index_or dirty.flags r false) o false) absent)))
+
+-- whether an object of a directory changes, by the numbers of the directory and by the keys
+either_of : (p q : ℕ → Bool) (xs : List ℕ) → list_any (λ n. p n || q n) xs ≡ (list_any p xs || list_any q xs)
+either_of p q [] = refl
+either_of p q (x ∷ xs) = ap (λ b. (p x || q x) || b) (either_of p q xs) ∙ swapped (p x) (q x) (list_any p xs) (list_any q xs)
+  where
+    swapped : (a b c d : Bool) → ((a || b) || (c || d)) ≡ ((a || c) || (b || d))
+    swapped true b c d = refl
+    swapped false true true d = refl
+    swapped false true false d = refl
+    swapped false false c d = refl
+
+none_between : (p : ℕ → Bool) (a n : ℕ) → ((r : ℕ) → a ≤ r → r < a + n → p r ≡ false) → list_any p (range_with_len a n) ≡ false
+none_between p a zero none = refl
+none_between p a (suc n) none = rw (none a (omega arith) (omega arith)) (none_between p (a + 1) n (λ r low high. none r (omega arith) (omega arith)))
+
+is_number : (k d : ℕ) → list_any (λ n. n == k) (range_with_len (63 * d) 63) ≡ ((k / 63) == d)
+is_number k d = elim ((k / 63) == d) as (λ t. ((k / 63) == d) ≡ t → list_any (λ n. n == k) (range_with_len (63 * d) 63) ≡ t) [
+  | true ↦ λ is. let of : k / 63 ≡ d = eqb-true (k / 63) d is in passes_at (λ n. n == k) (63 * d) 63 k (omega arith) (omega arith) (eq-eqb k k refl)
+  | false ↦ λ is. none_between (λ n. n == k) (63 * d) 63 (λ r low high. ne_eqb r k (λ same.
+      let of : k / 63 ≡ d = omega arith in let there : ((k / 63) == d) ≡ true = eq-eqb (k / 63) d of in absurd (cc)))
+] refl
+
+changed_among : {X : Type 0} (xs : List ℕ) (p : ℕ → Bool) → ((k : ℕ) → list_any (λ n. n == k) xs ≡ p k) → (es : List (ObjectId × X)) → list_any (λ n. is_some (entry_of es n)) xs ≡ list_any (λ (id : ObjectId). p id.0) (keys_of es)
+changed_among xs p is [] = none_of (λ n. false) (λ n. refl) xs
+changed_among {X} xs p is (e ∷ es) =
+    ap (λ (q : ℕ → Bool). list_any q xs) (λ k n. either (entry_of es n) (n == e.0.0) k) ∙ either_of (λ n. n == e.0.0) (λ n. is_some (entry_of es n)) xs
+    ∙ ap (λ b. b || list_any (λ n. is_some (entry_of es n)) xs) (is e.0.0) ∙ ap (λ b. p e.0.0 || b) (changed_among xs p is es)
+  where
+    either : (o : Option X) (b : Bool) → is_some (cond b (Some e.1) o) ≡ (b || is_some o)
+    either o true = refl
+    either o false = refl
+
+has_changed-touched : (objects : List (ObjectId × DirtyRecords)) (d : ℕ) → has_changed (λ n. is_some (entry_of objects n)) d ≡ is_directory_touched objects d
+has_changed-touched objects d = changed_among (range_with_len (63 * d) 63) (λ k. (k / 63) == d) (λ k. is_number k d) objects
+
+-- an object changes exactly where a directory of it does
+any_directory : (count : ℕ) (objects : List (ObjectId × DirtyRecords)) → ((n : ℕ) → is_some (entry_of objects n) ≡ true → n / 63 < count) → list_any (is_directory_touched objects) (range_with_len 0 count) ≡ is_any_touched objects
+any_directory count [] within = none_of (λ n. false) (λ n. refl) (range_with_len 0 count)
+any_directory count (e ∷ es) within =
+    let number : (e.0.0 == e.0.0) ≡ true = eq-eqb e.0.0 e.0.0 refl in
+    let directory : ((e.0.0 / 63) == (e.0.0 / 63)) ≡ true = eq-eqb (e.0.0 / 63) (e.0.0 / 63) refl in
+    let some : (suc (length es) == 0) ≡ false = ne_eqb (suc (length es)) 0 (λ same. omega arith) in
+    let low : e.0.0 / 63 < count = within e.0.0 (rw number refl) in
+    passes_at (is_directory_touched (e ∷ es)) 0 count (e.0.0 / 63) (omega arith) (omega arith) (rw directory refl) ∙ sym (rw some refl)
+
+-- the addresses of places, one for each
+map-flat_map : {A B C : Type 0} (f : B → C) (g : A → List B) (h : A → List C) → ((a : A) → map f (g a) ≡ h a) → (xs : List A) → map f (flat_map g xs) ≡ flat_map h xs
+map-flat_map f g h same [] = refl
+map-flat_map f g h same (x ∷ xs) = map-append f (g x) (flat_map g xs) ∙ ap (λ l. l ++ map f (flat_map g xs)) (same x) ∙ ap (λ l. h x ++ l) (map-flat_map f g h same xs)
+
+module _ (root : Pointer) (directories : List Pointer) (map_of : ℕ → Option ObjectMap) where
+  abbrev address_at : Place → ℕ
+  address_at place = (pointers_from root directories map_of place).address
+
+  abbrev directory_at : ℕ → Pointer
+  directory_at d = slice_index_or directories d no_pointer
+
+  of_object : (n : ℕ) (xs : List ℕ) (b : Bool) → map address_at (map (λ r. Data n r) xs ++ (if b then Indirect n ∷ [] else []))
+      ≡ map (λ r. (option_map_or (λ (m : ObjectMap). record_in m r) (map_of n) no_pointer).address) xs ++ address_if b (option_map_or (λ (m : ObjectMap). m.indirect) (map_of n) no_pointer)
+  of_object n xs b = map-append address_at (map (λ r. Data n r) xs) (if b then Indirect n ∷ [] else [])
+      ∙ ap (λ l. l ++ map address_at (if b then Indirect n ∷ [] else [])) (map-map address_at (λ r. Data n r) xs)
+      ∙ ap (λ l. map (λ r. address_at (Data n r)) xs ++ l) (last b)
+    where
+      last : (b : Bool) → map address_at (if b then Indirect n ∷ [] else []) ≡ address_if b (option_map_or (λ (m : ObjectMap). m.indirect) (map_of n) no_pointer)
+      last true = refl
+      last false = refl
+
+  of_objects : (d : ℕ → ℕ → Bool) (count : ℕ) → map address_at (flat_map (object_places d) (range_with_len 0 count)) ≡ all_addresses d map_of count
+  unfolding all_addresses object_addresses addresses_where
+  of_objects d count = map-flat_map address_at (object_places d) (λ n. object_addresses (d n) (map_of n)) (λ n. of_object n _ _) (range_with_len 0 count)
+
+  of_directories : (touched : ℕ → Bool) (count : ℕ) → map address_at (map (λ d. Directory d) (filter touched (range_with_len 0 count))) ≡ addresses_where touched directory_at count
+  unfolding addresses_where
+  of_directories touched count = map-map address_at (λ d. Directory d) (filter touched (range_with_len 0 count))
+
+  of_root : (b : Bool) → map address_at (if b then Root ∷ [] else []) ≡ address_if b root
+  of_root true = refl
+  of_root false = refl
+
+  of_all : (d : ℕ → ℕ → Bool) (touched : ℕ → Bool) (count directory_count : ℕ) (b : Bool)
+      → map address_at (flat_map (object_places d) (range_with_len 0 count) ++ map (λ k. Directory k) (filter touched (range_with_len 0 directory_count)) ++ (if b then Root ∷ [] else []))
+      ≡ all_addresses d map_of count ++ addresses_where touched directory_at directory_count ++ address_if b root
+  of_all d touched count directory_count b =
+      let objects = flat_map (object_places d) (range_with_len 0 count) in
+      let middle = map (λ k. Directory k) (filter touched (range_with_len 0 directory_count)) in
+      let top : List Place = if b then Root ∷ [] else [] in
+      map-append address_at (objects ++ middle) top ∙ ap (λ l. l ++ map address_at top) (map-append address_at objects middle ∙ ap (λ l. l ++ map address_at middle) (of_objects d count)
+      ∙ ap (λ l. all_addresses d map_of count ++ l) (of_directories touched directory_count))
+      ∙ ap (λ l. all_addresses d map_of count ++ addresses_where touched directory_at directory_count ++ l) (of_root b)
+
+-- of a whole walk, the blocks are those of the places that change, in their order
+pub tree_in_order : (maps : List ObjectMap) (planned : List (ObjectId × ObjectMap)) (directories : List Pointer) (root : Pointer) (objects : List (ObjectId × DirtyRecords)) (first one two three : List NewBlock)
+    → first ≡ [] → AreInRange objects → Adds first one (all_addresses (is_marked objects) (planned_map maps planned) 5292)
+    → Adds one two (addresses_where (is_directory_touched objects) (λ d. slice_index_or directories d no_pointer) 84) → Adds two three (address_if (is_any_touched objects) root)
+    → AreInOrder (addresses_of three) (pointers_from root directories (planned_map maps planned)) objects
+unfolding AreInOrder
+tree_in_order maps planned directories root objects first one two three none within a b c =
+    let same : is_directory_touched objects ≡ has_changed (λ n. is_some (entry_of objects n)) = λ k d. sym (has_changed-touched objects d) k in
+    let any : is_any_touched objects ≡ list_any (is_directory_touched objects) (range_with_len 0 84) = sym (any_directory 84 objects (λ n there. let low = within n there in omega arith)) in
+    let whole : (ℕ → Bool) → Bool → List ℕ = λ h t. all_addresses (is_marked objects) (planned_map maps planned) 5292 ++ addresses_where h (λ d. slice_index_or directories d no_pointer) 84 ++ address_if t root in
+    adds_twice first two three _ _ (adds_twice first one two _ _ a b) c
+    ∙ ap (λ (l : List NewBlock). addresses_of l ++ whole (is_directory_touched objects) (is_any_touched objects)) none
+    ∙ ap (λ t. whole (is_directory_touched objects) t) any
+    ∙ ap (λ (h : ℕ → Bool). whole h (list_any h (range_with_len 0 84))) same
+    ∙ sym (of_all root directories (planned_map maps planned) (is_marked objects) (has_changed (λ n. is_some (entry_of objects n))) 5292 84 _)
+
+-- told of the blocks as they are planned
+pub planned_in_order : (blocks : List PlannedBlock) (pointers : Place → Pointer) (objects : List (ObjectId × DirtyRecords)) → AreInOrder (addresses_of (map new_block blocks)) pointers objects
+    → map address_of blocks ≡ map (λ (place : Place). (pointers place).address) (written_by (is_marked objects) (λ n. is_some (entry_of objects n)))
+unfolding AreInOrder
+planned_in_order blocks pointers objects in_order = sym (map-map (λ (b : NewBlock). b.address) new_block blocks) ∙ in_order
