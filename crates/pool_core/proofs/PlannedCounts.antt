@@ -28,10 +28,10 @@ use Rattle.base.proofs.UntouchedRecords.{writes_record}
 use Rattle.base.proofs.WrittenRecords.{IsBuilt}
 use Rattle.tree_plans.specs.declared.planner.Committed.{Committed}
 use Rattle.tree_plans.specs.declared.planner.DirtyRecords.{DirtyRecords}
-use Rattle.tree_plans.specs.Changes.{is_marked}
+use Rattle.tree_plans.specs.Changes.{AreInRange, is_marked}
 use Rattle.tree_plans.specs.Marks.{AreMarks, changes, pending_ops, touches}
 use Rattle.tree_plans.specs.Pointers.{entry_of}
-use Rattle.pool_core.specs.GroupPlans.{AreInRange, IsPlannedFrom}
+use Rattle.pool_core.specs.GroupPlans.{IsPlannedFrom}
 use Rattle.pool_core.specs.Shows.{record_of as shown_record}
 use Rattle.pool_core.proofs.PlannedGroups.{any_on, built, follows, ops_are, there, touch_writes}
 

@@ -1,23 +1,18 @@
 -- What the plan of a group says of its blocks and of the tree that they make.
-use Rattle.std.specs.Prelude.{ℕ, ◌≡◌, ◌<◌, List, true, map, is_some}
+use Rattle.std.specs.Prelude.{ℕ, ◌≡◌, List, map, is_some}
 use Rattle.std.specs.Ordering.{nat_cmp}
 use Rattle.std.specs.FinMap.{FinMap}
 use Rattle.base.specs.declared.names.ObjectId.{ObjectId}
 use Rattle.base.specs.declared.pointer.Pointer.{Pointer}
 use Rattle.base.specs.Blocks.{Frame}
-use Rattle.base.specs.Limits.{object_count}
 use Rattle.base.specs.Places.{Place}
 use Rattle.base.specs.PlannedPlaces.{written_by}
 use Rattle.base.specs.PlannedTrees.{IsTreePlan, NewBlock}
 use Rattle.tree_plans.specs.declared.planner.Committed.{Committed}
 use Rattle.tree_plans.specs.declared.planner.DirtyRecords.{DirtyRecords}
-use Rattle.tree_plans.specs.Changes.{AreChanges, HasNoOthers, IsCoveredBy, is_marked}
+use Rattle.tree_plans.specs.Changes.{AreChanges, AreInRange, HasNoOthers, IsCoveredBy, is_marked}
 use Rattle.tree_plans.specs.Marks.{AreMarks, pending_ops}
 use Rattle.tree_plans.specs.Pointers.{entry_of}
-
--- each object that changes is one of a pool (until tree_plans has it)
-abbrev pub AreInRange : List (ObjectId × DirtyRecords) → Type 0
-AreInRange entries = (n : ℕ) → is_some (entry_of entries n) ≡ true → n < object_count
 
 -- Some objects have just the marks of the group's pending operations. For them these blocks make the tree after the group from the old one,
 -- whatever objects were there before of which the operations leave the rest as they were; and they are those of the marked places, one for
