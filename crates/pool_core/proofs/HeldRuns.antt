@@ -1,6 +1,6 @@
 -- Steps one after another keep what a pool keeps of its device.
-use Rattle.std.proofs.Common.{◌≡◌, ℕ, ◌+◌, ◌*◌, ◌<◌, List, [], ◌∷◌, refl, ap, sym, subst, ◌∙◌, arith, ◌⊎◌, inl, inr}
-use Rattle.std.specs.Prelude.{Option, None, Some, IfSome}
+use Rattle.std.proofs.Common.{◌≡◌, ℕ, ◌+◌, ◌*◌, List, [], ◌∷◌, ap, sym, subst, ◌∙◌, arith, inl, inr}
+use Rattle.std.specs.Prelude.{Option, None, IfSome}
 use Rattle.std.specs.Ordering.{nat_cmp}
 use Rattle.std.specs.FinMap as finite
 use Rattle.std.specs.FinMap.{FinMap}
@@ -9,14 +9,14 @@ use Rattle.base.specs.declared.step.Step as declared_step
 use Rattle.base.specs.declared.step.Reply as declared_reply
 use Rattle.base.specs.declared.step.Reply.TheVariants as reply
 use Rattle.base.specs.Blocks.{Frame}
-use Rattle.base.specs.Limits.{object_count, pointer_count, entry_count}
+use Rattle.base.specs.Limits.{entry_count}
 use Rattle.base.specs.Past.{Past}
 use Rattle.base.specs.PlacedTrees.{HoldsTree, StandsAt}
 use Rattle.base.specs.Places.{Place, IsPlace}
 use Rattle.base.specs.Places.Place.{Root, Directory, Indirect, Data}
 use Rattle.base.specs.Runs.{Run}
 use Rattle.base.specs.Shown.{Shown}
-use Rattle.base.specs.Stored.{Held, IsHeld, IsKept, IsStored, Moves, NewTree, RunsAs, frame_at}
+use Rattle.base.specs.Stored.{IsHeld, IsStored, Moves, NewTree, RunsAs, frame_at}
 use Rattle.base.specs.Tree.{IsRecord, OpensAt}
 use Rattle.base.specs.PlacedTrees.{IsEntryFor}
 use Rattle.base.specs.Fields.{entry_in}

@@ -1,20 +1,16 @@
 -- The places that the sync of a group writes, told by the marks of its plan: it takes one block for each, in their order.
-use Rattle.std.proofs.Common.{◌≡◌, ℕ, ◌<◌, ◌≤◌, Bool, true, ◌||◌, List, [], ◌∷◌, ◌++◌, length, map, refl, ap, sym, subst, ◌∙◌}
-use Rattle.std.specs.Prelude.{Option, Some, None, Ok, is_some, nat_lt, IfSome, All, ◌==◌, slice_get}
-use Rattle.std.specs.List.{list_all, list_any, flat_map}
+use Rattle.std.proofs.Common.{◌≡◌, ℕ, ◌<◌, ◌≤◌, Bool, true, ◌||◌, List, [], ◌∷◌, length, map, refl, ap, sym, subst, ◌∙◌}
+use Rattle.std.specs.Prelude.{Option, Some, None, Ok, is_some, nat_lt, IfSome, All}
+use Rattle.std.specs.List.{list_all, list_any}
 use Rattle.std.specs.FinMap as finite
 use Rattle.std.proofs.lemmas.Bool.{false≢true}
 use Rattle.std.proofs.lemmas.List.{length-map}
-use Rattle.std.proofs.lemmas.List.Elements.{All-nil, All-cons, All-head, All-tail}
 use Rattle.base.specs.declared.names.ObjectId.{ObjectId}
 use Rattle.base.specs.declared.operation.Op.{Op}
-use Rattle.base.specs.declared.operation.Op.TheVariants.{Create, Remove, Write, SetLength, SetName}
 use Rattle.base.specs.declared.pointer.Pointer.{Pointer}
-use Rattle.base.specs.Contents.{Contents}
 use Rattle.base.specs.ExactNow.{IsExplainedNow}
-use Rattle.base.specs.Groups.{Middle}
-use Rattle.base.specs.History.{Entry, apply_all, entries_in}
-use Rattle.base.specs.Limits.{max_length, object_count, pointer_count}
+use Rattle.base.specs.History.{apply_all}
+use Rattle.base.specs.Limits.{max_length, object_count}
 use Rattle.base.specs.Past.{Past}
 use Rattle.base.specs.Places.{Place, has_block}
 use Rattle.base.specs.PlannedPlaces.{written_by}
@@ -22,14 +18,14 @@ use Rattle.base.specs.PlannedTrees.{NewBlock}
 use Rattle.base.specs.Shown.{Shown, SyncPlan}
 use Rattle.base.specs.Steps.{TakesForEach, ops_of_group}
 use Rattle.base.specs.Stored.{IsStored, frame_at}
-use Rattle.base.specs.Syncs.{is_on, written_places}
+use Rattle.base.specs.Syncs.{written_places}
 use Rattle.base.proofs.BuiltPlaces.{HasBytes, built-places, group-bytes}
 use Rattle.base.proofs.UntouchedRecords.{writes_record}
 use Rattle.base.proofs.WrittenRecords.{IsBuilt}
 use Rattle.tree_plans.specs.declared.planner.Committed.{Committed}
 use Rattle.tree_plans.specs.declared.planner.DirtyRecords.{DirtyRecords}
 use Rattle.tree_plans.specs.Changes.{AreInRange, is_marked}
-use Rattle.tree_plans.specs.Marks.{AreMarks, changes, pending_ops, touches}
+use Rattle.tree_plans.specs.Marks.{AreMarks, pending_ops, touches}
 use Rattle.tree_plans.specs.Pointers.{entry_of}
 use Rattle.pool_core.specs.GroupPlans.{IsPlannedFrom}
 use Rattle.pool_core.specs.Shows.{record_of as shown_record}

@@ -1,27 +1,23 @@
 -- The plan of a group, made of what its transactions did to the synced contents.
-use Rattle.std.proofs.Common.{◌≡◌, ℕ, zero, suc, ◌+◌, ◌*◌, ◌<◌, ◌≤◌, Bool, true, false, not, ◌&&◌, ◌||◌, cond, List, [], ◌∷◌, ◌++◌, length, map, filter, refl, ap, sym, subst, ◌∙◌, arith, ◌⊎◌, inl, inr, nat_lt}
-use Rattle.std.specs.Prelude.{Option, Some, None, Result, Ok, slice_get, is_some, option_map, IfSome, All, ◌==◌}
+use Rattle.std.proofs.Common.{◌≡◌, ℕ, zero, suc, ◌+◌, ◌*◌, ◌<◌, ◌≤◌, Bool, true, false, not, ◌&&◌, ◌||◌, cond, List, [], ◌∷◌, ◌++◌, length, map, filter, refl, ap, sym, subst, ◌∙◌, arith, nat_lt}
+use Rattle.std.specs.Prelude.{Option, Some, None, Ok, slice_get, is_some, IfSome, All, ◌==◌}
 use Rattle.std.specs.List.{list_all, list_any, enumerate_from, flat_map}
-use Rattle.std.specs.Ordering.{nat_cmp}
 use Rattle.std.specs.FinMap as finite
-use Rattle.std.specs.FinMap.{FinMap}
 use Rattle.std.proofs.lemmas.Bool.{and_parts, or_parts, eqb-true, lt-ltb, false≢true, true≢false}
 use Rattle.std.proofs.lemmas.List.Elements.{All-nil, All-cons, All-head, All-tail}
-use Rattle.base.specs.declared.error.PoolError.{PoolError}
 use Rattle.base.specs.declared.names.ObjectId.{ObjectId}
 use Rattle.base.specs.declared.operation.Op.{Op}
 use Rattle.base.specs.declared.operation.Op.TheVariants.{Create, Remove, Write, SetLength, SetName}
 use Rattle.base.specs.declared.pointer.Pointer.{Pointer}
-use Rattle.base.specs.Contents.{Contents, apply, at_object, bytes_after_write, changed, created, stored, with_object}
+use Rattle.base.specs.Contents.{Contents, apply}
 use Rattle.base.specs.ExactNow.{IsExplainedNow}
-use Rattle.base.specs.Groups.{Middle}
 use Rattle.base.specs.History.{Entry, apply_all, entries_in, replay, run}
-use Rattle.base.specs.Limits.{max_length, object_count, pointer_count, record_size}
+use Rattle.base.specs.Limits.{max_length, object_count, record_size}
 use Rattle.base.specs.Logs.{KeptBlock, committed_of, has_record}
 use Rattle.base.specs.Past.{Past}
 use Rattle.base.specs.Places.{Place}
-use Rattle.base.specs.Places.Place.{Root, Indirect}
-use Rattle.base.specs.PlannedTrees.{AreFreed, NewBlock, SameEntry}
+use Rattle.base.specs.Places.Place.{Root}
+use Rattle.base.specs.PlannedTrees.{AreFreed, NewBlock}
 use Rattle.base.specs.Plans.{shape_of}
 use Rattle.base.specs.Records.{Record}
 use Rattle.base.specs.Sequences.{in_turn}
@@ -36,11 +32,11 @@ use Rattle.base.proofs.Sequences.{in_turn-append, parted}
 use Rattle.base.proofs.StoredCover.{All-passing, entry-built, group-follows}
 use Rattle.base.proofs.StoredStarts.{next-group}
 use Rattle.base.proofs.StoredTrees.{stored-births}
-use Rattle.base.proofs.UntouchedRecords.{LeavesObject, LeavesRecord, at_object-leaves, untouched-entry, untouched-stays, writes_record}
+use Rattle.base.proofs.UntouchedRecords.{LeavesObject, LeavesRecord, untouched-entry, untouched-stays, writes_record}
 use Rattle.base.proofs.WrittenRecords.{HasRecord, IsBuilt, written-record}
 use Rattle.tree_plans.specs.declared.planner.Committed.{Committed}
 use Rattle.tree_plans.specs.declared.planner.DirtyRecords.{DirtyRecords}
-use Rattle.tree_plans.specs.Changes.{AreBornBefore, AreChanges, HasNoOthers, IsCoveredBy, is_marked}
+use Rattle.tree_plans.specs.Changes.{AreBornBefore, AreChanges, HasNoOthers, IsCoveredBy}
 use Rattle.tree_plans.specs.Marks.{AreMarks, changes, pending_ops, touches}
 use Rattle.tree_plans.specs.Pointers.{entry_of}
 use Rattle.pool_core.specs.GroupPlans.{IsPlannedFrom}

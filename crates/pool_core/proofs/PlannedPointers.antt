@@ -1,5 +1,5 @@
 -- The pointers of a tree after a plan, as the plan and as the pool tell them.
-use Rattle.std.proofs.Common.{◌≡◌, ℕ, ◌<◌, Bool, true, false, cond, List, [], ◌∷◌, refl, ap, subst, sym, ◌∙◌, All, arith, nat_lt}
+use Rattle.std.proofs.Common.{◌≡◌, ℕ, ◌<◌, Bool, true, false, cond, List, [], ◌∷◌, refl, ap, subst, sym, ◌∙◌, arith, nat_lt}
 use Rattle.std.specs.Prelude.{◌==◌, Option, Some, None, IfOk, Result, Ok, Err, slice_get}
 use Rattle.std.specs.Option.{option_map_or}
 use Rattle.std.specs.Ordering.{nat_cmp, is_eq}
@@ -13,7 +13,7 @@ use Rattle.base.specs.declared.pointer.Pointer.{Pointer}
 use Rattle.base.specs.Fields.{no_pointer}
 use Rattle.std.proofs.Math.Logic.{∥∥₁_map}
 use Rattle.base.specs.PlacedTrees.{ArePlaced, IsPlaced}
-use Rattle.base.specs.Places.{Place, IsPlace}
+use Rattle.base.specs.Places.{Place}
 use Rattle.base.specs.Places.Place.{Root, Directory, Indirect, Data}
 use Rattle.object_maps.specs.declared.tree.ObjectMap.{ObjectMap}
 use Rattle.object_maps.specs.declared.tree.Tree.{Tree}

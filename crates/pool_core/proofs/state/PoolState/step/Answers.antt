@@ -1,4 +1,4 @@
-use Rattle.std.proofs.Common.{ℕ, ◌≡◌, List, [], Ok, Err, ap, refl, sym}
+use Rattle.std.proofs.Common.{ℕ, List, [], Ok, Err, ap, refl, sym}
 use Rattle.base.specs.declared.names.Group.{Group}
 use Rattle.base.specs.declared.names.LockId.{LockId}
 use Rattle.base.specs.declared.names.Receipt.{Receipt}
