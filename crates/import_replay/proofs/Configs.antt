@@ -21,6 +21,10 @@ pub ok_both : {A E : Type 0} (r : Result A E) (P Q : A → Type 0) → IfOk r P 
 ok_both (Ok a) P Q p q = (p, q)
 ok_both (Err e) P Q p q = tt
 
+pub err_both : {A E : Type 0} (r : Result A E) (P Q : E → Type 0) → IfErr r P → IfErr r Q → IfErr r (λ e. P e × Q e)
+err_both (Ok a) P Q p q = tt
+err_both (Err e) P Q p q = (p, q)
+
 pub ok_on : {A E : Type 0} (r : Result A E) (X : Type 0) → OnOk r X → IfOk r (λ a. X)
 ok_on (Ok a) X x = x
 ok_on (Err e) X x = tt

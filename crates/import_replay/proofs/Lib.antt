@@ -7,5 +7,7 @@ pub mod Reasons
 pub mod LabelCalls
 pub mod LabelSyncs
 pub mod SyncedLabels
+pub mod ImportedLabels
+pub mod WrittenImports
 pub mod ByteObjects
 pub mod MountedPools
