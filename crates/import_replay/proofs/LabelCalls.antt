@@ -9,7 +9,7 @@ use Rattle.base.specs.Disk.{Disk, written}
 use Rattle.base.specs.Geometry.{config_place, slot_of, slot_place}
 use Rattle.base.specs.Labels.{Config}
 use Rattle.base.specs.SyncOrder.{DeviceCall, calls_in_order, import_calls}
-use Rattle.base.specs.SyncOrder.DeviceCall.{Block, Config as ConfigOf, Uberblock as UberblockOf, Flush}
+use Rattle.base.specs.SyncOrder.DeviceCall.{Block, Config as ConfigCall, Uberblock as UberblockCall, Flush}
 use Rattle.base.specs.Uberblocks.{Uberblock}
 use Rattle.labels.specs.Configs.{config_block}
 use Rattle.labels.specs.Stages.{labels_of}
@@ -45,10 +45,10 @@ module _ (size : ℕ) (config : Config) (u : Uberblock) (first : Stage) (run : S
   pub call_makes : (c : DeviceCall) (old new : Disk) → MakesCall run c old (Ok tt) new → new ≡ after_call size config u c old
   call_makes (Block k) old new made =
       absurd (no_block block_target k run.blocks.items old new is.blocks made)
-  call_makes (ConfigOf label) old new made =
+  call_makes (ConfigCall label) old new made =
       subst (λ (s : Option LabelStages). WritesTarget (option_map (config_target run.geometry label) s) old (Ok tt) new) is.stages made
       ∙ ap (λ n. written (config_place n label) (config_block config) true old) is.geometry
-  call_makes (UberblockOf label) old new made =
+  call_makes (UberblockCall label) old new made =
       made
       ∙ ap (λ n. written (slot_place n label run.slot) run.uberblock true old) is.geometry
       ∙ ap (λ n. written (slot_place size label n) run.uberblock true old) is.slot

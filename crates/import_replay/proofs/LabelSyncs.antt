@@ -1,7 +1,6 @@
 -- What each call of a sync of the labels leaves of the blocks.
-use Rattle.std.proofs.Common.{◌≡◌, ◌≢◌, ◌⊎◌, inl, inr, ℕ, zero, suc, ◌+◌, ◌-◌, ◌*◌, ◌<◌, ◌≤◌, List, [], length, Option, Some, None, Ok, Err, Bool, true, false, IsTrue, ◌↔◌, refl, sym, ◌∙◌, ap, subst, arith}
-use Rattle.std.specs.Prelude.{IfSome, slice_get, vec_len}
-use Rattle.std.specs.Option.{option_map}
+use Rattle.std.proofs.Common.{◌≡◌, ◌≢◌, ◌⊎◌, inl, inr, ℕ, zero, suc, ◌+◌, ◌-◌, ◌*◌, ◌<◌, ◌≤◌, List, length, Option, Ok, Err, Bool, false, IsTrue, ◌↔◌, refl, sym, ◌∙◌, ap, subst, arith}
+use Rattle.std.specs.Prelude.{vec_len}
 use Rattle.std.proofs.lemmas.Bool.{cases_eq, false≢true}
 use Rattle.base.specs.declared.error.PoolError.{PoolError}
 use Rattle.base.specs.declared.error.PoolError.TheVariants as refusal
@@ -10,7 +9,7 @@ use Rattle.base.specs.Calls.{Counts}
 use Rattle.base.specs.Geometry.{IsGeometry, block_address, block_count, label_place, config_place, slot_of, slot_place}
 use Rattle.base.specs.Labels.{Config}
 use Rattle.base.specs.SyncOrder.{DeviceCall}
-use Rattle.base.specs.SyncOrder.DeviceCall.{Block, Config as ConfigOf, Uberblock as UberblockOf, Flush}
+use Rattle.base.specs.SyncOrder.DeviceCall.{Block, Config as ConfigCall, Uberblock as UberblockCall, Flush}
 use Rattle.base.specs.Uberblocks.{Uberblock}
 use Rattle.base.proofs.Put.{Apart, length-put, part-put_apart}
 use Rattle.base.proofs.Regions.{flushed_clean}
@@ -78,9 +77,9 @@ call_keeps size config u first run old new geometry is long c made =
 
     by_call : (d : DeviceCall) → HasSameBlocks size (bytes_of old.now) (bytes_of (after_call size config u d old).now)
     by_call (Block k) = same_blocks size (bytes_of old.now)
-    by_call (ConfigOf label) =
+    by_call (ConfigCall label) =
         put_outside size (config_place size label) (config_block config) (bytes_of old.now) least long (config_outside size label (config_block config) least is.is_config.sealed.size)
-    by_call (UberblockOf label) =
+    by_call (UberblockCall label) =
         put_outside size (slot_place size label (slot_of u.group)) (slot_bytes u) (bytes_of old.now) least long
         (slot_outside size label (slot_of u.group) (slot_bytes u) least (slot_below u.group) is.is_uberblock.size)
     by_call Flush =
@@ -104,8 +103,8 @@ sync_refused before mid after c e same counts = (by_call c counts.named, λ low.
   where
     by_call : (c : DeviceCall) → e ≡ refusal_of c → (e ≡ refusal.Write) ⊎ (e ≡ refusal.Flush)
     by_call (Block k) is = inl is
-    by_call (ConfigOf label) is = inl is
-    by_call (UberblockOf label) is = inl is
+    by_call (ConfigCall label) is = inl is
+    by_call (UberblockCall label) is = inl is
     by_call Flush is = inr is
 
 -- after a call that was not the last, there are calls left

@@ -1,5 +1,5 @@
 -- What a sync of the labels leaves in them, once all its calls are made.
-use Rattle.std.proofs.Common.{◌≡◌, ◌≢◌, ◌⊎◌, inl, inr, ℕ, zero, suc, ◌+◌, ◌*◌, ◌<◌, ◌≤◌, List, [], Option, Some, None, refl, sym, ◌∙◌, ap, subst, arith}
+use Rattle.std.proofs.Common.{◌≡◌, ◌≢◌, ◌⊎◌, inl, inr, ℕ, zero, suc, ◌+◌, ◌<◌, ◌≤◌, List, [], Option, Some, None, refl, sym, ◌∙◌, ap, subst, arith}
 use Rattle.std.specs.Prelude.{slice_get}
 use Rattle.std.specs.Option.{option_map}
 use Rattle.std.proofs.lemmas.Bool.{cases_order}
@@ -8,7 +8,7 @@ use Rattle.base.specs.Fields.{part}
 use Rattle.base.specs.Geometry.{IsGeometry, config_place, label_place, slot_of, slot_place}
 use Rattle.base.specs.Labels.{Config}
 use Rattle.base.specs.SyncOrder.{DeviceCall, import_calls}
-use Rattle.base.specs.SyncOrder.DeviceCall.{Block, Config as ConfigOf, Uberblock as UberblockOf, Flush}
+use Rattle.base.specs.SyncOrder.DeviceCall.{Block, Config as ConfigCall, Uberblock as UberblockCall, Flush}
 use Rattle.base.specs.Uberblocks.{Uberblock, IsUberblock}
 use Rattle.base.proofs.Put.{part_same}
 use Rattle.labels.specs.Configs.{IsConfigBlock, config_block}
@@ -16,7 +16,6 @@ use Rattle.labels.specs.declared.stage.Stage.{Stage}
 use Rattle.labels.specs.declared.stage.Stage.TheVariants.{Even, Odd}
 use Rattle.labels.proofs.Places.{labels-apart}
 use Rattle.uberblocks.proofs.Places.{slot_below}
-use Rattle.uberblocks.specs.Slots.{slot_bytes}
 use Rattle.sync.specs.declared.run.LabelStages.{LabelStages}
 use Rattle.sync.specs.declared.run.SyncRun.{SyncRun}
 use Rattle.sync.specs.Calls.{Target, block_target, calls_of, config_target, target_of}
@@ -29,7 +28,7 @@ use Rattle.import_replay.specs.LabelSyncs.{IsLabelSync, is_even}
 use Rattle.import_replay.proofs.LabelCalls.{calls_are}
 
 -- where the write of a label's config stands among the calls
-config_call : (first : Stage) (label : ℕ) → label < 4 → (k : ℕ) × (k < 12) × (slice_get (import_calls 0 (is_even first)) k ≡ Some (ConfigOf label))
+config_call : (first : Stage) (label : ℕ) → label < 4 → (k : ℕ) × (k < 12) × (slice_get (import_calls 0 (is_even first)) k ≡ Some (ConfigCall label))
 config_call Even zero low = (1, omega arith, refl)
 config_call Even (suc zero) low = (9, omega arith, refl)
 config_call Even (suc (suc zero)) low = (2, omega arith, refl)
@@ -42,7 +41,7 @@ config_call Odd (suc (suc (suc zero))) low = (2, omega arith, refl)
 config_call Odd (suc (suc (suc (suc k)))) low = absurd (omega (arith, low))
 
 -- and that of its uberblock
-uberblock_call : (first : Stage) (label : ℕ) → label < 4 → (k : ℕ) × (k < 12) × (slice_get (import_calls 0 (is_even first)) k ≡ Some (UberblockOf label))
+uberblock_call : (first : Stage) (label : ℕ) → label < 4 → (k : ℕ) × (k < 12) × (slice_get (import_calls 0 (is_even first)) k ≡ Some (UberblockCall label))
 uberblock_call Even zero low = (4, omega arith, refl)
 uberblock_call Even (suc zero) low = (5, omega arith, refl)
 uberblock_call Even (suc (suc zero)) low = (6, omega arith, refl)
@@ -79,8 +78,8 @@ module _ (size : ℕ) (config : Config) (u : Uberblock) (first : Stage) (run : S
   hold_config label low =
       let (k, below, at) = config_call first label low in
       let t : Target = record { place = config_place run.geometry label; size = 4096; content = config_block config } in
-      let target : target_of run (ConfigOf label) ≡ Some t = ap (λ (s : Option LabelStages). option_map (config_target run.geometry label) s) is.stages in
-      let stands = call_stands base image run k (ConfigOf label) t made (omega (arith, below, all_done)) (call_at k (ConfigOf label) at) target in
+      let target : target_of run (ConfigCall label) ≡ Some t = ap (λ (s : Option LabelStages). option_map (config_target run.geometry label) s) is.stages in
+      let stands = call_stands base image run k (ConfigCall label) t made (omega (arith, below, all_done)) (call_at k (ConfigCall label) at) target in
       subst (λ (l : List ℕ). IsConfigBlock l size config) (sym (ap (λ n. part image (config_place n label) 4096) (sym is.geometry) ∙ stands)) is.is_config
 
   -- and the uberblock
@@ -88,7 +87,7 @@ module _ (size : ℕ) (config : Config) (u : Uberblock) (first : Stage) (run : S
   hold_uberblock label low =
       let (k, below, at) = uberblock_call first label low in
       let t : Target = record { place = slot_place run.geometry label run.slot; size = 1024; content = run.uberblock } in
-      let stands = call_stands base image run k (UberblockOf label) t made (omega (arith, below, all_done)) (call_at k (UberblockOf label) at) refl in
+      let stands = call_stands base image run k (UberblockCall label) t made (omega (arith, below, all_done)) (call_at k (UberblockCall label) at) refl in
       subst (λ (l : List ℕ). IsUberblock l u)
       (sym (ap (λ n. part image (slot_place n label (slot_of u.group)) 1024) (sym is.geometry)
       ∙ ap (λ n. part image (slot_place run.geometry label n) 1024) (sym is.slot) ∙ stands ∙ is.uberblock))
@@ -108,14 +107,14 @@ module _ (size : ℕ) (config : Config) (u : Uberblock) (first : Stage) (run : S
         by_call : (c : DeviceCall) → InLabels c → target_of run c ≡ Some t → ⊥
         by_call (Block j) within target =
             no_block block_target j run.blocks.items t is.blocks target
-        by_call (ConfigOf l) within target = elim (cases_order label l) [
+        by_call (ConfigCall l) within target = elim (cases_order label l) [
           | inl same ↦ (let place : label_place size label ≡ label_place size l = ap (label_place size) same in omega (arith, place, lies.1, here.1, from))
           | inr differ ↦ parts_differ size label l geometry low within (λ same. omega (arith, same, differ)) i (omega (arith, from)) (omega (arith, to, slot_low)) (omega (arith, lies.0.from, here.0)) (omega (arith, lies.0.to, here.1))
         ]
           where
             lies : LiesIn size l t × (t.place + t.size ≤ label_place size l + 131072)
             lies = subst (λ n. LiesIn n l t × (t.place + t.size ≤ label_place n l + 131072)) is.geometry (config_lies run l t target)
-        by_call (UberblockOf l) within target = elim (cases_order label l) [
+        by_call (UberblockCall l) within target = elim (cases_order label l) [
           | inl same ↦ slots_apart (ap (label_place size) same) (cases_order slot (slot_of u.group))
           | inr differ ↦ parts_differ size label l geometry low within (λ same. omega (arith, same, differ)) i (omega (arith, from)) (omega (arith, to, slot_low)) (omega (arith, written.0)) (omega (arith, written.1, slot_below u.group))
         ]

@@ -5,7 +5,7 @@ use Rattle.base.specs.Fields.{part}
 use Rattle.base.specs.Geometry.{block_address, block_count, block_size, config_place, slot_of, slot_place}
 use Rattle.base.specs.Labels.{Config}
 use Rattle.base.specs.SyncOrder.{DeviceCall}
-use Rattle.base.specs.SyncOrder.DeviceCall.{Block, Config as ConfigOf, Uberblock as UberblockOf, Flush}
+use Rattle.base.specs.SyncOrder.DeviceCall.{Block, Config as ConfigCall, Uberblock as UberblockCall, Flush}
 use Rattle.base.specs.Uberblocks.{Uberblock, IsUberblock}
 use Rattle.labels.specs.Configs.{IsConfigBlock, config_block}
 use Rattle.labels.specs.declared.stage.Stage.{Stage}
@@ -23,11 +23,11 @@ abbrev pub is_even : Stage → Bool
 is_even Even = true
 is_even Odd = false
 
--- the disk after a good call of a sync that writes this config and this uberblock into the labels, and no blocks
+-- the disk after a good call of a sync that writes this config and this uberblock into the labels; it has no blocks to write
 abbrev pub after_call : (size : ℕ) → Config → Uberblock → DeviceCall → Disk → Disk
 after_call size config u (Block k) disk = disk
-after_call size config u (ConfigOf label) disk = written (config_place size label) (config_block config) true disk
-after_call size config u (UberblockOf label) disk = written (slot_place size label (slot_of u.group)) (slot_bytes u) true disk
+after_call size config u (ConfigCall label) disk = written (config_place size label) (config_block config) true disk
+after_call size config u (UberblockCall label) disk = written (slot_place size label (slot_of u.group)) (slot_bytes u) true disk
 after_call size config u Flush disk = certain (bytes_of disk.now) disk
 
 -- the disk after these calls, the first of them first

@@ -61,7 +61,13 @@ returns-clause-labelled g c = λ keeps.
     let u = c.args.found.uberblock in
     let config : Config = record { guid = u.guid; group = u.group.0 + 4; size = c.args.geometry; name = c.args.found.name } in
     let next : Uberblock = record {
-      group = u.group.0 + 4; guid = u.guid; moment = c.args.moment; root = c.args.loaded.tree.root; import_number = u.import_number + 1; log_address = c.block_address.result; log_number = 0;
+      group = u.group.0 + 4;
+      guid = u.guid;
+      moment = c.args.moment;
+      root = c.args.loaded.tree.root;
+      import_number = u.import_number + 1;
+      log_address = c.block_address.result;
+      log_number = 0;
     } in
     labels_same c.args.geometry _ config _ next _
     (c.new-config.ensures ∙ (λ i. record config { size = c.size.ensures.size i; name = c.in_ok-copy_name.ensures.same i }))

@@ -1,13 +1,12 @@
-use Rattle.std.proofs.Common.{◌≡◌, ◌+◌, ◌∙◌, ℕ, List, length, take, ap, sym, subst, arith}
-use Rattle.base.specs.Disk.{Disk, bytes_of}
+use Rattle.std.proofs.Common.{◌≡◌, ◌∙◌, ℕ, List, length, ap}
+use Rattle.base.specs.Disk.{bytes_of}
 use Rattle.base.specs.Labels.{Config}
-use Rattle.base.specs.SyncOrder.{DeviceCall, import_calls}
+use Rattle.base.specs.SyncOrder.{DeviceCall}
 use Rattle.base.specs.Uberblocks.{Uberblock}
 use Rattle.uberblocks.specs.Slots.{fields_of}
-use Rattle.sync.specs.Made.{HasMade}
 use Rattle.sync.specs.Runs.{call_count}
 use Rattle.import_replay.specs.ImportRefusals.{IsSyncRefusal}
-use Rattle.import_replay.specs.LabelSyncs.{HasSameBlocks, after_calls, is_even}
+use Rattle.import_replay.specs.LabelSyncs.{after_calls}
 use Rattle.import_replay.proofs.LabelCalls.{after_next, distinct_blocks, whole}
 use Rattle.import_replay.proofs.LabelSyncs.{blocks_then, call_keeps, sync_goes_on, sync_left, sync_refused}
 use Rattle.import_replay.proofs.Reasons.{passed_on}
