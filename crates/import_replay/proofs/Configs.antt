@@ -1,12 +1,12 @@
 -- The configs of four labels, and what is chosen among them.
-use Rattle.std.proofs.Common.{◌≡◌, ℕ, zero, suc, List, [], ◌∷◌, Option, Some, None, Result, Ok, Err, IfOk, IfErr, OnOk, refl, sym, subst}
+use Rattle.std.proofs.Common.{◌≡◌, ◌↔◌, ℕ, Bool, zero, suc, List, [], ◌∷◌, Option, Some, None, Result, Ok, Err, IfOk, IfErr, OnOk, refl, sym, subst}
 use Rattle.std.specs.Prelude.{slice_get}
 use Rattle.base.specs.declared.error.PoolError.{PoolError}
 use Rattle.base.specs.declared.error.PoolError.TheVariants.{NoPool}
-use Rattle.base.specs.Labels.{Config, IsChosen, HasNoCandidate}
-use Rattle.labels.specs.Choices.{AreRead, IsRead}
+use Rattle.base.specs.Labels.{Config, IsChosen, IsKeptInOdd, HasNoCandidate}
+use Rattle.labels.specs.Choices.{AreRead, IsKeptIn, IsRead}
 use Rattle.labels.proofs.LabelsOfImage.{so_of_image}
-use Rattle.import_replay.specs.Found.{HasChosen, HasName, LacksName}
+use Rattle.import_replay.specs.Found.{HasChosen, HasChosenFirst, HasFirstStage, HasName, LacksName}
 
 -- what holds of an answer's value where something stronger does
 pub ok_weaker : {A E : Type 0} (r : Result A E) (P Q : A → Type 0) → ((a : A) → P a → Q a) → IfOk r P → IfOk r Q
@@ -20,6 +20,10 @@ err_weaker (Err e) P Q weak h = weak e h
 pub ok_both : {A E : Type 0} (r : Result A E) (P Q : A → Type 0) → IfOk r P → IfOk r Q → IfOk r (λ a. P a × Q a)
 ok_both (Ok a) P Q p q = (p, q)
 ok_both (Err e) P Q p q = tt
+
+pub err_both : {A E : Type 0} (r : Result A E) (P Q : E → Type 0) → IfErr r P → IfErr r Q → IfErr r (λ e. P e × Q e)
+err_both (Ok a) P Q p q = tt
+err_both (Err e) P Q p q = (p, q)
 
 pub ok_on : {A E : Type 0} (r : Result A E) (X : Type 0) → OnOk r X → IfOk r (λ a. X)
 ok_on (Ok a) X x = x
@@ -40,6 +44,20 @@ four_read image a b c d ra rb rc rd = record { count = refl; each = each }
 pub named : (image : List ℕ) (configs : List (Option Config)) (guid group : ℕ) (name : List ℕ) → AreRead image configs → HasChosen configs guid group name → HasName image guid group name
 named image configs guid group name read (c, choice, is) =
     (c.group, subst (λ (n : List ℕ). IsChosen image guid group c.group n) (sym is) ((so_of_image image configs read guid group).chosen c choice).0)
+
+-- and so is the stage that comes first
+pub first_named : (image : List ℕ) (configs : List (Option Config)) (guid group : ℕ) (name : List ℕ) (even_first : Bool) → AreRead image configs
+    → HasChosenFirst configs guid group name even_first → HasFirstStage image guid group name even_first
+first_named image configs guid group name even_first read (c, choice, is, told) =
+    let so = so_of_image image configs read guid group in
+    let (chosen, pool, size) = so.chosen c choice in
+    let kept : IsKeptIn configs c ↔ IsKeptInOdd image guid c.group name =
+    subst (λ (n : List ℕ). IsKeptIn configs c ↔ IsKeptInOdd image guid c.group n) (sym is) (subst (λ g. IsKeptIn configs c ↔ IsKeptInOdd image g c.group c.name) pool (so.kept c size)) in
+    record {
+      found = c.group;
+      chosen = subst (λ (n : List ℕ). IsChosen image guid group c.group n) (sym is) chosen;
+      even = (λ first. kept.0 (told.0 first), λ odd. told.1 (kept.1 odd));
+    }
 
 pub lacks : (image : List ℕ) (configs : List (Option Config)) (guid group : ℕ) (e : PoolError) → AreRead image configs → (e ≡ NoPool → HasNoCandidate configs guid group) → LacksName image guid group e
 lacks image configs guid group e read none is = (so_of_image image configs read guid group).none (none is)

@@ -3,6 +3,7 @@ use Rattle.std.proofs.Common.{◌≡◌, ◌≢◌, ℕ, zero, suc, ◌+◌, ◌
 use Rattle.std.specs.Prelude.{slice_get}
 use Rattle.std.specs.List.{list_any}
 use Rattle.std.specs.Option.{option_map_or}
+use Rattle.std.specs.Ordering.{nat_cmp}
 use Rattle.std.specs.FinSet as set
 use Rattle.std.proofs.Math.ListN.{set as list_set}
 use Rattle.std.proofs.lemmas.Bool.{cases_eq, eq-eqb, eqb-true, false≢true}
@@ -19,7 +20,7 @@ use Rattle.object_maps.specs.declared.tree.Tree.{Tree}
 use Rattle.object_maps.specs.Pointers.{pointers_of}
 use Rattle.space.specs.FreeSets.{addresses_from, free_from, free_of}
 use Rattle.space.proofs.Flags.{contains-free_of, free_of-contains}
-use Rattle.import_replay.specs.FreeBlocks.{IsNamed, AreUnnamed, HasTakenLowest, names_block, map_names, tree_names, FlagsTaken}
+use Rattle.import_replay.specs.FreeBlocks.{AreAllNamed, IsNamed, AreUnnamed, HasTakenLowest, names_block, map_names, tree_names, FlagsTaken}
 
 -- two takes one after another
 both_taken : (a b c : Bool) → ((a && not b) && not c) ≡ (a && not (b || c))
@@ -237,3 +238,8 @@ module _ (pointers : Place → Pointer) (blocks : ℕ) (flags : List Bool) (b : 
     not_taken = λ q h. (was_free q h).0;
     others = not_free;
   }
+
+-- where no block is free, each is named
+pub all_named : (pointers : Place → Pointer) (blocks : ℕ) (flags : List Bool) → AreUnnamed pointers blocks (free_of flags) → free_from 0 flags ≡ [] → AreAllNamed pointers blocks
+all_named pointers blocks flags were none address is =
+    were.others address (ap (λ (l : List ℕ). set.contains (set.from_list {R = nat_cmp} l) address) none ∙ set.contains-from_list_nat [] address) is

@@ -1,24 +1,30 @@
 -- What each call of a sync of the labels leaves of the blocks.
-use Rattle.std.proofs.Common.{◌≡◌, ◌≢◌, ◌⊎◌, inl, inr, ℕ, zero, suc, ◌+◌, ◌-◌, ◌*◌, ◌<◌, ◌≤◌, List, [], length, Option, Some, None, Ok, Err, Bool, true, false, IsTrue, ◌↔◌, refl, sym, ◌∙◌, ap, subst, arith}
-use Rattle.std.specs.Prelude.{IfSome, slice_get, vec_len}
-use Rattle.std.specs.Option.{option_map}
+use Rattle.std.proofs.Common.{◌≡◌, ◌≢◌, ◌⊎◌, inl, inr, ℕ, zero, suc, ◌+◌, ◌-◌, ◌*◌, ◌<◌, ◌≤◌, List, length, Option, Ok, Err, Bool, false, IsTrue, ◌↔◌, refl, sym, ◌∙◌, ap, subst, arith}
+use Rattle.std.specs.Prelude.{vec_len}
 use Rattle.std.proofs.lemmas.Bool.{cases_eq, false≢true}
 use Rattle.base.specs.declared.error.PoolError.{PoolError}
 use Rattle.base.specs.declared.error.PoolError.TheVariants as refusal
-use Rattle.base.specs.Disk.{Disk, bytes_of, put, written}
+use Rattle.base.specs.Disk.{Disk, bytes_of, certain, put}
 use Rattle.base.specs.Calls.{Counts}
-use Rattle.base.specs.Geometry.{IsGeometry, block_address, block_count, label_place, config_place, slot_place}
+use Rattle.base.specs.Geometry.{IsGeometry, block_address, block_count, label_place, config_place, slot_of, slot_place}
+use Rattle.base.specs.Labels.{Config}
 use Rattle.base.specs.SyncOrder.{DeviceCall}
-use Rattle.base.specs.SyncOrder.DeviceCall.{Block, Config, Uberblock, Flush}
+use Rattle.base.specs.SyncOrder.DeviceCall.{Block, Config as ConfigCall, Uberblock as UberblockCall, Flush}
+use Rattle.base.specs.Uberblocks.{Uberblock}
 use Rattle.base.proofs.Put.{Apart, length-put, part-put_apart}
 use Rattle.base.proofs.Regions.{flushed_clean}
 use Rattle.labels.proofs.Places.{IsGeometry-IsSize}
+use Rattle.labels.specs.Configs.{config_block}
+use Rattle.labels.specs.declared.stage.Stage.{Stage}
+use Rattle.uberblocks.specs.Slots.{slot_bytes}
+use Rattle.uberblocks.proofs.Places.{slot_below}
 use Rattle.sync.specs.declared.run.LabelStages.{LabelStages}
 use Rattle.sync.specs.declared.run.SyncRun.{SyncRun}
-use Rattle.sync.specs.Calls.{MakesCall, Target, WritesTarget, block_target, config_target, refusal_of}
+use Rattle.sync.specs.Calls.{MakesCall, refusal_of}
 use Rattle.sync.specs.Runs.{SameSync, call_count, other_calls}
 use Rattle.import_replay.specs.ImportRefusals.{IsSyncRefusal}
-use Rattle.import_replay.specs.LabelSyncs.{HasSameBlocks, IsLabelSync}
+use Rattle.import_replay.specs.LabelSyncs.{HasSameBlocks, IsLabelSync, after_call}
+use Rattle.import_replay.proofs.LabelCalls.{call_makes}
 
 pub same_blocks : (size : ℕ) (bytes : List ℕ) → HasSameBlocks size bytes bytes
 same_blocks size bytes = record { length_is = refl; each = λ k low. refl }
@@ -60,56 +66,45 @@ slot_outside size label slot content least low long =
     subst (λ p. IsOutside size p (length content)) there
     (subst (λ n. IsOutside size (label_place size label + (131072 + 1024 * slot)) n) (sym long) (outside_label size label (131072 + 1024 * slot) 1024 least (omega arith)))
 
-module _ (size : ℕ) (run : SyncRun) (old new : Disk) (geometry : IsGeometry size) (is : IsLabelSync size run) (long : length (bytes_of old.now) ≡ size) where
-  abbrev Keeps : Type 0
-  Keeps = HasSameBlocks size (bytes_of old.now) (bytes_of new.now)
+-- a good call leaves the blocks
+pub call_keeps : (size : ℕ) (config : Config) (u : Uberblock) (first : Stage) (run : SyncRun) (old new : Disk) → IsGeometry size → IsLabelSync size config u first run → length (bytes_of old.now) ≡ size
+    → (c : DeviceCall) → MakesCall run c old (Ok tt) new → HasSameBlocks size (bytes_of old.now) (bytes_of new.now)
+call_keeps size config u first run old new geometry is long c made =
+    subst (λ (d : Disk). HasSameBlocks size (bytes_of old.now) (bytes_of d.now)) (sym (call_makes size config u first run is c old new made)) (by_call c)
+  where
+    least : 6291456 ≤ size
+    least = (IsGeometry-IsSize size geometry).least
 
-  least : 6291456 ≤ size
-  least = (IsGeometry-IsSize size geometry).least
-
-  wrote : (place : ℕ) (content : List ℕ) → IsOutside size place (length content) → new ≡ written place content true old → Keeps
-  wrote place content out writes =
-      subst (λ (d : Disk). HasSameBlocks size (bytes_of old.now) (bytes_of d.now)) (sym writes) (put_outside size place content (bytes_of old.now) least long out)
-
-  wrote_config : (label : ℕ) (stages : Option LabelStages) → IfSome stages (λ (s : LabelStages). length s.config ≡ 4096)
-      → WritesTarget (option_map (config_target run.geometry label) stages) old (Ok tt) new → Keeps
-  wrote_config label None short writes = absurd writes
-  wrote_config label (Some s) short writes =
-      wrote (config_place run.geometry label) s.config
-      (subst (λ n. IsOutside size (config_place n label) (length s.config)) (sym is.geometry) (config_outside size label s.config least short)) writes
-
-  wrote_block : {A : Type 0} (f : A → Target) (k : ℕ) (blocks : List A) → blocks ≡ [] → WritesTarget (option_map f (slice_get blocks k)) old (Ok tt) new → Keeps
-  wrote_block {A} f k blocks none writes =
-      absurd (subst (λ (bs : List A). WritesTarget (option_map f (slice_get bs k)) old (Ok tt) new) none writes)
-
-  -- a call that answers Ok leaves the blocks
-  pub call_keeps : (call : DeviceCall) → MakesCall run call old (Ok tt) new → Keeps
-  call_keeps (Block k) made = wrote_block block_target k run.blocks.items is.blocks made
-  call_keeps (Config label) made = wrote_config label run.stages is.config made
-  call_keeps (Uberblock label) made =
-      wrote (slot_place run.geometry label run.slot) run.uberblock
-      (subst (λ n. IsOutside size (slot_place n label run.slot) (length run.uberblock)) (sym is.geometry) (slot_outside size label run.slot run.uberblock least is.slot is.uberblock)) made
-  call_keeps Flush made =
-      subst (λ (bytes : List ℕ). HasSameBlocks size (bytes_of old.now) bytes) (sym (flushed_clean old new made).1) (same_blocks size (bytes_of old.now))
+    by_call : (d : DeviceCall) → HasSameBlocks size (bytes_of old.now) (bytes_of (after_call size config u d old).now)
+    by_call (Block k) = same_blocks size (bytes_of old.now)
+    by_call (ConfigCall label) =
+        put_outside size (config_place size label) (config_block config) (bytes_of old.now) least long (config_outside size label (config_block config) least is.is_config.sealed.size)
+    by_call (UberblockCall label) =
+        put_outside size (slot_place size label (slot_of u.group)) (slot_bytes u) (bytes_of old.now) least long
+        (slot_outside size label (slot_of u.group) (slot_bytes u) least (slot_below u.group) is.is_uberblock.size)
+    by_call Flush =
+        subst (λ (bytes : List ℕ). HasSameBlocks size (bytes_of old.now) bytes) (sym (flushed_clean old (certain (bytes_of old.now) old) refl).1) (same_blocks size (bytes_of old.now))
 
 -- the sync goes on as it was
-pub sync_goes_on : (size : ℕ) (old new : SyncRun) → SameSync old new → IsLabelSync size old → IsLabelSync size new
-sync_goes_on size old new same is = record {
+pub sync_goes_on : (size : ℕ) (config : Config) (u : Uberblock) (first : Stage) (old new : SyncRun) → SameSync old new → IsLabelSync size config u first old → IsLabelSync size config u first new
+sync_goes_on size config u first old new same is = record {
   geometry = same.geometry ∙ is.geometry;
   blocks = ap (λ b. b.items) same.blocks ∙ is.blocks;
-  uberblock = ap length same.uberblock ∙ is.uberblock;
-  slot = subst (λ n. n < 128) (sym same.slot) is.slot;
-  config = subst (λ (s : Option LabelStages). IfSome s (λ (t : LabelStages). length t.config ≡ 4096)) (sym same.stages) is.config;
+  uberblock = same.uberblock ∙ is.uberblock;
+  slot = same.slot ∙ is.slot;
+  stages = same.stages ∙ is.stages;
+  is_uberblock = is.is_uberblock;
+  is_config = is.is_config;
 }
 
 -- the refusal of a call is that of the sync
-pub sync_refused : (before mid after : ℕ) (call : DeviceCall) (e : PoolError) → mid ≡ before → Counts mid after (refusal_of call) (Err e) → IsSyncRefusal before after e
-sync_refused before mid after call e same counts = (by_call call counts.named, λ low. let one = counts.refused (omega (arith, low, same)) in omega (arith, one, same))
+pub sync_refused : (before mid after : ℕ) (c : DeviceCall) (e : PoolError) → mid ≡ before → Counts mid after (refusal_of c) (Err e) → IsSyncRefusal before after e
+sync_refused before mid after c e same counts = (by_call c counts.named, λ low. let one = counts.refused (omega (arith, low, same)) in omega (arith, one, same))
   where
     by_call : (c : DeviceCall) → e ≡ refusal_of c → (e ≡ refusal.Write) ⊎ (e ≡ refusal.Flush)
     by_call (Block k) is = inl is
-    by_call (Config label) is = inl is
-    by_call (Uberblock label) is = inl is
+    by_call (ConfigCall label) is = inl is
+    by_call (UberblockCall label) is = inl is
     by_call Flush is = inr is
 
 -- after a call that was not the last, there are calls left

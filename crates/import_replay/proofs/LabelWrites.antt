@@ -7,13 +7,14 @@ use Rattle.base.specs.declared.error.PoolError.{PoolError}
 use Rattle.base.specs.Fields.{part}
 use Rattle.base.specs.Disk.{Disk, bytes_of, put, written, IsInRange}
 use Rattle.base.specs.Calls.{Flushes}
-use Rattle.base.specs.Geometry.{IsGeometry, block_area, block_size, block_address, block_count, label_place, config_place, slot_place}
+use Rattle.base.specs.Geometry.{IsGeometry, block_area, block_size, block_address, block_count, label_place, config_place, slot_of, slot_place}
 use Rattle.base.specs.Labels.{Config}
 use Rattle.base.specs.Uberblocks.{Uberblock, IsUberblock}
 use Rattle.base.proofs.Put.{Apart, get_or-put_other, part-put_same, part-put_apart}
 use Rattle.base.proofs.Regions.{flushed_clean}
 use Rattle.labels.specs.Configs.{IsConfigBlock}
 use Rattle.labels.proofs.Places.{labels-apart, label-on_device, blocks-end, IsGeometry-IsSize}
+use Rattle.uberblocks.proofs.Places.{slot_below}
 use Rattle.import_replay.specs.Creations.{first_config}
 use Rattle.import_replay.specs.Cleared.{zeros, IsInTail, IsInConfig, IsInFirstSlot, AreTailsCleared, AreBlocksCleared, IsCleared}
 use Rattle.import_replay.specs.Labelled.{HoldConfig, HoldUberblock}
@@ -180,8 +181,8 @@ module _ (size : ℕ) (is : IsGeometry size) (image : List ℕ) (long : length i
   config_inside : (label : ℕ) → (label_place size label ≤ config_place size label) × (config_place size label + 4096 ≤ label_place size label + 262144)
   config_inside label = (omega arith, omega arith)
 
-  slot_inside : (label : ℕ) → (label_place size label ≤ slot_place size label 4) × (slot_place size label 4 + 1024 ≤ label_place size label + 262144)
-  slot_inside label = (omega arith, omega arith)
+  slot_inside : (slot : ℕ) → slot < 128 → (label : ℕ) → (label_place size label ≤ slot_place size label slot) × (slot_place size label slot + 1024 ≤ label_place size label + 262144)
+  slot_inside slot low label = (omega arith, omega (arith, low))
 
   -- a config in one label more
   pub config_next : (n : ℕ) (block : List ℕ) (config : Config) → n < 4 → length block ≡ 4096 → IsConfigBlock block size config → HoldConfig size n config image
@@ -224,9 +225,9 @@ module _ (size : ℕ) (is : IsGeometry size) (image : List ℕ) (long : length i
 
   -- an uberblock in one label more
   pub uberblock_next : (n : ℕ) (slot : List ℕ) (u : Uberblock) → n < 4 → length slot ≡ 1024 → IsUberblock slot u → HoldUberblock size n u image
-      → HoldUberblock size (n + 1) u (put (slot_place size n 4) slot image)
+      → HoldUberblock size (n + 1) u (put (slot_place size n (slot_of u.group)) slot image)
   uberblock_next n slot u below_4 slot_long holds each =
-      each_next (λ (l : List ℕ). IsUberblock l u) (λ (label : ℕ). slot_place size label 4) 1024 slot_inside n slot below_4 slot_long holds each
+      each_next (λ (l : List ℕ). IsUberblock l u) (λ (label : ℕ). slot_place size label (slot_of u.group)) 1024 (slot_inside (slot_of u.group) (slot_below u.group)) n slot below_4 slot_long holds each
 
   -- which leaves the configs
   pub uberblock_behind : (n : ℕ) (slot : List ℕ) (config : Config) → n < 4 → length slot ≡ 1024 → HoldConfig size 4 config image → HoldConfig size 4 config (put (slot_place size n 4) slot image)
@@ -244,4 +245,4 @@ module _ (size : ℕ) (is : IsGeometry size) (image : List ℕ) (long : length i
   -- and what is cleared
   pub uberblock_beside : (n : ℕ) (slot : List ℕ) → n < 4 → length slot ≡ 1024 → IsCleared size image → IsCleared size (put (slot_place size n 4) slot image)
   uberblock_beside n slot below_4 slot_long =
-      label_beside n (slot_place size n 4) 1024 slot below_4 slot_long (slot_inside n).0 (slot_inside n).1 (λ i not_config not_slot here. not_slot here)
+      label_beside n (slot_place size n 4) 1024 slot below_4 slot_long (slot_inside 4 (omega arith) n).0 (slot_inside 4 (omega arith) n).1 (λ i not_config not_slot here. not_slot here)

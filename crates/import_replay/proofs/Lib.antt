@@ -4,6 +4,10 @@ pub mod FreeBlocks
 pub mod Rings
 pub mod Configs
 pub mod Reasons
+pub mod LabelCalls
 pub mod LabelSyncs
+pub mod SyncedLabels
+pub mod ImportedLabels
+pub mod WrittenImports
 pub mod ByteObjects
 pub mod MountedPools

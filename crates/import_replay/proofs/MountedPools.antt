@@ -11,7 +11,8 @@ use Rattle.base.specs.Exact.{AreFree, IsBounded, IsInLog}
 use Rattle.base.specs.ExactNow.{IsExplainedNow}
 use Rattle.base.specs.Fields.{part}
 use Rattle.base.specs.Geometry.{IsBlockAddress, block_count, block_size}
-use Rattle.base.specs.Imports.{IsFirstLogBlock, IsImported, IsImportOf, is_dirty_max_allowed}
+use Rattle.base.specs.Imports.{IsFirstLogBlock, IsImported, IsImportOf, is_dirty_max_allowed, is_past_last}
+use Rattle.base.specs.Labels.{Config}
 use Rattle.base.specs.Limits.{last_number}
 use Rattle.base.specs.Mount.{HasPool, IsChainOf, IsUsed, Mounts}
 use Rattle.base.specs.Past.{new_past}
@@ -30,7 +31,9 @@ use Rattle.object_maps.specs.declared.contents.Slot.{Slot}
 use Rattle.object_maps.specs.declared.tree.Tree.{Tree}
 use Rattle.object_maps.specs.ContentsShown.{contents_of}
 use Rattle.object_maps.specs.Pointers.{objects_of, pointers_of}
-use Rattle.import_replay.specs.FreeBlocks.{IsNamed}
+use Rattle.import_replay.specs.FreeBlocks.{AreAllNamed, IsNamed}
+use Rattle.import_replay.specs.ImportRefusals.{HasAllBlocks}
+use Rattle.import_replay.specs.Labelled.{HoldLabels}
 use Rattle.import_replay.specs.LabelSyncs.{HasSameBlocks}
 use Rattle.import_replay.specs.Mounts.{IsImport, IsMountedFrom, frame_of_import, shown_of_import}
 use Rattle.import_replay.specs.declared.mounted.Mounted.{Mounted}
@@ -51,6 +54,26 @@ module _ (image : List ℕ) (frame : Frame) (pointers : Place → Pointer) (obje
   tree-of_named some (place, in_range, is) =
       subst (λ (a : ℕ). IsInTree image (pointers Root) a) is
       (told-in_tree image frame pointers objects holds place in_range (λ none. some (sym is ∙ ap (λ (p : Pointer). p.address) none)))
+
+-- where each block of the area is named, the tree has each
+pub all_blocks : (size : ℕ) (u : Uberblock) (tree : Tree) (slots : List Slot) (image : List ℕ) → length image ≡ size → HoldsTree image (frame_at u size) (pointers_of tree) (objects_of slots)
+    → tree.root ≡ u.root → AreAllNamed (pointers_of tree) (block_count size) → HasAllBlocks image u.root
+all_blocks size u tree slots image long held root named address is =
+    let block : IsBlockAddress (block_count size) address = subst (λ n. IsBlockAddress (block_count n) address) long is in
+    subst (λ (p : Pointer). IsInTree image p address) root
+    (tree-of_named image (frame_at u size) (pointers_of tree) (objects_of slots) held address (not_zero (block_count size) address block) (named address block))
+
+-- the numbers of an import that is not past the last
+pub group-within : (group import_number : ℕ) → is_past_last group import_number ≡ false → group + 5 ≤ last_number
+group-within group import_number within = ltb-false last_number (group + 5) (or_parts (nat_lt last_number (group + 5)) (nat_lt last_number (import_number + 1)) within).0
+
+pub import-within : (group import_number : ℕ) → is_past_last group import_number ≡ false → import_number + 1 ≤ last_number
+import-within group import_number within = ltb-false last_number (import_number + 1) (or_parts (nat_lt last_number (group + 5)) (nat_lt last_number (import_number + 1)) within).1
+
+-- the labels of equal fields
+pub labels_same : (size : ℕ) (config other : Config) (u v : Uberblock) (image : List ℕ) → config ≡ other → u ≡ v → HoldLabels size config u image → HoldLabels size other v image
+labels_same size config other u v image same agree held =
+    subst (λ (w : Uberblock). HoldLabels size other w image) agree (subst (λ (c : Config). HoldLabels size c u image) same held)
 
 module _ (size : ℕ) (u : Uberblock) (name : List ℕ) (slots : List Slot) (tree : Tree) (dirty_max : ℕ) (m : Mounted) (from : IsMountedFrom u name slots tree dirty_max m) (sized : m.geometry ≡ size) where
   abbrev shown : Shown
@@ -79,7 +102,7 @@ module _ (size : ℕ) (u : Uberblock) (name : List ℕ) (slots : List Slot) (tre
   }
 
   within_last : u.group + 5 ≤ last_number
-  within_last = ltb-false last_number (u.group + 5) (or_parts (nat_lt last_number (u.group + 5)) (nat_lt last_number (u.import_number + 1)) from.within).0
+  within_last = group-within u.group u.import_number from.within
 
   -- what is shown of it is exact, with the empty past
   pub is_explained : IsBounded (contents_of m.contents) → (created : ℕ) → IsExplainedNow shown (new_past (contents_of m.contents) created dirty_max)

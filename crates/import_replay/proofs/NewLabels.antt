@@ -98,7 +98,7 @@ module _ (image name : List ℕ) (guid moment : ℕ) (is : IsGeometry (length im
   only k other below stands = go (cases_order (slot_of other.group) 4)
     where
       go : (slot_of other.group ≡ 4) ⊎ ((slot_of other.group < 4) ⊎ (4 < slot_of other.group)) → other ≡ u
-      go (inl same) = readings_agree (part image (slot_place (length image) k 4) 1024) other u (subst (λ (s : ℕ). IsUberblock (part image (slot_place (length image) k s) 1024) other) same stands) (labels.2 k below)
+      go (inl same) = readings_agree (part image (slot_place (length image) k 4) 1024) other u (subst (λ (s : ℕ). IsUberblock (part image (slot_place (length image) k s) 1024) other) same stands) (labels.1.1 k below)
       go (inr (inl less)) = absurd (none_elsewhere k other below (λ same. omega (arith, same, less)) stands)
       go (inr (inr more)) = absurd (none_elsewhere k other below (λ same. omega (arith, same, more)) stands)
 
@@ -106,13 +106,13 @@ module _ (image name : List ℕ) (guid moment : ℕ) (is : IsGeometry (length im
   active = record {
     label = 0;
     in_range = omega arith;
-    stands = labels.2 0 (omega arith);
+    stands = labels.1.1 0 (omega arith);
     highest = λ k other below stands. let same : other.group ≡ first_group = ap (λ (v : Uberblock). v.group) (only k other below stands) in omega (arith, same);
     lowest = λ k other below stands. absurd (omega (arith, below));
   }
 
   configs : (label : ℕ) → label < 4 → IsConfig image label guid first_group name
-  configs label below = IsConfigBlock-IsConfig image label (first_config name guid (length image)) (labels.1 label below)
+  configs label below = IsConfigBlock-IsConfig image label (first_config name guid (length image)) (labels.1.0 label below)
 
   chosen : IsChosen image guid first_group first_group name
   chosen = record {
@@ -125,7 +125,7 @@ module _ (image name : List ℕ) (guid moment : ℕ) (is : IsGeometry (length im
   }
 
   new_pool : IsNewPool image name guid moment
-  new_pool = record { configs = configs; uberblocks = labels.2; active = active; cleared = labels.0 }
+  new_pool = record { configs = configs; uberblocks = labels.1.1; active = active; cleared = labels.0 }
 
   abbrev contents : Contents
   contents = record { name = name; objects = map.empty }

@@ -2,48 +2,73 @@
 use Rattle.std.proofs.Common.{◌≡◌, inl, inr, ℕ, List, true, Result, Ok, Err, IfErr, sym, subst}
 use Rattle.std.specs.Prelude.{IsErrAnd}
 use Rattle.base.specs.declared.error.PoolError.{PoolError}
-use Rattle.base.specs.declared.error.PoolError.TheVariants.{NoPool, TooMany}
+use Rattle.base.specs.declared.error.PoolError.TheVariants.{Damaged, NoPool, NoSpace, TooMany}
 use Rattle.base.specs.Imports.{is_past_last}
+use Rattle.base.specs.Mount.{HasNoPool, IsTreeDamaged}
 use Rattle.base.specs.Uberblocks.{Uberblock, IsActive}
 use Rattle.object_maps.specs.Loading.{IsLoadRefusal}
 use Rattle.import_replay.specs.Found.{LacksName, LacksUberblock}
-use Rattle.import_replay.specs.ImportRefusals.{IsFindRefusal, IsOpenRefusal, IsReason}
+use Rattle.import_replay.specs.ImportRefusals.{HasAllBlocks, IsFindRefusal, IsOpenRefusal, IsReason}
 
 -- an error that is passed on
 pub passed_on : {A : Type 0} (r : Result A PoolError) (x : PoolError) (P : PoolError → Type 0) → IsErrAnd r (λ e. e ≡ x) → P x → IfErr r P
 passed_on (Ok a) x P is h = tt
 passed_on (Err e) x P is h = subst P (sym is) h
 
-find_not_many : (before after : ℕ) (e : PoolError) → IsFindRefusal before after e → e ≡ TooMany → ⊥
-find_not_many before after e (inl is) many = cc
-find_not_many before after e (inr (inl is)) many = let f = is.0 in cc
-find_not_many before after e (inr (inr is)) many = cc
+-- a refusal of another kind
+other : (image : List ℕ) (e : PoolError) → (e ≡ NoPool → HasNoPool image) → (e ≡ TooMany → ⊥) → ((kind address : ℕ) → e ≡ Damaged kind address → ⊥) → (e ≡ NoSpace → ⊥) → IsReason image e
+other image e no_pool not_many not_damaged not_full = record {
+  no_pool = no_pool;
+  too_many = λ is. absurd (not_many is);
+  damaged = λ kind address is. absurd (not_damaged kind address is);
+  no_space = λ is. absurd (not_full is);
+}
+
+find_reason : (image : List ℕ) (before after : ℕ) (e : PoolError) → IsFindRefusal before after e → (e ≡ NoPool → HasNoPool image) → IsReason image e
+find_reason image before after e (inl is) none = other image e none (λ f. cc) (λ k a f. cc) (λ f. cc)
+find_reason image before after e (inr (inl (is, grown))) none = other image e none (λ f. cc) (λ k a f. cc) (λ f. cc)
+find_reason image before after e (inr (inr is)) none = other image e none (λ f. cc) (λ k a f. cc) (λ f. cc)
 
 pub reason-uberblock : (image : List ℕ) (before after : ℕ) (e : PoolError) → IsFindRefusal before after e → LacksUberblock image e → IsReason image e
-reason-uberblock image before after e refused none = record {
-  no_pool = λ is. inl (none is);
-  too_many = λ is. absurd (find_not_many before after e refused is);
-}
+reason-uberblock image before after e refused none = find_reason image before after e refused (λ is. inl (none is))
 
 pub reason-name : (image : List ℕ) (u : Uberblock) (before after : ℕ) (e : PoolError) → IsFindRefusal before after e → IsActive image u → LacksName image u.guid u.group e → IsReason image e
-reason-name image u before after e refused active none = record {
-  no_pool = λ is. inr (u, active, none is);
-  too_many = λ is. absurd (find_not_many before after e refused is);
+reason-name image u before after e refused active none = find_reason image before after e refused (λ is. inr (u, active, none is))
+
+-- or the first fault
+maybe_damaged : (image : List ℕ) (e : PoolError) → (e ≡ NoPool → ⊥) → (e ≡ TooMany → ⊥) → (e ≡ NoSpace → ⊥) → ((kind address : ℕ) → e ≡ Damaged kind address → IsTreeDamaged image kind address) → IsReason image e
+maybe_damaged image e not_pool not_many not_full damaged = record {
+  no_pool = λ is. absurd (not_pool is);
+  too_many = λ is. absurd (not_many is);
+  damaged = damaged;
+  no_space = λ is. absurd (not_full is);
 }
 
-neither : (image : List ℕ) (e : PoolError) → (e ≡ NoPool → ⊥) → (e ≡ TooMany → ⊥) → IsReason image e
-neither image e not_pool not_many = record { no_pool = λ is. absurd (not_pool is); too_many = λ is. absurd (not_many is) }
+pub reason-load : (image : List ℕ) (before after : ℕ) (e : PoolError) → IsLoadRefusal before after e → ((kind address : ℕ) → e ≡ Damaged kind address → IsTreeDamaged image kind address) → IsReason image e
+reason-load image before after e (inl is) = maybe_damaged image e (λ f. cc) (λ f. cc) (λ f. cc)
+reason-load image before after e (inr (inl (is, grown))) = maybe_damaged image e (λ f. cc) (λ f. cc) (λ f. cc)
+reason-load image before after e (inr (inr (kind, address, is))) = maybe_damaged image e (λ f. cc) (λ f. cc) (λ f. cc)
 
-pub reason-load : (image : List ℕ) (before after : ℕ) (e : PoolError) → IsLoadRefusal before after e → IsReason image e
-reason-load image before after e (inl is) = neither image e (λ f. cc) (λ f. cc)
-reason-load image before after e (inr (inl is)) = let r = is.0 in neither image e (λ f. cc) (λ f. cc)
-reason-load image before after e (inr (inr is)) = let r = is.2 in neither image e (λ f. cc) (λ f. cc)
+-- or that each block is in the tree
+other_than_full : (image : List ℕ) (u : Uberblock) (e : PoolError) → (e ≡ NoPool → ⊥) → (e ≡ TooMany → ⊥) → ((kind address : ℕ) → e ≡ Damaged kind address → ⊥) → IsActive image u
+    → (e ≡ NoSpace → HasAllBlocks image u.root) → IsReason image e
+other_than_full image u e not_pool not_many not_damaged active full = record {
+  no_pool = λ is. absurd (not_pool is);
+  too_many = λ is. absurd (not_many is);
+  damaged = λ kind address is. absurd (not_damaged kind address is);
+  no_space = λ is. (u, active, full is);
+}
 
-pub reason-open : (image : List ℕ) (before after : ℕ) (e : PoolError) → IsOpenRefusal before after e → IsReason image e
-reason-open image before after e (inl is) = neither image e (λ f. cc) (λ f. cc)
-reason-open image before after e (inr (inl is)) = neither image e (λ f. cc) (λ f. cc)
-reason-open image before after e (inr (inr (inl is, grown))) = neither image e (λ f. cc) (λ f. cc)
-reason-open image before after e (inr (inr (inr is, grown))) = neither image e (λ f. cc) (λ f. cc)
+pub reason-open : (image : List ℕ) (before after : ℕ) (u : Uberblock) (e : PoolError) → IsOpenRefusal before after e → IsActive image u → (e ≡ NoSpace → HasAllBlocks image u.root) → IsReason image e
+reason-open image before after u e (inl is) = other_than_full image u e (λ f. cc) (λ f. cc) (λ k a f. cc)
+reason-open image before after u e (inr (inl is)) = other_than_full image u e (λ f. cc) (λ f. cc) (λ k a f. cc)
+reason-open image before after u e (inr (inr (inl is, grown))) = other_than_full image u e (λ f. cc) (λ f. cc) (λ k a f. cc)
+reason-open image before after u e (inr (inr (inr is, grown))) = other_than_full image u e (λ f. cc) (λ f. cc) (λ k a f. cc)
 
 pub reason-many : (image : List ℕ) (u : Uberblock) → IsActive image u → is_past_last u.group u.import_number ≡ true → IsReason image TooMany
-reason-many image u active past = record { no_pool = λ is. absurd (let f : TooMany ≡ NoPool = is in cc); too_many = λ is. (u, active, past) }
+reason-many image u active past = record {
+  no_pool = λ is. absurd (let f : TooMany ≡ NoPool = is in cc);
+  too_many = λ is. (u, active, past);
+  damaged = λ kind address is. absurd (let f : TooMany ≡ Damaged kind address = is in cc);
+  no_space = λ is. absurd (let f : TooMany ≡ NoSpace = is in cc);
+}

@@ -30,6 +30,10 @@ pub record HasTakenLowest (pointers : Place → Pointer) (blocks address : ℕ) 
   pub not_taken : (other : ℕ) → set.contains free other ≡ true → other ≢ address
   pub others : (other : ℕ) → set.contains free other ≡ false → IsBlockAddress blocks other → IsNamed pointers other ⊎ (other ≡ address)
 
+-- each block is named
+abbrev pub AreAllNamed : (Place → Pointer) → ℕ → Type 0
+AreAllNamed pointers blocks = (address : ℕ) → IsBlockAddress blocks address → IsNamed pointers address
+
 -- whether a pointer names the k-th block
 abbrev pub names_block : ℕ → Pointer → Bool
 names_block k pointer = pointer.address == block_address k

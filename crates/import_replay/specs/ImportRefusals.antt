@@ -1,10 +1,12 @@
 -- When an import is refused.
-use Rattle.std.specs.Prelude.{ℕ, ⊤, ◌≡◌, ◌-◌, ◌^◌, ◌<◌, ◌⊎◌, true, false, List}
+use Rattle.std.specs.Prelude.{ℕ, ⊤, ◌≡◌, ◌-◌, ◌^◌, ◌<◌, ◌⊎◌, true, false, List, length}
 use Rattle.base.specs.declared.error.PoolError.{PoolError}
 use Rattle.base.specs.declared.error.PoolError.TheVariants.{NoMemory, Read, Write, Flush, Suspended, NoPool, Damaged, BadGeometry, NoObject, Exists, BadRange, OutOfPlan, NotLocked, Busy, LockInUse, NoSpace, Throttled, TooLarge, NoSuchTransaction, NotReady, NoSuchLock, TooMany, NoLogSpace}
-use Rattle.base.specs.Geometry.{IsGeometry}
+use Rattle.base.specs.declared.pointer.Pointer.{Pointer}
+use Rattle.base.specs.Geometry.{IsBlockAddress, IsGeometry, block_count}
+use Rattle.base.specs.Places.{IsInTree}
 use Rattle.base.specs.Uberblocks.{Uberblock, IsActive}
-use Rattle.base.specs.Mount.{HasNoPool}
+use Rattle.base.specs.Mount.{HasNoPool, IsTreeDamaged}
 use Rattle.base.specs.Imports.{is_dirty_max_allowed, is_past_last}
 
 -- an import of a device of so many bytes with this limit may begin
@@ -59,7 +61,14 @@ IsImportRefusal size dirty_max before after BadGeometry = (IsGeometry size → �
 IsImportRefusal size dirty_max before after BadRange = IsGeometry size × (is_dirty_max_allowed dirty_max ≡ false) × (after ≡ before)
 IsImportRefusal size dirty_max before after e = CanImport size dirty_max × IsMountRefusal before after e
 
--- what a refusal says of the image: that there is no pool, or that the numbers of its active uberblock would pass the last one
+-- each block of the image's area is in the tree under this root
+abbrev pub HasAllBlocks : List ℕ → Pointer → Type 0
+HasAllBlocks image root = (address : ℕ) → IsBlockAddress (block_count (length image)) address → IsInTree image root address
+
+-- What a refusal says of the image: that there is no pool, that the numbers of its active uberblock would pass the last one, that
+-- this is the first fault of the active tree, or that the active tree has each block.
 pub record IsReason (image : List ℕ) (e : PoolError) : Type 0 where
   pub no_pool : e ≡ NoPool → HasNoPool image
   pub too_many : e ≡ TooMany → (u : Uberblock) × IsActive image u × (is_past_last u.group u.import_number ≡ true)
+  pub damaged : (kind address : ℕ) → e ≡ Damaged kind address → IsTreeDamaged image kind address
+  pub no_space : e ≡ NoSpace → (u : Uberblock) × IsActive image u × HasAllBlocks image u.root

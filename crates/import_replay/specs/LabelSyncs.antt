@@ -1,8 +1,16 @@
 -- What the sync of an import writes.
-use Rattle.std.specs.Prelude.{ℕ, ◌≡◌, ◌<◌, List, [], IfSome, length}
+use Rattle.std.specs.Prelude.{ℕ, ◌≡◌, ◌<◌, Bool, true, false, List, [], ◌∷◌, Some, length}
+use Rattle.base.specs.Disk.{Disk, bytes_of, certain, written}
 use Rattle.base.specs.Fields.{part}
-use Rattle.base.specs.Geometry.{block_address, block_count, block_size}
-use Rattle.sync.specs.declared.run.LabelStages.{LabelStages}
+use Rattle.base.specs.Geometry.{block_address, block_count, block_size, config_place, slot_of, slot_place}
+use Rattle.base.specs.Labels.{Config}
+use Rattle.base.specs.SyncOrder.{DeviceCall}
+use Rattle.base.specs.SyncOrder.DeviceCall.{Block, Config as ConfigCall, Uberblock as UberblockCall, Flush}
+use Rattle.base.specs.Uberblocks.{Uberblock, IsUberblock}
+use Rattle.labels.specs.Configs.{IsConfigBlock, config_block}
+use Rattle.labels.specs.declared.stage.Stage.{Stage}
+use Rattle.labels.specs.declared.stage.Stage.TheVariants.{Even, Odd}
+use Rattle.uberblocks.specs.Slots.{slot_bytes}
 use Rattle.sync.specs.declared.run.SyncRun.{SyncRun}
 
 -- the bytes after are as many as before, and each block is the same
@@ -10,10 +18,29 @@ pub record HasSameBlocks (size : ℕ) (before after : List ℕ) : Type 0 where
   pub length_is : length after ≡ length before
   pub each : (k : ℕ) → k < block_count size → part after (block_address k) block_size ≡ part before (block_address k) block_size
 
--- a sync of the labels alone
-pub record IsLabelSync (size : ℕ) (run : SyncRun) : Type 0 where
+-- whether a stage is that of the even labels
+abbrev pub is_even : Stage → Bool
+is_even Even = true
+is_even Odd = false
+
+-- the disk after a good call of a sync that writes this config and this uberblock into the labels; it has no blocks to write
+abbrev pub after_call : (size : ℕ) → Config → Uberblock → DeviceCall → Disk → Disk
+after_call size config u (Block k) disk = disk
+after_call size config u (ConfigCall label) disk = written (config_place size label) (config_block config) true disk
+after_call size config u (UberblockCall label) disk = written (slot_place size label (slot_of u.group)) (slot_bytes u) true disk
+after_call size config u Flush disk = certain (bytes_of disk.now) disk
+
+-- the disk after these calls, the first of them first
+abbrev pub after_calls : (size : ℕ) → Config → Uberblock → List DeviceCall → Disk → Disk
+after_calls size config u [] disk = disk
+after_calls size config u (call ∷ calls) disk = after_calls size config u calls (after_call size config u call disk)
+
+-- a sync of the labels alone, which writes this config and this uberblock, this stage first
+pub record IsLabelSync (size : ℕ) (config : Config) (u : Uberblock) (first : Stage) (run : SyncRun) : Type 0 where
   pub geometry : run.geometry ≡ size
   pub blocks : run.blocks.items ≡ []
-  pub uberblock : length run.uberblock ≡ 1024
-  pub slot : run.slot < 128
-  pub config : IfSome run.stages (λ (s : LabelStages). length s.config ≡ 4096)
+  pub uberblock : run.uberblock ≡ slot_bytes u
+  pub slot : run.slot ≡ slot_of u.group
+  pub stages : run.stages ≡ Some (record { config = config_block config; first = first })
+  pub is_uberblock : IsUberblock (slot_bytes u) u
+  pub is_config : IsConfigBlock (config_block config) size config

@@ -6,4 +6,5 @@ pub mod Found
 pub mod FreeBlocks
 pub mod ImportRefusals
 pub mod LabelSyncs
+pub mod ImportSyncs
 pub mod Mounts

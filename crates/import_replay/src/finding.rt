@@ -11,7 +11,8 @@ ghost use Rattle.base.specs.Uberblocks.{IsActive};
 ghost use Rattle.uberblocks.specs.Slots.{IsWithinLimits, fields_of};
 ghost use Rattle.labels.specs.Choices.{AreRead, IsRead};
 ghost use Rattle.import_replay.specs.ImportRefusals.{IsFindRefusal, IsReason};
-ghost use Rattle.import_replay.specs.Found.{HasChosen, HasName, LacksName, LacksUberblock};
+ghost use Rattle.import_replay.specs.Found.{HasChosen, HasChosenFirst, HasFirstStage, HasName, LacksName, LacksUberblock};
+ghost use Rattle.import_replay.specs.LabelSyncs.{is_even};
 
 use base::{PoolError, PoolName};
 use device_model::SectorDevice;
@@ -46,6 +47,8 @@ pub(crate) fn find_pool<D: SectorDevice>(
     ensures limits { IfOk result (λ f. IsWithinLimits (fields_of f.uberblock)) }
     ensures pool { IsTrue D.keeps_model → IfOk result
         (λ f. HasPool (bytes_of (D.disk device.old).now) (fields_of f.uberblock) f.name) }
+    ensures first { IsTrue D.keeps_model → IfOk result
+        (λ f. HasFirstStage (bytes_of (D.disk device.old).now) f.uberblock.guid f.uberblock.group.0 f.name (is_even f.first)) }
     ensures reason { IsTrue D.keeps_model → IfErr result (IsReason (bytes_of (D.disk device.old).now)) }
 {
     let uberblock = read_uberblock(alloc, device, geometry)?;
@@ -125,6 +128,8 @@ fn read_name<D: SectorDevice>(
     ensures refused { IfErr result (IsFindRefusal (D.refused device.old) (D.refused device.new)) }
     ensures name { IsTrue D.keeps_model → IfOk result
         (λ r. HasName (bytes_of (D.disk device.old).now) uberblock.now.guid uberblock.now.group.0 r.0) }
+    ensures first { IsTrue D.keeps_model → IfOk result
+        (λ r. HasFirstStage (bytes_of (D.disk device.old).now) uberblock.now.guid uberblock.now.group.0 r.0 (is_even r.1)) }
     ensures none { IsTrue D.keeps_model → IfErr result
         (LacksName (bytes_of (D.disk device.old).now) uberblock.now.guid uberblock.now.group.0) }
 {
@@ -138,6 +143,8 @@ fn choose_name(
     uberblock: &Uberblock,
 ) -> Result<(PoolName, Stage), PoolError>
     ensures name { IfOk result (λ r. HasChosen configs.now uberblock.now.guid uberblock.now.group.0 r.0) }
+    ensures first { IfOk result
+        (λ r. HasChosenFirst configs.now uberblock.now.guid uberblock.now.group.0 r.0 (is_even r.1)) }
     ensures none { IfErr result (λ e. e ≡ PoolError.NoPool
         → HasNoCandidate configs.now uberblock.now.guid uberblock.now.group.0) }
     ensures refused { IfErr result (λ e. (e ≡ PoolError.NoMemory) ⊎ (e ≡ PoolError.NoPool)) }

@@ -7,7 +7,7 @@ ghost use Rattle.base.specs.Places.{Place};
 ghost use Rattle.base.specs.declared.pointer.Pointer.{Pointer};
 ghost use Rattle.object_maps.specs.Pointers.{pointers_of};
 ghost use Rattle.space.specs.FreeSets.{free_of};
-ghost use Rattle.import_replay.specs.FreeBlocks.{AreUnnamed, FlagsTaken, HasTakenLowest, map_names, names_block};
+ghost use Rattle.import_replay.specs.FreeBlocks.{AreAllNamed, AreUnnamed, FlagsTaken, HasTakenLowest, map_names, names_block};
 
 use base::{POINTER_COUNT, Pointer, PoolError};
 use labels::Geometry;
@@ -76,6 +76,9 @@ pub(crate) fn take_lowest(free: &mut FreeSet) -> Result<usize, PoolError>
     ensures taken { IfOk result (λ block. (pointers : Place → Pointer)
         → AreUnnamed pointers (vec_len free.old.flags) (free_of free.old.flags.items)
         → HasTakenLowest pointers (vec_len free.old.flags) (block_address block) (free_of free.new.flags.items)) }
+    ensures full { IfErr result (λ e. (pointers : Place → Pointer)
+        → AreUnnamed pointers (vec_len free.old.flags) (free_of free.old.flags.items)
+        → AreAllNamed pointers (vec_len free.old.flags)) }
     ensures refused { IfErr result (λ e. e ≡ PoolError.NoSpace) }
 {
     match free.next_from(0) {

@@ -12,6 +12,7 @@ ghost use Rattle.base.specs.Limits.{max_length, object_count};
 ghost use Rattle.base.specs.Mount.{IsChainOf};
 ghost use Rattle.base.specs.Past.{new_past};
 ghost use Rattle.base.specs.PlacedTrees.{ArePlaced, HoldsTree};
+ghost use Rattle.base.specs.SyncOrder.{import_calls};
 ghost use Rattle.base.specs.Uberblocks as image;
 ghost use Rattle.base.specs.Uberblocks.{IsActive};
 ghost use Rattle.uberblocks.specs.Slots.{IsWithinLimits, fields_of};
@@ -19,7 +20,10 @@ ghost use Rattle.object_maps.specs.ContentsShown.{contents_of};
 ghost use Rattle.object_maps.specs.Loading.{IsLoadRefusal, frame_of};
 ghost use Rattle.object_maps.specs.Pointers.{objects_of, pointers_of};
 ghost use Rattle.import_replay.specs.ImportRefusals.{CanImport, IsImportRefusal, IsMountRefusal, IsOpenRefusal, IsReason};
-ghost use Rattle.import_replay.specs.LabelSyncs.{HasSameBlocks};
+ghost use Rattle.import_replay.specs.FreeBlocks.{AreAllNamed};
+ghost use Rattle.import_replay.specs.ImportSyncs.{IsImportLabelled, IsImportSynced, IsImportWritten, config_of_import, uberblock_of_import};
+ghost use Rattle.import_replay.specs.Labelled.{HasOtherSlots};
+ghost use Rattle.import_replay.specs.LabelSyncs.{HasSameBlocks, after_calls, is_even};
 ghost use Rattle.import_replay.specs.Mounts.{IsImport, IsMountedFrom, frame_of_import, shown_of_import};
 
 use crate::bounds::see_bytes;
@@ -61,6 +65,14 @@ pub fn import<D: SectorDevice>(
         (λ i. HoldsTree (bytes_of (D.disk i.device).now) (frame_of_import i.mounted) (pointers_of i.mounted.tree)
         (contents_of i.mounted.contents).objects) }
 
+    // It makes just its calls, in their order. Then each label has its config and its uberblock, which is certain and active.
+    ensures synced { IsTrue D.keeps_model
+        → IfOk result (λ i. IsImportSynced (D.disk device) (D.disk i.device) moment i.mounted) }
+    ensures labelled { IsTrue D.keeps_model → IfOk result (λ i. IsImportLabelled (D.disk i.device) moment i.mounted) }
+    ensures settled { IsTrue D.keeps_model → IfOk result (λ i. (D.disk i.device).now.unflushed ≡ []) }
+    ensures active { IsTrue D.keeps_model
+        → IfOk result (λ i. IsActive (bytes_of (D.disk i.device).now) (uberblock_of_import moment i.mounted)) }
+
     // On each device what is shown of it is exact, with a past in which nothing happened.
     ensures explained { IfOk result (λ i. (created : ℕ) → IsExplainedNow (shown_of_import i.mounted)
         (new_past (contents_of i.mounted.contents) created dirty_max)) }
@@ -99,6 +111,8 @@ fn mount<D: SectorDevice>(
     ensures bounded { IfOk result (λ m. IsBounded (contents_of m.contents)) }
     ensures imported { IsTrue D.keeps_model → IfOk result
         (IsImport (bytes_of (D.disk device.old).now) (bytes_of (D.disk device.new).now) dirty_max) }
+    ensures written { IsTrue D.keeps_model
+        → IfOk result (IsImportWritten (D.disk device.old) (D.disk device.new) moment) }
 {
     let geometry = Geometry::of(device.sectors())?;
     if dirty_max < LEAST_DIRTY_MAX || GREATEST_DIRTY_MAX < dirty_max {
@@ -128,6 +142,8 @@ fn mount_pool<D: SectorDevice>(
     ensures bounded { IfOk result (λ m. IsBounded (contents_of m.contents)) }
     ensures imported { IsTrue D.keeps_model → IfOk result
         (IsImport (bytes_of (D.disk device.old).now) (bytes_of (D.disk device.new).now) dirty_max) }
+    ensures written { IsTrue D.keeps_model
+        → IfOk result (IsImportWritten (D.disk device.old) (D.disk device.new) moment) }
 {
     device.flush()?;
     let found = find_pool(alloc, device, geometry)?;
@@ -169,6 +185,7 @@ fn open_pool<D: SectorDevice>(
     requires limits { IsWithinLimits (fields_of found.uberblock) }
     requires within { numbers.is_past_last found.uberblock.group.0 found.uberblock.import_number ≡ false }
     requires placed { ArePlaced (block_count geometry) (pointers_of loaded.tree) }
+    requires root { loaded.tree.root ≡ found.uberblock.root }
     ensures size { D.size device.new ≡ D.size device.old }
     ensures geometry { IfOk result (λ m. m.geometry ≡ geometry) }
     ensures count { OnOk result (D.refused device.new ≡ D.refused device.old) }
@@ -177,6 +194,14 @@ fn open_pool<D: SectorDevice>(
         (IsMountedFrom (fields_of found.uberblock) found.name loaded.slots.items loaded.tree dirty_max) }
     ensures kept { IsTrue D.keeps_model
         → OnOk result (HasSameBlocks geometry (bytes_of (D.disk device.old).now) (bytes_of (D.disk device.new).now)) }
+    ensures full { IfErr result (λ e. e ≡ PoolError.NoSpace
+        → AreAllNamed (pointers_of loaded.tree) (block_count geometry)) }
+    ensures synced { IsTrue D.keeps_model → IfOk result (λ m. D.disk device.new ≡ after_calls geometry
+        (config_of_import m) (uberblock_of_import moment m) (import_calls 0 (is_even found.first)) (D.disk device.old)) }
+    ensures labelled { IsTrue D.keeps_model → IfOk result (IsImportLabelled (D.disk device.new) moment) }
+    ensures others { IsTrue D.keeps_model → OnOk result (HasOtherSlots geometry (found.uberblock.group.0 + 4)
+        (bytes_of (D.disk device.old).now) (bytes_of (D.disk device.new).now)) }
+    ensures settled { IsTrue D.keeps_model → OnOk result ((D.disk device.new).now.unflushed ≡ []) }
 {
     let mut free = free_set(alloc, geometry, &loaded.tree)?;
     let log_block = take_lowest(&mut free)?;

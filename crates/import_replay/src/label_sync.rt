@@ -1,12 +1,14 @@
 //! The sync of an import.
 
-ghost use Rattle.std.specs.Prelude.{◌≡◌, ◌<◌, IfErr, IsTrue, OnOk};
+ghost use Rattle.std.specs.Prelude.{◌≡◌, ◌<◌, [], IfErr, IsTrue, OnOk};
 ghost use Rattle.base.specs.Disk.{bytes_of};
 ghost use Rattle.base.specs.Geometry.{IsGeometry};
+ghost use Rattle.base.specs.SyncOrder.{import_calls};
 ghost use Rattle.sync.specs.Runs.{call_count};
 ghost use Rattle.uberblocks.specs.Slots.{IsWithinLimits, fields_of};
 ghost use Rattle.import_replay.specs.ImportRefusals.{IsSyncRefusal};
-ghost use Rattle.import_replay.specs.LabelSyncs.{HasSameBlocks, IsLabelSync};
+ghost use Rattle.import_replay.specs.Labelled.{HasOtherSlots, HoldLabels};
+ghost use Rattle.import_replay.specs.LabelSyncs.{HasSameBlocks, IsLabelSync, after_calls, is_even};
 
 use base::PoolError;
 use device_model::SectorDevice;
@@ -27,11 +29,19 @@ pub(crate) fn sync_labels<D: SectorDevice>(
     requires sized { D.size device.old ≡ geometry }
     requires geometry { IsGeometry geometry }
     requires limits { IsWithinLimits (fields_of uberblock.now) }
+    requires config { config.now.size ≡ geometry }
     ensures size { D.size device.new ≡ D.size device.old }
     ensures count { OnOk result (D.refused device.new ≡ D.refused device.old) }
     ensures refused { IfErr result (IsSyncRefusal (D.refused device.old) (D.refused device.new)) }
     ensures kept { IsTrue D.keeps_model
         → OnOk result (HasSameBlocks geometry (bytes_of (D.disk device.old).now) (bytes_of (D.disk device.new).now)) }
+    ensures synced { IsTrue D.keeps_model → OnOk result (D.disk device.new
+        ≡ after_calls geometry config.now (fields_of uberblock.now) (import_calls 0 (is_even first)) (D.disk device.old)) }
+    ensures labelled { IsTrue D.keeps_model
+        → OnOk result (HoldLabels geometry config.now (fields_of uberblock.now) (bytes_of (D.disk device.new).now)) }
+    ensures others { IsTrue D.keeps_model → OnOk result (HasOtherSlots geometry uberblock.now.group.0
+        (bytes_of (D.disk device.old).now) (bytes_of (D.disk device.new).now)) }
+    ensures settled { IsTrue D.keeps_model → OnOk result ((D.disk device.new).now.unflushed ≡ []) }
 {
     let mut run = label_run(alloc, geometry, uberblock, config, first);
     while !run.next(device)? {}
@@ -45,9 +55,11 @@ fn label_run(
     config: &LabelConfig,
     first: Stage,
 ) -> SyncRun
-    requires { IsWithinLimits (fields_of uberblock.now) }
-    ensures sync { IsLabelSync geometry result }
+    requires limits { IsWithinLimits (fields_of uberblock.now) }
+    requires config { config.now.size ≡ geometry }
+    ensures sync { IsLabelSync geometry config.now (fields_of uberblock.now) first result }
     ensures left { result.done < call_count result }
+    ensures none { result.done ≡ 0 }
 {
     SyncRun {
         geometry,

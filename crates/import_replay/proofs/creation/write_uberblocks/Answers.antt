@@ -30,6 +30,8 @@ pub returns-clause-labels : goal.returns-clause-labels
 returns-clause-labels g c = λ keeps cleared name held.
     let end : c.loop-label.label ≡ 4 = omega arith in (
       c.loop-label.invariant.cleared keeps cleared,
-      c.loop-label.invariant.configs keeps name held,
-      subst (λ (n : ℕ). HoldUberblock c.args.geometry n (first_uberblock c.args.guid c.args.moment) (bytes_of (g.D.SectorDevice.disk c.loop-label.device).now)) end (c.loop-label.invariant.uberblocks keeps),
+      (
+        c.loop-label.invariant.configs keeps name held,
+        subst (λ (n : ℕ). HoldUberblock c.args.geometry n (first_uberblock c.args.guid c.args.moment) (bytes_of (g.D.SectorDevice.disk c.loop-label.device).now)) end (c.loop-label.invariant.uberblocks keeps),
+      ),
     )

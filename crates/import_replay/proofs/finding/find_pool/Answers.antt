@@ -2,8 +2,9 @@ use Rattle.std.proofs.Common.{◌≡◌, ℕ, List, length, sym, subst, ◌∙�
 use Rattle.base.specs.Disk.{Disk, bytes_of}
 use Rattle.base.specs.Geometry.{IsGeometry}
 use Rattle.uberblocks.specs.Slots.{fields_of}
-use Rattle.import_replay.specs.Found.{HasName, LacksName}
+use Rattle.import_replay.specs.Found.{HasFirstStage, HasName, LacksName}
 use Rattle.import_replay.specs.ImportRefusals.{IsReason}
+use Rattle.import_replay.specs.LabelSyncs.{is_even}
 use Rattle.import_replay.proofs.Reasons.{passed_on, reason-uberblock, reason-name}
 use Rattle.import_replay.proofs.finding.find_pool.Goals as goal
 
@@ -36,3 +37,8 @@ returns-clause-pool g c = λ keeps.
       config_group = name.0;
       chosen = name.1;
     }
+
+pub returns-clause-first : goal.returns-clause-first
+returns-clause-first g c = λ keeps.
+    let u = c.in_ok-uberblock.uberblock in
+    subst (λ (d : Disk). HasFirstStage (bytes_of d.now) u.guid u.group.0 c.in_ok-name.name (is_even c.in_ok-name.first)) (c.read_uberblock.ensures.disk keeps) (c.in_ok-name.ensures.first keeps)

@@ -1,4 +1,4 @@
-use Rattle.std.proofs.Common.{◌≡◌, ℕ, List, length, sym, subst, ap, ◌∙◌, true}
+use Rattle.std.proofs.Common.{◌≡◌, ℕ, Bool, List, length, sym, subst, ap, ◌∙◌, true}
 use Rattle.std.specs.Prelude.{IfSome, nat_lt}
 use Rattle.std.specs.List.{list_all}
 use Rattle.std.specs.FinMap as finite
@@ -7,6 +7,7 @@ use Rattle.base.specs.Names.{IsName}
 use Rattle.object_maps.specs.Loading.{frame_of}
 use Rattle.base.specs.Disk.{Disk, bytes_of}
 use Rattle.base.specs.Exact.{IsBounded}
+use Rattle.base.specs.Faults.{IsFirstFault}
 use Rattle.base.specs.Mount.{HasPool}
 use Rattle.base.specs.PlacedTrees.{HoldsTree}
 use Rattle.base.proofs.Regions.{flushed_clean}
@@ -20,9 +21,13 @@ use Rattle.import_replay.specs.declared.mounted.Mounted.{Mounted}
 use Rattle.import_replay.specs.LabelSyncs.{HasSameBlocks}
 use Rattle.import_replay.specs.Mounts.{IsMountedFrom}
 use Rattle.import_replay.proofs.ByteObjects.{is_bounded}
-use Rattle.import_replay.proofs.Configs.{ok_weaker, ok_both, ok_on}
-use Rattle.import_replay.proofs.MountedPools.{frame_at, is_explained, is_import}
-use Rattle.import_replay.proofs.Reasons.{reason-many}
+use Rattle.import_replay.specs.Found.{HasFirstStage}
+use Rattle.import_replay.specs.ImportRefusals.{IsReason}
+use Rattle.import_replay.specs.LabelSyncs.{is_even}
+use Rattle.import_replay.proofs.Configs.{err_both, err_weaker, ok_weaker, ok_both, ok_on}
+use Rattle.import_replay.proofs.MountedPools.{all_blocks, frame_at, is_explained, is_import}
+use Rattle.import_replay.proofs.Reasons.{passed_on, reason-load, reason-many, reason-open}
+use Rattle.import_replay.proofs.WrittenImports.{ok_written}
 use Rattle.import_replay.proofs.imported.mount_pool.Goals as goal
 
 pub returns-then-is_past_last-clause-reason : goal.returns-then-is_past_last-clause-reason
@@ -84,3 +89,70 @@ returns-clause-imported g c = λ keeps.
     (λ (m : Mounted). HasSameBlocks size (bytes_of (g.D.SectorDevice.disk c.load.new.device).now) now) sized (ok_on c.open_pool.result _ (c.open_pool.ensures.kept keeps)) in
     ok_weaker c.open_pool.result _ _ (λ m h. is_import size u name slots tree dirty_max m h.0.0 h.0.1 image now long pool c.in_ok-loaded.ensures.root c.requires.limit held
     (subst (λ (b : List ℕ). HasSameBlocks size b now) loaded h.1)) all
+
+pub returns-in_err-loaded-clause-reason : goal.returns-in_err-loaded-clause-reason
+returns-in_err-loaded-clause-reason g c = λ keeps.
+    let image : List ℕ = bytes_of (g.D.SectorDevice.disk c.args.device.now).now in
+    let u : Uberblock = fields_of c.in_ok-found.found.uberblock in
+    let name : List ℕ = c.in_ok-found.found.name in
+    let size : ℕ = c.args.geometry in
+    let x = c.in_err-loaded.field-0.0 in
+    let long : length image ≡ size = g.met.D.SectorDevice.sized keeps c.args.device.now ∙ c.requires.sized in
+    let flushed : bytes_of (g.D.SectorDevice.disk c.flush.new.self).now ≡ image =
+    (flushed_clean (g.D.SectorDevice.disk c.args.device.now) (g.D.SectorDevice.disk c.flush.new.self) (c.in_ok-flush.ensures.disk keeps)).1 in
+    let found : bytes_of (g.D.SectorDevice.disk c.find_pool.new.device).now ≡ image = ap (λ (d : Disk). bytes_of d.now) (c.find_pool.ensures.disk keeps) ∙ flushed in
+    let pool : HasPool image u name = subst (λ (b : List ℕ). HasPool b u name) flushed (c.in_ok-found.ensures.pool keeps) in
+    passed_on c.from_residual-in_err-loaded.result x (IsReason image) c.from_residual-in_err-loaded.ensures.1
+    (reason-load image _ _ x c.in_err-loaded.ensures.cause (λ kind address is. record {
+      u = u;
+      name = name;
+      pool = pool;
+      fault = subst (λ (n : ℕ). IsFirstFault image (frame_at u n) u.root kind address) (sym long)
+          (subst (λ (b : List ℕ). IsFirstFault b (frame_at u size) u.root kind address) found
+          (subst (λ (f : Frame). IsFirstFault (bytes_of (g.D.SectorDevice.disk c.find_pool.new.device).now) (frame_of f size) u.root kind address) c.new-frame.ensures
+          (c.in_err-loaded.ensures.fault keeps kind address is)));
+    }))
+
+pub returns-clause-reason : goal.returns-clause-reason
+returns-clause-reason g c = λ keeps.
+    let image : List ℕ = bytes_of (g.D.SectorDevice.disk c.args.device.now).now in
+    let u : Uberblock = fields_of c.in_ok-found.found.uberblock in
+    let name : List ℕ = c.in_ok-found.found.name in
+    let slots : List Slot = c.in_ok-loaded.loaded.slots.items in
+    let tree : Tree = c.in_ok-loaded.loaded.tree in
+    let size : ℕ = c.args.geometry in
+    let long : length image ≡ size = g.met.D.SectorDevice.sized keeps c.args.device.now ∙ c.requires.sized in
+    let flushed : bytes_of (g.D.SectorDevice.disk c.flush.new.self).now ≡ image =
+    (flushed_clean (g.D.SectorDevice.disk c.args.device.now) (g.D.SectorDevice.disk c.flush.new.self) (c.in_ok-flush.ensures.disk keeps)).1 in
+    let found : bytes_of (g.D.SectorDevice.disk c.find_pool.new.device).now ≡ image = ap (λ (d : Disk). bytes_of d.now) (c.find_pool.ensures.disk keeps) ∙ flushed in
+    let pool : HasPool image u name = subst (λ (b : List ℕ). HasPool b u name) flushed (c.in_ok-found.ensures.pool keeps) in
+    let held : HoldsTree image (frame_at u size) (pointers_of tree) (objects_of slots) =
+    subst (λ (b : List ℕ). HoldsTree b (frame_at u size) (pointers_of tree) (objects_of slots)) found
+    (subst (λ (f : Frame). HoldsTree (bytes_of (g.D.SectorDevice.disk c.find_pool.new.device).now) (frame_of f size) (pointers_of tree) (objects_of slots)) c.new-frame.ensures
+    (c.in_ok-loaded.ensures.held keeps)) in
+    err_weaker c.open_pool.result _ (IsReason image)
+    (λ e h. reason-open image _ _ u e h.0 pool.active (λ is. all_blocks size u tree slots image long held c.in_ok-loaded.ensures.root (h.1 is)))
+    (err_both c.open_pool.result _ _ c.open_pool.ensures.refused c.open_pool.ensures.full)
+
+pub returns-clause-written : goal.returns-clause-written
+returns-clause-written g c = λ keeps.
+    let old = g.D.SectorDevice.disk c.args.device.now in
+    let mid = g.D.SectorDevice.disk c.flush.new.self in
+    let before = g.D.SectorDevice.disk c.load.new.device in
+    let new = g.D.SectorDevice.disk c.open_pool.new.device in
+    let u : Uberblock = fields_of c.in_ok-found.found.uberblock in
+    let name : List ℕ = c.in_ok-found.found.name in
+    let slots : List Slot = c.in_ok-loaded.loaded.slots.items in
+    let tree : Tree = c.in_ok-loaded.loaded.tree in
+    let size : ℕ = c.args.geometry in
+    let even : Bool = is_even c.in_ok-found.found.first in
+    let long : length (bytes_of old.now) ≡ size = g.met.D.SectorDevice.sized keeps c.args.device.now ∙ c.requires.sized in
+    let same_long : length (bytes_of new.now) ≡ size =
+    g.met.D.SectorDevice.sized keeps c.open_pool.new.device ∙ c.open_pool.ensures.size ∙ c.load.ensures.size ∙ c.find_pool.ensures.size ∙ c.flush.ensures.size ∙ c.requires.sized in
+    let flushes = c.in_ok-flush.ensures.disk keeps in
+    let flushed : bytes_of mid.now ≡ bytes_of old.now = (flushed_clean old mid flushes).1 in
+    let same : before ≡ mid = c.load.ensures.disk keeps ∙ c.find_pool.ensures.disk keeps in
+    let pool : HasPool (bytes_of old.now) u name = subst (λ (b : List ℕ). HasPool b u name) flushed (c.in_ok-found.ensures.pool keeps) in
+    let first : HasFirstStage (bytes_of old.now) u.guid u.group name even = subst (λ (b : List ℕ). HasFirstStage b u.guid u.group name even) flushed (c.in_ok-found.ensures.first keeps) in
+    ok_written old before mid new size u name slots tree c.args.dirty_max c.args.moment even c.open_pool.result same flushes long same_long pool.active first c.in_ok-loaded.ensures.root
+    c.open_pool.ensures.mounted c.open_pool.ensures.geometry (c.open_pool.ensures.synced keeps) (c.open_pool.ensures.labelled keeps) (c.open_pool.ensures.others keeps) (c.open_pool.ensures.settled keeps)

@@ -1,11 +1,17 @@
-use Rattle.std.proofs.Common.{refl, sym, subst, ℕ}
+use Rattle.std.proofs.Common.{◌≡◌, ◌+◌, ◌∙◌, refl, sym, subst, ℕ, vec_len, arith}
 use Rattle.std.specs.Ordering.{nat_cmp}
 use Rattle.std.specs.FinSet.{FinSet}
 use Rattle.object_maps.specs.declared.tree.Tree.{Tree}
 use Rattle.base.specs.Geometry.{block_address, block_count}
+use Rattle.base.specs.Labels.{Config}
+use Rattle.base.specs.Uberblocks.{Uberblock}
+use Rattle.base.specs.declared.error.PoolError.{PoolError}
+use Rattle.base.specs.declared.error.PoolError.TheVariants.{NoSpace}
 use Rattle.object_maps.specs.Pointers.{pointers_of}
 use Rattle.space.specs.FreeSets.{free_of}
-use Rattle.import_replay.specs.FreeBlocks.{AreUnnamed, HasTakenLowest}
+use Rattle.import_replay.specs.FreeBlocks.{AreAllNamed, AreUnnamed, HasTakenLowest}
+use Rattle.import_replay.proofs.MountedPools.{group-within, import-within, labels_same}
+use Rattle.import_replay.proofs.Reasons.{passed_on}
 use Rattle.import_replay.proofs.imported.open_pool.Goals as goal
 
 pub invariant_of-result-2-clause-tree_placed : goal.invariant_of-result-2-clause-tree_placed
@@ -30,3 +36,40 @@ returns-clause-mounted g c =
       limit = refl;
       log = subst (λ (a : ℕ). HasTakenLowest (pointers_of tree) (block_count c.args.geometry) a (free_of c.take_lowest.new.free.flags.items)) (sym c.block_address.ensures.address) taken;
     }
+
+pub returns-in_err-log_block-clause-full : goal.returns-in_err-log_block-clause-full
+returns-in_err-log_block-clause-full g c =
+    let tree : Tree = c.args.loaded.tree in
+    let size : ℕ = block_count c.args.geometry in
+    let count : vec_len c.in_ok-free.free.flags ≡ size = c.in_ok-free.ensures.count in
+    let free : FinSet nat_cmp = free_of c.in_ok-free.free.flags.items in
+    let were : AreUnnamed (pointers_of tree) (vec_len c.in_ok-free.free.flags) free = subst (λ (n : ℕ). AreUnnamed (pointers_of tree) n free) (sym count) c.in_ok-free.ensures.free in
+    let named : AreAllNamed (pointers_of tree) size = subst (λ (n : ℕ). AreAllNamed (pointers_of tree) n) count (c.in_err-log_block.ensures.full (pointers_of tree) were) in
+    passed_on c.from_residual-in_err-log_block.result c.in_err-log_block.field-0.0 (λ (e : PoolError). e ≡ NoSpace → AreAllNamed (pointers_of tree) size)
+    c.from_residual-in_err-log_block.ensures.1 (λ is. named)
+
+pub invariant_of-result-2-clause-group_fits : goal.invariant_of-result-2-clause-group_fits
+invariant_of-result-2-clause-group_fits g c =
+    let within = group-within c.args.found.uberblock.group.0 c.args.found.uberblock.import_number c.requires.within in
+    (omega arith, omega (arith, within))
+
+pub invariant_of-result-2-clause-import_fits : goal.invariant_of-result-2-clause-import_fits
+invariant_of-result-2-clause-import_fits g c = import-within c.args.found.uberblock.group.0 c.args.found.uberblock.import_number c.requires.within
+
+pub returns-clause-labelled : goal.returns-clause-labelled
+returns-clause-labelled g c = λ keeps.
+    let u = c.args.found.uberblock in
+    let config : Config = record { guid = u.guid; group = u.group.0 + 4; size = c.args.geometry; name = c.args.found.name } in
+    let next : Uberblock = record {
+      group = u.group.0 + 4;
+      guid = u.guid;
+      moment = c.args.moment;
+      root = c.args.loaded.tree.root;
+      import_number = u.import_number + 1;
+      log_address = c.block_address.result;
+      log_number = 0;
+    } in
+    labels_same c.args.geometry _ config _ next _
+    (c.new-config.ensures ∙ (λ i. record config { size = c.size.ensures.size i; name = c.in_ok-copy_name.ensures.same i }))
+    (λ i. record next { root = sym c.requires.root i })
+    (c.in_ok-sync_labels.ensures.labelled keeps)

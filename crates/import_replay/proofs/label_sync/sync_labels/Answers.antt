@@ -1,8 +1,16 @@
-use Rattle.std.proofs.Common.{◌≡◌, ℕ, length, ◌∙◌}
+use Rattle.std.proofs.Common.{◌≡◌, ◌∙◌, ℕ, List, length, ap}
 use Rattle.base.specs.Disk.{bytes_of}
+use Rattle.base.specs.Labels.{Config}
+use Rattle.base.specs.SyncOrder.{DeviceCall}
+use Rattle.base.specs.Uberblocks.{Uberblock}
+use Rattle.uberblocks.specs.Slots.{fields_of}
+use Rattle.sync.specs.Runs.{call_count}
 use Rattle.import_replay.specs.ImportRefusals.{IsSyncRefusal}
+use Rattle.import_replay.specs.LabelSyncs.{after_calls}
+use Rattle.import_replay.proofs.LabelCalls.{after_next, distinct_blocks, whole}
 use Rattle.import_replay.proofs.LabelSyncs.{blocks_then, call_keeps, sync_goes_on, sync_left, sync_refused}
 use Rattle.import_replay.proofs.Reasons.{passed_on}
+use Rattle.import_replay.proofs.SyncedLabels.{hold_labels, other_slots}
 use Rattle.import_replay.proofs.label_sync.sync_labels.Goals as goal
 
 pub returns-in_err-next-clause-refused : goal.returns-in_err-next-clause-refused
@@ -19,9 +27,11 @@ pub loop-run-preserved : goal.loop-run-preserved
 loop-run-preserved g c =
     let i = c.loop-run.invariant in
     let call = c.next.ensures.there in
+    let config : Config = c.args.config.now in
+    let u : Uberblock = fields_of c.args.uberblock.now in
     record {
       sized = c.next.ensures.size ∙ i.sized;
-      run = sync_goes_on c.args.geometry c.loop-run.run c.next.new.self c.next.ensures.sync i.run;
+      run = sync_goes_on c.args.geometry config u c.args.first c.loop-run.run c.next.new.self c.next.ensures.sync i.run;
       left = sync_left c.loop-run.run c.next.new.self c.in_ok-next.field-0 c.next.ensures.sync i.left c.in_ok-next.ensures.done c.in_ok-next.ensures.last c.if-not-branch.true;
       count = (c.in_ok-next.ensures.count call.0 call.1).answered ∙ i.count;
       blocks = λ keeps.
@@ -29,7 +39,12 @@ loop-run-preserved g c =
           let new = g.D.SectorDevice.disk c.next.new.device in
           let long : length (bytes_of old.now) ≡ c.args.geometry = g.met.D.SectorDevice.sized keeps c.loop-run.device ∙ i.sized in
           blocks_then c.args.geometry (bytes_of (g.D.SectorDevice.disk c.args.device.now).now) (bytes_of old.now) (bytes_of new.now) (i.blocks keeps)
-          (call_keeps c.args.geometry c.loop-run.run old new c.requires.geometry i.run long call.0 (c.in_ok-next.ensures.called keeps call.0 call.1));
+          (call_keeps c.args.geometry config u c.args.first c.loop-run.run old new c.requires.geometry i.run long call.0 (c.in_ok-next.ensures.called keeps call.0 call.1));
+      called = λ keeps.
+          after_next c.args.geometry config u c.args.first c.loop-run.run i.run (g.D.SectorDevice.disk c.args.device.now) (g.D.SectorDevice.disk c.loop-run.device) (g.D.SectorDevice.disk c.next.new.device)
+          call.0 call.1 (i.called keeps) (c.in_ok-next.ensures.called keeps call.0 call.1) c.next.new.self.done c.in_ok-next.ensures.done;
+      made = λ keeps.
+          c.next.ensures.kept keeps (distinct_blocks c.args.geometry config u c.args.first c.loop-run.run i.run) (bytes_of (g.D.SectorDevice.disk c.args.device.now).now) (i.made keeps);
     }
 
 pub returns-clause-kept : goal.returns-clause-kept
@@ -40,4 +55,38 @@ returns-clause-kept g c = λ keeps.
     let new = g.D.SectorDevice.disk c.next.new.device in
     let long : length (bytes_of old.now) ≡ c.args.geometry = g.met.D.SectorDevice.sized keeps c.loop-run.device ∙ i.sized in
     blocks_then c.args.geometry (bytes_of (g.D.SectorDevice.disk c.args.device.now).now) (bytes_of old.now) (bytes_of new.now) (i.blocks keeps)
-    (call_keeps c.args.geometry c.loop-run.run old new c.requires.geometry i.run long call.0 (c.in_ok-next.ensures.called keeps call.0 call.1))
+    (call_keeps c.args.geometry c.args.config.now (fields_of c.args.uberblock.now) c.args.first c.loop-run.run old new c.requires.geometry i.run long call.0 (c.in_ok-next.ensures.called keeps call.0 call.1))
+
+pub returns-clause-synced : goal.returns-clause-synced
+returns-clause-synced g c = λ keeps.
+    let i = c.loop-run.invariant in
+    let call = c.next.ensures.there in
+    let config : Config = c.args.config.now in
+    let u : Uberblock = fields_of c.args.uberblock.now in
+    let all : c.next.new.self.done ≡ call_count c.next.new.self = c.in_ok-next.ensures.last.0 c.if-not-branch.false in
+    let run = sync_goes_on c.args.geometry config u c.args.first c.loop-run.run c.next.new.self c.next.ensures.sync i.run in
+    after_next c.args.geometry config u c.args.first c.loop-run.run i.run (g.D.SectorDevice.disk c.args.device.now) (g.D.SectorDevice.disk c.loop-run.device) (g.D.SectorDevice.disk c.next.new.device)
+    call.0 call.1 (i.called keeps) (c.in_ok-next.ensures.called keeps call.0 call.1) c.next.new.self.done c.in_ok-next.ensures.done
+    ∙ ap (λ (l : List DeviceCall). after_calls c.args.geometry config u l (g.D.SectorDevice.disk c.args.device.now)) (whole c.args.geometry config u c.args.first c.next.new.self run all)
+
+pub returns-clause-labelled : goal.returns-clause-labelled
+returns-clause-labelled g c = λ keeps.
+    let i = c.loop-run.invariant in
+    let config : Config = c.args.config.now in
+    let u : Uberblock = fields_of c.args.uberblock.now in
+    let all : c.next.new.self.done ≡ call_count c.next.new.self = c.in_ok-next.ensures.last.0 c.if-not-branch.false in
+    let run = sync_goes_on c.args.geometry config u c.args.first c.loop-run.run c.next.new.self c.next.ensures.sync i.run in
+    let base : List ℕ = bytes_of (g.D.SectorDevice.disk c.args.device.now).now in
+    hold_labels c.args.geometry config u c.args.first c.next.new.self run base (bytes_of (g.D.SectorDevice.disk c.next.new.device).now)
+    (c.next.ensures.kept keeps (distinct_blocks c.args.geometry config u c.args.first c.loop-run.run i.run) base (i.made keeps)) all
+
+pub returns-clause-others : goal.returns-clause-others
+returns-clause-others g c = λ keeps.
+    let i = c.loop-run.invariant in
+    let config : Config = c.args.config.now in
+    let u : Uberblock = fields_of c.args.uberblock.now in
+    let all : c.next.new.self.done ≡ call_count c.next.new.self = c.in_ok-next.ensures.last.0 c.if-not-branch.false in
+    let run = sync_goes_on c.args.geometry config u c.args.first c.loop-run.run c.next.new.self c.next.ensures.sync i.run in
+    let base : List ℕ = bytes_of (g.D.SectorDevice.disk c.args.device.now).now in
+    other_slots c.args.geometry config u c.args.first c.next.new.self run base (bytes_of (g.D.SectorDevice.disk c.next.new.device).now)
+    (c.next.ensures.kept keeps (distinct_blocks c.args.geometry config u c.args.first c.loop-run.run i.run) base (i.made keeps)) all c.requires.geometry

@@ -1,0 +1,101 @@
+-- The calls of a sync of the labels, and what they make of the disk.
+use Rattle.std.proofs.Common.{◌≡◌, ℕ, ◌+◌, true, List, [], ◌∷◌, ◌++◌, length, map, take, nat_eq, Option, Some, Ok, refl, sym, ◌∙◌, ap, subst, arith}
+use Rattle.std.specs.Prelude.{is_some, slice_get, vec_len}
+use Rattle.std.specs.List.{IsDistinct}
+use Rattle.std.specs.Option.{option_map}
+use Rattle.std.proofs.lemmas.List.{take_all, take_more}
+use Rattle.std.proofs.lemmas.Option.{get_or_from_slice_get, slice_get_within}
+use Rattle.base.specs.Disk.{Disk, written}
+use Rattle.base.specs.Geometry.{config_place, slot_of, slot_place}
+use Rattle.base.specs.Labels.{Config}
+use Rattle.base.specs.SyncOrder.{DeviceCall, calls_in_order, import_calls}
+use Rattle.base.specs.SyncOrder.DeviceCall.{Block, Config as ConfigCall, Uberblock as UberblockCall, Flush}
+use Rattle.base.specs.Uberblocks.{Uberblock}
+use Rattle.labels.specs.Configs.{config_block}
+use Rattle.labels.specs.Stages.{labels_of}
+use Rattle.labels.specs.declared.stage.Stage.{Stage}
+use Rattle.labels.specs.declared.stage.Stage.TheVariants.{Even, Odd}
+use Rattle.sync.specs.declared.run.LabelStages.{LabelStages}
+use Rattle.sync.specs.declared.run.SyncRun.{SyncRun}
+use Rattle.sync.specs.CallOrder.{stage_after}
+use Rattle.sync.specs.Made.{HasDistinctBlocks}
+use Rattle.sync.specs.Runs.{call_count, other_calls}
+use Rattle.sync.specs.Calls.{IsNextCall, MakesCall, Target, WritesTarget, block_target, calls_of, config_target, first_labels, last_labels}
+use Rattle.import_replay.specs.LabelSyncs.{IsLabelSync, after_call, after_calls, is_even}
+
+no_block : {A : Type 0} (f : A → Target) (k : ℕ) (blocks : List A) (old new : Disk) → blocks ≡ [] → WritesTarget (option_map f (slice_get blocks k)) old (Ok tt) new → ⊥
+no_block {A} f k blocks old new none made = subst (λ (bs : List A). WritesTarget (option_map f (slice_get bs k)) old (Ok tt) new) none made
+
+module _ (size : ℕ) (config : Config) (u : Uberblock) (first : Stage) (run : SyncRun) (is : IsLabelSync size config u first run) where
+  -- its calls are those of an import without blocks
+  pub calls_are : calls_of run ≡ import_calls 0 (is_even first)
+  calls_are =
+      ap (λ n. calls_in_order n (is_some run.stages) (first_labels run.stages) (last_labels run.stages)) none
+      ∙ ap (λ (s : Option LabelStages). calls_in_order 0 (is_some s) (first_labels s) (last_labels s)) is.stages
+      ∙ by_stage first
+    where
+      none : vec_len run.blocks ≡ 0
+      none = let long = ap length is.blocks in omega (arith, run.blocks.ok.0, long)
+
+      by_stage : (s : Stage) → calls_in_order 0 true (labels_of s) (labels_of (stage_after s)) ≡ import_calls 0 (is_even s)
+      by_stage Even = refl
+      by_stage Odd = refl
+
+  -- a good call makes of the disk what it has to
+  pub call_makes : (c : DeviceCall) (old new : Disk) → MakesCall run c old (Ok tt) new → new ≡ after_call size config u c old
+  call_makes (Block k) old new made =
+      absurd (no_block block_target k run.blocks.items old new is.blocks made)
+  call_makes (ConfigCall label) old new made =
+      subst (λ (s : Option LabelStages). WritesTarget (option_map (config_target run.geometry label) s) old (Ok tt) new) is.stages made
+      ∙ ap (λ n. written (config_place n label) (config_block config) true old) is.geometry
+  call_makes (UberblockCall label) old new made =
+      made
+      ∙ ap (λ n. written (slot_place n label run.slot) run.uberblock true old) is.geometry
+      ∙ ap (λ n. written (slot_place size label n) run.uberblock true old) is.slot
+      ∙ ap (λ (bytes : List ℕ). written (slot_place size label (slot_of u.group)) bytes true old) is.uberblock
+  call_makes Flush old new made = made
+
+none_distinct : IsDistinct nat_eq []
+unfolding IsDistinct
+none_distinct = tt
+
+no_distinct : {A : Type 0} (blocks : List A) → blocks ≡ [] → (f : A → ℕ) → IsDistinct nat_eq (map f blocks)
+no_distinct {A} blocks none f = subst (λ (bs : List A). IsDistinct nat_eq (map f bs)) (sym none) none_distinct
+
+-- one call more
+after_one_more : (size : ℕ) (config : Config) (u : Uberblock) (calls : List DeviceCall) (c : DeviceCall) (disk : Disk)
+    → after_calls size config u (calls ++ c ∷ []) disk ≡ after_call size config u c (after_calls size config u calls disk)
+after_one_more size config u [] c disk = refl
+after_one_more size config u (b ∷ calls) c disk = after_one_more size config u calls c (after_call size config u b disk)
+
+pub calls_so_far : (size : ℕ) (config : Config) (u : Uberblock) (calls : List DeviceCall) (k : ℕ) (c : DeviceCall) (start old new : Disk)
+    → slice_get calls k ≡ Some c → old ≡ after_calls size config u (take k calls) start → new ≡ after_call size config u c old → new ≡ after_calls size config u (take (k + 1) calls) start
+calls_so_far size config u calls k c start old new at before made =
+    made
+    ∙ ap (after_call size config u c) before
+    ∙ sym (after_one_more size config u (take k calls) c start)
+    ∙ ap (λ (l : List DeviceCall). after_calls size config u l start) (sym one_more)
+  where
+    one_more : take (k + 1) calls ≡ take k calls ++ c ∷ []
+    one_more = take_more calls k c (slice_get_within calls k c at) ∙ ap (λ d. take k calls ++ d ∷ []) (get_or_from_slice_get calls k c c at)
+
+module _ (size : ℕ) (config : Config) (u : Uberblock) (first : Stage) (run : SyncRun) (is : IsLabelSync size config u first run) where
+  -- the disk after one call more
+  pub after_next : (start old new : Disk) (c : DeviceCall) → IsNextCall run c → old ≡ after_calls size config u (take run.done (import_calls 0 (is_even first))) start
+      → MakesCall run c old (Ok tt) new → (done : ℕ) → done ≡ run.done + 1 → new ≡ after_calls size config u (take done (import_calls 0 (is_even first))) start
+  after_next start old new c at before made done more =
+      calls_so_far size config u (import_calls 0 (is_even first)) run.done c start old new
+      (ap (λ (l : List DeviceCall). slice_get l run.done) (sym (calls_are size config u first run is)) ∙ at) before (call_makes size config u first run is c old new made)
+      ∙ ap (λ n. after_calls size config u (take n (import_calls 0 (is_even first))) start) (sym more)
+
+  -- the calls are twelve
+  pub whole : run.done ≡ call_count run → take run.done (import_calls 0 (is_even first)) ≡ import_calls 0 (is_even first)
+  whole all = take_all run.done (import_calls 0 (is_even first)) (let twelve = by_stage first in let count = ap (λ (s : Option LabelStages). other_calls s) is.stages in omega (arith, twelve, all, count))
+    where
+      by_stage : (s : Stage) → length (import_calls 0 (is_even s)) ≡ 12
+      by_stage Even = refl
+      by_stage Odd = refl
+
+  -- no two blocks have one place
+  pub distinct_blocks : HasDistinctBlocks run
+  distinct_blocks = no_distinct run.blocks.items is.blocks (λ b. b.index)
