@@ -206,6 +206,10 @@ module _ (size : ℕ) (u : Uberblock) (name : List ℕ) (slots : List Slot) (tre
     pub is_import : IsImport image now dirty_max m
     is_import = record {
       imported = λ v active chain. import_of (subst (λ (w : Uberblock). IsChainOf image w []) (actives_agree image v u active pool.active) chain);
-      free = are_free;
-      tree = holds_now;
+      stands = record {
+        tree = holds_now;
+        log_block = from.log.is_block;
+        log_apart = λ is. from.log.is_unnamed (now_named m.log_address is);
+        free = are_free;
+      };
     }

@@ -2,11 +2,14 @@
 use Rattle.std.specs.Prelude.{ℕ, ◌≡◌, ◌+◌, false, List, [], None}
 use Rattle.std.specs.FinMap as finite
 use Rattle.base.specs.Blocks.{Frame}
-use Rattle.base.specs.Geometry.{block_count}
+use Rattle.base.specs.Geometry.{IsBlockAddress, block_count}
 use Rattle.base.specs.Exact.{AreFree}
+use Rattle.base.specs.ExactNow.{IsExplainedNow}
 use Rattle.base.specs.Imports.{IsImportOf, is_past_last}
 use Rattle.base.specs.Mount.{IsChainOf}
+use Rattle.base.specs.Past.{new_past}
 use Rattle.base.specs.PlacedTrees.{HoldsTree}
+use Rattle.base.specs.Places.{IsInTree}
 use Rattle.base.specs.Shown.{Shown}
 use Rattle.base.specs.Uberblocks.{Uberblock, IsActive}
 use Rattle.object_maps.specs.declared.contents.Slot.{Slot}
@@ -56,9 +59,20 @@ pub record IsMountedFrom (u : Uberblock) (name : List ℕ) (slots : List Slot) (
   pub limit : m.dirty_max ≡ dirty_max
   pub log : HasTakenLowest (pointers_of m.tree) (block_count m.geometry) m.log_address (free_of m.free.flags.items)
 
+-- What an import gives stands on a device with these bytes: the device holds its tree, its log block is a block of the area that the
+-- tree does not have, and the free blocks are all others.
+pub record StandsOn (now : List ℕ) (m : Mounted) : Type 0 where
+  pub tree : HoldsTree now (frame_of_import m) (pointers_of m.tree) (contents_of m.contents).objects
+  pub log_block : IsBlockAddress (block_count m.geometry) m.log_address
+  pub log_apart : IsInTree now m.tree.root m.log_address → ⊥
+  pub free : AreFree now (shown_of_import m)
+
+-- whenever its pool was created, a past in which nothing happened explains it
+abbrev pub IsExplainedAnew : Mounted → Type 0
+IsExplainedAnew m = (created : ℕ) → IsExplainedNow (shown_of_import m) (new_past (contents_of m.contents) created m.dirty_max)
+
 -- an import of an image that leaves these bytes: for the active uberblock, where it has no chain, the pool that the import gives;
--- the blocks that it takes for free; and its tree
+-- and that it stands on the device
 pub record IsImport (image now : List ℕ) (dirty_max : ℕ) (m : Mounted) : Type 0 where
   pub imported : (u : Uberblock) → IsActive image u → IsChainOf image u [] → IsImportOf image now dirty_max 0 (shown_of_import m)
-  pub free : AreFree now (shown_of_import m)
-  pub tree : HoldsTree now (frame_of_import m) (pointers_of m.tree) (contents_of m.contents).objects
+  pub stands : StandsOn now m

@@ -30,7 +30,8 @@ use crate::bounds::see_bytes;
 use crate::finding::{Found, copy_name, find_pool};
 use crate::free_blocks::{free_set, take_lowest};
 use crate::label_sync::sync_labels;
-use crate::mounted::{Imported, Mounted};
+use crate::imported_pool::Imported;
+use crate::mounted::Mounted;
 use base::{GREATEST_DIRTY_MAX, Group, LAST_NUMBER, LEAST_DIRTY_MAX, Pointer, PoolError};
 use checked_blocks::Frame;
 use device_model::SectorDevice;
@@ -101,6 +102,7 @@ fn mount<D: SectorDevice>(
 ) -> Result<Mounted, PoolError>
     ensures size { D.size device.new ≡ D.size device.old }
     ensures geometry { IfOk result (λ m. m.geometry ≡ D.size device.old) }
+    ensures limit { IfOk result (λ m. m.dirty_max ≡ dirty_max) }
     ensures made { OnOk result (CanImport (D.size device.old) dirty_max) }
     ensures count { OnOk result (D.refused device.new ≡ D.refused device.old) }
     ensures refused { IfErr result
@@ -134,6 +136,7 @@ fn mount_pool<D: SectorDevice>(
     requires limit { is_dirty_max_allowed dirty_max ≡ true }
     ensures size { D.size device.new ≡ D.size device.old }
     ensures geometry { IfOk result (λ m. m.geometry ≡ geometry) }
+    ensures limit { IfOk result (λ m. m.dirty_max ≡ dirty_max) }
     ensures count { OnOk result (D.refused device.new ≡ D.refused device.old) }
     ensures refused { IfErr result (IsMountRefusal (D.refused device.old) (D.refused device.new)) }
     ensures reason { IsTrue D.keeps_model → IfErr result (IsReason (bytes_of (D.disk device.old).now)) }

@@ -7,12 +7,14 @@ mod creation;
 mod finding;
 mod free_blocks;
 mod imported;
+mod imported_pool;
 mod label_sync;
 mod mounted;
 
 pub use creation::create;
 pub use imported::import;
-pub use mounted::{Imported, Mounted};
+pub use imported_pool::Imported;
+pub use mounted::Mounted;
 
 #[cfg(test)]
 mod tests;

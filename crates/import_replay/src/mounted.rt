@@ -1,4 +1,4 @@
-//! What an import gives.
+//! What an import mounts.
 
 ghost use Rattle.std.specs.Prelude.{◌≡◌, ◌<◌, ◌≤◌, ◌^◌, vec_len};
 ghost use Rattle.base.specs.Geometry.{block_count};
@@ -6,19 +6,10 @@ ghost use Rattle.base.specs.PlacedTrees.{ArePlaced};
 ghost use Rattle.object_maps.specs.Pointers.{pointers_of};
 
 use base::Group;
-use device_model::SectorDevice;
 use labels::Geometry;
 use object_maps::{Contents, Tree};
 use space::FreeSet;
 use std::alloc::Global;
-
-/// An imported pool, with the device that it lies on.
-#[derive(Drop)]
-pub struct Imported<D: SectorDevice> {
-    pub device: D,
-    pub mounted: Mounted,
-    ghost sized: { D.size device ≡ mounted.geometry },
-}
 
 /// What an import mounted and wrote.
 #[derive(Drop)]
@@ -39,21 +30,4 @@ pub struct Mounted {
     ghost group_fits: { (4 ≤ group.0) × (group.0 < 2 ^ 60) },
     ghost import_fits: { import_number ≤ 2 ^ 60 },
     ghost tree_placed: { ∥ ArePlaced (block_count geometry) (pointers_of tree) ∥₁ },
-}
-
-impl<D: SectorDevice> Imported<D> {
-    /// The group that the import synced. The one behind it is open.
-    pub fn group(&self) -> Group
-        ensures group { result ≡ self.now.mounted.group }
-        ensures fits { (4 ≤ result.0) × (result.0 < 2 ^ 60) }
-    {
-        self.mounted.group
-    }
-
-    /// How many log records were replayed.
-    pub fn records(&self) -> u64
-        ensures { result ≡ 0 }
-    {
-        0
-    }
 }

@@ -43,7 +43,7 @@ impl<D: SectorDevice> PoolState<D> {
     ghost use Rattle.pool_core.specs.Calls.{CallsNext};
     ghost use Rattle.pool_core.specs.Holds.{Leads, MeetsHeld, TakesInOrder, held_with, start_reply, sync_reply, told_of};
     ghost use Rattle.pool_core.specs.Meets.{Meets, MeetsExplained};
-    ghost use Rattle.pool_core.specs.NewStates.{IsHeldFrom};
+    ghost use Rattle.pool_core.specs.NewStates.{IsHeldAnew};
     ghost use Rattle.pool_core.specs.Progresses.{progress_of};
     ghost use Rattle.pool_core.specs.Shows.{shown_of};
     ghost use Rattle.pool_core.specs.Tables.{result_map};
@@ -52,7 +52,7 @@ impl<D: SectorDevice> PoolState<D> {
     pub fn new(imported: Imported<D>) -> Self
         ensures shown { shown_of result.pool ≡ shown_of_import imported.mounted }
         ensures device { result.device ≡ imported.device }
-        ensures held { IsTrue D.keeps_model → IsHeldFrom (bytes_of (D.disk imported.device).now) imported.mounted result.pool }
+        ensures held { ∥ (IsTrue D.keeps_model → IsHeldAnew (bytes_of (D.disk result.device).now) imported.mounted result.pool) ∥₁ }
     {
         let Imported { device, mounted } = imported;
         PoolState {

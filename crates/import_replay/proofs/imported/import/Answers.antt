@@ -1,3 +1,8 @@
+use Rattle.std.proofs.Common.{ℕ, sym, subst}
+use Rattle.base.specs.ExactNow.{IsExplainedNow}
+use Rattle.base.specs.Past.{new_past}
+use Rattle.object_maps.specs.ContentsShown.{contents_of}
+use Rattle.import_replay.specs.Mounts.{shown_of_import}
 use Rattle.import_replay.proofs.imported.import.Goals as goal
 
 pub returns-in-Ok-clause-imported : goal.returns-in-Ok-clause-imported
@@ -5,3 +10,11 @@ returns-in-Ok-clause-imported g c = λ keeps. (c.in-Ok.ensures.imported keeps).i
 
 pub returns-in-Ok-clause-labelled : goal.returns-in-Ok-clause-labelled
 returns-in-Ok-clause-labelled g c = λ keeps. (c.in-Ok.ensures.written keeps).labelled
+
+pub invariant_of-result-clause-stands : goal.invariant_of-result-clause-stands
+invariant_of-result-clause-stands g c = ∣ (λ keeps. (c.in-Ok.ensures.imported keeps).stands) ∣₁
+
+pub invariant_of-result-clause-explained : goal.invariant_of-result-clause-explained
+invariant_of-result-clause-explained g c =
+    let m = c.in-Ok.mounted in
+    ∣ subst (λ (limit : ℕ). (created : ℕ) → IsExplainedNow (shown_of_import m) (new_past (contents_of m.contents) created limit)) (sym c.in-Ok.ensures.limit) c.in-Ok.ensures.explained ∣₁

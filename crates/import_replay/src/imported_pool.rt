@@ -1,0 +1,36 @@
+//! What an import gives: what it mounted, on its device.
+
+ghost use Rattle.std.specs.Prelude.{◌≡◌, ◌<◌, ◌≤◌, ◌^◌, IsTrue};
+ghost use Rattle.base.specs.Disk.{bytes_of};
+ghost use Rattle.import_replay.specs.Mounts.{IsExplainedAnew, StandsOn};
+
+use crate::mounted::Mounted;
+use base::Group;
+use device_model::SectorDevice;
+
+/// An imported pool, with the device that it lies on.
+#[derive(Drop)]
+pub struct Imported<D: SectorDevice> {
+    pub device: D,
+    pub mounted: Mounted,
+    ghost sized: { D.size device ≡ mounted.geometry },
+    ghost stands: { ∥ (IsTrue D.keeps_model → StandsOn (bytes_of (D.disk device).now) mounted) ∥₁ },
+    ghost explained: { ∥ IsExplainedAnew mounted ∥₁ },
+}
+
+impl<D: SectorDevice> Imported<D> {
+    /// The group that the import synced. The one behind it is open.
+    pub fn group(&self) -> Group
+        ensures group { result ≡ self.now.mounted.group }
+        ensures fits { (4 ≤ result.0) × (result.0 < 2 ^ 60) }
+    {
+        self.mounted.group
+    }
+
+    /// How many log records were replayed.
+    pub fn records(&self) -> u64
+        ensures { result ≡ 0 }
+    {
+        0
+    }
+}
