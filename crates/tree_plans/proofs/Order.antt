@@ -43,9 +43,6 @@ adds_twice r s t xs ys one two = two ∙ ap (λ (l : List ℕ). l ++ ys) one ∙
 pub adds_if : (s t : List NewBlock) (b : Bool) (p : Pointer) → b ≡ true → Adds s t (p.address ∷ []) → Adds s t (address_if b p)
 adds_if s t b p e one = rw e one
 
-pub adds_not : (s : List NewBlock) (b : Bool) (p : Pointer) → b ≡ false → Adds s s (address_if b p)
-adds_not s b p e = rw e (adds_none s)
-
 -- pointers one after another: those below a number, and then the next
 range_more : (n : ℕ) → range_with_len 0 (n + 1) ≡ range_with_len 0 n ++ n ∷ []
 range_more n = sym (map-id _) ∙ map-range_with_len_more (λ (k : ℕ). k) 0 n n (omega arith) ∙ ap (λ (l : List ℕ). l ++ n ∷ []) (map-id _)
@@ -120,6 +117,7 @@ passes_at p a (suc n) k low high is = elim (cases_eq a k) [
     or_true true = refl
     or_true false = refl
 
+-- the marks of an object are the flags of its entry
 flagged : (objects : List (ObjectId × DirtyRecords)) (n : ℕ) (dirty : DirtyRecords) → entry_of objects n ≡ Some dirty → (r : ℕ) → is_marked objects n r ≡ slice_index_or dirty.flags r false
 flagged objects n dirty is r = ap (λ (o : Option DirtyRecords). option_map_or (λ (dirty : DirtyRecords). slice_index_or dirty.flags r false) o false) is
 
@@ -157,6 +155,7 @@ pub object_added : (objects : List (ObjectId × DirtyRecords)) (n : ℕ) (dirty 
 object_added objects n dirty m o s t is there long some added =
     object_written (is_marked objects n) dirty.flags m s t long (flagged objects n dirty is) some added ∙ ap (λ (q : Option ObjectMap). addresses_of s ++ object_addresses (is_marked objects n) q) (sym there)
 
+-- an object that is put has the pointers that are put
 pub map_put : (maps : List ObjectMap) (old new : List (ObjectId × ObjectMap)) (id : ObjectId) (m : ObjectMap) → IsPut old id m new → planned_map maps new id.0 ≡ Some m
 map_put maps old new id m put =
     ap (λ (o : Option ObjectMap). option_map_or (λ (m : ObjectMap). Some m) o (slice_get maps id.0)) (put id.0 ∙ ap (λ b. cond b (Some m) (entry_of old id.0)) (eq-eqb id.0 id.0 refl))

@@ -1,5 +1,5 @@
 -- The pointers of a tree as it is kept in memory, by place.
-use Rattle.std.specs.Prelude.{ℕ, ◌≡◌, ◌==◌, cond, List, slice_get, slice_index_or, Option, Some}
+use Rattle.std.specs.Prelude.{ℕ, ◌≡◌, ◌==◌, cond, List, slice_get, Option, Some}
 use Rattle.std.specs.Option.{option_map_or}
 use Rattle.std.specs.Map.{lookup}
 use Rattle.base.specs.declared.pointer.Pointer.{Pointer}
@@ -9,6 +9,7 @@ use Rattle.base.specs.Places.{Place}
 use Rattle.base.specs.Places.Place.{Root, Directory, Indirect, Data}
 use Rattle.object_maps.specs.declared.tree.ObjectMap.{ObjectMap}
 use Rattle.object_maps.specs.declared.tree.Tree.{Tree}
+use Rattle.object_maps.specs.Pointers.{pointer_of_list}
 use Rattle.tree_plans.specs.declared.planner.TreePlan.{TreePlan}
 
 -- the value that entries by object number have at a number
@@ -21,12 +22,12 @@ IsPut old id x new = (n : ℕ) → entry_of new n ≡ cond (id.0 == n) (Some x) 
 
 -- the pointer to a record, none past the last one
 abbrev pub record_in : ObjectMap → ℕ → Pointer
-record_in m r = slice_index_or m.records.items r no_pointer
+record_in m r = pointer_of_list m.records.items r
 
 -- the pointers of a root, directories, and the pointers that objects have, none where an object has none
 abbrev pub pointers_from : Pointer → List Pointer → (ℕ → Option ObjectMap) → Place → Pointer
 pointers_from root directories map_of Root = root
-pointers_from root directories map_of (Directory d) = slice_index_or directories d no_pointer
+pointers_from root directories map_of (Directory d) = pointer_of_list directories d
 pointers_from root directories map_of (Indirect n) = option_map_or (λ (m : ObjectMap). m.indirect) (map_of n) no_pointer
 pointers_from root directories map_of (Data n r) = option_map_or (λ (m : ObjectMap). record_in m r) (map_of n) no_pointer
 

@@ -6,7 +6,6 @@ mod freed;
 mod payload;
 mod place;
 mod planner;
-mod pointers;
 mod walk;
 
 pub use dirty::dirty_objects;

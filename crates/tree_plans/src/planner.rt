@@ -10,7 +10,6 @@ use crate::dirty::is_touched;
 use crate::freed::give_back;
 use crate::payload::{payload_of, record_of};
 use crate::place::{BlockPlace, RecordPlace};
-use crate::pointers::record_pointer;
 use base::{Group, ObjectId, Ops, POINTER_COUNT, Pointer, PoolError};
 use checked_blocks::{Block, seal};
 use labels::Geometry;
@@ -106,9 +105,9 @@ pub struct Planner {
 
 impl Planner {
     ghost use Rattle.std.specs.Prelude.{◌≤◌, ◌<◌, ◌++◌, ◌∷◌, [], false, length, slice_index_or, IfOk, IfErr, OnOk};
-    ghost use Rattle.base.specs.Fields.{no_pointer};
     ghost use Rattle.base.specs.Places.{IsPlace};
     ghost use Rattle.checked_blocks.specs.Sealing.{padded};
+    ghost use Rattle.object_maps.specs.Pointers.{pointer_of_list};
     ghost use Rattle.tree_plans.specs.Plans.{AreRecordsPlanned, FreesOnly, Goes, IsObjectPlanned, IsRecordPlanned, IsWant, IsWritten, ObjectFrees, RecordFrees, RecordsFree, place_of, progress_of};
     ghost use Rattle.tree_plans.specs.Order.{Adds, address_if, addresses_where};
     ghost use Rattle.tree_plans.specs.Pointers.{record_in};
@@ -198,13 +197,13 @@ impl Planner {
         ensures planned { IfOk result (λ records. AreRecordsPlanned (progress_of self.new) id.0 bytes.now dirty.now.flags old.now 84 records.items) }
         ensures frees { OnOk result (RecordsFree self.old.freed.items self.new.freed.items dirty.now.flags old.now 84) }
         ensures uses { IfOk result (λ records. PointersUse (progress_of self.old).blocks (progress_of self.new).blocks records.items 84) }
-        ensures adds { IfOk result (λ records. Adds (progress_of self.old).blocks (progress_of self.new).blocks (addresses_where (λ r. slice_index_or dirty.now.flags r false) (λ r. slice_index_or records.items r no_pointer) 84)) }
+        ensures adds { IfOk result (λ records. Adds (progress_of self.old).blocks (progress_of self.new).blocks (addresses_where (λ r. slice_index_or dirty.now.flags r false) (pointer_of_list records.items) 84)) }
         ensures refused { IfErr result IsWant }
     {
         let mut records = Vec::with_capacity(self.alloc, POINTER_COUNT)?;
         for index in 0..POINTER_COUNT {
             let place = RecordPlace { id, index };
-            let was = record_pointer(old, index);
+            let was = old.record(index);
             let pointer = self.place_record(free, place, bytes, &was, dirty.flags[index])?;
             records.push_reserved(pointer);
         }
@@ -227,7 +226,7 @@ impl Planner {
         ensures planned { IfOk result (λ map. IsObjectPlanned (progress_of self.new) id.0 bytes.now dirty.now.flags old.now map) }
         ensures frees { OnOk result (ObjectFrees self.old.freed.items self.new.freed.items dirty.now.flags old.now) }
         ensures uses { IfOk result (λ map. ObjectUses (progress_of self.old).blocks (progress_of self.new).blocks map) }
-        ensures adds { IfOk result (λ map. Adds (progress_of self.old).blocks (progress_of self.new).blocks (addresses_where (λ r. slice_index_or dirty.now.flags r false) (λ r. record_in map r) 84 ++ map.indirect.address ∷ [])) }
+        ensures adds { IfOk result (λ map. Adds (progress_of self.old).blocks (progress_of self.new).blocks (addresses_where (λ r. slice_index_or dirty.now.flags r false) (record_in map) 84 ++ map.indirect.address ∷ [])) }
         ensures refused { IfErr result IsWant }
     {
         let records = self.place_records(free, id, bytes, old, dirty)?;

@@ -12,6 +12,7 @@ ghost use Rattle.base.specs.PlannedPlaces.{written_by};
 ghost use Rattle.base.specs.PlannedTrees.{AreFreed, IsTreePlan, NewBlock};
 ghost use Rattle.base.specs.Stored.{AreUsed};
 ghost use Rattle.object_maps.specs.ContentsShown.{contents_of};
+ghost use Rattle.object_maps.specs.Pointers.{pointer_of_list};
 ghost use Rattle.space.specs.FreeSets.{addresses_from};
 ghost use Rattle.tree_plans.specs.Changes.{AreBornBefore, AreChanges, AreInRange, HasNoOthers, IsCoveredBy, frame_of, is_marked};
 ghost use Rattle.tree_plans.specs.declared.planner.DirtyRecords.{DirtyRecords};
@@ -249,7 +250,7 @@ fn place_directories(
     ensures planned { IfOk result (λ directories. AreDirectoriesPlanned (progress_of planner.new) source.now.tree.now.maps.items maps.now.entries (contents_of source.now.contents.now).objects objects.now.entries source.now.tree.now.directories.items 84 directories.items) }
     ensures frees { OnOk result (DirectoriesFree planner.old.freed.items planner.new.freed.items objects.now.entries source.now.tree.now.directories.items 84) }
     ensures uses { IfOk result (λ directories. PointersUse (progress_of planner.old).blocks (progress_of planner.new).blocks directories.items 84) }
-    ensures adds { IfOk result (λ directories. Adds (progress_of planner.old).blocks (progress_of planner.new).blocks (addresses_where (is_directory_touched objects.now.entries) (λ d. slice_index_or directories.items d no_pointer) 84)) }
+    ensures adds { IfOk result (λ directories. Adds (progress_of planner.old).blocks (progress_of planner.new).blocks (addresses_where (is_directory_touched objects.now.entries) (pointer_of_list directories.items) 84)) }
     ensures kept { OnOk result (objects.now.entries ≡ [] → planner.new ≡ planner.old) }
     ensures refused { IfErr result IsWant }
 {

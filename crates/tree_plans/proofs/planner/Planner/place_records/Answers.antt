@@ -24,8 +24,8 @@ loop-index-preserved c =
       count = omega (arith, c.push_reserved.ensures.len, c.loop-index.invariant.count);
       room = omega (arith, c.push_reserved.ensures.capacity, c.loop-index.invariant.room);
       goes = goes_twice c.loop-index.invariant.goes c.in_ok-pointer.ensures.goes;
-      planned = rw c.push_reserved.ensures.items (records_push _ _ _ c.args.old.now _ _ _ _ c.in_ok-pointer.ensures.goes long c.record_pointer-was.ensures c.loop-index.invariant.planned c.in_ok-pointer.ensures.planned);
-      frees = frees_push _ _ _ _ c.args.old.now _ _ c.record_pointer-was.ensures c.loop-index.invariant.frees c.in_ok-pointer.ensures.frees;
+      planned = rw c.push_reserved.ensures.items (records_push _ _ _ c.args.old.now _ _ _ _ c.in_ok-pointer.ensures.goes long c.record-was.ensures c.loop-index.invariant.planned c.in_ok-pointer.ensures.planned);
+      frees = frees_push _ _ _ _ c.args.old.now _ _ c.record-was.ensures c.loop-index.invariant.frees c.in_ok-pointer.ensures.frees;
       uses = rw c.push_reserved.ensures.items (pointers_use_push _ _ _ _ _ _ long c.loop-index.invariant.uses c.in_ok-pointer.ensures.uses);
       adds = rw c.push_reserved.ensures.items (adds_push (λ r. slice_index_or c.args.dirty.now.flags r false) _ _ _ _ _ _ _ long refl c.loop-index.invariant.adds c.in_ok-pointer.ensures.adds);
     }
