@@ -29,8 +29,8 @@ ghost use Rattle.import_replay.specs.Mounts.{IsImport, IsMountedFrom, frame_of_i
 use crate::bounds::see_bytes;
 use crate::finding::{Found, copy_name, find_pool};
 use crate::free_blocks::{free_set, take_lowest};
-use crate::label_sync::sync_labels;
 use crate::imported_pool::Imported;
+use crate::label_sync::sync_labels;
 use crate::mounted::Mounted;
 use base::{GREATEST_DIRTY_MAX, Group, LAST_NUMBER, LEAST_DIRTY_MAX, Pointer, PoolError};
 use checked_blocks::Frame;

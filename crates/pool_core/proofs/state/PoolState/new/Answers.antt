@@ -12,6 +12,6 @@ returns-clause-held g c =
     let m = c.args.imported.mounted in
     let now : List ℕ = bytes_of (g.D.SectorDevice.disk c.args.imported.device).now in
     ∥∥₁_elim c.args.imported.stands ∥∥₁_prop (λ stands. ∥∥₁_map c.args.imported.explained (λ explained keeps created.
-      let sized = ap (λ (n : ℕ). block_count n) (sym (g.met.D.SectorDevice.sized keeps c.args.imported.device ∙ c.args.imported.sized)) in
-      held_as m c.new.result now (new_past (contents_of m.contents) created m.dirty_max) c.new.ensures.shown c.new.ensures.tree c.new.ensures.idle
-      (is_held now created m sized (stands keeps) explained)))
+    let sized = ap (λ (n : ℕ). block_count n) (sym (g.met.D.SectorDevice.sized keeps c.args.imported.device ∙ c.args.imported.sized)) in
+    held_as m c.new.result now (new_past (contents_of m.contents) created m.dirty_max) c.new.ensures.shown c.new.ensures.tree c.new.ensures.idle
+    (is_held now created m sized (stands keeps) explained)))
