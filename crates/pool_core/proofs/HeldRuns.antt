@@ -98,6 +98,6 @@ holds_on (s ∷ ss) (r ∷ rs) old new (middle, one, rest) past x =
     let first = one.0 past x in
     let kept = leads_keep s old middle past first.0 x r first.1 one.1 in
     let more = holds_on ss rs middle new rest first.0 kept in
-    (more.0, (held_with middle first.0, first.1, more.1), more.2)
+    (more.0, (held_with middle first.0, (first.1, kept), more.1), more.2)
 holds_on [] (r ∷ rs) old new h past x = absurd h
 holds_on (s ∷ ss) [] old new h past x = absurd h

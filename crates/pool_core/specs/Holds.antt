@@ -95,8 +95,11 @@ StepsOver s r old new = (past : Past) → IsHeld (held_with old past) → (later
 abbrev pub StepHolds : declared_step.Step → declared_reply.Reply → Told → Told → Type 0
 StepHolds s r old new = StepsOver s r old new × Leads r old new
 
--- From each past that explains what is shown and with which the device holds what it should, the steps with these replies are a run of
--- the definitions, each over the bytes that the device has then, to a later past, which explains what is shown at the end, and with which
--- the device holds what it should then.
+-- a step after which its past explains what is shown then, and the device, with the bytes of then, holds what it should
+abbrev pub KeepsHeld : declared_step.Step → declared_reply.Reply → Held → Held → Type 0
+KeepsHeld s r old new = IsStepOver s r old new × IsHeld new
+
+-- From each past with which the device holds what it should, the steps with these replies are a run of the definitions, each over the
+-- bytes of the state before it, to a later past; after each step, and so at the end, the device holds what it should.
 abbrev pub HoldsOn : List declared_step.Step → List declared_reply.Reply → Told → Told → Type 0
-HoldsOn ss rs old new = (past : Past) → IsHeld (held_with old past) → (later : Past) × Run IsStepOver ss rs (held_with old past) (held_with new later) × IsHeld (held_with new later)
+HoldsOn ss rs old new = (past : Past) → IsHeld (held_with old past) → (later : Past) × Run KeepsHeld ss rs (held_with old past) (held_with new later) × IsHeld (held_with new later)
