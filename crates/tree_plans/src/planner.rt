@@ -105,9 +105,11 @@ pub struct Planner {
 
 impl Planner {
     ghost use Rattle.std.specs.Prelude.{◌≤◌, ◌<◌, ◌++◌, ◌∷◌, [], false, length, slice_index_or, IfOk, IfErr, OnOk};
+    ghost use Rattle.base.specs.declared.error.PoolError.TheVariants as error;
     ghost use Rattle.base.specs.Places.{IsPlace};
     ghost use Rattle.checked_blocks.specs.Sealing.{padded};
     ghost use Rattle.object_maps.specs.Pointers.{pointer_of_list};
+    ghost use Rattle.space.specs.FreeSets.{free_from};
     ghost use Rattle.tree_plans.specs.Plans.{AreRecordsPlanned, FreesOnly, Goes, IsObjectPlanned, IsRecordPlanned, IsWant, IsWritten, ObjectFrees, RecordFrees, RecordsFree, place_of, progress_of};
     ghost use Rattle.tree_plans.specs.Order.{Adds, address_if, addresses_where};
     ghost use Rattle.tree_plans.specs.Pointers.{record_in};
@@ -130,6 +132,7 @@ impl Planner {
         ensures frees { OnOk result (FreesOnly self.old.freed.items self.new.freed.items replaced.now) }
         ensures uses { IfOk result (λ pointer. UsesOnly (progress_of self.old).blocks (progress_of self.new).blocks pointer.address) }
         ensures adds { IfOk result (λ pointer. Adds (progress_of self.old).blocks (progress_of self.new).blocks (pointer.address ∷ [])) }
+        ensures full { IfErr result (λ e. e ≡ error.NoSpace → free_from self.old.next free.now.flags.items ≡ []) }
         ensures refused { IfErr result IsWant }
     {
         let Some(index) = free.next_from(self.next) else {
