@@ -54,3 +54,4 @@ pub mod StoredCover
 pub mod StoredWrites
 pub mod StoredImports
 pub mod StoredRuns
+pub mod SyncEnds

@@ -46,5 +46,6 @@ pub mod Layout
 pub mod Crashes
 pub mod SyncOrder
 pub mod ExactNow
+pub mod SyncEnds
 pub mod Errors
 pub mod Stored

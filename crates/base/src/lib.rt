@@ -44,7 +44,10 @@ pub use pool_name::{MAX_NAME, PoolName, is_name};
 pub use range::{Mode, Range};
 pub use status::Status;
 pub use step::{Reply, Step};
-pub use step_laws::{new_pools_are_explained, runs_keep_tables, steps_keep_tables};
+pub use step_laws::{
+    new_pools_are_explained, runs_keep_tables, steps_keep_tables, suspended_pools_refuse,
+    syncs_end_on_time,
+};
 
 #[cfg(test)]
 mod tests;

@@ -1,6 +1,7 @@
 //! What each step keeps of a pool: each function's contract is a law, and its body does nothing.
 
 ghost use Rattle.base.specs.ExactNow.{StepsKeepTables, RunsKeepTables, NewPoolsAreExplained};
+ghost use Rattle.base.specs.SyncEnds.{SuspendedPoolsRefuse, SyncsEndOnTime};
 
 /// Each step keeps what is shown of a pool exact, and its entries a history that leads to its contents.
 pub fn steps_keep_tables()
@@ -15,4 +16,14 @@ pub fn runs_keep_tables()
 /// A pool that was just imported is exact with the empty past.
 pub fn new_pools_are_explained()
     ensures { NewPoolsAreExplained }
+{}
+
+/// A started sync answers that its group is synced at the last of its steps and at no other, unless one is refused.
+pub fn syncs_end_on_time()
+    ensures { SyncsEndOnTime }
+{}
+
+/// A suspended pool refuses each step, and nothing changes.
+pub fn suspended_pools_refuse()
+    ensures { SuspendedPoolsRefuse }
 {}
