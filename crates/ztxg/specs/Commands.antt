@@ -1,9 +1,11 @@
 -- What a line's words ask for.
 use Rattle.std.specs.Prelude.{◌≡◌, ℕ, List, Some, length, map, vec_len}
+use Rattle.std.specs.Borrow.{Bor}
 use Rattle.ztxg.specs.declared.command.Command.{Command}
 use Rattle.ztxg.specs.declared.command.Command.TheVariants.{Create, Import, Crash, Pool}
 use Rattle.ztxg.specs.declared.command.PoolCommand.{PoolCommand}
 use Rattle.ztxg.specs.declared.command.PoolCommand.TheVariants.{Begin, Commit, Start, Finish, Sync, Step}
+use Rattle.ztxg.specs.Copies.{AreContentsOf}
 use Rattle.ztxg.specs.Letters.{piece_of}
 use Rattle.ztxg.specs.Numbers.{number_of}
 
@@ -23,11 +25,11 @@ IsBeginOf owner count Finish = ⊥
 IsBeginOf owner count Sync = ⊥
 IsBeginOf owner count (Step step) = ⊥
 
--- a commit of this transaction with the bytes of so many words
-abbrev pub IsCommitOf : List ℕ → ℕ → PoolCommand → Type 0
-IsCommitOf tx count (Begin o plan) = ⊥
-IsCommitOf tx count (Commit t contents) = (t.0 ≡ number_of tx) × (vec_len contents ≡ count)
-IsCommitOf tx count Start = ⊥
-IsCommitOf tx count Finish = ⊥
-IsCommitOf tx count Sync = ⊥
-IsCommitOf tx count (Step step) = ⊥
+-- a commit of this transaction with the bytes of these words
+abbrev pub IsCommitOf : List ℕ → List (Bor (List ℕ)) → PoolCommand → Type 0
+IsCommitOf tx words (Begin o plan) = ⊥
+IsCommitOf tx words (Commit t contents) = (t.0 ≡ number_of tx) × (vec_len contents ≡ length words) × AreContentsOf words contents.items
+IsCommitOf tx words Start = ⊥
+IsCommitOf tx words Finish = ⊥
+IsCommitOf tx words Sync = ⊥
+IsCommitOf tx words (Step step) = ⊥

@@ -1,4 +1,5 @@
 pub mod Commands
+pub mod Copies
 pub mod Endings
 pub mod Fillings
 pub mod Letters

@@ -1,5 +1,5 @@
 -- What a command needs.
-use Rattle.std.specs.Prelude.{◌≡◌, ◌<◌, ◌≤◌, Bool, true, false, Option, Some, None, Result, Ok, Err, List, length, IsSome, IsErr, ⊤}
+use Rattle.std.specs.Prelude.{◌≡◌, ◌<◌, ◌≤◌, Bool, true, false, Option, Some, None, Result, Ok, Err, List, length, IsErr, IsTrue}
 use Rattle.base.specs.declared.piece.Piece.{Piece}
 use Rattle.device_model.specs.MemState.{MemState, after_crash}
 use Rattle.ztxg.specs.declared.answer.Answer.{Answer}
@@ -33,16 +33,22 @@ is_crash (command.Import dirty_max) = false
 is_crash (command.Crash pieces) = true
 is_crash (command.Pool asked) = false
 
--- the device of a place; that of a pool is whichever the pool gives back
-abbrev pub IsDeviceOf : Place → Option MemState → Type 0
-IsDeviceOf Nothing taken = taken ≡ None
-IsDeviceOf (Device device) taken = taken ≡ Some device
-IsDeviceOf (Pool pool) taken = IsSome taken
+-- the device of a place, if there is one; a pool has its own
+abbrev pub device_in : Place → Option MemState
+device_in Nothing = None
+device_in (Device device) = Some device
+device_in (Pool pool) = Some pool.state.device
 
 -- a crash leaves the pieces of the unflushed writes and tells their number; it is refused where there are more pieces
-abbrev pub Crashes : Place → List Piece → Result Answer BadCommand → Place → Type 0
-Crashes Nothing pieces answer new = IsErr answer
-Crashes (Device device) pieces (Ok answer) new =
+abbrev pub Crashes : Option MemState → List Piece → Result Answer BadCommand → Place → Type 0
+Crashes None pieces answer new = IsErr answer
+Crashes (Some device) pieces (Ok answer) new =
     (length pieces ≤ length device.disk.now.unflushed) × (answer ≡ Crashed (length device.disk.now.unflushed)) × (new ≡ Device (after_crash pieces device))
-Crashes (Device device) pieces (Err e) new = (length device.disk.now.unflushed < length pieces) × (new ≡ Device device)
-Crashes (Pool pool) pieces answer new = ⊤
+Crashes (Some device) pieces (Err e) new = (length device.disk.now.unflushed < length pieces) × (new ≡ Device device)
+
+-- what a command leaves of the device and the pool
+abbrev pub Leaves : Command → Place → Result Answer BadCommand → Place → Type 0
+Leaves (command.Create name guid) old answer new = (IsTrue (has_device old) → IsTrue (has_device new)) × (has_pool new ≡ false)
+Leaves (command.Import dirty_max) old answer new = has_device new ≡ has_device old
+Leaves (command.Crash pieces) old answer new = Crashes (device_in old) pieces.items answer new × (has_device new ≡ has_device old) × (has_pool new ≡ false)
+Leaves (command.Pool asked) old answer new = has_pool new ≡ has_pool old

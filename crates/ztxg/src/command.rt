@@ -6,6 +6,7 @@ ghost use Rattle.std.specs.Prelude.{◌≡◌, ◌↔◌, ◌^◌, ◌<◌, ◌�
 ghost use Rattle.std.specs.Result.{OkIff, result_ok};
 ghost use Rattle.ztxg.specs.Numbers.{IsNumberBelow, number_of};
 ghost use Rattle.ztxg.specs.Commands.{IsBeginOf, IsCommitOf, IsCrashOf};
+ghost use Rattle.ztxg.specs.Copies.{AreContentsOf, AreCopies, IsContentOf};
 ghost use Rattle.ztxg.specs.Letters.{mode_of, piece_of};
 
 use crate::number::{parse_u32, parse_u64};
@@ -180,7 +181,9 @@ fn parse_mode(word: &str) -> Result<Mode, LineError>
 }
 
 fn parse_create(alloc: Global, name: &str, guid: &str) -> Result<Command, LineError>
-    ensures { IfOk result (λ command. command ≡ Command.Create name.now (number_of guid.now)) }
+    ensures command { IfOk result (λ command. command ≡ Command.Create name.now (number_of guid.now)) }
+    ensures ok { IsOk result → (0 < length name.now) × IsNumberBelow (2 ^ 64) guid.now }
+    ensures refused { IfErr result (λ e. 0 < length name.now → IsNumberBelow (2 ^ 64) guid.now → e ≡ LineError.NoMemory) }
 {
     if name.is_empty() {
         return Err(LineError::BadCommand);
@@ -192,7 +195,8 @@ fn parse_create(alloc: Global, name: &str, guid: &str) -> Result<Command, LineEr
 }
 
 fn parse_begin(alloc: Global, owner: &str, words: &[&str]) -> Result<PoolCommand, LineError>
-    ensures { IfOk result (λ asked. IsBeginOf owner.now (length words.now) asked) }
+    ensures begin { IfOk result (λ asked. IsBeginOf owner.now (length words.now) asked) }
+    ensures owner { IsOk result → IsNumberBelow (2 ^ 32) owner.now }
 {
     let owner = parse_owner(owner)?;
     Ok(PoolCommand::Begin(owner, Plan::new(parse_shapes(alloc, words)?)))
@@ -222,14 +226,16 @@ fn parse_shape(alloc: Global, word: &str) -> Result<Shape, LineError> {
 }
 
 fn parse_commit(alloc: Global, tx: &str, words: &[&str]) -> Result<PoolCommand, LineError>
-    ensures { IfOk result (λ asked. IsCommitOf tx.now (length words.now) asked) }
+    ensures commit { IfOk result (λ asked. IsCommitOf tx.now words.now asked) }
+    ensures tx { IsOk result → IsNumberBelow (2 ^ 64) tx.now }
 {
     let tx = TxId(wide(tx)?);
     Ok(PoolCommand::Commit(tx, parse_contents(alloc, words)?))
 }
 
 fn parse_contents(alloc: Global, words: &[&str]) -> Result<Vec<Bytes>, LineError>
-    ensures { IfOk result (λ contents. vec_len contents ≡ length words.now) }
+    ensures count { IfOk result (λ contents. vec_len contents ≡ length words.now) }
+    ensures each { IfOk result (λ contents. AreContentsOf words.now contents.items) }
 {
     let mut contents = Vec::new(alloc);
     for word in words {
@@ -242,6 +248,7 @@ fn parse_contents(alloc: Global, words: &[&str]) -> Result<Vec<Bytes>, LineError
 fn parse_content(alloc: Global, word: &str) -> Result<Bytes, LineError>
     ensures some { IfOk result (λ bytes. 0 < length bytes) }
     ensures plain { slice_index word.now 0 ≢ 64 → IfOk result (λ bytes. bytes ≡ word.now) }
+    ensures content { IfOk result (λ bytes. IsContentOf word.now bytes) }
 {
     if word.is_empty() || !word.bytes().all(|byte| byte.is_ascii_graphic()) {
         return Err(LineError::BadCommand);
@@ -253,7 +260,8 @@ fn parse_content(alloc: Global, word: &str) -> Result<Bytes, LineError>
 }
 
 fn parse_copies(alloc: Global, copies: &str) -> Result<Bytes, LineError>
-    ensures { IfOk result (λ bytes. (0 < length bytes) × (length bytes ≤ 338688)) }
+    ensures limits { IfOk result (λ bytes. (0 < length bytes) × (length bytes ≤ 338688)) }
+    ensures copies { IfOk result (λ bytes. AreCopies copies.now bytes) }
 {
     let Some((count, character)) = copies.split_once(':') else {
         return Err(LineError::BadCommand);
@@ -265,6 +273,7 @@ fn parse_copies(alloc: Global, copies: &str) -> Result<Bytes, LineError>
 }
 
 fn make_copies(alloc: Global, count: &str, byte: u8) -> Result<Bytes, LineError>
+    ensures number { IsOk result → IsNumberBelow 338689 count.now × (0 < number_of count.now) }
     ensures copies { IfOk result (λ bytes. bytes ≡ replicate (number_of count.now) byte) }
     ensures limits { IfOk result (λ bytes. (0 < length bytes) × (length bytes ≤ 338688)) }
     ensures refused { IfErr result (λ e. IsNumberBelow 338689 count.now → 0 < number_of count.now
@@ -278,7 +287,9 @@ fn make_copies(alloc: Global, count: &str, byte: u8) -> Result<Bytes, LineError>
 }
 
 fn parse_crash(alloc: Global, letters: &str) -> Result<Command, LineError>
-    ensures { IfOk result (λ command. IsCrashOf letters.now command) }
+    ensures crash { IfOk result (λ command. IsCrashOf letters.now command) }
+    ensures refused { 0 < length letters.now → All (λ letter. IsSome (piece_of letter)) letters.now
+        → IfErr result (λ e. e ≡ LineError.NoMemory) }
 {
     if letters.is_empty() {
         return Err(LineError::BadCommand);

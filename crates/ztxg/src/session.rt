@@ -1,8 +1,10 @@
 //! The device and the pool that a script works on.
 
-ghost use Rattle.std.specs.Prelude.{◌≡◌, ◌↔◌, ◌*◌, ◌/◌, true, false, is_ok, is_some, IsTrue, IsOk, IsErr, IfOk, IsErrOf, MatchResult, [], drop, unwrap_or};
+ghost use Rattle.std.specs.Prelude.{◌≡◌, ◌↔◌, ◌*◌, ◌/◌, true, false, is_ok, is_some, IsTrue, IsOk, IsErr, IfOk, IsErrOf, MatchResult, [], drop, unwrap_or, IsSomeAnd};
+ghost use Rattle.base.specs.Disk.{bytes_of};
 ghost use Rattle.base.specs.Geometry.{is_geometry};
 ghost use Rattle.device_model.specs.MemState.{new_state};
+ghost use Rattle.import_replay.specs.Creations.{IsCreatedOn};
 ghost use Rattle.std.specs.Vec.Iter.{into_iter_items};
 ghost use Rattle.ztxg.specs.Fillings.{op_of, ops_of, taken_by};
 
@@ -42,7 +44,7 @@ pub struct Session {
 }
 
 impl Session {
-    ghost use Rattle.ztxg.specs.Places.{Crashes, IsDeviceOf, has_device, has_pool, has_what_it_needs, is_crash};
+    ghost use Rattle.ztxg.specs.Places.{Crashes, Leaves, device_in, has_device, has_pool, has_what_it_needs, is_crash};
 
     /// A session with no device yet. A new device has `size` div 512 sectors, and each uberblock this moment.
     pub fn new(alloc: Global, size: u64, moment: u64) -> Self
@@ -66,6 +68,7 @@ impl Session {
     pub fn run(&mut self, command: Command) -> Result<Answer, BadCommand>
         ensures needs { IsOk result → IsTrue (has_what_it_needs command self.old.place) }
         ensures answered { is_crash command ≡ false → is_ok result ≡ has_what_it_needs command self.old.place }
+        ensures left { Leaves command self.old.place result self.new.place }
         ensures moment { self.new.moment ≡ self.old.moment }
         ensures size { self.new.size ≡ self.old.size }
     {
@@ -79,7 +82,7 @@ impl Session {
 
     // The device, which then is no longer the session's. A pool on it is gone.
     fn take_device(&mut self) -> Option<MemDevice>
-        ensures device { IsDeviceOf self.old.place result }
+        ensures device { result ≡ device_in self.old.place }
         ensures variant { is_some result ≡ has_device self.old.place }
         ensures taken { self.new.place ≡ Place.Nothing }
         ensures moment { self.new.moment ≡ self.old.moment }
@@ -105,6 +108,7 @@ impl Session {
 
     fn take_or_make_device(&mut self) -> Result<MemDevice, PoolError>
         ensures needs { IsErr result → has_device self.old.place ≡ false }
+        ensures device { IfOk result (λ device. device ≡ unwrap_or (device_in self.old.place) (new_state (self.old.size / 512))) }
         ensures taken { self.new.place ≡ Place.Nothing }
         ensures moment { self.new.moment ≡ self.old.moment }
         ensures size { self.new.size ≡ self.old.size }
@@ -118,6 +122,8 @@ impl Session {
     fn create(&mut self, name: &Bytes, guid: u64) -> Answer
         ensures left { IsTrue (has_device self.old.place) → IsTrue (has_device self.new.place) }
         ensures no_pool { has_pool self.new.place ≡ false }
+        ensures created { result ≡ Answer.Reply Reply.Done
+            → IsSomeAnd (device_in self.new.place) (λ device. IsCreatedOn (bytes_of device.disk.now) name.now guid) }
         ensures moment { self.new.moment ≡ self.old.moment }
         ensures size { self.new.size ≡ self.old.size }
     {
@@ -169,7 +175,7 @@ impl Session {
     }
 
     fn crash(&mut self, pieces: &[Piece]) -> Result<Answer, BadCommand>
-        ensures crash { Crashes self.old.place pieces.now result self.new.place }
+        ensures crash { Crashes (device_in self.old.place) pieces.now result self.new.place }
         ensures needs { IsOk result → IsTrue (has_device self.old.place) }
         ensures left { has_device self.new.place ≡ has_device self.old.place }
         ensures moment { self.new.moment ≡ self.old.moment }
@@ -227,7 +233,9 @@ impl ScriptPool {
         }
     }
 
-    fn into_device(self) -> MemDevice {
+    fn into_device(self) -> MemDevice
+        ensures { result ≡ self.state.device }
+    {
         let ScriptPool {
             alloc: _,
             state,
