@@ -43,13 +43,14 @@ use uberblocks::Uberblock;
 /// Imports the pool on a device, with a limit of the bytes that may be dirty. The moment is stored in the uberblocks.
 ///
 /// It first flushes the device. With the active uberblock of group u and import number i it loads the tree, and syncs group
-/// u + 4 with import number i + 1 and both label stages (On-Disk Specification, chapter 1). Group u + 5 is then open. All
-/// memory is taken before the first write.
+/// u + 4 with import number i + 1 and both label stages (On-Disk Specification, chapter 1): labels 0 and 2 first where label
+/// 1 or 3 has the chosen config, and labels 1 and 3 first otherwise. Group u + 5 is then open. All memory is taken before the
+/// first write.
 ///
 /// # Errors
 /// In this order: `BadGeometry`; `BadRange` where the limit is not 4,096 to 2^40 bytes; these two before any device call;
-/// `NoPool`; `Damaged`; `TooMany` where u + 5 or i + 1 would pass 2^60; `NoSpace` where no block is free for the log.
-/// `NoMemory`, `Read`, `Write` and `Flush` where they happen. The device comes back.
+/// `NoPool`; `Damaged` with the first fault of the tree; `TooMany` where u + 5 or i + 1 would pass 2^60; `NoSpace` where no
+/// block is free for the log. `NoMemory`, `Read`, `Write` and `Flush` where they happen. The device comes back.
 pub fn import<D: SectorDevice>(
     alloc: Global,
     mut device: D,
@@ -66,7 +67,8 @@ pub fn import<D: SectorDevice>(
         (λ i. HoldsTree (bytes_of (D.disk i.device).now) (frame_of_import i.mounted) (pointers_of i.mounted.tree)
         (contents_of i.mounted.contents).objects) }
 
-    // It makes just its calls, in their order. Then each label has its config and its uberblock, which is certain and active.
+    // It makes just its calls, in their order. Then each label has its config and its uberblock, this is the active one, and
+    // all is certain.
     ensures synced { IsTrue D.keeps_model
         → IfOk result (λ i. IsImportSynced (D.disk device) (D.disk i.device) moment i.mounted) }
     ensures labelled { IsTrue D.keeps_model → IfOk result (λ i. IsImportLabelled (D.disk i.device) moment i.mounted) }
