@@ -1,3 +1,4 @@
+-- How a script ends.
 use Rattle.std.specs.Prelude.{ℕ}
 use Rattle.ztxg.specs.declared.script.Ending.{Ending}
 use Rattle.ztxg.specs.declared.script.Ending.TheVariants.{Done, BadLine, Failed}

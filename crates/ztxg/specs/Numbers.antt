@@ -1,3 +1,4 @@
+-- Numbers as words of a line.
 use Rattle.std.specs.Prelude.{ℕ, ◌<◌, List}
 use Rattle.std.specs.Str.Parse.{IsNumeral, digits_value}
 
