@@ -1,5 +1,5 @@
 -- The bytes that a word of a commit stands for, from its parts.
-use Rattle.std.proofs.Common.{◌≡◌, ◌≢◌, ◌<◌, ◌++◌, ◌∷◌, [], ℕ, List, ap, sym, subst, ◌+◌, refl, length, get_or, take}
+use Rattle.std.proofs.Common.{◌≢◌, ◌<◌, ◌++◌, ◌∷◌, [], ℕ, List, ap, sym, subst, ◌+◌, refl, length, get_or, take}
 use Rattle.std.specs.Borrow.{Bor}
 use Rattle.std.proofs.lemmas.List.{take_more}
 use Rattle.ztxg.specs.Copies.{AreContentsOf, IsContentOf}
