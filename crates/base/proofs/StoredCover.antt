@@ -1,17 +1,14 @@
 -- What a group that waits for its sync leaves of the synced contents: each record that it doesn't write, and each object that it isn't on.
-use Rattle.std.proofs.Common.{◌≡◌, ℕ, zero, suc, ◌+◌, ◌<◌, Bool, true, false, not, cond, ◌&&◌, List, [], ◌∷◌, length, map, filter, refl, ap, sym, subst, ◌∙◌, arith}
+use Rattle.std.proofs.Common.{◌≡◌, ℕ, zero, suc, ◌+◌, Bool, true, false, not, cond, ◌&&◌, List, [], ◌∷◌, length, map, filter, refl, ap, sym, ◌∙◌, arith}
 use Rattle.std.specs.Prelude.{Option, Some, None, Ok, slice_get, nat_lt, option_map, ◌==◌, All}
 use Rattle.std.specs.List.{list_all, list_any, enumerate_from}
-use Rattle.std.specs.Ordering.{nat_cmp}
 use Rattle.std.specs.FinMap as finite
 use Rattle.std.proofs.lemmas.Bool.{and_parts, and_from, eqb-true, lt-ltb}
 use Rattle.std.proofs.lemmas.List.Elements.{All-nil, All-cons}
 use Rattle.base.specs.declared.operation.Op.{Op}
 use Rattle.base.specs.declared.pointer.Pointer.{Pointer}
 use Rattle.base.specs.Plans.{shape_of}
-use Rattle.base.specs.Contents.{Contents}
 use Rattle.base.specs.History.{Entry, replay, entries_in, entries_up_to}
-use Rattle.base.specs.Groups.{Admission}
 use Rattle.base.specs.Places.{Place}
 use Rattle.base.specs.PlannedTrees.{SameEntry, SameRecord}
 use Rattle.base.specs.Past.{Past}

@@ -1,24 +1,21 @@
 -- What an import that answers Ok keeps of its device: the tree that the image had, and no log.
-use Rattle.std.proofs.Common.{◌≡◌, ℕ, ◌+◌, ◌≤◌, List, [], length, refl, ap, sym, subst, ◌∙◌, arith}
-use Rattle.std.specs.Prelude.{Option, Some, None, Ok, slice_get, IfSome}
-use Rattle.std.specs.Ordering.{nat_cmp}
-use Rattle.std.specs.FinMap.{FinMap}
+use Rattle.std.proofs.Common.{◌≡◌, ℕ, ◌+◌, List, [], length, refl, ap, sym, subst, ◌∙◌, arith}
+use Rattle.std.specs.Prelude.{Option, None, IfSome}
 use Rattle.base.specs.declared.pointer.Pointer.{Pointer}
 use Rattle.base.specs.Contents.{Contents}
 use Rattle.base.specs.Geometry.{block_count, IsBlockAddress}
 use Rattle.base.specs.Blocks.{Frame}
 use Rattle.base.specs.Groups.{Line, Middle}
-use Rattle.base.specs.History.{Entry}
-use Rattle.base.specs.Places.{Place, IsPlace, IsInTree}
+use Rattle.base.specs.Places.{Place, IsInTree}
 use Rattle.base.specs.Places.Place.{Root}
-use Rattle.base.specs.PlacedTrees.{HoldsTree, ArePlaced}
+use Rattle.base.specs.PlacedTrees.{HoldsTree}
 use Rattle.base.specs.Uberblocks.{Uberblock}
 use Rattle.base.specs.Imports.{IsImported}
 use Rattle.base.specs.Mount.{frame_of}
-use Rattle.base.specs.Past.{Past, new_past}
+use Rattle.base.specs.Past.{new_past}
 use Rattle.base.specs.Shown.{Shown}
 use Rattle.base.specs.Exact.{AreFree}
-use Rattle.base.specs.Stored.{IsStored, IsKept, SameBlocks, AreUpTo, frame_at}
+use Rattle.base.specs.Stored.{IsKept, SameBlocks, AreUpTo, frame_at}
 use Rattle.base.proofs.KeptLists.{none_at}
 use Rattle.base.proofs.PlacedTrees.{holds-placed}
 use Rattle.base.proofs.PlannedTrees.{holds-elsewhere}

@@ -1,21 +1,21 @@
 -- Sets of addresses and the lists that they are made of and told by.
-use Rattle.std.proofs.Common.{◌≡◌, ℕ, zero, suc, ◌<◌, Bool, true, false, cond, not, ◌&&◌, ◌||◌, List, [], ◌∷◌, length, map, take, refl, ap, sym, ◌∙◌, subst, arith, inl, inr, Option, Some, None, Less, Equal, Greater, nat_eq}
+use Rattle.std.proofs.Common.{◌≡◌, ℕ, zero, suc, ◌<◌, Bool, true, false, cond, ◌&&◌, List, [], ◌∷◌, map, take, refl, ap, sym, ◌∙◌, subst, arith, inl, inr, Some, Less, Equal, Greater, nat_eq}
 use Rattle.std.specs.Prelude.{T, slice_get, option_map, ◌==◌, is_some}
 use Rattle.std.specs.List.{list_any}
 use Rattle.std.specs.Ordering.{nat_cmp, eq_by_cmp, is_lt}
-use Rattle.std.proofs.lemmas.Bool.{eqb-true, eq-eqb, false≢true, cases_lt, le-ltb, and_parts}
+use Rattle.std.proofs.lemmas.Bool.{eqb-true, eq-eqb, cases_lt, le-ltb}
 use Rattle.std.proofs.lemmas.Cmp.{nat_cmp_total}
 use Rattle.std.proofs.lemmas.Option.{slice_get-map}
 use Rattle.std.specs.Cmp.{unsigned_tied}
 use Rattle.std.specs.FinMap as finite
 use Rattle.std.specs.FinMap.{entries_sorted, contains_key-keys, get-from_entries, is_sorted}
-use Rattle.std.specs.FinMap.Entries.{below_all, find, is_some-find}
+use Rattle.std.specs.FinMap.Entries.{below_all, is_some-find}
 use Rattle.std.specs.FinSet as set
 use Rattle.std.specs.FinSet.{FinSet, contains-items, contains-from_list_nat}
 use Rattle.base.specs.Locks.{is_in}
 use Rattle.base.specs.Rising.{as_keys, rising}
 use Rattle.base.proofs.BusyLocks.{some-passes, Some-injective}
-use Rattle.base.proofs.KeptLists.{any_at, none_at, at_within}
+use Rattle.base.proofs.KeptLists.{any_at, none_at}
 
 -- an element of a list by its place
 abbrev pub IsAt : List ℕ → ℕ → Type 0

@@ -1,20 +1,16 @@
 -- The start of a sync: what it takes is free, and what it plans is from the synced tree to that of the contents.
-use Rattle.std.proofs.Common.{◌≡◌, ℕ, zero, suc, ◌+◌, ◌<◌, ◌≤◌, Bool, true, false, not, ◌&&◌, List, [], ◌∷◌, length, map, take, refl, ap, sym, subst, ◌∙◌, arith, ◌⊎◌, inl, inr}
-use Rattle.std.specs.Prelude.{Option, Some, None, Result, Ok, Err, is_some, is_none, slice_get, IfSome, unwrap_or}
+use Rattle.std.proofs.Common.{◌≡◌, ℕ, ◌+◌, Bool, true, false, not, ◌&&◌, List, length, map, refl, ap, sym, subst, ◌∙◌, arith, ◌⊎◌, inl, inr}
+use Rattle.std.specs.Prelude.{Option, Some, None, Ok, is_some, is_none, slice_get, IfSome, unwrap_or}
 use Rattle.std.specs.Ordering.{nat_cmp}
 use Rattle.std.specs.FinSet as set
 use Rattle.std.specs.FinSet.{contains-difference}
-use Rattle.std.proofs.lemmas.Bool.{and_parts, or_parts, not-true, false≢true, cases_lt, le-leb}
+use Rattle.std.proofs.lemmas.Bool.{and_parts, or_parts, not-true, false≢true, cases_lt}
 use Rattle.std.proofs.lemmas.Cmp.{nat_cmp_total}
-use Rattle.base.specs.declared.error.PoolError.{PoolError}
 use Rattle.base.specs.declared.pointer.Pointer.{Pointer}
-use Rattle.base.specs.Contents.{Contents}
-use Rattle.base.specs.History.{Entry, replay, entries_in, entries_up_to}
 use Rattle.base.specs.Locks.{is_in}
-use Rattle.base.specs.Groups.{Line, Middle}
+use Rattle.base.specs.Groups.{Middle}
 use Rattle.base.specs.Geometry.{IsBlockAddress}
-use Rattle.base.specs.Places.{Place, IsPlace, IsInTree}
-use Rattle.base.specs.Places.Place.{Root}
+use Rattle.base.specs.Places.{Place, IsInTree}
 use Rattle.base.specs.PlannedTrees.{NewBlock}
 use Rattle.base.specs.Past.{Past}
 use Rattle.base.specs.Rising.{rising}
@@ -28,11 +24,9 @@ use Rattle.base.specs.Stage as stage
 use Rattle.base.specs.Stored.{NewTree, IsStored, IsPlannedSync, IsSyncing, IsKept, AreBlocks, LeavesTree, IsUnwritten, AreUpTo, frame_at}
 use Rattle.base.proofs.BusyLocks.{Some-injective}
 use Rattle.base.proofs.CommitOrder.{no_refusal, ok-none}
-use Rattle.base.proofs.Cuts.{trees_follow}
-use Rattle.base.proofs.Sieves.{filter_all}
 use Rattle.base.proofs.KeptGroups.{quiesced_is, none_there}
 use Rattle.base.proofs.WrittenBlocks.{free-leaves_tree}
-use Rattle.base.proofs.StoredSets.{IsAt, in-at, at-in, set-at, at-set, rising-in, rising-rises, at-take, map-at}
+use Rattle.base.proofs.StoredSets.{in-at, at-in, set-at, at-set, rising-in, rising-rises, at-take, map-at}
 
 -- where a sync may start, its group is the quiesced one and none runs
 pub start-line : (s : Shown) (group : ℕ) → refusal.start_refusal s ≡ None → refusal.quiesced_group s.line ≡ Some group

@@ -1,22 +1,18 @@
 -- The end of a sync: its tree is the synced one, and the blocks that it has replaced are free.
-use Rattle.std.proofs.Common.{◌≡◌, ℕ, ◌+◌, ◌<◌, ◌≤◌, Bool, true, false, ◌||◌, List, [], ◌∷◌, ◌++◌, length, map, filter, refl, ap, sym, subst, ◌∙◌, arith, ◌⊎◌, inl, inr}
-use Rattle.std.specs.Prelude.{Option, Some, None, Result, Ok, Err, slice_get, IfSome, nat_le, ◌≢◌}
+use Rattle.std.proofs.Common.{◌≡◌, ℕ, ◌+◌, Bool, true, false, ◌||◌, List, [], ◌∷◌, ◌++◌, length, map, filter, refl, ap, sym, subst, ◌∙◌, arith, ◌⊎◌, inl, inr}
+use Rattle.std.specs.Prelude.{Option, Some, None, Ok, slice_get, IfSome, nat_le}
 use Rattle.std.specs.Ordering.{nat_cmp}
-use Rattle.std.specs.FinMap.{FinMap}
 use Rattle.std.specs.FinSet as set
 use Rattle.std.specs.FinSet.{FinSet, contains-union}
 use Rattle.std.proofs.lemmas.Bool.{or_parts, false≢true, le-leb}
 use Rattle.std.proofs.lemmas.Cmp.{nat_cmp_total}
 use Rattle.std.proofs.lemmas.Option.{slice_get_within}
-use Rattle.base.specs.declared.error.PoolError.{PoolError}
 use Rattle.base.specs.declared.pointer.Pointer.{Pointer}
-use Rattle.base.specs.Fields.{no_pointer}
-use Rattle.base.specs.Blocks.{Frame}
 use Rattle.base.specs.Contents.{Contents}
 use Rattle.base.specs.Geometry.{IsBlockAddress}
 use Rattle.base.specs.History.{Entry, replay, entries_up_to}
 use Rattle.base.specs.Locks.{is_in}
-use Rattle.base.specs.Places.{Place, IsPlace, IsInTree}
+use Rattle.base.specs.Places.{Place, IsInTree}
 use Rattle.base.specs.Places.Place.{Root}
 use Rattle.base.specs.PlacedTrees.{HoldsTree}
 use Rattle.base.specs.PlannedTrees.{NewBlock, StandsIn}

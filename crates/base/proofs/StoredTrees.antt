@@ -1,13 +1,12 @@
 -- What a pool keeps of its device, while its bytes change and nothing that is shown does.
-use Rattle.std.proofs.Common.{◌≡◌, ℕ, zero, suc, ◌+◌, ◌-◌, ◌*◌, ◌/◌, ◌%◌, ◌<◌, ◌≤◌, ◌&&◌, Bool, true, false, List, [], ◌∷◌, length, refl, ap, sym, subst, ◌∙◌, arith, ◌⊎◌, inl, inr}
+use Rattle.std.proofs.Common.{◌≡◌, ℕ, zero, suc, ◌+◌, ◌-◌, ◌*◌, ◌/◌, ◌%◌, ◌<◌, ◌≤◌, ◌&&◌, true, List, length, refl, ap, sym, subst, ◌∙◌, arith, ◌⊎◌, inl, inr}
 use Rattle.std.specs.Prelude.{Option, Some, None, slice_get, nat_le, ◌==◌, ◌≢◌}
 use Rattle.std.specs.Ordering.{nat_cmp}
 use Rattle.std.specs.FinMap.{FinMap}
-use Rattle.std.specs.FinSet as set
 use Rattle.std.proofs.lemmas.Bool.{cases_lt, and_parts, leb-true}
 use Rattle.std.proofs.lemmas.Option.{slice_get_within}
 use Rattle.base.specs.declared.pointer.Pointer.{Pointer}
-use Rattle.base.specs.Fields.{part, no_pointer}
+use Rattle.base.specs.Fields.{part}
 use Rattle.base.specs.Geometry.{block_area, block_size, block_address, block_count, label_place, IsGeometry, IsBlockAddress}
 use Rattle.base.specs.Blocks.{Frame}
 use Rattle.base.specs.Disk.{put, SameOutside, IsInRange}
@@ -21,7 +20,7 @@ use Rattle.base.specs.Past.{Past}
 use Rattle.base.specs.Shown.{Shown, taken_of}
 use Rattle.base.specs.Exact.{AreFree, IsInLog}
 use Rattle.base.specs.Explains.{IsSyncedTree}
-use Rattle.base.specs.Stored.{NewTree, IsStored, IsSyncing, RunsAs, IsKept, SameBlocks, Advances, AreBlocks, IsUnwritten, frame_at}
+use Rattle.base.specs.Stored.{NewTree, IsStored, IsSyncing, IsKept, SameBlocks, Advances, frame_at}
 use Rattle.base.proofs.Put.{Apart, length-put, part-put_same, part-put_apart}
 use Rattle.base.proofs.BusyLocks.{Some-injective}
 use Rattle.base.proofs.PlacedTrees.{holds-tree, holds-placed, none_or_opens, in-tree, told-in_tree}

@@ -1,6 +1,6 @@
 -- A record that a pending operation writes begins before the end of its object.
-use Rattle.std.proofs.Common.{◌≡◌, ℕ, zero, suc, ◌+◌, ◌<◌, Bool, true, not, ◌&&◌, List, [], ◌∷◌, length, map, refl, ap, sym, subst, ◌∙◌, arith}
-use Rattle.std.specs.Prelude.{Option, Some, None, Ok, slice_get, nat_lt, ◌==◌, All}
+use Rattle.std.proofs.Common.{◌≡◌, ℕ, zero, suc, ◌+◌, true, not, ◌&&◌, List, [], ◌∷◌, map, ap, sym, subst, ◌∙◌}
+use Rattle.std.specs.Prelude.{Some, None, Ok, slice_get, nat_lt, ◌==◌, All}
 use Rattle.std.specs.List.{list_all, enumerate_from}
 use Rattle.std.specs.FinMap as finite
 use Rattle.std.proofs.lemmas.Bool.{and_parts, eq-eqb}

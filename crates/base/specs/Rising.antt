@@ -2,7 +2,6 @@
 use Rattle.std.specs.Prelude.{ℕ, List, map}
 use Rattle.std.specs.Ordering.{nat_cmp}
 use Rattle.std.specs.FinMap as finite
-use Rattle.std.specs.FinMap.{FinMap}
 use Rattle.std.specs.FinSet as set
 use Rattle.std.specs.FinSet.{FinSet}
 
