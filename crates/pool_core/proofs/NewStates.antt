@@ -1,5 +1,5 @@
 -- The state that an import gives is held by its device, with a past in which nothing happened.
-use Rattle.std.proofs.Common.{◌≡◌, ℕ, List, [], length, refl, ap, sym, subst, ◌∙◌}
+use Rattle.std.proofs.Common.{◌≡◌, ℕ, List, length, refl, sym, subst}
 use Rattle.std.specs.Prelude.{None, option_map}
 use Rattle.base.specs.Exact.{AreFree}
 use Rattle.base.specs.ExactNow.{IsExplainedNow}
@@ -7,7 +7,7 @@ use Rattle.base.specs.Geometry.{IsBlockAddress, block_count}
 use Rattle.base.specs.Imports.{IsImportOf}
 use Rattle.base.specs.Past.{Past, new_past}
 use Rattle.base.specs.PlacedTrees.{HoldsTree}
-use Rattle.base.specs.Stored.{Held, IsHeld, IsStored}
+use Rattle.base.specs.Stored.{IsHeld, IsStored}
 use Rattle.base.proofs.KeptLists.{none_at}
 use Rattle.object_maps.specs.ContentsShown.{contents_of}
 use Rattle.object_maps.specs.Pointers.{pointers_of}

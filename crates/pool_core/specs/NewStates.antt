@@ -1,5 +1,5 @@
 -- When the state that an import gives is held by its device.
-use Rattle.std.specs.Prelude.{ℕ, List, None}
+use Rattle.std.specs.Prelude.{ℕ, List}
 use Rattle.base.specs.Exact.{AreFree}
 use Rattle.base.specs.ExactNow.{IsExplainedNow}
 use Rattle.base.specs.Imports.{IsImportOf}

@@ -1,4 +1,4 @@
-use Rattle.std.proofs.Common.{◌≡◌, ◌∙◌, ℕ, List, ap, sym}
+use Rattle.std.proofs.Common.{◌∙◌, ℕ, List, ap, sym}
 use Rattle.base.specs.Disk.{bytes_of}
 use Rattle.base.specs.Geometry.{block_count}
 use Rattle.base.specs.Past.{new_past}
