@@ -1,5 +1,5 @@
 -- Steps one after another are a run of the definitions, and keep what a past explains.
-use Rattle.std.proofs.Common.{List, [], ◌∷◌, refl, sym, subst, ap}
+use Rattle.std.proofs.Common.{List, [], ◌∷◌, refl, sym, subst}
 use Rattle.base.specs.declared.step.Step as declared_step
 use Rattle.base.specs.declared.step.Step.TheVariants as step
 use Rattle.base.specs.declared.step.Reply as declared_reply

@@ -1,6 +1,6 @@
 -- Steps that leave the bytes of the device, the tree and the running sync as they were.
 use Rattle.std.proofs.Common.{◌≡◌, ℕ, Bool, true, false, List, refl, ap, sym, subst}
-use Rattle.std.specs.Prelude.{Option, Result, Ok, Err, MatchResult, option_map}
+use Rattle.std.specs.Prelude.{Result, Ok, Err, MatchResult, option_map}
 use Rattle.std.proofs.lemmas.Bool.{false≢true}
 use Rattle.base.specs.declared.error.PoolError.{PoolError}
 use Rattle.base.specs.declared.names.Group.{Group}
@@ -8,12 +8,11 @@ use Rattle.base.specs.declared.step.Reply as declared_reply
 use Rattle.base.specs.declared.step.Reply.TheVariants as reply
 use Rattle.base.specs.Disk.{Disk, bytes_of}
 use Rattle.base.specs.Geometry.{block_count}
-use Rattle.base.specs.Stored.{NewTree, SameBlocks}
+use Rattle.base.specs.Stored.{SameBlocks}
 use Rattle.base.proofs.StoredTrees.{no-change}
 use Rattle.object_maps.specs.declared.tree.Tree.{Tree}
 use Rattle.object_maps.specs.Pointers.{pointers_of}
 use Rattle.pool_core.specs.declared.pool.Pool.{Pool}
-use Rattle.pool_core.specs.declared.pool.RunningSync.{RunningSync}
 use Rattle.pool_core.specs.Holds.{Leads, Told, new_tree_of, start_reply, told_of}
 
 -- whether a reply says neither that a sync goes on nor that one was started or is done

@@ -1,20 +1,17 @@
 -- What a device call of a running sync makes of the blocks of the device.
-use Rattle.std.proofs.Common.{◌≡◌, ℕ, ◌+◌, ◌-◌, ◌<◌, ◌≤◌, false, List, [], ◌∷◌, length, map, min, refl, ap, sym, subst, ◌∙◌, arith, ◌⊎◌, inl, inr, vec_len}
-use Rattle.std.specs.Prelude.{Option, Some, None, Result, Ok, Err, is_some, option_map, slice_get}
+use Rattle.std.proofs.Common.{◌≡◌, ℕ, ◌+◌, ◌-◌, ◌<◌, ◌≤◌, false, List, length, map, min, refl, ap, sym, subst, ◌∙◌, arith, inl, inr, vec_len}
+use Rattle.std.specs.Prelude.{Option, Some, None, Ok, Err, is_some, option_map, slice_get}
 use Rattle.std.specs.List.{AllByRecursion}
 use Rattle.std.proofs.Math.Nat.{min-eq_left, min-eq_right}
 use Rattle.std.proofs.lemmas.Bool.{cases_lt, true≢false}
 use Rattle.std.proofs.lemmas.List.{length-map}
 use Rattle.std.proofs.lemmas.Option.{slice_get-map}
-use Rattle.std.specs.Global.{Vec}
 use Rattle.base.specs.declared.error.PoolError.{PoolError}
 use Rattle.base.specs.declared.pointer.Pointer.{Pointer}
 use Rattle.base.specs.declared.step.Reply.TheVariants as reply
 use Rattle.base.specs.declared.names.Group.{Group}
-use Rattle.base.specs.Calls.{Flushes}
 use Rattle.base.specs.Disk.{Disk, bytes_of, put}
-use Rattle.base.specs.Geometry.{IsGeometry, block_address, block_count, label_place, slot_place}
-use Rattle.base.specs.Past.{Past}
+use Rattle.base.specs.Geometry.{IsGeometry, block_count, label_place, slot_place}
 use Rattle.base.specs.Places.{Place}
 use Rattle.base.specs.PlannedTrees.{NewBlock}
 use Rattle.base.specs.Stored.{Advances, NewTree, SameBlocks}
@@ -26,8 +23,8 @@ use Rattle.base.proofs.Regions.{flushed_clean}
 use Rattle.base.proofs.StoredTrees.{label-put, no-change}
 use Rattle.sync.specs.declared.run.LabelStages.{LabelStages}
 use Rattle.sync.specs.declared.run.SyncRun.{SyncRun}
-use Rattle.sync.specs.Calls.{IsNextCall, MakesCall, Target, WritesTarget, block_target, calls_of, first_labels, last_labels, target_of}
-use Rattle.sync.specs.Runs.{SameSync, call_count, other_calls}
+use Rattle.sync.specs.Calls.{IsNextCall, MakesCall, Target, WritesTarget, block_target, first_labels, last_labels, target_of}
+use Rattle.sync.specs.Runs.{SameSync, call_count}
 use Rattle.sync.proofs.CallPlaces.{block_stands, others_stand}
 use Rattle.sync.proofs.Targets.{each-at}
 use Rattle.tree_plans.specs.declared.planner.PlannedBlock.{PlannedBlock}

@@ -1,5 +1,5 @@
 -- A step of a running sync, by what its device call answered.
-use Rattle.std.proofs.Common.{Bool, cond, ℕ, ◌≡◌, ◌+◌, ◌-◌, ◌<◌, true, false, List, [], ◌++◌, map, nat_le, nat_lt, refl, ap, sym, ◌∙◌, ◌⊎◌}
+use Rattle.std.proofs.Common.{Bool, cond, ℕ, ◌≡◌, ◌-◌, ◌<◌, true, false, List, [], ◌++◌, map, nat_le, nat_lt, refl, ap, sym, ◌∙◌, ◌⊎◌}
 use Rattle.std.specs.Prelude.{Option, Some, None, Ok, Err, filter}
 use Rattle.std.specs.Ordering.{eq_by_cmp, nat_cmp}
 use Rattle.std.specs.FinMap as finite

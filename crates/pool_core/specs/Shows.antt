@@ -1,9 +1,7 @@
 -- What contracts show of a pool, read off its fields.
-use Rattle.std.specs.Prelude.{ℕ, ◌-◌, ◌+◌, Bool, true, false, List, [], ◌∷◌, filter, length, map, nat_lt, option_map}
-use Rattle.std.specs.Ordering.{nat_cmp}
+use Rattle.std.specs.Prelude.{ℕ, ◌-◌, ◌+◌, List, [], filter, length, map, nat_lt, option_map}
 use Rattle.std.specs.FinMap as finite
 use Rattle.std.specs.FinSet as set
-use Rattle.std.specs.FinSet.{FinSet}
 use Rattle.base.specs.declared.pointer.Pointer.{Pointer}
 use Rattle.base.specs.Locks.{Grant}
 use Rattle.base.specs.Groups.{Admission}

@@ -1,7 +1,6 @@
-use Rattle.std.proofs.Common.{ℕ, ◌≡◌, ◌<◌, ◌∙◌, ap, sym, true, subst, arith, vec_len}
-use Rattle.base.specs.Geometry.{IsBlockAddress, block_address, block_count}
+use Rattle.std.proofs.Common.{◌<◌, ◌∙◌, arith, vec_len}
+use Rattle.base.specs.Geometry.{block_count}
 use Rattle.space.specs.FreeSets.{free_of}
-use Rattle.pool_core.specs.Areas.{is_block_of}
 use Rattle.pool_core.proofs.FreeBlocks.{block_of, given_more, union_none}
 use Rattle.pool_core.proofs.pool.give_all.Goals as goal
 

@@ -1,9 +1,5 @@
-use Rattle.std.proofs.Common.{◌≡◌, ◌∙◌, ap, map, sym, length, take}
-use Rattle.std.specs.FinSet as set
-use Rattle.std.proofs.lemmas.List.{take_all}
-use Rattle.tree_plans.specs.declared.planner.PlannedBlock.{PlannedBlock}
+use Rattle.std.proofs.Common.{◌∙◌}
 use Rattle.space.specs.FreeSets.{free_of}
-use Rattle.tree_plans.specs.Plans.{address_of}
 use Rattle.pool_core.proofs.FreeBlocks.{difference_none, taken_more}
 use Rattle.pool_core.proofs.pool.take_all.Goals as goal
 

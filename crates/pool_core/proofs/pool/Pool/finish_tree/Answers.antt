@@ -1,17 +1,11 @@
-use Rattle.std.proofs.Common.{ℕ, ◌≡◌, ◌∙◌, ap, sym, subst, refl, false, map, nat_lt, true≢false, List, Bool, Some}
-use Rattle.std.specs.Prelude.{filter, is_some}
+use Rattle.std.proofs.Common.{ℕ, ◌≡◌, ◌∙◌, ap, sym, false, map, nat_lt, List, Bool}
 use Rattle.std.specs.FinSet as set
 use Rattle.std.specs.List.{list_any}
 use Rattle.std.proofs.lemmas.List.Elements.{All-filter}
 use Rattle.base.specs.Geometry.{block_count}
-use Rattle.base.specs.Places.{IsPlace, Place}
-use Rattle.base.specs.PlacedTrees.{ArePlaced, IsPlaced}
 use Rattle.base.specs.Records.{Record}
 use Rattle.base.specs.Syncs.{is_rename}
-use Rattle.object_maps.specs.Pointers.{pointers_of}
 use Rattle.tree_plans.specs.declared.planner.Committed.{Committed}
-use Rattle.pool_core.specs.declared.pool.RunningSync.{RunningSync}
-use Rattle.pool_core.specs.Pointers.{pointers_after}
 use Rattle.pool_core.specs.Shows.{record_of, shown_of}
 use Rattle.pool_core.proofs.Mapped.{filter-map}
 use Rattle.pool_core.proofs.SameSyncs.{none_running, placed_after}

@@ -1,10 +1,9 @@
-use Rattle.std.proofs.Common.{ℕ, ◌≡◌, ◌∙◌, ◌<◌, ◌-◌, ap, map, sym, subst, refl, true, Some, None}
+use Rattle.std.proofs.Common.{◌≡◌, ◌∙◌, ◌<◌, ◌-◌, ap, map, sym, subst, refl, true, Some, None}
 use Rattle.std.specs.Prelude.{Option, Result, option_map}
 use Rattle.std.proofs.lemmas.Bool.{true≢false}
 use Rattle.std.proofs.lemmas.Result.{err_from_is_err_and}
 use Rattle.base.specs.Geometry.{block_address, block_count}
 use Rattle.tree_plans.specs.declared.planner.PlannedBlock.{PlannedBlock}
-use Rattle.base.specs.Groups.{Line}
 use Rattle.base.specs.PlacedTrees.{ArePlaced}
 use Rattle.base.specs.Shown.{SyncPlan}
 use Rattle.sync.specs.Runs.{call_count}
