@@ -15,6 +15,7 @@ use Rattle.base.specs.Past.{Past}
 use Rattle.base.specs.Places.{Place, has_block}
 use Rattle.base.specs.PlannedPlaces.{written_by}
 use Rattle.base.specs.PlannedTrees.{NewBlock}
+use Rattle.base.specs.Rising.{rising}
 use Rattle.base.specs.Shown.{Shown, SyncPlan}
 use Rattle.base.specs.Steps.{TakesForEach, ops_of_group}
 use Rattle.base.specs.Stored.{IsStored, frame_at}
@@ -22,12 +23,14 @@ use Rattle.base.specs.Syncs.{written_places}
 use Rattle.base.proofs.BuiltPlaces.{HasBytes, built-places, group-bytes}
 use Rattle.base.proofs.UntouchedRecords.{writes_record}
 use Rattle.base.proofs.WrittenRecords.{IsBuilt}
+use Rattle.space.specs.FreeSets.{addresses_from, free_of}
+use Rattle.space.proofs.FreeLists.{rising-free_of}
 use Rattle.tree_plans.specs.declared.planner.Committed.{Committed}
 use Rattle.tree_plans.specs.declared.planner.DirtyRecords.{DirtyRecords}
 use Rattle.tree_plans.specs.Changes.{AreInRange, is_marked}
 use Rattle.tree_plans.specs.Marks.{AreMarks, pending_ops, touches}
 use Rattle.tree_plans.specs.Pointers.{entry_of}
-use Rattle.pool_core.specs.GroupPlans.{IsPlannedFrom}
+use Rattle.pool_core.specs.GroupPlans.{IsPlannedFrom, IsShortOfBlocks}
 use Rattle.pool_core.specs.Shows.{record_of as shown_record}
 use Rattle.pool_core.proofs.PlannedGroups.{any_on, built, follows, ops_are, there, touch_writes}
 
@@ -67,6 +70,12 @@ module _ (now : List ℕ) (s : Shown) (p : Past) (pointers : Place → Pointer) 
         ap (λ (ops : List Op). written_places ops x.synced (has_block now s.root)) (ops_are now s p pointers x explained group idle middle pending log)
         ∙ built-places (pending_ops group pending) x.synced s.contents (has_block now s.root) leads are_built have_bytes (is_marked objects) (λ n. is_some (entry_of objects n))
         (λ n r low below. marks.marked n r below ∙ any_writes n r (pending_ops group pending)) (λ n low. marks.there n ∙ any_on n (pending_ops group pending) are_built)
+
+  -- where the plan of the group is short of blocks, they are fewer than the places
+  pub fewer_blocks : (flags : List Bool) → IsShortOfBlocks group pending flags → length (rising (free_of flags)) < length places
+  fewer_blocks flags short =
+      subst (λ (l : List ℕ). length l < length places) (sym (rising-free_of flags))
+      (subst (λ (ps : List Place). length (addresses_from 0 flags) < length ps) (sym (places_are short.objects short.marks)) (short.fewer (in_range short.objects short.marks)))
 
   module _ (new : Place → Pointer) (bs : List NewBlock) (plan : SyncPlan) (from : IsPlannedFrom group pending (frame_at s group) pointers new bs s.contents.objects) (taken : map (λ (b : NewBlock). b.address) bs ≡ plan.taken) where
     -- the new tree has the taken addresses at them, in order

@@ -23,12 +23,12 @@ use Rattle.tree_plans.specs.Changes.{AreBornBefore}
 use Rattle.tree_plans.specs.Plans.{address_of, new_block}
 use Rattle.pool_core.specs.declared.pool.Pool.{Pool}
 use Rattle.pool_core.specs.declared.pool.RunningSync.{RunningSync}
-use Rattle.pool_core.specs.GroupPlans.{IsPlannedFrom}
-use Rattle.pool_core.specs.Holds.{held_with, new_tree_of, told_of}
+use Rattle.pool_core.specs.GroupPlans.{IsPlannedFrom, IsShortOfBlocks}
+use Rattle.pool_core.specs.Holds.{LacksBlocks, held_with, new_tree_of, told_of}
 use Rattle.pool_core.specs.Lines.{MayStart, line_of}
 use Rattle.pool_core.specs.Pointers.{pointers_after}
 use Rattle.pool_core.specs.Shows.{new_plan, shown_of}
-use Rattle.pool_core.proofs.PlannedCounts.{takes_for_each, takes_in_order}
+use Rattle.pool_core.proofs.PlannedCounts.{fewer_blocks, takes_for_each, takes_in_order}
 use Rattle.pool_core.proofs.PlannedGroups.{planned_sync}
 
 -- the addresses of blocks as they are written
@@ -76,3 +76,15 @@ module _ (now : List ℕ) (past : Past) (pool : Pool) (group moment : ℕ) (bloc
   group_takes_each =
       takes_for_each now (shown_of pool) past (pointers_of pool.tree) x.kept.stored x.explained group (none_there (line_of pool.groups).syncing may.1) (quiesced_is (line_of pool.groups) group may.0) pool.pending.items refl
       (pointers_after root directories maps pool.tree) (map new_block blocks) plan planned (addresses_are blocks)
+
+-- where its plan is short of blocks, the pool lacks them
+pub group_lacks : (now : List ℕ) (past : Past) (pool : Pool) (group : ℕ) → MayStart group (line_of pool.groups) → IsShortOfBlocks group pool.pending.items pool.free.flags.items
+    → IsHeld (held_with (told_of now pool) past) → LacksBlocks past (told_of now pool)
+group_lacks now past pool group may short x = record {
+  group = group;
+  quiesced = may.0;
+  synced = x.kept.stored.synced;
+  replayed = x.kept.stored.replayed;
+  fewer = fewer_blocks now (shown_of pool) past (pointers_of pool.tree) x.kept.stored x.explained group (none_there (line_of pool.groups).syncing may.1) (quiesced_is (line_of pool.groups) group may.0)
+      pool.pending.items refl pool.free.flags.items short;
+}

@@ -1,5 +1,5 @@
 -- What a pool keeps of its device, step by step.
-use Rattle.std.specs.Prelude.{ℕ, ◌≡◌, List, map, length, min, Option, Some, option_map, Result, Ok}
+use Rattle.std.specs.Prelude.{ℕ, ◌≡◌, ◌<◌, List, map, length, min, Option, Some, option_map, Result, Ok}
 use Rattle.base.specs.declared.error.PoolError.{PoolError}
 use Rattle.base.specs.declared.names.Group.{Group}
 use Rattle.base.specs.declared.pointer.Pointer.{Pointer}
@@ -10,6 +10,8 @@ use Rattle.base.specs.Contents.{Contents}
 use Rattle.base.specs.History.{entries_up_to, replay}
 use Rattle.base.specs.Past.{Past}
 use Rattle.base.specs.Places.{Place, IsPlace, has_block}
+use Rattle.base.specs.Refusals.{quiesced_group}
+use Rattle.base.specs.Rising.{rising}
 use Rattle.base.specs.Runs as runs
 use Rattle.base.specs.Runs.{Run, progress_reply, reply_of}
 use Rattle.base.specs.Shown.{Shown, SyncPlan}
@@ -82,6 +84,14 @@ pub record TakesInOrder (group : ℕ) (past : Past) (old new : Told) : Type 0 wh
   pub plan : SyncPlan
   pub plan_is : new.shown.sync ≡ Some plan
   pub each : map (λ (place : Place). (tree.pointers place).address) (written_places (ops_of_group group past.entries) synced (has_block old.now old.shown.root)) ≡ plan.taken
+
+-- Fewer blocks are free than there are places that the sync of the quiesced group writes.
+pub record LacksBlocks (past : Past) (old : Told) : Type 0 where
+  pub group : ℕ
+  pub quiesced : quiesced_group old.shown.line ≡ Some group
+  pub synced : Contents
+  pub replayed : replay (entries_up_to old.shown.line.synced past.entries) past.base ≡ Ok synced
+  pub fewer : length (rising old.shown.free) < length (written_places (ops_of_group group past.entries) synced (has_block old.now old.shown.root))
 
 -- a step with its reply, over a device with the bytes of the old state
 abbrev pub IsStepOver : declared_step.Step → declared_reply.Reply → Held → Held → Type 0

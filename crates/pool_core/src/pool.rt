@@ -23,7 +23,7 @@ ghost use Rattle.base.specs.Syncs.{is_rename};
 ghost use Rattle.pool_core.specs.Areas.{is_block_of};
 ghost use Rattle.tree_plans.specs.Changes.{AreBornBefore};
 ghost use Rattle.tree_plans.specs.Plans.{address_of, new_block};
-ghost use Rattle.pool_core.specs.GroupPlans.{IsPlannedFrom};
+ghost use Rattle.pool_core.specs.GroupPlans.{IsPlannedFrom, IsShortOfBlocks};
 ghost use Rattle.object_maps.specs.ContentsShown.{contents_of};
 ghost use Rattle.pool_core.specs.Numbers.{IsGroup};
 ghost use Rattle.pool_core.specs.Pointers.{pointers_after};
@@ -114,7 +114,7 @@ impl Pool {
     ghost use Rattle.std.specs.Prelude.{ℕ, List};
     ghost use Rattle.base.specs.Disk.{bytes_of};
     ghost use Rattle.pool_core.specs.Calls.{CallsNext};
-    ghost use Rattle.pool_core.specs.Holds.{Leads, MeetsHeld, TakesInOrder, held_with, start_reply, sync_reply, told_of};
+    ghost use Rattle.pool_core.specs.Holds.{LacksBlocks, Leads, MeetsHeld, TakesInOrder, held_with, start_reply, sync_reply, told_of};
     ghost use Rattle.pool_core.specs.Lines.{MayNotStart, MayStart, line_of};
     ghost use Rattle.pool_core.specs.Meets.{MayCommit, Meets, MeetsExplained};
     ghost use Rattle.pool_core.specs.Progresses.{progress_of};
@@ -413,13 +413,14 @@ impl Pool {
     /// room for all its steps. The moment is stored in its uberblocks.
     ///
     /// # Errors
-    /// In this order: `Suspended`; `NotReady` where no group is quiesced or one is syncing; `NoSpace` where the free blocks
-    /// do not suffice; `NoMemory`.
+    /// In this order: `Suspended`; `NotReady` where no group is quiesced or one is syncing; `NoSpace`, only where fewer blocks
+    /// are free than there are places to write (`no_space`); `NoMemory`.
     pub fn start_sync(&mut self, moment: u64) -> Result<Group, PoolError>
         ensures geometry { self.new.geometry ≡ self.old.geometry }
         ensures step { MeetsExplained (stage.StartSync ⊥ [] moment) (result_map (λ group. group.0) result) (shown_of self.old) (shown_of self.new) }
         ensures held { MeetsHeld (λ now. stage.StartSync (Unit {0}) now moment) (result_map (λ group. group.0) result) self.old self.new }
         ensures order { (now : List ℕ) (past : Past) → IsHeld (held_with (told_of now self.old) past) → IfOk result (λ group. TakesInOrder group.0 past (told_of now self.old) (told_of now self.new)) }
+        ensures no_space { (now : List ℕ) (past : Past) → IsHeld (held_with (told_of now self.old) past) → IfErr result (λ e. e ≡ PoolError.NoSpace → LacksBlocks past (told_of now self.old)) }
         ensures leads { (now : List ℕ) → Leads (start_reply result) (told_of now self.old) (told_of now self.new) }
     {
         self.check_running()?;
@@ -453,6 +454,7 @@ impl Pool {
             → AreFreed (pointers_of self.now.tree) (pointers_after p.root p.directories.items p.maps self.now.tree) p.freed.items) }
         ensures used { IfOk result (λ p. AreUsed (map new_block p.blocks.items) (pointers_after p.root p.directories.items p.maps self.now.tree)) }
         ensures whole { IfOk result (λ p. (i : ℕ) (b : NewBlock) → slice_get (map new_block p.blocks.items) i ≡ Some b → length b.content ≡ block_size) }
+        ensures no_space { IfErr result (λ e. e ≡ PoolError.NoSpace → IsShortOfBlocks group.0 self.now.pending.items self.now.free.flags.items) }
         ensures refused { IfErr result (λ e. (e ≡ PoolError.NoMemory) ⊎ (e ≡ PoolError.NoSpace)) }
     {
         let objects = dirty_objects(self.alloc, &self.pending, group)?;

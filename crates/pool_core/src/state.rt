@@ -1,6 +1,6 @@
 //! A running pool on its device, and each of its steps.
 
-ghost use Rattle.std.specs.Prelude.{◌≡◌, [], IfOk, IsTrue};
+ghost use Rattle.std.specs.Prelude.{◌≡◌, [], IfErr, IfOk, IsTrue};
 ghost use Rattle.base.specs.Past.{Past};
 ghost use Rattle.base.specs.Refusals.{object_range};
 ghost use Rattle.base.specs.Stage as stage;
@@ -41,7 +41,7 @@ impl<D: SectorDevice> PoolState<D> {
     ghost use Rattle.std.specs.Prelude.{ℕ, List};
     ghost use Rattle.base.specs.Disk.{bytes_of};
     ghost use Rattle.pool_core.specs.Calls.{CallsNext};
-    ghost use Rattle.pool_core.specs.Holds.{Leads, MeetsHeld, TakesInOrder, held_with, start_reply, sync_reply, told_of};
+    ghost use Rattle.pool_core.specs.Holds.{LacksBlocks, Leads, MeetsHeld, TakesInOrder, held_with, start_reply, sync_reply, told_of};
     ghost use Rattle.pool_core.specs.Meets.{Meets, MeetsExplained};
     ghost use Rattle.pool_core.specs.NewStates.{IsHeldAnew};
     ghost use Rattle.pool_core.specs.Progresses.{progress_of};
@@ -178,12 +178,13 @@ impl<D: SectorDevice> PoolState<D> {
     /// room for all its steps. The moment is stored in its uberblocks.
     ///
     /// # Errors
-    /// In this order: `Suspended`; `NotReady` where no group is quiesced or one is syncing; `NoSpace` where the free blocks
-    /// do not suffice; `NoMemory`.
+    /// In this order: `Suspended`; `NotReady` where no group is quiesced or one is syncing; `NoSpace`, only where fewer blocks
+    /// are free than there are places to write (`no_space`); `NoMemory`.
     pub fn start_sync(&mut self, moment: u64) -> Result<Group, PoolError>
         ensures step { MeetsExplained (stage.StartSync ⊥ [] moment) (result_map (λ group. group.0) result) (shown_of self.old.pool) (shown_of self.new.pool) }
         ensures held { MeetsHeld (λ now. stage.StartSync (Unit {0}) now moment) (result_map (λ group. group.0) result) self.old.pool self.new.pool }
         ensures order { (now : List ℕ) (past : Past) → IsHeld (held_with (told_of now self.old.pool) past) → IfOk result (λ group. TakesInOrder group.0 past (told_of now self.old.pool) (told_of now self.new.pool)) }
+        ensures no_space { (now : List ℕ) (past : Past) → IsHeld (held_with (told_of now self.old.pool) past) → IfErr result (λ e. e ≡ PoolError.NoSpace → LacksBlocks past (told_of now self.old.pool)) }
         ensures leads { (now : List ℕ) → Leads (start_reply result) (told_of now self.old.pool) (told_of now self.new.pool) }
         ensures device { self.new.device ≡ self.old.device }
     {

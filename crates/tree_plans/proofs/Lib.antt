@@ -6,3 +6,4 @@ pub mod Planned
 pub mod Marked
 pub mod Uses
 pub mod Order
+pub mod Room

@@ -88,11 +88,11 @@ unfolding addresses_where
 adds_begun p pointers s = adds_none s
 
 -- no block of an object without dirty records
-none_passes : (p : ℕ → Bool) → ((r : ℕ) → p r ≡ false) → (xs : List ℕ) → filter p xs ≡ []
+pub none_passes : (p : ℕ → Bool) → ((r : ℕ) → p r ≡ false) → (xs : List ℕ) → filter p xs ≡ []
 none_passes p none [] = refl
 none_passes p none (x ∷ xs) = rw (none x) (none_passes p none xs)
 
-none_of : {A : Type 0} (p : A → Bool) → ((r : A) → p r ≡ false) → (xs : List A) → list_any p xs ≡ false
+pub none_of : {A : Type 0} (p : A → Bool) → ((r : A) → p r ≡ false) → (xs : List A) → list_any p xs ≡ false
 none_of p none [] = refl
 none_of p none (x ∷ xs) = rw (none x) (none_of p none xs)
 
@@ -118,10 +118,10 @@ passes_at p a (suc n) k low high is = elim (cases_eq a k) [
     or_true false = refl
 
 -- the marks of an object are the flags of its entry
-flagged : (objects : List (ObjectId × DirtyRecords)) (n : ℕ) (dirty : DirtyRecords) → entry_of objects n ≡ Some dirty → (r : ℕ) → is_marked objects n r ≡ slice_index_or dirty.flags r false
+pub flagged : (objects : List (ObjectId × DirtyRecords)) (n : ℕ) (dirty : DirtyRecords) → entry_of objects n ≡ Some dirty → (r : ℕ) → is_marked objects n r ≡ slice_index_or dirty.flags r false
 flagged objects n dirty is r = ap (λ (o : Option DirtyRecords). option_map_or (λ (dirty : DirtyRecords). slice_index_or dirty.flags r false) o false) is
 
-some_flag : (flags : List Bool) → list_any (λ (dirty : Bool). dirty) flags ≡ true → (r : ℕ) × (r < length flags) × (slice_index_or flags r false ≡ true)
+pub some_flag : (flags : List Bool) → list_any (λ (dirty : Bool). dirty) flags ≡ true → (r : ℕ) × (r < length flags) × (slice_index_or flags r false ≡ true)
 some_flag [] e = absurd (cc)
 some_flag (true ∷ flags) e = (0, omega arith, refl)
 some_flag (false ∷ flags) e = let h = some_flag flags e in (suc h.0, (let low = h.1 in omega arith), h.2)
@@ -183,7 +183,7 @@ objects_added {X} d maps old new first s t done e fresh others before more =
     ∙ ap (λ (l : List ℕ). addresses_of first ++ l) (sym (flat_map-append (λ (x : ObjectId × X). F new x.0.0) done (e ∷ [])))
 
 -- entries with rising numbers, from low up to high
-abbrev IsRising : {X : Type 0} → ℕ → ℕ → List (ObjectId × X) → Type 0
+abbrev pub IsRising : {X : Type 0} → ℕ → ℕ → List (ObjectId × X) → Type 0
 IsRising low high [] = Unit {0}
 IsRising low high (e ∷ es) = (low ≤ e.0.0) × (e.0.0 < high) × IsRising (e.0.0 + 1) high es
 
@@ -195,22 +195,22 @@ rising_absent (e ∷ es) low high n rising below =
     rw other (rising_absent es (e.0.0 + 1) high n rising.2 (omega arith))
 
 -- what is told of each entry is told of each number, where a number without an entry has nothing
-all_numbers : {X : Type 0} (F : ℕ → List ℕ) (count low high : ℕ) (es : List (ObjectId × X)) → low + count ≡ high → IsRising low high es → ((n : ℕ) → low ≤ n → entry_of es n ≡ None → F n ≡ [])
+pub all_numbers : {X A : Type 0} (F : ℕ → List A) (count low high : ℕ) (es : List (ObjectId × X)) → low + count ≡ high → IsRising low high es → ((n : ℕ) → low ≤ n → entry_of es n ≡ None → F n ≡ [])
     → flat_map (λ (e : ObjectId × X). F e.0.0) es ≡ flat_map F (range_with_len low count)
 all_numbers F zero low high [] sum rising none = refl
 all_numbers F zero low high (e ∷ es) sum rising none = let behind = rising.0 in let below = rising.1 in absurd (omega arith)
 all_numbers F (suc count) low high [] sum rising none =
     rw (none low (omega arith) refl) (all_numbers F count (low + 1) high [] (omega arith) tt (λ n behind e. none n (omega arith) e))
-all_numbers {X} F (suc count) low high (e ∷ es) sum rising none = elim (cases_lt low e.0.0) [
+all_numbers {X} {A} F (suc count) low high (e ∷ es) sum rising none = elim (cases_lt low e.0.0) [
   | inl above ↦
       let next : IsRising (low + 1) high (e ∷ es) = (omega arith, rising.1, rising.2) in
       let rest = all_numbers F count (low + 1) high (e ∷ es) (omega arith) next (λ n behind absent. none n (omega arith) absent) in
-      rest ∙ ap (λ (l : List ℕ). l ++ flat_map F (range_with_len (low + 1) count)) (sym (none low (omega arith) (rising_absent (e ∷ es) (low + 1) high low next (omega arith))))
+      rest ∙ ap (λ (l : List A). l ++ flat_map F (range_with_len (low + 1) count)) (sym (none low (omega arith) (rising_absent (e ∷ es) (low + 1) high low next (omega arith))))
   | inr at ↦
       let behind = rising.0 in
       let same : e.0.0 ≡ low = omega arith in
       let rest = all_numbers F count (low + 1) high es (omega arith) (rw same at rising.2) (tail_none same) in
-      ap (λ (n : ℕ). F n ++ flat_map (λ (e : ObjectId × X). F e.0.0) es) same ∙ ap (λ (l : List ℕ). F low ++ l) rest
+      ap (λ (n : ℕ). F n ++ flat_map (λ (e : ObjectId × X). F e.0.0) es) same ∙ ap (λ (l : List A). F low ++ l) rest
 ]
   where
     tail_none : e.0.0 ≡ low → (n : ℕ) → low + 1 ≤ n → entry_of es n ≡ None → F n ≡ []
@@ -230,7 +230,7 @@ module _ (R : ObjectId → ObjectId → Ordering) (less : (a b : ObjectId) → R
   all_behind x [] all = tt
   all_behind x (y ∷ ys) all = let h = less x y all.0 in (omega arith, all_behind x ys all.1)
 
-  rising_of : {X : Type 0} (low high : ℕ) (es : List (ObjectId × X)) → AllByRecursion (λ (y : ObjectId). low ≤ y.0) (keys_of es) → IsStrictlySortedBy R (keys_of es)
+  pub rising_of : {X : Type 0} (low high : ℕ) (es : List (ObjectId × X)) → AllByRecursion (λ (y : ObjectId). low ≤ y.0) (keys_of es) → IsStrictlySortedBy R (keys_of es)
       → ((n : ℕ) → is_some (entry_of es n) ≡ true → n < high) → IsRising low high es
   unfolding IsStrictlySortedBy
   rising_of low high [] from sorted within = tt
@@ -244,7 +244,7 @@ module _ (R : ObjectId → ObjectId → Ordering) (less : (a b : ObjectId) → R
       either n true there = refl
       either n false there = there
 
-  all_from_none : (ys : List ObjectId) → AllByRecursion (λ (y : ObjectId). 0 ≤ y.0) ys
+  pub all_from_none : (ys : List ObjectId) → AllByRecursion (λ (y : ObjectId). 0 ≤ y.0) ys
   all_from_none [] = tt
   all_from_none (y ∷ ys) = (omega arith, all_from_none ys)
 
@@ -291,11 +291,11 @@ changed_among {X} xs p is (e ∷ es) =
     either o true = refl
     either o false = refl
 
-has_changed-touched : (objects : List (ObjectId × DirtyRecords)) (d : ℕ) → has_changed (λ n. is_some (entry_of objects n)) d ≡ is_directory_touched objects d
+pub has_changed-touched : (objects : List (ObjectId × DirtyRecords)) (d : ℕ) → has_changed (λ n. is_some (entry_of objects n)) d ≡ is_directory_touched objects d
 has_changed-touched objects d = changed_among (range_with_len (63 * d) 63) (λ k. (k / 63) == d) (λ k. is_number k d) objects
 
 -- an object changes exactly where a directory of it does
-any_directory : (count : ℕ) (objects : List (ObjectId × DirtyRecords)) → ((n : ℕ) → is_some (entry_of objects n) ≡ true → n / 63 < count) → list_any (is_directory_touched objects) (range_with_len 0 count) ≡ is_any_touched objects
+pub any_directory : (count : ℕ) (objects : List (ObjectId × DirtyRecords)) → ((n : ℕ) → is_some (entry_of objects n) ≡ true → n / 63 < count) → list_any (is_directory_touched objects) (range_with_len 0 count) ≡ is_any_touched objects
 any_directory count [] within = none_of (λ n. false) (λ n. refl) (range_with_len 0 count)
 any_directory count (e ∷ es) within =
     let number : (e.0.0 == e.0.0) ≡ true = eq-eqb e.0.0 e.0.0 refl in

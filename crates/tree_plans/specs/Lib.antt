@@ -5,3 +5,4 @@ pub mod Changes
 pub mod Marks
 pub mod Uses
 pub mod Order
+pub mod Room

@@ -104,7 +104,7 @@ pub struct Planner {
 }
 
 impl Planner {
-    ghost use Rattle.std.specs.Prelude.{◌≤◌, ◌<◌, ◌++◌, ◌∷◌, [], false, length, slice_index_or, IfOk, IfErr, OnOk};
+    ghost use Rattle.std.specs.Prelude.{◌≤◌, ◌<◌, ◌+◌, ◌++◌, ◌∷◌, [], false, length, slice_index_or, IfOk, IfErr, OnOk};
     ghost use Rattle.base.specs.declared.error.PoolError.TheVariants as error;
     ghost use Rattle.base.specs.Places.{IsPlace};
     ghost use Rattle.checked_blocks.specs.Sealing.{padded};
@@ -113,6 +113,7 @@ impl Planner {
     ghost use Rattle.tree_plans.specs.Plans.{AreRecordsPlanned, FreesOnly, Goes, IsObjectPlanned, IsRecordPlanned, IsWant, IsWritten, ObjectFrees, RecordFrees, RecordsFree, place_of, progress_of};
     ghost use Rattle.tree_plans.specs.Order.{Adds, address_if, addresses_where};
     ghost use Rattle.tree_plans.specs.Pointers.{record_in};
+    ghost use Rattle.tree_plans.specs.Room.{Lacks, count_if, count_where};
     ghost use Rattle.tree_plans.specs.Uses.{ObjectUses, PointersUse, UsesOnly};
 
     /// Takes the lowest free block for this payload. What it replaces comes back.
@@ -170,6 +171,7 @@ impl Planner {
         ensures frees { OnOk result (RecordFrees self.old.freed.items self.new.freed.items dirty old.now) }
         ensures uses { IfOk result (λ pointer. UsesOnly (progress_of self.old).blocks (progress_of self.new).blocks pointer.address) }
         ensures adds { IfOk result (λ pointer. Adds (progress_of self.old).blocks (progress_of self.new).blocks (address_if dirty pointer)) }
+        ensures full { IfErr result (λ e. e ≡ error.NoSpace → Lacks free.now.flags.items (progress_of self.old) (count_if dirty)) }
         ensures refused { IfErr result IsWant }
     {
         if !dirty {
@@ -201,6 +203,7 @@ impl Planner {
         ensures frees { OnOk result (RecordsFree self.old.freed.items self.new.freed.items dirty.now.flags old.now 84) }
         ensures uses { IfOk result (λ records. PointersUse (progress_of self.old).blocks (progress_of self.new).blocks records.items 84) }
         ensures adds { IfOk result (λ records. Adds (progress_of self.old).blocks (progress_of self.new).blocks (addresses_where (λ r. slice_index_or dirty.now.flags r false) (pointer_of_list records.items) 84)) }
+        ensures full { IfErr result (λ e. e ≡ error.NoSpace → Lacks free.now.flags.items (progress_of self.old) (count_where (λ r. slice_index_or dirty.now.flags r false) 84)) }
         ensures refused { IfErr result IsWant }
     {
         let mut records = Vec::with_capacity(self.alloc, POINTER_COUNT)?;
@@ -230,6 +233,7 @@ impl Planner {
         ensures frees { OnOk result (ObjectFrees self.old.freed.items self.new.freed.items dirty.now.flags old.now) }
         ensures uses { IfOk result (λ map. ObjectUses (progress_of self.old).blocks (progress_of self.new).blocks map) }
         ensures adds { IfOk result (λ map. Adds (progress_of self.old).blocks (progress_of self.new).blocks (addresses_where (λ r. slice_index_or dirty.now.flags r false) (record_in map) 84 ++ map.indirect.address ∷ [])) }
+        ensures full { IfErr result (λ e. e ≡ error.NoSpace → Lacks free.now.flags.items (progress_of self.old) (count_where (λ r. slice_index_or dirty.now.flags r false) 84 + 1)) }
         ensures refused { IfErr result IsWant }
     {
         let records = self.place_records(free, id, bytes, old, dirty)?;

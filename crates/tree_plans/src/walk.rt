@@ -3,6 +3,7 @@
 ghost use Rattle.std.specs.Prelude.{◌≡◌, ◌<◌, ◌++◌, ◌∷◌, [], ℕ, ◌==◌, List, All, Some, None, true, false, is_some, length, map, slice_get, slice_index_or, take, vec_len, IfOk, IfErr, OnOk};
 ghost use Rattle.std.specs.FinMap.{FinMap};
 ghost use Rattle.std.specs.Ordering.{nat_cmp};
+ghost use Rattle.base.specs.declared.error.PoolError.TheVariants as error;
 ghost use Rattle.base.specs.declared.names.ObjectId.{ObjectId};
 ghost use Rattle.base.specs.Fields.{no_pointer};
 ghost use Rattle.base.specs.Geometry.{IsBlockAddress, block_count, block_size};
@@ -20,6 +21,7 @@ ghost use Rattle.tree_plans.specs.declared.planner.PlannedBlock.{PlannedBlock};
 ghost use Rattle.tree_plans.specs.Order.{Adds, AreInOrder, address_if, addresses_of, addresses_where, all_addresses, object_addresses};
 ghost use Rattle.tree_plans.specs.Plans.{Goes, IsWant, RecordFrees, address_of, new_block, progress_of};
 ghost use Rattle.tree_plans.specs.Pointers.{entry_of, planned_map, planned_pointers, pointers_from, pointers_of};
+ghost use Rattle.tree_plans.specs.Room.{Lacks, all_blocks, count_if, count_where, object_blocks, tree_blocks};
 ghost use Rattle.tree_plans.specs.Uses.{ObjectsUse, PointersUse, UsesOnly};
 ghost use Rattle.tree_plans.specs.Walks.{AreDirectoriesPlanned, AreObjectsPlanned, DirectoriesFree, IsDirectoryPlanned, IsRootPlanned, IsWalked, ObjectsFree, is_any_touched, is_directory_touched};
 
@@ -67,7 +69,8 @@ pub struct PlanSource<'a> {
 /// has a number below 5,292.
 ///
 /// # Errors
-/// `NoSpace` where the free blocks do not suffice, `NoMemory`.
+/// `NoSpace`, where each object that changes has a number below 5,292 only if fewer blocks are free than there are places to
+/// write (`full`); `NoMemory`.
 pub fn plan(
     source: &PlanSource<'_>,
     objects: &BTreeMap<ObjectId, DirtyRecords>,
@@ -88,6 +91,8 @@ pub fn plan(
     ensures order { IfOk result (λ p. AreInRange objects.now.entries
         → map address_of p.blocks.items ≡ map (λ (place : Place). (planned_pointers source.now.tree.now p place).address)
         (written_by (is_marked objects.now.entries) (λ n. is_some (entry_of objects.now.entries n)))) }
+    ensures full { IfErr result (λ e. e ≡ error.NoSpace → AreInRange objects.now.entries
+        → length (addresses_from 0 source.now.free.now.flags.items) < length (written_by (is_marked objects.now.entries) (λ n. is_some (entry_of objects.now.entries n)))) }
     ensures whole { IfOk result (λ p. (i : ℕ) (b : NewBlock) → slice_get (map new_block p.blocks.items) i ≡ Some b → length b.content ≡ block_size) }
     ensures refused { IfErr result IsWant }
 {
@@ -134,6 +139,7 @@ fn place_tree(
     ensures walked { IfOk result (λ tree. IsWalked (progress_of planner.new) source.now.tree.now (contents_of source.now.contents.now).objects objects.now.entries tree.maps.entries tree.directories.items tree.root) }
     ensures used { IfOk result (λ tree. AreUsed (map new_block planner.new.blocks.items) (pointers_from tree.root tree.directories.items (planned_map source.now.tree.now.maps.items tree.maps.entries))) }
     ensures order { IfOk result (λ tree. AreInRange objects.now.entries → AreInOrder (addresses_of (progress_of planner.new).blocks) (pointers_from tree.root tree.directories.items (planned_map source.now.tree.now.maps.items tree.maps.entries)) objects.now.entries) }
+    ensures full { IfErr result (λ e. e ≡ error.NoSpace → AreInRange objects.now.entries → Lacks source.now.free.now.flags.items (progress_of planner.old) (tree_blocks objects.now.entries)) }
     ensures kept { OnOk result (objects.now.entries ≡ [] → planner.new ≡ planner.old) }
     ensures refused { IfErr result IsWant }
 {
@@ -163,6 +169,7 @@ fn place_root(
     ensures frees { OnOk result (RecordFrees planner.old.freed.items planner.new.freed.items (is_any_touched objects.now.entries) source.now.tree.now.root) }
     ensures uses { IfOk result (λ root. UsesOnly (progress_of planner.old).blocks (progress_of planner.new).blocks root.address) }
     ensures adds { IfOk result (λ root. Adds (progress_of planner.old).blocks (progress_of planner.new).blocks (address_if (is_any_touched objects.now.entries) root)) }
+    ensures full { IfErr result (λ e. e ≡ error.NoSpace → Lacks source.now.free.now.flags.items (progress_of planner.old) (count_if (is_any_touched objects.now.entries))) }
     ensures kept { OnOk result (objects.now.entries ≡ [] → planner.new ≡ planner.old) }
     ensures refused { IfErr result IsWant }
 {
@@ -188,6 +195,7 @@ fn place_objects(
     ensures frees { IfOk result (λ maps. ObjectsFree planner.old.freed.items planner.new.freed.items source.now.tree.now.maps.items objects.now.entries maps.entries) }
     ensures uses { IfOk result (λ maps. ObjectsUse (progress_of planner.old).blocks (progress_of planner.new).blocks maps.entries) }
     ensures adds { IfOk result (λ maps. AreInRange objects.now.entries → Adds (progress_of planner.old).blocks (progress_of planner.new).blocks (all_addresses (is_marked objects.now.entries) (planned_map source.now.tree.now.maps.items maps.entries) 5292)) }
+    ensures full { IfErr result (λ e. e ≡ error.NoSpace → AreInRange objects.now.entries → Lacks source.now.free.now.flags.items (progress_of planner.old) (all_blocks (is_marked objects.now.entries) 5292)) }
     ensures kept { OnOk result (objects.now.entries ≡ [] → planner.new ≡ planner.old) }
     ensures refused { IfErr result IsWant }
 {
@@ -221,6 +229,7 @@ fn place_changed(
     ensures others { OnOk result ((n : ℕ) → (id.0 == n) ≡ false → entry_of maps.new.entries n ≡ entry_of maps.old.entries n) }
     ensures adds { OnOk result ((objects : List (ObjectId × DirtyRecords)) → entry_of objects id.0 ≡ Some dirty.now → id.0 < 5292
         → Adds (progress_of planner.old).blocks (progress_of planner.new).blocks (object_addresses (is_marked objects id.0) (planned_map source.now.tree.now.maps.items maps.new.entries id.0))) }
+    ensures full { IfErr result (λ e. e ≡ error.NoSpace → (objects : List (ObjectId × DirtyRecords)) → entry_of objects id.0 ≡ Some dirty.now → Lacks source.now.free.now.flags.items (progress_of planner.old) (object_blocks (is_marked objects) id.0)) }
     ensures refused { IfErr result IsWant }
 {
     if id.0 >= OBJECT_COUNT {
@@ -251,6 +260,7 @@ fn place_directories(
     ensures frees { OnOk result (DirectoriesFree planner.old.freed.items planner.new.freed.items objects.now.entries source.now.tree.now.directories.items 84) }
     ensures uses { IfOk result (λ directories. PointersUse (progress_of planner.old).blocks (progress_of planner.new).blocks directories.items 84) }
     ensures adds { IfOk result (λ directories. Adds (progress_of planner.old).blocks (progress_of planner.new).blocks (addresses_where (is_directory_touched objects.now.entries) (pointer_of_list directories.items) 84)) }
+    ensures full { IfErr result (λ e. e ≡ error.NoSpace → Lacks source.now.free.now.flags.items (progress_of planner.old) (count_where (is_directory_touched objects.now.entries) 84)) }
     ensures kept { OnOk result (objects.now.entries ≡ [] → planner.new ≡ planner.old) }
     ensures refused { IfErr result IsWant }
 {
@@ -280,6 +290,7 @@ fn place_directory(
     ensures frees { OnOk result (RecordFrees planner.old.freed.items planner.new.freed.items touched (slice_index_or source.now.tree.now.directories.items index no_pointer)) }
     ensures uses { IfOk result (λ pointer. UsesOnly (progress_of planner.old).blocks (progress_of planner.new).blocks pointer.address) }
     ensures adds { IfOk result (λ pointer. Adds (progress_of planner.old).blocks (progress_of planner.new).blocks (address_if touched pointer)) }
+    ensures full { IfErr result (λ e. e ≡ error.NoSpace → Lacks source.now.free.now.flags.items (progress_of planner.old) (count_if touched)) }
     ensures kept { OnOk result (touched ≡ false → planner.new ≡ planner.old) }
     ensures refused { IfErr result IsWant }
 {

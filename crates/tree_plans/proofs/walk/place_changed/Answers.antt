@@ -9,6 +9,7 @@ use Rattle.tree_plans.specs.Pointers.{IsPut}
 use Rattle.tree_plans.proofs.Walks.{any_flag, get_at, object_passed, object_put, objects_free_put, put_of, unwrapped}
 use Rattle.tree_plans.proofs.Uses.{objects_use_put, others_put}
 use Rattle.tree_plans.proofs.Order.{map_put, object_added, object_skipped}
+use Rattle.tree_plans.proofs.Room.{handed_on, object_most}
 use Rattle.tree_plans.proofs.walk.place_changed.Goals as goal
 
 pub returns-then-not-has_any-clause-planned : goal.returns-then-not-has_any-clause-planned
@@ -60,3 +61,8 @@ returns-clause-adds c = λ objects is low.
     let put : IsPut c.args.maps.now.entries c.args.id c.in_ok-map.map c.insert.new.self.entries = put_of _ (λ a b. unsigned_tied a.0 b.0) c.args.maps.now c.insert.new.self c.args.id c.in_ok-map.map c.in_ok-insert.ensures.updates.0 in
     let some : list_any (λ (dirty : Bool). dirty) c.args.dirty.now.flags ≡ true = (let no = c.if-not-has_any.false in let any = c.has_any.ensures.any in search rules) in
     object_added objects c.args.id.0 c.args.dirty.now c.in_ok-map.map _ _ _ is (map_put c.args.source.now.tree.now.maps.items _ _ c.args.id c.in_ok-map.map put) c.has_any.ensures.size some c.in_ok-map.ensures.adds
+
+pub returns-in_err-map-clause-full : goal.returns-in_err-map-clause-full
+returns-in_err-map-clause-full c =
+    let some : list_any (λ (dirty : Bool). dirty) c.args.dirty.now.flags ≡ true = (let no = c.if-not-has_any.false in let any = c.has_any.ensures.any in search rules) in
+    handed_on c.from_residual.result _ _ c.from_residual.ensures.1 (λ no_space objects is. rw (object_most objects c.args.id.0 c.args.dirty.now is c.has_any.ensures.size some) at (c.in_err-map.ensures.full no_space))

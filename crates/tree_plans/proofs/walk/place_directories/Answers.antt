@@ -4,6 +4,7 @@ use Rattle.tree_plans.proofs.Progress.{goes_nowhere, goes_twice}
 use Rattle.tree_plans.proofs.Walks.{directories_push, directories_free_push}
 use Rattle.tree_plans.proofs.Uses.{pointers_use_push}
 use Rattle.tree_plans.proofs.Order.{adds_begun, adds_push}
+use Rattle.tree_plans.proofs.Room.{handed_on, lacks_at}
 use Rattle.tree_plans.proofs.walk.place_directories.Goals as goal
 
 pub loop-index-init : goal.loop-index-init
@@ -48,3 +49,8 @@ pub returns-clause-adds : goal.returns-clause-adds
 returns-clause-adds c =
     let done : c.loop-index.index ≡ 84 = omega arith in
     rw done at c.loop-index.invariant.adds
+
+pub returns-in_err-pointer-clause-full : goal.returns-in_err-pointer-clause-full
+returns-in_err-pointer-clause-full c =
+    handed_on c.from_residual-in_err-pointer.result _ _ c.from_residual-in_err-pointer.ensures.1 (λ no_space. lacks_at _ _ _ (is_directory_touched c.args.objects.now.entries) _ c.loop-index.index 84 _ c.loop-index-test.true c.is_touched-touched.ensures
+    c.loop-index.invariant.goes c.loop-index.invariant.adds (c.in_err-pointer.ensures.full no_space))

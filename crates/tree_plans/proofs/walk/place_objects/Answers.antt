@@ -9,6 +9,7 @@ use Rattle.tree_plans.proofs.Progress.{goes_twice}
 use Rattle.tree_plans.proofs.Walks.{found_of, next_of, not_empty}
 use Rattle.tree_plans.proofs.Uses.{are_of_more, next_is_new}
 use Rattle.tree_plans.proofs.Order.{all_added, less_below, objects_added}
+use Rattle.tree_plans.proofs.Room.{handed_on, lacks_object}
 use Rattle.tree_plans.proofs.walk.place_objects.Goals as goal
 
 pub loop-id-preserved : goal.loop-id-preserved
@@ -43,3 +44,14 @@ returns-clause-adds c = λ within.
     let done : List (ObjectId × DirtyRecords) = c.loop-id.invariant.done in
     let whole : done ≡ all = sym (append-nil done) ∙ ap (λ (l : List (ObjectId × DirtyRecords)). done ++ l) (sym c.in-None.ensures.steps.0) ∙ sym c.loop-id.invariant.split in
     all_added _ (λ a b. less_below a.0 b.0) 5292 c.args.source.now.tree.now.maps.items c.loop-id.maps.entries all done _ _ whole c.iter-id-items.ensures.ordered within (c.loop-id.invariant.adds within)
+
+pub returns-in_err-place_changed-clause-full : goal.returns-in_err-place_changed-clause-full
+returns-in_err-place_changed-clause-full c =
+    let all : List (ObjectId × DirtyRecords) = c.args.objects.now.entries in
+    let done : List (ObjectId × DirtyRecords) = c.loop-id.invariant.done in
+    let e : ObjectId × DirtyRecords = (c.in-Some.id.now, c.in-Some.dirty.now) in
+    let rest : List (ObjectId × DirtyRecords) = c.next.new.self in
+    let split : all ≡ done ++ (e ∷ rest) = c.loop-id.invariant.split ∙ ap (λ (l : List (ObjectId × DirtyRecords)). done ++ l) c.in-Some.ensures.steps in
+    let found : entry_of all e.0.0 ≡ Some e.1 = next_of (λ (x : ObjectId × DirtyRecords). entry_of all x.0.0 ≡ Some x.1) all done rest e split (found_of _ (λ a b. unsigned_tied a.0 b.0) c.args.objects.now c.iter-id-items.ensures.found) in
+    handed_on c.from_residual.result _ _ c.from_residual.ensures.1 (λ no_space within. lacks_object _ (λ a b. less_below a.0 b.0) _ _ _ c.args.source.now.tree.now.maps.items c.loop-id.maps.entries 5292 all done rest e split c.iter-id-items.ensures.ordered within
+    c.loop-id.invariant.goes (c.loop-id.invariant.adds within) (c.in_err-place_changed.ensures.full no_space all found))

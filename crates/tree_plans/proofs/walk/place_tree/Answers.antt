@@ -2,9 +2,10 @@ use Rattle.std.proofs.Common.{ap, map}
 use Rattle.object_maps.specs.ContentsShown.{contents_of}
 use Rattle.tree_plans.proofs.Progress.{goes_twice}
 use Rattle.tree_plans.proofs.Walks.{directories_stay, objects_stay, walk_frees}
-use Rattle.tree_plans.specs.Plans.{new_block}
+use Rattle.tree_plans.specs.Plans.{new_block, progress_of}
 use Rattle.tree_plans.proofs.Uses.{tree_used}
 use Rattle.tree_plans.proofs.Order.{tree_in_order}
+use Rattle.tree_plans.proofs.Room.{directories_lack, handed_on, objects_lack, root_lacks}
 use Rattle.tree_plans.proofs.walk.place_tree.Goals as goal
 
 pub returns-clause-walked : goal.returns-clause-walked
@@ -29,3 +30,16 @@ pub returns-clause-order : goal.returns-clause-order
 returns-clause-order c = λ within.
     tree_in_order c.args.source.now.tree.now.maps.items c.in_ok-maps.maps.entries c.in_ok-directories.directories.items _ c.args.objects.now.entries _ _ _ _ (ap (map new_block) c.requires.none_planned) within
     (c.in_ok-maps.ensures.adds within) c.in_ok-directories.ensures.adds c.in_ok-root.ensures.adds
+
+pub returns-in_err-maps-clause-full : goal.returns-in_err-maps-clause-full
+returns-in_err-maps-clause-full c =
+    handed_on c.from_residual.result _ _ c.from_residual.ensures.1 (λ no_space within. objects_lack _ c.args.objects.now.entries within (progress_of c.args.planner.now) (c.in_err-maps.ensures.full no_space within))
+
+pub returns-in_err-directories-clause-full : goal.returns-in_err-directories-clause-full
+returns-in_err-directories-clause-full c =
+    handed_on c.from_residual-in_err-directories.result _ _ c.from_residual-in_err-directories.ensures.1 (λ no_space within. directories_lack _ c.args.objects.now.entries within _ _ _ c.in_ok-maps.ensures.goes (c.in_ok-maps.ensures.adds within) (c.in_err-directories.ensures.full no_space))
+
+pub returns-in_err-root-clause-full : goal.returns-in_err-root-clause-full
+returns-in_err-root-clause-full c =
+    handed_on c.from_residual-in_err-root.result _ _ c.from_residual-in_err-root.ensures.1 (λ no_space within. root_lacks _ c.args.objects.now.entries within _ _ _ _ _ c.in_ok-maps.ensures.goes (c.in_ok-maps.ensures.adds within)
+    c.in_ok-directories.ensures.goes c.in_ok-directories.ensures.adds (c.in_err-root.ensures.full no_space))

@@ -12,6 +12,7 @@ use Rattle.tree_plans.specs.Pointers.{planned_map, pointers_from, pointers_of}
 use Rattle.tree_plans.proofs.Planned.{all_freed, freed_in_area, taken_lowest, tree_placed, tree_planned}
 use Rattle.tree_plans.proofs.Uses.{all_whole}
 use Rattle.tree_plans.proofs.Order.{planned_in_order}
+use Rattle.tree_plans.proofs.Room.{handed_on, plan_lacks}
 use Rattle.tree_plans.proofs.walk.plan.Goals as goal
 
 pub returns-clause-taken : goal.returns-clause-taken
@@ -63,3 +64,7 @@ returns-clause-whole c = all_whole c.place_tree.new.planner.blocks.items c.place
 pub returns-clause-order : goal.returns-clause-order
 returns-clause-order c = λ within.
     planned_in_order c.place_tree.new.planner.blocks.items _ c.args.objects.now.entries (c.in_ok-tree.ensures.order within)
+
+pub returns-in_err-tree-clause-full : goal.returns-in_err-tree-clause-full
+returns-in_err-tree-clause-full c =
+    handed_on c.from_residual.result _ _ c.from_residual.ensures.1 (λ no_space within. plan_lacks _ 0 _ c.args.objects.now.entries refl (ap (λ (l : List PlannedBlock). map new_block l) c.new.ensures.items) (c.in_err-tree.ensures.full no_space within))

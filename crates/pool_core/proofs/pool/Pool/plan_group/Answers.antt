@@ -1,5 +1,5 @@
 use Rattle.std.proofs.Common.{List, map, inl, subst, ◌∙◌}
-use Rattle.std.proofs.lemmas.Result.{err_from_is_err_and}
+use Rattle.std.proofs.lemmas.Result.{IfErr-weaker, err_from_is_err_and}
 use Rattle.base.specs.declared.names.ObjectId.{ObjectId}
 use Rattle.base.specs.declared.pointer.Pointer.{Pointer}
 use Rattle.base.specs.Geometry.{block_count}
@@ -53,3 +53,10 @@ returns-clause-used c =
 
 pub returns-clause-refused : goal.returns-clause-refused
 returns-clause-refused c = turn_want c.plan.result c.plan.ensures.refused
+
+pub returns-clause-no_space : goal.returns-clause-no_space
+returns-clause-no_space c =
+    let pool = c.args.self.now in
+    let objects : List (ObjectId × DirtyRecords) = c.in_ok-objects.objects.entries in
+    let marks : AreMarks (pending_ops c.args.group.0 pool.pending.items) objects = subst (λ (l : List Committed). AreMarks (pending_ops c.args.group.0 l) objects) c.deref.ensures.value c.in_ok-objects.ensures.marks in
+    IfErr-weaker c.plan.result _ _ (λ e full no_space. record { objects = objects; marks = marks; fewer = full no_space }) c.plan.ensures.full

@@ -18,7 +18,7 @@ use Rattle.base.specs.Stored.{NewTree}
 use Rattle.base.proofs.StoredTrees.{no-change}
 use Rattle.tree_plans.specs.Plans.{new_block}
 use Rattle.pool_core.specs.Holds.{start_reply}
-use Rattle.pool_core.proofs.StartLeads.{group_planned, group_takes, group_takes_each, nothing_made}
+use Rattle.pool_core.proofs.StartLeads.{group_lacks, group_planned, group_takes, group_takes_each, nothing_made}
 use Rattle.pool_core.proofs.StillSteps.{still_pool}
 use Rattle.pool_core.proofs.SameSyncs.{kept_sync}
 use Rattle.pool_core.proofs.Starts.{lowest_taken, pending_names, start_done, start_not_ready, start_suspended, start_wants}
@@ -178,3 +178,8 @@ returns-clause-leads c = λ now past later.
       planned = λ x. group_planned now past pool c.in_ok-group.group.0 c.args.moment planned.blocks.items planned.freed.items planned.root planned.directories.items planned.maps
           c.in_ok-group.ensures.may told.planned told.freed_are told.used told.whole x;
     }
+
+pub returns-in_err-planned-clause-no_space : goal.returns-in_err-planned-clause-no_space
+returns-in_err-planned-clause-no_space c =
+    let p = err_from_is_err_and c.from_residual-in_err-planned.result c.from_residual-in_err-planned.ensures.1 in
+    rw (p.1, p.2) (λ now past x no_space. group_lacks now past c.args.self.now c.in_ok-group.group.0 c.in_ok-group.ensures.may (c.in_err-planned.ensures.no_space no_space) x)

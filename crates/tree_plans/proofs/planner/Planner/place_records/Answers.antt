@@ -2,6 +2,7 @@ use Rattle.std.proofs.Common.{◌≡◌, length, false, slice_index_or, arith, i
 use Rattle.tree_plans.proofs.Order.{adds_begun, adds_push}
 use Rattle.tree_plans.proofs.Progress.{records_push, frees_push, goes_nowhere, goes_twice}
 use Rattle.tree_plans.proofs.Uses.{pointers_use_push}
+use Rattle.tree_plans.proofs.Room.{handed_on, lacks_at}
 use Rattle.tree_plans.proofs.planner.Planner.place_records.Goals as goal
 
 pub loop-index-init : goal.loop-index-init
@@ -44,3 +45,8 @@ pub returns-clause-adds : goal.returns-clause-adds
 returns-clause-adds c =
     let done : c.loop-index.index ≡ 84 = omega arith in
     rw done at c.loop-index.invariant.adds
+
+pub returns-in_err-pointer-clause-full : goal.returns-in_err-pointer-clause-full
+returns-in_err-pointer-clause-full c =
+    handed_on c.from_residual-in_err-pointer.result _ _ c.from_residual-in_err-pointer.ensures.1 (λ no_space. lacks_at _ _ _ (λ r. slice_index_or c.args.dirty.now.flags r false) _ c.loop-index.index 84 _ c.loop-index-test.true refl
+    c.loop-index.invariant.goes c.loop-index.invariant.adds (c.in_err-pointer.ensures.full no_space))
