@@ -37,9 +37,6 @@ lacks_one flags s none taken =
     let each : length addresses ≡ length s.blocks = length-map s.blocks (λ (b : NewBlock). b.address) in
     omega (arith, all, each)
 
-pub lacks_if : (flags : List Bool) (s : Progress) (b : Bool) → b ≡ true → free_from s.next flags ≡ [] → Lacks flags s (count_if b)
-lacks_if flags s b is none = rw is (lacks_one flags s none)
-
 pub lacks_more : (flags : List Bool) (s : Progress) (few many : ℕ) → few ≤ many → Lacks flags s few → Lacks flags s many
 lacks_more flags s few many more lacks taken = let h = lacks taken in omega (arith, h, more)
 
