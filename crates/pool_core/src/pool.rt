@@ -413,8 +413,8 @@ impl Pool {
     /// room for all its steps. The moment is stored in its uberblocks.
     ///
     /// # Errors
-    /// In this order: `Suspended`; `NotReady` where no group is quiesced or one is syncing; `NoSpace`, only where fewer blocks
-    /// are free than there are places to write (`no_space`); `NoMemory`.
+    /// In this order: `Suspended`; `NotReady` where no group is quiesced or one is syncing; and while it plans, `NoMemory`, or
+    /// `NoSpace`, only where fewer blocks are free than there are places to write (`no_space`).
     pub fn start_sync(&mut self, moment: u64) -> Result<Group, PoolError>
         ensures geometry { self.new.geometry ≡ self.old.geometry }
         ensures step { MeetsExplained (stage.StartSync ⊥ [] moment) (result_map (λ group. group.0) result) (shown_of self.old) (shown_of self.new) }

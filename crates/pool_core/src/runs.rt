@@ -1,6 +1,6 @@
 //! Steps as values, one after another.
 
-ghost use Rattle.std.specs.Prelude.{◌≡◌, IfOk, IsTrue, MatchResult, OnErr, vec_len};
+ghost use Rattle.std.specs.Prelude.{◌≡◌, IfErr, IfOk, IsTrue, MatchResult, OnErr, vec_len};
 ghost use Rattle.std.specs.Result.{ForOk};
 ghost use Rattle.base.specs.Runs.{Run};
 ghost use Rattle.base.specs.Disk.{bytes_of};
@@ -73,6 +73,7 @@ pub fn run<D: SectorDevice>(
     ensures ran { IfOk result (λ replies. Run StepReplies steps.items replies.items (shown_of state.old.pool) (shown_of state.new.pool)) }
     ensures held { IsTrue D.keeps_model → IfOk result (λ replies. HoldsOn steps.items replies.items (told_of (bytes_of (D.disk state.old.device).now) state.old.pool) (told_of (bytes_of (D.disk state.new.device).now) state.new.pool)) }
     ensures explained { IfOk result (λ replies. RunsOn steps.items replies.items (shown_of state.old.pool) (shown_of state.new.pool)) }
+    ensures refused { IfErr result (λ e. e ≡ PoolError.NoMemory) }
     ensures kept { OnErr result (state.new ≡ state.old) }
 {
     let mut replies = Vec::with_capacity(state.alloc(), steps.len())?;

@@ -178,8 +178,8 @@ impl<D: SectorDevice> PoolState<D> {
     /// room for all its steps. The moment is stored in its uberblocks.
     ///
     /// # Errors
-    /// In this order: `Suspended`; `NotReady` where no group is quiesced or one is syncing; `NoSpace`, only where fewer blocks
-    /// are free than there are places to write (`no_space`); `NoMemory`.
+    /// In this order: `Suspended`; `NotReady` where no group is quiesced or one is syncing; and while it plans, `NoMemory`, or
+    /// `NoSpace`, only where fewer blocks are free than there are places to write (`no_space`).
     pub fn start_sync(&mut self, moment: u64) -> Result<Group, PoolError>
         ensures step { MeetsExplained (stage.StartSync ⊥ [] moment) (result_map (λ group. group.0) result) (shown_of self.old.pool) (shown_of self.new.pool) }
         ensures held { MeetsHeld (λ now. stage.StartSync (Unit {0}) now moment) (result_map (λ group. group.0) result) self.old.pool self.new.pool }
