@@ -13,6 +13,7 @@ mod piece;
 mod pointer;
 mod pool_name;
 mod range;
+mod refused;
 mod status;
 mod step;
 mod step_laws;
@@ -42,6 +43,7 @@ pub use piece::Piece;
 pub use pointer::Pointer;
 pub use pool_name::{MAX_NAME, PoolName, is_name};
 pub use range::{Mode, Range};
+pub use refused::RefusedCalls;
 pub use status::Status;
 pub use step::{Reply, Step};
 pub use step_laws::{

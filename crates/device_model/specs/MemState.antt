@@ -3,11 +3,12 @@ use Rattle.std.specs.Prelude.{ℕ, ◌*◌, List, [], replicate}
 use Rattle.base.specs.declared.piece.Piece.{Piece}
 use Rattle.base.specs.Disk.{Disk, certain}
 use Rattle.base.specs.Crashes.{crash_image}
+use Rattle.base.specs.declared.refused.RefusedCalls.{RefusedCalls}
 
--- the disk, how many calls it refused, and which call of each kind from now fails (0: none will)
+-- the disk, how many calls of each kind it refused, and which call of each kind from now fails (0: none will)
 pub record MemState : Type 0 where
   pub disk : Disk
-  pub refusals : ℕ
+  pub refused : RefusedCalls
   pub read_fails : ℕ
   pub write_fails : ℕ
   pub flush_fails : ℕ
@@ -22,13 +23,13 @@ blank sectors = record { now = record { flushed = zeros (512 * sectors); unflush
 
 -- a new device
 abbrev pub new_state : ℕ → MemState
-new_state sectors = record { disk = blank sectors; refusals = 0; read_fails = 0; write_fails = 0; flush_fails = 0 }
+new_state sectors = record { disk = blank sectors; refused = record { reads = 0; writes = 0; flushes = 0 }; read_fails = 0; write_fails = 0; flush_fails = 0 }
 
 -- the device after a crash that leaves these pieces, with no plan to fail
 abbrev pub after_crash : List Piece → MemState → MemState
 after_crash pieces s = record {
   disk = certain (crash_image pieces s.disk.now) s.disk;
-  refusals = s.refusals;
+  refused = s.refused;
   read_fails = 0;
   write_fails = 0;
   flush_fails = 0;

@@ -1,7 +1,8 @@
-ghost use Rattle.std.specs.Prelude.{◌≡◌, ℕ, ◌*◌, Bool, IsTrue, length, OnOk};
+ghost use Rattle.std.specs.Prelude.{◌≡◌, ℕ, ◌*◌, Bool, IfErr, IsTrue, length, OnOk};
 ghost use Rattle.base.specs.Fields.{part};
 ghost use Rattle.base.specs.Disk.{Disk, bytes_of, disk_size};
-ghost use Rattle.base.specs.Calls.{IsOnDevice, Writes, Flushes, Counts};
+ghost use Rattle.base.specs.Calls.{IsOnDevice, Writes, Flushes, counted};
+ghost use Rattle.base.specs.declared.refused.RefusedCalls.{RefusedCalls};
 
 use base::PoolError;
 
@@ -10,7 +11,7 @@ use base::PoolError;
 /// Its meaning is one record, the disk over time. Each write makes a moment, as does each good flush that finds
 /// something to make certain. A crash at a moment may leave any bytes in the range of each write since the last good
 /// flush, also of one that failed; all other bytes are what a read gives. The clauses on the disk stand for a device that
-/// keeps this model. Those on the size and on the count of refused calls stand for each device.
+/// keeps this model. Those on the size and on the counts of refused calls stand for each device.
 pub trait SectorDevice {
     /// Whether the device keeps the model of a disk.
     ghost keeps_model: { Bool };
@@ -18,8 +19,8 @@ pub trait SectorDevice {
     /// Its size in bytes.
     ghost size: { Self → ℕ };
 
-    /// How many calls it has refused.
-    ghost refused: { Self → ℕ };
+    /// How many calls of each kind it has refused.
+    ghost refused: { Self → RefusedCalls };
 
     /// The disk: what a read gives, and what a crash may leave, at each moment so far.
     ghost disk: { Self → Disk };
@@ -33,7 +34,8 @@ pub trait SectorDevice {
     fn read(&mut self, at: u64, into: &mut [u8]) -> Result<(), PoolError>
         requires { IsOnDevice (size self.old) at (length into.old) }
         ensures size { size self.new ≡ size self.old }
-        ensures count { Counts (refused self.old) (refused self.new) PoolError.Read result }
+        ensures count { refused self.new ≡ counted result (refused self.old) }
+        ensures refusal { IfErr result (λ e. e ≡ PoolError.Read) }
         ensures bytes { IsTrue keeps_model
             → OnOk result (into.new ≡ part (bytes_of (disk self.old).now) at (length into.old)) }
         ensures disk { IsTrue keeps_model → disk self.new ≡ disk self.old };
@@ -43,7 +45,8 @@ pub trait SectorDevice {
     fn write(&mut self, at: u64, bytes: &[u8]) -> Result<(), PoolError>
         requires { IsOnDevice (size self.old) at (length bytes.now) }
         ensures size { size self.new ≡ size self.old }
-        ensures count { Counts (refused self.old) (refused self.new) PoolError.Write result }
+        ensures count { refused self.new ≡ counted result (refused self.old) }
+        ensures refusal { IfErr result (λ e. e ≡ PoolError.Write) }
         ensures disk { IsTrue keeps_model
             → Writes (disk self.old) at bytes.now result (disk self.new) };
 
@@ -51,7 +54,8 @@ pub trait SectorDevice {
     /// has become certain.
     fn flush(&mut self) -> Result<(), PoolError>
         ensures size { size self.new ≡ size self.old }
-        ensures count { Counts (refused self.old) (refused self.new) PoolError.Flush result }
+        ensures count { refused self.new ≡ counted result (refused self.old) }
+        ensures refusal { IfErr result (λ e. e ≡ PoolError.Flush) }
         ensures disk { IsTrue keeps_model → Flushes (disk self.old) result (disk self.new) };
 
     /// The disk has the device's size.

@@ -6,13 +6,13 @@ ghost use Rattle.base.specs.Crashes.{crash_image};
 use crate::device::SectorDevice;
 use crate::fault::Fault;
 use crate::notes::{Note, copy_part, fires, leave_pieces, make_note, overwrite, settle};
-use base::{Piece, PoolError};
+use base::{Piece, PoolError, RefusedCalls};
 use std::alloc::Global;
 use std::marker::Model;
 
 /// A device in memory, which fails by a plan and crashes on demand.
 ///
-/// It notes every write, and its disk over time is read from these notes. Contracts see it as that disk, the count of
+/// It notes every write, and its disk over time is read from these notes. Contracts see it as that disk, the counts of
 /// its refused calls, and its fault plan.
 #[derive(Drop)]
 pub struct MemDevice {
@@ -22,7 +22,7 @@ pub struct MemDevice {
     notes: Vec<Note>,
     // how many of the notes came before the last good flush or crash
     settled: usize,
-    refused: u64,
+    refused: RefusedCalls,
     // which call of each kind from now fails, or 0
     reads: u64,
     writes: u64,
@@ -64,7 +64,7 @@ impl MemDevice {
             bytes,
             notes: Vec::new(alloc),
             settled: 0,
-            refused: 0,
+            refused: RefusedCalls::NONE,
             reads: 0,
             writes: 0,
             flushes: 0,
@@ -114,14 +114,14 @@ impl MemDevice {
 }
 
 impl SectorDevice for MemDevice {
-    ghost use Rattle.base.specs.Calls.{IsOnDevice, Writes, Flushes, Counts};
+    ghost use Rattle.base.specs.Calls.{IsOnDevice, Writes, Flushes, counted};
     ghost use Rattle.device_model.specs.Plans.{KeepsPlans};
 
     ghost keeps_model = { true };
 
     ghost size = { λ m. disk_size m.disk };
 
-    ghost refused = { λ m. m.refusals };
+    ghost refused = { λ m. m.refused };
 
     ghost disk = { λ m. m.disk };
 
@@ -134,7 +134,8 @@ impl SectorDevice for MemDevice {
     fn read(&mut self, at: u64, into: &mut [u8]) -> Result<(), PoolError>
         requires { IsOnDevice (disk_size self.old.disk) at (length into.old) }
         ensures size { disk_size self.new.disk ≡ disk_size self.old.disk }
-        ensures count { Counts self.old.refusals self.new.refusals PoolError.Read result }
+        ensures count { self.new.refused ≡ counted result self.old.refused }
+        ensures refusal { IfErr result (λ e. e ≡ PoolError.Read) }
         ensures bytes { OnOk result
             (into.new ≡ part (bytes_of self.old.disk.now) at (length into.old)) }
         ensures kept { OnErr result (into.new ≡ into.old) }
@@ -145,7 +146,7 @@ impl SectorDevice for MemDevice {
         ensures plans { KeepsPlans Fault.Read self.old self.new }
     {
         if fires(&mut self.reads) {
-            self.refused = self.refused.saturating_add(1);
+            self.refused.count(PoolError::Read);
             return Err(PoolError::Read);
         }
         copy_part(&self.bytes, at, into);
@@ -155,7 +156,8 @@ impl SectorDevice for MemDevice {
     fn write(&mut self, at: u64, bytes: &[u8]) -> Result<(), PoolError>
         requires { IsOnDevice (disk_size self.old.disk) at (length bytes.now) }
         ensures size { disk_size self.new.disk ≡ disk_size self.old.disk }
-        ensures count { Counts self.old.refusals self.new.refusals PoolError.Write result }
+        ensures count { self.new.refused ≡ counted result self.old.refused }
+        ensures refusal { IfErr result (λ e. e ≡ PoolError.Write) }
         ensures disk { Writes self.old.disk at bytes.now result self.new.disk }
 
         // It fails as planned. Else it fails only where it finds no memory to note the write, which then counts for nothing.
@@ -166,11 +168,11 @@ impl SectorDevice for MemDevice {
         let fails = fires(&mut self.writes);
         let noted = make_note(self.alloc, &self.bytes, &mut self.notes, at, bytes, !fails);
         if noted.is_err() {
-            self.refused = self.refused.saturating_add(1);
+            self.refused.count(PoolError::Write);
             return Err(PoolError::Write);
         }
         if fails {
-            self.refused = self.refused.saturating_add(1);
+            self.refused.count(PoolError::Write);
             return Err(PoolError::Write);
         }
         overwrite(&mut self.bytes, at, bytes);
@@ -179,7 +181,8 @@ impl SectorDevice for MemDevice {
 
     fn flush(&mut self) -> Result<(), PoolError>
         ensures size { disk_size self.new.disk ≡ disk_size self.old.disk }
-        ensures count { Counts self.old.refusals self.new.refusals PoolError.Flush result }
+        ensures count { self.new.refused ≡ counted result self.old.refused }
+        ensures refusal { IfErr result (λ e. e ≡ PoolError.Flush) }
         ensures disk { Flushes self.old.disk result self.new.disk }
 
         // It fails as planned, and only then.
@@ -187,7 +190,7 @@ impl SectorDevice for MemDevice {
         ensures plans { KeepsPlans Fault.Flush self.old self.new }
     {
         if fires(&mut self.flushes) {
-            self.refused = self.refused.saturating_add(1);
+            self.refused.count(PoolError::Flush);
             return Err(PoolError::Flush);
         }
         settle(self.alloc, &mut self.notes, self.settled);

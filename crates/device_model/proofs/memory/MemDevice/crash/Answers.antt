@@ -3,14 +3,15 @@ use Rattle.std.proofs.lemmas.List.{with_items_is}
 use Rattle.device_model.specs.declared.notes.Note.{Note}
 use Rattle.base.specs.Disk.{Disk, MayLeave}
 use Rattle.base.specs.Crashes.{crash_image}
+use Rattle.base.specs.declared.refused.RefusedCalls.{RefusedCalls}
 use Rattle.device_model.specs.MemState.{MemState, after_crash}
 use Rattle.device_model.specs.Notes.{Track, Settles, LeadTo, replayed, undone, with_pieces, tracked, start}
 use Rattle.device_model.proofs.Tracks.{tells_leads}
 use Rattle.device_model.proofs.Sound.{same_size, sound, old_fits, content_fits, crash_bytes, crash_leads, crash_disk, crash_possible}
 use Rattle.device_model.proofs.memory.MemDevice.crash.Goals as goal
 
-abbrev with_disk : Disk → ℕ → MemState
-with_disk disk refusals = record { disk = disk; refusals = refusals; read_fails = 0; write_fails = 0; flush_fails = 0 }
+abbrev with_disk : Disk → RefusedCalls → MemState
+with_disk disk refused = record { disk = disk; refused = refused; read_fails = 0; write_fails = 0; flush_fails = 0 }
 
 pub leave_pieces-requires-clause-old_fits : goal.leave_pieces-requires-clause-old_fits
 leave_pieces-requires-clause-old_fits c =
