@@ -1,5 +1,5 @@
 -- What a load of a tree puts into memory, and how it stands for what the image has.
-use Rattle.std.specs.Prelude.{ℕ, ◌≡◌, ◌≤◌, ◌<◌, ◌+◌, ◌-◌, ◌*◌, ◌^◌, ◌⊎◌, Bool, IsTrue, List, [], Option, None, IfSome, length, slice_get, replicate}
+use Rattle.std.specs.Prelude.{ℕ, ◌≡◌, ◌≤◌, ◌<◌, ◌+◌, ◌*◌, ◌⊎◌, Bool, IsTrue, List, [], Option, None, IfSome, length, slice_get, replicate}
 use Rattle.base.specs.declared.error.PoolError.{PoolError}
 use Rattle.base.specs.declared.error.PoolError.TheVariants.{NoMemory, Read, Damaged}
 use Rattle.base.specs.declared.pointer.Pointer.{Pointer}
@@ -24,10 +24,9 @@ Shows keeps disk image = IsTrue keeps → bytes_of disk.now ≡ image
 abbrev pub frame_of : Frame → ℕ → Frame
 frame_of frame size = record { guid = frame.guid; blocks = block_count size; group = frame.group }
 
--- Why a load is refused: there is no memory, the device refused a read, or a block is damaged. The count of refused calls
--- is told below its limit.
-abbrev pub IsLoadRefusal : ℕ → ℕ → PoolError → Type 0
-IsLoadRefusal old new e = (e ≡ NoMemory) ⊎ (((e ≡ Read) × (old < 2 ^ 64 - 1 → old < new)) ⊎ ((kind : ℕ) × (address : ℕ) × (e ≡ Damaged kind address)))
+-- why a load is refused: there is no memory, the device refused a read, or a block is damaged
+abbrev pub IsLoadRefusal : PoolError → Type 0
+IsLoadRefusal e = (e ≡ NoMemory) ⊎ ((e ≡ Read) ⊎ ((kind : ℕ) × (address : ℕ) × (e ≡ Damaged kind address)))
 
 -- record r of object n, with this pointer to it and these bytes of the object
 pub record IsLoadedRecord (keeps : Bool) (image : List ℕ) (frame : Frame) (n r : ℕ) (pointer : Pointer) (bytes : List ℕ) : Type 0 where

@@ -4,6 +4,7 @@ ghost use Rattle.std.specs.Prelude.{◌≡◌, ◌≢◌, ℕ, ◌+◌, ◌*◌,
 ghost use Rattle.std.specs.FinMap as finite;
 ghost use Rattle.base.specs.Limits.{object_count, max_length};
 ghost use Rattle.base.specs.Fields.{number_at, pointer_at, pointer_in, entry_in, entry_present, entry_length, entry_pointer, no_pointer};
+ghost use Rattle.base.specs.Calls.{counted};
 ghost use Rattle.base.specs.Disk.{bytes_of};
 ghost use Rattle.base.specs.Geometry.{block_count, IsBlockAddress};
 ghost use Rattle.base.specs.Blocks.{Opens};
@@ -88,8 +89,8 @@ fn read_block<D: SectorDevice>(
     requires { D.size device.old ≡ geometry }
     ensures size { D.size device.new ≡ D.size device.old }
     ensures disk { IsTrue D.keeps_model → D.disk device.new ≡ D.disk device.old }
-    ensures count { OnOk result (D.refused device.new ≡ D.refused device.old) }
-    ensures cause { IfErr result (IsLoadRefusal (D.refused device.old) (D.refused device.new)) }
+    ensures count { D.refused device.new ≡ counted result (D.refused device.old) }
+    ensures cause { IfErr result IsLoadRefusal }
     ensures placed { OnOk result (IsBlockAddress (block_count geometry) pointer.now.address) }
     ensures opens { (image : List ℕ) → Shows D.keeps_model (D.disk device.old) image → OnOk result (IsTrue D.keeps_model
         → Opens image (frame_of frame.now geometry) (kind_number place.kind) place.number pointer.now (drop 64 buffer.new)) }
@@ -235,8 +236,8 @@ pub fn load<D: SectorDevice>(
     requires { D.size device.old ≡ geometry }
     ensures size { D.size device.new ≡ D.size device.old }
     ensures disk { IsTrue D.keeps_model → D.disk device.new ≡ D.disk device.old }
-    ensures count { OnOk result (D.refused device.new ≡ D.refused device.old) }
-    ensures cause { IfErr result (IsLoadRefusal (D.refused device.old) (D.refused device.new)) }
+    ensures count { D.refused device.new ≡ counted result (D.refused device.old) }
+    ensures cause { IfErr result IsLoadRefusal }
 
     // The tree has the root, pointers to blocks of the area alone, and objects within their limits.
     ensures root { IfOk result (λ l. l.tree.root ≡ root) }
@@ -294,8 +295,8 @@ fn load_tree<D: SectorDevice>(
     requires empty { AreEmptyFrom 0 slots.old maps.old }
     ensures size { D.size device.new ≡ D.size device.old }
     ensures disk { IsTrue D.keeps_model → D.disk device.new ≡ D.disk device.old }
-    ensures count { OnOk result (D.refused device.new ≡ D.refused device.old) }
-    ensures cause { IfErr result (IsLoadRefusal (D.refused device.old) (D.refused device.new)) }
+    ensures count { D.refused device.new ≡ counted result (D.refused device.old) }
+    ensures cause { IfErr result IsLoadRefusal }
     ensures loaded { (image : List ℕ) → Shows D.keeps_model (D.disk device.old) image → OnOk result
         (IsLoadedTree D.keeps_model image (frame_of frame.now geometry) root.now directories.new slots.new maps.new) }
     ensures fault { IsTrue D.keeps_model → (image : List ℕ) → bytes_of (D.disk device.old).now ≡ image
@@ -338,8 +339,8 @@ fn load_directories<D: SectorDevice>(
     requires empty { AreEmptyFrom 0 slots.old maps.old }
     ensures size { D.size device.new ≡ D.size device.old }
     ensures disk { IsTrue D.keeps_model → D.disk device.new ≡ D.disk device.old }
-    ensures count { OnOk result (D.refused device.new ≡ D.refused device.old) }
-    ensures cause { IfErr result (IsLoadRefusal (D.refused device.old) (D.refused device.new)) }
+    ensures count { D.refused device.new ≡ counted result (D.refused device.old) }
+    ensures cause { IfErr result IsLoadRefusal }
     ensures loaded { (image : List ℕ) → Shows D.keeps_model (D.disk device.old) image → OnOk result
         (AreLoadedDirectories D.keeps_model image (frame_of frame.now geometry) directories.now 84 slots.new maps.new) }
     ensures sound { IsTrue D.keeps_model → (image : List ℕ) (top : Pointer) → bytes_of (D.disk device.old).now ≡ image
@@ -374,8 +375,8 @@ fn load_directory<D: SectorDevice>(
     requires empty { AreEmptyFrom (63 * directory) slots.old maps.old }
     ensures size { D.size device.new ≡ D.size device.old }
     ensures disk { IsTrue D.keeps_model → D.disk device.new ≡ D.disk device.old }
-    ensures count { OnOk result (D.refused device.new ≡ D.refused device.old) }
-    ensures cause { IfErr result (IsLoadRefusal (D.refused device.old) (D.refused device.new)) }
+    ensures count { D.refused device.new ≡ counted result (D.refused device.old) }
+    ensures cause { IfErr result IsLoadRefusal }
     ensures loaded { (image : List ℕ) → Shows D.keeps_model (D.disk device.old) image → OnOk result
         (IsLoadedDirectory D.keeps_model image (frame_of frame.now geometry) directory pointer.now slots.new maps.new) }
     ensures others { OnOk result (SameBut (63 * directory) 63 slots.old slots.new maps.old maps.new) }
@@ -419,8 +420,8 @@ fn load_entries<D: SectorDevice>(
     requires empty { AreEmptyFrom (63 * directory) slots.old maps.old }
     ensures size { D.size device.new ≡ D.size device.old }
     ensures disk { IsTrue D.keeps_model → D.disk device.new ≡ D.disk device.old }
-    ensures count { OnOk result (D.refused device.new ≡ D.refused device.old) }
-    ensures cause { IfErr result (IsLoadRefusal (D.refused device.old) (D.refused device.new)) }
+    ensures count { D.refused device.new ≡ counted result (D.refused device.old) }
+    ensures cause { IfErr result IsLoadRefusal }
     ensures loaded { (image : List ℕ) → Shows D.keeps_model (D.disk device.old) image → OnOk result
         (AreLoadedEntries D.keeps_model image (frame_of frame.now geometry) directory payload.now 63 slots.old slots.new maps.old maps.new) }
     ensures sound { IsTrue D.keeps_model → (image : List ℕ) (top : Pointer) → bytes_of (D.disk device.old).now ≡ image
@@ -454,8 +455,8 @@ fn load_object<D: SectorDevice>(
     requires length { entry.now.length ≤ 338688 }
     ensures size { D.size device.new ≡ D.size device.old }
     ensures disk { IsTrue D.keeps_model → D.disk device.new ≡ D.disk device.old }
-    ensures count { OnOk result (D.refused device.new ≡ D.refused device.old) }
-    ensures cause { IfErr result (IsLoadRefusal (D.refused device.old) (D.refused device.new)) }
+    ensures count { D.refused device.new ≡ counted result (D.refused device.old) }
+    ensures cause { IfErr result IsLoadRefusal }
     ensures present { IfOk result (λ o. o.0.present ≡ true) }
     ensures length { IfOk result (λ o. length o.0.bytes.items ≡ entry.now.length) }
     ensures indirect { IfOk result (λ o. o.1.indirect ≡ entry.now.pointer) }
@@ -503,8 +504,8 @@ fn load_bytes<D: SectorDevice>(
     requires zeros { bytes.old ≡ replicate (length bytes.old) 0 }
     ensures size { D.size device.new ≡ D.size device.old }
     ensures disk { IsTrue D.keeps_model → D.disk device.new ≡ D.disk device.old }
-    ensures count { OnOk result (D.refused device.new ≡ D.refused device.old) }
-    ensures cause { IfErr result (IsLoadRefusal (D.refused device.old) (D.refused device.new)) }
+    ensures count { D.refused device.new ≡ counted result (D.refused device.old) }
+    ensures cause { IfErr result IsLoadRefusal }
     ensures loaded { (image : List ℕ) → Shows D.keeps_model (D.disk device.old) image → IfOk result
         (λ records. IsLoadedObject D.keeps_model image (frame_of frame.now geometry) number (Some bytes.new) indirect.now records.items) }
     ensures sound { IsTrue D.keeps_model → (image : List ℕ) (top : Pointer) → bytes_of (D.disk device.old).now ≡ image
@@ -547,8 +548,8 @@ fn load_records<D: SectorDevice>(
     requires zeros { (r : ℕ) → IsZeroRecord r bytes.old }
     ensures size { D.size device.new ≡ D.size device.old }
     ensures disk { IsTrue D.keeps_model → D.disk device.new ≡ D.disk device.old }
-    ensures count { OnOk result (D.refused device.new ≡ D.refused device.old) }
-    ensures cause { IfErr result (IsLoadRefusal (D.refused device.old) (D.refused device.new)) }
+    ensures count { D.refused device.new ≡ counted result (D.refused device.old) }
+    ensures cause { IfErr result IsLoadRefusal }
     ensures loaded { (image : List ℕ) → Shows D.keeps_model (D.disk device.old) image → OnOk result
         (AreLoadedRecords D.keeps_model image (frame_of frame.now geometry) number records.now bytes.new 84) }
     ensures sound { IsTrue D.keeps_model → (image : List ℕ) (top : Pointer) → bytes_of (D.disk device.old).now ≡ image
@@ -582,8 +583,8 @@ fn load_record<D: SectorDevice>(
     requires within { 4032 * index < length bytes.old }
     ensures size { D.size device.new ≡ D.size device.old }
     ensures disk { IsTrue D.keeps_model → D.disk device.new ≡ D.disk device.old }
-    ensures count { OnOk result (D.refused device.new ≡ D.refused device.old) }
-    ensures cause { IfErr result (IsLoadRefusal (D.refused device.old) (D.refused device.new)) }
+    ensures count { D.refused device.new ≡ counted result (D.refused device.old) }
+    ensures cause { IfErr result IsLoadRefusal }
     ensures loaded { (image : List ℕ) → Shows D.keeps_model (D.disk device.old) image → OnOk result
         (IsLoadedRecord D.keeps_model image (frame_of frame.now geometry) number index pointer.now bytes.new) }
     ensures others { OnOk result ((r : ℕ) → r ≢ index → record_bytes r bytes.new ≡ record_bytes r bytes.old) }
