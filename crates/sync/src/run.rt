@@ -1,7 +1,7 @@
 //! The device calls of a sync, one at a time: its blocks and a flush, for a new name or an import the configs of two
 //! labels and a flush, the uberblock in each label and a flush, and then the other two labels.
 
-ghost use Rattle.std.specs.Prelude.{◌≡◌, ◌<◌, ◌+◌, ◌≤◌, ◌↔◌, All, IfOk, IsTrue, if◌then◌else◌, is_ok, vec_len};
+ghost use Rattle.std.specs.Prelude.{◌≡◌, ◌<◌, ◌+◌, ◌≤◌, ◌↔◌, All, IfErr, IfOk, IsTrue, if◌then◌else◌, is_ok, vec_len};
 ghost use Rattle.base.specs.Geometry.{block_count};
 ghost use Rattle.tree_plans.specs.declared.planner.PlannedBlock.{PlannedBlock};
 
@@ -38,7 +38,7 @@ impl SyncRun {
     ghost use Rattle.std.specs.Prelude.{ℕ, List, [], length};
     ghost use Rattle.base.specs.Disk.{bytes_of};
     ghost use Rattle.base.specs.SyncOrder.{DeviceCall};
-    ghost use Rattle.base.specs.Calls.{Counts};
+    ghost use Rattle.base.specs.Calls.{counted};
     ghost use Rattle.sync.specs.CallOrder.{call_said};
     ghost use Rattle.sync.specs.Calls.{HasCall, IsNextCall, MakesCall, TargetFits, calls_of, plain_answer, refusal_of};
     ghost use Rattle.sync.specs.Made.{HasDistinctBlocks, HasMade, HasPending};
@@ -74,8 +74,9 @@ impl SyncRun {
         ensures there { (call : DeviceCall) × IsNextCall self.old call }
         ensures called { IsTrue D.keeps_model → (call : DeviceCall) → IsNextCall self.old call
             → MakesCall self.old call (D.disk device.old) (plain_answer result) (D.disk device.new) }
-        ensures count { (call : DeviceCall) → IsNextCall self.old call
-            → Counts (D.refused device.old) (D.refused device.new) (refusal_of call) (plain_answer result) }
+        ensures count { D.refused device.new ≡ counted result (D.refused device.old) }
+        ensures refusal { (call : DeviceCall) → IsNextCall self.old call
+            → IfErr result (λ e. e ≡ refusal_of call) }
         ensures kept { IsTrue D.keeps_model → HasDistinctBlocks self.old → (base : List ℕ)
             → HasMade base self.old (bytes_of (D.disk device.old).now)
             → HasMade base self.new (bytes_of (D.disk device.new).now) }
@@ -115,7 +116,8 @@ impl SyncRun {
         ensures fits { TargetFits self.now (call_said call) }
         ensures called { IsTrue D.keeps_model
             → MakesCall self.now (call_said call) (D.disk device.old) result (D.disk device.new) }
-        ensures count { Counts (D.refused device.old) (D.refused device.new) (refusal_of (call_said call)) result }
+        ensures count { D.refused device.new ≡ counted result (D.refused device.old) }
+        ensures refusal { IfErr result (λ e. e ≡ refusal_of (call_said call)) }
     {
         match call {
             Call::Block(number) => self.write_block(device, number),
@@ -132,7 +134,8 @@ impl SyncRun {
         ensures fits { TargetFits self.now (DeviceCall.Block number) }
         ensures called { IsTrue D.keeps_model
             → MakesCall self.now (DeviceCall.Block number) (D.disk device.old) result (D.disk device.new) }
-        ensures count { Counts (D.refused device.old) (D.refused device.new) PoolError.Write result }
+        ensures count { D.refused device.new ≡ counted result (D.refused device.old) }
+        ensures refusal { IfErr result (λ e. e ≡ PoolError.Write) }
     {
         let planned = &self.blocks[number];
         let at = self.geometry.block_address(planned.index as u64);
@@ -146,7 +149,8 @@ impl SyncRun {
         ensures fits { TargetFits self.now (DeviceCall.Config label) }
         ensures called { IsTrue D.keeps_model
             → MakesCall self.now (DeviceCall.Config label) (D.disk device.old) result (D.disk device.new) }
-        ensures count { Counts (D.refused device.old) (D.refused device.new) PoolError.Write result }
+        ensures count { D.refused device.new ≡ counted result (D.refused device.old) }
+        ensures refusal { IfErr result (λ e. e ≡ PoolError.Write) }
     {
         let Some(stages) = &self.stages else {
             unreachable!()
@@ -165,7 +169,8 @@ impl SyncRun {
         ensures fits { TargetFits self.now (DeviceCall.Uberblock label) }
         ensures called { IsTrue D.keeps_model
             → MakesCall self.now (DeviceCall.Uberblock label) (D.disk device.old) result (D.disk device.new) }
-        ensures count { Counts (D.refused device.old) (D.refused device.new) PoolError.Write result }
+        ensures count { D.refused device.new ≡ counted result (D.refused device.old) }
+        ensures refusal { IfErr result (λ e. e ≡ PoolError.Write) }
     {
         device.write(self.geometry.slot_place(label, self.slot), &self.uberblock)
     }
