@@ -7,9 +7,9 @@ use Rattle.base.specs.Disk.{put}
 use Rattle.base.specs.Crashes.{piece_at}
 use Rattle.device_model.specs.Notes.{undone, with_piece, with_pieces, ended, Closes}
 
-pub undone-push : (ns : List Note) (n : Note) (bytes : List ℕ) → undone (ns ++ n ∷ []) bytes ≡ undone ns (put n.place n.old.items bytes)
+pub undone-push : (ns : List Note) (n : Note) (bytes : List ℕ) → undone (ns ++ n ∷ []) bytes ≡ undone ns (put n.place n.old bytes)
 undone-push [] n bytes = refl
-undone-push (m ∷ ns) n bytes = ap (λ (l : List ℕ). put m.place m.old.items l) (undone-push ns n bytes)
+undone-push (m ∷ ns) n bytes = ap (λ (l : List ℕ). put m.place m.old l) (undone-push ns n bytes)
 
 pub with_pieces-push : (pieces : List Piece) (i : ℕ) (ns : List Note) (n : Note) → with_pieces pieces i (ns ++ n ∷ []) ≡ with_pieces pieces i ns ++ with_piece (piece_at pieces (i + length ns)) n ∷ []
 with_pieces-push pieces i [] n = let at : i ≡ i + 0 = omega arith in ap (λ (k : ℕ). with_piece (piece_at pieces k) n ∷ []) at
@@ -35,11 +35,11 @@ closes_newest settled notes n below is = record {
     split = sym (take_all (length notes - 1 + 1) notes (omega arith)) ∙ take_more notes (length notes - 1) n (omega arith) ∙ ap (λ (m : Note). take (length notes - 1) notes ++ m ∷ []) (sym is)
 
 -- one write less to take back
-pub undo_step : (notes : List Note) (bytes old after : List ℕ) (i : ℕ) (n : Note) → i ≤ length notes → 0 < i → n ≡ get_or notes (i - 1) n → old ≡ n.old.items → after ≡ put n.place old bytes → undone (take (i - 1) notes) after ≡ undone (take i notes) bytes
-undo_step notes bytes old after i n within some is same puts =
+pub undo_step : (notes : List Note) (bytes after : List ℕ) (i : ℕ) (n : Note) → i ≤ length notes → 0 < i → n ≡ get_or notes (i - 1) n → after ≡ put n.place n.old bytes → undone (take (i - 1) notes) after ≡ undone (take i notes) bytes
+undo_step notes bytes after i n within some is puts =
     let at : i - 1 + 1 ≡ i = omega arith in
     let split : take i notes ≡ take (i - 1) notes ++ n ∷ [] = ap (λ (k : ℕ). take k notes) (sym at) ∙ take_more notes (i - 1) n (omega arith) ∙ ap (λ (m : Note). take (i - 1) notes ++ m ∷ []) (sym is) in
-    ap (λ (l : List ℕ). undone (take (i - 1) notes) l) (puts ∙ ap (λ (l : List ℕ). put n.place l bytes) same)
+    ap (λ (l : List ℕ). undone (take (i - 1) notes) l) puts
     ∙ sym (undone-push (take (i - 1) notes) n bytes) ∙ ap (λ (l : List Note). undone l bytes) (sym split)
 
 -- the notes while they are marked, from the first on and up to i

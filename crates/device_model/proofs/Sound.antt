@@ -83,10 +83,10 @@ module _ (m : Inside) (is : IsSound m) where
   bytes_long : length m.bytes.items ≡ length (tracked (start m.sectors) (take m.settled m.notes.items)).image
   bytes_long = ap (λ (l : List ℕ). length l) is.leads.bytes_are ∙ length-replayed (drop m.settled m.notes.items) (tracked (start m.sectors) (take m.settled m.notes.items)).image (recall_fits (tracked (start m.sectors) (take m.settled m.notes.items)).image (drop m.settled m.notes.items) is.leads.recall)
 
-  pub old_fits : (size : ℕ) → size ≡ length m.bytes.items → All (λ n. n.place + length n.old.items ≤ size) (drop m.settled m.notes.items)
-  old_fits size long = All-from_recursion _ (drop m.settled m.notes.items) (subst (λ (k : ℕ). AllByRecursion (λ (n : Note). n.place + length n.old.items ≤ k) (drop m.settled m.notes.items)) (sym (long ∙ bytes_long)) (recall_old_fits (tracked (start m.sectors) (take m.settled m.notes.items)).image (drop m.settled m.notes.items) is.leads.recall))
+  pub old_fits : (size : ℕ) → size ≡ length m.bytes.items → All (λ n. n.place + length n.old ≤ size) (drop m.settled m.notes.items)
+  old_fits size long = All-from_recursion _ (drop m.settled m.notes.items) (subst (λ (k : ℕ). AllByRecursion (λ (n : Note). n.place + length n.old ≤ k) (drop m.settled m.notes.items)) (sym (long ∙ bytes_long)) (recall_old_fits (tracked (start m.sectors) (take m.settled m.notes.items)).image (drop m.settled m.notes.items) is.leads.recall))
 
-  pub content_fits : (size : ℕ) → size ≡ length m.bytes.items → All (λ n. n.place + length n.content.items ≤ size) (drop m.settled m.notes.items)
+  pub content_fits : (size : ℕ) → size ≡ length m.bytes.items → All (λ n. n.place + length n.content ≤ size) (drop m.settled m.notes.items)
   content_fits size long = All-from_recursion _ (drop m.settled m.notes.items) (subst (λ (k : ℕ). AllByRecursion (Fits k) (drop m.settled m.notes.items)) (sym (long ∙ bytes_long)) (recall_fits (tracked (start m.sectors) (take m.settled m.notes.items)).image (drop m.settled m.notes.items) is.leads.recall))
 
 -- a crash that leaves these pieces

@@ -19,7 +19,7 @@ abbrev pub GoesOn : Note → Type 0
 GoesOn n = n.last ≡ false
 
 abbrev pub Fits : ℕ → Note → Type 0
-Fits size n = n.place + length n.content.items ≤ size
+Fits size n = n.place + length n.content ≤ size
 
 pub length-left : (p : Piece) (done : Bool) (place : ℕ) (content bytes : List ℕ) → place + length content ≤ length bytes → length (left p done place content bytes) ≡ length bytes
 length-left Keep true place content bytes fits = length-put place content bytes fits
@@ -28,7 +28,7 @@ length-left Lose done place content bytes fits = refl
 length-left (Fill b) done place content bytes fits = length-put place (replicate (length content) b) bytes (omega (arith, fits, length-replicate (length content) b))
 
 pub length-left_of : (n : Note) (bytes : List ℕ) → Fits (length bytes) n → length (left_of n bytes) ≡ length bytes
-length-left_of n bytes fits = length-left n.piece n.done n.place n.content.items bytes fits
+length-left_of n bytes fits = length-left n.piece n.done n.place n.content bytes fits
 
 -- the image is what stands of the notes' writes
 image_ended : (b : Bool) (t : Track) → (ended_track b t).image ≡ t.image
@@ -55,9 +55,9 @@ open_bytes : (t : Track) (ns : List Note) → AllByRecursion IsOpen ns → t.ima
 open_bytes t [] each same = sym same
 open_bytes t (n ∷ ns) each same =
     let step = goes_on_step t n each.0.goes_on in
-    let kept : left_of n t.image ≡ left Keep n.done n.place n.content.items t.image = ap (λ (p : Piece). left p n.done n.place n.content.items t.image) each.0.kept in
+    let kept : left_of n t.image ≡ left Keep n.done n.place n.content t.image = ap (λ (p : Piece). left p n.done n.place n.content t.image) each.0.kept in
     let next_same : (after_note t n).image ≡ bytes_of (after_note t n).disk.now =
-    image_step t n ∙ kept ∙ ap (λ (l : List ℕ). left Keep n.done n.place n.content.items l) same ∙ sym (ap (λ (u : Track). bytes_of u.disk.now) step) in
+    image_step t n ∙ kept ∙ ap (λ (l : List ℕ). left Keep n.done n.place n.content l) same ∙ sym (ap (λ (u : Track). bytes_of u.disk.now) step) in
     open_bytes (after_note t n) ns each.1 next_same ∙ ap (λ (l : List ℕ). replayed ns l) (image_step t n)
 
 pub all_push : (P : Note → Type 0) (ns : List Note) (n : Note) → AllByRecursion P ns → P n → AllByRecursion P (ns ++ n ∷ [])
@@ -72,7 +72,7 @@ pub all_weaker : (P Q : Note → Type 0) → ((n : Note) → P n → Q n) → (n
 all_weaker P Q weaker [] each = tt
 all_weaker P Q weaker (n ∷ ns) each = (weaker n each.0, all_weaker P Q weaker ns each.1)
 
-recall-push : (bytes : List ℕ) (ns : List Note) (n : Note) → Recall bytes ns → Fits (length (replayed ns bytes)) n → n.old.items ≡ part (replayed ns bytes) n.place (length n.content.items) → Recall bytes (ns ++ n ∷ [])
+recall-push : (bytes : List ℕ) (ns : List Note) (n : Note) → Recall bytes ns → Fits (length (replayed ns bytes)) n → n.old ≡ part (replayed ns bytes) n.place (length n.content) → Recall bytes (ns ++ n ∷ [])
 recall-push bytes [] n so_far fits old = (fits, old, tt)
 recall-push bytes (m ∷ ns) n so_far fits old = (so_far.0, so_far.1, recall-push (left_of m bytes) ns n so_far.2 fits old)
 
@@ -80,14 +80,14 @@ recall-push bytes (m ∷ ns) n so_far fits old = (so_far.0, so_far.1, recall-pus
 pub undone-replayed : (bytes : List ℕ) (ns : List Note) → AllByRecursion IsOpen ns → Recall bytes ns → undone ns (replayed ns bytes) ≡ bytes
 undone-replayed bytes [] each recall = refl
 undone-replayed bytes (n ∷ ns) each recall =
-    ap (λ (l : List ℕ). put n.place n.old.items l) (undone-replayed (left_of n bytes) ns each.1 recall.2)
+    ap (λ (l : List ℕ). put n.place n.old l) (undone-replayed (left_of n bytes) ns each.1 recall.2)
     ∙ ap (λ (l : List ℕ). put n.place l (left_of n bytes)) recall.1
-    ∙ ap (λ (p : Piece). put n.place (part bytes n.place (length n.content.items)) (left p n.done n.place n.content.items bytes)) each.0.kept
+    ∙ ap (λ (p : Piece). put n.place (part bytes n.place (length n.content)) (left p n.done n.place n.content bytes)) each.0.kept
     ∙ back n.done
   where
-    back : (done : Bool) → put n.place (part bytes n.place (length n.content.items)) (left Keep done n.place n.content.items bytes) ≡ bytes
-    back true = put-put_part n.place n.content.items bytes recall.0
-    back false = put-part n.place (length n.content.items) bytes recall.0
+    back : (done : Bool) → put n.place (part bytes n.place (length n.content)) (left Keep done n.place n.content bytes) ≡ bytes
+    back true = put-put_part n.place n.content bytes recall.0
+    back false = put-part n.place (length n.content) bytes recall.0
 
 pub recall_fits : (bytes : List ℕ) (ns : List Note) → Recall bytes ns → AllByRecursion (Fits (length bytes)) ns
 recall_fits bytes [] recall = tt
@@ -95,12 +95,12 @@ recall_fits bytes (n ∷ ns) recall =
     let same = length-left_of n bytes recall.0 in
     (recall.0, subst (λ (k : ℕ). AllByRecursion (Fits k) ns) same (recall_fits (left_of n bytes) ns recall.2))
 
-pub recall_old_fits : (bytes : List ℕ) (ns : List Note) → Recall bytes ns → AllByRecursion (λ n. n.place + length n.old.items ≤ length bytes) ns
+pub recall_old_fits : (bytes : List ℕ) (ns : List Note) → Recall bytes ns → AllByRecursion (λ n. n.place + length n.old ≤ length bytes) ns
 recall_old_fits bytes [] recall = tt
 recall_old_fits bytes (n ∷ ns) recall =
     let same = length-left_of n bytes recall.0 in
-    let long : length n.old.items ≤ length n.content.items = omega (arith, ap (λ (l : List ℕ). length l) recall.1, length-take (length n.content.items) (drop n.place bytes)) in
-    (omega (arith, recall.0, long), subst (λ (k : ℕ). AllByRecursion (λ (m : Note). m.place + length m.old.items ≤ k) ns) same (recall_old_fits (left_of n bytes) ns recall.2))
+    let long : length n.old ≤ length n.content = omega (arith, ap (λ (l : List ℕ). length l) recall.1, length-take (length n.content) (drop n.place bytes)) in
+    (omega (arith, recall.0, long), subst (λ (k : ℕ). AllByRecursion (λ (m : Note). m.place + length m.old ≤ k) ns) same (recall_old_fits (left_of n bytes) ns recall.2))
 
 pub length-replayed : (ns : List Note) (bytes : List ℕ) → AllByRecursion (Fits (length bytes)) ns → length (replayed ns bytes) ≡ length bytes
 length-replayed [] bytes fits = refl
@@ -162,20 +162,20 @@ module _ (first : Track) (k : ℕ) (notes : List Note) (counted : k ≤ length n
       base : List ℕ
       base = replayed (drop k notes) (tracked first (take k notes)).image
 
-      same_part : part base place (length content) ≡ part base adds.note.place (length adds.note.content.items)
+      same_part : part base place (length content) ≡ part base adds.note.place (length adds.note.content)
       same_part = ap (λ (p : ℕ). part base p (length content)) (sym adds.tells.place_is) ∙ ap (λ (l : List ℕ). part base adds.note.place (length l)) (sym adds.tells.content_is)
 
       same_left : left_of adds.note base ≡ left Keep done place content base
-      same_left = ap (λ (p : Piece). left p adds.note.done adds.note.place adds.note.content.items base) adds.tells.open_is.kept
-          ∙ ap (λ (b : Bool). left Keep b adds.note.place adds.note.content.items base) adds.tells.done_is
-          ∙ ap (λ (p : ℕ). left Keep done p adds.note.content.items base) adds.tells.place_is
+      same_left = ap (λ (p : Piece). left p adds.note.done adds.note.place adds.note.content base) adds.tells.open_is.kept
+          ∙ ap (λ (b : Bool). left Keep b adds.note.place adds.note.content base) adds.tells.done_is
+          ∙ ap (λ (p : ℕ). left Keep done p adds.note.content base) adds.tells.place_is
           ∙ ap (λ (l : List ℕ). left Keep done place l base) adds.tells.content_is
 
   pub writes_disk : (bytes : List ℕ) (more : List Note) (place : ℕ) (content : List ℕ) (done : Bool) → AddsNote notes more place content done bytes → (tracked first more).disk ≡ written place content done (tracked first notes).disk
   writes_disk bytes more place content done adds =
       ap (λ (l : List Note). (tracked first l).disk) adds.added
       ∙ ap (λ (t : Track). t.disk) (tracked-append first notes (adds.note ∷ []) ∙ goes_on_step (tracked first notes) adds.note adds.tells.open_is.goes_on)
-      ∙ ap (λ (p : ℕ). written p adds.note.content.items adds.note.done (tracked first notes).disk) adds.tells.place_is
+      ∙ ap (λ (p : ℕ). written p adds.note.content adds.note.done (tracked first notes).disk) adds.tells.place_is
       ∙ ap (λ (l : List ℕ). written place l adds.note.done (tracked first notes).disk) adds.tells.content_is
       ∙ ap (λ (b : Bool). written place content b (tracked first notes).disk) adds.tells.done_is
 
@@ -248,7 +248,7 @@ same_disk : (pieces : List Piece) (i : ℕ) (ns : List Note) (t u : Track) → A
 same_disk pieces i [] t u each same = same
 same_disk pieces i (n ∷ ns) t u each same =
     same_disk pieces (i + 1) ns (after_note t (with_piece (piece_at pieces i) n)) (after_note u n) each.1
-    (ap (λ (v : Track). v.disk) (goes_on_step t (with_piece (piece_at pieces i) n) each.0) ∙ ap (λ (d : Disk). written n.place n.content.items n.done d) same ∙ sym (ap (λ (v : Track). v.disk) (goes_on_step u n each.0)))
+    (ap (λ (v : Track). v.disk) (goes_on_step t (with_piece (piece_at pieces i) n) each.0) ∙ ap (λ (d : Disk). written n.place n.content n.done d) same ∙ sym (ap (λ (v : Track). v.disk) (goes_on_step u n each.0)))
 
 -- the image of a track, by the pieces of its unflushed writes
 record HasImage (pieces : List Piece) (i : ℕ) (flushed : List ℕ) (t : Track) : Type 0 where
@@ -262,7 +262,7 @@ image_of_pieces pieces i flushed (n ∷ ns) t each has =
     let m = with_piece (piece_at pieces i) n in
     let at : i + 1 + length ns ≡ i + suc (length ns) = omega arith in
     let step : HasImage pieces (i + 1) flushed (noted t m) = record {
-      image = ap (λ (l : List ℕ). left (piece_at pieces i) n.done n.place n.content.items l) has.image ∙ ap (λ (j : ℕ). left (piece_at pieces j) n.done n.place n.content.items (image_after pieces flushed t.disk.now.unflushed)) (sym has.count);
+      image = ap (λ (l : List ℕ). left (piece_at pieces i) n.done n.place n.content l) has.image ∙ ap (λ (j : ℕ). left (piece_at pieces j) n.done n.place n.content (image_after pieces flushed t.disk.now.unflushed)) (sym has.count);
       count = omega (arith, has.count);
       flushed_is = has.flushed_is;
     } in
@@ -314,8 +314,8 @@ module _ (first : Track) (k : ℕ) (notes marked : List Note) (bytes : List ℕ)
   marked_image = ap (λ (t : Track). t.image) marked_track ∙ has_image.image ∙ ap (λ (f : List ℕ). image_after pieces f (tracked from (with_pieces pieces 0 behind)).disk.now.unflushed) (sym has_image.flushed_is)
       ∙ ap (λ (t : Track). crash_image pieces t.disk.now) (sym marked_track) ∙ ap (λ (d : Disk). crash_image pieces d.now) marked_disk
 
-  pub undo_fits : All (λ n. n.place + length n.old.items ≤ length bytes) behind
-  undo_fits = All-from_recursion _ behind (subst (λ (j : ℕ). AllByRecursion (λ (n : Note). n.place + length n.old.items ≤ j) behind) (sym long) (recall_old_fits from.image behind leads.recall))
+  pub undo_fits : All (λ n. n.place + length n.old ≤ length bytes) behind
+  undo_fits = All-from_recursion _ behind (subst (λ (j : ℕ). AllByRecursion (λ (n : Note). n.place + length n.old ≤ j) behind) (sym long) (recall_old_fits from.image behind leads.recall))
     where
       long : length bytes ≡ length from.image
       long = ap (λ (l : List ℕ). length l) leads.bytes_are ∙ length-replayed behind from.image (recall_fits from.image behind leads.recall)
@@ -329,5 +329,5 @@ module _ (first : Track) (k : ℕ) (notes marked : List Note) (bytes : List ℕ)
   pub replayed_bytes : replayed (drop k marked) from.image ≡ (tracked first marked).image
   replayed_bytes = ap (λ (l : List Note). replayed l from.image) marked_behind ∙ sym (image_is from (with_pieces pieces 0 behind)) ∙ sym (ap (λ (t : Track). t.image) marked_track)
 
-pub with_pieces_all_fit : (size : ℕ) (pieces : List Piece) (ns : List Note) → All (λ n. n.place + length n.content.items ≤ size) ns → All (λ n. n.place + length n.content.items ≤ size) (with_pieces pieces 0 ns)
+pub with_pieces_all_fit : (size : ℕ) (pieces : List Piece) (ns : List Note) → All (λ n. n.place + length n.content ≤ size) ns → All (λ n. n.place + length n.content ≤ size) (with_pieces pieces 0 ns)
 with_pieces_all_fit size pieces ns each = All-from_recursion (Fits size) (with_pieces pieces 0 ns) (with_pieces_fits size pieces 0 ns (recursion_from_All (Fits size) ns each))

@@ -3,3 +3,5 @@ pub mod MemState
 pub mod Plans
 pub mod Notes
 pub mod Memory
+pub mod KeptBytes
+pub mod NotedWrites

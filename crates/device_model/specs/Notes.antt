@@ -16,11 +16,11 @@ pub record Track : Type 0 where
 
 -- the image with what stands of a note's write
 abbrev pub left_of : Note → List ℕ → List ℕ
-left_of n image = left n.piece n.done n.place n.content.items image
+left_of n image = left n.piece n.done n.place n.content image
 
 -- one write more
 abbrev pub noted : Track → Note → Track
-noted t n = record { disk = written n.place n.content.items n.done t.disk; image = left_of n t.image }
+noted t n = record { disk = written n.place n.content n.done t.disk; image = left_of n t.image }
 
 -- and the good flush or crash behind it, if one came
 abbrev pub ended_track : Bool → Track → Track
@@ -44,7 +44,7 @@ replayed (n ∷ ns) bytes = replayed ns (left_of n bytes)
 -- the bytes with what stood before these notes' writes, the newest taken back first
 abbrev pub undone : List Note → List ℕ → List ℕ
 undone [] bytes = bytes
-undone (n ∷ ns) bytes = put n.place n.old.items (undone ns bytes)
+undone (n ∷ ns) bytes = put n.place n.old (undone ns bytes)
 
 -- a note behind which no good flush or crash came
 pub record IsOpen (n : Note) : Type 0 where
@@ -54,7 +54,7 @@ pub record IsOpen (n : Note) : Type 0 where
 -- the notes remember what stood before their writes, from these bytes on
 abbrev pub Recall : List ℕ → List Note → Type 0
 Recall bytes [] = Unit {0}
-Recall bytes (n ∷ ns) = (n.place + length n.content.items ≤ length bytes) × (n.old.items ≡ part bytes n.place (length n.content.items)) × Recall (left_of n bytes) ns
+Recall bytes (n ∷ ns) = (n.place + length n.content ≤ length bytes) × (n.old ≡ part bytes n.place (length n.content)) × Recall (left_of n bytes) ns
 
 -- from a track at which nothing is unflushed, open notes lead to these bytes
 pub record LeadTo (t : Track) (open_notes : List Note) (bytes : List ℕ) : Type 0 where
@@ -67,9 +67,9 @@ pub record LeadTo (t : Track) (open_notes : List Note) (bytes : List ℕ) : Type
 -- this note tells a write of this content over these bytes
 pub record Notes (n : Note) (place : ℕ) (content : List ℕ) (done : Bool) (bytes : List ℕ) : Type 0 where
   pub place_is : n.place ≡ place
-  pub content_is : n.content.items ≡ content
+  pub content_is : n.content ≡ content
   pub done_is : n.done ≡ done
-  pub old_is : n.old.items ≡ part bytes place (length content)
+  pub old_is : n.old ≡ part bytes place (length content)
   pub open_is : IsOpen n
 
 -- one note more, which tells the write

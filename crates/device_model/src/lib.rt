@@ -7,6 +7,7 @@
 mod device;
 mod fault;
 mod memory;
+mod noted_bytes;
 mod notes;
 
 pub use device::SectorDevice;

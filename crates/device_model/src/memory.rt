@@ -1,4 +1,4 @@
-ghost use Rattle.std.specs.Prelude.{◌≡◌, ◌+◌, ◌*◌, ◌-◌, ◌<◌, ◌≤◌, ◌↔◌, ◌≢◌, ◌++◌, [], ◌∷◌, length, take, drop, true, refl, IsTrue, IfOk, IfErr, OnOk, OnErr, Ok, Err, All, IsErr};
+ghost use Rattle.std.specs.Prelude.{◌≡◌, ◌+◌, ◌*◌, ◌-◌, ◌<◌, ◌≤◌, ◌↔◌, ◌⊎◌, ◌++◌, [], ◌∷◌, length, take, drop, true, refl, IsTrue, IfOk, IfErr, OnOk, OnErr, Ok, Err, All, IsErr};
 ghost use Rattle.base.specs.Fields.{part};
 ghost use Rattle.base.specs.Disk.{bytes_of, disk_size, MayLeave};
 ghost use Rattle.base.specs.Crashes.{crash_image};
@@ -23,6 +23,8 @@ pub struct MemDevice {
     // how many of the notes came before the last good flush or crash
     settled: usize,
     refused: RefusedCalls,
+    // how many writes found no memory to be noted
+    unnoted: u64,
     // which call of each kind from now fails, or 0
     reads: u64,
     writes: u64,
@@ -65,6 +67,7 @@ impl MemDevice {
             notes: Vec::new(alloc),
             settled: 0,
             refused: RefusedCalls::NONE,
+            unnoted: 0,
             reads: 0,
             writes: 0,
             flushes: 0,
@@ -90,6 +93,13 @@ impl MemDevice {
         self.notes.len() - self.settled
     }
 
+    /// How many writes found no memory to be noted. Each was refused `Write` and counts for nothing.
+    pub fn unnoted(&self) -> u64
+        ensures { result ≡ self.now.unnoted }
+    {
+        self.unnoted
+    }
+
     /// The device after a crash that leaves these pieces of the writes since the last good flush, one for each in
     /// order; those without a piece are kept. Of a failed write `Keep` and `Lose` leave what was there, and `Fill`
     /// fills its range. What is left counts as flushed, and no call is planned to fail. It takes no memory.
@@ -98,13 +108,7 @@ impl MemDevice {
         ensures size { disk_size result.disk ≡ disk_size self.disk }
         ensures possible { MayLeave self.disk.now (crash_image pieces.now self.disk.now) }
     {
-        leave_pieces(
-            self.alloc,
-            &mut self.bytes,
-            &mut self.notes,
-            self.settled,
-            pieces,
-        );
+        leave_pieces(&mut self.bytes, &mut self.notes, self.settled, pieces);
         self.settled = self.notes.len();
         self.reads = 0;
         self.writes = 0;
@@ -115,6 +119,7 @@ impl MemDevice {
 
 impl SectorDevice for MemDevice {
     ghost use Rattle.base.specs.Calls.{IsOnDevice, Writes, Flushes, counted};
+    ghost use Rattle.device_model.specs.NotedWrites.{IsNoted, IsUnnoted};
     ghost use Rattle.device_model.specs.Plans.{KeepsPlans};
 
     ghost keeps_model = { true };
@@ -143,6 +148,7 @@ impl SectorDevice for MemDevice {
 
         // It fails as planned, and only then.
         ensures planned { IsErr result ↔ (self.old.read_fails ≡ 1) }
+        ensures unnoted { self.new.unnoted ≡ self.old.unnoted }
         ensures plans { KeepsPlans Fault.Read self.old self.new }
     {
         if fires(&mut self.reads) {
@@ -160,14 +166,15 @@ impl SectorDevice for MemDevice {
         ensures refusal { IfErr result (λ e. e ≡ PoolError.Write) }
         ensures disk { Writes self.old.disk at bytes.now result self.new.disk }
 
-        // It fails as planned. Else it fails only where it finds no memory to note the write, which then counts for nothing.
-        ensures planned { self.old.write_fails ≡ 1 → IsErr result }
-        ensures unplanned { self.old.write_fails ≢ 1 → OnErr result (self.new.disk ≡ self.old.disk) }
+        // It fails as planned, and is then one of the writes of which a crash leaves pieces. Else it fails only where it finds
+        // no memory to be noted, and then counts for nothing.
+        ensures noted { IsNoted at bytes.now result self.old self.new ⊎ IsUnnoted result self.old self.new }
         ensures plans { KeepsPlans Fault.Write self.old self.new }
     {
         let fails = fires(&mut self.writes);
         let noted = make_note(self.alloc, &self.bytes, &mut self.notes, at, bytes, !fails);
         if noted.is_err() {
+            self.unnoted = self.unnoted.saturating_add(1);
             self.refused.count(PoolError::Write);
             return Err(PoolError::Write);
         }
@@ -187,13 +194,14 @@ impl SectorDevice for MemDevice {
 
         // It fails as planned, and only then.
         ensures planned { IsErr result ↔ (self.old.flush_fails ≡ 1) }
+        ensures unnoted { self.new.unnoted ≡ self.old.unnoted }
         ensures plans { KeepsPlans Fault.Flush self.old self.new }
     {
         if fires(&mut self.flushes) {
             self.refused.count(PoolError::Flush);
             return Err(PoolError::Flush);
         }
-        settle(self.alloc, &mut self.notes, self.settled);
+        settle(&mut self.notes, self.settled);
         self.settled = self.notes.len();
         Ok(())
     }

@@ -4,6 +4,7 @@ ghost use Rattle.base.specs.Disk.{put};
 ghost use Rattle.base.specs.Crashes.{piece_at};
 ghost use Rattle.device_model.specs.Notes.{AddsNote, Settles, TellSame, Closes, left_of, replayed, undone, with_pieces};
 
+use crate::noted_bytes::{NotedBytes, fill};
 use base::Piece;
 use std::alloc::{AllocError, Global};
 
@@ -13,8 +14,8 @@ use std::alloc::{AllocError, Global};
 #[derive(Drop)]
 pub struct Note {
     pub place: u64,
-    pub old: Vec<u8>,
-    pub content: Vec<u8>,
+    pub old: NotedBytes,
+    pub content: NotedBytes,
     pub done: bool,
     pub piece: Piece,
     pub last: bool,
@@ -64,8 +65,8 @@ pub fn make_note(
     ensures err { OnErr result (notes.new.items ≡ notes.old.items) }
 {
     let start = place as usize;
-    let old = Vec::from_slice(alloc, &bytes[start..start + content.len()])?;
-    let content = Vec::from_slice(alloc, content)?;
+    let old = NotedBytes::of(alloc, &bytes[start..start + content.len()])?;
+    let content = NotedBytes::of(alloc, content)?;
     notes.push(Note {
         place,
         old,
@@ -79,12 +80,12 @@ pub fn make_note(
 
 // Puts back what was there before the writes, the newest first.
 fn undo(bytes: &mut [u8], notes: &[Note])
-    requires { All (λ n. n.place + length n.old.items ≤ length bytes.old) notes.now }
+    requires { All (λ n. n.place + length n.old ≤ length bytes.old) notes.now }
     ensures { bytes.new ≡ undone notes.now bytes.old }
 {
     for i in (0..notes.len()).rev() {
         let note = &notes[i];
-        overwrite(bytes, note.place, &note.old);
+        note.old.write_over(bytes, note.place);
     }
 }
 
@@ -111,25 +112,24 @@ fn mark(notes: &mut [Note], first: usize, pieces: &[Piece])
 
 // Writes what a crash leaves of a write.
 fn leave(bytes: &mut [u8], note: &Note)
-    requires { note.now.place + length note.now.content.items ≤ length bytes.old }
+    requires { note.now.place + length note.now.content ≤ length bytes.old }
     ensures { bytes.new ≡ left_of note.now bytes.old }
 {
     match note.piece {
         Piece::Keep => {
             if note.done {
-                overwrite(bytes, note.place, &note.content);
+                note.content.write_over(bytes, note.place);
             }
         }
         Piece::Lose => {}
         Piece::Fill(byte) => {
-            let start = note.place as usize;
-            bytes[start..start + note.content.len()].fill(byte);
+            fill(bytes, note.place, note.content.len(), byte);
         }
     }
 }
 
 fn replay(bytes: &mut [u8], notes: &[Note])
-    requires { All (λ n. n.place + length n.content.items ≤ length bytes.old) notes.now }
+    requires { All (λ n. n.place + length n.content ≤ length bytes.old) notes.now }
     ensures { bytes.new ≡ replayed notes.now bytes.old }
 {
     for note in notes {
@@ -148,25 +148,25 @@ fn close(notes: &mut [Note], settled: usize)
 }
 
 // Lets go of what stood before the writes from this one on.
-fn forget(alloc: Global, notes: &mut [Note], first: usize)
+fn forget(notes: &mut [Note], first: usize)
     ensures { TellSame notes.old notes.new }
 {
     for i in first..notes.len() {
-        notes[i].old = Vec::new(alloc);
+        notes[i].old = NotedBytes::none();
     }
 }
 
 /// Settles the writes behind so many, at a good flush or a crash. It takes no memory.
-pub fn settle(alloc: Global, notes: &mut [Note], settled: usize)
+pub fn settle(notes: &mut [Note], settled: usize)
     ensures { Settles settled notes.old notes.new }
 {
     close(notes, settled);
-    forget(alloc, notes, settled);
+    forget(notes, settled);
 }
 
 fn undo_from(bytes: &mut [u8], notes: &[Note], first: usize)
     requires within { first ≤ length notes.now }
-    requires fits { All (λ n. n.place + length n.old.items ≤ length bytes.old) (drop first notes.now) }
+    requires fits { All (λ n. n.place + length n.old ≤ length bytes.old) (drop first notes.now) }
     ensures { bytes.new ≡ undone (drop first notes.now) bytes.old }
 {
     undo(bytes, &notes[first..]);
@@ -174,24 +174,18 @@ fn undo_from(bytes: &mut [u8], notes: &[Note], first: usize)
 
 fn replay_from(bytes: &mut [u8], notes: &[Note], first: usize)
     requires within { first ≤ length notes.now }
-    requires fits { All (λ n. n.place + length n.content.items ≤ length bytes.old) (drop first notes.now) }
+    requires fits { All (λ n. n.place + length n.content ≤ length bytes.old) (drop first notes.now) }
     ensures { bytes.new ≡ replayed (drop first notes.now) bytes.old }
 {
     replay(bytes, &notes[first..]);
 }
 
 /// Takes the writes behind so many back, leaves these pieces of them, and settles them. It takes no memory.
-pub fn leave_pieces(
-    alloc: Global,
-    bytes: &mut [u8],
-    notes: &mut [Note],
-    settled: usize,
-    pieces: &[Piece],
-)
+pub fn leave_pieces(bytes: &mut [u8], notes: &mut [Note], settled: usize, pieces: &[Piece])
     requires within { settled ≤ length notes.old }
-    requires old_fits { All (λ n. n.place + length n.old.items ≤ length bytes.old)
+    requires old_fits { All (λ n. n.place + length n.old ≤ length bytes.old)
         (drop settled notes.old) }
-    requires fits { All (λ n. n.place + length n.content.items ≤ length bytes.old)
+    requires fits { All (λ n. n.place + length n.content ≤ length bytes.old)
         (drop settled notes.old) }
     ensures bytes { bytes.new ≡ replayed (with_pieces pieces.now 0 (drop settled notes.old))
         (undone (drop settled notes.old) bytes.old) }
@@ -201,5 +195,5 @@ pub fn leave_pieces(
     undo_from(bytes, notes, settled);
     mark(notes, settled, pieces);
     replay_from(bytes, notes, settled);
-    settle(alloc, notes, settled);
+    settle(notes, settled);
 }

@@ -57,6 +57,7 @@ fn a_crash_leaves_pieces(rt: HostRuntime) -> Result<(), Fail> {
     assert_eq!(rt; device.write(2560, &[2; 512]), Err(PoolError::Write));
     device.write(3072, &[2; 512])?;
     assert_eq!(rt; device.unflushed(), 7);
+    assert_eq!(rt; device.unnoted(), 0);
     let pieces = [
         Piece::Keep,
         Piece::Lose,
@@ -107,5 +108,27 @@ fn calls_fail_as_planned(rt: HostRuntime) -> Result<(), Fail> {
     assert_eq!(rt; after.read(0, &mut sector), Ok(()));
     assert_eq!(rt; after.write(0, &[3; 512]), Ok(()));
     assert_eq!(rt; after.flush(), Ok(()));
+    Ok(())
+}
+
+#[test]
+fn a_run_of_one_byte_and_its_neighbours_come_back(rt: HostRuntime) -> Result<(), Fail> {
+    let mut device = MemDevice::new(rt.alloc(), 16)?;
+    let mut mixed = [9; 1024];
+    mixed[700] = 10;
+    device.write(0, &[7; 4096])?;
+    device.flush()?;
+    device.write(1024, &[0; 2048])?;
+    device.write(2048, &mixed)?;
+    let mut after = device.crash(&[Piece::Lose, Piece::Keep]);
+    let mut all = [1; 8192];
+    after.read(0, &mut all)?;
+    assert_eq!(rt;
+        [
+            all[1023], all[1024], all[2047], all[2048], all[2747], all[2748], all[2749], all[3072],
+            all[4096]
+        ],
+        [7, 7, 7, 9, 9, 10, 9, 7, 0]
+    );
     Ok(())
 }

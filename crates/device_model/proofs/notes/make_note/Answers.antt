@@ -10,9 +10,9 @@ returns-clause-ok c =
       added = c.in_ok-push.ensures.items;
       tells = record {
         place_is = refl;
-        content_is = c.in_ok-content.ensures.items;
+        content_is = c.in_ok-content.ensures;
         done_is = refl;
-        old_is = c.in_ok-old.ensures.items ∙ ap (λ (k : ℕ). take k (drop c.args.place c.args.bytes.now)) n;
+        old_is = c.in_ok-old.ensures ∙ ap (λ (k : ℕ). take k (drop c.args.place c.args.bytes.now)) n;
         open_is = record { kept = refl; goes_on = refl };
       };
     }

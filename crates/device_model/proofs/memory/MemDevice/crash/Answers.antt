@@ -10,17 +10,17 @@ use Rattle.device_model.proofs.Tracks.{tells_leads}
 use Rattle.device_model.proofs.Sound.{same_size, sound, old_fits, content_fits, crash_bytes, crash_leads, crash_disk, crash_possible}
 use Rattle.device_model.proofs.memory.MemDevice.crash.Goals as goal
 
-abbrev with_disk : Disk → RefusedCalls → MemState
-with_disk disk refused = record { disk = disk; refused = refused; read_fails = 0; write_fails = 0; flush_fails = 0 }
+abbrev with_disk : Disk → RefusedCalls → ℕ → MemState
+with_disk disk refused unnoted = record { disk = disk; refused = refused; unnoted = unnoted; read_fails = 0; write_fails = 0; flush_fails = 0 }
 
 pub leave_pieces-requires-clause-old_fits : goal.leave_pieces-requires-clause-old_fits
 leave_pieces-requires-clause-old_fits c =
-    subst (λ (l : List Note). All (λ n. n.place + length n.old.items ≤ length c.deref_mut.result.now) (drop c.self.inside.settled l)) (sym c.deref_mut-2.ensures.value)
+    subst (λ (l : List Note). All (λ n. n.place + length n.old ≤ length c.deref_mut.result.now) (drop c.self.inside.settled l)) (sym c.deref_mut-2.ensures.value)
     (old_fits c.self.inside c.self.invariant (length c.deref_mut.result.now) (ap (λ (l : List ℕ). length l) c.deref_mut.ensures.value))
 
 pub leave_pieces-requires-clause-fits : goal.leave_pieces-requires-clause-fits
 leave_pieces-requires-clause-fits c =
-    subst (λ (l : List Note). All (λ n. n.place + length n.content.items ≤ length c.deref_mut.result.now) (drop c.self.inside.settled l)) (sym c.deref_mut-2.ensures.value)
+    subst (λ (l : List Note). All (λ n. n.place + length n.content ≤ length c.deref_mut.result.now) (drop c.self.inside.settled l)) (sym c.deref_mut-2.ensures.value)
     (content_fits c.self.inside c.self.invariant (length c.deref_mut.result.now) (ap (λ (l : List ℕ). length l) c.deref_mut.ensures.value))
 
 pub invariant_of-self : goal.invariant_of-self
@@ -47,7 +47,7 @@ returns-clause-left c =
     let marked = take m.settled m.notes.items ++ with_pieces ps 0 (drop m.settled m.notes.items) in
     let settles = subst (λ (l : List Note). Settles m.settled (take m.settled l ++ with_pieces ps 0 (drop m.settled l)) c.leave_pieces.new.notes) c.deref_mut-2.ensures.value c.leave_pieces.ensures.notes in
     let long : length c.leave_pieces.new.notes ≡ m.notes.len = omega (arith, c.leave_pieces.auto.notes, ap (λ (l : List Note). length l) c.deref_mut-2.ensures.value, m.notes.ok.0) in
-    ap (λ (d : Disk). with_disk d m.refused)
+    ap (λ (d : Disk). with_disk d m.refused m.unnoted)
     (ap (λ (l : List Note). (tracked (start m.sectors) l).disk) (with_items_is m.notes c.leave_pieces.new.notes long) ∙ ap (λ (t : Track). t.disk) (settles.tells (start m.sectors)) ∙ crash_disk m c.self.invariant ps marked settles.closed refl settles.closes)
     ∙ ap (λ (v : MemState). after_crash ps v) c.self.view_is
 
