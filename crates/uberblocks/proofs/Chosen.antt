@@ -87,16 +87,16 @@ all_below ring n (Some best) u is above k other below at =
     omega arith
 
 -- the best of the first n is the best of one more where nothing that stands there is above it
-best_kept : (ring : List ℕ) (n : ℕ) (best : Option Uberblock) → IsBestBelow ring n best
+best_stays : (ring : List ℕ) (n : ℕ) (best : Option Uberblock) → IsBestBelow ring n best
     → ((u : Fields) → StandsAfter ring n u → is_above u.group best ≡ false) → IsBestBelow ring (n + 1) best
-best_kept ring n None none here = none_more ring n none (λ u at. true≢false (here u at))
-best_kept ring n (Some best) is here = kept_best ring n (fields_of best) is (λ other at. ltb-false best.group.0 other.group (here other at))
+best_stays ring n None none here = none_more ring n none (λ u at. true≢false (here u at))
+best_stays ring n (Some best) is here = kept_best ring n (fields_of best) is (λ other at. ltb-false best.group.0 other.group (here other at))
 
 -- one position more
 pub best_more : (ring : List ℕ) (n : ℕ) (best result : Option Uberblock) → IsBestBelow ring n best → IsBetterAt ring (position_of n) best result → IsBestBelow ring (n + 1) result
 best_more ring n best result is (inl f) =
     subst (IsBestBelow ring (n + 1)) (sym f.is) (found_best ring n (fields_of f.found) f.stands (all_below ring n best f.found is f.above))
-best_more ring n best result is (inr k) = subst (IsBestBelow ring (n + 1)) (sym k.is) (best_kept ring n best is k.none)
+best_more ring n best result is (inr k) = subst (IsBestBelow ring (n + 1)) (sym k.is) (best_stays ring n best is k.none)
 
 -- the best of all is the active one
 pub IsActiveInRing-best : (ring : List ℕ) (u : Fields) → IsFirstHighest ring 512 u → IsActiveInRing ring u

@@ -11,7 +11,8 @@ ghost use Rattle.base.specs.Uberblocks.{IsSealedSlot, IsUberblock};
 ghost use Rattle.uberblocks.specs.Slots.{FieldsFit, HasMagic, HasZeros, HoldsNoUberblock, IsWithinLimits, field_bytes, fields_at, fields_of, slot_bytes, zeros};
 
 use base::{
-    Group, Pointer, Version, read_pointer, read_u64, write_bytes, write_pointer, write_u64,
+    FIRST_GROUP, Group, LAST_NUMBER, Pointer, Version, read_pointer, read_u64, write_bytes,
+    write_pointer, write_u64,
 };
 use sha2::{Digest, Sha256};
 
@@ -26,12 +27,6 @@ const ZEROS_PLACE: usize = 112;
 
 /// Where the check begins, and how many bytes it covers.
 const CHECK_PLACE: usize = 992;
-
-/// The greatest group, import number and log number.
-const LAST_NUMBER: u64 = 1 << 60;
-
-/// The group of a pool as it is created.
-const FIRST_GROUP: u64 = 4;
 
 /// The state of a pool as a transaction group leaves it (ZFS On-Disk Specification, chapter 1).
 #[derive(Clone, Copy, Debug, PartialEq, Eq)]
