@@ -1,3 +1,4 @@
+pub mod Versions
 pub mod Sequences
 pub mod Writes
 pub mod Objects

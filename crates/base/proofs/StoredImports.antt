@@ -4,6 +4,7 @@ use Rattle.std.specs.Prelude.{Option, None, IfSome}
 use Rattle.base.specs.declared.pointer.Pointer.{Pointer}
 use Rattle.base.specs.Contents.{Contents}
 use Rattle.base.specs.Geometry.{block_count, IsBlockAddress}
+use Rattle.base.specs.Versions.{written_version}
 use Rattle.base.specs.Blocks.{Frame}
 use Rattle.base.specs.Groups.{Line, Middle}
 use Rattle.base.specs.Places.{Place, IsInTree}
@@ -24,7 +25,7 @@ use Rattle.base.proofs.StoredTrees.{tree-along, free-along, blocks-along}
 module _ (image now : List ℕ) (u : Uberblock) (contents : Contents) (pointers : Place → Pointer) (created dirty_max : ℕ) (s : Shown) (is : IsImported u (block_count (length image)) contents dirty_max s)
     (holds : HoldsTree image (frame_of image u) pointers contents.objects) (same : SameBlocks (block_count (length image)) image now) where
   abbrev grown : Frame
-  grown = record { guid = u.guid; blocks = block_count (length image); group = u.group + 4 }
+  grown = record { version = written_version; guid = u.guid; blocks = block_count (length image); group = u.group + 4 }
 
   -- the tree is held after the import as before it
   held : HoldsTree now grown pointers contents.objects
@@ -36,7 +37,7 @@ module _ (image now : List ℕ) (u : Uberblock) (contents : Contents) (pointers 
       let guids : u.guid ≡ s.guid = sym is.guid in
       let counts : block_count (length image) ≡ s.blocks = sym is.blocks_are in
       let groups : u.group + 4 ≡ s.line.synced = ap (λ (l : Line). l.synced) (sym is.line) in
-      λ i. record { guid = guids i; blocks = counts i; group = groups i }
+      λ i. record { version = written_version; guid = guids i; blocks = counts i; group = groups i }
 
   pub import-tree : HoldsTree now (frame_at s s.line.synced) pointers contents.objects
   import-tree = subst (λ (f : Frame). HoldsTree now f pointers contents.objects) frames held

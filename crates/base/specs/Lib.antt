@@ -1,4 +1,5 @@
 pub mod Limits
+pub mod Versions
 pub mod Names
 pub mod Sequences
 pub mod Contents

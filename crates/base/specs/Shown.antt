@@ -13,6 +13,7 @@ use Rattle.base.specs.Locks.{Grant}
 use Rattle.base.specs.Groups.{Line, Middle, Admission}
 use Rattle.base.specs.Charges.{available_of}
 use Rattle.base.specs.Uberblocks.{Uberblock}
+use Rattle.base.specs.Versions.{written_version}
 use Rattle.base.specs.Chain.{Header}
 use Rattle.base.specs.Logs.{Log, is_flushed_in}
 
@@ -84,6 +85,7 @@ taken_of (Some plan) = plan.taken
 abbrev pub uberblock_of : Shown → ℕ → SyncPlan → Uberblock
 uberblock_of s group plan =
     record {
+      version = written_version;
       group = group;
       guid = s.guid;
       moment = plan.moment;

@@ -11,6 +11,7 @@ use Rattle.base.specs.Fields.{part, no_pointer}
 use Rattle.base.specs.Geometry.{block_size, block_count, IsBlockAddress}
 use Rattle.base.specs.History.{Entry, replay, entries_up_to}
 use Rattle.base.specs.Groups.{Middle, Admission}
+use Rattle.base.specs.Versions.{written_version}
 use Rattle.base.specs.Blocks.{Frame}
 use Rattle.base.specs.Disk.{put}
 use Rattle.base.specs.Places.{Place, IsPlace, IsInTree}
@@ -42,9 +43,9 @@ LeavesTree bs old = (place : Place) → IsPlace place → old place ≢ no_point
 abbrev pub AreUsed : List NewBlock → (Place → Pointer) → Type 0
 AreUsed bs new = (i : ℕ) (b : NewBlock) → slice_get bs i ≡ Some b → (place : Place) × IsPlace place × ((new place).address ≡ b.address)
 
--- the guid and the blocks of a pool, with births up to a group
+-- the guid and the blocks of a pool, of the version that is written, with births up to a group
 abbrev pub frame_at : Shown → ℕ → Frame
-frame_at s group = record { guid = s.guid; blocks = s.blocks; group = group }
+frame_at s group = record { version = written_version; guid = s.guid; blocks = s.blocks; group = group }
 
 -- no entry is of a group above this one
 abbrev pub AreUpTo : ℕ → List Entry → Type 0

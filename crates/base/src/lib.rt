@@ -17,6 +17,7 @@ mod refused;
 mod status;
 mod step;
 mod step_laws;
+mod version;
 
 pub use bytes::Bytes;
 pub use error::PoolError;
@@ -34,7 +35,7 @@ pub use laws::{
 pub use limits::{
     ENTRY_COUNT, ENTRY_SIZE, FIRST_GROUP, GREATEST_DIRTY_MAX, LAST_NUMBER, LEAST_DIRTY_MAX,
     MAX_LENGTH, MAX_LOCKS, MAX_LOG_RECORD, MAX_TRANSACTIONS, OBJECT_COUNT, POINTER_COUNT,
-    RECORD_SIZE,
+    RECORD_SIZE, WRITTEN_VERSION,
 };
 pub use lists::{Ops, Plan};
 pub use names::{Group, LockId, ObjectId, Ordinal, Owner, Receipt, TxId};
@@ -50,6 +51,7 @@ pub use step_laws::{
     new_pools_are_explained, runs_keep_tables, steps_keep_tables, suspended_pools_refuse,
     syncs_end_on_time,
 };
+pub use version::Version;
 
 #[cfg(test)]
 mod tests;

@@ -1,5 +1,10 @@
 //! The fixed numbers of a pool.
 
+use crate::version::Version;
+
+/// The version by whose rules all is written.
+pub const WRITTEN_VERSION: Version = Version::One;
+
 /// Objects have the numbers below this one. As a lock's number it stands for the pool's name.
 pub const OBJECT_COUNT: u32 = 5292;
 

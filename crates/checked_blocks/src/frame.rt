@@ -1,14 +1,15 @@
 use crate::block::BLOCK_SIZE;
-use base::Group;
+use base::{Group, Version};
 use std::marker::Model;
 
 /// The byte place of block 0, behind two labels and the boot area (On-Disk Specification, chapter 1).
 pub const BLOCK_AREA: u64 = 4_194_304;
 
-/// What a reader of blocks knows of the pool: its guid, the number of blocks of its area, and the group that no birth may pass.
-/// Contracts see it as the record of these three numbers.
+/// What a reader of blocks knows of the pool: the version by whose rules its tree is read, its guid, the number of blocks of its
+/// area, and the group that no birth may pass. Contracts see it as the record of these four numbers.
 #[derive(Clone, Copy, Debug)]
 pub struct Frame {
+    version: Version,
     guid: u64,
     blocks: u64,
     group: Group,
@@ -16,27 +17,50 @@ pub struct Frame {
 
 impl Model for Frame {
     ghost use Rattle.base.specs.Blocks as blocks_of;
+    ghost use Rattle.base.specs.Versions.{number_of, version_of};
+    ghost use Rattle.base.proofs.Versions.{version_of-number_of};
 
     ghost Value = { blocks_of.Frame };
 
-    ghost view = { λ f. record { guid = f.guid; blocks = f.blocks; group = f.group.0 } };
+    ghost view = { λ f. record {
+      version = number_of f.version;
+      guid = f.guid;
+      blocks = f.blocks;
+      group = f.group.0;
+    } };
 
-    ghost inverse = { λ f. record { guid = f.guid; blocks = f.blocks; group = record { 0 = f.group } } };
+    ghost inverse = { λ f. record {
+      version = version_of f.version;
+      guid = f.guid;
+      blocks = f.blocks;
+      group = record { 0 = f.group };
+    } };
+
+    ghost inverse_ok = { λ f h i. record { version = version_of-number_of f.version i; guid = f.guid; blocks = f.blocks; group = f.group } };
 }
 
 impl Frame {
     ghost use Rattle.std.specs.Prelude.{◌≡◌, ◌↔◌, IsTrue};
     ghost use Rattle.base.specs.Geometry.{IsBlockAddress};
+    ghost use Rattle.base.specs.Versions.{number_of};
 
-    /// The frame of this guid, number of blocks and greatest group.
-    pub fn new(guid: u64, blocks: u64, group: Group) -> Self
-        ensures { result ≡ record { guid = guid; blocks = blocks; group = group.0 } }
+    /// The frame of this version, guid, number of blocks and greatest group.
+    pub fn new(version: Version, guid: u64, blocks: u64, group: Group) -> Self
+        ensures { result ≡ record { version = number_of version; guid = guid; blocks = blocks; group = group.0 } }
     {
         Frame {
+            version,
             guid,
             blocks,
             group,
         }
+    }
+
+    /// The version by whose rules the pool's tree is read.
+    pub fn version(&self) -> Version
+        ensures { number_of result ≡ self.now.version }
+    {
+        self.version
     }
 
     /// The guid of the pool.

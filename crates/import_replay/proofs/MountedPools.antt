@@ -40,7 +40,7 @@ use Rattle.import_replay.specs.declared.mounted.Mounted.{Mounted}
 
 -- the frame of an active uberblock, on a device of so many bytes
 abbrev pub frame_at : Uberblock → ℕ → Frame
-frame_at u size = record { guid = u.guid; blocks = block_count size; group = u.group }
+frame_at u size = record { version = u.version; guid = u.guid; blocks = block_count size; group = u.group }
 
 not_zero : (blocks address : ℕ) → IsBlockAddress blocks address → address ≢ 0
 not_zero blocks address is none = let e = is.2 in omega (arith, e, none)

@@ -4,6 +4,7 @@ use Rattle.base.specs.Fields.{no_pointer}
 use Rattle.base.specs.Limits.{first_group}
 use Rattle.base.specs.Geometry.{block_count}
 use Rattle.base.specs.Uberblocks.{Uberblock, StandsIn, IsActive}
+use Rattle.base.specs.Versions.{written_version}
 use Rattle.base.specs.Labels.{Config, IsConfig}
 use Rattle.base.specs.Mount.{Mount, IsMounted}
 use Rattle.base.specs.Imports.{IsCreated}
@@ -13,10 +14,10 @@ use Rattle.import_replay.specs.Cleared.{IsCleared}
 abbrev pub IsCreatedOn : List ℕ → List ℕ → ℕ → Type 0
 IsCreatedOn image name guid = (m : Mount) × IsMounted image m × IsCreated name guid (block_count (length image)) m
 
--- the uberblock of a new pool: group 4, no root, no import, no log
+-- the uberblock of a new pool: the version that is written, group 4, no root, no import, no log
 abbrev pub first_uberblock : ℕ → ℕ → Uberblock
 first_uberblock guid moment =
-    record { group = first_group; guid = guid; moment = moment; root = no_pointer; import_number = 0; log_address = 0; log_number = 0 }
+    record { version = written_version; group = first_group; guid = guid; moment = moment; root = no_pointer; import_number = 0; log_address = 0; log_number = 0 }
 
 -- the config of a new pool, of the same group, on a device of so many bytes
 abbrev pub first_config : List ℕ → ℕ → ℕ → Config

@@ -4,6 +4,7 @@ use Rattle.base.specs.Disk.{Disk, bytes_of, certain}
 use Rattle.base.specs.Labels.{Config}
 use Rattle.base.specs.SyncOrder.{import_calls}
 use Rattle.base.specs.Uberblocks.{Uberblock, IsActive}
+use Rattle.base.specs.Versions.{written_version}
 use Rattle.import_replay.specs.Found.{HasFirstStage}
 use Rattle.import_replay.specs.Labelled.{HoldLabels}
 use Rattle.import_replay.specs.LabelSyncs.{after_calls}
@@ -16,6 +17,7 @@ config_of_import m = record { guid = m.guid; group = m.group.0; size = m.geometr
 -- the uberblock that an import of this moment writes
 abbrev pub uberblock_of_import : ℕ → Mounted → Uberblock
 uberblock_of_import moment m = record {
+  version = written_version;
   group = m.group.0;
   guid = m.guid;
   moment = moment;

@@ -1,6 +1,7 @@
 -- What an import mounts, as contracts see the pool that it gives.
 use Rattle.std.specs.Prelude.{ℕ, ◌≡◌, ◌+◌, false, List, [], None}
 use Rattle.std.specs.FinMap as finite
+use Rattle.base.specs.Versions.{written_version}
 use Rattle.base.specs.Blocks.{Frame}
 use Rattle.base.specs.Geometry.{IsBlockAddress, block_count}
 use Rattle.base.specs.Exact.{AreFree}
@@ -43,9 +44,9 @@ shown_of_import m = record {
   sync = None;
 }
 
--- the pool's frame, of its synced group
+-- the pool's frame, of the version that is written and its synced group
 abbrev pub frame_of_import : Mounted → Frame
-frame_of_import m = record { guid = m.guid; blocks = block_count m.geometry; group = m.group.0 }
+frame_of_import m = record { version = written_version; guid = m.guid; blocks = block_count m.geometry; group = m.group.0 }
 
 -- what was mounted is of this active uberblock and name, with these slots and this tree
 pub record IsMountedFrom (u : Uberblock) (name : List ℕ) (slots : List Slot) (tree : Tree) (dirty_max : ℕ) (m : Mounted) : Type 0 where

@@ -9,7 +9,7 @@ ghost use Rattle.import_replay.specs.CreateRefusals.{CanCreate, IsCreateRefusal}
 ghost use Rattle.import_replay.specs.Creations.{IsCreatedOn, IsNewPool, first_config};
 ghost use Rattle.import_replay.specs.Labelled.{HoldConfig, IsLabelled};
 
-use base::{FIRST_GROUP, Group, Pointer, PoolError, PoolName};
+use base::{FIRST_GROUP, Group, Pointer, PoolError, PoolName, WRITTEN_VERSION};
 use checked_blocks::Block;
 use device_model::SectorDevice;
 use labels::{Geometry, LabelConfig};
@@ -164,6 +164,7 @@ fn write_uberblocks<D: SectorDevice>(
         → OnOk result (IsLabelled geometry name guid moment (bytes_of (D.disk device.new).now)) }
 {
     let uberblock = Uberblock {
+        version: WRITTEN_VERSION,
         group: Group(FIRST_GROUP),
         guid,
         moment,

@@ -32,7 +32,9 @@ use crate::free_blocks::{free_set, take_lowest};
 use crate::imported_pool::Imported;
 use crate::label_sync::sync_labels;
 use crate::mounted::Mounted;
-use base::{GREATEST_DIRTY_MAX, Group, LAST_NUMBER, LEAST_DIRTY_MAX, Pointer, PoolError};
+use base::{
+    GREATEST_DIRTY_MAX, Group, LAST_NUMBER, LEAST_DIRTY_MAX, Pointer, PoolError, WRITTEN_VERSION,
+};
 use checked_blocks::Frame;
 use device_model::SectorDevice;
 use labels::{Geometry, LabelConfig};
@@ -153,6 +155,7 @@ fn mount_pool<D: SectorDevice>(
     device.flush()?;
     let found = find_pool(alloc, device, geometry)?;
     let frame = Frame::new(
+        found.uberblock.version,
         found.uberblock.guid,
         geometry.blocks(),
         found.uberblock.group,
@@ -211,6 +214,7 @@ fn open_pool<D: SectorDevice>(
     let mut free = free_set(alloc, geometry, &loaded.tree)?;
     let log_block = take_lowest(&mut free)?;
     let next = Uberblock {
+        version: WRITTEN_VERSION,
         group: Group(found.uberblock.group.0 + 4),
         moment,
         import_number: found.uberblock.import_number + 1,

@@ -22,7 +22,7 @@ Shows keeps disk image = IsTrue keeps → bytes_of disk.now ≡ image
 
 -- the pool that a frame tells of, on a device of so many bytes
 abbrev pub frame_of : Frame → ℕ → Frame
-frame_of frame size = record { guid = frame.guid; blocks = block_count size; group = frame.group }
+frame_of frame size = record { version = frame.version; guid = frame.guid; blocks = block_count size; group = frame.group }
 
 -- why a load is refused: there is no memory, the device refused a read, or a block is damaged
 abbrev pub IsLoadRefusal : PoolError → Type 0

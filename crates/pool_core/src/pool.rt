@@ -44,7 +44,7 @@ use crate::transactions::{
 };
 use base::{
     Bytes, Group, LAST_NUMBER, LockId, MAX_TRANSACTIONS, Mode, OBJECT_COUNT, ObjectId, Op, Ops,
-    Ordinal, Owner, Plan, Pointer, PoolError, Range, Receipt, Shape, TxId,
+    Ordinal, Owner, Plan, Pointer, PoolError, Range, Receipt, Shape, TxId, WRITTEN_VERSION,
 };
 use device_model::SectorDevice;
 use import_replay::Mounted;
@@ -494,6 +494,7 @@ impl Pool {
             freed,
         } = planned;
         let uberblock = Uberblock {
+            version: WRITTEN_VERSION,
             group,
             guid: self.guid,
             moment,

@@ -9,6 +9,7 @@ use Rattle.base.specs.declared.names.ObjectId.{ObjectId}
 use Rattle.base.specs.Limits.{object_count, max_length, record_size, pointer_count}
 use Rattle.base.specs.Fields.{no_pointer}
 use Rattle.base.specs.Geometry.{block_count}
+use Rattle.base.specs.Versions.{written_version}
 use Rattle.base.specs.Blocks.{Frame}
 use Rattle.base.specs.Places.{Place, IsPlace}
 use Rattle.base.specs.Places.Place.{Indirect}
@@ -43,6 +44,6 @@ HasNoOthers pointers objects = (n : ℕ) → n < object_count → finite.get obj
 abbrev pub AreBornBefore : ℕ → (Place → Pointer) → Type 0
 AreBornBefore group pointers = (place : Place) → IsPlace place → (pointers place).birth < group
 
--- whose blocks a plan makes: of this pool, on a device of so many bytes, of this group
+-- whose blocks a plan makes: of the version that is written, of this pool, on a device of so many bytes, of this group
 abbrev pub frame_of : ℕ → ℕ → ℕ → Frame
-frame_of guid size group = record { guid = guid; blocks = block_count size; group = group }
+frame_of guid size group = record { version = written_version; guid = guid; blocks = block_count size; group = group }

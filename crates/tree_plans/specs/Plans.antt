@@ -6,6 +6,7 @@ use Rattle.base.specs.declared.pointer.Pointer.{Pointer}
 use Rattle.base.specs.Limits.{pointer_count}
 use Rattle.base.specs.Fields.{no_pointer, pointer_in}
 use Rattle.base.specs.Geometry.{block_address, block_count, IsBlockAddress}
+use Rattle.base.specs.Versions.{written_version}
 use Rattle.base.specs.Blocks.{Frame}
 use Rattle.base.specs.Places.{Place}
 use Rattle.base.specs.Places.Place.{Root as AtRoot, Directory as AtDirectory, Indirect as AtIndirect, Data as AtData}
@@ -45,7 +46,7 @@ progress_of p = record {
   next = p.next;
   blocks = map new_block p.blocks.items;
   freed = p.freed.items;
-  frame = record { guid = p.guid; blocks = block_count p.geometry; group = p.group.0 };
+  frame = record { version = written_version; guid = p.guid; blocks = block_count p.geometry; group = p.group.0 };
 }
 
 -- what a list has still stands at its index

@@ -1,26 +1,30 @@
--- The best of the uberblocks that stand in a ring.
-use Rattle.std.proofs.Common.{ℕ, ◌≡◌, ◌≢◌, ◌+◌, ◌*◌, ◌/◌, ◌<◌, ◌≤◌, ◌⊎◌, inl, inr, List, Bool, true, false, Option, Some, None, nat_lt, cond, IfSome, IfNone, refl, ap, subst, arith}
-use Rattle.std.proofs.lemmas.Bool.{cases_lt, ltb-true, ltb-false}
+-- The best of the uberblocks that stand in a ring, by the order in which positions are looked at.
+use Rattle.std.proofs.Common.{ℕ, ◌≡◌, ◌≢◌, ◌+◌, ◌/◌, ◌<◌, ◌≤◌, ◌⊎◌, inl, inr, List, true, false, Option, Some, None, IfSome, IfNone, ap, sym, subst, arith}
+use Rattle.std.proofs.lemmas.Bool.{cases_lt, ltb-true, ltb-false, true≢false}
 use Rattle.base.specs.Geometry.{slot_of}
 use Rattle.base.specs.Uberblocks.{Uberblock as Fields}
 use Rattle.uberblocks.specs.declared.uberblock.Uberblock.{Uberblock}
 use Rattle.uberblocks.specs.Slots.{fields_of}
-use Rattle.uberblocks.specs.Rings.{StandsAt, StandsInRing, IsAt, IsActiveInRing, HasNoneInRing, later_of}
+use Rattle.uberblocks.specs.Rings.{StandsAt, StandsInRing, IsBetterAt, IsActiveInRing, HasNoneInRing, is_above, position_of}
 use Rattle.uberblocks.proofs.SlotReads.{readings_agree}
-use Rattle.uberblocks.proofs.Places.{StandsInRing-at, StandsAt-in_ring, slot_below}
+use Rattle.uberblocks.proofs.Places.{StandsInRing-at, StandsAt-count, count_of, label-position_of, slot_below}
 
--- of those that stand at positions below n the one of the highest group, and of the lowest position that has that group
+-- an uberblock stands at the position that is looked at after so many others
+abbrev StandsAfter : List ℕ → ℕ → Fields → Type 0
+StandsAfter ring count u = StandsAt ring (position_of count) u
+
+-- of those that stand at the first n positions that are looked at the one of the highest group, and the first that has that group
 pub record IsFirstHighest (ring : List ℕ) (n : ℕ) (u : Fields) : Type 0 where
-  pub position : ℕ
-  pub in_range : position < n
-  pub stands : StandsAt ring position u
-  pub highest : (k : ℕ) (other : Fields) → k < n → StandsAt ring k other → other.group ≤ u.group
-  pub lowest : (k : ℕ) (other : Fields) → k < position → StandsAt ring k other → other.group ≢ u.group
+  pub count : ℕ
+  pub in_range : count < n
+  pub stands : StandsAfter ring count u
+  pub highest : (k : ℕ) (other : Fields) → k < n → StandsAfter ring k other → other.group ≤ u.group
+  pub lowest : (k : ℕ) (other : Fields) → k < count → StandsAfter ring k other → other.group ≢ u.group
 
--- the best of those that stand at positions below n, if any
+-- the best of those that stand at the first n positions, if any
 abbrev pub IsBestBelow : List ℕ → ℕ → Option Uberblock → Type 0
 IsBestBelow ring n (Some u) = IsFirstHighest ring n (fields_of u)
-IsBestBelow ring n None = (k : ℕ) (u : Fields) → k < n → StandsAt ring k u → ⊥
+IsBestBelow ring n None = (k : ℕ) (u : Fields) → k < n → StandsAfter ring k u → ⊥
 
 -- a place below n + 1 is below n or is n
 last_or_below : (k n : ℕ) → k < n + 1 → (k < n) ⊎ (k ≡ n)
@@ -31,29 +35,29 @@ last_or_below k n below = split (cases_lt k n)
     split (inr more) = inr (omega arith)
 
 -- two that stand at one position are one
-same_group : (ring : List ℕ) (n k : ℕ) (u v : Fields) → k ≡ n → StandsAt ring k u → StandsAt ring n v → u.group ≡ v.group
+same_group : (ring : List ℕ) (n k : ℕ) (u v : Fields) → k ≡ n → StandsAfter ring k u → StandsAfter ring n v → u.group ≡ v.group
 same_group ring n k u v same at_k at_n =
-    let there : StandsAt ring n u = subst (λ (i : ℕ). StandsAt ring i u) same at_k in
+    let there : StandsAfter ring n u = subst (λ (i : ℕ). StandsAfter ring i u) same at_k in
     ap (λ (w : Fields). w.group) (readings_agree _ u v there.0 at_n.0)
 
 -- nothing more stands at the next position
-none_more : (ring : List ℕ) (n : ℕ) → IsBestBelow ring n None → IsAt ring n None → IsBestBelow ring (n + 1) None
+none_more : (ring : List ℕ) (n : ℕ) → IsBestBelow ring n None → ((u : Fields) → StandsAfter ring n u → ⊥) → IsBestBelow ring (n + 1) None
 none_more ring n none here k u below at = split (last_or_below k n below)
   where
     split : (k < n) ⊎ (k ≡ n) → ⊥
     split (inl less) = none k u less at
-    split (inr same) = here u (subst (λ (i : ℕ). StandsAt ring i u) same at)
+    split (inr same) = here u (subst (λ (i : ℕ). StandsAfter ring i u) same at)
 
 -- the one at the next position is the best where it is above all before it
-found_best : (ring : List ℕ) (n : ℕ) (found : Fields) → StandsAt ring n found
-    → ((k : ℕ) (other : Fields) → k < n → StandsAt ring k other → other.group < found.group) → IsFirstHighest ring (n + 1) found
+found_best : (ring : List ℕ) (n : ℕ) (found : Fields) → StandsAfter ring n found
+    → ((k : ℕ) (other : Fields) → k < n → StandsAfter ring k other → other.group < found.group) → IsFirstHighest ring (n + 1) found
 found_best ring n found at above =
-    record { position = n; in_range = omega arith; stands = at; highest = highest; lowest = λ k other below other_at same. below_not_same (above k other below other_at) same }
+    record { count = n; in_range = omega arith; stands = at; highest = highest; lowest = λ k other below other_at same. below_not_same (above k other below other_at) same }
   where
     below_not_same : {a b : ℕ} → a < b → a ≡ b → ⊥
     below_not_same less same = omega arith
 
-    highest : (k : ℕ) (other : Fields) → k < n + 1 → StandsAt ring k other → other.group ≤ found.group
+    highest : (k : ℕ) (other : Fields) → k < n + 1 → StandsAfter ring k other → other.group ≤ found.group
     highest k other below other_at = split (last_or_below k n below)
       where
         split : (k < n) ⊎ (k ≡ n) → other.group ≤ found.group
@@ -62,51 +66,57 @@ found_best ring n found at above =
 
 -- the best stays so where what stands at the next position is not above it
 kept_best : (ring : List ℕ) (n : ℕ) (best : Fields) → IsFirstHighest ring n best
-    → ((other : Fields) → StandsAt ring n other → other.group ≤ best.group) → IsFirstHighest ring (n + 1) best
+    → ((other : Fields) → StandsAfter ring n other → other.group ≤ best.group) → IsFirstHighest ring (n + 1) best
 kept_best ring n best is here =
-    record { position = is.position; in_range = let low = is.in_range in omega arith; stands = is.stands; highest = highest; lowest = is.lowest }
+    record { count = is.count; in_range = let low = is.in_range in omega arith; stands = is.stands; highest = highest; lowest = is.lowest }
   where
-    highest : (k : ℕ) (other : Fields) → k < n + 1 → StandsAt ring k other → other.group ≤ best.group
+    highest : (k : ℕ) (other : Fields) → k < n + 1 → StandsAfter ring k other → other.group ≤ best.group
     highest k other below other_at = split (last_or_below k n below)
       where
         split : (k < n) ⊎ (k ≡ n) → other.group ≤ best.group
         split (inl less) = is.highest k other less other_at
-        split (inr same) = here other (subst (λ (i : ℕ). StandsAt ring i other) same other_at)
+        split (inr same) = here other (subst (λ (i : ℕ). StandsAfter ring i other) same other_at)
+
+-- all before are below one that is above the best of them
+all_below : (ring : List ℕ) (n : ℕ) (best : Option Uberblock) (u : Uberblock) → IsBestBelow ring n best → is_above u.group.0 best ≡ true
+    → (k : ℕ) (other : Fields) → k < n → StandsAfter ring k other → other.group < u.group.0
+all_below ring n None u none above k other below at = absurd (none k other below at)
+all_below ring n (Some best) u is above k other below at =
+    let less = ltb-true best.group.0 u.group.0 above in
+    let high = is.highest k other below at in
+    omega arith
+
+-- the best of the first n is the best of one more where nothing that stands there is above it
+best_stays : (ring : List ℕ) (n : ℕ) (best : Option Uberblock) → IsBestBelow ring n best
+    → ((u : Fields) → StandsAfter ring n u → is_above u.group best ≡ false) → IsBestBelow ring (n + 1) best
+best_stays ring n None none here = none_more ring n none (λ u at. true≢false (here u at))
+best_stays ring n (Some best) is here = kept_best ring n (fields_of best) is (λ other at. ltb-false best.group.0 other.group (here other at))
 
 -- one position more
-pub best_more : (ring : List ℕ) (n : ℕ) (best found : Option Uberblock) → IsBestBelow ring n best → IsAt ring n found → IsBestBelow ring (n + 1) (later_of best found)
-best_more ring n None None none here = none_more ring n none here
-best_more ring n None (Some found) none here = found_best ring n (fields_of found) here (λ k other below at. absurd (none k other below at))
-best_more ring n (Some best) None is here = kept_best ring n (fields_of best) is (λ other at. absurd (here other at))
-best_more ring n (Some best) (Some found) is here = choose (nat_lt best.group.0 found.group.0) refl
-  where
-    choose : (test : Bool) → nat_lt best.group.0 found.group.0 ≡ test → IsBestBelow ring (n + 1) (cond test (Some found) (Some best))
-    choose true up =
-        let above = ltb-true best.group.0 found.group.0 up in
-        found_best ring n (fields_of found) here (λ k other below at. let high = is.highest k other below at in omega arith)
-    choose false up =
-        let not_above = ltb-false best.group.0 found.group.0 up in
-        kept_best ring n (fields_of best) is (λ other at. let one = same_group ring n n other (fields_of found) refl at here in omega arith)
+pub best_more : (ring : List ℕ) (n : ℕ) (best result : Option Uberblock) → IsBestBelow ring n best → IsBetterAt ring (position_of n) best result → IsBestBelow ring (n + 1) result
+best_more ring n best result is (inl f) =
+    subst (IsBestBelow ring (n + 1)) (sym f.is) (found_best ring n (fields_of f.found) f.stands (all_below ring n best f.found is f.above))
+best_more ring n best result is (inr k) = subst (IsBestBelow ring (n + 1)) (sym k.is) (best_stays ring n best is k.none)
 
 -- the best of all is the active one
 pub IsActiveInRing-best : (ring : List ℕ) (u : Fields) → IsFirstHighest ring 512 u → IsActiveInRing ring u
 IsActiveInRing-best ring u is =
     record {
-      label = is.position / 128;
+      label = is.count / 128;
       in_range = let below = is.in_range in omega arith;
-      stands = StandsInRing-at ring is.position u is.stands;
-      highest = λ k other below stands. is.highest (k * 128 + slot_of other.group) other (let low = slot_below other.group in omega arith) (StandsAt-in_ring ring k other stands);
+      stands = subst (λ (k : ℕ). StandsInRing ring k u) (label-position_of is.count) (StandsInRing-at ring (position_of is.count) u is.stands);
+      highest = λ k other below stands. is.highest (count_of k (slot_of other.group)) other (let low = slot_below other.group in omega arith) (StandsAt-count ring k other stands);
       lowest = lowest;
     }
   where
-    lowest : (k : ℕ) (other : Fields) → k < is.position / 128 → StandsInRing ring k other → other.group ≢ u.group
+    lowest : (k : ℕ) (other : Fields) → k < is.count / 128 → StandsInRing ring k other → other.group ≢ u.group
     lowest k other below stands same =
         let low = slot_below other.group in
-        is.lowest (k * 128 + slot_of other.group) other (omega arith) (StandsAt-in_ring ring k other stands) same
+        is.lowest (count_of k (slot_of other.group)) other (omega arith) (StandsAt-count ring k other stands) same
 
 pub HasNoneInRing-best : (ring : List ℕ) → IsBestBelow ring 512 None → HasNoneInRing ring
 HasNoneInRing-best ring none k u below stands =
-    none (k * 128 + slot_of u.group) u (let low = slot_below u.group in omega arith) (StandsAt-in_ring ring k u stands)
+    none (count_of k (slot_of u.group)) u (let low = slot_below u.group in omega arith) (StandsAt-count ring k u stands)
 
 pub active_from_best : (ring : List ℕ) (best : Option Uberblock) → IsBestBelow ring 512 best → IfSome best (λ u. IsActiveInRing ring (fields_of u))
 active_from_best ring None none = tt

@@ -4,12 +4,15 @@ use Rattle.std.specs.List.{list_all}
 use Rattle.std.proofs.lemmas.Bool.{and_parts, eqb-true}
 use Rattle.base.specs.declared.pointer.Pointer.{Pointer}
 use Rattle.base.specs.Uberblocks.{Uberblock as Fields, IsUberblock, IsSealedSlot}
+use Rattle.base.specs.Versions.{version_of}
+use Rattle.base.specs.declared.version.Version.{Version}
+use Rattle.base.proofs.Versions.{version_of-number_of}
 use Rattle.uberblocks.specs.declared.uberblock.Uberblock.{Uberblock}
-use Rattle.uberblocks.specs.Slots.{fields_of, fields_at, zeros, HasMarks, HasZeros, IsWithinLimits}
+use Rattle.uberblocks.specs.Slots.{fields_of, fields_at, zeros, HasMagic, HasZeros, IsWithinLimits}
 
 -- what bytes have that are an uberblock of the fields in their places
 pub record IsFormed (bytes : List ℕ) : Type 0 where
-  pub marks : HasMarks bytes
+  pub magic : HasMagic bytes
   pub clear : HasZeros bytes
   pub limits : IsWithinLimits (fields_at bytes)
   pub agrees : IsSealedSlot bytes
@@ -19,8 +22,8 @@ unfolding fields_at zeros
 IsUberblock-formed bytes long f =
     record {
       size = long;
-      magic = f.marks.0;
-      version = f.marks.1;
+      magic = f.magic;
+      version = refl;
       group = refl;
       guid = refl;
       moment = refl;
@@ -30,6 +33,7 @@ IsUberblock-formed bytes long f =
       log_number = refl;
       zeros = f.clear;
       agrees = f.agrees;
+      version_known = f.limits.version_known;
       no_lower_group = f.limits.no_lower_group;
       no_higher_group = f.limits.no_higher_group;
       no_higher_import = f.limits.no_higher_import;
@@ -39,18 +43,18 @@ IsUberblock-formed bytes long f =
 -- the fields of an uberblock are those in their places
 pub fields_at-read : {bytes : List ℕ} {u : Fields} → IsUberblock bytes u → fields_at bytes ≡ u
 unfolding fields_at
-fields_at-read {bytes} {u} is = same is.group is.guid is.moment is.root is.import_number is.log_address is.log_number
+fields_at-read {bytes} {u} is = same is.version is.group is.guid is.moment is.root is.import_number is.log_address is.log_number
   where
-    same : {a b c e f g : ℕ} {d : Pointer} → a ≡ u.group → b ≡ u.guid → c ≡ u.moment → d ≡ u.root → e ≡ u.import_number → f ≡ u.log_address → g ≡ u.log_number
-        → record { group = a; guid = b; moment = c; root = d; import_number = e; log_address = f; log_number = g } ≡ u
-    same p q r s t v w = rw (p, q, r, s, t, v, w) refl
+    same : {h a b c e f g : ℕ} {d : Pointer} → h ≡ u.version → a ≡ u.group → b ≡ u.guid → c ≡ u.moment → d ≡ u.root → e ≡ u.import_number → f ≡ u.log_address → g ≡ u.log_number
+        → record { version = h; group = a; guid = b; moment = c; root = d; import_number = e; log_address = f; log_number = g } ≡ u
+    same o p q r s t v w = rw (o, p, q, r, s, t, v, w) refl
 
 pub IsFormed-read : {bytes : List ℕ} {u : Fields} → IsUberblock bytes u → IsFormed bytes
 unfolding zeros
 IsFormed-read {bytes} {u} is =
-    let limits : IsWithinLimits u = record { no_lower_group = is.no_lower_group; no_higher_group = is.no_higher_group; no_higher_import = is.no_higher_import; no_higher_log = is.no_higher_log } in
+    let limits : IsWithinLimits u = record { version_known = is.version_known; no_lower_group = is.no_lower_group; no_higher_group = is.no_higher_group; no_higher_import = is.no_higher_import; no_higher_log = is.no_higher_log } in
     record {
-      marks = (is.magic, is.version);
+      magic = is.magic;
       clear = is.zeros;
       limits = subst (λ (v : Fields). IsWithinLimits v) (sym (fields_at-read is)) limits;
       agrees = is.agrees;
@@ -60,10 +64,16 @@ IsFormed-read {bytes} {u} is =
 pub readings_agree : (bytes : List ℕ) (u v : Fields) → IsUberblock bytes u → IsUberblock bytes v → u ≡ v
 readings_agree bytes u v is_u is_v = sym (fields_at-read is_u) ∙ fields_at-read is_v
 
+-- the value with these fields
+abbrev made_of : Version → Fields → Uberblock
+made_of version f =
+    record { version = version; group = record { 0 = f.group }; guid = f.guid; moment = f.moment; root = f.root; import_number = f.import_number; log_address = f.log_address; log_number = f.log_number }
+
 -- values with the same fields are the same
 pub fields_of-same : (u v : Uberblock) → fields_of u ≡ fields_of v → u ≡ v
 fields_of-same u v e =
-    ap (λ (f : Fields). record { group = record { 0 = f.group }; guid = f.guid; moment = f.moment; root = f.root; import_number = f.import_number; log_address = f.log_address; log_number = f.log_number }) e
+    let version : u.version ≡ v.version = sym (version_of-number_of u.version) ∙ ap (λ (f : Fields). version_of f.version) e ∙ version_of-number_of v.version in
+    λ i. made_of (version i) (e i)
 
 -- bytes of which each is zero are so many zeros, and the other way round
 zeros_from_all : (bytes : List ℕ) → list_all (λ byte. byte == 0) bytes ≡ true → bytes ≡ replicate (length bytes) 0

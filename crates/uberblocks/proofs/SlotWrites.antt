@@ -54,7 +54,7 @@ pub length-field_bytes : (u : Fields) → length u.root.check ≡ 32 → length 
 unfolding field_bytes
 length-field_bytes u long =
     length-two _ _ 104 8 (length-two _ _ 96 8 (length-two _ _ 88 8 (length-two _ _ 40 48 (length-two _ _ 32 8 (length-two _ _ 24 8 (length-two _ _ 16 8 (length-two _ _ 8 8
-    (length-number_bytes 0x00bab10c) (length-number_bytes 1)) (length-number_bytes u.group)) (length-number_bytes u.guid)) (length-number_bytes u.moment))
+    (length-number_bytes 0x00bab10c) (length-number_bytes u.version)) (length-number_bytes u.group)) (length-number_bytes u.guid)) (length-number_bytes u.moment))
     (length-pointer_bytes u.root long)) (length-number_bytes u.import_number)) (length-number_bytes u.log_address)) (length-number_bytes u.log_number)
 
 pub length-head_bytes : (u : Fields) → length u.root.check ≡ 32 → length (head_bytes u) ≡ 992
@@ -66,9 +66,9 @@ nest a b c d e f g h i rest = simp append_assoc
 
 -- all that a slot begins with, field by field
 pub field_bytes-nested : (u : Fields) (rest : List ℕ) → field_bytes u ++ rest
-    ≡ number_bytes 0x00bab10c ++ (number_bytes 1 ++ (number_bytes u.group ++ (number_bytes u.guid ++ (number_bytes u.moment ++ (pointer_bytes u.root ++ (number_bytes u.import_number ++ (number_bytes u.log_address ++ (number_bytes u.log_number ++ rest))))))))
+    ≡ number_bytes 0x00bab10c ++ (number_bytes u.version ++ (number_bytes u.group ++ (number_bytes u.guid ++ (number_bytes u.moment ++ (pointer_bytes u.root ++ (number_bytes u.import_number ++ (number_bytes u.log_address ++ (number_bytes u.log_number ++ rest))))))))
 unfolding field_bytes
-field_bytes-nested u rest = nest (number_bytes 0x00bab10c) (number_bytes 1) (number_bytes u.group) (number_bytes u.guid) (number_bytes u.moment) (pointer_bytes u.root) (number_bytes u.import_number) (number_bytes u.log_address) (number_bytes u.log_number) rest
+field_bytes-nested u rest = nest (number_bytes 0x00bab10c) (number_bytes u.version) (number_bytes u.group) (number_bytes u.guid) (number_bytes u.moment) (pointer_bytes u.root) (number_bytes u.import_number) (number_bytes u.log_address) (number_bytes u.log_number) rest
 
 zeros_is : {l : List ℕ} → l ≡ zeros 880 → l ≡ replicate 880 0
 unfolding zeros
@@ -85,7 +85,7 @@ IsUberblock-slot_bytes u fits limits =
     let left = field_bytes-nested u (zeros 880 ++ check) in
     let d0 = whole ∙ left in
     let d8 = number_behind bytes _ 0 0x00bab10c d0 in
-    let d16 = number_behind bytes _ 8 1 d8 in
+    let d16 = number_behind bytes _ 8 u.version d8 in
     let d24 = number_behind bytes _ 16 u.group d16 in
     let d32 = number_behind bytes _ 24 u.guid d24 in
     let d40 = number_behind bytes _ 32 u.moment d32 in
@@ -98,7 +98,7 @@ IsUberblock-slot_bytes u fits limits =
     record {
       size = length-two (head_bytes u) check 992 32 head_long check_long;
       magic = number_first bytes _ 0 0x00bab10c d0 (omega arith);
-      version = number_first bytes _ 8 1 d8 (omega arith);
+      version = number_first bytes _ 8 u.version d8 fits.version;
       group = number_first bytes _ 16 u.group d16 fits.group;
       guid = number_first bytes _ 24 u.guid d24 fits.guid;
       moment = number_first bytes _ 32 u.moment d32 fits.moment;
@@ -108,6 +108,7 @@ IsUberblock-slot_bytes u fits limits =
       log_number = number_first bytes _ 104 u.log_number d104 fits.log_number;
       zeros = zeros_is (part_first bytes (zeros 880) check 112 880 d112 (length-zeros 880));
       agrees = checked ∙ ap sha256 (sym taken);
+      version_known = limits.version_known;
       no_lower_group = limits.no_lower_group;
       no_higher_group = limits.no_higher_group;
       no_higher_import = limits.no_higher_import;

@@ -1,5 +1,5 @@
 -- The uberblock arrays of four labels, one after the other, and the active uberblock in them.
-use Rattle.std.specs.Prelude.{ℕ, ◌≡◌, ◌≢◌, ◌≤◌, ◌<◌, ◌+◌, ◌*◌, ◌%◌, List, length, Option, Some, None, if◌then◌else◌, nat_lt}
+use Rattle.std.specs.Prelude.{ℕ, ◌≡◌, ◌≢◌, ◌≤◌, ◌<◌, ◌+◌, ◌-◌, ◌*◌, ◌/◌, ◌%◌, ◌⊎◌, Bool, true, false, List, length, Option, Some, None, nat_lt}
 use Rattle.base.specs.Fields.{part}
 use Rattle.base.specs.Geometry.{slot_place, slot_of}
 use Rattle.base.specs.Uberblocks.{Uberblock as Fields, IsUberblock}
@@ -30,13 +30,27 @@ IsRingOf ring image = (label : ℕ) → label < 4 → part ring (131072 * label)
 abbrev pub StandsAt : List ℕ → ℕ → Fields → Type 0
 StandsAt ring position u = IsUberblock (part ring (1024 * position) 1024) u × (slot_of u.group ≡ position % 128)
 
--- what stands at a position, if any
-abbrev pub IsAt : List ℕ → ℕ → Option Uberblock → Type 0
-IsAt ring position (Some u) = StandsAt ring position (fields_of u)
-IsAt ring position None = (u : Fields) → StandsAt ring position u → ⊥
+-- The position that is looked at after so many others: the labels one after another, and of each the last slot first.
+abbrev pub position_of : ℕ → ℕ
+position_of count = 128 * (count / 128) + (127 - count % 128)
 
--- the second where it has a higher group than the first, or where there is no first
-abbrev pub later_of : Option Uberblock → Option Uberblock → Option Uberblock
-later_of None found = found
-later_of (Some best) None = Some best
-later_of (Some best) (Some found) = if nat_lt best.group.0 found.group.0 then Some found else Some best
+-- whether a group is above that of the best so far, if there is one
+abbrev pub is_above : ℕ → Option Uberblock → Bool
+is_above group None = true
+is_above group (Some best) = nat_lt best.group.0 group
+
+-- what stands at a position and is above the best so far
+pub record IsFoundAt (ring : List ℕ) (position : ℕ) (best result : Option Uberblock) : Type 0 where
+  pub found : Uberblock
+  pub is : result ≡ Some found
+  pub stands : StandsAt ring position (fields_of found)
+  pub above : is_above found.group.0 best ≡ true
+
+-- the best so far, where nothing that stands at a position is above it
+pub record IsKeptAt (ring : List ℕ) (position : ℕ) (best result : Option Uberblock) : Type 0 where
+  pub is : result ≡ best
+  pub none : (u : Fields) → StandsAt ring position u → is_above u.group best ≡ false
+
+-- the better of the best so far and of what stands at a position
+abbrev pub IsBetterAt : List ℕ → ℕ → Option Uberblock → Option Uberblock → Type 0
+IsBetterAt ring position best result = IsFoundAt ring position best result ⊎ IsKeptAt ring position best result

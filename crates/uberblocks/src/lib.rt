@@ -15,7 +15,7 @@ pub use laws::{
     slots_read_back,
 };
 pub use ring::{ARRAY_SIZE, LABEL_COUNT, SLOT_COUNT, active, slot};
-pub use uberblock::{MAGIC, SLOT_SIZE, Uberblock, VERSION};
+pub use uberblock::{MAGIC, SLOT_SIZE, Uberblock};
 
 #[cfg(test)]
 mod tests;

@@ -3,10 +3,11 @@
 ghost use Rattle.std.specs.Prelude.{◌≡◌, ◌+◌, ◌*◌, ◌%◌, ◌≤◌, ◌<◌, IfNone, IfSome, length};
 ghost use Rattle.base.specs.Geometry.{slot_of};
 ghost use Rattle.uberblocks.specs.Slots.{fields_of};
-ghost use Rattle.uberblocks.specs.Rings.{HasNoneInRing, IsActiveInRing, IsAt, later_of};
+ghost use Rattle.uberblocks.specs.Rings as above;
+ghost use Rattle.uberblocks.specs.Rings.{HasNoneInRing, IsActiveInRing, IsBetterAt, position_of};
 
 use crate::uberblock::{SLOT_SIZE, Uberblock, read_slot};
-use base::Group;
+use base::{Group, read_u64};
 
 /// The labels of a device.
 pub const LABEL_COUNT: usize = 4;
@@ -28,42 +29,57 @@ pub fn slot(group: Group) -> usize
 ///
 /// Of the valid uberblocks that lie in the slot of their group it is the one of the highest group, and
 /// where several labels have that group, the lowest label's (On-Disk Specification, chapter 1). None
-/// where no valid one lies in the slot of its group.
+/// where no valid one lies in the slot of its group. In a ring that syncs wrote few checks are made.
 pub fn active(ring: &[u8]) -> Option<Uberblock>
     requires { length ring.now ≡ 4 * 131072 }
     ensures active { IfSome result (λ u. IsActiveInRing ring.now (fields_of u)) }
     ensures none { IfNone result (HasNoneInRing ring.now) }
 {
     let mut best = None;
-    for position in 0..LABEL_COUNT * SLOT_COUNT {
-        best = later(best, standing(ring, position));
+    for count in 0..LABEL_COUNT * SLOT_COUNT {
+        best = better(ring, position(count), best);
     }
     best
 }
 
-/// The uberblock that stands at a position, where the slots of label 0 have 0 to 127, those of label 1
-/// 128 to 255, and so on.
+/// The position that is looked at after so many others, where the slots of label 0 have the positions 0 to 127, those of
+/// label 1 128 to 255, and so on.
 ///
-/// None where the slot holds none, or one of a group that has another slot.
-fn standing(ring: &[u8], position: usize) -> Option<Uberblock>
+/// In a label groups mostly rise from slot to slot. So the last slot is looked at first: then most of the others are not above it.
+fn position(count: usize) -> usize
+    requires { count < 512 }
+    ensures position { result ≡ position_of count }
+    ensures in_range { result < 512 }
+{
+    SLOT_COUNT * (count / SLOT_COUNT) + (SLOT_COUNT - 1 - count % SLOT_COUNT)
+}
+
+/// The uberblock that stands at a position where its group is above that of the best so far, and otherwise the best.
+///
+/// A slot's check costs more than all its fields, and is made only where these say that it would be better.
+fn better(ring: &[u8], position: usize, best: Option<Uberblock>) -> Option<Uberblock>
     requires size { length ring.now ≡ 4 * 131072 }
     requires in_range { position < 512 }
-    ensures { IsAt ring.now position result }
+    ensures { IsBetterAt ring.now position best result }
 {
     let place = SLOT_SIZE * position;
-    match read_slot(&ring[place..place + SLOT_SIZE]) {
-        Some(uberblock) if slot(uberblock.group) == position % SLOT_COUNT => Some(uberblock),
-        _ => None,
+    let bytes = &ring[place..place + SLOT_SIZE];
+    let group = Group(read_u64(bytes, 16));
+    if slot(group) != position % SLOT_COUNT || !is_above(group, best) {
+        return best;
+    }
+    match read_slot(bytes) {
+        Some(found) => Some(found),
+        None => best,
     }
 }
 
-/// The second where it has a higher group than the first, and otherwise the first.
-fn later(best: Option<Uberblock>, found: Option<Uberblock>) -> Option<Uberblock>
-    ensures { result ≡ later_of best found }
+/// Whether a group is above that of the best so far, if there is one.
+fn is_above(group: Group, best: Option<Uberblock>) -> bool
+    ensures { result ≡ above.is_above group.0 best }
 {
-    match (best, found) {
-        (Some(best), Some(found)) if best.group.0 >= found.group.0 => Some(best),
-        (best, None) => best,
-        (_, found) => found,
+    match best {
+        Some(best) => group.0 > best.group.0,
+        None => true,
     }
 }

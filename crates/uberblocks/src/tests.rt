@@ -1,7 +1,7 @@
 ghost use Rattle.std.specs.Prelude.{◌≡◌, ◌*◌, ◌≤◌, ◌<◌, length};
 
 use crate::{ARRAY_SIZE, LABEL_COUNT, SLOT_SIZE, Uberblock, active, slot};
-use base::{Group, Pointer};
+use base::{Group, Pointer, Version};
 use sha2::{Digest, Sha256};
 use std::test::Fail;
 
@@ -17,6 +17,7 @@ fn of_group(group: u64) -> Uberblock
         0x1e, 0x1f,
     ];
     Uberblock {
+        version: Version::One,
         group: Group(group),
         guid: 77,
         moment: 1_700_000_000,

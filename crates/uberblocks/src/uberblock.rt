@@ -5,10 +5,15 @@ ghost use Rattle.std.specs.List.{list_all};
 ghost use Rattle.sha2.specs.Sha256.{sha256};
 ghost use Rattle.base.specs.Disk.{put};
 ghost use Rattle.base.specs.Limits.{first_group, last_number};
+ghost use Rattle.base.specs.Fields.{number_at};
+ghost use Rattle.base.specs.Versions.{number_of};
 ghost use Rattle.base.specs.Uberblocks.{IsSealedSlot, IsUberblock};
-ghost use Rattle.uberblocks.specs.Slots.{FieldsFit, HoldsNoUberblock, HasMarks, HasZeros, IsWithinLimits, field_bytes, fields_at, fields_of, slot_bytes, zeros};
+ghost use Rattle.uberblocks.specs.Slots.{FieldsFit, HasMagic, HasZeros, HoldsNoUberblock, IsWithinLimits, field_bytes, fields_at, fields_of, slot_bytes, zeros};
 
-use base::{Group, Pointer, read_pointer, read_u64, write_bytes, write_pointer, write_u64};
+use base::{
+    FIRST_GROUP, Group, LAST_NUMBER, Pointer, Version, read_pointer, read_u64, write_bytes,
+    write_pointer, write_u64,
+};
 use sha2::{Digest, Sha256};
 
 /// The bytes of an uberblock, and of a slot of the array.
@@ -17,24 +22,17 @@ pub const SLOT_SIZE: usize = 1024;
 /// The number that an uberblock begins with.
 pub const MAGIC: u64 = 0x00ba_b10c;
 
-/// The version of the format.
-pub const VERSION: u64 = 1;
-
 /// Where the zeros behind the fields begin.
 const ZEROS_PLACE: usize = 112;
 
 /// Where the check begins, and how many bytes it covers.
 const CHECK_PLACE: usize = 992;
 
-/// The greatest group, import number and log number.
-const LAST_NUMBER: u64 = 1 << 60;
-
-/// The group of a pool as it is created.
-const FIRST_GROUP: u64 = 4;
-
 /// The state of a pool as a transaction group leaves it (ZFS On-Disk Specification, chapter 1).
 #[derive(Clone, Copy, Debug, PartialEq, Eq)]
 pub struct Uberblock {
+    /// The version of the format, by whose rules the tree is read.
+    pub version: Version,
     /// The transaction group that was synced.
     pub group: Group,
     /// The sum of the guids of the pool's devices: with one device, the pool's guid.
@@ -74,8 +72,8 @@ impl Uberblock {
 
     /// The uberblock that a slot holds.
     ///
-    /// None where the bytes are no uberblock: the magic, the version, the zeros or the check
-    /// disagree, the group is not 4 to 2^60, or the import number or the log number is above 2^60.
+    /// None where the bytes are no uberblock: the magic, the zeros or the check disagree, the version is none that is known, the
+    /// group is not 4 to 2^60, or the import number or the log number is above 2^60.
     pub fn decode(bytes: &[u8; SLOT_SIZE]) -> Option<Uberblock>
         ensures held { IfSome result (λ u. IsUberblock bytes.now (fields_of u)) }
         ensures found { (u : Uberblock) → IsUberblock bytes.now (fields_of u) → result ≡ Some u }
@@ -91,7 +89,7 @@ impl Uberblock {
         ensures fit { FieldsFit (fields_of self) }
     {
         write_u64(bytes, 0, MAGIC);
-        write_u64(bytes, 8, VERSION);
+        write_u64(bytes, 8, self.version.number());
         write_u64(bytes, 16, self.group.0);
         write_u64(bytes, 24, self.guid);
         write_u64(bytes, 32, self.moment);
@@ -101,12 +99,14 @@ impl Uberblock {
         write_u64(bytes, 104, self.log_number);
     }
 
-    /// The fields of a slot, whatever it holds.
-    fn read_fields(bytes: &[u8]) -> Uberblock
-        requires { length bytes.now ≡ 1024 }
+    /// The fields of a slot of this version, whatever it holds.
+    fn read_fields(bytes: &[u8], version: Version) -> Uberblock
+        requires size { length bytes.now ≡ 1024 }
+        requires version { number_of version ≡ number_at bytes.now 8 }
         ensures { fields_of result ≡ fields_at bytes.now }
     {
         Uberblock {
+            version,
             group: Group(read_u64(bytes, 16)),
             guid: read_u64(bytes, 24),
             moment: read_u64(bytes, 32),
@@ -117,7 +117,7 @@ impl Uberblock {
         }
     }
 
-    /// Whether the group, the import number and the log number are ones that a pool can have.
+    /// Whether the group, the import number and the log number are ones that a pool can have, as the version is.
     fn is_within_limits(&self) -> bool
         ensures { IsTrue result ↔ IsWithinLimits (fields_of self.now) }
     {
@@ -135,8 +135,11 @@ pub(crate) fn read_slot(bytes: &[u8]) -> Option<Uberblock>
     ensures found { (u : Uberblock) → IsUberblock bytes.now (fields_of u) → result ≡ Some u }
     ensures none { IfNone result (HoldsNoUberblock bytes.now) }
 {
-    let uberblock = Uberblock::read_fields(bytes);
-    if is_marked(bytes) && is_clear(bytes) && uberblock.is_within_limits() && is_sealed(bytes) {
+    let Some(version) = Version::from_number(read_u64(bytes, 8)) else {
+        return None;
+    };
+    let uberblock = Uberblock::read_fields(bytes, version);
+    if has_magic(bytes) && is_clear(bytes) && uberblock.is_within_limits() && is_sealed(bytes) {
         Some(uberblock)
     } else {
         None
@@ -150,12 +153,12 @@ fn empty_slot() -> [u8; SLOT_SIZE]
     [0; SLOT_SIZE]
 }
 
-/// Whether a slot has the magic and the version.
-fn is_marked(bytes: &[u8]) -> bool
+/// Whether a slot has the magic.
+fn has_magic(bytes: &[u8]) -> bool
     requires { length bytes.now ≡ 1024 }
-    ensures { IsTrue result ↔ HasMarks bytes.now }
+    ensures { IsTrue result ↔ HasMagic bytes.now }
 {
-    read_u64(bytes, 0) == MAGIC && read_u64(bytes, 8) == VERSION
+    read_u64(bytes, 0) == MAGIC
 }
 
 /// Whether a slot has zeros behind its fields.

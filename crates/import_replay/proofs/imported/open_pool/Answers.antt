@@ -5,6 +5,7 @@ use Rattle.object_maps.specs.declared.tree.Tree.{Tree}
 use Rattle.base.specs.Geometry.{block_address, block_count}
 use Rattle.base.specs.Labels.{Config}
 use Rattle.base.specs.Uberblocks.{Uberblock}
+use Rattle.base.specs.Versions.{written_version}
 use Rattle.base.specs.declared.error.PoolError.{PoolError}
 use Rattle.base.specs.declared.error.PoolError.TheVariants.{NoSpace}
 use Rattle.object_maps.specs.Pointers.{pointers_of}
@@ -61,6 +62,7 @@ returns-clause-labelled g c = λ keeps.
     let u = c.args.found.uberblock in
     let config : Config = record { guid = u.guid; group = u.group.0 + 4; size = c.args.geometry; name = c.args.found.name } in
     let next : Uberblock = record {
+      version = written_version;
       group = u.group.0 + 4;
       guid = u.guid;
       moment = c.args.moment;

@@ -1,5 +1,6 @@
 use Rattle.std.proofs.Common.{sym, subst, List, ℕ}
 use Rattle.base.specs.Uberblocks.{IsUberblock}
+use Rattle.base.proofs.Versions.{number_of-known}
 use Rattle.uberblocks.specs.Slots.{IsWithinLimits, fields_of}
 use Rattle.uberblocks.proofs.SlotWrites.{IsUberblock-slot_bytes, slot_bytes_made}
 use Rattle.uberblocks.proofs.uberblock.Uberblock.encode.Goals as goal
@@ -13,6 +14,7 @@ pub returns-clause-uberblock : goal.returns-clause-uberblock
 returns-clause-uberblock c =
     let u = fields_of c.args.self.now in
     let limits : IsWithinLimits u = record {
+      version_known = number_of-known c.args.self.now.version;
       no_lower_group = c.requires.no_lower_group;
       no_higher_group = c.requires.no_higher_group;
       no_higher_import = c.requires.no_higher_import;
