@@ -10,6 +10,7 @@ use std::alloc::{AllocError, Global};
 /// Which blocks are free, by their index in the block area.
 #[derive(Drop)]
 pub struct FreeSet {
+    /// Whether the block of each index is free.
     pub flags: Vec<bool>,
 }
 
@@ -25,7 +26,7 @@ impl FreeSet {
         })
     }
 
-    /// The lowest free block from this one on.
+    /// The lowest free block from this one on. `None` where there is none, or where the set has no such block.
     pub fn next_from(&self, first: usize) -> Option<usize>
         ensures within { IfSome result (λ block. block < vec_len self.now.flags) }
         ensures from { IfSome result (λ block. first ≤ block) }
@@ -42,7 +43,7 @@ impl FreeSet {
         None
     }
 
-    /// The block is taken.
+    /// The block is taken. A block that the set does not have changes nothing.
     pub fn take(&mut self, block: usize)
         ensures flags { self.new.flags.items ≡ list_set self.old.flags.items block false }
         ensures count { vec_len self.new.flags ≡ vec_len self.old.flags }
@@ -51,7 +52,7 @@ impl FreeSet {
         self.set(block, false);
     }
 
-    /// The block comes back.
+    /// The block comes back. A block that the set does not have changes nothing.
     pub fn give(&mut self, block: usize)
         ensures flags { self.new.flags.items ≡ list_set self.old.flags.items block true }
         ensures count { vec_len self.new.flags ≡ vec_len self.old.flags }

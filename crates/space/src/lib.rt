@@ -2,5 +2,7 @@
 #![tactic(auto)]
 
 mod free_set;
+#[cfg(test)]
+mod tests;
 
 pub use free_set::FreeSet;

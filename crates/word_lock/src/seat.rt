@@ -131,8 +131,12 @@ impl<T, R: LockRule<T>> Seat<T, R> {
         }
     }
 
-    // Frees the lock with the value, which the view `next` explains. The seat notes the view while the value is out still.
-    pub(crate) fn put_back<A: Allocator>(
+    /// Frees the lock with this value, which the view `next` has to explain. It is `release` for a guard that was taken apart.
+    ///
+    /// The caller owes that the seat has this lock, as `acquire` and `try_acquire` leave it, and that `next` goes on from the view that the seat took. Afterwards the seat is idle, has seen `next`, and has had one turn more, from the view that it took to `next`.
+    ///
+    /// The steps are: a `fetch_or` of nothing, by which the seat takes the view while the value is out still, the value into the slot, a `swap` that clears both bits of the word and counts one more, and where the waiter bit was set one wake. It never waits and is never refused.
+    pub fn put_back<A: Allocator>(
         &mut self,
         lock: &WordLock<T, R, A>,
         value: T,
@@ -143,7 +147,8 @@ impl<T, R: LockRule<T>> Seat<T, R> {
         requires grows { R.grows (seen self.old) next.now.value }
         requires explains { R.explains next.now.value value }
         ensures same { IsSameSeat self.old self.new }
-        ensures freed { IsIdle self.new × (seen self.new ≡ next.now.value) × (turns self.new ≡ turns self.old ++ turn (seen self.old) next.now.value ∷ []) }
+        ensures freed { IsIdle self.new × (seen self.new ≡ next.now.value) }
+        ensures turn { turns self.new ≡ turns self.old ++ turn (seen self.old) next.now.value ∷ [] }
     {
         let shared = &lock.table.shared;
         let found = note::<T, R, Brand, A>(lock, &mut self.inside, next);
