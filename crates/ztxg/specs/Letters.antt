@@ -1,5 +1,5 @@
 -- The letters of a script.
-use Rattle.std.specs.Prelude.{ℕ, ◌==◌, if◌then◌else◌, Option, Some, None, List, [], ◌∷◌}
+use Rattle.std.specs.Prelude.{ℕ, Bool, true, ◌==◌, if◌then◌else◌, Option, Some, None, List, [], ◌∷◌}
 use Rattle.base.specs.declared.piece.Piece.{Piece}
 use Rattle.base.specs.declared.piece.Piece.TheVariants.{Keep, Lose, Fill}
 use Rattle.base.specs.declared.range.Mode.{Mode}
@@ -14,3 +14,8 @@ abbrev pub mode_of : List ℕ → Option Mode
 mode_of [] = None
 mode_of (letter ∷ []) = if letter == 114 then Some Reader else (if letter == 119 then Some Writer else None)
 mode_of (letter ∷ next ∷ rest) = None
+
+-- an empty line, and one that begins with `#` (35), print nothing
+abbrev pub is_silent : List ℕ → Bool
+is_silent [] = true
+is_silent (first ∷ rest) = first == 35

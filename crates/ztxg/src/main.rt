@@ -11,16 +11,13 @@ mod session;
 mod tests;
 
 use arguments::{ScriptArguments, parse_arguments, read_arguments};
-use script::run_script;
+use script::run_opened;
 use std::fs::File;
 use std::io;
 use std::process::ExitCode;
 
 /// The status of a fault of the command line.
 const BAD_ARGUMENTS: u8 = 2;
-
-/// The status where a file can't be used, or a reader or a writer failed.
-const FAILED: u8 = 3;
 
 fn main(rt: HostRuntime) -> ExitCode {
     let Ok(words) = read_words(&rt) else {
@@ -50,20 +47,19 @@ fn not_text(rt: &HostRuntime) -> ExitCode {
 }
 
 fn run(rt: &HostRuntime, arguments: ScriptArguments<'_>) -> ExitCode {
-    let ScriptArguments {
-        size,
-        script,
-        moment,
-    } = arguments;
+    let alloc = rt.alloc();
     let out = io::writer(rt);
-    if script == "-" {
-        return ExitCode::from(run_script(rt.alloc(), size, moment, rt.reader(), out));
-    }
-    match File::open(rt, script) {
-        Ok(file) => ExitCode::from(run_script(rt.alloc(), size, moment, file, out)),
-        Err(_) => {
-            let _ = eprintln!(rt; "ztxg: cannot use {script}");
-            ExitCode::from(FAILED)
-        }
-    }
+    let mut errors = rt.stderr();
+    let status = if arguments.script == "-" {
+        run_opened(alloc, arguments, Ok(rt.reader()), out, &mut errors)
+    } else {
+        run_opened(
+            alloc,
+            arguments,
+            File::open(rt, arguments.script),
+            out,
+            &mut errors,
+        )
+    };
+    ExitCode::from(status)
 }

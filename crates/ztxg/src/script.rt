@@ -1,9 +1,11 @@
 //! A script, line by line.
 
-ghost use Rattle.std.specs.Prelude.{◌≡◌, ◌≢◌, ◌≤◌};
+ghost use Rattle.std.specs.Prelude.{◌≡◌, ◌≢◌, ◌≤◌, ◌↔◌, IsErr, IsTrue, None, Ok};
 ghost use Rattle.ztxg.specs.Endings.{status_number};
+ghost use Rattle.ztxg.specs.Letters.{is_silent};
 
 use crate::answer::Answer;
+use crate::arguments::ScriptArguments;
 use crate::command::{LineError, parse_command};
 use crate::session::{BadCommand, Session};
 use base::PoolError;
@@ -29,10 +31,34 @@ fn status_of(ending: Ending) -> u8
     }
 }
 
+/// Runs a script that was to be opened, with what was given to it.
+///
+/// Where it was not opened, `ztxg: cannot use FILE` is printed to `errors`, and the status is 3.
+pub fn run_opened<R: Read + Drop, W: Write + Drop, E: Write>(
+    alloc: Global,
+    arguments: ScriptArguments<'_>,
+    opened: io::Result<R>,
+    out: W,
+    errors: &mut E,
+) -> u8
+    ensures failed { IsErr opened → result ≡ 3 }
+    ensures range { result ≤ 3 }
+    ensures no_refusal { result ≢ 1 }
+{
+    match opened {
+        Ok(script) => run_script(alloc, arguments.size, arguments.moment, script, out),
+        Err(_) => {
+            let _ = writeln!(errors, "ztxg: cannot use {}", arguments.script);
+            status_of(Ending::Failed)
+        }
+    }
+}
+
 /// Runs a script on a device in memory of `size` div 512 sectors, and prints one line for each command.
 ///
-/// A line is a command, or empty, or begins with `#`; the last two print nothing. A refusal is printed, and the script
-/// goes on. A line that is no command, also one that is no UTF-8, prints `line N: bad command` and ends it.
+/// A line is a command, or empty, or begins with `#`; the last two print nothing, whatever bytes follow. A refusal is
+/// printed, and the script goes on. A line that is no command, also one that is no UTF-8, prints `line N: bad command` and
+/// ends it.
 ///
 /// It answers the status to end with: 0 where the script was done, 2 at a line that is no command, 3 where the reader or
 /// the writer failed, and then nothing more is printed.
@@ -96,18 +122,27 @@ fn without_newline(line: &[u8]) -> &[u8] {
     line.strip_suffix(b"\n").unwrap_or(line)
 }
 
+// Whether a line is empty or a comment, which may have any bytes.
+fn prints_nothing(line: &[u8]) -> bool
+    ensures { result ≡ is_silent line.now }
+{
+    match line {
+        [] | [b'#', ..] => true,
+        _ => false,
+    }
+}
+
 // The answer to a line, if it has one.
-fn run_line(
-    alloc: Global,
-    session: &mut Session,
-    line: &[u8],
-) -> Result<Option<Answer>, BadCommand> {
+fn run_line(alloc: Global, session: &mut Session, line: &[u8]) -> Result<Option<Answer>, BadCommand>
+    ensures silent { result ≡ Ok None ↔ IsTrue (is_silent line.now) }
+    ensures unchanged { IsTrue (is_silent line.now) → session.new ≡ session.old }
+{
+    if prints_nothing(line) {
+        return Ok(None);
+    }
     let Ok(text) = str::from_utf8(line) else {
         return Err(BadCommand);
     };
-    if text.is_empty() || text.starts_with('#') {
-        return Ok(None);
-    }
     match parse_command(alloc, text) {
         Ok(command) => Ok(Some(session.run(command)?)),
         Err(LineError::NoMemory) => Ok(Some(Answer::refused(PoolError::NoMemory))),

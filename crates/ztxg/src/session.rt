@@ -1,20 +1,21 @@
 //! The device and the pool that a script works on.
 
-ghost use Rattle.std.specs.Prelude.{◌≡◌, ◌↔◌, ◌*◌, ◌/◌, true, false, is_ok, is_some, IsTrue, IsOk, IsErr, IfOk, IsErrOf, MatchResult, [], drop, unwrap_or, IsSomeAnd};
+ghost use Rattle.std.specs.Prelude.{◌≡◌, ◌↔◌, ◌*◌, ◌/◌, true, false, is_ok, is_some, IsTrue, IsOk, IsErr, IfOk, IsErrOf, MatchResult, [], drop, unwrap_or, IfSome, IsSomeAnd};
 ghost use Rattle.base.specs.Disk.{bytes_of};
 ghost use Rattle.base.specs.Geometry.{is_geometry};
 ghost use Rattle.device_model.specs.MemState.{new_state};
 ghost use Rattle.import_replay.specs.Creations.{IsCreatedOn};
 ghost use Rattle.std.specs.Vec.Iter.{into_iter_items};
 ghost use Rattle.ztxg.specs.Fillings.{op_of, ops_of, taken_by};
+ghost use Rattle.ztxg.specs.PoolSteps as asked;
 
 use crate::answer::Answer;
 use crate::command::{Command, PoolCommand};
-use base::{Bytes, Group, Op, Ops, Owner, Piece, Plan, PoolError, Reply, Shape, TxId};
+use base::{Bytes, Group, Op, Ops, Owner, Piece, Plan, PoolError, Reply, Shape, Step, TxId};
 use device_model::MemDevice;
-use import_replay::{create, import};
+use import_replay::{Imported, create, import};
 use labels::Geometry;
-use pool_core::{PoolState, Progress};
+use pool_core::PoolState;
 use std::alloc::{AllocError, Global};
 use std::mem;
 use std::vec::IntoIter;
@@ -44,6 +45,7 @@ pub struct Session {
 }
 
 impl Session {
+    ghost use Rattle.ztxg.specs.Devices.{Creates, IfPool, Imports, IsPoolOf, Makes, answer_of};
     ghost use Rattle.ztxg.specs.Places.{Crashes, Leaves, device_in, has_device, has_pool, has_what_it_needs, is_crash};
 
     /// A session with no device yet. A new device has `size` div 512 sectors, and each uberblock this moment.
@@ -69,6 +71,7 @@ impl Session {
         ensures needs { IsOk result → IsTrue (has_what_it_needs command self.old.place) }
         ensures answered { is_crash command ≡ false → is_ok result ≡ has_what_it_needs command self.old.place }
         ensures left { Leaves command self.old.place result self.new.place }
+        ensures made { Makes command self.old result self.new.place }
         ensures moment { self.new.moment ≡ self.old.moment }
         ensures size { self.new.size ≡ self.old.size }
     {
@@ -124,6 +127,7 @@ impl Session {
         ensures no_pool { has_pool self.new.place ≡ false }
         ensures created { result ≡ Answer.Reply Reply.Done
             → IsSomeAnd (device_in self.new.place) (λ device. IsCreatedOn (bytes_of device.disk.now) name.now guid) }
+        ensures creates { Creates name.now guid self.old result self.new.place }
         ensures moment { self.new.moment ≡ self.old.moment }
         ensures size { self.new.size ≡ self.old.size }
     {
@@ -136,16 +140,26 @@ impl Session {
                 self.place = Place::Device(device);
                 Answer::Reply(Reply::Done)
             }
-            Err((error, device)) => {
-                self.place = Place::Device(device);
-                Answer::refused(error)
-            }
+            Err((error, device)) => self.give_back(error, device),
         }
+    }
+
+    // A refusal, with the device that came back.
+    fn give_back(&mut self, error: PoolError, device: MemDevice) -> Answer
+        ensures refused { result ≡ Answer.Reply (Reply.Refused error) }
+        ensures device { self.new.place ≡ Place.Device device }
+        ensures moment { self.new.moment ≡ self.old.moment }
+        ensures size { self.new.size ≡ self.old.size }
+    {
+        self.place = Place::Device(device);
+        Answer::refused(error)
     }
 
     fn import(&mut self, dirty_max: u64) -> Result<Answer, BadCommand>
         ensures needs { is_ok result ≡ has_device self.old.place }
         ensures left { has_device self.new.place ≡ has_device self.old.place }
+        ensures imports { IfOk result (λ told. IfSome (device_in self.old.place)
+            (λ device. Imports dirty_max self.old.moment device told self.new.place)) }
         ensures moment { self.new.moment ≡ self.old.moment }
         ensures size { self.new.size ≡ self.old.size }
     {
@@ -153,24 +167,29 @@ impl Session {
             return Err(BadCommand);
         };
         match import(self.alloc, device, dirty_max, self.moment) {
-            Ok(imported) => {
-                let synced = imported.group();
-                let records = imported.records();
-                self.place = Place::Pool(ScriptPool::new(
-                    self.alloc,
-                    PoolState::new(imported),
-                    self.moment,
-                ));
-                Ok(Answer::Imported {
-                    synced,
-                    open: Group(synced.0.saturating_add(1)),
-                    records,
-                })
-            }
-            Err((error, device)) => {
-                self.place = Place::Device(device);
-                Ok(Answer::refused(error))
-            }
+            Ok(imported) => Ok(self.keep_pool(imported)),
+            Err((error, device)) => Ok(self.give_back(error, device)),
+        }
+    }
+
+    // Keeps an imported pool, and tells what it is.
+    fn keep_pool(&mut self, imported: Imported<MemDevice>) -> Answer
+        ensures pool { IfPool self.new.place (IsPoolOf imported.device imported.mounted self.old.moment) }
+        ensures told { result ≡ answer_of imported.mounted }
+        ensures moment { self.new.moment ≡ self.old.moment }
+        ensures size { self.new.size ≡ self.old.size }
+    {
+        let synced = imported.group();
+        let records = imported.records();
+        self.place = Place::Pool(ScriptPool::new(
+            self.alloc,
+            PoolState::new(imported),
+            self.moment,
+        ));
+        Answer::Imported {
+            synced,
+            open: Group(synced.0.saturating_add(1)),
+            records,
         }
     }
 
@@ -224,7 +243,13 @@ struct ScriptPool {
 }
 
 impl ScriptPool {
-    fn new(alloc: Global, state: PoolState<MemDevice>, moment: u64) -> Self {
+    ghost use Rattle.pool_core.specs.StepReplies.{StepReplies};
+    ghost use Rattle.ztxg.specs.PoolSteps.{Asks, Finishes, Syncs, shown};
+
+    fn new(alloc: Global, state: PoolState<MemDevice>, moment: u64) -> Self
+        ensures state { result.state ≡ state }
+        ensures moment { result.moment ≡ moment }
+    {
         ScriptPool {
             alloc,
             state,
@@ -245,19 +270,25 @@ impl ScriptPool {
         state.into_device()
     }
 
-    fn run(&mut self, command: PoolCommand) -> Reply {
+    fn run(&mut self, command: PoolCommand) -> Reply
+        ensures asked { Asks command self.old.moment result (shown self.old) (shown self.new) }
+        ensures moment { self.new.moment ≡ self.old.moment }
+    {
         match command {
             PoolCommand::Begin(owner, plan) => or_refused(self.begin(owner, plan)),
             PoolCommand::Commit(tx, contents) => or_refused(self.commit(tx, contents)),
-            PoolCommand::Start => or_refused(self.start()),
-            PoolCommand::Finish => or_refused(self.finish()),
-            PoolCommand::Sync => or_refused(self.sync()),
+            PoolCommand::Start => self.start(),
+            PoolCommand::Finish => self.finish(),
+            PoolCommand::Sync => self.sync(),
             PoolCommand::Step(step) => self.state.step(step),
         }
     }
 
     // Opens a transaction and keeps its plan. The room for the plan is taken first.
-    fn begin(&mut self, owner: Owner, plan: Plan) -> Result<Reply, PoolError> {
+    fn begin(&mut self, owner: Owner, plan: Plan) -> Result<Reply, PoolError>
+        ensures moment { self.new.moment ≡ self.old.moment }
+        ensures device { self.new.state.device ≡ self.old.state.device }
+    {
         let shapes = Vec::from_slice(self.alloc, plan.as_slice())?;
         self.open.reserve(1)?;
         let (tx, group) = self.state.begin(owner, plan)?;
@@ -267,7 +298,10 @@ impl ScriptPool {
 
     // Commits with the bytes that the script gives. Without the plan, or where they are not one for each write of it, the
     // pool is given no operations, which no plan has, so that it refuses them in its own order.
-    fn commit(&mut self, tx: TxId, contents: Vec<Bytes>) -> Result<Reply, PoolError> {
+    fn commit(&mut self, tx: TxId, contents: Vec<Bytes>) -> Result<Reply, PoolError>
+        ensures moment { self.new.moment ≡ self.old.moment }
+        ensures device { self.new.state.device ≡ self.old.state.device }
+    {
         let ops = match self.open.iter().position(|open| open.tx == tx) {
             Some(index) => make_ops(self.alloc, self.open[index].shapes.as_slice(), contents)?,
             None => Ops::new(Vec::new(self.alloc)),
@@ -277,26 +311,51 @@ impl ScriptPool {
         Ok(Reply::Committed(receipt))
     }
 
-    fn start(&mut self) -> Result<Reply, PoolError> {
-        Ok(Reply::Syncing(self.state.start_sync(self.moment)?))
+    fn start(&mut self) -> Reply
+        ensures step { StepReplies (Step.StartSync self.old.moment) result (shown self.old) (shown self.new) }
+        ensures moment { self.new.moment ≡ self.old.moment }
+    {
+        self.state.step(Step::StartSync(self.moment))
     }
 
     // Takes the sync's steps until its group is synced.
-    fn finish(&mut self) -> Result<Reply, PoolError> {
+    fn finish(&mut self) -> Reply
+        ensures finished { Finishes result (shown self.old) (shown self.new) }
+        ensures moment { self.new.moment ≡ self.old.moment }
+    {
         for _step in 0..u64::MAX {
-            if let Progress::Synced(group) = self.state.sync_step()? {
-                return Ok(Reply::Synced(group));
+            match self.state.step(Step::SyncStep) {
+                Reply::More => {}
+                reply => return reply,
             }
         }
-        Ok(Reply::More)
+        Reply::More
     }
 
-    fn sync(&mut self) -> Result<Reply, PoolError> {
-        self.state.close_group()?;
-        self.state.mark_quiesced()?;
-        self.state.start_sync(self.moment)?;
+    fn sync(&mut self) -> Reply
+        ensures synced { Syncs self.old.moment result (shown self.old) (shown self.new) }
+        ensures moment { self.new.moment ≡ self.old.moment }
+    {
+        let closed = self.state.step(Step::CloseGroup);
+        if is_refused(&closed) {
+            return closed;
+        }
+        let quiesced = self.state.step(Step::MarkQuiesced);
+        if is_refused(&quiesced) {
+            return quiesced;
+        }
+        let started = self.start();
+        if is_refused(&started) {
+            return started;
+        }
         self.finish()
     }
+}
+
+fn is_refused(reply: &Reply) -> bool
+    ensures { result ≡ asked.is_refused reply.now }
+{
+    matches!(reply, Reply::Refused(_))
 }
 
 fn or_refused(answer: Result<Reply, PoolError>) -> Reply

@@ -1,4 +1,5 @@
-use crate::script::run_script;
+use crate::arguments::ScriptArguments;
+use crate::script::{run_opened, run_script};
 use std::alloc::Global;
 use std::io::{self, ErrorKind, Read, Write};
 use std::test::Fail;
@@ -99,13 +100,30 @@ const STEPS: Row = Row {
     answers: "ok\nsynced 8 open 9 records 0\nlock 0\ntx 0 group 9\nentry 0 group 9\nopen 10\nquiesced 9\nsyncing 9\nmore\nmore\nmore\nmore\nmore\nmore\nmore\ncrashed 4\nsynced 12 open 13 records 0\nlock 0\nrefused 9 NoObject\n",
 };
 
-/// A refused import leaves the device, and so does a create that is refused for its name. A size needs only whole sectors
-/// to be a pool's, and a last line needs no newline.
+/// A refused import leaves the device with its pool, and so does a create that is refused for its name. A size needs only
+/// whole sectors to be a pool's, and a last line needs no newline.
 const DEVICES: Row = Row {
     size: SIZE + 511,
-    script: "create 9 77\ncrash\nimport 4095\ncreate tank 0077\nimport 1048576\nimport 4095\ncrash\nbegin 1",
+    script: "create 9 77\ncrash\nimport 4095\ncreate tank 0077\nimport 1048576\nimport 4095\nimport 1099511627777\ncrash\nimport 1099511627776\ncreate 9 77\nimport 4096\ncrash\nbegin 1",
     status: 2,
-    answers: "refused 11 BadRange\ncrashed 0\nrefused 11 BadRange\nok\nsynced 8 open 9 records 0\nrefused 11 BadRange\ncrashed 0\nline 8: bad command\n",
+    answers: "refused 11 BadRange\ncrashed 0\nrefused 11 BadRange\nok\nsynced 8 open 9 records 0\nrefused 11 BadRange\nrefused 11 BadRange\ncrashed 0\nsynced 12 open 13 records 0\nrefused 11 BadRange\nsynced 16 open 17 records 0\ncrashed 0\nline 13: bad command\n",
+};
+
+/// A write across two records: two data blocks, the indirect block, the directory and the root, a flush, four uberblocks
+/// and a flush are eleven steps.
+const ELEVEN_STEPS: Row = Row {
+    size: SIZE,
+    script: "create tank 77\nimport 1048576\nlock 1 1 w 0 338688\nbegin 1 c:1 w:1:4030:4\ncommit 0 abcd\nclose\nquiesce\nstart\nstep\nfinish\nbegin 1 w:1:4030:4\ncommit 1 efgh\nclose\nquiesce\nstart\nstep\nstep\nstep\nstep\nstep\nstep\nstep\nstep\nstep\nstep\nstep\nbegin 1 w:1:4030:4\ncommit 2 ijkl\nclose\nquiesce\nstart\nfinish\nbegin 1 w:1:4030:4\ncommit 3 mnop\nsync\n",
+    status: 0,
+    answers: "ok\nsynced 8 open 9 records 0\nlock 0\ntx 0 group 9\nentry 0 group 9\nopen 10\nquiesced 9\nsyncing 9\nmore\nsynced 9\ntx 1 group 10\nentry 1 group 10\nopen 11\nquiesced 10\nsyncing 10\nmore\nmore\nmore\nmore\nmore\nmore\nmore\nmore\nmore\nmore\nsynced 10\ntx 2 group 11\nentry 2 group 11\nopen 12\nquiesced 11\nsyncing 11\nsynced 11\ntx 3 group 12\nentry 3 group 12\nsynced 12\n",
+};
+
+/// The owner stands before the object. A gap before a write is zeros, two digits each, and behind it there are no bytes.
+const NUMBERS: Row = Row {
+    size: SIZE,
+    script: "create tank 77\nimport 1048576\nlock 2 1 w 0 338688\nbegin 1 c:1\nbegin 2 c:1 w:1:2:2\ncommit 0 ab\nread 2 1 0 10\nread 2 1 4 10\nread 1 1 0 4\nread 1 2 0 4\nunlock 1 0\nunlock 2 0\nread 2 1 0 4\n",
+    status: 0,
+    answers: "ok\nsynced 8 open 9 records 0\nlock 0\nrefused 13 NotLocked\ntx 0 group 9\nentry 0 group 9\nbytes 4 00006162\nbytes 0\nrefused 13 NotLocked\nrefused 13 NotLocked\nrefused 21 NoSuchLock\nok\nrefused 13 NotLocked\n",
 };
 
 /// A plan with no shape is the pool's to refuse.
@@ -125,7 +143,17 @@ fn run(alloc: Global, row: &Row) -> Result<(u8, String), Fail> {
 
 #[test]
 fn prints_the_answers_of_whole_scripts(rt: HostRuntime) -> Result<(), Fail> {
-    for row in [FIRST_PATH, LOCKS, RANGES, WORDS, STEPS, DEVICES, NO_SHAPE] {
+    for row in [
+        FIRST_PATH,
+        LOCKS,
+        RANGES,
+        WORDS,
+        STEPS,
+        DEVICES,
+        ELEVEN_STEPS,
+        NUMBERS,
+        NO_SHAPE,
+    ] {
         let (status, text) = run(rt.alloc(), &row)?;
         assert_eq!(rt; text.as_str(), row.answers);
         assert_eq!(rt; status, row.status);
@@ -189,6 +217,39 @@ fn takes_no_other_form_of_a_line(rt: HostRuntime) -> Result<(), Fail> {
         answer(rt.alloc(), b"create t\xff 77")?.as_str(),
         "line 1: bad command\n"
     );
+    Ok(())
+}
+
+#[test]
+fn skips_comments_of_any_bytes_and_any_number_of_lines(rt: HostRuntime) -> Result<(), Fail> {
+    assert_eq!(rt;
+        answer(rt.alloc(), b"#\xff\n# \xc3\n\nnothing\n")?.as_str(),
+        "line 4: bad command\n"
+    );
+    let lines = "\n".repeat(rt.alloc(), 2000)?;
+    let mut script = lines.into_bytes();
+    script.extend_from_slice(b"nothing")?;
+    assert_eq!(rt;
+        answer(rt.alloc(), script.as_slice())?.as_str(),
+        "line 2001: bad command\n"
+    );
+    Ok(())
+}
+
+#[test]
+fn tells_of_a_script_that_is_not_opened(rt: HostRuntime) -> Result<(), Fail> {
+    let arguments = ScriptArguments {
+        size: SIZE,
+        script: "no/script",
+        moment: 0,
+    };
+    let opened: io::Result<&[u8]> = Err(io::Error::from(ErrorKind::NotFound));
+    let mut out = Vec::new(rt.alloc());
+    let mut errors = Vec::new(rt.alloc());
+    let status = run_opened(rt.alloc(), arguments, opened, &mut out, &mut errors);
+    assert_eq!(rt; status, 3);
+    assert!(rt; out.is_empty());
+    assert!(rt; errors.as_slice() == b"ztxg: cannot use no/script\n".as_slice());
     Ok(())
 }
 
