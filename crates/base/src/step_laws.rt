@@ -1,5 +1,6 @@
 //! What each step keeps of a pool: each function's contract is a law, and its body does nothing.
 
+ghost use Rattle.base.specs.Additions.{PastsAreTold, PastsGrow};
 ghost use Rattle.base.specs.ExactNow.{StepsKeepTables, RunsKeepTables, NewPoolsAreExplained};
 ghost use Rattle.base.specs.SyncEnds.{SuspendedPoolsRefuse, SyncsEndOnTime};
 
@@ -26,4 +27,14 @@ pub fn syncs_end_on_time()
 /// A suspended pool refuses each step, and nothing changes.
 pub fn suspended_pools_refuse()
     ensures { SuspendedPoolsRefuse }
+{}
+
+/// The past after a step is told by the step, its reply and the state before it, over whichever device.
+pub fn pasts_are_told()
+    ensures { PastsAreTold }
+{}
+
+/// From step to step the past only grows.
+pub fn pasts_grow()
+    ensures { PastsGrow }
 {}
