@@ -4,7 +4,7 @@ use Rattle.base.specs.declared.step.Step as declared_step
 use Rattle.base.specs.declared.step.Reply as declared_reply
 use Rattle.base.specs.Limits.{last_number}
 use Rattle.base.specs.Contents.{Contents}
-use Rattle.base.specs.History.{IsHistory}
+use Rattle.base.specs.History.{IsHistory, IsInGroupOrder}
 use Rattle.base.specs.Uberblocks.{Uberblock}
 use Rattle.base.specs.Past.{Past, new_past}
 use Rattle.base.specs.Shown.{Shown}
@@ -17,6 +17,7 @@ use Rattle.base.specs.Imports.{IsImported}
 pub record IsExactNow (s : Shown) (past : Past) : Type 0 where
   pub locks : AreLocksExact s past
   pub groups : AreGroupsExact s past
+  pub order : IsInGroupOrder past.entries
   pub isolated : AreIsolated s past
   pub log : IsLogExact s past
   pub bounded : IsBounded s.contents
