@@ -33,6 +33,10 @@ pub record IsExplainedNow (s : Shown) (past : Past) : Type 0 where
 abbrev pub IsRun : Type 0 → List declared_step.Step → List declared_reply.Reply → State → State → Type 0
 IsRun keeps = Run (λ step reply old new. (now : List ℕ) × Step keeps now step reply old new)
 
+-- some steps with some replies lead from the one state to the other, over devices of which nothing is known
+abbrev pub GoesOn : State → State → Type 0
+GoesOn before after = (steps : List declared_step.Step) × (replies : List declared_reply.Reply) × IsRun ⊥ steps replies before after
+
 -- each step keeps this, over a device of which nothing is known: the steps over a device that keeps the disk model are among these
 abbrev pub StepsKeepTables : Type 0
 StepsKeepTables = (now : List ℕ) (step : declared_step.Step) (reply : declared_reply.Reply) (old new : State) → Step ⊥ now step reply old new

@@ -46,7 +46,7 @@ pub use status::Status;
 pub use step::{Reply, Step};
 pub use step_laws::{
     new_pools_are_explained, pasts_are_told, pasts_grow, runs_keep_tables, steps_keep_tables,
-    suspended_pools_refuse, syncs_end_on_time,
+    suspended_pools_refuse, suspended_pools_stay, syncs_end_on_time,
 };
 
 #[cfg(test)]

@@ -2,7 +2,7 @@
 
 ghost use Rattle.base.specs.Additions.{PastsAreTold, PastsGrow};
 ghost use Rattle.base.specs.ExactNow.{StepsKeepTables, RunsKeepTables, NewPoolsAreExplained};
-ghost use Rattle.base.specs.SyncEnds.{SuspendedPoolsRefuse, SyncsEndOnTime};
+ghost use Rattle.base.specs.SyncEnds.{SuspendedPoolsRefuse, SuspendedPoolsStay, SyncsEndOnTime};
 
 /// Each step keeps what is shown of a pool exact, and its entries a history that leads to its contents.
 pub fn steps_keep_tables()
@@ -24,7 +24,12 @@ pub fn syncs_end_on_time()
     ensures { SyncsEndOnTime }
 {}
 
-/// A suspended pool refuses each step, and nothing changes.
+/// A suspended pool stays as it is.
+pub fn suspended_pools_stay()
+    ensures { SuspendedPoolsStay }
+{}
+
+/// It refuses each step that is built: name, status and durable, which are never refused, are not among them yet.
 pub fn suspended_pools_refuse()
     ensures { SuspendedPoolsRefuse }
 {}
