@@ -55,3 +55,4 @@ pub mod StoredWrites
 pub mod StoredImports
 pub mod StoredRuns
 pub mod SyncEnds
+pub mod SeenStates
