@@ -56,3 +56,4 @@ pub mod StoredImports
 pub mod StoredRuns
 pub mod SyncEnds
 pub mod SeenStates
+pub mod SeenGroups

@@ -46,11 +46,11 @@ use Rattle.base.proofs.KeptGroups.{held_above}
 use Rattle.base.proofs.KeptTables.{steps_keep_tables}
 use Rattle.base.proofs.SyncEnds.{suspended_pools_stay}
 
-grown : (s t : State) → GoesOn s t → Grows s.past t.past
+pub grown : (s t : State) → GoesOn s t → Grows s.past t.past
 grown s t (ss, rs, run) = runs_grow ss rs s t run
 
 -- what is at a place stays there, and a longer list is no shorter
-at-prefix : {A : Type 0} (xs ys : List A) (i : ℕ) (x : A) → IsPrefixOf xs ys → slice_get xs i ≡ Some x → slice_get ys i ≡ Some x
+pub at-prefix : {A : Type 0} (xs ys : List A) (i : ℕ) (x : A) → IsPrefixOf xs ys → slice_get xs i ≡ Some x → slice_get ys i ≡ Some x
 at-prefix {A} xs ys i x (more, is) at = subst (λ (l : List A). slice_get l i ≡ Some x) (sym is) (stays xs i at)
   where
     stays : (l : List A) (k : ℕ) → slice_get l k ≡ Some x → slice_get (l ++ more) k ≡ Some x
