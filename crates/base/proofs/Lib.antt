@@ -57,3 +57,4 @@ pub mod StoredRuns
 pub mod SyncEnds
 pub mod SeenStates
 pub mod SeenGroups
+pub mod SeenRefusals

@@ -1,5 +1,5 @@
 -- The synced and the open group only go up, and what is shown as durable is known to be so from then on.
-use Rattle.std.proofs.Common.{◌≡◌, ℕ, zero, suc, ◌+◌, ◌<◌, ◌≤◌, Bool, true, false, ◌&&◌, ◌||◌, List, [], ◌∷◌, ◌++◌, refl, ap, sym, subst, ◌∙◌, arith, ◌⊎◌, inl, inr}
+use Rattle.std.proofs.Common.{◌≡◌, ℕ, zero, suc, ◌+◌, ◌<◌, ◌≤◌, true, false, ◌&&◌, List, [], ◌∷◌, refl, ap, sym, subst, ◌∙◌, arith, inl, inr}
 use Rattle.std.specs.Prelude.{Option, Some, None, Result, Ok, Err, IfSome, slice_get, nat_le}
 use Rattle.std.specs.List.{list_any}
 use Rattle.std.proofs.lemmas.Bool.{and_parts, or_cases, leb-true}
@@ -8,20 +8,16 @@ use Rattle.base.specs.declared.step.Step as declared_step
 use Rattle.base.specs.declared.step.Step.TheVariants as step
 use Rattle.base.specs.declared.step.Reply as declared_reply
 use Rattle.base.specs.History.{Entry}
-use Rattle.base.specs.Locks.{is_in}
 use Rattle.base.specs.Groups.{Line}
-use Rattle.base.specs.Past.{Past, Grows}
+use Rattle.base.specs.Past.{Grows}
 use Rattle.base.specs.Logs.{KeptBlock, Committed, has_record, is_flushed_in}
-use Rattle.base.specs.Shown.{Shown, SyncPlan, is_durable}
-use Rattle.base.specs.Refusals as refusal
-use Rattle.base.specs.Stage as stage
+use Rattle.base.specs.Shown.{SyncPlan, is_durable}
 use Rattle.base.specs.Steps.{State, Answers, Progress, IsProgress}
 use Rattle.base.specs.Steps.Progress.{More, Synced}
 use Rattle.base.specs.Runs.{Step}
 use Rattle.base.specs.ExactNow.{IsExplainedNow, IsRun, GoesOn}
 use Rattle.base.specs.Seen.{IsKnownDurable, IsPoolSynced}
 use Rattle.base.proofs.CommitOrder.{ok-none}
-use Rattle.base.proofs.KeptLists.{any_at, none_any}
 use Rattle.base.proofs.KeptGroups.{held_above}
 use Rattle.base.proofs.KeptTables.{steps_keep_tables}
 use Rattle.base.proofs.SeenStates.{grown, at-prefix}

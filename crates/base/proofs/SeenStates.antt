@@ -1,13 +1,10 @@
 -- What a reply says to a thread is told by the step that was made between the two states that it had seen and has seen.
-use Rattle.std.proofs.Common.{◌≡◌, ℕ, zero, suc, ◌+◌, ◌<◌, ◌≤◌, Bool, true, false, not, ◌&&◌, ◌||◌, List, [], ◌∷◌, ◌++◌, length, refl, ap, sym, subst, ◌∙◌, arith, ◌⊎◌, inl, inr}
-use Rattle.std.specs.Prelude.{Option, Some, None, Result, Ok, Err, IfSome, is_some, is_none, option_map, slice_get, take, nat_le, nat_lt, filter, unwrap_or, ◌==◌}
+use Rattle.std.proofs.Common.{◌≡◌, ℕ, zero, suc, ◌+◌, ◌≤◌, Bool, true, false, not, ◌&&◌, List, [], ◌∷◌, ◌++◌, length, refl, ap, sym, subst, ◌∙◌, arith}
+use Rattle.std.specs.Prelude.{Option, Some, None, Ok, Err, IfSome, is_none, option_map, slice_get, take, ◌==◌}
 use Rattle.std.specs.FinMap as finite
-use Rattle.std.specs.List.{list_any, list_all}
-use Rattle.std.proofs.lemmas.Bool.{eq-eqb, and_parts, or_cases, or_left, or_right, eqb-true, leb-true, not-false, not_from_false, false≢true}
+use Rattle.std.proofs.lemmas.Bool.{eq-eqb, and_parts, or_left, or_right, eqb-true, false≢true}
 use Rattle.std.proofs.lemmas.List.Folds.{list_any-append}
 use Rattle.std.proofs.lemmas.List.{length-append}
-use Rattle.base.specs.declared.error.PoolError.{PoolError}
-use Rattle.base.specs.declared.error.PoolError.TheVariants as error
 use Rattle.base.specs.declared.names.Group.{Group}
 use Rattle.base.specs.declared.names.LockId.{LockId}
 use Rattle.base.specs.declared.names.ObjectId.{ObjectId}
@@ -18,17 +15,14 @@ use Rattle.base.specs.declared.operation.Op.{Op}
 use Rattle.base.specs.declared.operation.Shape.{Shape}
 use Rattle.base.specs.declared.range.Mode.{Mode}
 use Rattle.base.specs.declared.range.Range.{Range}
-use Rattle.base.specs.declared.step.Step as declared_step
 use Rattle.base.specs.declared.step.Step.TheVariants as step
-use Rattle.base.specs.declared.step.Reply as declared_reply
 use Rattle.base.specs.declared.step.Reply.TheVariants as reply
-use Rattle.base.specs.Contents.{Contents, length_of}
+use Rattle.base.specs.Contents.{length_of}
 use Rattle.base.specs.History.{Entry, replay}
 use Rattle.base.specs.Locks.{Grant, is_in}
-use Rattle.base.specs.Groups.{Line, Middle, before_middle, before_open, IsLine, Admission}
+use Rattle.base.specs.Groups.{Admission}
 use Rattle.base.specs.Past.{Past, Grows, IsPrefixOf}
-use Rattle.base.specs.Logs.{KeptBlock, Committed, has_record}
-use Rattle.base.specs.Shown.{Shown, SyncPlan, is_durable}
+use Rattle.base.specs.Shown.{Shown}
 use Rattle.base.specs.Refusals as refusal
 use Rattle.base.specs.Refusals.{object_range}
 use Rattle.base.specs.Stage as stage
@@ -37,14 +31,11 @@ use Rattle.base.specs.Steps.{State, Answers, Progress, IsProgress}
 use Rattle.base.specs.Steps.Progress.{More, Synced}
 use Rattle.base.specs.Additions.{past_after}
 use Rattle.base.specs.Runs.{Step}
-use Rattle.base.specs.ExactNow.{IsExplainedNow, IsRun, GoesOn}
-use Rattle.base.specs.Seen.{IsMadeBetween, IsContentsBetween, IsCommitted, IsAdmitted, IsGranted, IsLetGo, IsReadBetween, IsKnownDurable, IsPoolSynced, IsRefusedBetween}
+use Rattle.base.specs.ExactNow.{IsExplainedNow, GoesOn}
+use Rattle.base.specs.Seen.{IsMadeBetween, IsContentsBetween, IsCommitted, IsAdmitted, IsGranted, IsLetGo, IsReadBetween}
 use Rattle.base.proofs.Additions.{told_past, runs_grow}
 use Rattle.base.proofs.CommitOrder.{ok-none, no_refusal}
 use Rattle.base.proofs.KeptLists.{at_last, found_at, at_filter, none_at}
-use Rattle.base.proofs.KeptGroups.{held_above}
-use Rattle.base.proofs.KeptTables.{steps_keep_tables}
-use Rattle.base.proofs.SyncEnds.{suspended_pools_stay}
 
 pub grown : (s t : State) → GoesOn s t → Grows s.past t.past
 grown s t (ss, rs, run) = runs_grow ss rs s t run
@@ -158,8 +149,7 @@ held-grant owner id s p x g is =
     let both = and_parts (g.id == id) (g.owner == owner) found.2 in
     let named : g.id ≡ id = eqb-true g.id id both.0 in
     let kept = at_filter (λ (h : Grant). not (is_in h.id p.let_go)) p.grants found.0 g (subst (λ ls. slice_get ls found.0 ≡ Some g) x.exact.locks.held found.1) in
-    let place : kept.0 ≡ id = sym (x.exact.locks.numbered kept.0 g kept.1) ∙ named in
-    (
+    let place : kept.0 ≡ id = sym (x.exact.locks.numbered kept.0 g kept.1) ∙ named in (
       subst (λ i. slice_get p.grants i ≡ Some g) place kept.1,
       eqb-true g.owner owner both.1,
       ap (λ i. is_in i p.let_go) (sym named) ∙ not-true (is_in g.id p.let_go) kept.2,
@@ -218,8 +208,7 @@ reads_are_seen owner n range bytes before after m = read m.made
         let done = ok-none (refusal.read_refusal owner.0 wanted m.old.shown) bs m.old m.new _ _ h in
         let some = there m.old.shown (finite.get m.old.shown.contents.objects n.0) refl (no_refusal (refusal.read_tests owner.0 wanted m.old.shown) done.0 3 _ refl) in
         let same : bytes ≡ bs = cc in
-        let no_later : GoesOn m.old after = subst (λ (s : State). GoesOn s after) done.1.1 m.no_later in
-        (
+        let no_later : GoesOn m.old after = subst (λ (s : State). GoesOn s after) done.1.1 m.no_later in (
           m.old.shown.contents,
           contents_are_between before m.old after m.explained m.no_earlier no_later,
           (some.0, some.1, same ∙ subst (λ (o : Option (List ℕ)). IfSome o (λ all. bs ≡ steps.bytes_in wanted all)) some.1 (done.1.0 tt)),

@@ -13,6 +13,7 @@ mod piece;
 mod pointer;
 mod pool_name;
 mod range;
+mod seen_laws;
 mod status;
 mod step;
 mod step_laws;
@@ -42,6 +43,11 @@ pub use piece::Piece;
 pub use pointer::Pointer;
 pub use pool_name::{MAX_NAME, PoolName, is_name};
 pub use range::{Mode, Range};
+pub use seen_laws::{
+    begins_are_seen, commits_are_seen, contents_are_between, durable_is_known, groups_go_up,
+    locks_are_seen, pool_syncs_sync, reads_are_seen, refusals_suspend, suspensions_are_seen,
+    unlocks_are_seen,
+};
 pub use status::Status;
 pub use step::{Reply, Step};
 pub use step_laws::{
