@@ -1,5 +1,5 @@
 -- Each step keeps what is shown of a pool exact, and its entries a history.
-use Rattle.std.proofs.Common.{rules, ◌≡◌, ℕ, ◌+◌, ◌<◌, ◌≤◌, Bool, true, false, not, ◌&&◌, List, [], ◌∷◌, ◌++◌, length, map, refl, ap, sym, subst, ◌∙◌, arith}
+use Rattle.std.proofs.Common.{rules, ◌≡◌, ℕ, ◌+◌, ◌<◌, ◌≤◌, Bool, true, false, not, ◌&&◌, List, [], ◌∷◌, ◌++◌, length, map, refl, ap, sym, subst, ◌∙◌, arith, ◌⊎◌, inl, inr}
 use Rattle.std.specs.Prelude.{Option, Some, None, Result, Ok, Err, is_some, is_none, slice_get, option_map, IfSome, filter, nat_lt, nat_le, All, ◌==◌}
 use Rattle.std.specs.List.{list_all, list_any}
 use Rattle.std.specs.Option.{option_map_or}
@@ -24,7 +24,7 @@ use Rattle.base.specs.Groups.{Admission, admitted_of, open_transactions, hold_co
 use Rattle.base.specs.Uberblocks.{Uberblock}
 use Rattle.base.specs.Past.{Past, new_past}
 use Rattle.base.specs.Shown.{Shown, SyncPlan}
-use Rattle.base.specs.Records.{IsAllowed, is_content_allowed}
+use Rattle.base.specs.Records.{Record, IsAllowed, is_content_allowed}
 use Rattle.base.specs.Exact.{IsBounded}
 use Rattle.base.specs.Imports.{IsImported}
 use Rattle.base.specs.Refusals as refusal
@@ -34,7 +34,7 @@ use Rattle.base.specs.Steps.{State, Answers, Progress}
 use Rattle.base.specs.Steps.Progress.{More, Synced}
 use Rattle.base.specs.Stage as stage
 use Rattle.base.specs.Runs.{Step}
-use Rattle.base.specs.ExactNow.{IsExplainedNow, IsRun}
+use Rattle.base.specs.ExactNow.{IsExplainedNow, IsRun, IsLogStep}
 use Rattle.base.proofs.Cuts.{histories_grow}
 use Rattle.base.proofs.Projections.{plans_touch}
 use Rattle.base.proofs.CommitOrder.{no_refusal, ok-none, found-plan, All-at}
@@ -45,6 +45,8 @@ use Rattle.base.proofs.KeptLocks.{same_locks, lock_keeps, unlock_keeps}
 use Rattle.base.proofs.KeptGroups.{same_groups, begin_keeps, commit_keeps, close_keeps, quiesce_keeps, start_keeps, sync_keeps, open_is, held_above, quiescing_is, quiesced_is, none_there}
 use Rattle.base.proofs.KeptIsolation.{same_isolated, lock_isolated, unlock_isolated, begin_isolated, covered_without}
 use Rattle.base.proofs.KeptLog.{same_log, commit_log, sync_log}
+use Rattle.base.proofs.KeptWrites.{write_log, write_sync}
+use Rattle.base.proofs.KeptFlushes.{flush_log, flush_sync}
 use Rattle.base.proofs.KeptContents.{operations_keep}
 use Rattle.base.proofs.KeptSyncs.{same_sync, start_sync, step_sync, end_sync}
 
@@ -438,6 +440,54 @@ runs_keep_tables keeps [] [] old new h x = same_step old new x h
 runs_keep_tables keeps (s ∷ ss) (r ∷ rs) old new (middle, (now, one), rest) x = runs_keep_tables keeps ss rs middle new rest (steps_keep_tables keeps now s r old middle one x)
 runs_keep_tables keeps [] (r ∷ rs) old new h x = absurd h
 runs_keep_tables keeps (s ∷ ss) [] old new h x = absurd h
+
+-- a write of the log, and a flush of it
+log_write_state : (taken rest : List Record) (address : ℕ) (s : State) → IsExplainedState s → s.shown.log.pending ≡ taken ++ rest → IsExplainedState (steps.state_after_log_write taken rest address s)
+log_write_state taken rest address s x split =
+    let t : State = steps.state_after_log_write taken rest address s in
+    record {
+      exact = record {
+        locks = same_locks s.shown t.shown s.past t.past x.exact.locks;
+        groups = same_groups s.shown t.shown s.past t.past x.exact.groups;
+        order = x.exact.order;
+        isolated = same_isolated s.shown t.shown s.past t.past x.exact.isolated;
+        log = write_log s.shown t.shown s.past t.past x.exact.log taken rest address split;
+        bounded = x.exact.bounded;
+        sync = write_sync s.shown t.shown s.past t.past x.exact.log taken rest address split x.exact.sync;
+        limit = x.exact.limit;
+      };
+      history = x.history;
+    }
+
+log_flush_state : (s : State) → IsExplainedState s → IsExplainedState (steps.state_after_log_flush s)
+log_flush_state s x =
+    let t : State = steps.state_after_log_flush s in
+    record {
+      exact = record {
+        locks = same_locks s.shown t.shown s.past t.past x.exact.locks;
+        groups = same_groups s.shown t.shown s.past t.past x.exact.groups;
+        order = x.exact.order;
+        isolated = same_isolated s.shown t.shown s.past t.past x.exact.isolated;
+        log = flush_log s.shown t.shown s.past t.past x.exact.log;
+        bounded = x.exact.bounded;
+        sync = flush_sync s.shown t.shown s.past t.past x.exact.log x.exact.sync;
+        limit = x.exact.limit;
+      };
+      history = x.history;
+    }
+
+refused_log_write : (given : PoolError) (old new : State) → IsExplainedState old
+    → steps.WantsMemory old new given ⊎ ((given ≡ error.Write) × ((taken rest : List Record) × (address : ℕ) × steps.TakesForLog old taken rest address × (new ≡ steps.suspended_state (steps.state_after_log_write taken rest address old))))
+    → IsExplainedState new
+refused_log_write given old new x (inl memory) = same_step old new x memory.1
+refused_log_write given old new x (inr (is, (taken, rest, address, takes, same))) =
+    subst IsExplainedState (sym same) (suspended_state (steps.state_after_log_write taken rest address old) (log_write_state taken rest address old x takes.packed.front))
+
+pub log_steps_keep_tables : (old new : State) → IsLogStep old new → IsExplainedNow old.shown old.past → IsExplainedNow new.shown new.past
+log_steps_keep_tables old new (inl (answer, h)) x = by_answer answer (refusal.log_write_refusal old.shown) old new _ _
+    (λ count none d. subst IsExplainedState (sym d.5) (log_write_state d.0 d.1 d.2 old x d.3.packed.front)) (λ e own. refused_log_write e old new x own) x h
+log_steps_keep_tables old new (inr (answer, h)) x = by_answer answer (refusal.log_flush_refusal old.shown) old new _ _
+    (λ a none d. subst IsExplainedState (sym d) (log_flush_state old x)) (λ e own. subst IsExplainedState (sym own.1) (suspended_state old x)) x h
 
 -- a pool that was just imported
 pub new_pools_are_explained : (u : Uberblock) (blocks : ℕ) (contents : Contents) (created dirty_max : ℕ) (s : Shown) → IsImported u blocks contents dirty_max s → IsBounded contents

@@ -35,6 +35,8 @@ pub mod KeptIsolation
 pub mod KeptSyncs
 pub mod KeptContents
 pub mod KeptLog
+pub mod KeptWrites
+pub mod KeptFlushes
 pub mod PlacedTrees
 pub mod PlannedTrees
 pub mod UntouchedRecords

@@ -1,5 +1,5 @@
 -- What a reply says to a thread is told by the step that was made between the two states that it had seen and has seen.
-use Rattle.std.proofs.Common.{◌≡◌, ℕ, zero, suc, ◌+◌, ◌≤◌, Bool, true, false, not, ◌&&◌, List, [], ◌∷◌, ◌++◌, length, refl, ap, sym, subst, ◌∙◌, arith}
+use Rattle.std.proofs.Common.{◌≡◌, ℕ, ◌+◌, ◌≤◌, Bool, true, false, not, ◌&&◌, List, [], ◌∷◌, ◌++◌, length, refl, ap, sym, subst, ◌∙◌, arith}
 use Rattle.std.specs.Prelude.{Option, Some, None, Ok, Err, IfSome, is_none, option_map, slice_get, take, ◌==◌}
 use Rattle.std.specs.FinMap as finite
 use Rattle.std.proofs.lemmas.Bool.{eq-eqb, and_parts, or_left, or_right, eqb-true, false≢true}
@@ -35,19 +35,14 @@ use Rattle.base.specs.ExactNow.{IsExplainedNow, GoesOn}
 use Rattle.base.specs.Seen.{IsMadeBetween, IsContentsBetween, IsCommitted, IsAdmitted, IsGranted, IsLetGo, IsReadBetween}
 use Rattle.base.proofs.Additions.{told_past, runs_grow}
 use Rattle.base.proofs.CommitOrder.{ok-none, no_refusal}
-use Rattle.base.proofs.KeptLists.{at_last, found_at, at_filter, none_at}
+use Rattle.base.proofs.KeptLists.{at_front, at_last, found_at, at_filter}
 
 pub grown : (s t : State) → GoesOn s t → Grows s.past t.past
 grown s t (ss, rs, run) = runs_grow ss rs s t run
 
 -- what is at a place stays there, and a longer list is no shorter
 pub at-prefix : {A : Type 0} (xs ys : List A) (i : ℕ) (x : A) → IsPrefixOf xs ys → slice_get xs i ≡ Some x → slice_get ys i ≡ Some x
-at-prefix {A} xs ys i x (more, is) at = subst (λ (l : List A). slice_get l i ≡ Some x) (sym is) (stays xs i at)
-  where
-    stays : (l : List A) (k : ℕ) → slice_get l k ≡ Some x → slice_get (l ++ more) k ≡ Some x
-    stays [] k h = absurd (none_at k x h)
-    stays (y ∷ l) zero h = h
-    stays (y ∷ l) (suc k) h = stays l k h
+at-prefix {A} xs ys i x (more, is) at = subst (λ (l : List A). slice_get l i ≡ Some x) (sym is) (at_front xs more i x at)
 
 no-shorter : {A : Type 0} (xs ys : List A) → IsPrefixOf xs ys → length xs ≤ length ys
 no-shorter xs ys (more, is) = let same : length ys ≡ length xs + length more = ap length is ∙ length-append xs more in omega arith

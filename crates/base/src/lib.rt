@@ -51,8 +51,8 @@ pub use seen_laws::{
 pub use status::Status;
 pub use step::{Reply, Step};
 pub use step_laws::{
-    new_pools_are_explained, pasts_are_told, pasts_grow, runs_keep_tables, steps_keep_tables,
-    suspended_pools_refuse, suspended_pools_stay, syncs_end_on_time,
+    log_steps_keep_tables, new_pools_are_explained, pasts_are_told, pasts_grow, runs_keep_tables,
+    steps_keep_tables, suspended_pools_refuse, suspended_pools_stay, syncs_end_on_time,
 };
 
 #[cfg(test)]

@@ -1,7 +1,7 @@
 //! What each step keeps of a pool: each function's contract is a law, and its body does nothing.
 
 ghost use Rattle.base.specs.Additions.{PastsAreTold, PastsGrow};
-ghost use Rattle.base.specs.ExactNow.{StepsKeepTables, RunsKeepTables, NewPoolsAreExplained};
+ghost use Rattle.base.specs.ExactNow.{StepsKeepTables, RunsKeepTables, LogStepsKeepTables, NewPoolsAreExplained};
 ghost use Rattle.base.specs.SyncEnds.{SuspendedPoolsRefuse, SuspendedPoolsStay, SyncsEndOnTime};
 
 /// Each step keeps what is shown of a pool exact, and its entries a history that leads to its contents.
@@ -12,6 +12,11 @@ pub fn steps_keep_tables()
 /// So do steps one after another.
 pub fn runs_keep_tables()
     ensures { RunsKeepTables }
+{}
+
+/// And so do the steps of the log: a write, answered or refused, and a flush.
+pub fn log_steps_keep_tables()
+    ensures { LogStepsKeepTables }
 {}
 
 /// A pool that was just imported is exact with the empty past.
