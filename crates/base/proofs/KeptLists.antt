@@ -1,5 +1,5 @@
 -- Elements of lists by their places: one more at the end, and what a filter keeps.
-use Rattle.std.proofs.Common.{◌≡◌, ℕ, zero, suc, ◌<◌, Bool, true, false, ◌||◌, List, [], ◌∷◌, ◌++◌, length, refl, ap, sym, ◌∙◌, arith}
+use Rattle.std.proofs.Common.{◌≡◌, ℕ, zero, suc, ◌<◌, Bool, true, false, ◌||◌, List, [], ◌∷◌, ◌++◌, length, map, refl, ap, sym, ◌∙◌, arith}
 use Rattle.std.specs.Prelude.{Some, None, slice_get, filter, cond, find}
 use Rattle.std.specs.List.{list_any, list_all}
 use Rattle.std.proofs.lemmas.Bool.{or_right, or_from, and_parts, and_from}
@@ -14,6 +14,11 @@ pub at_old : {A : Type 0} (xs : List A) (x y : A) (i : ℕ) → slice_get xs i �
 at_old [] x y i at = absurd (none_at i y at)
 at_old (z ∷ xs) x y zero at = at
 at_old (z ∷ xs) x y (suc i) at = at_old xs x y i at
+
+pub at_front : {A : Type 0} (xs ys : List A) (i : ℕ) (x : A) → slice_get xs i ≡ Some x → slice_get (xs ++ ys) i ≡ Some x
+at_front [] ys i x at = absurd (none_at i x at)
+at_front (z ∷ xs) ys zero x at = at
+at_front (z ∷ xs) ys (suc i) x at = at_front xs ys i x at
 
 pub at_last : {A : Type 0} (xs : List A) (x : A) → slice_get (xs ++ x ∷ []) (length xs) ≡ Some x
 at_last [] x = refl
@@ -70,6 +75,20 @@ none_any p (y ∷ ys) (suc i) x none at = none_any p ys i x (or-false (p y) (lis
 pub any_none : {A : Type 0} (p : A → Bool) (xs : List A) → ((i : ℕ) (x : A) → slice_get xs i ≡ Some x → p x ≡ false) → list_any p xs ≡ false
 any_none p [] each = refl
 any_none p (y ∷ ys) each = or_from (p y) (list_any p ys) (each zero y refl) (any_none p ys (λ i x at. each (suc i) x at))
+
+-- where one passes a test, it is found
+pub any_found : {A : Type 0} (p : A → Bool) (xs : List A) → list_any p xs ≡ true → (i : ℕ) × (x : A) × (slice_get xs i ≡ Some x) × (p x ≡ true)
+any_found p [] is = absurd (let no_way : false ≡ true = is in cc)
+any_found {A} p (y ∷ ys) is = go (p y) refl is (λ h. any_found p ys h)
+  where
+    go : (b : Bool) → p y ≡ b → (b || list_any p ys) ≡ true → (list_any p ys ≡ true → (i : ℕ) × (x : A) × (slice_get ys i ≡ Some x) × (p x ≡ true)) → (i : ℕ) × (x : A) × (slice_get (y ∷ ys) i ≡ Some x) × (p x ≡ true)
+    go true passes h rest = (zero, y, refl, passes)
+    go false fails h rest = let found : (i : ℕ) × (x : A) × (slice_get ys i ≡ Some x) × (p x ≡ true) = rest h in (suc found.0, found.1, found.2, found.3)
+
+-- a test of what is made of each element
+pub any_map : {A B : Type 0} (p : B → Bool) (f : A → B) (xs : List A) → list_any p (map f xs) ≡ list_any (λ x. p (f x)) xs
+any_map p f [] = refl
+any_map p f (x ∷ xs) = ap (λ b. p (f x) || b) (any_map p f xs)
 
 -- two tests that agree on a list's elements keep the same
 pub filter_same : {A : Type 0} (p q : A → Bool) (xs : List A) → ((i : ℕ) (x : A) → slice_get xs i ≡ Some x → p x ≡ q x) → filter p xs ≡ filter q xs

@@ -26,7 +26,7 @@ pub same_log : (s t : Shown) (p q : Past) → IsLogExact s p
 same_log s t p q x = record { next = x.next; allowed = x.allowed; pending = x.pending; in_order = x.in_order; known = x.known; numbered = x.numbered; acknowledged = x.acknowledged; no_others = x.no_others }
 
 -- the record of an entry, by its ordinal
-abbrev record_of : ℕ × Entry → Record
+abbrev pub record_of : ℕ × Entry → Record
 record_of p = record { group = p.1.group; ordinal = p.0; ops = p.1.ops }
 
 enumerate_push : {X : Type 0} (n : ℕ) (xs : List X) (x : X) → enumerate_from n (xs ++ x ∷ []) ≡ enumerate_from n xs ++ (n + length xs, x) ∷ []

@@ -1,5 +1,5 @@
 -- Each step keeps what is shown of a pool exact, and its entries a history.
-use Rattle.std.proofs.Common.{rules, ◌≡◌, ℕ, ◌+◌, ◌<◌, ◌≤◌, Bool, true, false, not, ◌&&◌, List, [], ◌∷◌, ◌++◌, length, map, refl, ap, sym, subst, ◌∙◌, arith}
+use Rattle.std.proofs.Common.{rules, ◌≡◌, ℕ, ◌+◌, ◌<◌, ◌≤◌, Bool, true, false, not, ◌&&◌, List, [], ◌∷◌, ◌++◌, length, map, refl, ap, sym, subst, ◌∙◌, arith, ◌⊎◌, inl, inr}
 use Rattle.std.specs.Prelude.{Option, Some, None, Result, Ok, Err, is_some, is_none, slice_get, option_map, IfSome, filter, nat_lt, nat_le, All, ◌==◌}
 use Rattle.std.specs.List.{list_all, list_any}
 use Rattle.std.specs.Option.{option_map_or}
@@ -24,7 +24,7 @@ use Rattle.base.specs.Groups.{Admission, admitted_of, open_transactions, hold_co
 use Rattle.base.specs.Uberblocks.{Uberblock}
 use Rattle.base.specs.Past.{Past, new_past}
 use Rattle.base.specs.Shown.{Shown, SyncPlan}
-use Rattle.base.specs.Records.{IsAllowed, is_content_allowed}
+use Rattle.base.specs.Records.{Record, IsAllowed, is_content_allowed}
 use Rattle.base.specs.Exact.{IsBounded}
 use Rattle.base.specs.Imports.{IsImported}
 use Rattle.base.specs.Refusals as refusal
@@ -34,7 +34,7 @@ use Rattle.base.specs.Steps.{State, Answers, Progress}
 use Rattle.base.specs.Steps.Progress.{More, Synced}
 use Rattle.base.specs.Stage as stage
 use Rattle.base.specs.Runs.{Step}
-use Rattle.base.specs.ExactNow.{IsExplainedNow, IsRun}
+use Rattle.base.specs.ExactNow.{IsExplainedNow, IsRun, IsLogStep}
 use Rattle.base.proofs.Cuts.{histories_grow}
 use Rattle.base.proofs.Projections.{plans_touch}
 use Rattle.base.proofs.CommitOrder.{no_refusal, ok-none, found-plan, All-at}
@@ -45,6 +45,8 @@ use Rattle.base.proofs.KeptLocks.{same_locks, lock_keeps, unlock_keeps}
 use Rattle.base.proofs.KeptGroups.{same_groups, begin_keeps, commit_keeps, close_keeps, quiesce_keeps, start_keeps, sync_keeps, open_is, held_above, quiescing_is, quiesced_is, none_there}
 use Rattle.base.proofs.KeptIsolation.{same_isolated, lock_isolated, unlock_isolated, begin_isolated, covered_without}
 use Rattle.base.proofs.KeptLog.{same_log, commit_log, sync_log}
+use Rattle.base.proofs.KeptWrites.{write_log, write_sync}
+use Rattle.base.proofs.KeptFlushes.{flush_log, flush_sync}
 use Rattle.base.proofs.KeptContents.{operations_keep}
 use Rattle.base.proofs.KeptSyncs.{same_sync, start_sync, step_sync, end_sync}
 
@@ -74,6 +76,7 @@ lock_state g s x named free =
       exact = record {
         locks = lock_keeps s.shown s.past x.exact.locks g named free;
         groups = same_groups s.shown t.shown s.past t.past x.exact.groups;
+        order = x.exact.order;
         isolated = lock_isolated s.shown t.shown s.past t.past g x.exact.isolated;
         log = same_log s.shown t.shown s.past t.past x.exact.log;
         bounded = x.exact.bounded;
@@ -107,6 +110,7 @@ unlock_step owner id answer old new x h = by_answer answer (refusal.unlock_refus
           exact = record {
             locks = unlock_keeps s p x.exact.locks id found.0 held.0 found.1 named;
             groups = same_groups s t p q x.exact.groups;
+            order = x.exact.order;
             isolated = unlock_isolated s p q id found.0 held.0 x.exact.locks x.exact.isolated found.1 named unused;
             log = same_log s t p q x.exact.log;
             bounded = x.exact.bounded;
@@ -125,6 +129,7 @@ begin_state a s x named in_open allowed small free covers =
       exact = record {
         locks = same_locks s.shown t.shown s.past t.past x.exact.locks;
         groups = begin_keeps s.shown s.past a x.exact.groups named in_open allowed small;
+        order = x.exact.order;
         isolated = begin_isolated s.shown t.shown s.past t.past a x.exact.isolated in_open free covers;
         log = same_log s.shown t.shown s.past t.past x.exact.log;
         bounded = x.exact.bounded;
@@ -253,6 +258,7 @@ module _ (tx : ℕ) (ops : List Op) (receipt : ℕ × ℕ) (old new : State) (x 
     exact = record {
       locks = same_locks s after.shown p after.past x.exact.locks;
       groups = commit_keeps s after.shown p e place.0 a x.exact.groups place.1 named refl of_plan;
+      order = commit_history.order;
       isolated = record { admitted = admitted; covered = covered_without s p (λ (b : Admission). not (b.tx == tx)) x.exact.isolated };
       log = commit_log s after.shown p after.past x.exact.log e within.0 record_allowed;
       bounded = operations_keep ops s.contents contents shapes_allowed allowed applied x.exact.bounded;
@@ -285,6 +291,7 @@ close_state s x none below =
       exact = record {
         locks = same_locks s.shown t.shown s.past t.past x.exact.locks;
         groups = close_keeps s.shown s.past x.exact.groups none below;
+        order = x.exact.order;
         isolated = record { admitted = closes_leave s.past.entries s.shown.line.open_group (map admitted_of s.shown.transactions) x.exact.isolated.admitted; covered = x.exact.isolated.covered };
         log = same_log s.shown t.shown s.past t.past x.exact.log;
         bounded = x.exact.bounded;
@@ -310,6 +317,7 @@ quiesce_state g s x is none =
       exact = record {
         locks = same_locks s.shown t.shown s.past t.past x.exact.locks;
         groups = quiesce_keeps s.shown s.past g x.exact.groups is none;
+        order = x.exact.order;
         isolated = same_isolated s.shown t.shown s.past t.past x.exact.isolated;
         log = same_log s.shown t.shown s.past t.past x.exact.log;
         bounded = x.exact.bounded;
@@ -334,6 +342,7 @@ start_state moment g plan s x is idle planned =
       exact = record {
         locks = same_locks s.shown t.shown s.past t.past x.exact.locks;
         groups = start_keeps s.shown t.shown s.past g x.exact.groups is idle;
+        order = x.exact.order;
         isolated = same_isolated s.shown t.shown s.past t.past x.exact.isolated;
         log = same_log s.shown t.shown s.past t.past x.exact.log;
         bounded = x.exact.bounded;
@@ -357,6 +366,7 @@ step_state plan s x running more =
       exact = record {
         locks = same_locks s.shown t.shown s.past t.past x.exact.locks;
         groups = same_groups s.shown t.shown s.past t.past x.exact.groups;
+        order = x.exact.order;
         isolated = same_isolated s.shown t.shown s.past t.past x.exact.isolated;
         log = same_log s.shown t.shown s.past t.past x.exact.log;
         bounded = x.exact.bounded;
@@ -374,6 +384,7 @@ sync_state g plan s x syncing running =
       exact = record {
         locks = same_locks s.shown t.shown s.past t.past x.exact.locks;
         groups = sync_keeps s.shown t.shown s.past t.past g x.exact.groups syncing;
+        order = x.exact.order;
         isolated = same_isolated s.shown t.shown s.past t.past x.exact.isolated;
         log = sync_log s.shown t.shown s.past t.past x.exact.log x.exact.sync g plan next syncing running;
         bounded = x.exact.bounded;
@@ -390,6 +401,7 @@ suspended_state s x =
       exact = record {
         locks = same_locks s.shown t.shown s.past t.past x.exact.locks;
         groups = same_groups s.shown t.shown s.past t.past x.exact.groups;
+        order = x.exact.order;
         isolated = same_isolated s.shown t.shown s.past t.past x.exact.isolated;
         log = same_log s.shown t.shown s.past t.past x.exact.log;
         bounded = x.exact.bounded;
@@ -428,6 +440,54 @@ runs_keep_tables keeps [] [] old new h x = same_step old new x h
 runs_keep_tables keeps (s ∷ ss) (r ∷ rs) old new (middle, (now, one), rest) x = runs_keep_tables keeps ss rs middle new rest (steps_keep_tables keeps now s r old middle one x)
 runs_keep_tables keeps [] (r ∷ rs) old new h x = absurd h
 runs_keep_tables keeps (s ∷ ss) [] old new h x = absurd h
+
+-- a write of the log, and a flush of it
+log_write_state : (taken rest : List Record) (address : ℕ) (s : State) → IsExplainedState s → s.shown.log.pending ≡ taken ++ rest → IsExplainedState (steps.state_after_log_write taken rest address s)
+log_write_state taken rest address s x split =
+    let t : State = steps.state_after_log_write taken rest address s in
+    record {
+      exact = record {
+        locks = same_locks s.shown t.shown s.past t.past x.exact.locks;
+        groups = same_groups s.shown t.shown s.past t.past x.exact.groups;
+        order = x.exact.order;
+        isolated = same_isolated s.shown t.shown s.past t.past x.exact.isolated;
+        log = write_log s.shown t.shown s.past t.past x.exact.log taken rest address split;
+        bounded = x.exact.bounded;
+        sync = write_sync s.shown t.shown s.past t.past x.exact.log taken rest address split x.exact.sync;
+        limit = x.exact.limit;
+      };
+      history = x.history;
+    }
+
+log_flush_state : (s : State) → IsExplainedState s → IsExplainedState (steps.state_after_log_flush s)
+log_flush_state s x =
+    let t : State = steps.state_after_log_flush s in
+    record {
+      exact = record {
+        locks = same_locks s.shown t.shown s.past t.past x.exact.locks;
+        groups = same_groups s.shown t.shown s.past t.past x.exact.groups;
+        order = x.exact.order;
+        isolated = same_isolated s.shown t.shown s.past t.past x.exact.isolated;
+        log = flush_log s.shown t.shown s.past t.past x.exact.log;
+        bounded = x.exact.bounded;
+        sync = flush_sync s.shown t.shown s.past t.past x.exact.log x.exact.sync;
+        limit = x.exact.limit;
+      };
+      history = x.history;
+    }
+
+refused_log_write : (given : PoolError) (old new : State) → IsExplainedState old
+    → steps.WantsMemory old new given ⊎ ((given ≡ error.Write) × ((taken rest : List Record) × (address : ℕ) × steps.TakesForLog old taken rest address × (new ≡ steps.suspended_state (steps.state_after_log_write taken rest address old))))
+    → IsExplainedState new
+refused_log_write given old new x (inl memory) = same_step old new x memory.1
+refused_log_write given old new x (inr (is, (taken, rest, address, takes, same))) =
+    subst IsExplainedState (sym same) (suspended_state (steps.state_after_log_write taken rest address old) (log_write_state taken rest address old x takes.packed.front))
+
+pub log_steps_keep_tables : (old new : State) → IsLogStep old new → IsExplainedNow old.shown old.past → IsExplainedNow new.shown new.past
+log_steps_keep_tables old new (inl (answer, h)) x = by_answer answer (refusal.log_write_refusal old.shown) old new _ _
+    (λ count none d. subst IsExplainedState (sym d.5) (log_write_state d.0 d.1 d.2 old x d.3.packed.front)) (λ e own. refused_log_write e old new x own) x h
+log_steps_keep_tables old new (inr (answer, h)) x = by_answer answer (refusal.log_flush_refusal old.shown) old new _ _
+    (λ a none d. subst IsExplainedState (sym d) (log_flush_state old x)) (λ e own. subst IsExplainedState (sym own.1) (suspended_state old x)) x h
 
 -- a pool that was just imported
 pub new_pools_are_explained : (u : Uberblock) (blocks : ℕ) (contents : Contents) (created dirty_max : ℕ) (s : Shown) → IsImported u blocks contents dirty_max s → IsBounded contents

@@ -36,6 +36,8 @@ pub mod KeptIsolation
 pub mod KeptSyncs
 pub mod KeptContents
 pub mod KeptLog
+pub mod KeptWrites
+pub mod KeptFlushes
 pub mod PlacedTrees
 pub mod PlannedTrees
 pub mod UntouchedRecords
@@ -56,3 +58,6 @@ pub mod StoredWrites
 pub mod StoredImports
 pub mod StoredRuns
 pub mod SyncEnds
+pub mod SeenStates
+pub mod SeenGroups
+pub mod SeenRefusals

@@ -1,14 +1,15 @@
 -- What the built steps keep exact: all but charges and reservations, which no step keeps yet.
-use Rattle.std.specs.Prelude.{ℕ, ◌≡◌, ◌≤◌, ◌+◌, List}
+use Rattle.std.specs.Prelude.{ℕ, ◌≡◌, ◌≤◌, ◌+◌, ◌⊎◌, List, Result}
+use Rattle.base.specs.declared.error.PoolError.{PoolError}
 use Rattle.base.specs.declared.step.Step as declared_step
 use Rattle.base.specs.declared.step.Reply as declared_reply
 use Rattle.base.specs.Limits.{last_number}
 use Rattle.base.specs.Contents.{Contents}
-use Rattle.base.specs.History.{IsHistory}
+use Rattle.base.specs.History.{IsHistory, IsInGroupOrder}
 use Rattle.base.specs.Uberblocks.{Uberblock}
 use Rattle.base.specs.Past.{Past, new_past}
 use Rattle.base.specs.Shown.{Shown}
-use Rattle.base.specs.Steps.{State}
+use Rattle.base.specs.Steps.{State, LogWrite, LogFlush}
 use Rattle.base.specs.Runs.{Step, Run}
 use Rattle.base.specs.Exact.{AreLocksExact, AreGroupsExact, AreIsolated, IsLogExact, IsSyncExact, IsBounded}
 use Rattle.base.specs.Imports.{IsImported}
@@ -17,6 +18,7 @@ use Rattle.base.specs.Imports.{IsImported}
 pub record IsExactNow (s : Shown) (past : Past) : Type 0 where
   pub locks : AreLocksExact s past
   pub groups : AreGroupsExact s past
+  pub order : IsInGroupOrder past.entries
   pub isolated : AreIsolated s past
   pub log : IsLogExact s past
   pub bounded : IsBounded s.contents
@@ -32,6 +34,14 @@ pub record IsExplainedNow (s : Shown) (past : Past) : Type 0 where
 abbrev pub IsRun : Type 0 → List declared_step.Step → List declared_reply.Reply → State → State → Type 0
 IsRun keeps = Run (λ step reply old new. (now : List ℕ) × Step keeps now step reply old new)
 
+-- some steps with some replies lead from the one state to the other, over devices of which nothing is known
+abbrev pub GoesOn : State → State → Type 0
+GoesOn before after = (steps : List declared_step.Step) × (replies : List declared_reply.Reply) × IsRun ⊥ steps replies before after
+
+-- a write or a flush of the log, whatever it answers
+abbrev pub IsLogStep : State → State → Type 0
+IsLogStep old new = ((answer : Result ℕ PoolError) × LogWrite answer old new) ⊎ ((answer : Result (Unit {0}) PoolError) × LogFlush answer old new)
+
 -- each step keeps this, over a device of which nothing is known: the steps over a device that keeps the disk model are among these
 abbrev pub StepsKeepTables : Type 0
 StepsKeepTables = (now : List ℕ) (step : declared_step.Step) (reply : declared_reply.Reply) (old new : State) → Step ⊥ now step reply old new
@@ -41,6 +51,10 @@ StepsKeepTables = (now : List ℕ) (step : declared_step.Step) (reply : declared
 abbrev pub RunsKeepTables : Type 0
 RunsKeepTables = (steps : List declared_step.Step) (replies : List declared_reply.Reply) (old new : State) → IsRun ⊥ steps replies old new
     → IsExplainedNow old.shown old.past → IsExplainedNow new.shown new.past
+
+-- and so do the steps of the log, which are not built yet: a write, answered or refused, and a flush
+abbrev pub LogStepsKeepTables : Type 0
+LogStepsKeepTables = (old new : State) → IsLogStep old new → IsExplainedNow old.shown old.past → IsExplainedNow new.shown new.past
 
 -- a pool that was just imported is so, with the empty past
 abbrev pub NewPoolsAreExplained : Type 0
