@@ -55,3 +55,9 @@ pub mod StoredWrites
 pub mod StoredImports
 pub mod StoredRuns
 pub mod SyncEnds
+pub mod FoundViews
+pub mod KeptViews
+pub mod PoolViews
+pub mod CallStages
+pub mod CrashRule
+pub mod LogViews
