@@ -61,3 +61,4 @@ pub mod PoolViews
 pub mod CallStages
 pub mod CrashRule
 pub mod LogViews
+pub mod Geometry
