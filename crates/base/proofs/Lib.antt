@@ -62,3 +62,4 @@ pub mod CallStages
 pub mod CrashRule
 pub mod LogViews
 pub mod Geometry
+pub mod StoredPlaces
