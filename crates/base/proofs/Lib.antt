@@ -63,3 +63,4 @@ pub mod CrashRule
 pub mod LogViews
 pub mod Geometry
 pub mod StoredPlaces
+pub mod FairBytes
