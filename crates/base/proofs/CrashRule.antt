@@ -2,7 +2,7 @@
 -- what it may expect. No contract cites these lemmas yet.
 use Rattle.std.proofs.Common.{◌≡◌, inl, inr, ⊎_elim, true, ℕ, zero, suc, ◌≤◌, List, [], ◌∷◌, length, map, take, refl, sym, ◌∙◌, ap, subst, arith, ◌⊎◌}
 use Rattle.base.specs.Contents.{Contents}
-use Rattle.base.specs.Disk.{Write, Disk, Moment, MayLeave, HandedSince, bytes_of, handed, disk_size, settled, certain, certain_with}
+use Rattle.base.specs.Disk.{Write, Disk, Moment, moments, MayLeave, HandedSince, bytes_of, handed, disk_size, settled, certain, certain_with}
 use Rattle.base.specs.Fairness.{IsFair, IsFairOn, HasFairBytes, LeavesFair, LeavesFairNow, passes_check}
 use Rattle.base.specs.Mount.{MountsTo, IsFound}
 use Rattle.base.specs.Views.{View, Logged, IsFoundAs}
@@ -72,14 +72,14 @@ steady_mounts before after created guid contents steady =
 pub own_mounts : (disk : Disk) (created guid : ℕ) (contents : Contents) → IsOwnWith disk created guid contents → MountsTo (bytes_of disk.now) contents
 own_mounts disk created guid contents own =
     let m : Moment = settled (bytes_of disk.now) disk.now in
-    let is = own.each (bytes_of disk.now) (bytes_may_be_left disk.now) own.bytes.fair in
-    let fair = fair_settled (passes_check (disk_size disk)) created (bytes_of disk.now) disk.now own.bytes.fair in
+    let is = own.left.each (bytes_of disk.now) (bytes_may_be_left disk.now) own.left.bytes.fair in
+    let fair = fair_settled (passes_check (disk_size disk)) created (bytes_of disk.now) disk.now own.left.bytes.fair in
     found_mounts (bytes_of disk.now) is.v contents is.applied (rest_found created m (bytes_of disk.now) (bytes_may_be_left m) fair (length is.v.logged) is.v is.rest)
 
 -- a fair image that is made certain is one that this pool alone wrote
-pub own_certain : (disk : Disk) (created guid : ℕ) (contents : Contents) (image : List ℕ) → MayLeave disk.now image → IsFairOn disk created image
+pub own_certain : (disk : Disk) (created guid : ℕ) (contents : Contents) (image : List ℕ) → created ≤ moments disk → MayLeave disk.now image → IsFairOn disk created image
     → IsOwnImage (disk_size disk) created image disk.now guid contents → IsOwnWith (certain image disk) created guid contents
-own_certain disk created guid contents image left fair own = by_cases disk.now.unflushed refl
+own_certain disk created guid contents image began left fair own = by_cases disk.now.unflushed refl
   where
     long : length image ≡ disk_size disk
     long = left.size
@@ -88,17 +88,24 @@ own_certain disk created guid contents image left fair own = by_cases disk.now.u
     by_cases [] none =
         let same : image ≡ bytes_of disk.now = only_bytes disk.now image none left in
         record {
-          bytes = record { size_is = refl; fair = subst (λ (l : List ℕ). IsFairOn disk created l) same fair };
-          each = λ other other_left other_fair.
-              let one : other ≡ image = only_bytes disk.now other none other_left ∙ sym same in
-              subst (λ (l : List ℕ). IsOwnImage (disk_size disk) created l disk.now guid contents) (sym one) own;
+          began = began;
+          left = record {
+            bytes = record { size_is = refl; fair = subst (λ (l : List ℕ). IsFairOn disk created l) same fair };
+            each = λ other other_left other_fair.
+                let one : other ≡ image = only_bytes disk.now other none other_left ∙ sym same in
+                subst (λ (l : List ℕ). IsOwnImage (disk_size disk) created l disk.now guid contents) (sym one) own;
+          };
         }
     by_cases (w ∷ ws) some = record {
-      bytes = record { size_is = refl; fair = subst (λ (n : ℕ). IsFair (passes_check n) created (handed (settled image disk.now)) image) (sym long) (fair_settled (passes_check (disk_size disk)) created image disk.now fair) };
-      each = λ other other_left other_fair.
-          let one : other ≡ image = only_bytes (settled image disk.now) other refl other_left in
-          subst (λ (l : List ℕ). IsOwnImage (length image) created l (settled image disk.now) guid contents) (sym one)
-          (subst (λ (n : ℕ). IsOwnImage n created image (settled image disk.now) guid contents) (sym long) (record { v = own.v; guid_is = own.guid_is; rest = own.rest; configs = own.configs; no_log = own.no_log; applied = own.applied }));
+      began = omega (arith, began);
+      left = record {
+        bytes = record { size_is = refl; fair = subst (λ (n : ℕ). IsFair (passes_check n) created (handed (settled image disk.now)) image) (sym long) (fair_settled (passes_check (disk_size disk)) created image disk.now fair) };
+        each = λ other other_left other_fair.
+            let one : other ≡ image = only_bytes (settled image disk.now) other refl other_left in
+            subst (λ (l : List ℕ). IsOwnImage (length image) created l (settled image disk.now) guid contents) (sym one)
+            (subst (λ (n : ℕ). IsOwnImage n created image (settled image disk.now) guid contents) (sym long)
+            (record { v = own.v; guid_is = own.guid_is; rest = own.rest; configs = own.configs; no_log = own.no_log; applied = own.applied }));
+      };
     }
 
 pub clients_find_cuts : ClientsFindCuts
@@ -106,8 +113,9 @@ clients_find_cuts created guid first [] before after own rounds =
     let own_after = subst (λ (d : Disk). IsOwnWith d created guid first) (sym rounds) own in (first, refl, (own_after, own_mounts after created guid first own_after))
 clients_find_cuts created guid first (past ∷ pasts) before after own (same, (ended, (image, round, later))) =
     let own_round = subst (λ (t : ℕ). IsOwnWith before t guid first) (sym same) own in
-    let left_by = (round.run_left own_round).each image round.left round.fair in
-    let own_next = subst (λ (t : ℕ). IsOwnWith (certain image ended) t guid left_by.0) same (own_certain ended past.created guid left_by.0 image round.left round.fair left_by.2) in
+    let run_left = round.run_left own_round in
+    let left_by = run_left.left.each image round.left round.fair in
+    let own_next = subst (λ (t : ℕ). IsOwnWith (certain image ended) t guid left_by.0) same (own_certain ended past.created guid left_by.0 image run_left.began round.left round.fair left_by.2) in
     let r = clients_find_cuts created guid left_by.0 pasts (certain image ended) after own_next (later left_by.0 own_next) in
     (r.0, (round.base, (left_by.0, left_by.1, r.1)), r.2)
 

@@ -7,6 +7,7 @@ use Rattle.base.specs.Fields.{no_pointer}
 use Rattle.base.specs.Geometry.{block_size, config_place, slot_place, slot_of}
 use Rattle.base.specs.Places.{Place, IsPlace}
 use Rattle.base.specs.Disk.{Moment, Disk, bytes_of, wrote, settled, written, certain}
+use Rattle.base.specs.Fairness.{IsCheckedPlace}
 use Rattle.base.specs.Calls.{Writes, Flushes}
 use Rattle.base.specs.Views.{View, Logged, IsFixed, IsLaid}
 use Rattle.base.specs.Own.{IsAtRest, IsBetween}
@@ -40,6 +41,12 @@ KeepsCall P Settle = (m : Moment) → P m → P (settled (bytes_of m) m)
 abbrev pub KeepCalls : (Moment → Type 0) → List PoolCall → Type 0
 KeepCalls P [] = ⊤
 KeepCalls P (c ∷ cs) = KeepsCall P c × KeepCalls P cs
+
+-- each write is of a whole place that the format checks
+abbrev pub AreWholeCalls : ℕ → List PoolCall → Type 0
+AreWholeCalls size [] = ⊤
+AreWholeCalls size (Put place content ∷ cs) = IsCheckedPlace size place (length content) × AreWholeCalls size cs
+AreWholeCalls size (Settle ∷ cs) = AreWholeCalls size cs
 
 -- where a view has its fixed config and its fixed uberblock
 pub record FixedLabels : Type 0 where

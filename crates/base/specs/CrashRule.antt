@@ -1,9 +1,9 @@
 -- The crash rule for a pool's disk from its create on: what an import keeps, what a step keeps, what a run leaves, and what a client finds
 -- after any number of rounds, each an import with its run and then a crash. `created` is never free: it is the moment with which the disk is
 -- the pool's own. No contract cites them yet.
-use Rattle.std.specs.Prelude.{ℕ, ◌≡◌, ◌⊎◌, List, [], ◌∷◌, length, map, Ok}
+use Rattle.std.specs.Prelude.{ℕ, ◌≡◌, ◌≤◌, ◌⊎◌, List, [], ◌∷◌, length, map, Ok}
 use Rattle.base.specs.Contents.{Contents}
-use Rattle.base.specs.Disk.{Disk, EachMoment, MayLeave, bytes_of, certain, disk_size}
+use Rattle.base.specs.Disk.{Disk, moments, EachMoment, MayLeave, bytes_of, certain, disk_size}
 use Rattle.base.specs.Fairness.{IsFairOn, HasFairBytes, LeavesFairNow, LeavesFairSince}
 use Rattle.base.specs.Mount.{MountsTo, apply_records, records_above}
 use Rattle.base.specs.Past.{Past}
@@ -11,7 +11,7 @@ use Rattle.base.specs.Shown.{Shown}
 use Rattle.base.specs.Views.{View, Logged}
 use Rattle.base.specs.Explains.{IsLeftBy}
 use Rattle.base.specs.Own.{IsPhase, IsOwnImage, IsOwnWith}
-use Rattle.base.specs.PoolViews.{IsPoolLaid}
+use Rattle.base.specs.PoolViews.{IsPoolDisk}
 
 -- a view mounts these contents where its chain is all of its log blocks
 abbrev pub MountsAs : View → Contents → Type 0
@@ -41,17 +41,16 @@ pub record IsImportKept (old new : Disk) (created guid : ℕ) (contents : Conten
 abbrev pub KeepsOwn : Disk → Disk → Type 0
 KeepsOwn old new = (created guid : ℕ) (contents : Contents) → IsOwnWith old created guid contents → IsImportKept old new created guid contents
 
--- A step of a run: at each of its moments what a read gives is fair, and the pool is laid for what was shown before or for what is shown
--- after, with what was acknowledged before.
+-- a step of a run: at each of its moments the disk is kept for what was shown before, or for what is shown after
 abbrev pub IsStepKept : Disk → Disk → Shown → Shown → Past → Past → Type 0
 IsStepKept before after s t old new =
-    EachMoment (λ m. HasFairBytes (disk_size before) new.created m × (IsPoolLaid (disk_size before) m s old ⊎ IsPoolLaid (disk_size before) m t new)) before after
+    EachMoment (λ m. IsPoolDisk (disk_size before) m s old ⊎ IsPoolDisk (disk_size before) m t new) before after
 
 -- What a run leaves, suspended or not: every fair image is one that this pool alone wrote, and mounts the replay of a cut of the run's
 -- entries with every acknowledged one.
-abbrev pub IsRunLeft : Disk → Past → ℕ → Type 0
-IsRunLeft disk past guid =
-    LeavesFairNow disk past.created (λ image. (left : Contents) × IsLeftBy past left × IsOwnImage (disk_size disk) past.created image disk.now guid left)
+pub record IsRunLeft (disk : Disk) (past : Past) (guid : ℕ) : Type 0 where
+  pub began : past.created ≤ moments disk
+  pub left : LeavesFairNow disk past.created (λ image. (c : Contents) × IsLeftBy past c × IsOwnImage (disk_size disk) past.created image disk.now guid c)
 
 -- Runs one upon the other: each begins with what the one before left, and the last leaves these contents.
 abbrev pub LeadsTo : Contents → List Past → Contents → Type 0

@@ -1,11 +1,11 @@
 -- The phases of a pool's disk, at rest on one view or between two while the uberblocks of the new one are written; and when a pool alone has
 -- written a disk since its create. No contract cites them yet.
-use Rattle.std.specs.Prelude.{ℕ, ◌≡◌, ◌≢◌, ◌<◌, ◌+◌, ◌⊎◌, List, [], length, map, Ok}
+use Rattle.std.specs.Prelude.{ℕ, ◌≡◌, ◌≢◌, ◌≤◌, ◌<◌, ◌+◌, ◌⊎◌, List, [], length, map, Ok}
 use Rattle.base.specs.Contents.{Contents}
-use Rattle.base.specs.Geometry.{config_place, slot_of}
-use Rattle.base.specs.Disk.{Write, Moment, Disk, HandedSince, handed, settled, disk_size}
+use Rattle.base.specs.Geometry.{slot_of}
+use Rattle.base.specs.Disk.{Write, Moment, Disk, moments, handed, settled, disk_size}
 use Rattle.base.specs.Fairness.{LeavesFairNow}
-use Rattle.base.specs.Views.{View, Logged, IsLaid, IsConfigContent, HasFixedSlot, AreSlotsKnown}
+use Rattle.base.specs.Views.{View, Logged, IsLaid, HasFixedSlot, AreSlotsKnown, AreConfigsUpTo, config_content}
 use Rattle.base.specs.Mount.{apply_records, records_above}
 
 -- At rest: one view is laid, its uberblock is fixed in a label, and each other that counts is of a lower group.
@@ -29,10 +29,9 @@ pub record IsBetween (size t flushed new_flushed : ℕ) (m : Moment) (old new : 
 abbrev pub IsPhase : ℕ → ℕ → ℕ → ℕ → Moment → View → View → Type 0
 IsPhase size t flushed new_flushed m old new = IsAtRest size t flushed m old ⊎ (IsBetween size t flushed new_flushed m old new ⊎ IsAtRest size t new_flushed m new)
 
--- no config of the pool that counts is of a group that an import of this view may reach, but for its own
+-- no config of the pool that counts is of a group that an import of this view may reach, but for the one that it writes
 abbrev pub AreConfigsBelowImport : ℕ → ℕ → List Write → View → Type 0
-AreConfigsBelowImport size t ws v = (label group : ℕ) (name content : List ℕ) → label < 4 → HandedSince t ws (config_place size label) content
-    → IsConfigContent content size v.u.guid group name → (group < v.u.group + 4) ⊎ ((group ≡ v.u.group + 4) × (name ≡ v.name))
+AreConfigsBelowImport size t ws v = AreConfigsUpTo size t ws v.u.guid (v.u.group + 3) (λ content. content ≡ config_content size v.u.guid (v.u.group + 4) v.name)
 
 -- an image that is certain is one that this pool alone has written since its create, and mounts these contents
 pub record IsOwnImage (size t : ℕ) (image : List ℕ) (m : Moment) (guid : ℕ) (contents : Contents) : Type 0 where
@@ -44,6 +43,8 @@ pub record IsOwnImage (size t : ℕ) (image : List ℕ) (m : Moment) (guid : ℕ
   pub no_log : v.logged ≡ []
   pub applied : apply_records (records_above v.u.group (map (λ (l : Logged). l.block) v.logged)) v.synced ≡ Ok contents
 
--- a disk was written by this pool alone since its create: what a read gives is fair, and every fair image is the pool's own with these contents
-abbrev pub IsOwnWith : Disk → ℕ → ℕ → Contents → Type 0
-IsOwnWith disk created guid contents = LeavesFairNow disk created (λ image. IsOwnImage (disk_size disk) created image disk.now guid contents)
+-- A disk was written by this pool alone since its create, which began at this moment: what a read gives is fair, and every fair image is the
+-- pool's own with these contents.
+pub record IsOwnWith (disk : Disk) (created guid : ℕ) (contents : Contents) : Type 0 where
+  pub began : created ≤ moments disk
+  pub left : LeavesFairNow disk created (λ image. IsOwnImage (disk_size disk) created image disk.now guid contents)

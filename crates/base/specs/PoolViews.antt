@@ -3,14 +3,16 @@
 use Rattle.std.specs.Prelude.{ℕ, ◌≡◌, ◌<◌, ◌⊎◌, true, length, slice_get, Some, Ok}
 use Rattle.base.specs.declared.pointer.Pointer.{Pointer}
 use Rattle.base.specs.History.{replay, entries_up_to}
-use Rattle.base.specs.Disk.{Moment}
+use Rattle.base.specs.Contents.{Contents}
+use Rattle.base.specs.Disk.{Moment, handed}
+use Rattle.base.specs.Fairness.{HasFairBytes}
 use Rattle.base.specs.Chain.{Header}
 use Rattle.base.specs.Mount.{header_of}
 use Rattle.base.specs.Past.{Past}
 use Rattle.base.specs.Logs.{KeptBlock}
 use Rattle.base.specs.Shown.{Shown, SyncPlan}
 use Rattle.base.specs.Layout.{IsBlockOf, kept_from, header_now}
-use Rattle.base.specs.Views.{View, Logged}
+use Rattle.base.specs.Views.{View, Logged, AreConfigsUpTo, config_content}
 use Rattle.base.specs.Own.{IsAtRest, IsBetween}
 
 -- the view is that of a group of the pool, with this root and the kept log from this header on; so many of its log blocks are fixed
@@ -46,6 +48,17 @@ pub record IsPoolBetween (size : ℕ) (m : Moment) (s : Shown) (past : Past) : T
   pub old_is : IsViewOf flushed old s past s.line.synced s.root (header_now s.log)
   pub new_is : IsViewOf new_flushed new s past group plan.root plan.header
 
--- The one or the other: what a running pool keeps, suspended or not.
+-- the one or the other, suspended or not
 abbrev pub IsPoolLaid : ℕ → Moment → Shown → Past → Type 0
 IsPoolLaid size m s past = IsPoolAtRest size m s past ⊎ IsPoolBetween size m s past
+
+-- no config of the pool that counts is above the synced group, but for the one that a running sync writes
+abbrev pub ArePoolConfigs : ℕ → Moment → Shown → Past → Type 0
+ArePoolConfigs size m s past = AreConfigsUpTo size past.created (handed m) s.guid s.line.synced (λ content. (group : ℕ) × (c : Contents) × (s.line.syncing ≡ Some group)
+    × (replay (entries_up_to group past.entries) past.base ≡ Ok c) × (content ≡ config_content size s.guid group c.name))
+
+-- all that a running pool keeps of its disk
+pub record IsPoolDisk (size : ℕ) (m : Moment) (s : Shown) (past : Past) : Type 0 where
+  pub bytes : HasFairBytes size past.created m
+  pub configs : ArePoolConfigs size m s past
+  pub laid : IsPoolLaid size m s past

@@ -1,12 +1,12 @@
 -- Views: what an image of a pool may mount, told by the bytes of its checked places, and how firmly it lies on a disk. Here and in the other
 -- words of the crash rule a device has `size` bytes, the pool's create began at the moment `t`, and writes count that were handed since. No
 -- contract cites them yet.
-use Rattle.std.specs.Prelude.{ℕ, ◌≡◌, ◌≢◌, ◌≤◌, ◌<◌, ◌+◌, ◌⊎◌, ⊤, List, [], ◌∷◌, length, map, take, slice_get, Some}
+use Rattle.std.specs.Prelude.{ℕ, ◌≡◌, ◌≢◌, ◌≤◌, ◌<◌, ◌+◌, ◌-◌, ◌⊎◌, ⊤, List, [], ◌∷◌, ◌++◌, replicate, length, map, take, slice_get, Some}
 use Rattle.base.specs.declared.pointer.Pointer.{Pointer}
 use Rattle.base.specs.Contents.{Contents}
-use Rattle.base.specs.Fields.{part, no_pointer}
+use Rattle.base.specs.Fields.{part, no_pointer, number_bytes}
 use Rattle.base.specs.Geometry.{IsGeometry, IsBlockAddress, block_size, block_count, block_address, config_place, slot_place, slot_of}
-use Rattle.base.specs.Blocks.{Frame, IsBlock}
+use Rattle.base.specs.Blocks.{Frame, IsBlock, sealed_block}
 use Rattle.base.specs.Uberblocks.{Uberblock, IsUberblock}
 use Rattle.base.specs.Labels.{IsConfigPayload}
 use Rattle.base.specs.Places.{Place, IsPlace}
@@ -21,6 +21,13 @@ pub record IsConfigContent (content : List ℕ) (size guid group : ℕ) (name : 
   pub payload : List ℕ
   pub block : IsBlock content 1 guid group 0 payload
   pub fields : IsConfigPayload payload size name
+
+-- a config as it is written, for a device of so many bytes
+abbrev pub config_fields : ℕ → List ℕ → List ℕ
+config_fields size name = number_bytes 1 ++ number_bytes size ++ number_bytes (length name) ++ name
+
+abbrev pub config_content : ℕ → ℕ → ℕ → List ℕ → List ℕ
+config_content size guid group name = sealed_block 1 guid group 0 (config_fields size name ++ replicate (4032 - length (config_fields size name)) 0)
 
 -- these bytes are a log block of this chain and number
 pub record IsLogContent (content : List ℕ) (guid chain number : ℕ) (block : LogBlock) : Type 0 where
@@ -113,6 +120,11 @@ pub record IsFirm (size flushed : ℕ) (m : Moment) (v : View) : Type 0 where
 abbrev pub AreConfigsKnown : ℕ → ℕ → List Write → View → Type 0
 AreConfigsKnown size t ws v = (label group : ℕ) (name content : List ℕ) → label < 4 → HandedSince t ws (config_place size label) content
     → IsConfigContent content size v.u.guid group name → group ≤ v.u.group → (group < v.config_group) ⊎ (content ≡ v.config)
+
+-- of the writes that count, each config of the pool is of no group above this one, or is one of these
+abbrev pub AreConfigsUpTo : ℕ → ℕ → List Write → ℕ → ℕ → (List ℕ → Type 0) → Type 0
+AreConfigsUpTo size t ws guid top IsOther = (label group : ℕ) (name content : List ℕ) → label < 4 → HandedSince t ws (config_place size label) content
+    → IsConfigContent content size guid group name → (group ≤ top) ⊎ IsOther content
 
 -- Of the writes that count, each log block of the pool is of an older chain, or before the header, or one of the view's, or behind the
 -- number that comes next: only the block of that number could make the chain longer.
