@@ -1,11 +1,11 @@
 -- Each moment of a whole sync, stopped anywhere or refused anywhere, is one of the three phases. No contract cites these lemmas yet.
-use Rattle.std.proofs.Common.{◌≡◌, ◌⊎◌, inl, inr, ℕ, ◌+◌, ◌<◌, ◌≤◌, Bool, true, List, [], ◌∷◌, length, Result, Ok, Err, sym, ◌∙◌, ap, subst, arith}
+use Rattle.std.proofs.Common.{◌≡◌, ◌⊎◌, inl, inr, ℕ, zero, suc, ◌+◌, ◌<◌, ◌≤◌, Bool, true, List, [], ◌∷◌, length, Result, Ok, Err, sym, ◌∙◌, ap, subst, arith}
 use Rattle.std.specs.Prelude.{◌≢◌}
 use Rattle.base.specs.declared.error.PoolError.{PoolError}
 use Rattle.base.specs.Geometry.{config_place, slot_place, slot_of}
 use Rattle.base.specs.Fields.{part}
 use Rattle.base.specs.Uberblocks.{slot_size}
-use Rattle.base.specs.Disk.{Moment, Disk, EachMoment, bytes_of, wrote, written, next, settled, moments}
+use Rattle.base.specs.Disk.{Write, certain_with, Moment, Disk, EachMoment, bytes_of, wrote, written, next, settled, moments}
 use Rattle.base.specs.Views.{View, IsFixed}
 use Rattle.base.specs.Own.{IsAtRest, IsPhase}
 use Rattle.base.specs.Spares.{Spares, SparesSlot}
@@ -16,21 +16,35 @@ use Rattle.base.proofs.Moments.{starts, goes_on, joins, weaker, latest, each_wri
 use Rattle.base.proofs.KeptViews.{fixed_wrote, tree_block_rest, config_rest, first_slot, later_slot, fixed_settled, rest_settled, between_new}
 
 -- what each call keeps, each moment of the calls keeps, whatever they answer and wherever they stop
-module _ (P : Moment → Type 0) where
-  pub each_call : (c : PoolCall) (old disk new : Disk) (r : Result (Unit {0}) PoolError) → KeepsCall P c → EachMoment P old disk → Makes c disk r new → EachMoment P old new
-  each_call (Put place content) old disk new r keeps so_far makes = each_write P old disk new place content r so_far makes (λ done p. keeps (moments disk) done disk.now p)
-  each_call Settle old disk new r keeps so_far makes = each_flush P old disk new r so_far makes (keeps disk.now)
+module _ (t : ℕ) (P : Moment → Type 0) where
+  pub each_call : (c : PoolCall) (old disk new : Disk) (r : Result (Unit {0}) PoolError) → t ≤ moments disk → KeepsCall t P c → EachMoment P old disk → Makes c disk r new → EachMoment P old new
+  each_call (Put place content) old disk new r began keeps so_far makes = each_write P old disk new place content r so_far makes (λ done p. keeps (moments disk) done disk.now began p)
+  each_call Settle old disk new r began keeps so_far makes = each_flush P old disk new r so_far makes (keeps disk.now)
 
-  pub each_of_calls : (cs : List PoolCall) (old disk new : Disk) → KeepCalls P cs → EachMoment P old disk → AreMade cs disk new → EachMoment P old new
-  each_of_calls [] old disk new keep so_far made = subst (λ (d : Disk). EachMoment P old d) (sym made) so_far
-  each_of_calls (c ∷ cs) old disk new keep so_far (inl (mid, makes, rest)) = each_of_calls cs old mid new keep.1 (each_call c old disk mid (Ok tt) keep.0 so_far makes) rest
-  each_of_calls (c ∷ cs) old disk new keep so_far (inr (e, makes)) = each_call c old disk new (Err e) keep.0 so_far makes
+  later : (c : PoolCall) (disk new : Disk) → t ≤ moments disk → Makes c disk (Ok tt) new → t ≤ moments new
+  later (Put place content) disk new began makes = let more : moments new ≡ suc (moments disk) = ap (λ (d : Disk). moments d) makes in omega (arith, began, more)
+  later Settle disk new began makes = subst (λ (d : Disk). t ≤ moments d) (sym makes) (go disk.now.unflushed)
+    where
+      go : (ws : List Write) → t ≤ moments (certain_with (bytes_of disk.now) disk ws)
+      go [] = began
+      go (w ∷ ws) = omega (arith, began)
 
-  pub each_of_begun : (cs : List PoolCall) (old disk new : Disk) → KeepCalls P cs → EachMoment P old disk → AreBegun cs disk new → EachMoment P old new
-  each_of_begun [] old disk new keep so_far made = subst (λ (d : Disk). EachMoment P old d) (sym made) so_far
-  each_of_begun (c ∷ cs) old disk new keep so_far (inl same) = subst (λ (d : Disk). EachMoment P old d) (sym same) so_far
-  each_of_begun (c ∷ cs) old disk new keep so_far (inr (inl (mid, makes, rest))) = each_of_begun cs old mid new keep.1 (each_call c old disk mid (Ok tt) keep.0 so_far makes) rest
-  each_of_begun (c ∷ cs) old disk new keep so_far (inr (inr (e, makes))) = each_call c old disk new (Err e) keep.0 so_far makes
+  pub each_of_calls : (cs : List PoolCall) (old disk new : Disk) → t ≤ moments disk → KeepCalls t P cs → EachMoment P old disk → AreMade cs disk new → EachMoment P old new
+  each_of_calls [] old disk new began keep so_far made = subst (λ (d : Disk). EachMoment P old d) (sym made) so_far
+  each_of_calls (c ∷ cs) old disk new began keep so_far (inl (mid, makes, rest)) =
+      each_of_calls cs old mid new (later c disk mid began makes) keep.1 (each_call c old disk mid (Ok tt) began keep.0 so_far makes) rest
+  each_of_calls (c ∷ cs) old disk new began keep so_far (inr (e, makes)) = each_call c old disk new (Err e) began keep.0 so_far makes
+
+  pub each_of_begun : (cs : List PoolCall) (old disk new : Disk) → t ≤ moments disk → KeepCalls t P cs → EachMoment P old disk → AreBegun cs disk new → EachMoment P old new
+  each_of_begun [] old disk new began keep so_far made = subst (λ (d : Disk). EachMoment P old d) (sym made) so_far
+  each_of_begun (c ∷ cs) old disk new began keep so_far (inl same) = subst (λ (d : Disk). EachMoment P old d) (sym same) so_far
+  each_of_begun (c ∷ cs) old disk new began keep so_far (inr (inl (mid, makes, rest))) =
+      each_of_begun cs old mid new (later c disk mid began makes) keep.1 (each_call c old disk mid (Ok tt) began keep.0 so_far makes) rest
+  each_of_begun (c ∷ cs) old disk new began keep so_far (inr (inr (e, makes))) = each_call c old disk new (Err e) began keep.0 so_far makes
+
+  pub later_all : (cs : List PoolCall) (disk new : Disk) → t ≤ moments disk → AreAllMade cs disk new → t ≤ moments new
+  later_all [] disk new began all = subst (λ (d : Disk). t ≤ moments d) (sym all) began
+  later_all (c ∷ cs) disk new began (mid, makes, rest) = later_all cs mid new (later c disk mid began makes) rest
 
 module _ (size t flushed : ℕ) (at : FixedLabels) (v : View) where
   spares_of : (m : Moment) (place n : ℕ) → IsFixed m (config_place size at.config) v.config → SparesAt size flushed at v place n → Spares size flushed m v place n
@@ -45,13 +59,13 @@ module _ (size t flushed : ℕ) (at : FixedLabels) (v : View) where
   slot_of_label m place n fixed spares = record { slot = record { label = at.slot; in_range = at.slot_below; fixed = fixed }; apart = spares.not_slot }
 
   -- quiet calls keep a pool at rest: the blocks and the flush of a sync, both label stages, and no call at all
-  quiet_call : (c : PoolCall) → IsQuiet size flushed at v c → KeepsCall (IsAtRestAt size t flushed at v) c
+  quiet_call : (c : PoolCall) → IsQuiet size flushed at v c → KeepsCall 0 (IsAtRestAt size t flushed at v) c
   quiet_call Settle is = λ m rest. record {
     rest = rest_settled m (bytes_of m) (bytes_may_be_left m) size t flushed v rest.rest;
     config = fixed_settled m (bytes_of m) (bytes_may_be_left m) (config_place size at.config) v.config rest.config;
     slot = fixed_settled m (bytes_of m) (bytes_may_be_left m) (slot_place size at.slot (slot_of v.u.group)) v.slot rest.slot;
   }
-  quiet_call (Put place content) is = λ moment done m rest.
+  quiet_call (Put place content) is = λ moment done m since rest.
       let long : length (bytes_of m) ≡ size = rest.rest.laid.firm.size_is in
       let within : place + length content ≤ size = is.1.fits in
       let fits : place + length content ≤ length (bytes_of m) = omega (arith, long, within) in
@@ -64,7 +78,7 @@ module _ (size t flushed : ℕ) (at : FixedLabels) (v : View) where
         slot = fixed_wrote moment place content done m fits (slot_place size at.slot (slot_of v.u.group)) v.slot is.1.not_slot rest.slot;
       }
 
-  pub quiet_calls : (cs : List PoolCall) → AreQuiet size flushed at v cs → KeepCalls (IsAtRestAt size t flushed at v) cs
+  pub quiet_calls : (cs : List PoolCall) → AreQuiet size flushed at v cs → KeepCalls 0 (IsAtRestAt size t flushed at v) cs
   quiet_calls [] are = tt
   quiet_calls (c ∷ cs) are = (quiet_call c are.0, quiet_calls cs are.1)
 
@@ -103,9 +117,9 @@ module _ (size t flushed new_flushed new_config : ℕ) (at : FixedLabels) (old n
   abbrev Switching : Moment → Type 0
   Switching = IsSwitching size t flushed new_flushed new_config at old new
 
-  slots_keep : (cs : List PoolCall) → AreSlotCalls size flushed new_flushed new_config at old new cs → KeepCalls Switching cs
+  slots_keep : (cs : List PoolCall) → AreSlotCalls size flushed new_flushed new_config at old new cs → KeepCalls 0 Switching cs
   slots_keep [] are = tt
-  slots_keep (Put place content ∷ cs) are = (λ moment done m so_far. inr (slot_call place content are.0 moment done m so_far), slots_keep cs are.1)
+  slots_keep (Put place content ∷ cs) are = (λ moment done m since so_far. inr (slot_call place content are.0 moment done m so_far), slots_keep cs are.1)
   slots_keep (Settle ∷ cs) are = absurd are.0
 
   abbrev Phase : Moment → Type 0
@@ -150,17 +164,17 @@ module _ (size t flushed new_flushed new_config : ℕ) (at : FixedLabels) (old n
   pub sync_phases : (front slots back : List PoolCall) (d0 new_disk : Disk) (path : IsSyncPath size t flushed new_flushed new_config at old new front slots back d0 new_disk) → IsAtRestAt size t flushed at old d0.now
       → AreQuiet size flushed at old front → AreSlotCalls size flushed new_flushed new_config at old new slots → EachMoment Phase d0 new_disk
   sync_phases front slots back d0 dn (inl begun) rest quiet are =
-      weaker (IsAtRestAt size t flushed at old) Phase d0 dn (λ m r. inl r.rest) (each_of_begun (IsAtRestAt size t flushed at old) front d0 d0 dn (quiet_calls size t flushed at old front quiet) (starts (IsAtRestAt size t flushed at old) d0 rest) begun)
+      weaker (IsAtRestAt size t flushed at old) Phase d0 dn (λ m r. inl r.rest) (each_of_begun 0 (IsAtRestAt size t flushed at old) front d0 d0 dn (omega arith) (quiet_calls size t flushed at old front quiet) (starts (IsAtRestAt size t flushed at old) d0 rest) begun)
   sync_phases front slots back d0 dn (inr (d1, all, laid, later)) rest quiet are = go later
     where
       to_d1 : EachMoment (IsAtRestAt size t flushed at old) d0 d1
-      to_d1 = each_of_begun (IsAtRestAt size t flushed at old) front d0 d0 d1 (quiet_calls size t flushed at old front quiet) (starts (IsAtRestAt size t flushed at old) d0 rest) (made_of_all front d0 d1 all)
+      to_d1 = each_of_begun 0 (IsAtRestAt size t flushed at old) front d0 d0 d1 (omega arith) (quiet_calls size t flushed at old front quiet) (starts (IsAtRestAt size t flushed at old) d0 rest) (made_of_all front d0 d1 all)
 
       switching : Switching d1.now
       switching = inl (latest (IsAtRestAt size t flushed at old) d0 d1 to_d1, laid)
 
       slots_from : (cs : List PoolCall) (d : Disk) → AreSlotCalls size flushed new_flushed new_config at old new cs → AreBegun cs d1 d → EachMoment Switching d1 d
-      slots_from cs d are begun = each_of_begun Switching cs d1 d1 d (slots_keep cs are) (starts Switching d1 switching) begun
+      slots_from cs d are begun = each_of_begun 0 Switching cs d1 d1 d (omega arith) (slots_keep cs are) (starts Switching d1 switching) begun
 
       phases_to : (cs : List PoolCall) (d : Disk) → AreSlotCalls size flushed new_flushed new_config at old new cs → AreBegun cs d1 d → EachMoment Phase d0 d
       phases_to cs d are begun = joins Phase d0 d1 d (weaker (IsAtRestAt size t flushed at old) Phase d0 d1 (λ m r. inl r.rest) to_d1) (weaker Switching Phase d1 d switching_phase (slots_from cs d are begun))
@@ -180,5 +194,5 @@ module _ (size t flushed new_flushed new_config : ℕ) (at : FixedLabels) (old n
                 let d4 : Disk = next (settled (bytes_of d3.now) d3.now) d3 in
                 let to_d4 : EachMoment Phase d0 d4 = goes_on Phase d0 d3 d4.now to_d3 (inr (inr rest_new.rest)) in
                 joins Phase d0 d4 dn to_d4 (weaker (IsAtRestAt size t new_flushed new_at new) Phase d4 dn (λ m r. inr (inr r.rest))
-                (each_of_begun (IsAtRestAt size t new_flushed new_at new) back d4 d4 dn (quiet_calls size t new_flushed new_at new back last.quiet) (starts (IsAtRestAt size t new_flushed new_at new) d4 rest_new) begun))
+                (each_of_begun 0 (IsAtRestAt size t new_flushed new_at new) back d4 d4 dn (omega arith) (quiet_calls size t new_flushed new_at new back last.quiet) (starts (IsAtRestAt size t new_flushed new_at new) d4 rest_new) begun))
           ]

@@ -9,7 +9,7 @@ use Rattle.base.specs.Places.{Place, IsPlace}
 use Rattle.base.specs.Disk.{Moment, Disk, bytes_of, wrote, settled, written, certain}
 use Rattle.base.specs.Fairness.{IsCheckedPlace}
 use Rattle.base.specs.Calls.{Writes, Flushes}
-use Rattle.base.specs.Views.{View, Logged, IsFixed, IsLaid}
+use Rattle.base.specs.Views.{View, Logged, IsConfigContent, IsFixed, IsLaid}
 use Rattle.base.specs.Own.{IsAtRest, IsBetween}
 use Rattle.base.specs.Spares.{AreApart, IsTreeContent, IsOtherConfig}
 
@@ -33,20 +33,27 @@ abbrev pub AreBegun : List PoolCall → Disk → Disk → Type 0
 AreBegun [] old new = new ≡ old
 AreBegun (c ∷ cs) old new = (new ≡ old) ⊎ (((mid : Disk) × Makes c old (Ok tt) mid × AreBegun cs mid new) ⊎ ((e : PoolError) × Makes c old (Err e) new))
 
--- a call keeps P, whatever it answers
-abbrev pub KeepsCall : (Moment → Type 0) → PoolCall → Type 0
-KeepsCall P (Put place content) = (moment : ℕ) (done : Bool) (m : Moment) → P m → P (wrote moment place content done m)
-KeepsCall P Settle = (m : Moment) → P m → P (settled (bytes_of m) m)
+-- a call keeps P, whatever it answers, at each moment from this one on
+abbrev pub KeepsCall : ℕ → (Moment → Type 0) → PoolCall → Type 0
+KeepsCall t P (Put place content) = (moment : ℕ) (done : Bool) (m : Moment) → t ≤ moment → P m → P (wrote moment place content done m)
+KeepsCall t P Settle = (m : Moment) → P m → P (settled (bytes_of m) m)
 
-abbrev pub KeepCalls : (Moment → Type 0) → List PoolCall → Type 0
-KeepCalls P [] = ⊤
-KeepCalls P (c ∷ cs) = KeepsCall P c × KeepCalls P cs
+abbrev pub KeepCalls : ℕ → (Moment → Type 0) → List PoolCall → Type 0
+KeepCalls t P [] = ⊤
+KeepCalls t P (c ∷ cs) = KeepsCall t P c × KeepCalls t P cs
 
--- each write is of a whole place that the format checks
+-- each write is of a whole place that the format checks, on the device
 abbrev pub AreWholeCalls : ℕ → List PoolCall → Type 0
 AreWholeCalls size [] = ⊤
-AreWholeCalls size (Put place content ∷ cs) = IsCheckedPlace size place (length content) × AreWholeCalls size cs
+AreWholeCalls size (Put place content ∷ cs) = IsCheckedPlace size place (length content) × (place + length content ≤ size) × AreWholeCalls size cs
 AreWholeCalls size (Settle ∷ cs) = AreWholeCalls size cs
+
+-- what is written could pass for no config of the pool of a group above this one, but for one of these
+abbrev pub WriteConfigsUpTo : ℕ → ℕ → ℕ → (List ℕ → Type 0) → List PoolCall → Type 0
+WriteConfigsUpTo size guid top IsOther [] = ⊤
+WriteConfigsUpTo size guid top IsOther (Put place content ∷ cs) =
+    ((group : ℕ) (name : List ℕ) → IsConfigContent content size guid group name → (group ≤ top) ⊎ IsOther content) × WriteConfigsUpTo size guid top IsOther cs
+WriteConfigsUpTo size guid top IsOther (Settle ∷ cs) = WriteConfigsUpTo size guid top IsOther cs
 
 -- where a view has its fixed config and its fixed uberblock
 pub record FixedLabels : Type 0 where
@@ -61,8 +68,9 @@ pub record IsAtRestAt (size t flushed : ℕ) (at : FixedLabels) (v : View) (m : 
   pub config : IsFixed m (config_place size at.config) v.config
   pub slot : IsFixed m (slot_place size at.slot (slot_of v.u.group)) v.slot
 
--- so many bytes at a place lie on the device, and have none of what a view fixes in these labels, in its tree and in its flushed log
+-- so many bytes are a whole place on the device, and have none of what a view fixes in these labels, in its tree and in its flushed log
 pub record SparesAt (size flushed : ℕ) (at : FixedLabels) (v : View) (place n : ℕ) : Type 0 where
+  pub whole : IsCheckedPlace size place n
   pub fits : place + n ≤ size
   pub not_config : AreApart place n (config_place size at.config) (length v.config)
   pub not_slot : AreApart place n (slot_place size at.slot (slot_of v.u.group)) (length v.slot)
