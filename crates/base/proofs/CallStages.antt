@@ -15,6 +15,11 @@ use Rattle.base.proofs.Put.{part-put_same}
 use Rattle.base.proofs.Moments.{starts, goes_on, joins, weaker, latest, each_write, each_flush, bytes_may_be_left}
 use Rattle.base.proofs.KeptViews.{fixed_wrote, tree_block_rest, config_rest, first_slot, later_slot, fixed_settled, rest_settled, between_new}
 
+-- calls that are all made are begun
+pub made_of_all : (cs : List PoolCall) (disk new : Disk) → AreAllMade cs disk new → AreBegun cs disk new
+made_of_all [] disk new all = all
+made_of_all (c ∷ cs) disk new (mid, makes, rest) = inr (inl (mid, makes, made_of_all cs mid new rest))
+
 -- what each call keeps, each moment of the calls keeps, whatever they answer and wherever they stop
 module _ (t : ℕ) (P : Moment → Type 0) where
   pub each_call : (c : PoolCall) (old disk new : Disk) (r : Result (Unit {0}) PoolError) → t ≤ moments disk → KeepsCall t P c → EachMoment P old disk → Makes c disk r new → EachMoment P old new
@@ -128,10 +133,6 @@ module _ (size t flushed new_flushed new_config : ℕ) (at : FixedLabels) (old n
   switching_phase : (m : Moment) → Switching m → Phase m
   switching_phase m (inl rest) = inl rest.0.rest
   switching_phase m (inr b) = inr (inl b.between)
-
-  made_of_all : (cs : List PoolCall) (disk new : Disk) → AreAllMade cs disk new → AreBegun cs disk new
-  made_of_all [] disk new all = all
-  made_of_all (c ∷ cs) disk new (mid, makes, rest) = inr (inl (mid, makes, made_of_all cs mid new rest))
 
   -- the last write of the new uberblock and the flush behind it, both answered Ok
   switched : (place label : ℕ) (in_range : label < 4) (config_below : new_config < 4) → place ≡ slot_place size label (slot_of new.u.group)

@@ -64,3 +64,4 @@ pub mod LogViews
 pub mod Geometry
 pub mod StoredPlaces
 pub mod FairBytes
+pub mod SyncPaths
