@@ -19,7 +19,7 @@ use Rattle.base.specs.Fields.{part}
 use Rattle.base.specs.Geometry.{slot_place, slot_of}
 use Rattle.base.specs.Uberblocks.{slot_size}
 
-take_whole : (n : ℕ) (ls : List Logged) → length ls ≤ n → take n ls ≡ ls
+pub take_whole : (n : ℕ) (ls : List Logged) → length ls ≤ n → take n ls ≡ ls
 take_whole zero [] short = refl
 take_whole (suc n) [] short = refl
 take_whole zero (l ∷ ls) short = absurd (omega (arith, short))

@@ -65,3 +65,4 @@ pub mod Geometry
 pub mod StoredPlaces
 pub mod FairBytes
 pub mod SyncPaths
+pub mod OwnDisks

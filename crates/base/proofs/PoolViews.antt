@@ -13,18 +13,18 @@ use Rattle.base.specs.PoolViews.{IsViewOf, IsPoolLaid}
 use Rattle.base.proofs.FoundViews.{rest_found, between_found}
 
 -- the blocks of a front of a line
-front_length : (n : ℕ) (ls : List Logged) → n ≤ length ls → length (map (λ (l : Logged). l.block) (take n ls)) ≡ n
+pub front_length : (n : ℕ) (ls : List Logged) → n ≤ length ls → length (map (λ (l : Logged). l.block) (take n ls)) ≡ n
 front_length zero ls short = refl
 front_length (suc n) [] short = absurd (omega (arith, short))
 front_length (suc n) (l ∷ ls) short = ap (λ (k : ℕ). suc k) (front_length n ls (omega (arith, short)))
 
-front_at : (n : ℕ) (ls : List Logged) (i : ℕ) (b : LogBlock) → slice_get (map (λ (l : Logged). l.block) (take n ls)) i ≡ Some b → (l : Logged) × (slice_get ls i ≡ Some l) × (l.block ≡ b)
+pub front_at : (n : ℕ) (ls : List Logged) (i : ℕ) (b : LogBlock) → slice_get (map (λ (l : Logged). l.block) (take n ls)) i ≡ Some b → (l : Logged) × (slice_get ls i ≡ Some l) × (l.block ≡ b)
 front_at zero ls i b at = absurd (let no_way : None ≡ Some b = at in cc)
 front_at (suc n) [] i b at = absurd (let no_way : None ≡ Some b = at in cc)
 front_at (suc n) (l ∷ ls) zero b at = (l, refl, let same : Some l.block ≡ Some b = at in cc)
 front_at (suc n) (l ∷ ls) (suc i) b at = front_at n ls i b at
 
-pub found_lies : (image : List ℕ) (flushed : ℕ) (v : View) (s : Shown) (past : Past) (group : ℕ) (root : Pointer) (header : Header)
+abbrev pub found_lies : (image : List ℕ) (flushed : ℕ) (v : View) (s : Shown) (past : Past) (group : ℕ) (root : Pointer) (header : Header)
     → IsFoundAs image flushed v → IsViewOf flushed v s past group root header → LiesAs image s past group root header
 found_lies image flushed v s past group root header found is =
     let long : length (map (λ (l : Logged). l.block) (take found.count v.logged)) ≡ found.count = front_length found.count v.logged found.most in

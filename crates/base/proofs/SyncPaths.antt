@@ -58,16 +58,16 @@ whole_calls size t g [] are = tt
 whole_calls size t g (Put place content ∷ cs) are = (λ moment done m since fair. fair_bytes_wrote size g t moment place content done m since are.0 are.1 fair, whole_calls size t g cs are.2)
 whole_calls size t g (Settle ∷ cs) are = (λ m fair. fair_bytes_settled size g t m fair, whole_calls size t g cs are)
 
-module _ (size t : ℕ) (guid top : ℕ) (IsOther : List ℕ → Type 0) where
+module _ (size t : ℕ) (guid top : ℕ) (IsOther : ℕ → List ℕ → Type 0) where
   abbrev Known : Moment → Type 0
   Known m = AreConfigsUpTo size t (handed m) guid top IsOther
 
-  configs_put : (place : ℕ) (content : List ℕ) → ((group : ℕ) (name : List ℕ) → IsConfigContent content size guid group name → (group ≤ top) ⊎ IsOther content) → KeepsCall t Known (Put place content)
+  configs_put : (place : ℕ) (content : List ℕ) → ((group : ℕ) (name : List ℕ) → IsConfigContent content size guid group name → (group ≤ top) ⊎ IsOther group content) → KeepsCall t Known (Put place content)
   configs_put place content new = λ moment done m since known label group name c below some is. go moment done m known label group name c below some is
     where
       go : (moment : ℕ) (done : Bool) (m : Moment) → Known m → Known (wrote moment place content done m)
       go moment done m known label group name c below (inl here) is =
-          subst (λ (l : List ℕ). (group ≤ top) ⊎ IsOther l) here.2 (new group name (subst (λ (l : List ℕ). IsConfigContent l size guid group name) (sym here.2) is))
+          subst (λ (l : List ℕ). (group ≤ top) ⊎ IsOther group l) here.2 (new group name (subst (λ (l : List ℕ). IsConfigContent l size guid group name) (sym here.2) is))
       go moment done m known label group name c below (inr there) is = known label group name c below there is
 
   pub configs_settled : (image : List ℕ) (m : Moment) → Known m → Known (settled image m)
@@ -80,7 +80,7 @@ module _ (size t : ℕ) (guid top : ℕ) (IsOther : List ℕ → Type 0) where
   config_calls (Settle ∷ cs) are = (λ m known. configs_settled (bytes_of m) m known, config_calls cs are)
 
   -- an uberblock is no config
-  no_config : (content : List ℕ) → length content ≡ slot_size → (group : ℕ) (name : List ℕ) → IsConfigContent content size guid group name → (group ≤ top) ⊎ IsOther content
+  no_config : (content : List ℕ) → length content ≡ slot_size → (group : ℕ) (name : List ℕ) → IsConfigContent content size guid group name → (group ≤ top) ⊎ IsOther group content
   no_config content short group name is = let long : length content ≡ block_size = is.block.size in absurd (omega (arith, short, long))
 
 module _ (size t flushed new_flushed new_config : ℕ) (at : FixedLabels) (old new : View) (front slots back : List PoolCall) (d0 dn : Disk) (began : t ≤ moments d0)
@@ -91,7 +91,7 @@ module _ (size t flushed new_flushed new_config : ℕ) (at : FixedLabels) (old n
       (λ place content is moment done m since fair. fair_bytes_wrote size g t moment place content done m since is.old_spared.whole is.old_spared.fits fair)
       front slots back d0 dn began (whole_calls size t g front whole_front) are (whole_calls size t g back whole_back) here path
 
-  pub sync_configs : (guid top : ℕ) (IsOther : List ℕ → Type 0) → IsUberblock new.slot new.u → WriteConfigsUpTo size guid top IsOther front → WriteConfigsUpTo size guid top IsOther back
+  pub sync_configs : (guid top : ℕ) (IsOther : ℕ → List ℕ → Type 0) → IsUberblock new.slot new.u → WriteConfigsUpTo size guid top IsOther front → WriteConfigsUpTo size guid top IsOther back
       → AreConfigsUpTo size t (handed d0.now) guid top IsOther → EachMoment (λ m. AreConfigsUpTo size t (handed m) guid top IsOther) d0 dn
   sync_configs guid top IsOther u in_front in_back here =
       each_of_path t (Known size t guid top IsOther) size flushed new_flushed new_config at old new (λ m known. configs_settled size t guid top IsOther (bytes_of m) m known)

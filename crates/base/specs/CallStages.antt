@@ -48,11 +48,11 @@ AreWholeCalls size [] = ⊤
 AreWholeCalls size (Put place content ∷ cs) = IsCheckedPlace size place (length content) × (place + length content ≤ size) × AreWholeCalls size cs
 AreWholeCalls size (Settle ∷ cs) = AreWholeCalls size cs
 
--- what is written could pass for no config of the pool of a group above this one, but for one of these
-abbrev pub WriteConfigsUpTo : ℕ → ℕ → ℕ → (List ℕ → Type 0) → List PoolCall → Type 0
+-- what is written could pass for no config of the pool of a group above this one, but for one of these of its group
+abbrev pub WriteConfigsUpTo : ℕ → ℕ → ℕ → (ℕ → List ℕ → Type 0) → List PoolCall → Type 0
 WriteConfigsUpTo size guid top IsOther [] = ⊤
 WriteConfigsUpTo size guid top IsOther (Put place content ∷ cs) =
-    ((group : ℕ) (name : List ℕ) → IsConfigContent content size guid group name → (group ≤ top) ⊎ IsOther content) × WriteConfigsUpTo size guid top IsOther cs
+    ((group : ℕ) (name : List ℕ) → IsConfigContent content size guid group name → (group ≤ top) ⊎ IsOther group content) × WriteConfigsUpTo size guid top IsOther cs
 WriteConfigsUpTo size guid top IsOther (Settle ∷ cs) = WriteConfigsUpTo size guid top IsOther cs
 
 -- where a view has its fixed config and its fixed uberblock

@@ -31,7 +31,7 @@ IsPhase size t flushed new_flushed m old new = IsAtRest size t flushed m old ⊎
 
 -- no config of the pool that counts is of a group that an import of this view may reach, but for the one that it writes
 abbrev pub AreConfigsBelowImport : ℕ → ℕ → List Write → View → Type 0
-AreConfigsBelowImport size t ws v = AreConfigsUpTo size t ws v.u.guid (v.u.group + 3) (λ content. content ≡ config_content size v.u.guid (v.u.group + 4) v.name)
+AreConfigsBelowImport size t ws v = AreConfigsUpTo size t ws v.u.guid (v.u.group + 3) (λ group content. (group ≡ v.u.group + 4) × (content ≡ config_content size v.u.guid group v.name))
 
 -- an image that is certain is one that this pool alone has written since its create, and mounts these contents
 pub record IsOwnImage (size t : ℕ) (image : List ℕ) (m : Moment) (guid : ℕ) (contents : Contents) : Type 0 where

@@ -54,7 +54,7 @@ IsPoolLaid size m s past = IsPoolAtRest size m s past ⊎ IsPoolBetween size m s
 
 -- no config of the pool that counts is above the synced group, but for the one that a running sync writes
 abbrev pub ArePoolConfigs : ℕ → Moment → Shown → Past → Type 0
-ArePoolConfigs size m s past = AreConfigsUpTo size past.created (handed m) s.guid s.line.synced (λ content. (group : ℕ) × (c : Contents) × (s.line.syncing ≡ Some group)
+ArePoolConfigs size m s past = AreConfigsUpTo size past.created (handed m) s.guid s.line.synced (λ group content. (c : Contents) × (s.line.syncing ≡ Some group)
     × (replay (entries_up_to group past.entries) past.base ≡ Ok c) × (content ≡ config_content size s.guid group c.name))
 
 -- all that a running pool keeps of its disk

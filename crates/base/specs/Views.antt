@@ -121,10 +121,10 @@ abbrev pub AreConfigsKnown : ℕ → ℕ → List Write → View → Type 0
 AreConfigsKnown size t ws v = (label group : ℕ) (name content : List ℕ) → label < 4 → HandedSince t ws (config_place size label) content
     → IsConfigContent content size v.u.guid group name → group ≤ v.u.group → (group < v.config_group) ⊎ (content ≡ v.config)
 
--- of the writes that count, each config of the pool is of no group above this one, or is one of these
-abbrev pub AreConfigsUpTo : ℕ → ℕ → List Write → ℕ → ℕ → (List ℕ → Type 0) → Type 0
+-- of the writes that count, each config of the pool is of no group above this one, or is one of these of its group
+abbrev pub AreConfigsUpTo : ℕ → ℕ → List Write → ℕ → ℕ → (ℕ → List ℕ → Type 0) → Type 0
 AreConfigsUpTo size t ws guid top IsOther = (label group : ℕ) (name content : List ℕ) → label < 4 → HandedSince t ws (config_place size label) content
-    → IsConfigContent content size guid group name → (group ≤ top) ⊎ IsOther content
+    → IsConfigContent content size guid group name → (group ≤ top) ⊎ IsOther group content
 
 -- Of the writes that count, each log block of the pool is of an older chain, or before the header, or one of the view's, or behind the
 -- number that comes next: only the block of that number could make the chain longer.
