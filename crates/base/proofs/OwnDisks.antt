@@ -18,7 +18,7 @@ use Rattle.base.specs.Explains.{IsLeftBy}
 use Rattle.base.specs.Layout.{LiesAs, kept_from, header_now}
 use Rattle.base.specs.Views.{View, Logged, IsFoundAs, AreConfigsUpTo, config_content}
 use Rattle.base.specs.Own.{IsAtRest, IsPhase, AreConfigsBelowImport, IsOwnImage, IsOwnWith}
-use Rattle.base.specs.PoolViews.{IsViewOf, IsPoolLaid, IsPoolDisk, ArePoolConfigs}
+use Rattle.base.specs.PoolViews.{IsViewOf, IsPoolLaid, IsPoolDisk, IsSyncConfig}
 use Rattle.base.specs.CrashRule.{MountsAs, IsRunLeft}
 use Rattle.base.proofs.Moments.{bytes_may_be_left}
 use Rattle.base.proofs.Fairness.{fair_settled}
@@ -108,9 +108,9 @@ module _ (size : ℕ) (m : Moment) (s : Shown) (past : Past) (now : Contents) (i
   configs : (v : View) → v.u.guid ≡ s.guid → s.line.synced ≤ v.u.group → AreConfigsBelowImport size past.created (handed m) v
   configs v of_guid no_lower =
       subst (λ (guid : ℕ). AreConfigsUpTo size past.created (handed m) guid (v.u.group + 3) (λ group content. (group ≡ v.u.group + 4) × (content ≡ config_content size guid group v.name))) (sym of_guid)
-      (configs_weaker size past.created (handed m) s.guid s.line.synced (v.u.group + 3) _ (λ group content. (group ≡ v.u.group + 4) × (content ≡ config_content size s.guid group v.name)) (omega (arith, no_lower))
+      (configs_weaker size past.created (handed m) s.guid s.line.synced (v.u.group + 3) (IsSyncConfig size s past) (λ group content. (group ≡ v.u.group + 4) × (content ≡ config_content size s.guid group v.name)) (omega (arith, no_lower))
       (λ group content other.
-      let next : group ≡ s.line.synced + 1 = subst (λ o. IfSome o (λ g. g ≡ s.line.synced + 1)) other.1 line.syncing in
+      let next : group ≡ s.line.synced + 1 = subst (λ o. IfSome o (λ g. g ≡ s.line.synced + 1)) other.syncing line.syncing in
       inl (omega (arith, next, no_lower))) kept.configs)
 
   -- the contents of a view without log blocks

@@ -1,11 +1,14 @@
 -- The views that a running pool keeps on its disk: the one of its synced group, and, while a sync runs, also the one of that sync's group.
 -- No contract cites them yet.
-use Rattle.std.specs.Prelude.{ℕ, ◌≡◌, ◌<◌, ◌⊎◌, true, length, slice_get, Some, Ok}
+use Rattle.std.specs.Prelude.{ℕ, ◌≡◌, ◌<◌, ◌⊎◌, true, List, length, slice_get, Some, Ok}
+use Rattle.std.specs.List.{list_any}
 use Rattle.base.specs.declared.pointer.Pointer.{Pointer}
 use Rattle.base.specs.History.{replay, entries_up_to}
 use Rattle.base.specs.Contents.{Contents}
 use Rattle.base.specs.Disk.{Moment, handed}
 use Rattle.base.specs.Fairness.{HasFairBytes}
+use Rattle.base.specs.Syncs.{is_rename}
+use Rattle.base.specs.Steps.{ops_of_group}
 use Rattle.base.specs.Chain.{Header}
 use Rattle.base.specs.Mount.{header_of}
 use Rattle.base.specs.Past.{Past}
@@ -52,13 +55,17 @@ pub record IsPoolBetween (size : ℕ) (m : Moment) (s : Shown) (past : Past) : T
 abbrev pub IsPoolLaid : ℕ → Moment → Shown → Past → Type 0
 IsPoolLaid size m s past = IsPoolAtRest size m s past ⊎ IsPoolBetween size m s past
 
--- no config of the pool that counts is above the synced group, but for the one that a running sync writes
-abbrev pub ArePoolConfigs : ℕ → Moment → Shown → Past → Type 0
-ArePoolConfigs size m s past = AreConfigsUpTo size past.created (handed m) s.guid s.line.synced (λ group content. (c : Contents) × (s.line.syncing ≡ Some group)
-    × (replay (entries_up_to group past.entries) past.base ≡ Ok c) × (content ≡ config_content size s.guid group c.name))
+-- the config that a running sync writes, where its group has a new name
+pub record IsSyncConfig (size : ℕ) (s : Shown) (past : Past) (group : ℕ) (content : List ℕ) : Type 0 where
+  pub syncing : s.line.syncing ≡ Some group
+  pub renamed : list_any is_rename (ops_of_group group past.entries) ≡ true
+  pub contents : Contents
+  pub replayed : replay (entries_up_to group past.entries) past.base ≡ Ok contents
+  pub content_is : content ≡ config_content size s.guid group contents.name
 
--- all that a running pool keeps of its disk
+-- all that a running pool keeps of its disk: what a read gives is fair, no config of the pool that counts is above the synced group but for
+-- that of a running sync, and its views are laid
 pub record IsPoolDisk (size : ℕ) (m : Moment) (s : Shown) (past : Past) : Type 0 where
   pub bytes : HasFairBytes size past.created m
-  pub configs : ArePoolConfigs size m s past
+  pub configs : AreConfigsUpTo size past.created (handed m) s.guid s.line.synced (IsSyncConfig size s past)
   pub laid : IsPoolLaid size m s past
