@@ -61,3 +61,14 @@ pub mod SyncEnds
 pub mod SeenStates
 pub mod SeenGroups
 pub mod SeenRefusals
+pub mod FoundViews
+pub mod KeptViews
+pub mod PoolViews
+pub mod CallStages
+pub mod CrashRule
+pub mod LogViews
+pub mod Geometry
+pub mod StoredPlaces
+pub mod FairBytes
+pub mod SyncPaths
+pub mod OwnDisks

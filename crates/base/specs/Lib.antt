@@ -51,3 +51,9 @@ pub mod ExactNow
 pub mod SyncEnds
 pub mod Errors
 pub mod Stored
+pub mod Views
+pub mod Own
+pub mod Spares
+pub mod PoolViews
+pub mod CallStages
+pub mod CrashRule

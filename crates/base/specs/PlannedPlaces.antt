@@ -1,4 +1,5 @@
--- The places that a sync writes, told by which records and which objects change.
+-- The places that a sync writes, told by which records and which objects change. It is so at this stage, on which transactions create and
+-- write: an indirect block is written exactly where a record of its object is, and what changes is present. `Syncs` says it of all operations.
 use Rattle.std.specs.Prelude.{ℕ, Bool, List, [], ◌∷◌, ◌++◌, map, filter, if◌then◌else◌}
 use Rattle.std.specs.List.{list_any, flat_map, range_with_len}
 use Rattle.base.specs.Limits.{object_count, pointer_count}

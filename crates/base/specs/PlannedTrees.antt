@@ -1,4 +1,5 @@
--- What a sync makes of a tree, place by place: each place keeps what it has, or gets a new block, or has none any more.
+-- What a sync makes of a tree, place by place: each place keeps what it has, or gets a new block. That is all at this stage, on which
+-- transactions create and write: with a remove and a cut a place may also have none any more, and an object may get shorter.
 use Rattle.std.specs.Prelude.{ℕ, ◌≡◌, ◌≢◌, ◌≤◌, ◌<◌, ◌+◌, ◌*◌, ◌⊎◌, List, [], length, slice_get, Option, Some, IfSome, unwrap_or, option_map}
 use Rattle.std.specs.Ordering.{nat_cmp}
 use Rattle.std.specs.FinMap as map
@@ -31,11 +32,11 @@ pub record IsNewAt (blocks : List NewBlock) (frame : Frame) (place : Place) (poi
 abbrev pub SameEntry : Option (List ℕ) → Option (List ℕ) → Type 0
 SameEntry before after = option_map length before ≡ option_map length after
 
--- record r of an object that is there has the same bytes as before, where no object has none, and the object is no shorter
+-- record r of an object that is there has the same bytes as before, where no object has none, and, at this stage, the object is no shorter
 abbrev pub SameRecord : ℕ → Option (List ℕ) → Option (List ℕ) → Type 0
 SameRecord r before after = IfSome after (λ bytes. (padded_record r (unwrap_or before []) ≡ padded_record r bytes) × (length (unwrap_or before []) ≤ length bytes))
 
--- of new blocks, old and new pointers, and objects before and after: what becomes of a place
+-- of new blocks, old and new pointers, and objects before and after: what becomes of a place, where operations create and write
 abbrev pub IsPlannedAt : List NewBlock → Frame → (Place → Pointer) → (Place → Pointer) → FinMap nat_cmp (List ℕ) → FinMap nat_cmp (List ℕ) → Place → Type 0
 IsPlannedAt blocks frame old new before after Root =
     ((new Root ≡ old Root) × ((d : ℕ) → d < pointer_count → new (Directory d) ≡ old (Directory d)))

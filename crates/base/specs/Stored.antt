@@ -55,8 +55,8 @@ AreUpTo group entries = All (λ (e : Entry). e.group ≤ group) entries
 abbrev pub AreBuilt : List Admission → Type 0
 AreBuilt admissions = (i : ℕ) (a : Admission) → slice_get admissions i ≡ Some a → list_all is_shape_built a.plan ≡ true
 
--- The bytes hold the synced tree with these pointers, and the free blocks are the others but for the next log block. While an older
--- group is unsynced no entry is above it, as no transaction commits then.
+-- The bytes hold the synced tree with these pointers, and the free blocks are the others but for the next log block. As of this stage no log
+-- block is kept, transactions create and write, and while an older group is unsynced no entry is above it, as none commits then.
 pub record IsStored (now : List ℕ) (s : Shown) (pointers : Place → Pointer) (past : Past) : Type 0 where
   pub synced : Contents
   pub replayed : replay (entries_up_to s.line.synced past.entries) past.base ≡ Ok synced

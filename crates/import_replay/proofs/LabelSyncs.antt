@@ -13,7 +13,7 @@ use Rattle.base.specs.SyncOrder.DeviceCall.{Block, Config as ConfigCall, Uberblo
 use Rattle.base.specs.Uberblocks.{Uberblock}
 use Rattle.base.proofs.Put.{Apart, length-put, part-put_apart}
 use Rattle.base.proofs.Regions.{flushed_clean}
-use Rattle.labels.proofs.Places.{IsGeometry-IsSize}
+use Rattle.base.proofs.Geometry.{IsGeometry-IsSize}
 use Rattle.labels.specs.Configs.{config_block}
 use Rattle.labels.specs.declared.stage.Stage.{Stage}
 use Rattle.uberblocks.specs.Slots.{slot_bytes}

@@ -13,7 +13,7 @@ use Rattle.base.specs.Uberblocks.{Uberblock, IsUberblock}
 use Rattle.base.proofs.Put.{Apart, get_or-put_other, part-put_same, part-put_apart}
 use Rattle.base.proofs.Regions.{flushed_clean}
 use Rattle.labels.specs.Configs.{IsConfigBlock}
-use Rattle.labels.proofs.Places.{labels-apart, label-on_device, blocks-end, IsGeometry-IsSize}
+use Rattle.base.proofs.Geometry.{labels-apart, label-on_device, blocks-end, IsGeometry-IsSize}
 use Rattle.uberblocks.proofs.Places.{slot_below}
 use Rattle.import_replay.specs.Creations.{first_config}
 use Rattle.import_replay.specs.Cleared.{zeros, IsInTail, IsInConfig, IsInFirstSlot, AreTailsCleared, AreBlocksCleared, IsCleared}

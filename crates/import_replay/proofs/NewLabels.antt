@@ -22,7 +22,7 @@ use Rattle.base.specs.Mount.{IsMounted, IsUseCount}
 use Rattle.base.proofs.Put.{length-part}
 use Rattle.base.proofs.Moments.{only_bytes}
 use Rattle.labels.proofs.LabelsOfImage.{IsConfigBlock-IsConfig}
-use Rattle.labels.proofs.Places.{slot-on_device}
+use Rattle.base.proofs.Geometry.{slot-on_device}
 use Rattle.uberblocks.proofs.Places.{part-part, slot_below}
 use Rattle.uberblocks.proofs.SlotReads.{readings_agree}
 use Rattle.import_replay.specs.Creations.{IsCreatedOn, IsNewPool, first_uberblock, first_config}

@@ -14,7 +14,7 @@ use Rattle.base.proofs.Put.{part_same}
 use Rattle.labels.specs.Configs.{IsConfigBlock, config_block}
 use Rattle.labels.specs.declared.stage.Stage.{Stage}
 use Rattle.labels.specs.declared.stage.Stage.TheVariants.{Even, Odd}
-use Rattle.labels.proofs.Places.{labels-apart}
+use Rattle.base.proofs.Geometry.{labels-apart}
 use Rattle.uberblocks.proofs.Places.{slot_below}
 use Rattle.sync.specs.declared.run.LabelStages.{LabelStages}
 use Rattle.sync.specs.declared.run.SyncRun.{SyncRun}

@@ -1,4 +1,3 @@
-pub mod Places
 pub mod ConfigBlocks
 pub mod BestConfigs
 pub mod LabelsOfImage

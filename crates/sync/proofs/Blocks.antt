@@ -11,7 +11,7 @@ use Rattle.base.specs.Geometry.{IsGeometry, block_area, block_count, block_size}
 use Rattle.base.specs.SyncOrder.{DeviceCall, calls_in_order}
 use Rattle.base.specs.SyncOrder.DeviceCall.{Block, Config, Uberblock, Flush}
 use Rattle.base.proofs.Regions.{flushed_clean}
-use Rattle.labels.proofs.Places.{blocks-end, IsGeometry-IsSize}
+use Rattle.base.proofs.Geometry.{blocks-end, IsGeometry-IsSize}
 use Rattle.labels.specs.declared.stage.Stage.{Stage}
 use Rattle.labels.specs.declared.stage.Stage.TheVariants.{Even, Odd}
 use Rattle.tree_plans.specs.declared.planner.PlannedBlock.{PlannedBlock}

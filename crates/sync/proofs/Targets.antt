@@ -12,7 +12,7 @@ use Rattle.base.proofs.CommitOrder.{All-at}
 use Rattle.base.proofs.Put.{Apart}
 use Rattle.labels.specs.declared.stage.Stage.{Stage}
 use Rattle.labels.specs.declared.stage.Stage.TheVariants.{Even, Odd}
-use Rattle.labels.proofs.Places.{labels-apart, blocks-end, IsGeometry-IsSize, config-writable, slot-writable, block-writable}
+use Rattle.base.proofs.Geometry.{labels-apart, blocks-end, IsGeometry-IsSize, config-writable, slot-writable, block-writable}
 use Rattle.tree_plans.specs.declared.planner.PlannedBlock.{PlannedBlock}
 use Rattle.sync.specs.declared.run.LabelStages.{LabelStages}
 use Rattle.sync.specs.declared.run.SyncRun.{SyncRun}
