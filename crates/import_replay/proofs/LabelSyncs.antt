@@ -3,9 +3,7 @@ use Rattle.std.proofs.Common.{◌≡◌, ◌≢◌, ◌⊎◌, inl, inr, ℕ, ze
 use Rattle.std.specs.Prelude.{vec_len}
 use Rattle.std.proofs.lemmas.Bool.{cases_eq, false≢true}
 use Rattle.base.specs.declared.error.PoolError.{PoolError}
-use Rattle.base.specs.declared.error.PoolError.TheVariants as refusal
 use Rattle.base.specs.Disk.{Disk, bytes_of, certain, put}
-use Rattle.base.specs.Calls.{Counts}
 use Rattle.base.specs.Geometry.{IsGeometry, block_address, block_count, label_place, config_place, slot_of, slot_place}
 use Rattle.base.specs.Labels.{Config}
 use Rattle.base.specs.SyncOrder.{DeviceCall}
@@ -98,14 +96,11 @@ sync_goes_on size config u first old new same is = record {
 }
 
 -- the refusal of a call is that of the sync
-pub sync_refused : (before mid after : ℕ) (c : DeviceCall) (e : PoolError) → mid ≡ before → Counts mid after (refusal_of c) (Err e) → IsSyncRefusal before after e
-sync_refused before mid after c e same counts = (by_call c counts.named, λ low. let one = counts.refused (omega (arith, low, same)) in omega (arith, one, same))
-  where
-    by_call : (c : DeviceCall) → e ≡ refusal_of c → (e ≡ refusal.Write) ⊎ (e ≡ refusal.Flush)
-    by_call (Block k) is = inl is
-    by_call (ConfigCall label) is = inl is
-    by_call (UberblockCall label) is = inl is
-    by_call Flush is = inr is
+pub sync_refused : (c : DeviceCall) (e : PoolError) → e ≡ refusal_of c → IsSyncRefusal e
+sync_refused (Block k) e is = inl is
+sync_refused (ConfigCall label) e is = inl is
+sync_refused (UberblockCall label) e is = inl is
+sync_refused Flush e is = inr is
 
 -- after a call that was not the last, there are calls left
 pub sync_left : (old new : SyncRun) (last : Bool) → SameSync old new → old.done < call_count old → new.done ≡ old.done + 1 → IsTrue last ↔ (new.done ≡ call_count new) → last ≡ false

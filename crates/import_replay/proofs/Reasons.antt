@@ -24,16 +24,16 @@ other image e no_pool not_many not_damaged not_full = record {
   no_space = λ is. absurd (not_full is);
 }
 
-find_reason : (image : List ℕ) (before after : ℕ) (e : PoolError) → IsFindRefusal before after e → (e ≡ NoPool → HasNoPool image) → IsReason image e
-find_reason image before after e (inl is) none = other image e none (λ f. cc) (λ k a f. cc) (λ f. cc)
-find_reason image before after e (inr (inl (is, grown))) none = other image e none (λ f. cc) (λ k a f. cc) (λ f. cc)
-find_reason image before after e (inr (inr is)) none = other image e none (λ f. cc) (λ k a f. cc) (λ f. cc)
+find_reason : (image : List ℕ) (e : PoolError) → IsFindRefusal e → (e ≡ NoPool → HasNoPool image) → IsReason image e
+find_reason image e (inl is) none = other image e none (λ f. cc) (λ k a f. cc) (λ f. cc)
+find_reason image e (inr (inl is)) none = other image e none (λ f. cc) (λ k a f. cc) (λ f. cc)
+find_reason image e (inr (inr is)) none = other image e none (λ f. cc) (λ k a f. cc) (λ f. cc)
 
-pub reason-uberblock : (image : List ℕ) (before after : ℕ) (e : PoolError) → IsFindRefusal before after e → LacksUberblock image e → IsReason image e
-reason-uberblock image before after e refused none = find_reason image before after e refused (λ is. inl (none is))
+pub reason-uberblock : (image : List ℕ) (e : PoolError) → IsFindRefusal e → LacksUberblock image e → IsReason image e
+reason-uberblock image e refused none = find_reason image e refused (λ is. inl (none is))
 
-pub reason-name : (image : List ℕ) (u : Uberblock) (before after : ℕ) (e : PoolError) → IsFindRefusal before after e → IsActive image u → LacksName image u.guid u.group e → IsReason image e
-reason-name image u before after e refused active none = find_reason image before after e refused (λ is. inr (u, active, none is))
+pub reason-name : (image : List ℕ) (u : Uberblock) (e : PoolError) → IsFindRefusal e → IsActive image u → LacksName image u.guid u.group e → IsReason image e
+reason-name image u e refused active none = find_reason image e refused (λ is. inr (u, active, none is))
 
 -- or the first fault
 maybe_damaged : (image : List ℕ) (e : PoolError) → (e ≡ NoPool → ⊥) → (e ≡ TooMany → ⊥) → (e ≡ NoSpace → ⊥) → ((kind address : ℕ) → e ≡ Damaged kind address → IsTreeDamaged image kind address) → IsReason image e
@@ -44,10 +44,10 @@ maybe_damaged image e not_pool not_many not_full damaged = record {
   no_space = λ is. absurd (not_full is);
 }
 
-pub reason-load : (image : List ℕ) (before after : ℕ) (e : PoolError) → IsLoadRefusal before after e → ((kind address : ℕ) → e ≡ Damaged kind address → IsTreeDamaged image kind address) → IsReason image e
-reason-load image before after e (inl is) = maybe_damaged image e (λ f. cc) (λ f. cc) (λ f. cc)
-reason-load image before after e (inr (inl (is, grown))) = maybe_damaged image e (λ f. cc) (λ f. cc) (λ f. cc)
-reason-load image before after e (inr (inr (kind, address, is))) = maybe_damaged image e (λ f. cc) (λ f. cc) (λ f. cc)
+pub reason-load : (image : List ℕ) (e : PoolError) → IsLoadRefusal e → ((kind address : ℕ) → e ≡ Damaged kind address → IsTreeDamaged image kind address) → IsReason image e
+reason-load image e (inl is) = maybe_damaged image e (λ f. cc) (λ f. cc) (λ f. cc)
+reason-load image e (inr (inl is)) = maybe_damaged image e (λ f. cc) (λ f. cc) (λ f. cc)
+reason-load image e (inr (inr (kind, address, is))) = maybe_damaged image e (λ f. cc) (λ f. cc) (λ f. cc)
 
 -- or that each block is in the tree
 other_than_full : (image : List ℕ) (u : Uberblock) (e : PoolError) → (e ≡ NoPool → ⊥) → (e ≡ TooMany → ⊥) → ((kind address : ℕ) → e ≡ Damaged kind address → ⊥) → IsActive image u
@@ -59,11 +59,11 @@ other_than_full image u e not_pool not_many not_damaged active full = record {
   no_space = λ is. (u, active, full is);
 }
 
-pub reason-open : (image : List ℕ) (before after : ℕ) (u : Uberblock) (e : PoolError) → IsOpenRefusal before after e → IsActive image u → (e ≡ NoSpace → HasAllBlocks image u.root) → IsReason image e
-reason-open image before after u e (inl is) = other_than_full image u e (λ f. cc) (λ f. cc) (λ k a f. cc)
-reason-open image before after u e (inr (inl is)) = other_than_full image u e (λ f. cc) (λ f. cc) (λ k a f. cc)
-reason-open image before after u e (inr (inr (inl is, grown))) = other_than_full image u e (λ f. cc) (λ f. cc) (λ k a f. cc)
-reason-open image before after u e (inr (inr (inr is, grown))) = other_than_full image u e (λ f. cc) (λ f. cc) (λ k a f. cc)
+pub reason-open : (image : List ℕ) (u : Uberblock) (e : PoolError) → IsOpenRefusal e → IsActive image u → (e ≡ NoSpace → HasAllBlocks image u.root) → IsReason image e
+reason-open image u e (inl is) = other_than_full image u e (λ f. cc) (λ f. cc) (λ k a f. cc)
+reason-open image u e (inr (inl is)) = other_than_full image u e (λ f. cc) (λ f. cc) (λ k a f. cc)
+reason-open image u e (inr (inr (inl is))) = other_than_full image u e (λ f. cc) (λ f. cc) (λ k a f. cc)
+reason-open image u e (inr (inr (inr is))) = other_than_full image u e (λ f. cc) (λ f. cc) (λ k a f. cc)
 
 pub reason-many : (image : List ℕ) (u : Uberblock) → IsActive image u → is_past_last u.group u.import_number ≡ true → IsReason image TooMany
 reason-many image u active past = record {

@@ -1,7 +1,7 @@
 //! A new pool.
 
 ghost use Rattle.std.specs.Prelude.{◌≡◌, ◌⊎◌, IfErr, IfOk, IsTrue, List, OnOk, [], ℕ};
-ghost use Rattle.base.specs.Calls.{HasCause};
+ghost use Rattle.base.specs.Calls.{counted, with_refusal};
 ghost use Rattle.base.specs.Disk.{CrashLeaves, bytes_of};
 ghost use Rattle.base.specs.Geometry.{IsGeometry};
 ghost use Rattle.import_replay.specs.Cleared.{AreTailsCleared, IsCleared, zeros};
@@ -42,7 +42,8 @@ pub fn create<D: SectorDevice>(
     ensures count { IfOk result (λ d. D.refused d ≡ D.refused device) }
     ensures given_back { IfErr result (λ e. D.size e.1 ≡ D.size device) }
     ensures untouched { IfErr result (λ e. (e.0 ≡ PoolError.BadGeometry) ⊎ (e.0 ≡ PoolError.BadRange) → e.1 ≡ device) }
-    ensures refused { IfErr result (λ e. IsCreateRefusal (D.size device) name.now (D.refused device) (D.refused e.1) e.0) }
+    ensures refused { IfErr result (λ e. IsCreateRefusal (D.size device) name.now e.0) }
+    ensures counted { IfErr result (λ e. D.refused e.1 ≡ with_refusal e.0 (D.refused device)) }
     ensures created { IfOk result (λ d. IsTrue D.keeps_model → IsCreatedOn (bytes_of (D.disk d).now) name.now guid) }
     ensures settled { IfOk result (λ d. IsTrue D.keeps_model
         → CrashLeaves (λ image. IsCreatedOn image name.now guid) (D.disk d).now) }
@@ -72,7 +73,7 @@ fn initialize<D: SectorDevice>(
     requires size { D.size device.old ≡ geometry }
     requires geometry { IsGeometry geometry }
     ensures size { D.size device.new ≡ D.size device.old }
-    ensures cause { HasCause (D.refused device.old) (D.refused device.new) result }
+    ensures count { D.refused device.new ≡ counted result (D.refused device.old) }
     ensures named { IfErr result (λ e. (e ≡ PoolError.Write) ⊎ (e ≡ PoolError.Flush)) }
     ensures labels { IsTrue D.keeps_model
         → OnOk result (IsLabelled geometry name guid moment (bytes_of (D.disk device.new).now)) }
@@ -91,7 +92,7 @@ fn clear_labels<D: SectorDevice>(device: &mut D, geometry: Geometry) -> Result<(
     requires size { D.size device.old ≡ geometry }
     requires geometry { IsGeometry geometry }
     ensures size { D.size device.new ≡ D.size device.old }
-    ensures cause { HasCause (D.refused device.old) (D.refused device.new) result }
+    ensures count { D.refused device.new ≡ counted result (D.refused device.old) }
     ensures named { IfErr result (λ e. (e ≡ PoolError.Write) ⊎ (e ≡ PoolError.Flush)) }
     ensures cleared { IsTrue D.keeps_model → OnOk result (AreTailsCleared geometry 4 (bytes_of (D.disk device.new).now)) }
 {
@@ -112,7 +113,7 @@ fn clear_blocks<D: SectorDevice>(device: &mut D, geometry: Geometry) -> Result<(
     requires size { D.size device.old ≡ geometry }
     requires geometry { IsGeometry geometry }
     ensures size { D.size device.new ≡ D.size device.old }
-    ensures cause { HasCause (D.refused device.old) (D.refused device.new) result }
+    ensures count { D.refused device.new ≡ counted result (D.refused device.old) }
     ensures named { IfErr result (λ e. (e ≡ PoolError.Write) ⊎ (e ≡ PoolError.Flush)) }
     ensures cleared { IsTrue D.keeps_model → AreTailsCleared geometry 4 (bytes_of (D.disk device.old).now)
         → OnOk result (IsCleared geometry (bytes_of (D.disk device.new).now)) }
@@ -133,7 +134,7 @@ fn write_configs<D: SectorDevice>(
     requires size { D.size device.old ≡ geometry }
     requires geometry { IsGeometry geometry }
     ensures size { D.size device.new ≡ D.size device.old }
-    ensures cause { HasCause (D.refused device.old) (D.refused device.new) result }
+    ensures count { D.refused device.new ≡ counted result (D.refused device.old) }
     ensures named { IfErr result (λ e. (e ≡ PoolError.Write) ⊎ (e ≡ PoolError.Flush)) }
     ensures cleared { IsTrue D.keeps_model → IsCleared geometry (bytes_of (D.disk device.old).now)
         → OnOk result (IsCleared geometry (bytes_of (D.disk device.new).now)) }
@@ -157,7 +158,7 @@ fn write_uberblocks<D: SectorDevice>(
     requires size { D.size device.old ≡ geometry }
     requires geometry { IsGeometry geometry }
     ensures size { D.size device.new ≡ D.size device.old }
-    ensures cause { HasCause (D.refused device.old) (D.refused device.new) result }
+    ensures count { D.refused device.new ≡ counted result (D.refused device.old) }
     ensures named { IfErr result (λ e. (e ≡ PoolError.Write) ⊎ (e ≡ PoolError.Flush)) }
     ensures labels { IsTrue D.keeps_model → IsCleared geometry (bytes_of (D.disk device.old).now) → (name : List ℕ)
         → HoldConfig geometry 4 (first_config name guid geometry) (bytes_of (D.disk device.old).now)

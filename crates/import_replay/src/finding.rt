@@ -1,7 +1,7 @@
 //! The pool that a device has: its active uberblock, and its name.
 
 ghost use Rattle.std.specs.Prelude.{◌≡◌, ◌<◌, ◌≤◌, ◌+◌, ◌*◌, ◌⊎◌, IfErr, IfOk, IsTrue, OnOk, length, vec_len};
-ghost use Rattle.base.specs.Calls.{HasCause};
+ghost use Rattle.base.specs.Calls.{counted};
 ghost use Rattle.base.specs.Disk.{bytes_of, put};
 ghost use Rattle.base.specs.Fields.{part};
 ghost use Rattle.base.specs.Geometry.{IsGeometry, slot_place};
@@ -42,8 +42,8 @@ pub(crate) fn find_pool<D: SectorDevice>(
     requires geometry { IsGeometry geometry }
     ensures size { D.size device.new ≡ D.size device.old }
     ensures disk { IsTrue D.keeps_model → D.disk device.new ≡ D.disk device.old }
-    ensures count { OnOk result (D.refused device.new ≡ D.refused device.old) }
-    ensures refused { IfErr result (IsFindRefusal (D.refused device.old) (D.refused device.new)) }
+    ensures count { D.refused device.new ≡ counted result (D.refused device.old) }
+    ensures refused { IfErr result IsFindRefusal }
     ensures limits { IfOk result (λ f. IsWithinLimits (fields_of f.uberblock)) }
     ensures pool { IsTrue D.keeps_model → IfOk result
         (λ f. HasPool (bytes_of (D.disk device.old).now) (fields_of f.uberblock) f.name) }
@@ -69,8 +69,8 @@ fn read_uberblock<D: SectorDevice>(
     requires { D.size device.old ≡ geometry }
     ensures size { D.size device.new ≡ D.size device.old }
     ensures disk { IsTrue D.keeps_model → D.disk device.new ≡ D.disk device.old }
-    ensures count { OnOk result (D.refused device.new ≡ D.refused device.old) }
-    ensures refused { IfErr result (IsFindRefusal (D.refused device.old) (D.refused device.new)) }
+    ensures count { D.refused device.new ≡ counted result (D.refused device.old) }
+    ensures refused { IfErr result IsFindRefusal }
     ensures limits { IfOk result (λ u. IsWithinLimits (fields_of u)) }
     ensures active { IsTrue D.keeps_model → IfOk result
         (λ u. IsActive (bytes_of (D.disk device.old).now) (fields_of u)) }
@@ -102,9 +102,8 @@ fn read_array<D: SectorDevice>(
     requires ring { length ring.old ≡ 524288 }
     ensures size { D.size device.new ≡ D.size device.old }
     ensures disk { IsTrue D.keeps_model → D.disk device.new ≡ D.disk device.old }
-    ensures count { OnOk result (D.refused device.new ≡ D.refused device.old) }
+    ensures count { D.refused device.new ≡ counted result (D.refused device.old) }
     ensures refused { IfErr result (λ e. e ≡ PoolError.Read) }
-    ensures cause { HasCause (D.refused device.old) (D.refused device.new) result }
     ensures length { length ring.new ≡ 524288 }
     ensures within { slot_place geometry label 0 + 131072 ≤ geometry }
     ensures array { IsTrue D.keeps_model → OnOk result (ring.new
@@ -124,8 +123,8 @@ fn read_name<D: SectorDevice>(
     requires { D.size device.old ≡ geometry }
     ensures size { D.size device.new ≡ D.size device.old }
     ensures disk { IsTrue D.keeps_model → D.disk device.new ≡ D.disk device.old }
-    ensures count { OnOk result (D.refused device.new ≡ D.refused device.old) }
-    ensures refused { IfErr result (IsFindRefusal (D.refused device.old) (D.refused device.new)) }
+    ensures count { D.refused device.new ≡ counted result (D.refused device.old) }
+    ensures refused { IfErr result IsFindRefusal }
     ensures name { IsTrue D.keeps_model → IfOk result
         (λ r. HasName (bytes_of (D.disk device.old).now) uberblock.now.guid uberblock.now.group.0 r.0) }
     ensures first { IsTrue D.keeps_model → IfOk result
@@ -173,9 +172,8 @@ fn read_configs<D: SectorDevice>(
     requires { D.size device.old ≡ geometry }
     ensures size { D.size device.new ≡ D.size device.old }
     ensures disk { IsTrue D.keeps_model → D.disk device.new ≡ D.disk device.old }
-    ensures count { OnOk result (D.refused device.new ≡ D.refused device.old) }
+    ensures count { D.refused device.new ≡ counted result (D.refused device.old) }
     ensures refused { IfErr result (λ e. e ≡ PoolError.Read) }
-    ensures cause { HasCause (D.refused device.old) (D.refused device.new) result }
     ensures configs { IsTrue D.keeps_model → IfOk result (AreRead (bytes_of (D.disk device.old).now)) }
 {
     Ok([
@@ -195,9 +193,8 @@ fn read_config<D: SectorDevice>(
     requires label { label < 4 }
     ensures size { D.size device.new ≡ D.size device.old }
     ensures disk { IsTrue D.keeps_model → D.disk device.new ≡ D.disk device.old }
-    ensures count { OnOk result (D.refused device.new ≡ D.refused device.old) }
+    ensures count { D.refused device.new ≡ counted result (D.refused device.old) }
     ensures refused { IfErr result (λ e. e ≡ PoolError.Read) }
-    ensures cause { HasCause (D.refused device.old) (D.refused device.new) result }
     ensures config { IsTrue D.keeps_model → IfOk result (IsRead (bytes_of (D.disk device.old).now) label) }
 {
     let mut buffer = [0; 4096];

@@ -2,6 +2,7 @@
 
 ghost use Rattle.std.specs.Prelude.{◌≡◌, ◌<◌, ◌+◌, ◌*◌, ◌≤◌, ◌^◌, ℕ, [], true, false, IfErr, IfOk, IfSome, IsTrue, OnOk, length, vec_len};
 ghost use Rattle.std.specs.FinMap as finite;
+ghost use Rattle.base.specs.Calls.{counted, with_refusal};
 ghost use Rattle.base.specs.Disk.{bytes_of};
 ghost use Rattle.base.specs.Exact.{AreFree, IsBounded};
 ghost use Rattle.base.specs.ExactNow.{IsExplainedNow};
@@ -87,8 +88,8 @@ pub fn import<D: SectorDevice>(
     ensures made { OnOk result (CanImport (D.size device) dirty_max) }
     ensures count { IfOk result (λ i. D.refused i.device ≡ D.refused device) }
 
-    ensures refused { IfErr result
-        (λ e. IsImportRefusal (D.size device) dirty_max (D.refused device) (D.refused e.1) e.0) }
+    ensures refused { IfErr result (λ e. IsImportRefusal (D.size device) dirty_max e.0) }
+    ensures counted { IfErr result (λ e. D.refused e.1 ≡ with_refusal e.0 (D.refused device)) }
     ensures reason { IsTrue D.keeps_model → IfErr result (λ e. IsReason (bytes_of (D.disk device).now) e.0) }
     ensures given_back { IfErr result (λ e. D.size e.1 ≡ D.size device) }
 {
@@ -108,9 +109,8 @@ fn mount<D: SectorDevice>(
     ensures geometry { IfOk result (λ m. m.geometry ≡ D.size device.old) }
     ensures limit { IfOk result (λ m. m.dirty_max ≡ dirty_max) }
     ensures made { OnOk result (CanImport (D.size device.old) dirty_max) }
-    ensures count { OnOk result (D.refused device.new ≡ D.refused device.old) }
-    ensures refused { IfErr result
-        (IsImportRefusal (D.size device.old) dirty_max (D.refused device.old) (D.refused device.new)) }
+    ensures count { D.refused device.new ≡ counted result (D.refused device.old) }
+    ensures refused { IfErr result (IsImportRefusal (D.size device.old) dirty_max) }
     ensures reason { IsTrue D.keeps_model → IfErr result (IsReason (bytes_of (D.disk device.old).now)) }
     ensures explained { IfOk result (λ m. (created : ℕ) → IsExplainedNow (shown_of_import m)
         (new_past (contents_of m.contents) created dirty_max)) }
@@ -141,8 +141,8 @@ fn mount_pool<D: SectorDevice>(
     ensures size { D.size device.new ≡ D.size device.old }
     ensures geometry { IfOk result (λ m. m.geometry ≡ geometry) }
     ensures limit { IfOk result (λ m. m.dirty_max ≡ dirty_max) }
-    ensures count { OnOk result (D.refused device.new ≡ D.refused device.old) }
-    ensures refused { IfErr result (IsMountRefusal (D.refused device.old) (D.refused device.new)) }
+    ensures count { D.refused device.new ≡ counted result (D.refused device.old) }
+    ensures refused { IfErr result IsMountRefusal }
     ensures reason { IsTrue D.keeps_model → IfErr result (IsReason (bytes_of (D.disk device.old).now)) }
     ensures explained { IfOk result (λ m. (created : ℕ) → IsExplainedNow (shown_of_import m)
         (new_past (contents_of m.contents) created dirty_max)) }
@@ -196,8 +196,8 @@ fn open_pool<D: SectorDevice>(
     requires root { loaded.tree.root ≡ found.uberblock.root }
     ensures size { D.size device.new ≡ D.size device.old }
     ensures geometry { IfOk result (λ m. m.geometry ≡ geometry) }
-    ensures count { OnOk result (D.refused device.new ≡ D.refused device.old) }
-    ensures refused { IfErr result (IsOpenRefusal (D.refused device.old) (D.refused device.new)) }
+    ensures count { D.refused device.new ≡ counted result (D.refused device.old) }
+    ensures refused { IfErr result IsOpenRefusal }
     ensures mounted { IfOk result
         (IsMountedFrom (fields_of found.uberblock) found.name loaded.slots.items loaded.tree dirty_max) }
     ensures kept { IsTrue D.keeps_model

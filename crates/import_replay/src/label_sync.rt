@@ -1,6 +1,7 @@
 //! The sync of an import.
 
 ghost use Rattle.std.specs.Prelude.{◌≡◌, ◌<◌, [], IfErr, IsTrue, OnOk};
+ghost use Rattle.base.specs.Calls.{counted};
 ghost use Rattle.base.specs.Disk.{bytes_of};
 ghost use Rattle.base.specs.Geometry.{IsGeometry};
 ghost use Rattle.base.specs.SyncOrder.{import_calls};
@@ -31,8 +32,8 @@ pub(crate) fn sync_labels<D: SectorDevice>(
     requires limits { IsWithinLimits (fields_of uberblock.now) }
     requires config { config.now.size ≡ geometry }
     ensures size { D.size device.new ≡ D.size device.old }
-    ensures count { OnOk result (D.refused device.new ≡ D.refused device.old) }
-    ensures refused { IfErr result (IsSyncRefusal (D.refused device.old) (D.refused device.new)) }
+    ensures count { D.refused device.new ≡ counted result (D.refused device.old) }
+    ensures refused { IfErr result IsSyncRefusal }
     ensures kept { IsTrue D.keeps_model
         → OnOk result (HasSameBlocks geometry (bytes_of (D.disk device.old).now) (bytes_of (D.disk device.new).now)) }
     ensures synced { IsTrue D.keeps_model → OnOk result (D.disk device.new

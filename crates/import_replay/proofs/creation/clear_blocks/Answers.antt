@@ -12,7 +12,7 @@ loop-index-preserved g c =
     record {
       sized = c.write.ensures.size ∙ c.loop-index.invariant.sized;
       size = c.write.ensures.size ∙ c.loop-index.invariant.size;
-      refused = c.in_ok-write.ensures.count.answered ∙ c.loop-index.invariant.refused;
+      refused = c.in_ok-write.ensures.count ∙ c.loop-index.invariant.refused;
       blocks = λ keeps.
           let long = g.met.D.SectorDevice.sized keeps c.loop-index.device ∙ c.loop-index.invariant.sized in
           after_write (AreBlocksCleared (c.loop-index.index + 1)) _ _ _ _ _ (c.in_ok-write.ensures.disk keeps) c.block_address.ensures.address

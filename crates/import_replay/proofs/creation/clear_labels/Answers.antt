@@ -7,7 +7,7 @@ pub loop-label-preserved : goal.loop-label-preserved
 loop-label-preserved g c = record {
   sized = c.write.ensures.size ∙ c.loop-label.invariant.sized;
   size = c.write.ensures.size ∙ c.loop-label.invariant.size;
-  refused = c.in_ok-write.ensures.count.answered ∙ c.loop-label.invariant.refused;
+  refused = c.in_ok-write.ensures.count ∙ c.loop-label.invariant.refused;
   cleared = λ keeps.
       let long = g.met.D.SectorDevice.sized keeps c.loop-label.device ∙ c.loop-label.invariant.sized in
       after_write (AreTailsCleared c.args.geometry (c.loop-label.label + 1)) _ _ _ _ _ (c.in_ok-write.ensures.disk keeps) (ap (λ (k : ℕ). k + 16384) c.label_place.ensures.place)

@@ -9,7 +9,7 @@ pub loop-label-preserved : goal.loop-label-preserved
 loop-label-preserved g c = record {
   sized = c.write.ensures.size ∙ c.loop-label.invariant.sized;
   size = c.write.ensures.size ∙ c.loop-label.invariant.size;
-  refused = c.in_ok-write.ensures.count.answered ∙ c.loop-label.invariant.refused;
+  refused = c.in_ok-write.ensures.count ∙ c.loop-label.invariant.refused;
   cleared = λ keeps cleared.
       let long = g.met.D.SectorDevice.sized keeps c.loop-label.device ∙ c.loop-label.invariant.sized in
       after_write (IsCleared c.args.geometry) _ _ _ _ _ (c.in_ok-write.ensures.disk keeps) c.config_place.ensures.place

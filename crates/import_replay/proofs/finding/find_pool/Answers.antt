@@ -13,7 +13,7 @@ returns-in_err-uberblock-clause-reason g c = λ keeps.
     let image : List ℕ = bytes_of (g.D.SectorDevice.disk c.args.device.now).now in
     let x = c.in_err-uberblock.field-0.0 in
     passed_on c.from_residual.result x (IsReason image) c.from_residual.ensures.1
-    (reason-uberblock image _ _ x c.in_err-uberblock.ensures.refused (c.in_err-uberblock.ensures.none keeps))
+    (reason-uberblock image x c.in_err-uberblock.ensures.refused (c.in_err-uberblock.ensures.none keeps))
 
 pub returns-in_err-name-clause-reason : goal.returns-in_err-name-clause-reason
 returns-in_err-name-clause-reason g c = λ keeps.
@@ -21,7 +21,7 @@ returns-in_err-name-clause-reason g c = λ keeps.
     let u = c.in_ok-uberblock.uberblock in
     let x = c.in_err-name.field-0.0 in
     passed_on c.from_residual-in_err-name.result x (IsReason image) c.from_residual-in_err-name.ensures.1
-    (reason-name image (fields_of u) _ _ x c.in_err-name.ensures.refused (c.in_ok-uberblock.ensures.active keeps)
+    (reason-name image (fields_of u) x c.in_err-name.ensures.refused (c.in_ok-uberblock.ensures.active keeps)
     (subst (λ (d : Disk). LacksName (bytes_of d.now) u.guid u.group.0 x) (c.read_uberblock.ensures.disk keeps) (c.in_err-name.ensures.none keeps)))
 
 pub returns-clause-pool : goal.returns-clause-pool

@@ -103,7 +103,7 @@ returns-in_err-loaded-clause-reason g c = λ keeps.
     let found : bytes_of (g.D.SectorDevice.disk c.find_pool.new.device).now ≡ image = ap (λ (d : Disk). bytes_of d.now) (c.find_pool.ensures.disk keeps) ∙ flushed in
     let pool : HasPool image u name = subst (λ (b : List ℕ). HasPool b u name) flushed (c.in_ok-found.ensures.pool keeps) in
     passed_on c.from_residual-in_err-loaded.result x (IsReason image) c.from_residual-in_err-loaded.ensures.1
-    (reason-load image _ _ x c.in_err-loaded.ensures.cause (λ kind address is. record {
+    (reason-load image x c.in_err-loaded.ensures.cause (λ kind address is. record {
       u = u;
       name = name;
       pool = pool;
@@ -131,7 +131,7 @@ returns-clause-reason g c = λ keeps.
     (subst (λ (f : Frame). HoldsTree (bytes_of (g.D.SectorDevice.disk c.find_pool.new.device).now) (frame_of f size) (pointers_of tree) (objects_of slots)) c.new-frame.ensures
     (c.in_ok-loaded.ensures.held keeps)) in
     err_weaker c.open_pool.result _ (IsReason image)
-    (λ e h. reason-open image _ _ u e h.0 pool.active (λ is. all_blocks size u tree slots image long held c.in_ok-loaded.ensures.root (h.1 is)))
+    (λ e h. reason-open image u e h.0 pool.active (λ is. all_blocks size u tree slots image long held c.in_ok-loaded.ensures.root (h.1 is)))
     (err_both c.open_pool.result _ _ c.open_pool.ensures.refused c.open_pool.ensures.full)
 
 pub returns-clause-written : goal.returns-clause-written

@@ -17,11 +17,7 @@ pub returns-in_err-next-clause-refused : goal.returns-in_err-next-clause-refused
 returns-in_err-next-clause-refused g c =
     let x = c.in_err-next.field-0.0 in
     let call = c.next.ensures.there in
-    let before : ℕ = g.D.SectorDevice.refused c.args.device.now in
-    let mid : ℕ = g.D.SectorDevice.refused c.loop-run.device in
-    let after : ℕ = g.D.SectorDevice.refused c.next.new.device in
-    passed_on c.from_residual.result x (IsSyncRefusal before after) c.from_residual.ensures.1
-    (sync_refused before mid after call.0 x c.loop-run.invariant.count (c.in_err-next.ensures.count call.0 call.1))
+    passed_on c.from_residual.result x IsSyncRefusal c.from_residual.ensures.1 (sync_refused call.0 x (c.in_err-next.ensures.refusal call.0 call.1))
 
 pub loop-run-preserved : goal.loop-run-preserved
 loop-run-preserved g c =
@@ -33,7 +29,7 @@ loop-run-preserved g c =
       sized = c.next.ensures.size ∙ i.sized;
       run = sync_goes_on c.args.geometry config u c.args.first c.loop-run.run c.next.new.self c.next.ensures.sync i.run;
       left = sync_left c.loop-run.run c.next.new.self c.in_ok-next.field-0 c.next.ensures.sync i.left c.in_ok-next.ensures.done c.in_ok-next.ensures.last c.if-not-branch.true;
-      count = (c.in_ok-next.ensures.count call.0 call.1).answered ∙ i.count;
+      count = c.in_ok-next.ensures.count ∙ i.count;
       blocks = λ keeps.
           let old = g.D.SectorDevice.disk c.loop-run.device in
           let new = g.D.SectorDevice.disk c.next.new.device in
