@@ -67,7 +67,7 @@ header_behind header [] = header
 header_behind header (l ∷ ls) = header_behind (next_header header l.block) ls
 
 abbrev pub view_frame : ℕ → View → Frame
-view_frame size v = record { guid = v.u.guid; blocks = block_count size; group = v.u.group }
+view_frame size v = record { version = v.u.version; guid = v.u.guid; blocks = block_count size; group = v.u.group }
 
 -- what a view says of itself, on a device of so many bytes
 pub record IsView (size : ℕ) (v : View) : Type 0 where
