@@ -4,19 +4,19 @@ use Rattle.base.specs.declared.pointer.Pointer.{Pointer}
 use Rattle.base.specs.Fields.{part}
 use Rattle.base.specs.Disk.{Disk, bytes_of}
 use Rattle.std.specs.Prelude.{Bool, IsTrue}
-use Rattle.base.specs.Geometry.{block_count, IsBlockAddress}
+use Rattle.base.specs.Geometry.{IsBlockAddress}
 use Rattle.base.specs.Blocks.{Frame, Opens}
 use Rattle.checked_blocks.specs.declared.expected.Expected.{Expected}
 use Rattle.checked_blocks.specs.Opening.{IsExpected}
 use Rattle.checked_blocks.proofs.NamedBlocks.{IsNamed, IsExpected-Opens}
-use Rattle.object_maps.specs.Loading.{Shows, frame_of}
+use Rattle.object_maps.specs.Loading.{Shows}
 
 -- a block that opens as its pointer names it is the block of that place
-pub block_opens : (image : List ℕ) (frame : Frame) (size kind number : ℕ) (pointer : Pointer) (e : Expected) (bytes : List ℕ) → IsNamed e frame kind number pointer
-    → IsBlockAddress (block_count size) pointer.address → pointer.birth ≤ frame.group → bytes ≡ part image pointer.address 4096 → length bytes ≡ 4096 → IsExpected bytes e
-    → Opens image (frame_of frame size) kind number pointer (drop 64 bytes)
-block_opens image frame size kind number pointer e bytes named place born at long is =
-    IsExpected-Opens image (frame_of frame size) kind number pointer e bytes (drop 64 bytes)
+pub block_opens : (image : List ℕ) (frame : Frame) (kind number : ℕ) (pointer : Pointer) (e : Expected) (bytes : List ℕ) → IsNamed e frame kind number pointer
+    → IsBlockAddress frame.blocks pointer.address → pointer.birth ≤ frame.group → bytes ≡ part image pointer.address 4096 → length bytes ≡ 4096 → IsExpected bytes e
+    → Opens image frame kind number pointer (drop 64 bytes)
+block_opens image frame kind number pointer e bytes named place born at long is =
+    IsExpected-Opens image frame kind number pointer e bytes (drop 64 bytes)
     (record { kind_is = named.kind_is; guid_is = named.guid_is; number_is = named.number_is; group_is = named.group_is; check_is = named.check_is })
     place born at long refl is
 

@@ -14,16 +14,14 @@ use Rattle.base.specs.Faults.{IsSoundAt, IsWellFormed, length_in}
 use Rattle.checked_blocks.specs.declared.expected.Expected.{Expected}
 use Rattle.checked_blocks.specs.Opening.{IsExpected}
 use Rattle.checked_blocks.proofs.NamedBlocks.{IsNamed, Opens-IsExpected}
-use Rattle.object_maps.specs.Loading.{frame_of}
 use Rattle.object_maps.specs.Walking.{AreSound, IsFaultFrom, IsDataOf, TellsBlock, TellsFault}
 use Rattle.object_maps.proofs.WalkOrder.{sound_none, sound_one}
 
 -- a block that does not open as its pointer names it is not there
-pub block_missing : (image : List ℕ) (frame : Frame) (size kind number : ℕ) (pointer : Pointer) (e : Expected) (bytes : List ℕ) → IsNamed e frame kind number pointer
-    → bytes ≡ part image pointer.address 4096 → (IsExpected bytes e → ⊥) → (payload : List ℕ) → Opens image (frame_of frame size) kind number pointer payload → ⊥
-block_missing image frame size kind number pointer e bytes named at not payload opens =
-    not (Opens-IsExpected image (frame_of frame size) kind number pointer e bytes payload
-    (record { kind_is = named.kind_is; guid_is = named.guid_is; number_is = named.number_is; group_is = named.group_is; check_is = named.check_is }) at opens)
+pub block_missing : (image : List ℕ) (frame : Frame) (kind number : ℕ) (pointer : Pointer) (e : Expected) (bytes : List ℕ) → IsNamed e frame kind number pointer
+    → bytes ≡ part image pointer.address 4096 → (IsExpected bytes e → ⊥) → (payload : List ℕ) → Opens image frame kind number pointer payload → ⊥
+block_missing image frame kind number pointer e bytes named at not payload opens =
+    not (Opens-IsExpected image frame kind number pointer e bytes payload named at opens)
 
 -- a block has an address
 pub there : (image : List ℕ) (frame : Frame) (kind number : ℕ) (pointer : Pointer) (payload : List ℕ) → Opens image frame kind number pointer payload → (pointer.address ≡ 0) → ⊥
@@ -108,12 +106,12 @@ pub same-address : (k a m b : ℕ) → Damaged k a ≡ Damaged m b → a ≡ b
 same-address k a m b e = cc
 
 -- a block that does not open is what its refusal tells
-pub tells_missing : (image : List ℕ) (frame : Frame) (size kind number : ℕ) (pointer : Pointer) (x : Expected) (bytes : List ℕ) (e : PoolError) → IsNamed x frame kind number pointer
+pub tells_missing : (image : List ℕ) (frame : Frame) (kind number : ℕ) (pointer : Pointer) (x : Expected) (bytes : List ℕ) (e : PoolError) → IsNamed x frame kind number pointer
     → x.address ≡ pointer.address → bytes ≡ part image pointer.address 4096 → (IsExpected bytes x → ⊥) → e ≡ Damaged x.kind x.address
-    → TellsBlock image (frame_of frame size) kind number pointer e
-tells_missing image frame size kind number pointer x bytes e named address_is at not is = λ k address d.
+    → TellsBlock image frame kind number pointer e
+tells_missing image frame kind number pointer x bytes e named address_is at not is = λ k address d.
     let told : Damaged x.kind x.address ≡ Damaged k address = sym is ∙ d in
-    (sym named.kind_is ∙ same-kind x.kind x.address k address told, (sym address_is ∙ same-address x.kind x.address k address told, block_missing image frame size kind number pointer x bytes named at not))
+    (sym named.kind_is ∙ same-kind x.kind x.address k address told, (sym address_is ∙ same-address x.kind x.address k address told, block_missing image frame kind number pointer x bytes named at not))
 
 -- a block that is not there is the fault that its refusal tells
 pub missing_fault : (image : List ℕ) (frame : Frame) (root : Pointer) (place : Place) (start : ℕ) (pointer : Pointer) (e : PoolError) → IsPlace place → start ≡ walk_index_of place

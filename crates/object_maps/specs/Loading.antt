@@ -20,10 +20,6 @@ use Rattle.object_maps.specs.Pointers.{pointer_of_list, indirect_of, records_of}
 abbrev pub Shows : Bool → Disk → List ℕ → Type 0
 Shows keeps disk image = IsTrue keeps → bytes_of disk.now ≡ image
 
--- the pool that a frame tells of, on a device of so many bytes
-abbrev pub frame_of : Frame → ℕ → Frame
-frame_of frame size = record { version = frame.version; guid = frame.guid; blocks = block_count size; group = frame.group }
-
 -- why a load is refused: there is no memory, the device refused a read, or a block is damaged
 abbrev pub IsLoadRefusal : PoolError → Type 0
 IsLoadRefusal e = (e ≡ NoMemory) ⊎ ((e ≡ Read) ⊎ ((kind : ℕ) × (address : ℕ) × (e ≡ Damaged kind address)))

@@ -6,7 +6,7 @@ ghost use Rattle.base.specs.Limits.{object_count, max_length};
 ghost use Rattle.base.specs.Fields.{number_at, pointer_at, pointer_in, entry_in, entry_present, entry_length, entry_pointer, no_pointer};
 ghost use Rattle.base.specs.Calls.{counted};
 ghost use Rattle.base.specs.Disk.{bytes_of};
-ghost use Rattle.base.specs.Geometry.{block_count, IsBlockAddress};
+ghost use Rattle.base.specs.Geometry.{block_address, IsBlockAddress};
 ghost use Rattle.base.specs.Blocks.{Opens};
 ghost use Rattle.base.specs.Tree.{record_bytes};
 ghost use Rattle.base.specs.Faults.{IsPointerForm, IsEntryForm, IsRecordPointerForm, IsFirstFault};
@@ -14,7 +14,7 @@ ghost use Rattle.base.specs.PlacedTrees.{HoldsTree, ArePlaced};
 ghost use Rattle.checked_blocks.proofs.NamedBlocks.{IsNamed};
 ghost use Rattle.object_maps.specs.Pointers.{pointers_of, objects_of, pointer_of_list};
 ghost use Rattle.object_maps.specs.Kinds.{kind_number};
-ghost use Rattle.object_maps.specs.Loading.{Shows, frame_of, IsLoadRefusal, IsLoadedRecord, AreLoadedRecords, IsZeroRecord, IsLoadedObject, AreEmptyFrom, SameBut, AreLoadedEntries, IsLoadedDirectory, AreLoadedDirectories, IsLoadedTree};
+ghost use Rattle.object_maps.specs.Loading.{Shows, IsLoadRefusal, IsLoadedRecord, AreLoadedRecords, IsZeroRecord, IsLoadedObject, AreEmptyFrom, SameBut, AreLoadedEntries, IsLoadedDirectory, AreLoadedDirectories, IsLoadedTree};
 ghost use Rattle.base.specs.declared.pointer.Pointer.{Pointer};
 ghost use Rattle.base.specs.Places.{walk_index_of, walk_index_of_indirect, pointer_of};
 ghost use Rattle.base.specs.Places.Place.{Directory, Data};
@@ -28,7 +28,6 @@ use base::{
 };
 use checked_blocks::{Expected, Frame, Kind, open};
 use device_model::SectorDevice;
-use labels::Geometry;
 use std::alloc::Global;
 
 /// Where the payload of a block begins.
@@ -80,24 +79,23 @@ fn expected(frame: &Frame, place: BlockPlace, pointer: &Pointer) -> Expected
 // Reads the block that a pointer names into the buffer. Refused Damaged where it is none of this place.
 fn read_block<D: SectorDevice>(
     device: &mut D,
-    geometry: Geometry,
     frame: &Frame,
     place: BlockPlace,
     pointer: &Pointer,
     buffer: &mut [u8; 4096],
 ) -> Result<(), PoolError>
-    requires { D.size device.old ≡ geometry }
+    requires fits { block_address frame.now.blocks ≤ D.size device.old }
     ensures size { D.size device.new ≡ D.size device.old }
     ensures disk { IsTrue D.keeps_model → D.disk device.new ≡ D.disk device.old }
     ensures count { D.refused device.new ≡ counted result (D.refused device.old) }
     ensures cause { IfErr result IsLoadRefusal }
-    ensures placed { OnOk result (IsBlockAddress (block_count geometry) pointer.now.address) }
+    ensures placed { OnOk result (IsBlockAddress (frame.now.blocks) pointer.now.address) }
     ensures opens { (image : List ℕ) → Shows D.keeps_model (D.disk device.old) image → OnOk result (IsTrue D.keeps_model
-        → Opens image (frame_of frame.now geometry) (kind_number place.kind) place.number pointer.now (drop 64 buffer.new)) }
+        → Opens image frame.now (kind_number place.kind) place.number pointer.now (drop 64 buffer.new)) }
     ensures refused { IsTrue D.keeps_model → (image : List ℕ) → bytes_of (D.disk device.old).now ≡ image → IfErr result
-        (TellsBlock image (frame_of frame.now geometry) (kind_number place.kind) place.number pointer.now) }
+        (TellsBlock image frame.now (kind_number place.kind) place.number pointer.now) }
 {
-    if !geometry.is_block_address(pointer.address) || pointer.birth > frame.group().0 {
+    if !frame.is_block_address(pointer.address) || pointer.birth > frame.group().0 {
         return Err(damaged(place.kind, pointer));
     }
     device.read(pointer.address, &mut buffer[..])?;
@@ -229,11 +227,10 @@ fn damaged(kind: Kind, pointer: &Pointer) -> PoolError
 pub fn load<D: SectorDevice>(
     alloc: Global,
     device: &mut D,
-    geometry: Geometry,
     frame: &Frame,
     root: Pointer,
 ) -> Result<Loaded, PoolError>
-    requires { D.size device.old ≡ geometry }
+    requires fits { block_address frame.now.blocks ≤ D.size device.old }
     ensures size { D.size device.new ≡ D.size device.old }
     ensures disk { IsTrue D.keeps_model → D.disk device.new ≡ D.disk device.old }
     ensures count { D.refused device.new ≡ counted result (D.refused device.old) }
@@ -241,17 +238,17 @@ pub fn load<D: SectorDevice>(
 
     // The tree has the root, pointers to blocks of the area alone, and objects within their limits.
     ensures root { IfOk result (λ l. l.tree.root ≡ root) }
-    ensures placed { IfOk result (λ l. ArePlaced (block_count geometry) (pointers_of l.tree)) }
+    ensures placed { IfOk result (λ l. ArePlaced (frame.now.blocks) (pointers_of l.tree)) }
     ensures bounded { IfOk result (λ l. (n : ℕ) → IfSome (finite.get (objects_of l.slots.items) n)
         (λ bytes. (n < object_count) × (length bytes ≤ max_length))) }
 
     // It is the one that the image holds.
     ensures held { IsTrue D.keeps_model → IfOk result (λ l. HoldsTree (bytes_of (D.disk device.old).now)
-        (frame_of frame.now geometry) (pointers_of l.tree) (objects_of l.slots.items)) }
+        frame.now (pointers_of l.tree) (objects_of l.slots.items)) }
 
     // And the block that is told damaged is the first fault of the walk.
     ensures fault { IsTrue D.keeps_model → IfErr result (λ e. (kind address : ℕ) → e ≡ PoolError.Damaged kind address
-        → IsFirstFault (bytes_of (D.disk device.old).now) (frame_of frame.now geometry) root kind address) }
+        → IsFirstFault (bytes_of (D.disk device.old).now) frame.now root kind address) }
 {
     let mut slots = empty_slots(alloc)?;
     let mut maps = empty_maps(alloc)?;
@@ -259,7 +256,6 @@ pub fn load<D: SectorDevice>(
     load_tree(
         alloc,
         device,
-        geometry,
         frame,
         &root,
         &mut directories,
@@ -280,14 +276,13 @@ pub fn load<D: SectorDevice>(
 fn load_tree<D: SectorDevice>(
     alloc: Global,
     device: &mut D,
-    geometry: Geometry,
     frame: &Frame,
     root: &Pointer,
     directories: &mut [Pointer],
     slots: &mut [Slot],
     maps: &mut [ObjectMap],
 ) -> Result<(), PoolError>
-    requires size { D.size device.old ≡ geometry }
+    requires fits { block_address frame.now.blocks ≤ D.size device.old }
     requires directories { length directories.old ≡ 84 }
     requires no_directories { (d : ℕ) → pointer_of_list directories.old d ≡ no_pointer }
     requires slots { length slots.old ≡ 5292 }
@@ -298,9 +293,9 @@ fn load_tree<D: SectorDevice>(
     ensures count { D.refused device.new ≡ counted result (D.refused device.old) }
     ensures cause { IfErr result IsLoadRefusal }
     ensures loaded { (image : List ℕ) → Shows D.keeps_model (D.disk device.old) image → OnOk result
-        (IsLoadedTree D.keeps_model image (frame_of frame.now geometry) root.now directories.new slots.new maps.new) }
+        (IsLoadedTree D.keeps_model image frame.now root.now directories.new slots.new maps.new) }
     ensures fault { IsTrue D.keeps_model → (image : List ℕ) → bytes_of (D.disk device.old).now ≡ image
-        → IfErr result (TellsFault image (frame_of frame.now geometry) root.now 0) }
+        → IfErr result (TellsFault image frame.now root.now 0) }
 {
     if root.is_none() {
         return Ok(());
@@ -313,26 +308,25 @@ fn load_tree<D: SectorDevice>(
         kind: Kind::Root,
         number: 0,
     };
-    read_block(device, geometry, frame, place, root, &mut buffer)?;
+    read_block(device, frame, place, root, &mut buffer)?;
     let payload = payload_of(&buffer);
     if !have_form(payload) {
         return Err(damaged(Kind::Root, root));
     }
     read_pointers(payload, directories);
-    load_directories(alloc, device, geometry, frame, directories, slots, maps)
+    load_directories(alloc, device, frame, directories, slots, maps)
 }
 
 // Loads the directories that these pointers name.
 fn load_directories<D: SectorDevice>(
     alloc: Global,
     device: &mut D,
-    geometry: Geometry,
     frame: &Frame,
     directories: &[Pointer],
     slots: &mut [Slot],
     maps: &mut [ObjectMap],
 ) -> Result<(), PoolError>
-    requires size { D.size device.old ≡ geometry }
+    requires fits { block_address frame.now.blocks ≤ D.size device.old }
     requires directories { length directories.now ≡ 84 }
     requires slots { length slots.old ≡ 5292 }
     requires maps { length maps.old ≡ 5292 }
@@ -342,18 +336,18 @@ fn load_directories<D: SectorDevice>(
     ensures count { D.refused device.new ≡ counted result (D.refused device.old) }
     ensures cause { IfErr result IsLoadRefusal }
     ensures loaded { (image : List ℕ) → Shows D.keeps_model (D.disk device.old) image → OnOk result
-        (AreLoadedDirectories D.keeps_model image (frame_of frame.now geometry) directories.now 84 slots.new maps.new) }
+        (AreLoadedDirectories D.keeps_model image frame.now directories.now 84 slots.new maps.new) }
     ensures sound { IsTrue D.keeps_model → (image : List ℕ) (top : Pointer) → bytes_of (D.disk device.old).now ≡ image
-        → AreDirectoriesOf image top directories.now → OnOk result (AreSound image (frame_of frame.now geometry) top (1) (1 + 5356 * 84)) }
+        → AreDirectoriesOf image top directories.now → OnOk result (AreSound image frame.now top (1) (1 + 5356 * 84)) }
     ensures fault { IsTrue D.keeps_model → (image : List ℕ) (top : Pointer) → bytes_of (D.disk device.old).now ≡ image
-        → AreDirectoriesOf image top directories.now → IfErr result (TellsFault image (frame_of frame.now geometry) top (1)) }
+        → AreDirectoriesOf image top directories.now → IfErr result (TellsFault image frame.now top (1)) }
 {
     for index in 0..POINTER_COUNT {
         let pointer = directories[index];
         if pointer.is_none() {
             continue;
         }
-        load_directory(alloc, device, geometry, frame, index, &pointer, slots, maps)?;
+        load_directory(alloc, device, frame, index, &pointer, slots, maps)?;
     }
     Ok(())
 }
@@ -361,14 +355,13 @@ fn load_directories<D: SectorDevice>(
 fn load_directory<D: SectorDevice>(
     alloc: Global,
     device: &mut D,
-    geometry: Geometry,
     frame: &Frame,
     directory: usize,
     pointer: &Pointer,
     slots: &mut [Slot],
     maps: &mut [ObjectMap],
 ) -> Result<(), PoolError>
-    requires size { D.size device.old ≡ geometry }
+    requires fits { block_address frame.now.blocks ≤ D.size device.old }
     requires in_range { directory < 84 }
     requires slots { length slots.old ≡ 5292 }
     requires maps { length maps.old ≡ 5292 }
@@ -378,40 +371,37 @@ fn load_directory<D: SectorDevice>(
     ensures count { D.refused device.new ≡ counted result (D.refused device.old) }
     ensures cause { IfErr result IsLoadRefusal }
     ensures loaded { (image : List ℕ) → Shows D.keeps_model (D.disk device.old) image → OnOk result
-        (IsLoadedDirectory D.keeps_model image (frame_of frame.now geometry) directory pointer.now slots.new maps.new) }
+        (IsLoadedDirectory D.keeps_model image frame.now directory pointer.now slots.new maps.new) }
     ensures others { OnOk result (SameBut (63 * directory) 63 slots.old slots.new maps.old maps.new) }
     ensures sound { IsTrue D.keeps_model → (image : List ℕ) (top : Pointer) → bytes_of (D.disk device.old).now ≡ image
-        → pointer_of image top (Directory directory) ≡ pointer.now → pointer.now ≢ no_pointer → OnOk result (AreSound image (frame_of frame.now geometry) top (1 + 5356 * directory) (1 + 5356 * (directory + 1))) }
+        → pointer_of image top (Directory directory) ≡ pointer.now → pointer.now ≢ no_pointer → OnOk result (AreSound image frame.now top (1 + 5356 * directory) (1 + 5356 * (directory + 1))) }
     ensures fault { IsTrue D.keeps_model → (image : List ℕ) (top : Pointer) → bytes_of (D.disk device.old).now ≡ image
-        → pointer_of image top (Directory directory) ≡ pointer.now → pointer.now ≢ no_pointer → IfErr result (TellsFault image (frame_of frame.now geometry) top (1 + 5356 * directory)) }
+        → pointer_of image top (Directory directory) ≡ pointer.now → pointer.now ≢ no_pointer → IfErr result (TellsFault image frame.now top (1 + 5356 * directory)) }
 {
     let mut buffer = new_buffer();
     let place = BlockPlace {
         kind: Kind::Directory,
         number: directory as u64,
     };
-    read_block(device, geometry, frame, place, pointer, &mut buffer)?;
+    read_block(device, frame, place, pointer, &mut buffer)?;
     let payload = payload_of(&buffer);
     if !are_entries(payload) {
         return Err(damaged(Kind::Directory, pointer));
     }
-    load_entries(
-        alloc, device, geometry, frame, directory, payload, slots, maps,
-    )
+    load_entries(alloc, device, frame, directory, payload, slots, maps)
 }
 
 // Loads the objects that the entries of a directory name.
 fn load_entries<D: SectorDevice>(
     alloc: Global,
     device: &mut D,
-    geometry: Geometry,
     frame: &Frame,
     directory: usize,
     payload: &[u8],
     slots: &mut [Slot],
     maps: &mut [ObjectMap],
 ) -> Result<(), PoolError>
-    requires size { D.size device.old ≡ geometry }
+    requires fits { block_address frame.now.blocks ≤ D.size device.old }
     requires in_range { directory < 84 }
     requires payload { length payload.now ≡ 4032 }
     requires entries { (k : ℕ) → k < 63 → IsEntryForm (entry_in payload.now k) }
@@ -423,11 +413,11 @@ fn load_entries<D: SectorDevice>(
     ensures count { D.refused device.new ≡ counted result (D.refused device.old) }
     ensures cause { IfErr result IsLoadRefusal }
     ensures loaded { (image : List ℕ) → Shows D.keeps_model (D.disk device.old) image → OnOk result
-        (AreLoadedEntries D.keeps_model image (frame_of frame.now geometry) directory payload.now 63 slots.old slots.new maps.old maps.new) }
+        (AreLoadedEntries D.keeps_model image frame.now directory payload.now 63 slots.old slots.new maps.old maps.new) }
     ensures sound { IsTrue D.keeps_model → (image : List ℕ) (top : Pointer) → bytes_of (D.disk device.old).now ≡ image
-        → IsPayloadOf image (frame_of frame.now geometry) top directory payload.now → OnOk result (AreSound image (frame_of frame.now geometry) top (2 + 5356 * directory) (1 + 5356 * (directory + 1))) }
+        → IsPayloadOf image frame.now top directory payload.now → OnOk result (AreSound image frame.now top (2 + 5356 * directory) (1 + 5356 * (directory + 1))) }
     ensures fault { IsTrue D.keeps_model → (image : List ℕ) (top : Pointer) → bytes_of (D.disk device.old).now ≡ image
-        → IsPayloadOf image (frame_of frame.now geometry) top directory payload.now → IfErr result (TellsFault image (frame_of frame.now geometry) top (2 + 5356 * directory)) }
+        → IsPayloadOf image frame.now top directory payload.now → IfErr result (TellsFault image frame.now top (2 + 5356 * directory)) }
 {
     for index in 0..ENTRY_COUNT {
         let entry = read_entry(payload, index);
@@ -435,7 +425,7 @@ fn load_entries<D: SectorDevice>(
             continue;
         }
         let number = ENTRY_COUNT * directory + index;
-        let (slot, map) = load_object(alloc, device, geometry, frame, number, &entry)?;
+        let (slot, map) = load_object(alloc, device, frame, number, &entry)?;
         slots[number] = slot;
         maps[number] = map;
     }
@@ -445,12 +435,11 @@ fn load_entries<D: SectorDevice>(
 fn load_object<D: SectorDevice>(
     alloc: Global,
     device: &mut D,
-    geometry: Geometry,
     frame: &Frame,
     number: usize,
     entry: &Entry,
 ) -> Result<(Slot, ObjectMap), PoolError>
-    requires size { D.size device.old ≡ geometry }
+    requires fits { block_address frame.now.blocks ≤ D.size device.old }
     requires in_range { number < 5292 }
     requires length { entry.now.length ≤ 338688 }
     ensures size { D.size device.new ≡ D.size device.old }
@@ -461,22 +450,14 @@ fn load_object<D: SectorDevice>(
     ensures length { IfOk result (λ o. length o.0.bytes.items ≡ entry.now.length) }
     ensures indirect { IfOk result (λ o. o.1.indirect ≡ entry.now.pointer) }
     ensures loaded { (image : List ℕ) → Shows D.keeps_model (D.disk device.old) image → IfOk result
-        (λ o. IsLoadedObject D.keeps_model image (frame_of frame.now geometry) number (Some o.0.bytes.items) o.1.indirect o.1.records.items) }
+        (λ o. IsLoadedObject D.keeps_model image frame.now number (Some o.0.bytes.items) o.1.indirect o.1.records.items) }
     ensures sound { IsTrue D.keeps_model → (image : List ℕ) (top : Pointer) → bytes_of (D.disk device.old).now ≡ image
-        → IsIndirectOf image top number entry.now.pointer entry.now.length → OnOk result (AreSound image (frame_of frame.now geometry) top (walk_index_of_indirect number) (walk_index_of_indirect number + 85)) }
+        → IsIndirectOf image top number entry.now.pointer entry.now.length → OnOk result (AreSound image frame.now top (walk_index_of_indirect number) (walk_index_of_indirect number + 85)) }
     ensures fault { IsTrue D.keeps_model → (image : List ℕ) (top : Pointer) → bytes_of (D.disk device.old).now ≡ image
-        → IsIndirectOf image top number entry.now.pointer entry.now.length → IfErr result (TellsFault image (frame_of frame.now geometry) top (walk_index_of_indirect number)) }
+        → IsIndirectOf image top number entry.now.pointer entry.now.length → IfErr result (TellsFault image frame.now top (walk_index_of_indirect number)) }
 {
     let mut bytes = vec![in alloc; 0u8; entry.length as usize]?;
-    let records = load_bytes(
-        alloc,
-        device,
-        geometry,
-        frame,
-        number,
-        &entry.pointer,
-        &mut bytes,
-    )?;
+    let records = load_bytes(alloc, device, frame, number, &entry.pointer, &mut bytes)?;
     let slot = Slot {
         present: true,
         bytes,
@@ -492,13 +473,12 @@ fn load_object<D: SectorDevice>(
 fn load_bytes<D: SectorDevice>(
     alloc: Global,
     device: &mut D,
-    geometry: Geometry,
     frame: &Frame,
     number: usize,
     indirect: &Pointer,
     bytes: &mut [u8],
 ) -> Result<Vec<Pointer>, PoolError>
-    requires size { D.size device.old ≡ geometry }
+    requires fits { block_address frame.now.blocks ≤ D.size device.old }
     requires in_range { number < 5292 }
     requires bound { length bytes.old ≤ 338688 }
     requires zeros { bytes.old ≡ replicate (length bytes.old) 0 }
@@ -507,11 +487,11 @@ fn load_bytes<D: SectorDevice>(
     ensures count { D.refused device.new ≡ counted result (D.refused device.old) }
     ensures cause { IfErr result IsLoadRefusal }
     ensures loaded { (image : List ℕ) → Shows D.keeps_model (D.disk device.old) image → IfOk result
-        (λ records. IsLoadedObject D.keeps_model image (frame_of frame.now geometry) number (Some bytes.new) indirect.now records.items) }
+        (λ records. IsLoadedObject D.keeps_model image frame.now number (Some bytes.new) indirect.now records.items) }
     ensures sound { IsTrue D.keeps_model → (image : List ℕ) (top : Pointer) → bytes_of (D.disk device.old).now ≡ image
-        → IsIndirectOf image top number indirect.now (length bytes.old) → OnOk result (AreSound image (frame_of frame.now geometry) top (walk_index_of_indirect number) (walk_index_of_indirect number + 85)) }
+        → IsIndirectOf image top number indirect.now (length bytes.old) → OnOk result (AreSound image frame.now top (walk_index_of_indirect number) (walk_index_of_indirect number + 85)) }
     ensures fault { IsTrue D.keeps_model → (image : List ℕ) (top : Pointer) → bytes_of (D.disk device.old).now ≡ image
-        → IsIndirectOf image top number indirect.now (length bytes.old) → IfErr result (TellsFault image (frame_of frame.now geometry) top (walk_index_of_indirect number)) }
+        → IsIndirectOf image top number indirect.now (length bytes.old) → IfErr result (TellsFault image frame.now top (walk_index_of_indirect number)) }
 {
     if indirect.is_none() {
         return Ok(Vec::new(alloc));
@@ -522,26 +502,25 @@ fn load_bytes<D: SectorDevice>(
         kind: Kind::Indirect,
         number: number as u64,
     };
-    read_block(device, geometry, frame, place, indirect, &mut buffer)?;
+    read_block(device, frame, place, indirect, &mut buffer)?;
     let payload = payload_of(&buffer);
     if !are_records(payload, bytes.len()) {
         return Err(damaged(Kind::Indirect, indirect));
     }
     read_pointers(payload, &mut records);
-    load_records(device, geometry, frame, number, &records, bytes)?;
+    load_records(device, frame, number, &records, bytes)?;
     Ok(records)
 }
 
 // Loads the records that these pointers name over zeros.
 fn load_records<D: SectorDevice>(
     device: &mut D,
-    geometry: Geometry,
     frame: &Frame,
     number: usize,
     records: &[Pointer],
     bytes: &mut [u8],
 ) -> Result<(), PoolError>
-    requires size { D.size device.old ≡ geometry }
+    requires fits { block_address frame.now.blocks ≤ D.size device.old }
     requires in_range { number < 5292 }
     requires count { length records.now ≡ 84 }
     requires forms { (r : ℕ) → r < 84 → IsRecordPointerForm (length bytes.old) r (pointer_of_list records.now r) }
@@ -551,18 +530,18 @@ fn load_records<D: SectorDevice>(
     ensures count { D.refused device.new ≡ counted result (D.refused device.old) }
     ensures cause { IfErr result IsLoadRefusal }
     ensures loaded { (image : List ℕ) → Shows D.keeps_model (D.disk device.old) image → OnOk result
-        (AreLoadedRecords D.keeps_model image (frame_of frame.now geometry) number records.now bytes.new 84) }
+        (AreLoadedRecords D.keeps_model image frame.now number records.now bytes.new 84) }
     ensures sound { IsTrue D.keeps_model → (image : List ℕ) (top : Pointer) → bytes_of (D.disk device.old).now ≡ image
-        → AreDataOf image top number records.now (length bytes.old) → OnOk result (AreSound image (frame_of frame.now geometry) top (walk_index_of_indirect number + 1) (walk_index_of_indirect number + 85)) }
+        → AreDataOf image top number records.now (length bytes.old) → OnOk result (AreSound image frame.now top (walk_index_of_indirect number + 1) (walk_index_of_indirect number + 85)) }
     ensures fault { IsTrue D.keeps_model → (image : List ℕ) (top : Pointer) → bytes_of (D.disk device.old).now ≡ image
-        → AreDataOf image top number records.now (length bytes.old) → IfErr result (TellsFault image (frame_of frame.now geometry) top (walk_index_of_indirect number + 1)) }
+        → AreDataOf image top number records.now (length bytes.old) → IfErr result (TellsFault image frame.now top (walk_index_of_indirect number + 1)) }
 {
     for index in 0..POINTER_COUNT {
         let pointer = records[index];
         if pointer.is_none() {
             continue;
         }
-        load_record(device, geometry, frame, number, index, &pointer, bytes)?;
+        load_record(device, frame, number, index, &pointer, bytes)?;
     }
     Ok(())
 }
@@ -570,14 +549,13 @@ fn load_records<D: SectorDevice>(
 // Loads a record into its place among the bytes of an object.
 fn load_record<D: SectorDevice>(
     device: &mut D,
-    geometry: Geometry,
     frame: &Frame,
     number: usize,
     index: usize,
     pointer: &Pointer,
     bytes: &mut [u8],
 ) -> Result<(), PoolError>
-    requires size { D.size device.old ≡ geometry }
+    requires fits { block_address frame.now.blocks ≤ D.size device.old }
     requires number { number < 5292 }
     requires index { index < 84 }
     requires within { 4032 * index < length bytes.old }
@@ -586,21 +564,21 @@ fn load_record<D: SectorDevice>(
     ensures count { D.refused device.new ≡ counted result (D.refused device.old) }
     ensures cause { IfErr result IsLoadRefusal }
     ensures loaded { (image : List ℕ) → Shows D.keeps_model (D.disk device.old) image → OnOk result
-        (IsLoadedRecord D.keeps_model image (frame_of frame.now geometry) number index pointer.now bytes.new) }
+        (IsLoadedRecord D.keeps_model image frame.now number index pointer.now bytes.new) }
     ensures others { OnOk result ((r : ℕ) → r ≢ index → record_bytes r bytes.new ≡ record_bytes r bytes.old) }
     ensures sound { IsTrue D.keeps_model → (image : List ℕ) (top : Pointer) → bytes_of (D.disk device.old).now ≡ image
         → IsDataOf image top number index pointer.now (length bytes.old)
-        → OnOk result (AreSound image (frame_of frame.now geometry) top (walk_index_of (Data number index)) (walk_index_of (Data number index) + 1)) }
+        → OnOk result (AreSound image frame.now top (walk_index_of (Data number index)) (walk_index_of (Data number index) + 1)) }
     ensures fault { IsTrue D.keeps_model → (image : List ℕ) (top : Pointer) → bytes_of (D.disk device.old).now ≡ image
         → IsDataOf image top number index pointer.now (length bytes.old)
-        → IfErr result (TellsFault image (frame_of frame.now geometry) top (walk_index_of (Data number index))) }
+        → IfErr result (TellsFault image frame.now top (walk_index_of (Data number index))) }
 {
     let mut buffer = new_buffer();
     let place = BlockPlace {
         kind: Kind::Data,
         number: (POINTER_COUNT * number + index) as u64,
     };
-    read_block(device, geometry, frame, place, pointer, &mut buffer)?;
+    read_block(device, frame, place, pointer, &mut buffer)?;
     let payload = payload_of(&buffer);
     let at = RECORD_SIZE * index;
     let count = (bytes.len() - at).min(RECORD_SIZE);

@@ -1,6 +1,5 @@
 use Rattle.std.proofs.Common.{◌∙◌, ℕ, List, refl}
 use Rattle.base.specs.Disk.{bytes_of}
-use Rattle.object_maps.specs.Loading.{frame_of}
 use Rattle.object_maps.proofs.LoadedTrees.{all_empty, no_pointers, standing_tree, length-standing, tree_placed, tree_bounded, tree_holds}
 use Rattle.std.proofs.lemmas.Result.{err_from_is_err_and}
 use Rattle.object_maps.proofs.WalkParts.{first_fault}
@@ -18,37 +17,37 @@ load_tree-requires-clause-empty g c =
 pub returns-clause-placed : goal.returns-clause-placed
 returns-clause-placed g c =
     let image : List ℕ = bytes_of (g.D.SectorDevice.disk c.args.device.now).now in
-    let tree = standing_tree g.D.SectorDevice.keeps_model image (frame_of c.args.frame.now c.args.geometry) c.args.root
+    let tree = standing_tree g.D.SectorDevice.keeps_model image c.args.frame.now c.args.root
     c.load_tree.new.directories c.in_ok-directories.directories.items c.load_tree.new.slots c.in_ok-slots.slots.items c.load_tree.new.maps c.in_ok-maps.maps.items
     c.in_ok-directories.directories.len c.in_ok-slots.slots.len c.in_ok-maps.maps.len
     (c.load_tree.auto.directories ∙ c.deref_mut.ensures.len) (c.load_tree.auto.slots ∙ c.deref_mut-2.ensures.len) (c.load_tree.auto.maps ∙ c.deref_mut-3.ensures.len)
     (c.in_ok-load_tree.ensures.loaded image (λ keeps. refl)) in
-    tree_placed g.D.SectorDevice.keeps_model image (frame_of c.args.frame.now c.args.geometry) c.args.root _ _ _ tree
+    tree_placed g.D.SectorDevice.keeps_model image c.args.frame.now c.args.root _ _ _ tree
 
 pub returns-clause-bounded : goal.returns-clause-bounded
 returns-clause-bounded g c =
     let image : List ℕ = bytes_of (g.D.SectorDevice.disk c.args.device.now).now in
-    let tree = standing_tree g.D.SectorDevice.keeps_model image (frame_of c.args.frame.now c.args.geometry) c.args.root
+    let tree = standing_tree g.D.SectorDevice.keeps_model image c.args.frame.now c.args.root
     c.load_tree.new.directories c.in_ok-directories.directories.items c.load_tree.new.slots c.in_ok-slots.slots.items c.load_tree.new.maps c.in_ok-maps.maps.items
     c.in_ok-directories.directories.len c.in_ok-slots.slots.len c.in_ok-maps.maps.len
     (c.load_tree.auto.directories ∙ c.deref_mut.ensures.len) (c.load_tree.auto.slots ∙ c.deref_mut-2.ensures.len) (c.load_tree.auto.maps ∙ c.deref_mut-3.ensures.len)
     (c.in_ok-load_tree.ensures.loaded image (λ keeps. refl)) in
     let long = length-standing c.load_tree.new.slots c.in_ok-slots.slots.items c.in_ok-slots.slots.len (c.load_tree.auto.slots ∙ c.deref_mut-2.ensures.len) ∙ c.in_ok-slots.ensures.0 in
-    tree_bounded g.D.SectorDevice.keeps_model image (frame_of c.args.frame.now c.args.geometry) c.args.root _ _ _ long tree
+    tree_bounded g.D.SectorDevice.keeps_model image c.args.frame.now c.args.root _ _ _ long tree
 
 pub returns-clause-held : goal.returns-clause-held
 returns-clause-held g c =
     let image : List ℕ = bytes_of (g.D.SectorDevice.disk c.args.device.now).now in
-    let tree = standing_tree g.D.SectorDevice.keeps_model image (frame_of c.args.frame.now c.args.geometry) c.args.root
+    let tree = standing_tree g.D.SectorDevice.keeps_model image c.args.frame.now c.args.root
     c.load_tree.new.directories c.in_ok-directories.directories.items c.load_tree.new.slots c.in_ok-slots.slots.items c.load_tree.new.maps c.in_ok-maps.maps.items
     c.in_ok-directories.directories.len c.in_ok-slots.slots.len c.in_ok-maps.maps.len
     (c.load_tree.auto.directories ∙ c.deref_mut.ensures.len) (c.load_tree.auto.slots ∙ c.deref_mut-2.ensures.len) (c.load_tree.auto.maps ∙ c.deref_mut-3.ensures.len)
     (c.in_ok-load_tree.ensures.loaded image (λ keeps. refl)) in
     let long = length-standing c.load_tree.new.slots c.in_ok-slots.slots.items c.in_ok-slots.slots.len (c.load_tree.auto.slots ∙ c.deref_mut-2.ensures.len) ∙ c.in_ok-slots.ensures.0 in
-    tree_holds g.D.SectorDevice.keeps_model image (frame_of c.args.frame.now c.args.geometry) c.args.root _ _ _ long tree
+    tree_holds g.D.SectorDevice.keeps_model image c.args.frame.now c.args.root _ _ _ long tree
 
 pub returns-in_err-load_tree-clause-fault : goal.returns-in_err-load_tree-clause-fault
 returns-in_err-load_tree-clause-fault g c = λ keeps.
     let p = err_from_is_err_and c.from_residual-in_err-load_tree.result c.from_residual-in_err-load_tree.ensures.1 in
     let image : List ℕ = bytes_of (g.D.SectorDevice.disk c.args.device.now).now in
-    rw (p.1, p.2) (first_fault image (frame_of c.args.frame.now c.args.geometry) c.args.root c.in_err-load_tree.field-0.0 (c.in_err-load_tree.ensures.fault keeps image refl))
+    rw (p.1, p.2) (first_fault image c.args.frame.now c.args.root c.in_err-load_tree.field-0.0 (c.in_err-load_tree.ensures.fault keeps image refl))

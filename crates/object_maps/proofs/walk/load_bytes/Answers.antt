@@ -6,7 +6,7 @@ use Rattle.base.specs.Faults.{IsRecordPointerForm}
 use Rattle.base.specs.Places.Place.{Indirect}
 use Rattle.base.specs.Tree.{OpensAt}
 use Rattle.object_maps.specs.Pointers.{pointer_of_list}
-use Rattle.object_maps.specs.Loading.{frame_of, IsLoadedObject, AreLoadedRecords}
+use Rattle.object_maps.specs.Loading.{IsLoadedObject, AreLoadedRecords}
 use Rattle.object_maps.proofs.LoadedBlocks.{still_shows}
 use Rattle.object_maps.proofs.LoadedRecords.{zero_records, hole_loaded, object_loaded}
 use Rattle.std.proofs.lemmas.Result.{err_from_is_err_and}
@@ -19,9 +19,9 @@ use Rattle.object_maps.proofs.walk.load_bytes.Goals as goal
 
 pub returns-then-is_none-clause-loaded : goal.returns-then-is_none-clause-loaded
 returns-then-is_none-clause-loaded g c = λ image shows.
-    subst (λ (l : List Pointer). IsLoadedObject g.D.SectorDevice.keeps_model image (frame_of c.args.frame.now c.args.geometry) c.args.number (Some c.args.bytes.now) c.args.indirect.now l)
+    subst (λ (l : List Pointer). IsLoadedObject g.D.SectorDevice.keeps_model image c.args.frame.now c.args.number (Some c.args.bytes.now) c.args.indirect.now l)
     (sym c.new.ensures.items)
-    (hole_loaded g.D.SectorDevice.keeps_model image (frame_of c.args.frame.now c.args.geometry) c.args.number c.args.indirect.now c.args.bytes.now
+    (hole_loaded g.D.SectorDevice.keeps_model image c.args.frame.now c.args.number c.args.indirect.now c.args.bytes.now
     (c.if-is_none.ensures.0 refl) c.requires.bound c.requires.zeros)
 
 -- the records that are read stand in the Vec
@@ -39,7 +39,7 @@ load_records-requires-clause-zeros g c = zero_records c.args.bytes.now c.require
 pub returns-clause-loaded : goal.returns-clause-loaded
 returns-clause-loaded g c = λ image shows.
     let keeps_model = g.D.SectorDevice.keeps_model in
-    let frame = frame_of c.args.frame.now c.args.geometry in
+    let frame = c.args.frame.now in
     let new : List Pointer = c.read_pointers.new.pointers in
     let items = take_at new (drop (length new) c.in_ok-records.records.items) c.in_ok-records.records.len (c.read_pointers.auto.pointers ∙ c.deref_mut.ensures.len) in
     let read = c.in_ok-read_block.ensures in
@@ -53,17 +53,17 @@ returns-clause-loaded g c = λ image shows.
 
 pub returns-then-is_none-clause-sound : goal.returns-then-is_none-clause-sound
 returns-then-is_none-clause-sound g c = λ keeps image top shows indirect.
-    object_none image (frame_of c.args.frame.now c.args.geometry) top c.args.number c.requires.in_range (indirect.at ∙ c.if-is_none.ensures.0 refl)
+    object_none image c.args.frame.now top c.args.number c.requires.in_range (indirect.at ∙ c.if-is_none.ensures.0 refl)
 
 pub returns-in_err-read_block-clause-fault : goal.returns-in_err-read_block-clause-fault
 returns-in_err-read_block-clause-fault g c = λ keeps image top shows indirect.
     let p = err_from_is_err_and c.from_residual-in_err-read_block.result c.from_residual-in_err-read_block.ensures.1 in
-    rw (p.1, p.2) (missing_fault image (frame_of c.args.frame.now c.args.geometry) top (Indirect c.args.number) (walk_index_of_indirect c.args.number) c.args.indirect.now
+    rw (p.1, p.2) (missing_fault image c.args.frame.now top (Indirect c.args.number) (walk_index_of_indirect c.args.number) c.args.indirect.now
     c.in_err-read_block.field-0.0 c.requires.in_range refl indirect.at (λ none. let no = c.if-is_none.ensures.1 none in cc) (c.in_err-read_block.ensures.refused keeps image shows))
 
 pub returns-then-not-are_records-clause-fault : goal.returns-then-not-are_records-clause-fault
 returns-then-not-are_records-clause-fault g c = λ keeps image top shows indirect.
-    let frame = frame_of c.args.frame.now c.args.geometry in
+    let frame = c.args.frame.now in
     let payload : List ℕ = c.payload_of-payload.result.now in
     let opens = subst (λ (l : List ℕ). OpensAt image frame (Indirect c.args.number) c.args.indirect.now l) (sym c.payload_of-payload.ensures.payload)
     (c.in_ok-read_block.ensures.opens image (λ k. shows) keeps) in
@@ -73,7 +73,7 @@ returns-then-not-are_records-clause-fault g c = λ keeps image top shows indirec
 pub returns-in_err-load_records-clause-fault : goal.returns-in_err-load_records-clause-fault
 returns-in_err-load_records-clause-fault g c = λ keeps image top shows indirect.
     let p = err_from_is_err_and c.from_residual-in_err-load_records.result c.from_residual-in_err-load_records.ensures.1 in
-    let frame = frame_of c.args.frame.now c.args.geometry in
+    let frame = c.args.frame.now in
     let payload : List ℕ = c.payload_of-payload.result.now in
     let new : List Pointer = c.read_pointers.new.pointers in
     let items : c.deref.result.now ≡ new = c.deref.ensures.value ∙ take_at new (drop (length new) c.in_ok-records.records.items) c.in_ok-records.records.len
@@ -89,7 +89,7 @@ returns-in_err-load_records-clause-fault g c = λ keeps image top shows indirect
 
 pub returns-clause-sound : goal.returns-clause-sound
 returns-clause-sound g c = λ keeps image top shows indirect.
-    let frame = frame_of c.args.frame.now c.args.geometry in
+    let frame = c.args.frame.now in
     let payload : List ℕ = c.payload_of-payload.result.now in
     let new : List Pointer = c.read_pointers.new.pointers in
     let items : c.deref.result.now ≡ new = c.deref.ensures.value ∙ take_at new (drop (length new) c.in_ok-records.records.items) c.in_ok-records.records.len

@@ -4,7 +4,6 @@ use Rattle.std.proofs.lemmas.Result.{on_ok_weaker, IfErr-weaker, err_from_is_err
 use Rattle.base.specs.Disk.{Disk, bytes_of}
 use Rattle.base.specs.Places.Place.{Directory}
 use Rattle.base.specs.Tree.{OpensAt}
-use Rattle.object_maps.specs.Loading.{frame_of}
 use Rattle.object_maps.proofs.LoadedBlocks.{still_shows}
 use Rattle.object_maps.proofs.LoadedEntries.{directory_loaded}
 use Rattle.object_maps.specs.Walking.{TellsFault}
@@ -15,7 +14,7 @@ use Rattle.object_maps.proofs.walk.load_directory.Goals as goal
 pub returns-clause-loaded : goal.returns-clause-loaded
 returns-clause-loaded g c = λ image shows.
     let keeps_model = g.D.SectorDevice.keeps_model in
-    let frame = frame_of c.args.frame.now c.args.geometry in
+    let frame = c.args.frame.now in
     let read = c.in_ok-read_block.ensures in
     let same = still_shows keeps_model (g.D.SectorDevice.disk c.args.device.now) (g.D.SectorDevice.disk c.read_block.new.device) image read.disk shows in
     let opens = λ (keeps : IsTrue keeps_model). subst (λ (l : List ℕ). OpensAt image frame (Directory c.args.directory) c.args.pointer.now l) (sym c.payload_of-payload.ensures.payload)
@@ -33,12 +32,12 @@ returns-clause-others g c =
 pub returns-in_err-read_block-clause-fault : goal.returns-in_err-read_block-clause-fault
 returns-in_err-read_block-clause-fault g c = λ keeps image top shows at named.
     let p = err_from_is_err_and c.from_residual.result c.from_residual.ensures.1 in
-    rw (p.1, p.2) (missing_fault image (frame_of c.args.frame.now c.args.geometry) top (Directory c.args.directory) (1 + 5356 * c.args.directory) c.args.pointer.now
+    rw (p.1, p.2) (missing_fault image c.args.frame.now top (Directory c.args.directory) (1 + 5356 * c.args.directory) c.args.pointer.now
     c.in_err-read_block.field-0.0 c.requires.in_range refl at named (c.in_err-read_block.ensures.refused keeps image shows))
 
 pub returns-then-not-are_entries-clause-fault : goal.returns-then-not-are_entries-clause-fault
 returns-then-not-are_entries-clause-fault g c = λ keeps image top shows at named.
-    let frame = frame_of c.args.frame.now c.args.geometry in
+    let frame = c.args.frame.now in
     let opens = subst (λ (l : List ℕ). OpensAt image frame (Directory c.args.directory) c.args.pointer.now l) (sym c.payload_of-payload.ensures.payload)
     (c.in_ok-read_block.ensures.opens image (λ k. shows) keeps) in
     formless_fault image frame top (Directory c.args.directory) (1 + 5356 * c.args.directory) c.args.pointer.now c.payload_of-payload.result.now c.damaged.result c.requires.in_range refl at named
@@ -46,7 +45,7 @@ returns-then-not-are_entries-clause-fault g c = λ keeps image top shows at name
 
 pub returns-clause-sound : goal.returns-clause-sound
 returns-clause-sound g c = λ keeps image top shows at named.
-    let frame = frame_of c.args.frame.now c.args.geometry in
+    let frame = c.args.frame.now in
     let payload : List ℕ = c.payload_of-payload.result.now in
     let opens = subst (λ (l : List ℕ). OpensAt image frame (Directory c.args.directory) c.args.pointer.now l) (sym c.payload_of-payload.ensures.payload)
     (c.in_ok-read_block.ensures.opens image (λ k. shows) keeps) in
@@ -57,7 +56,7 @@ returns-clause-sound g c = λ keeps image top shows at named.
 
 pub returns-clause-fault : goal.returns-clause-fault
 returns-clause-fault g c = λ keeps image top shows at named.
-    let frame = frame_of c.args.frame.now c.args.geometry in
+    let frame = c.args.frame.now in
     let payload : List ℕ = c.payload_of-payload.result.now in
     let opens = subst (λ (l : List ℕ). OpensAt image frame (Directory c.args.directory) c.args.pointer.now l) (sym c.payload_of-payload.ensures.payload)
     (c.in_ok-read_block.ensures.opens image (λ k. shows) keeps) in

@@ -1,7 +1,6 @@
 use Rattle.std.proofs.Common.{◌≡◌, ◌<◌, ◌≤◌, ◌+◌, ◌*◌, ◌∙◌, ℕ, List, length, ap, subst, sym, arith}
 use Rattle.base.specs.Limits.{max_length}
 use Rattle.base.specs.Fields.{entry_in, entry_present, entry_length}
-use Rattle.object_maps.specs.Loading.{frame_of}
 use Rattle.object_maps.proofs.LoadedBlocks.{still_shows}
 use Rattle.object_maps.proofs.EntryForms.{entry_absent, entry_short}
 use Rattle.object_maps.proofs.LoadedEntries.{entries_skip, entries_put}
@@ -20,9 +19,9 @@ loop-index-preserved-then-entry-ne1 g c =
       size = i.size;
       disk = i.disk;
       count = i.count;
-      sound = λ keeps image top shows payload. entry_skip image (frame_of c.args.frame.now c.args.geometry) top c.args.directory c.loop-index.index c.args.payload.now
+      sound = λ keeps image top shows payload. entry_skip image c.args.frame.now top c.args.directory c.loop-index.index c.args.payload.now
           c.requires.in_range c.loop-index-test.true payload absent (i.sound keeps image top shows payload);
-      loaded = λ image shows. entries_skip g.D.SectorDevice.keeps_model image (frame_of c.args.frame.now c.args.geometry) c.args.directory c.args.payload.now c.loop-index.index
+      loaded = λ image shows. entries_skip g.D.SectorDevice.keeps_model image c.args.frame.now c.args.directory c.args.payload.now c.loop-index.index
           c.args.slots.now c.loop-index.slots c.args.maps.now c.loop-index.maps (i.loaded image shows) c.requires.empty absent;
     }
 
@@ -48,11 +47,11 @@ loop-index-preserved g c =
       disk = λ keeps. call.disk keeps ∙ i.disk keeps;
       count = call.count ∙ i.count;
       sound = λ keeps image top shows of_directory.
-          object_more image (frame_of c.args.frame.now c.args.geometry) top c.args.directory k c.loop-index-test.true (i.sound keeps image top shows of_directory)
+          object_more image c.args.frame.now top c.args.directory k c.loop-index-test.true (i.sound keeps image top shows of_directory)
           (call.sound keeps image top (ap (λ (d : Disk). bytes_of d.now) (i.disk keeps) ∙ shows)
-          (linked_entry image (frame_of c.args.frame.now c.args.geometry) top c.args.directory k payload c.read_entry-entry.result.pointer c.read_entry-entry.result.length
+          (linked_entry image c.args.frame.now top c.args.directory k payload c.read_entry-entry.result.pointer c.read_entry-entry.result.length
           c.loop-index-test.true of_directory entry.pointer entry.length));
-      loaded = λ image shows. entries_put g.D.SectorDevice.keeps_model image (frame_of c.args.frame.now c.args.geometry) c.args.directory payload k
+      loaded = λ image shows. entries_put g.D.SectorDevice.keeps_model image c.args.frame.now c.args.directory payload k
           c.args.slots.now c.loop-index.slots c.args.maps.now c.loop-index.maps c.in_ok-slot.slot c.in_ok-slot.map (i.loaded image shows) slot_in map_in call.present
           (call.loaded image (still_shows g.D.SectorDevice.keeps_model (g.D.SectorDevice.disk c.args.device.now) (g.D.SectorDevice.disk c.loop-index.device) image i.disk shows))
           is_present size (omega (arith, size, most)) (sym entry.pointer ∙ sym call.indirect);
@@ -66,15 +65,15 @@ returns-clause-loaded g c = λ image shows.
 pub returns-clause-sound : goal.returns-clause-sound
 returns-clause-sound g c = λ keeps image top shows payload.
     let e : 2 + 5356 * c.args.directory + 85 * c.loop-index.index ≡ 1 + 5356 * (c.args.directory + 1) = omega (arith, c.loop-index.auto.index-end, c.loop-index-test.false) in
-    subst (λ (k : ℕ). AreSound image (frame_of c.args.frame.now c.args.geometry) top (2 + 5356 * c.args.directory) k) e (c.loop-index.invariant.sound keeps image top shows payload)
+    subst (λ (k : ℕ). AreSound image c.args.frame.now top (2 + 5356 * c.args.directory) k) e (c.loop-index.invariant.sound keeps image top shows payload)
 
 pub returns-in_err-slot-clause-fault : goal.returns-in_err-slot-clause-fault
 returns-in_err-slot-clause-fault g c = λ keeps image top shows of_directory.
     let p = err_from_is_err_and c.from_residual.result c.from_residual.ensures.1 in
     let i = c.loop-index.invariant in
     let entry = c.read_entry-entry.ensures in
-    rw (p.1, p.2) (entry_tells image (frame_of c.args.frame.now c.args.geometry) top c.args.directory c.loop-index.index c.in_err-slot.field-0.0 c.loop-index-test.true
+    rw (p.1, p.2) (entry_tells image c.args.frame.now top c.args.directory c.loop-index.index c.in_err-slot.field-0.0 c.loop-index-test.true
     (i.sound keeps image top shows of_directory)
     (c.in_err-slot.ensures.fault keeps image top (ap (λ (d : Disk). bytes_of d.now) (i.disk keeps) ∙ shows)
-    (linked_entry image (frame_of c.args.frame.now c.args.geometry) top c.args.directory c.loop-index.index c.args.payload.now c.read_entry-entry.result.pointer c.read_entry-entry.result.length
+    (linked_entry image c.args.frame.now top c.args.directory c.loop-index.index c.args.payload.now c.read_entry-entry.result.pointer c.read_entry-entry.result.length
     c.loop-index-test.true of_directory entry.pointer entry.length)))

@@ -3,18 +3,18 @@ use Rattle.std.specs.Prelude.{IsTrue}
 use Rattle.base.specs.declared.pointer.Pointer.{Pointer}
 use Rattle.base.specs.Disk.{bytes_of}
 use Rattle.object_maps.specs.Walking.{AreSound, IsPayloadOf}
-use Rattle.object_maps.specs.Loading.{Shows, frame_of, AreLoadedEntries}
+use Rattle.object_maps.specs.Loading.{Shows, AreLoadedEntries}
 use Rattle.object_maps.proofs.walk.load_entries.Given as goal
 
 -- the device is as it was, and so many objects of the directory are loaded
 abbrev pub invariant-loop-index : goal.invariant-loop-index
 invariant-loop-index g l = record {
-  size : g.D.SectorDevice.size l.device ≡ l.geometry;
+  size : g.D.SectorDevice.size l.device ≡ g.D.SectorDevice.size l.fn.device;
   disk : IsTrue g.D.SectorDevice.keeps_model → g.D.SectorDevice.disk l.device ≡ g.D.SectorDevice.disk l.fn.device;
   count : g.D.SectorDevice.refused l.device ≡ g.D.SectorDevice.refused l.fn.device;
   sound : IsTrue g.D.SectorDevice.keeps_model → (image : List ℕ) (top : Pointer) → bytes_of (g.D.SectorDevice.disk l.fn.device).now ≡ image
-      → IsPayloadOf image (frame_of l.frame l.geometry) top l.directory l.payload
-      → AreSound image (frame_of l.frame l.geometry) top (2 + 5356 * l.directory) (2 + 5356 * l.directory + 85 * l.index);
+      → IsPayloadOf image l.frame top l.directory l.payload
+      → AreSound image l.frame top (2 + 5356 * l.directory) (2 + 5356 * l.directory + 85 * l.index);
   loaded : (image : List ℕ) → Shows g.D.SectorDevice.keeps_model (g.D.SectorDevice.disk l.fn.device) image
-      → AreLoadedEntries g.D.SectorDevice.keeps_model image (frame_of l.frame l.geometry) l.directory l.payload l.index l.fn.slots l.slots l.fn.maps l.maps;
+      → AreLoadedEntries g.D.SectorDevice.keeps_model image l.frame l.directory l.payload l.index l.fn.slots l.slots l.fn.maps l.maps;
 }

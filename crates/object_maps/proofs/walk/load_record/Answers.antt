@@ -2,7 +2,6 @@ use Rattle.std.proofs.Common.{ℕ, List, length, refl, sym, subst}
 use Rattle.std.proofs.lemmas.List.{take_rest}
 use Rattle.base.specs.Places.Place.{Data}
 use Rattle.base.specs.Tree.{OpensAt}
-use Rattle.object_maps.specs.Loading.{frame_of}
 use Rattle.object_maps.proofs.LoadedRecords.{record_taken, records_apart}
 use Rattle.std.proofs.lemmas.Result.{err_from_is_err_and}
 use Rattle.base.specs.Places.{walk_index_of}
@@ -13,10 +12,10 @@ pub returns-clause-loaded : goal.returns-clause-loaded
 returns-clause-loaded g c = λ image shows.
     let payload : List ℕ = c.payload_of-payload.result.now in
     let zeros = rw (take_rest payload c.min-count.result) at (c.if-not-are_zeros.ensures.0 refl) in
-    record_taken g.D.SectorDevice.keeps_model image (frame_of c.args.frame.now c.args.geometry) c.args.number c.args.index c.min-count.result c.args.pointer.now payload
+    record_taken g.D.SectorDevice.keeps_model image c.args.frame.now c.args.number c.args.index c.min-count.result c.args.pointer.now payload
     c.args.bytes.now c.write_bytes.new.bytes c.payload_of-payload.ensures.length c.requires.within c.min-count.ensures zeros c.write_bytes.ensures
     c.in_ok-read_block.ensures.placed
-    (λ keeps. subst (λ (l : List ℕ). OpensAt image (frame_of c.args.frame.now c.args.geometry) (Data c.args.number c.args.index) c.args.pointer.now l)
+    (λ keeps. subst (λ (l : List ℕ). OpensAt image c.args.frame.now (Data c.args.number c.args.index) c.args.pointer.now l)
     (sym c.payload_of-payload.ensures.payload) (c.in_ok-read_block.ensures.opens image shows keeps))
 
 pub returns-clause-others : goal.returns-clause-others
@@ -27,13 +26,13 @@ returns-clause-others g c =
 pub returns-in_err-read_block-clause-fault : goal.returns-in_err-read_block-clause-fault
 returns-in_err-read_block-clause-fault g c = λ keeps image top shows named_by.
     let p = err_from_is_err_and c.from_residual.result c.from_residual.ensures.1 in
-    rw (p.1, p.2) (missing_fault image (frame_of c.args.frame.now c.args.geometry) top (Data c.args.number c.args.index) (walk_index_of (Data c.args.number c.args.index)) c.args.pointer.now
+    rw (p.1, p.2) (missing_fault image c.args.frame.now top (Data c.args.number c.args.index) (walk_index_of (Data c.args.number c.args.index)) c.args.pointer.now
     c.in_err-read_block.field-0.0 (c.requires.number, c.requires.index) refl named_by.at named_by.there (c.in_err-read_block.ensures.refused keeps image shows))
 
 pub returns-then-not-are_zeros-clause-fault : goal.returns-then-not-are_zeros-clause-fault
 returns-then-not-are_zeros-clause-fault g c = λ keeps image top shows named_by.
     let payload : List ℕ = c.payload_of-payload.result.now in
-    let frame = frame_of c.args.frame.now c.args.geometry in
+    let frame = c.args.frame.now in
     let opens = subst (λ (l : List ℕ). OpensAt image frame (Data c.args.number c.args.index) c.args.pointer.now l) (sym c.payload_of-payload.ensures.payload)
     (c.in_ok-read_block.ensures.opens image (λ k. shows) keeps) in
     let not = rw (take_rest payload c.min-count.result) at c.if-not-are_zeros.ensures.1 in
@@ -43,7 +42,7 @@ returns-then-not-are_zeros-clause-fault g c = λ keeps image top shows named_by.
 pub returns-clause-sound : goal.returns-clause-sound
 returns-clause-sound g c = λ keeps image top shows named_by.
     let payload : List ℕ = c.payload_of-payload.result.now in
-    let frame = frame_of c.args.frame.now c.args.geometry in
+    let frame = c.args.frame.now in
     let opens = subst (λ (l : List ℕ). OpensAt image frame (Data c.args.number c.args.index) c.args.pointer.now l) (sym c.payload_of-payload.ensures.payload)
     (c.in_ok-read_block.ensures.opens image (λ k. shows) keeps) in
     let zeros = rw (take_rest payload c.min-count.result) at (c.if-not-are_zeros.ensures.0 refl) in

@@ -4,18 +4,18 @@ use Rattle.base.specs.declared.pointer.Pointer.{Pointer}
 use Rattle.base.specs.Disk.{bytes_of}
 use Rattle.base.specs.Places.{walk_index_of_indirect}
 use Rattle.object_maps.specs.Walking.{AreSound, AreDataOf}
-use Rattle.object_maps.specs.Loading.{Shows, frame_of, AreLoadedRecords}
+use Rattle.object_maps.specs.Loading.{Shows, AreLoadedRecords}
 use Rattle.object_maps.proofs.walk.load_records.Given as goal
 
 -- the device is as it was, and so many records are loaded
 abbrev pub invariant-loop-index : goal.invariant-loop-index
 invariant-loop-index g l = record {
-  size : g.D.SectorDevice.size l.device ≡ l.geometry;
+  size : g.D.SectorDevice.size l.device ≡ g.D.SectorDevice.size l.fn.device;
   disk : IsTrue g.D.SectorDevice.keeps_model → g.D.SectorDevice.disk l.device ≡ g.D.SectorDevice.disk l.fn.device;
   count : g.D.SectorDevice.refused l.device ≡ g.D.SectorDevice.refused l.fn.device;
   sound : IsTrue g.D.SectorDevice.keeps_model → (image : List ℕ) (top : Pointer) → bytes_of (g.D.SectorDevice.disk l.fn.device).now ≡ image
       → AreDataOf image top l.number l.records (length l.fn.bytes)
-      → AreSound image (frame_of l.frame l.geometry) top (walk_index_of_indirect l.number + 1) (walk_index_of_indirect l.number + 1 + l.index);
+      → AreSound image l.frame top (walk_index_of_indirect l.number + 1) (walk_index_of_indirect l.number + 1 + l.index);
   loaded : (image : List ℕ) → Shows g.D.SectorDevice.keeps_model (g.D.SectorDevice.disk l.fn.device) image
-      → AreLoadedRecords g.D.SectorDevice.keeps_model image (frame_of l.frame l.geometry) l.number l.records l.bytes l.index;
+      → AreLoadedRecords g.D.SectorDevice.keeps_model image l.frame l.number l.records l.bytes l.index;
 }
