@@ -1,5 +1,5 @@
 -- A pool of which a step was refused a write, a flush, or as suspended, is suspended from then on.
-use Rattle.std.proofs.Common.{◌≡◌, ℕ, Bool, true, false, not, ◌&&◌, List, [], ◌∷◌, ◌++◌, refl, ap, sym, ◌∙◌, ◌⊎◌, inl, inr}
+use Rattle.std.proofs.Common.{subst, ◌≡◌, ℕ, Bool, true, false, not, ◌&&◌, List, [], ◌∷◌, ◌++◌, refl, ap, sym, ◌∙◌, ◌⊎◌, inl, inr}
 use Rattle.std.specs.Prelude.{Option, Some, None, Result, Ok, Err}
 use Rattle.std.specs.FinMap as finite
 use Rattle.std.specs.List.{list_all}
@@ -22,10 +22,10 @@ use Rattle.base.specs.Stage as stage
 use Rattle.base.specs.Steps.{State, Answers, Progress}
 use Rattle.base.specs.Steps.Progress.{More, Synced}
 use Rattle.base.specs.SyncEnds.{is_refusal}
-use Rattle.base.specs.Runs.{Step, reply_of, progress_reply}
+use Rattle.base.specs.Runs.{Step, refusal_of, reply_of, progress_reply}
 use Rattle.base.specs.ExactNow.{GoesOn}
 use Rattle.base.specs.Seen.{IsMadeBetween, IsRefusedBetween}
-use Rattle.base.specs.SeenLaws.{is_suspending}
+use Rattle.base.specs.SeenLaws.{is_suspending, is_untested}
 use Rattle.base.proofs.SyncEnds.{suspended_pools_stay}
 
 -- a test that gives no refusal of a pool that is suspended from then on
@@ -95,6 +95,10 @@ refused make (Err f) (Some g) e old new does own answers owned tested is h suspe
     let found : f ≡ g = let told : Err f ≡ Err g = h.0 in cc in
     ap (λ (s : State). s.shown.suspended) h.1 ∙ tested g refl (ap is_suspending (sym (same ∙ found)) ∙ suspends)
 
+progress-answers : (p : Progress) → is_refusal (progress_reply p) ≡ false
+progress-answers More = refl
+progress-answers (Synced group) = refl
+
 memory-quiet : (old new : State) (f : PoolError) → f ≡ error.NoMemory → is_suspending f ≡ true → new.shown.suspended ≡ true
 memory-quiet old new f is suspends = absurd (false≢true (ap is_suspending (sym is) ∙ suspends))
 
@@ -130,10 +134,6 @@ step-suspends now (step.StartSync moment) e old new (answer, is, h) suspends =
 step-suspends now step.SyncStep e old new (answer, is, h) suspends =
     refused progress_reply answer _ e old new _ _ progress-answers (λ f own suspending. ap (λ (s : State). s.shown.suspended) own.1)
     (λ f. suspended-first refusal.sync_step_tests old.shown f refl) is h suspends
-  where
-    progress-answers : (p : Progress) → is_refusal (progress_reply p) ≡ false
-    progress-answers More = refl
-    progress-answers (Synced group) = refl
 
 stays-suspended : (s after : State) → s.shown.suspended ≡ true → GoesOn s after → after.shown.suspended ≡ true
 stays-suspended s after is onward = ap (λ (x : State). x.shown.suspended) (suspended_pools_stay s after is onward) ∙ is
@@ -143,3 +143,54 @@ refusals_suspend s e before after m suspends = stays-suspended m.new after (step
 
 pub suspensions_are_seen : (refuses : Shown → Option PoolError) (before after : State) → IsRefusedBetween refuses error.Suspended before after → after.shown.suspended ≡ true
 suspensions_are_seen refuses before after r = stays-suspended r.state after (r.suspended refl) r.no_later
+
+-- a refusal that is none of a step's own is the first of its tests, and all stands
+tested : {A : Type 0} (s : declared_step.Step) (make : A → declared_reply.Reply) (answer : Result A PoolError) (r : Option PoolError) (e : PoolError) (old new : State) (does : A → Type 0) (own : PoolError → Type 0)
+    → ((a : A) → is_refusal (make a) ≡ false) → ((f : PoolError) → own f → is_untested s f ≡ true) → reply.Refused e ≡ reply_of make answer → Answers r answer old new does own → is_untested s e ≡ false
+    → (r ≡ Some e) × (new ≡ old)
+tested s make (Ok a) r e old new does own answers owned is h seen = absurd (false≢true (sym (answers a) ∙ sym (ap is_refusal is)))
+tested s make (Err f) None e old new does own answers owned is h seen = absurd (let same : e ≡ f = cc in false≢true (sym seen ∙ ap (is_untested s) same ∙ owned f h))
+tested s make (Err f) (Some g) e old new does own answers owned is h seen =
+    let same : e ≡ f = cc in
+    let found : f ≡ g = let told : Err f ≡ Err g = h.0 in cc in
+    (ap (λ (x : PoolError). Some x) (sym (same ∙ found)), h.1)
+
+step-tested : (now : List ℕ) (s : declared_step.Step) (e : PoolError) (old new : State) → Step ⊥ now s (reply.Refused e) old new → is_untested s e ≡ false → (refusal_of s old.shown ≡ Some e) × (new ≡ old)
+step-tested now (step.Lock owner n range mode) e old new (answer, is, h) seen =
+    tested (step.Lock owner n range mode) _ answer _ e old new _ _ (λ a. refl) (λ f own. ap (is_untested (step.Lock owner n range mode)) own.0) is h seen
+step-tested now (step.Unlock owner id) e old new (answer, is, h) seen = tested (step.Unlock owner id) _ answer _ e old new _ _ (λ a. refl) (λ f own. absurd own) is h seen
+step-tested now (step.Begin owner plan) e old new (answer, is, h) seen =
+    tested (step.Begin owner plan) _ answer _ e old new _ _ (λ a. refl) (λ f own. ap (is_untested (step.Begin owner plan)) own.0) is h seen
+step-tested now (step.Commit tx ops) e old new (answer, is, h) seen =
+    tested (step.Commit tx ops) _ answer _ e old new _ _ (λ a. refl) (λ f own. ap (is_untested (step.Commit tx ops)) own.0) is h seen
+step-tested now (step.Read owner n range) e old new (answer, is, h) seen = tested (step.Read owner n range) _ answer _ e old new _ _ (λ a. refl) (λ f own. by_read f own.0) is h seen
+  where
+    by_read : (f : PoolError) → (f ≡ error.NoMemory) ⊎ (f ≡ error.Read) ⊎ ((kind address : ℕ) × (f ≡ error.Damaged kind address) × ¬ ⊥) → is_untested (step.Read owner n range) f ≡ true
+    by_read f (inl memory) = ap (is_untested (step.Read owner n range)) memory
+    by_read f (inr (inl read)) = ap (is_untested (step.Read owner n range)) read
+    by_read f (inr (inr (kind, address, damaged, _))) = ap (is_untested (step.Read owner n range)) damaged
+step-tested now step.CloseGroup e old new (answer, is, h) seen = tested step.CloseGroup _ answer _ e old new _ _ (λ a. refl) (λ f own. absurd own) is h seen
+step-tested now step.MarkQuiesced e old new (answer, is, h) seen = tested step.MarkQuiesced _ answer _ e old new _ _ (λ a. refl) (λ f own. absurd own) is h seen
+step-tested now (step.StartSync moment) e old new (answer, is, h) seen = tested (step.StartSync moment) _ answer _ e old new _ _ (λ a. refl) (λ f own. by_start f own.0) is h seen
+  where
+    by_start : (f : PoolError) → (f ≡ error.NoMemory) ⊎ (f ≡ error.NoSpace) → is_untested (step.StartSync moment) f ≡ true
+    by_start f (inl memory) = ap (is_untested (step.StartSync moment)) memory
+    by_start f (inr full) = ap (is_untested (step.StartSync moment)) full
+step-tested now step.SyncStep e old new (answer, is, h) seen = tested step.SyncStep progress_reply answer _ e old new _ _ progress-answers (λ f own. by_device f own.0) is h seen
+  where
+    by_device : (f : PoolError) → (f ≡ error.Write) ⊎ (f ≡ error.Flush) → is_untested step.SyncStep f ≡ true
+    by_device f (inl write) = ap (is_untested step.SyncStep) write
+    by_device f (inr flush) = ap (is_untested step.SyncStep) flush
+
+pub refusals_are_seen : (s : declared_step.Step) (e : PoolError) (before after : State) → IsMadeBetween ⊥ s (reply.Refused e) before after → is_untested s e ≡ false
+    → IsRefusedBetween (refusal_of s) e before after
+refusals_are_seen s e before after m seen =
+    let h = step-tested m.now s e m.old m.new m.made seen in
+    record {
+      state = m.old;
+      no_earlier = m.no_earlier;
+      no_later = subst (λ (x : State). GoesOn x after) h.1 m.no_later;
+      explained = m.explained;
+      refused = h.0;
+      suspended = λ is. ap (λ (x : State). x.shown.suspended) (sym h.1) ∙ step-suspends m.now s e m.old m.new m.made (ap is_suspending is);
+    }

@@ -11,8 +11,9 @@ use Rattle.base.specs.Steps.{State}
 use Rattle.base.specs.ExactNow.{IsRun}
 
 -- The past after a step. A commit adds its entry, a lock its grant, an unlock the name that is let go and a begin its admission; the step
--- that answers that a group is synced, and no other of these, acknowledges entries: those of that group. A good flush of the log, once it
--- is a step, acknowledges the ordinals that await one in the log of the state before. No refusal adds anything.
+-- that answers that a group is synced, and no other of these, acknowledges entries: those of that group. No refusal adds anything. Two steps
+-- that are not built yet will: an abort the name of its transaction to those aborted, and a good flush of the log the ordinals that await
+-- one in the log of the state before to those acknowledged.
 abbrev pub past_after : declared_step.Step → declared_reply.Reply → State → Past
 past_after (step.Lock owner n range mode) (reply.Locked id) s =
     record s.past { grants = s.past.grants ++ record { id = id.0; owner = owner.0; range = object_range n.0 range.low range.high; mode = mode } ∷ [] }

@@ -1,10 +1,12 @@
 -- Steps and their replies, one after another.
-use Rattle.std.specs.Prelude.{ℕ, ◌≡◌, List, [], ◌∷◌, Result, Ok, Err}
+use Rattle.std.specs.Prelude.{ℕ, ◌≡◌, List, [], ◌∷◌, Option, Result, Ok, Err}
 use Rattle.base.specs.declared.error.PoolError.{PoolError}
 use Rattle.base.specs.declared.step.Step as declared_step
 use Rattle.base.specs.declared.step.Step.TheVariants as step
 use Rattle.base.specs.declared.step.Reply as declared_reply
 use Rattle.base.specs.declared.step.Reply.TheVariants as reply
+use Rattle.base.specs.Shown.{Shown}
+use Rattle.base.specs.Refusals as refusal
 use Rattle.base.specs.Refusals.{object_range}
 use Rattle.base.specs.Steps as steps
 use Rattle.base.specs.Stage as stage
@@ -53,6 +55,18 @@ Step keeps now (step.StartSync moment) given old new =
     (λ answer. stage.StartSync keeps now moment answer old new)
 Step keeps now step.SyncStep given old new =
     Replies progress_reply given (λ answer. steps.SyncStep answer old new)
+
+-- why each step is refused first, if its tests refuse it
+abbrev pub refusal_of : declared_step.Step → Shown → Option PoolError
+refusal_of (step.Lock owner n range mode) s = refusal.lock_refusal owner.0 (object_range n.0 range.low range.high) mode s
+refusal_of (step.Unlock owner id) s = refusal.unlock_refusal owner.0 id.0 s
+refusal_of (step.Begin owner plan) s = stage.begin_refusal owner.0 plan s
+refusal_of (step.Commit tx ops) s = stage.commit_refusal tx.0 ops s
+refusal_of (step.Read owner n range) s = refusal.read_refusal owner.0 (object_range n.0 range.low range.high) s
+refusal_of step.CloseGroup s = stage.close_refusal s
+refusal_of step.MarkQuiesced s = refusal.quiesce_refusal s
+refusal_of (step.StartSync moment) s = refusal.start_refusal s
+refusal_of step.SyncStep s = refusal.sync_step_refusal s
 
 -- steps one after another, each with its reply, over states of any type
 abbrev pub Run : {S : Type 0} → (declared_step.Step → declared_reply.Reply → S → S → Type 0) → List declared_step.Step → List declared_reply.Reply → S → S → Type 0

@@ -18,6 +18,7 @@ use Rattle.base.specs.declared.step.Reply.TheVariants as reply
 use Rattle.base.specs.Refusals.{object_range}
 use Rattle.base.specs.Shown.{Shown, is_durable}
 use Rattle.base.specs.Steps.{State}
+use Rattle.base.specs.Runs.{refusal_of}
 use Rattle.base.specs.ExactNow.{IsExplainedNow, GoesOn}
 use Rattle.base.specs.Seen.{IsMadeBetween, IsContentsBetween, IsCommitted, IsAdmitted, IsGranted, IsLetGo, IsReadBetween, IsKnownDurable, IsPoolSynced, IsRefusedBetween}
 
@@ -73,3 +74,18 @@ RefusalsSuspend = (s : declared_step.Step) (e : PoolError) (before after : State
 -- and so is one of which a call was refused as suspended
 abbrev pub SuspensionsAreSeen : Type 0
 SuspensionsAreSeen = (refuses : Shown → Option PoolError) (before after : State) → IsRefusedBetween refuses error.Suspended before after → after.shown.suspended ≡ true
+
+-- whether a step may be refused this by what its tests don't see: memory, the device, and at this stage the blocks that a sync wants
+abbrev pub is_untested : declared_step.Step → PoolError → Bool
+is_untested _ error.NoMemory = true
+is_untested _ error.Read = true
+is_untested _ error.Write = true
+is_untested _ error.Flush = true
+is_untested _ (error.Damaged kind address) = true
+is_untested (step.StartSync moment) error.NoSpace = true
+is_untested _ _ = false
+
+-- every other refusal of a step is that of its tests in some state between
+abbrev pub RefusalsAreSeen : Type 0
+RefusalsAreSeen = (s : declared_step.Step) (e : PoolError) (before after : State) → IsMadeBetween ⊥ s (reply.Refused e) before after → is_untested s e ≡ false
+    → IsRefusedBetween (refusal_of s) e before after

@@ -48,8 +48,8 @@ pub use range::{Mode, Range};
 pub use refused::RefusedCalls;
 pub use seen_laws::{
     begins_are_seen, commits_are_seen, contents_are_between, durable_is_known, groups_go_up,
-    locks_are_seen, pool_syncs_sync, reads_are_seen, refusals_suspend, suspensions_are_seen,
-    unlocks_are_seen,
+    locks_are_seen, pool_syncs_sync, reads_are_seen, refusals_are_seen, refusals_suspend,
+    suspensions_are_seen, unlocks_are_seen,
 };
 pub use status::Status;
 pub use step::{Reply, Step};

@@ -1,6 +1,6 @@
 //! What a reply says to a thread, by the states that it has seen before and after: each function's contract is a law, and its body does nothing.
 
-ghost use Rattle.base.specs.SeenLaws.{ContentsAreBetween, CommitsAreSeen, BeginsAreSeen, LocksAreSeen, UnlocksAreSeen, ReadsAreSeen, DurableIsKnown, GroupsGoUp, PoolSyncsSync, RefusalsSuspend, SuspensionsAreSeen};
+ghost use Rattle.base.specs.SeenLaws.{ContentsAreBetween, CommitsAreSeen, BeginsAreSeen, LocksAreSeen, UnlocksAreSeen, ReadsAreSeen, DurableIsKnown, GroupsGoUp, PoolSyncsSync, RefusalsAreSeen, RefusalsSuspend, SuspensionsAreSeen};
 
 /// The contents of a state between two are replayed by a prefix between their histories.
 pub fn contents_are_between()
@@ -45,6 +45,11 @@ pub fn groups_go_up()
 /// A sync of the whole pool syncs a group.
 pub fn pool_syncs_sync()
     ensures { PoolSyncsSync }
+{}
+
+/// A refusal that is none of memory or the device is that of the step's tests in a state between.
+pub fn refusals_are_seen()
+    ensures { RefusalsAreSeen }
 {}
 
 /// A pool of which a step is refused a write, a flush, or as suspended, is suspended from then on.
