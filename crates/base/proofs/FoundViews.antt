@@ -44,7 +44,7 @@ one_group : (content : List ℕ) (x y : Uberblock) → IsUberblock content x →
 one_group content x y a b = sym a.group ∙ b.group
 
 -- which log block of a line stands at a place of it
-linked_number : (guid blocks chain : ℕ) (header : Header) (ls : List Logged) → AreLinked guid blocks chain header ls → (i : ℕ) (l : Logged) → slice_get ls i ≡ Some l → l.number ≡ header.number + i
+pub linked_number : (guid blocks chain : ℕ) (header : Header) (ls : List Logged) → AreLinked guid blocks chain header ls → (i : ℕ) (l : Logged) → slice_get ls i ≡ Some l → l.number ≡ header.number + i
 linked_number guid blocks chain header [] linked i l at = absurd (let no_way : None ≡ Some l = at in cc)
 linked_number guid blocks chain header (x ∷ xs) linked zero l at =
     let same : x ≡ l = cc in

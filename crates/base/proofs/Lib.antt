@@ -66,3 +66,4 @@ pub mod StoredPlaces
 pub mod FairBytes
 pub mod SyncPaths
 pub mod OwnDisks
+pub mod NewViews
