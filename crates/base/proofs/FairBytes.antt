@@ -9,7 +9,7 @@ use Rattle.base.specs.Geometry.{IsGeometry, IsBlockAddress, block_area, block_si
 use Rattle.base.specs.Blocks.{is_sealed}
 use Rattle.base.specs.Uberblocks.{slot_size, is_sealed_slot}
 use Rattle.base.specs.Disk.{Moment, HandedSince, bytes_of, handed, wrote, settled}
-use Rattle.base.specs.Fairness.{IsFair, HasFairBytes, IsCheckedPlace, passes_check, block_at, is_block_place, is_config_place, slot_at, is_slot_place, label_numbers}
+use Rattle.base.specs.Fairness.{IsFair, HasFairBytes, IsCheckedPlace, passes_check, block_at, is_block_place, is_config_place, slot_at, is_slot_place, is_marked, label_numbers}
 use Rattle.base.specs.Spares.{AreApart}
 use Rattle.base.proofs.Put.{length-put, part-put_same, part-put_apart}
 use Rattle.base.proofs.Fairness.{fair_settled}
@@ -38,14 +38,14 @@ is_slot_of size place l = nat_lt (slot_at size l place) 128 && (place == slot_pl
 -- what passes the test is a place that the format checks
 pub passes-checked : (size place n : ℕ) (bytes : List ℕ) → passes_check size place n bytes ≡ true → IsCheckedPlace size place n
 passes-checked size place n bytes passes =
-    elim (or_cases ((n == block_size) && ((is_block_place size place || is_config_place size place) && is_sealed bytes)) ((n == slot_size) && (is_slot_place size place && is_sealed_slot bytes)) passes) [
+    elim (or_cases ((n == block_size) && ((is_block_place size place || is_config_place size place) && (is_sealed bytes && is_marked bytes))) ((n == slot_size) && (is_slot_place size place && (is_sealed_slot bytes && is_marked bytes))) passes) [
       | inl whole ↦
-          let parts = and_parts (n == block_size) ((is_block_place size place || is_config_place size place) && is_sealed bytes) whole in
-          let of = and_parts (is_block_place size place || is_config_place size place) (is_sealed bytes) parts.1 in
+          let parts = and_parts (n == block_size) ((is_block_place size place || is_config_place size place) && (is_sealed bytes && is_marked bytes)) whole in
+          let of = and_parts (is_block_place size place || is_config_place size place) (is_sealed bytes && is_marked bytes) parts.1 in
           inl (eqb-true n block_size parts.0, of_block (or_cases (is_block_place size place) (is_config_place size place) of.0))
       | inr slot ↦
-          let parts = and_parts (n == slot_size) (is_slot_place size place && is_sealed_slot bytes) slot in
-          let of = and_parts (is_slot_place size place) (is_sealed_slot bytes) parts.1 in
+          let parts = and_parts (n == slot_size) (is_slot_place size place && (is_sealed_slot bytes && is_marked bytes)) slot in
+          let of = and_parts (is_slot_place size place) (is_sealed_slot bytes && is_marked bytes) parts.1 in
           let label = some_label (is_slot_of size place) of.0 in
           let at = and_parts (nat_lt (slot_at size label.0 place) 128) (place == slot_place size label.0 (slot_at size label.0 place)) label.2 in
           inr (eqb-true n slot_size parts.0, (label.0, slot_at size label.0 place, label.1, ltb-true (slot_at size label.0 place) 128 at.0, eqb-true place (slot_place size label.0 (slot_at size label.0 place)) at.1))
