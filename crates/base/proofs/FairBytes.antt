@@ -1,10 +1,10 @@
 -- What a read gives stays fair: under a write of a whole place that the format checks, refused or not, and under a flush. No contract cites
 -- these lemmas yet.
 use Rattle.std.proofs.Common.{◌≡◌, ◌⊎◌, inl, inr, ⊎_elim, ℕ, zero, suc, ◌+◌, ◌-◌, ◌*◌, ◌/◌, ◌<◌, ◌≤◌, Bool, true, false, ◌&&◌, ◌||◌, List, [], ◌∷◌, length, refl, sym, ◌∙◌, ap, subst, arith}
-use Rattle.std.specs.Prelude.{◌==◌, nat_lt}
+use Rattle.std.specs.Prelude.{◌==◌, nat_lt, not}
 use Rattle.std.specs.List.{list_any}
-use Rattle.std.proofs.lemmas.Bool.{cases_lt, and_parts, eqb-true, ltb-true, false≢true}
-use Rattle.base.specs.Fields.{part}
+use Rattle.std.proofs.lemmas.Bool.{cases_lt, and_parts, eq-eqb, eqb-true, ltb-true, false≢true}
+use Rattle.base.specs.Fields.{part, number_at}
 use Rattle.base.specs.Geometry.{IsGeometry, IsBlockAddress, block_area, block_size, block_count, block_address, label_place, config_place, slot_place}
 use Rattle.base.specs.Blocks.{is_sealed}
 use Rattle.base.specs.Uberblocks.{slot_size, is_sealed_slot}
@@ -58,6 +58,23 @@ passes-checked size place n bytes passes =
     of_block (inr config) =
         let label = some_label (λ l. place == config_place size l) config in
         inr (label.0, label.1, eqb-true place (config_place size label.0) label.2)
+
+-- and begins with a number that is not 0
+pub passes-marked : (size place n : ℕ) (bytes : List ℕ) → passes_check size place n bytes ≡ true → number_at bytes 0 ≡ 0 → ⊥
+passes-marked size place n bytes passes zeros =
+    elim (or_cases ((n == block_size) && ((is_block_place size place || is_config_place size place) && (is_sealed bytes && is_marked bytes))) ((n == slot_size) && (is_slot_place size place && (is_sealed_slot bytes && is_marked bytes))) passes) as (λ _. ⊥) [
+      | inl whole ↦
+          let parts = and_parts (n == block_size) ((is_block_place size place || is_config_place size place) && (is_sealed bytes && is_marked bytes)) whole in
+          let of = and_parts (is_block_place size place || is_config_place size place) (is_sealed bytes && is_marked bytes) parts.1 in
+          not_zero (and_parts (is_sealed bytes) (is_marked bytes) of.1).1
+      | inr slot ↦
+          let parts = and_parts (n == slot_size) (is_slot_place size place && (is_sealed_slot bytes && is_marked bytes)) slot in
+          let of = and_parts (is_slot_place size place) (is_sealed_slot bytes && is_marked bytes) parts.1 in
+          not_zero (and_parts (is_sealed_slot bytes) (is_marked bytes) of.1).1
+    ]
+  where
+    not_zero : is_marked bytes ≡ true → ⊥
+    not_zero is = false≢true (ap (λ (b : Bool). not b) (sym (eq-eqb (number_at bytes 0) 0 zeros)) ∙ is)
 
 module _ (size : ℕ) (g : IsGeometry size) where
   -- a part of a label

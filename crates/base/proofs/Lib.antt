@@ -67,3 +67,4 @@ pub mod FairBytes
 pub mod SyncPaths
 pub mod OwnDisks
 pub mod NewViews
+pub mod NewDisks

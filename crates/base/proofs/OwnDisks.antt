@@ -48,7 +48,7 @@ import_configs size t ws old new same higher known =
 
 module _ (size t : ℕ) (m : Moment) (image : List ℕ) (left : MayLeave m image) where
   -- an image that is certain and at rest on a view is the pool's own
-  rest_own : (flushed : ℕ) (v : View) (guid : ℕ) (contents : Contents) → v.u.guid ≡ guid → v.logged ≡ [] → MountsAs v contents → AreConfigsBelowImport size t (handed m) v
+  pub rest_own : (flushed : ℕ) (v : View) (guid : ℕ) (contents : Contents) → v.u.guid ≡ guid → v.logged ≡ [] → MountsAs v contents → AreConfigsBelowImport size t (handed m) v
       → IsAtRest size t flushed (settled image m) v → IsOwnImage size t image m guid contents
   rest_own flushed v guid contents of_guid no_log mounts configs rest =
       let none : length v.logged ≡ 0 = ap (λ (l : List Logged). length l) no_log in

@@ -1,0 +1,106 @@
+-- What a create leaves is a disk of its pool alone, with no objects. No contract cites these lemmas yet.
+use Rattle.std.proofs.Common.{◌≡◌, ◌⊎◌, inl, inr, ⊎_elim, ℕ, ◌+◌, ◌<◌, ◌≤◌, List, [], ◌∷◌, length, map, Ok, refl, sym, ◌∙◌, ap, subst, arith}
+use Rattle.std.specs.Prelude.{slice_get, Some}
+use Rattle.base.specs.Contents.{Contents}
+use Rattle.base.specs.Fields.{part, number_at}
+use Rattle.base.specs.Geometry.{block_size, block_count, block_address, config_place, slot_place, slot_of}
+use Rattle.base.specs.Uberblocks.{Uberblock, IsUberblock, slot_size}
+use Rattle.base.specs.Chain.{LogBlock}
+use Rattle.base.specs.Mount.{apply_records, records_above}
+use Rattle.base.specs.PlacedTrees.{HoldsTree}
+use Rattle.base.specs.Disk.{Moment, Disk, MayLeave, HandedSince, bytes_of, handed, settled, moments, disk_size}
+use Rattle.base.specs.Fairness.{HasFairBytes}
+use Rattle.base.specs.Views.{View, Logged, IsView, IsConfigContent, IsLogContent, AreConfigsKnown, AreLogBlocksKnown, AreSlotsKnown, view_frame}
+use Rattle.base.specs.Own.{IsAtRest, AreConfigsBelowImport, IsOwnImage, IsOwnWith, AreFirstWrites, AreHandedOrZero}
+use Rattle.base.specs.CallStages.{IsLaidAt}
+use Rattle.base.proofs.KeptViews.{rest_settled}
+use Rattle.base.proofs.FairBytes.{passes-checked, passes-marked}
+use Rattle.base.proofs.NewViews.{nothing_touched, view_laid}
+use Rattle.base.proofs.OwnDisks.{rest_own}
+
+-- what a read gives is fair where each place begins with zeros or was handed
+pub handed_fair : (size t : ℕ) (m : Moment) → length (bytes_of m) ≡ size → AreHandedOrZero size t m → HasFairBytes size t m
+handed_fair size t m size_is each = record {
+  size_is = size_is;
+  fair = λ place n passes. elim (each place n (passes-checked size place n (part (bytes_of m) place n) passes)) as (λ _. HandedSince t (handed m) place (part (bytes_of m) place n)) [
+    | inl zeros ↦ absurd (passes-marked size place n (part (bytes_of m) place n) passes zeros)
+    | inr some ↦ some
+  ];
+}
+
+module _ (size t : ℕ) (m : Moment) (v : View) (view : IsView size v) (first : AreFirstWrites t (handed m) v) where
+  -- a first write that is a config, a log block or an uberblock
+  is_config : (content : List ℕ) (guid group : ℕ) (name : List ℕ) → IsConfigContent content size guid group name → (number_at content 0 ≡ 0) ⊎ ((content ≡ v.config) ⊎ (content ≡ v.slot)) → content ≡ v.config
+  is_config content guid group name is (inl zeros) = let kind : number_at content 0 ≡ 1 = is.block.kind_is in absurd (omega (arith, zeros, kind))
+  is_config content guid group name is (inr (inl config)) = config
+  is_config content guid group name is (inr (inr slot)) =
+      let long : length content ≡ block_size = is.block.size in
+      let short : length content ≡ slot_size = ap (λ (l : List ℕ). length l) slot ∙ view.uberblock.size in
+      absurd (omega (arith, long, short))
+
+  is_no_log : (content : List ℕ) (guid chain number : ℕ) (block : LogBlock) → IsLogContent content guid chain number block → (number_at content 0 ≡ 0) ⊎ ((content ≡ v.config) ⊎ (content ≡ v.slot)) → ⊥
+  is_no_log content guid chain number block is (inl zeros) = let kind : number_at content 0 ≡ 6 = is.sealed.kind_is in absurd (omega (arith, zeros, kind))
+  is_no_log content guid chain number block is (inr (inl config)) =
+      let kind : number_at content 0 ≡ 6 = is.sealed.kind_is in
+      let other : number_at content 0 ≡ 1 = ap (λ (l : List ℕ). number_at l 0) config ∙ view.config.block.kind_is in
+      absurd (omega (arith, kind, other))
+  is_no_log content guid chain number block is (inr (inr slot)) =
+      let long : length content ≡ block_size = is.sealed.size in
+      let short : length content ≡ slot_size = ap (λ (l : List ℕ). length l) slot ∙ view.uberblock.size in
+      absurd (omega (arith, long, short))
+
+  is_slot : (content : List ℕ) (x : Uberblock) → IsUberblock content x → (number_at content 0 ≡ 0) ⊎ ((content ≡ v.config) ⊎ (content ≡ v.slot)) → content ≡ v.slot
+  is_slot content x is (inl zeros) = let magic : number_at content 0 ≡ 0x00bab10c = is.magic in absurd (omega (arith, zeros, magic))
+  is_slot content x is (inr (inl config)) =
+      let short : length content ≡ slot_size = is.size in
+      let long : length content ≡ block_size = ap (λ (l : List ℕ). length l) config ∙ view.config.block.size in
+      absurd (omega (arith, long, short))
+  is_slot content x is (inr (inr slot)) = slot
+
+  known_configs : AreConfigsKnown size t (handed m) v
+  known_configs label group name content below some is not_above = inr (is_config content v.u.guid group name is (first (config_place size label) content some))
+
+  known_logs : AreLogBlocksKnown size t (handed m) v
+  known_logs k chain number content block below some is = absurd (is_no_log content v.u.guid chain number block is (first (block_address k) content some))
+
+  known_slots : AreSlotsKnown size t (handed m) v.u.group (λ content. content ≡ v.slot)
+  known_slots label content x below some is = inr (is_slot content x is (first (slot_place size label (slot_of x.group)) content some))
+
+  below_import : AreConfigsBelowImport size t (handed m) v
+  below_import label group name content below some is =
+      let same : content ≡ v.config = is_config content v.u.guid group name is (first (config_place size label) content some) in
+      let g : group ≡ v.config_group = sym is.block.group_is ∙ ap (λ (l : List ℕ). number_at l 16) same ∙ view.config.block.group_is in
+      inl (omega (arith, g, view.not_above))
+
+  -- at rest on the view of the new pool, where its config and its uberblock stand in a label
+  created_rest : m.unflushed ≡ [] → length (bytes_of m) ≡ size → (config slot : ℕ) → config < 4 → slot < 4 → part (bytes_of m) (config_place size config) (length v.config) ≡ v.config
+      → part (bytes_of m) (slot_place size slot (slot_of v.u.group)) (length v.slot) ≡ v.slot → HoldsTree (bytes_of m) (view_frame size v) v.pointers v.synced.objects → IsAtRest size t 0 m v
+  created_rest none size_is config slot config_below slot_below config_stands slot_stands tree =
+      let laid = view_laid size t 0 config v m none size_is view config_below config_stands tree (omega arith) (λ i l below at. absurd (omega (arith, below))) known_configs known_logs in
+      record {
+        laid = laid.laid;
+        slot = record { label = slot; in_range = slot_below; fixed = record { settled = nothing_touched m none (slot_place size slot (slot_of v.u.group)) (length v.slot); stands = slot_stands } };
+        slots = known_slots;
+      }
+
+-- so the disk is the pool's own with the contents of the view
+pub created_own : (size created : ℕ) (disk : Disk) (v : View) → created ≤ moments disk → disk.now.unflushed ≡ [] → length (bytes_of disk.now) ≡ size → IsView size v → v.logged ≡ []
+    → AreFirstWrites created (handed disk.now) v → AreHandedOrZero size created disk.now
+    → (config slot : ℕ) → config < 4 → slot < 4 → part (bytes_of disk.now) (config_place size config) (length v.config) ≡ v.config
+    → part (bytes_of disk.now) (slot_place size slot (slot_of v.u.group)) (length v.slot) ≡ v.slot
+    → HoldsTree (bytes_of disk.now) (view_frame size v) v.pointers v.synced.objects → IsOwnWith disk created v.u.guid v.synced
+created_own size created disk v began none size_is view no_log first each config slot config_below slot_below config_stands slot_stands tree =
+    let rest = created_rest size created disk.now v view first none size_is config slot config_below slot_below config_stands slot_stands tree in
+    let bytes = handed_fair size created disk.now size_is each in
+    record {
+      began = began;
+      left = record {
+        bytes = subst (λ (n : ℕ). HasFairBytes n created disk.now) (sym size_is) bytes;
+        each = λ image left fair.
+            subst (λ (n : ℕ). IsOwnImage n created image disk.now v.u.guid v.synced) (sym size_is)
+            (rest_own size created disk.now image left 0 v v.u.guid v.synced refl no_log mounts (below_import size created disk.now v view first) (rest_settled disk.now image left size created 0 v rest));
+      };
+    }
+  where
+    mounts : apply_records (records_above v.u.group (map (λ (l : Logged). l.block) v.logged)) v.synced ≡ Ok v.synced
+    mounts = ap (λ (ls : List Logged). apply_records (records_above v.u.group (map (λ (l : Logged). l.block) ls)) v.synced) no_log
