@@ -11,11 +11,11 @@ use Rattle.base.specs.PlacedTrees.{HoldsTree}
 use Rattle.base.specs.Disk.{Moment, Disk, MayLeave, HandedSince, bytes_of, handed, settled, moments, disk_size}
 use Rattle.base.specs.Fairness.{HasFairBytes}
 use Rattle.base.specs.Views.{View, Logged, IsView, IsConfigContent, IsLogContent, AreConfigsKnown, AreLogBlocksKnown, AreSlotsKnown, view_frame}
-use Rattle.base.specs.Own.{IsAtRest, AreConfigsBelowImport, IsOwnImage, IsOwnWith, AreFirstWrites, AreHandedOrZero}
+use Rattle.base.specs.Own.{IsAtRest, AreConfigsBelowImport, IsOwnImage, IsOwnWith, AreFirstWrites, AreHandedOrZero, IsCreatedDisk}
 use Rattle.base.specs.CallStages.{IsLaidAt}
 use Rattle.base.proofs.KeptViews.{rest_settled}
 use Rattle.base.proofs.FairBytes.{passes-checked, passes-marked}
-use Rattle.base.proofs.NewViews.{nothing_touched, view_laid}
+use Rattle.base.proofs.NewViews.{view_laid}
 use Rattle.base.proofs.OwnDisks.{rest_own}
 
 -- what a read gives is fair where each place begins with zeros or was handed
@@ -72,35 +72,24 @@ module _ (size t : ℕ) (m : Moment) (v : View) (view : IsView size v) (first : 
       let g : group ≡ v.config_group = sym is.block.group_is ∙ ap (λ (l : List ℕ). number_at l 16) same ∙ view.config.block.group_is in
       inl (omega (arith, g, view.not_above))
 
-  -- at rest on the view of the new pool, where its config and its uberblock stand in a label
-  created_rest : m.unflushed ≡ [] → length (bytes_of m) ≡ size → (config slot : ℕ) → config < 4 → slot < 4 → part (bytes_of m) (config_place size config) (length v.config) ≡ v.config
-      → part (bytes_of m) (slot_place size slot (slot_of v.u.group)) (length v.slot) ≡ v.slot → HoldsTree (bytes_of m) (view_frame size v) v.pointers v.synced.objects → IsAtRest size t 0 m v
-  created_rest none size_is config slot config_below slot_below config_stands slot_stands tree =
-      let laid = view_laid size t 0 config v m none size_is view config_below config_stands tree (omega arith) (λ i l below at. absurd (omega (arith, below))) known_configs known_logs in
-      record {
-        laid = laid.laid;
-        slot = record { label = slot; in_range = slot_below; fixed = record { settled = nothing_touched m none (slot_place size slot (slot_of v.u.group)) (length v.slot); stands = slot_stands } };
-        slots = known_slots;
-      }
+-- at rest on the view of the new pool
+created_rest : (size t : ℕ) (m : Moment) (v : View) → IsCreatedDisk size t m v → IsAtRest size t 0 m v
+created_rest size t m v is =
+    let laid = view_laid size t 0 is.config.label v m is.flushed is.size_is is.view is.config.in_range is.config.fixed.stands is.tree (omega arith) (λ i l below at. absurd (omega (arith, below)))
+    (known_configs size t m v is.view is.first) (known_logs size t m v is.view is.first) in
+    record { laid = laid.laid; slot = is.slot; slots = known_slots size t m v is.view is.first }
 
 -- so the disk is the pool's own with the contents of the view
-pub created_own : (size created : ℕ) (disk : Disk) (v : View) → created ≤ moments disk → disk.now.unflushed ≡ [] → length (bytes_of disk.now) ≡ size → IsView size v → v.logged ≡ []
-    → AreFirstWrites created (handed disk.now) v → AreHandedOrZero size created disk.now
-    → (config slot : ℕ) → config < 4 → slot < 4 → part (bytes_of disk.now) (config_place size config) (length v.config) ≡ v.config
-    → part (bytes_of disk.now) (slot_place size slot (slot_of v.u.group)) (length v.slot) ≡ v.slot
-    → HoldsTree (bytes_of disk.now) (view_frame size v) v.pointers v.synced.objects → IsOwnWith disk created v.u.guid v.synced
-created_own size created disk v began none size_is view no_log first each config slot config_below slot_below config_stands slot_stands tree =
-    let rest = created_rest size created disk.now v view first none size_is config slot config_below slot_below config_stands slot_stands tree in
-    let bytes = handed_fair size created disk.now size_is each in
-    record {
-      began = began;
-      left = record {
-        bytes = subst (λ (n : ℕ). HasFairBytes n created disk.now) (sym size_is) bytes;
-        each = λ image left fair.
-            subst (λ (n : ℕ). IsOwnImage n created image disk.now v.u.guid v.synced) (sym size_is)
-            (rest_own size created disk.now image left 0 v v.u.guid v.synced refl no_log mounts (below_import size created disk.now v view first) (rest_settled disk.now image left size created 0 v rest));
-      };
-    }
+pub created_own : (created : ℕ) (disk : Disk) (v : View) → created ≤ moments disk → IsCreatedDisk (disk_size disk) created disk.now v → IsOwnWith disk created v.u.guid v.synced
+created_own created disk v began is = record {
+  began = began;
+  left = record {
+    bytes = handed_fair (disk_size disk) created disk.now is.size_is is.places;
+    each = λ image left fair.
+        rest_own (disk_size disk) created disk.now image left 0 v v.u.guid v.synced refl is.no_log mounts (below_import (disk_size disk) created disk.now v is.view is.first)
+        (rest_settled disk.now image left (disk_size disk) created 0 v (created_rest (disk_size disk) created disk.now v is));
+  };
+}
   where
     mounts : apply_records (records_above v.u.group (map (λ (l : Logged). l.block) v.logged)) v.synced ≡ Ok v.synced
-    mounts = ap (λ (ls : List Logged). apply_records (records_above v.u.group (map (λ (l : Logged). l.block) ls)) v.synced) no_log
+    mounts = ap (λ (ls : List Logged). apply_records (records_above v.u.group (map (λ (l : Logged). l.block) ls)) v.synced) is.no_log

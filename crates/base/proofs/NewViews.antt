@@ -14,7 +14,7 @@ use Rattle.base.specs.CallStages.{IsLaidAt}
 use Rattle.base.proofs.FoundViews.{linked_number}
 
 -- where nothing is unflushed every place is settled
-pub nothing_touched : (m : Moment) → m.unflushed ≡ [] → (place n : ℕ) → IsSettled m place n
+nothing_touched : (m : Moment) → m.unflushed ≡ [] → (place n : ℕ) → IsSettled m place n
 nothing_touched m none place n i from to touched = subst (λ (ws : List Write). IsTouched ws i) none touched
 
 -- a view is laid where its config, its tree and its flushed log blocks stand and nothing is unflushed
