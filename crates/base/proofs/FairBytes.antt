@@ -1,15 +1,15 @@
 -- What a read gives stays fair: under a write of a whole place that the format checks, refused or not, and under a flush. No contract cites
 -- these lemmas yet.
-use Rattle.std.proofs.Common.{◌≡◌, ◌⊎◌, inl, inr, ⊎_elim, ℕ, zero, suc, ◌+◌, ◌-◌, ◌*◌, ◌/◌, ◌<◌, ◌≤◌, Bool, true, false, ◌&&◌, ◌||◌, List, [], ◌∷◌, length, refl, sym, ◌∙◌, ap, subst, arith}
+use Rattle.std.proofs.Common.{◌≡◌, ◌⊎◌, inl, inr, ℕ, zero, suc, ◌+◌, ◌*◌, ◌<◌, ◌≤◌, Bool, true, false, ◌&&◌, ◌||◌, List, [], ◌∷◌, length, refl, sym, ◌∙◌, ap, subst, arith}
 use Rattle.std.specs.Prelude.{◌==◌, nat_lt, not}
 use Rattle.std.specs.List.{list_any}
 use Rattle.std.proofs.lemmas.Bool.{cases_lt, and_parts, eq-eqb, eqb-true, ltb-true, false≢true}
 use Rattle.base.specs.Fields.{part, number_at}
-use Rattle.base.specs.Geometry.{IsGeometry, IsBlockAddress, block_area, block_size, block_count, block_address, label_place, config_place, slot_place}
+use Rattle.base.specs.Geometry.{IsGeometry, IsBlockAddress, block_size, block_count, block_address, label_place, config_place, slot_place}
 use Rattle.base.specs.Blocks.{is_sealed}
 use Rattle.base.specs.Uberblocks.{slot_size, is_sealed_slot}
 use Rattle.base.specs.Disk.{Moment, HandedSince, bytes_of, handed, wrote, settled}
-use Rattle.base.specs.Fairness.{IsFair, HasFairBytes, IsCheckedPlace, passes_check, block_at, is_block_place, is_config_place, slot_at, is_slot_place, is_marked, label_numbers}
+use Rattle.base.specs.Fairness.{HasFairBytes, IsCheckedPlace, passes_check, block_at, is_block_place, is_config_place, slot_at, is_slot_place, is_marked, label_numbers}
 use Rattle.base.specs.Spares.{AreApart}
 use Rattle.base.proofs.Put.{length-put, part-put_same, part-put_apart}
 use Rattle.base.proofs.Fairness.{fair_settled}

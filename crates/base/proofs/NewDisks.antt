@@ -1,18 +1,14 @@
 -- What a create leaves is a disk of its pool alone, with no objects. No contract cites these lemmas yet.
-use Rattle.std.proofs.Common.{◌≡◌, ◌⊎◌, inl, inr, ⊎_elim, ℕ, ◌+◌, ◌<◌, ◌≤◌, List, [], ◌∷◌, length, map, Ok, refl, sym, ◌∙◌, ap, subst, arith}
-use Rattle.std.specs.Prelude.{slice_get, Some}
-use Rattle.base.specs.Contents.{Contents}
+use Rattle.std.proofs.Common.{◌≡◌, ◌⊎◌, inl, inr, ℕ, ◌≤◌, List, length, map, Ok, refl, sym, ◌∙◌, ap, arith}
 use Rattle.base.specs.Fields.{part, number_at}
-use Rattle.base.specs.Geometry.{block_size, block_count, block_address, config_place, slot_place, slot_of}
+use Rattle.base.specs.Geometry.{block_size, block_address, config_place, slot_place, slot_of}
 use Rattle.base.specs.Uberblocks.{Uberblock, IsUberblock, slot_size}
 use Rattle.base.specs.Chain.{LogBlock}
 use Rattle.base.specs.Mount.{apply_records, records_above}
-use Rattle.base.specs.PlacedTrees.{HoldsTree}
-use Rattle.base.specs.Disk.{Moment, Disk, MayLeave, HandedSince, bytes_of, handed, settled, moments, disk_size}
+use Rattle.base.specs.Disk.{Moment, Disk, HandedSince, bytes_of, handed, moments, disk_size}
 use Rattle.base.specs.Fairness.{HasFairBytes}
-use Rattle.base.specs.Views.{View, Logged, IsView, IsConfigContent, IsLogContent, AreConfigsKnown, AreLogBlocksKnown, AreSlotsKnown, view_frame}
-use Rattle.base.specs.Own.{IsAtRest, AreConfigsBelowImport, IsOwnImage, IsOwnWith, AreFirstWrites, AreHandedOrZero, IsCreatedDisk}
-use Rattle.base.specs.CallStages.{IsLaidAt}
+use Rattle.base.specs.Views.{View, Logged, IsView, IsConfigContent, IsLogContent, AreConfigsKnown, AreLogBlocksKnown, AreSlotsKnown}
+use Rattle.base.specs.Own.{IsAtRest, AreConfigsBelowImport, IsOwnWith, AreFirstWrites, AreHandedOrZero, IsCreatedDisk}
 use Rattle.base.proofs.KeptViews.{rest_settled}
 use Rattle.base.proofs.FairBytes.{passes-checked, passes-marked}
 use Rattle.base.proofs.NewViews.{view_laid}

@@ -1,14 +1,13 @@
 -- Once a flush has answered Ok behind the blocks and the first configs of a sync, its new view is laid: what it needs stands, and what counts
 -- could pass for no other config or log block. No contract cites these lemmas yet.
-use Rattle.std.proofs.Common.{◌≡◌, ◌⊎◌, inl, inr, ⊎_elim, ℕ, zero, suc, ◌+◌, ◌-◌, ◌<◌, ◌≤◌, List, [], ◌∷◌, length, drop, refl, sym, ◌∙◌, ap, subst, arith, length-drop}
+use Rattle.std.proofs.Common.{◌≡◌, ◌⊎◌, inl, inr, ⊎_elim, ℕ, zero, suc, ◌+◌, ◌-◌, ◌<◌, ◌≤◌, List, [], ◌∷◌, length, drop, sym, ◌∙◌, ap, subst, arith, length-drop}
 use Rattle.std.specs.Prelude.{slice_get, Some, None}
 use Rattle.std.proofs.lemmas.Bool.{cases_lt}
 use Rattle.base.specs.Fields.{part}
 use Rattle.base.specs.Geometry.{block_count, block_address, config_place}
-use Rattle.base.specs.Chain.{LogBlock}
 use Rattle.base.specs.Mount.{header_of}
 use Rattle.base.specs.PlacedTrees.{HoldsTree}
-use Rattle.base.specs.Disk.{Write, Moment, HandedSince, IsTouched, bytes_of, handed}
+use Rattle.base.specs.Disk.{Write, Moment, IsTouched, bytes_of, handed}
 use Rattle.base.specs.Views.{View, Logged, IsView, IsConfigContent, IsLogContent, IsSettled, AreConfigsKnown, AreConfigsUpTo, AreLogBlocksKnown, view_frame}
 use Rattle.base.specs.CallStages.{IsLaidAt}
 use Rattle.base.proofs.FoundViews.{linked_number}

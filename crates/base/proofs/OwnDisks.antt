@@ -1,26 +1,26 @@
 -- Where a disk in one of the phases ends, it is the pool's own: an import ends on what it mounted, and a run on a cut of its entries. No contract
 -- cites these lemmas yet.
-use Rattle.std.proofs.Common.{◌≡◌, ◌⊎◌, inl, inr, ⊎_elim, ℕ, ◌+◌, ◌<◌, ◌≤◌, List, [], ◌∷◌, length, map, take, Ok, refl, sym, ◌∙◌, ap, subst, arith}
-use Rattle.std.specs.Prelude.{Some, IfSome}
+use Rattle.std.proofs.Common.{◌≡◌, ◌⊎◌, inl, inr, ⊎_elim, ℕ, ◌+◌, ◌≤◌, List, [], ◌∷◌, length, map, take, Ok, refl, sym, ◌∙◌, ap, subst, arith}
+use Rattle.std.specs.Prelude.{IfSome}
 use Rattle.base.specs.declared.pointer.Pointer.{Pointer}
 use Rattle.base.specs.Contents.{Contents}
 use Rattle.base.specs.History.{IsHistory}
-use Rattle.base.specs.Disk.{Write, Moment, Disk, MayLeave, bytes_of, handed, settled, moments, disk_size}
+use Rattle.base.specs.Disk.{Write, Moment, Disk, MayLeave, bytes_of, handed, settled, moments, certain, certain_with, disk_size}
 use Rattle.base.specs.Fairness.{IsFair, HasFairBytes, passes_check}
 use Rattle.base.specs.Chain.{Header}
 use Rattle.base.specs.Mount.{apply_records, records_above}
 use Rattle.base.specs.Groups.{IsLine}
 use Rattle.base.specs.Past.{Past}
 use Rattle.base.specs.Logs.{KeptBlock}
-use Rattle.base.specs.Shown.{Shown, SyncPlan}
+use Rattle.base.specs.Shown.{Shown}
 use Rattle.base.specs.Exact.{IsLogExact, IsSyncExact}
 use Rattle.base.specs.Explains.{IsLeftBy}
 use Rattle.base.specs.Layout.{LiesAs, kept_from, header_now}
 use Rattle.base.specs.Views.{View, Logged, IsFoundAs, AreConfigsUpTo, config_content}
-use Rattle.base.specs.Own.{IsAtRest, IsPhase, AreConfigsBelowImport, IsOwnImage, IsOwnWith}
+use Rattle.base.specs.Own.{IsAtRest, AreConfigsBelowImport, IsOwnImage, IsOwnWith}
 use Rattle.base.specs.PoolViews.{IsViewOf, IsPoolLaid, IsPoolDisk, IsSyncConfig}
-use Rattle.base.specs.CrashRule.{MountsAs, AreImportViews, IsImportMoment, HasSteadyPhases, IsRunLeft}
-use Rattle.base.proofs.Moments.{bytes_may_be_left, latest}
+use Rattle.base.specs.CrashRule.{MountsAs, AreImportViews, IsImportMoment, HasSteadyPhases, IsImportKept, IsRunLeft}
+use Rattle.base.proofs.Moments.{bytes_may_be_left, latest, moments_grow}
 use Rattle.base.proofs.Fairness.{fair_settled}
 use Rattle.base.proofs.KeptViews.{rest_settled}
 use Rattle.base.proofs.FoundViews.{rest_found}
@@ -84,6 +84,20 @@ steady_own size created before after guid contents began steady =
             (import_image size created after.now image left steady.old steady.new guid contents steady.views here);
       };
     }
+
+-- an import of a disk that is the pool's own keeps it so
+pub import_kept : (old new : Disk) (created guid : ℕ) (contents : Contents) → IsOwnWith old created guid contents
+    → (new ≡ old) ⊎ HasSteadyPhases (disk_size old) created (certain (bytes_of old.now) old) new guid contents → IsImportKept old new created guid contents
+import_kept old new created guid contents own (inl same) = record { steady = inl same; own = subst (λ (d : Disk). IsOwnWith d created guid contents) (sym same) own }
+import_kept old new created guid contents own (inr steady) =
+    let flushed : Disk = certain (bytes_of old.now) old in
+    let later : moments flushed ≤ moments new = moments_grow (IsImportMoment (disk_size old) created steady.old steady.new) flushed new steady.each in
+    let began : created ≤ moments old = own.began in
+    record { steady = inr steady; own = steady_own (disk_size old) created flushed new guid contents (omega (arith, began, later, more old.now.unflushed)) steady }
+  where
+    more : (ws : List Write) → moments old ≤ moments (certain_with (bytes_of old.now) old ws)
+    more [] = omega arith
+    more (w ∷ ws) = omega arith
 
 -- A run, wherever it ends, leaves a disk that is the pool's own, with a cut of its entries.
 module _ (size : ℕ) (m : Moment) (s : Shown) (past : Past) (now : Contents) (image : List ℕ) (left : MayLeave m image) (kept : IsPoolDisk size m s past)
