@@ -3,11 +3,11 @@
 use Rattle.std.proofs.Common.{◌≡◌, inl, inr, ⊎_elim, true, ℕ, zero, suc, ◌≤◌, List, [], ◌∷◌, length, map, take, refl, sym, ◌∙◌, ap, subst, arith, ◌⊎◌}
 use Rattle.base.specs.Contents.{Contents}
 use Rattle.base.specs.Disk.{Write, Disk, Moment, moments, MayLeave, HandedSince, bytes_of, handed, disk_size, settled, certain, certain_with}
-use Rattle.base.specs.Fairness.{IsFair, IsFairOn, HasFairBytes, LeavesFair, LeavesFairNow, passes_check}
+use Rattle.base.specs.Fairness.{IsFair, IsFairOn, LeavesFair, LeavesFairNow, passes_check}
 use Rattle.base.specs.Mount.{MountsTo, IsFound}
 use Rattle.base.specs.Views.{View, Logged, IsFoundAs}
 use Rattle.base.specs.Own.{IsAtRest, IsPhase, IsOwnImage, IsOwnWith}
-use Rattle.base.specs.CrashRule.{AllMountTo, MountsAs, HasSteadyPhases, ClientsFindCuts}
+use Rattle.base.specs.CrashRule.{AllMountTo, MountsAs, IsImportMoment, HasSteadyPhases, ClientsFindCuts}
 use Rattle.base.proofs.Moments.{weaker, only_bytes, bytes_may_be_left}
 use Rattle.base.proofs.Fairness.{fair_settled}
 use Rattle.base.proofs.KeptViews.{rest_settled, between_new, between_old}
@@ -49,23 +49,16 @@ phase_mounts t m image left fair old new contents old_mounts new_mounts (inr (in
 phase_mounts t m image left fair old new contents old_mounts new_mounts (inr (inr rest)) =
     found_mounts image new contents new_mounts (rest_found t m image left fair (length new.logged) new rest)
 
-phase_size : (size t f g : ℕ) (m : Moment) (old new : View) → IsPhase size t f g m old new → length (bytes_of m) ≡ size
-phase_size size t f g m old new (inl rest) = rest.laid.firm.size_is
-phase_size size t f g m old new (inr (inl b)) = b.old_laid.firm.size_is
-phase_size size t f g m old new (inr (inr rest)) = rest.laid.firm.size_is
-
 -- so each moment of an import, from its first flush on and wherever it stops, leaves only fair images that mount the same
 pub steady_mounts : (before after : Disk) (created guid : ℕ) (contents : Contents) → HasSteadyPhases (disk_size before) created before after guid contents → AllMountTo before after created contents
 steady_mounts before after created guid contents steady =
-    weaker (λ m. HasFairBytes (disk_size before) created m × IsPhase (disk_size before) created (length steady.old.logged) (length steady.new.logged) m steady.old steady.new)
-    (LeavesFair (disk_size before) created (λ image. MountsTo image contents)) before after
+    weaker (IsImportMoment (disk_size before) created steady.old steady.new) (LeavesFair (disk_size before) created (λ image. MountsTo image contents)) before after
     (λ m here. record {
-      bytes = here.0;
+      bytes = here.bytes;
       each = λ image left fair.
-          let phase = here.1 in
-          let long : disk_size before ≡ length image = sym (phase_size (disk_size before) created (length steady.old.logged) (length steady.new.logged) m steady.old steady.new phase) ∙ sym left.size in
-          phase_mounts created m image left (subst (λ (n : ℕ). IsFair (passes_check n) created (handed m) image) long fair) steady.old steady.new contents steady.old_mounts steady.new_mounts
-          (subst (λ (n : ℕ). IsPhase n created (length steady.old.logged) (length steady.new.logged) m steady.old steady.new) long phase);
+          let long : disk_size before ≡ length image = sym here.bytes.size_is ∙ sym left.size in
+          phase_mounts created m image left (subst (λ (n : ℕ). IsFair (passes_check n) created (handed m) image) long fair) steady.old steady.new contents steady.views.old_mounts steady.views.new_mounts
+          (subst (λ (n : ℕ). IsPhase n created (length steady.old.logged) (length steady.new.logged) m steady.old steady.new) long here.phase);
     }) steady.each
 
 -- what this pool alone wrote mounts its contents

@@ -1,15 +1,15 @@
 -- What a read gives stays fair: under a write of a whole place that the format checks, refused or not, and under a flush. No contract cites
 -- these lemmas yet.
-use Rattle.std.proofs.Common.{◌≡◌, ◌⊎◌, inl, inr, ⊎_elim, ℕ, zero, suc, ◌+◌, ◌-◌, ◌*◌, ◌/◌, ◌<◌, ◌≤◌, Bool, true, false, ◌&&◌, ◌||◌, List, [], ◌∷◌, length, refl, sym, ◌∙◌, ap, subst, arith}
-use Rattle.std.specs.Prelude.{◌==◌, nat_lt}
+use Rattle.std.proofs.Common.{◌≡◌, ◌⊎◌, inl, inr, ℕ, zero, suc, ◌+◌, ◌*◌, ◌<◌, ◌≤◌, Bool, true, false, ◌&&◌, ◌||◌, List, [], ◌∷◌, length, refl, sym, ◌∙◌, ap, subst, arith}
+use Rattle.std.specs.Prelude.{◌==◌, nat_lt, not}
 use Rattle.std.specs.List.{list_any}
-use Rattle.std.proofs.lemmas.Bool.{cases_lt, and_parts, eqb-true, ltb-true, false≢true}
-use Rattle.base.specs.Fields.{part}
-use Rattle.base.specs.Geometry.{IsGeometry, IsBlockAddress, block_area, block_size, block_count, block_address, label_place, config_place, slot_place}
+use Rattle.std.proofs.lemmas.Bool.{cases_lt, and_parts, eq-eqb, eqb-true, ltb-true, false≢true}
+use Rattle.base.specs.Fields.{part, number_at}
+use Rattle.base.specs.Geometry.{IsGeometry, IsBlockAddress, block_size, block_count, block_address, label_place, config_place, slot_place}
 use Rattle.base.specs.Blocks.{is_sealed}
 use Rattle.base.specs.Uberblocks.{slot_size, is_sealed_slot}
 use Rattle.base.specs.Disk.{Moment, HandedSince, bytes_of, handed, wrote, settled}
-use Rattle.base.specs.Fairness.{IsFair, HasFairBytes, IsCheckedPlace, passes_check, block_at, is_block_place, is_config_place, slot_at, is_slot_place, label_numbers}
+use Rattle.base.specs.Fairness.{HasFairBytes, IsCheckedPlace, passes_check, block_at, is_block_place, is_config_place, slot_at, is_slot_place, is_marked, label_numbers}
 use Rattle.base.specs.Spares.{AreApart}
 use Rattle.base.proofs.Put.{length-put, part-put_same, part-put_apart}
 use Rattle.base.proofs.Fairness.{fair_settled}
@@ -38,14 +38,14 @@ is_slot_of size place l = nat_lt (slot_at size l place) 128 && (place == slot_pl
 -- what passes the test is a place that the format checks
 pub passes-checked : (size place n : ℕ) (bytes : List ℕ) → passes_check size place n bytes ≡ true → IsCheckedPlace size place n
 passes-checked size place n bytes passes =
-    elim (or_cases ((n == block_size) && ((is_block_place size place || is_config_place size place) && is_sealed bytes)) ((n == slot_size) && (is_slot_place size place && is_sealed_slot bytes)) passes) [
+    elim (or_cases ((n == block_size) && ((is_block_place size place || is_config_place size place) && (is_sealed bytes && is_marked bytes))) ((n == slot_size) && (is_slot_place size place && (is_sealed_slot bytes && is_marked bytes))) passes) [
       | inl whole ↦
-          let parts = and_parts (n == block_size) ((is_block_place size place || is_config_place size place) && is_sealed bytes) whole in
-          let of = and_parts (is_block_place size place || is_config_place size place) (is_sealed bytes) parts.1 in
+          let parts = and_parts (n == block_size) ((is_block_place size place || is_config_place size place) && (is_sealed bytes && is_marked bytes)) whole in
+          let of = and_parts (is_block_place size place || is_config_place size place) (is_sealed bytes && is_marked bytes) parts.1 in
           inl (eqb-true n block_size parts.0, of_block (or_cases (is_block_place size place) (is_config_place size place) of.0))
       | inr slot ↦
-          let parts = and_parts (n == slot_size) (is_slot_place size place && is_sealed_slot bytes) slot in
-          let of = and_parts (is_slot_place size place) (is_sealed_slot bytes) parts.1 in
+          let parts = and_parts (n == slot_size) (is_slot_place size place && (is_sealed_slot bytes && is_marked bytes)) slot in
+          let of = and_parts (is_slot_place size place) (is_sealed_slot bytes && is_marked bytes) parts.1 in
           let label = some_label (is_slot_of size place) of.0 in
           let at = and_parts (nat_lt (slot_at size label.0 place) 128) (place == slot_place size label.0 (slot_at size label.0 place)) label.2 in
           inr (eqb-true n slot_size parts.0, (label.0, slot_at size label.0 place, label.1, ltb-true (slot_at size label.0 place) 128 at.0, eqb-true place (slot_place size label.0 (slot_at size label.0 place)) at.1))
@@ -58,6 +58,23 @@ passes-checked size place n bytes passes =
     of_block (inr config) =
         let label = some_label (λ l. place == config_place size l) config in
         inr (label.0, label.1, eqb-true place (config_place size label.0) label.2)
+
+-- and begins with a number that is not 0
+pub passes-marked : (size place n : ℕ) (bytes : List ℕ) → passes_check size place n bytes ≡ true → number_at bytes 0 ≡ 0 → ⊥
+passes-marked size place n bytes passes zeros =
+    elim (or_cases ((n == block_size) && ((is_block_place size place || is_config_place size place) && (is_sealed bytes && is_marked bytes))) ((n == slot_size) && (is_slot_place size place && (is_sealed_slot bytes && is_marked bytes))) passes) as (λ _. ⊥) [
+      | inl whole ↦
+          let parts = and_parts (n == block_size) ((is_block_place size place || is_config_place size place) && (is_sealed bytes && is_marked bytes)) whole in
+          let of = and_parts (is_block_place size place || is_config_place size place) (is_sealed bytes && is_marked bytes) parts.1 in
+          not_zero (and_parts (is_sealed bytes) (is_marked bytes) of.1).1
+      | inr slot ↦
+          let parts = and_parts (n == slot_size) (is_slot_place size place && (is_sealed_slot bytes && is_marked bytes)) slot in
+          let of = and_parts (is_slot_place size place) (is_sealed_slot bytes && is_marked bytes) parts.1 in
+          not_zero (and_parts (is_sealed_slot bytes) (is_marked bytes) of.1).1
+    ]
+  where
+    not_zero : is_marked bytes ≡ true → ⊥
+    not_zero is = false≢true (ap (λ (b : Bool). not b) (sym (eq-eqb (number_at bytes 0) 0 zeros)) ∙ is)
 
 module _ (size : ℕ) (g : IsGeometry size) where
   -- a part of a label

@@ -20,7 +20,7 @@ use Rattle.base.specs.Fairness.{IsFair, passes_check}
 use Rattle.base.specs.Views.{View, Logged, IsConfigContent, IsLogContent, AreLinked, IsView, IsFixed, HasFixedConfig, HasFixedTree, AreConfigsKnown, AreSlotsKnown, IsLaid, IsFoundAs, view_frame}
 use Rattle.base.specs.Own.{IsAtRest, IsBetween}
 use Rattle.base.proofs.Moments.{part_stands}
-use Rattle.base.proofs.CheckedPlaces.{fair_block, fair_config, fair_slot}
+use Rattle.base.proofs.CheckedPlaces.{marked, fair_block, fair_config, fair_slot}
 use Rattle.base.proofs.PlannedTrees.{holds-elsewhere}
 use Rattle.base.proofs.PlacedTrees.{holds-tree}
 
@@ -44,7 +44,7 @@ one_group : (content : List ℕ) (x y : Uberblock) → IsUberblock content x →
 one_group content x y a b = sym a.group ∙ b.group
 
 -- which log block of a line stands at a place of it
-linked_number : (guid blocks chain : ℕ) (header : Header) (ls : List Logged) → AreLinked guid blocks chain header ls → (i : ℕ) (l : Logged) → slice_get ls i ≡ Some l → l.number ≡ header.number + i
+pub linked_number : (guid blocks chain : ℕ) (header : Header) (ls : List Logged) → AreLinked guid blocks chain header ls → (i : ℕ) (l : Logged) → slice_get ls i ≡ Some l → l.number ≡ header.number + i
 linked_number guid blocks chain header [] linked i l at = absurd (let no_way : None ≡ Some l = at in cc)
 linked_number guid blocks chain header (x ∷ xs) linked zero l at =
     let same : x ≡ l = cc in
@@ -70,7 +70,7 @@ module _ (t : ℕ) (m : Moment) (image : List ℕ) (left : MayLeave m image) (fa
   -- an uberblock that stands is one that counts
   pub slot_known : (group : ℕ) (IsTop : List ℕ → Type 0) → AreSlotsKnown (length image) t (handed m) group IsTop → (label : ℕ) (x : Uberblock) → label < 4 → StandsIn image label x → (x.group < group) ⊎ IsTop (slot_in label x.group)
   slot_known group IsTop known label x below stands =
-      known label (slot_in label x.group) x below (fair_slot (length image) t (handed m) image fair label (slot_of x.group) below (slot_bound x.group) stands.agrees) stands
+      known label (slot_in label x.group) x below (fair_slot (length image) t (handed m) image fair label (slot_of x.group) below (slot_bound x.group) stands.agrees (marked (slot_in label x.group) 0x00bab10b stands.magic)) stands
 
   -- an uberblock of a view that stands in a label is active where none of its group or above stands with other bytes
   pub active_at : (v : View) → IsUberblock v.slot v.u → (label : ℕ) → label < 4 → slot_in label v.u.group ≡ v.slot
@@ -99,7 +99,7 @@ module _ (t : ℕ) (m : Moment) (image : List ℕ) (left : MayLeave m image) (fa
 
   config_known : (v : View) → AreConfigsKnown (length image) t (handed m) v → (k g : ℕ) (name : List ℕ) → k < 4 → g ≤ v.u.group → IsConfig image k v.u.guid g name → (g < v.config_group) ⊎ (config_in k ≡ v.config)
   config_known v known k g name below not_above is =
-      known k g name (config_in k) below (fair_config (length image) t (handed m) image fair k below is.block.agrees) (record { payload = is.payload; block = is.block; fields = is.fields }) not_above
+      known k g name (config_in k) below (fair_config (length image) t (handed m) image fair k below is.block.agrees (marked (config_in k) 0 is.block.kind_is)) (record { payload = is.payload; block = is.block; fields = is.fields }) not_above
 
   config_group : (v : View) → IsConfigContent v.config (length image) v.u.guid v.config_group v.name → (k g : ℕ) (name : List ℕ) → config_in k ≡ v.config → IsConfig image k v.u.guid g name → g ≡ v.config_group
   config_group v config k g name there is = sym (subst (λ (bytes : List ℕ). IsBlock bytes 1 v.u.guid g 0 is.payload) there is.block).group_is ∙ config.block.group_is
@@ -155,7 +155,7 @@ module _ (t : ℕ) (m : Moment) (image : List ℕ) (left : MayLeave m image) (fa
           let k : ℕ = is.in_area.0 in
           let there : part image header.address block_size ≡ part image (block_address k) block_size = ap (λ (a : ℕ). part image a block_size) is.in_area.2 in
           let sealed = subst (λ (bytes : List ℕ). IsBlock bytes 6 guid is.group header.number is.payload) there is.sealed in
-          let some = only k header.number (part image (block_address k) block_size) block is.in_area.1 (fair_block (length image) t (handed m) image fair k is.in_area.1 sealed.agrees)
+          let some = only k header.number (part image (block_address k) block_size) block is.in_area.1 (fair_block (length image) t (handed m) image fair k is.in_area.1 sealed.agrees (marked (part image (block_address k) block_size) 5 sealed.kind_is))
           (record { group = is.group; payload = is.payload; sealed = sealed; fields = is.fields }) (omega arith) (omega arith) in
           let no_way : None ≡ Some some.1 = some.2 in cc
   chain_front guid chain header (x ∷ xs) flushed linked stand short only =
@@ -215,7 +215,7 @@ module _ (t : ℕ) (m : Moment) (image : List ℕ) (left : MayLeave m image) (fa
               let k : ℕ = found.in_area.0 in
               let there : part image header.address block_size ≡ part image (block_address k) block_size = ap (λ (a : ℕ). part image a block_size) found.in_area.2 in
               let sealed = subst (λ (bytes : List ℕ). IsBlock bytes 6 guid found.group header.number found.payload) there found.sealed in
-              pick there (only k header.number (part image (block_address k) block_size) block found.in_area.1 (fair_block (length image) t (handed m) image fair k found.in_area.1 sealed.agrees)
+              pick there (only k header.number (part image (block_address k) block_size) block found.in_area.1 (fair_block (length image) t (handed m) image fair k found.in_area.1 sealed.agrees (marked (part image (block_address k) block_size) 5 sealed.kind_is))
               (record { group = found.group; payload = found.payload; sealed = sealed; fields = found.fields }) (omega arith) (omega arith))
             where
               pick : {bytes : List ℕ} → part image header.address block_size ≡ bytes

@@ -72,3 +72,5 @@ pub mod StoredPlaces
 pub mod FairBytes
 pub mod SyncPaths
 pub mod OwnDisks
+pub mod NewViews
+pub mod NewDisks

@@ -1,26 +1,26 @@
 -- Where a disk in one of the phases ends, it is the pool's own: an import ends on what it mounted, and a run on a cut of its entries. No contract
 -- cites these lemmas yet.
-use Rattle.std.proofs.Common.{◌≡◌, ◌⊎◌, inl, inr, ⊎_elim, ℕ, ◌+◌, ◌<◌, ◌≤◌, List, [], ◌∷◌, length, map, take, Ok, refl, sym, ◌∙◌, ap, subst, arith}
-use Rattle.std.specs.Prelude.{Some, IfSome}
+use Rattle.std.proofs.Common.{◌≡◌, ◌⊎◌, inl, inr, ⊎_elim, ℕ, ◌+◌, ◌≤◌, List, [], ◌∷◌, length, map, take, Ok, refl, sym, ◌∙◌, ap, subst, arith}
+use Rattle.std.specs.Prelude.{IfSome}
 use Rattle.base.specs.declared.pointer.Pointer.{Pointer}
 use Rattle.base.specs.Contents.{Contents}
 use Rattle.base.specs.History.{IsHistory}
-use Rattle.base.specs.Disk.{Write, Moment, Disk, MayLeave, bytes_of, handed, settled, moments, disk_size}
+use Rattle.base.specs.Disk.{Write, Moment, Disk, MayLeave, bytes_of, handed, settled, moments, certain, certain_with, disk_size}
 use Rattle.base.specs.Fairness.{IsFair, HasFairBytes, passes_check}
 use Rattle.base.specs.Chain.{Header}
 use Rattle.base.specs.Mount.{apply_records, records_above}
 use Rattle.base.specs.Groups.{IsLine}
 use Rattle.base.specs.Past.{Past}
 use Rattle.base.specs.Logs.{KeptBlock}
-use Rattle.base.specs.Shown.{Shown, SyncPlan}
+use Rattle.base.specs.Shown.{Shown}
 use Rattle.base.specs.Exact.{IsLogExact, IsSyncExact}
 use Rattle.base.specs.Explains.{IsLeftBy}
 use Rattle.base.specs.Layout.{LiesAs, kept_from, header_now}
 use Rattle.base.specs.Views.{View, Logged, IsFoundAs, AreConfigsUpTo, config_content}
-use Rattle.base.specs.Own.{IsAtRest, IsPhase, AreConfigsBelowImport, IsOwnImage, IsOwnWith}
+use Rattle.base.specs.Own.{IsAtRest, AreConfigsBelowImport, IsOwnImage, IsOwnWith}
 use Rattle.base.specs.PoolViews.{IsViewOf, IsPoolLaid, IsPoolDisk, IsSyncConfig}
-use Rattle.base.specs.CrashRule.{MountsAs, IsRunLeft}
-use Rattle.base.proofs.Moments.{bytes_may_be_left}
+use Rattle.base.specs.CrashRule.{MountsAs, AreImportViews, IsImportMoment, HasSteadyPhases, IsImportKept, IsRunLeft}
+use Rattle.base.proofs.Moments.{bytes_may_be_left, latest, moments_grow}
 use Rattle.base.proofs.Fairness.{fair_settled}
 use Rattle.base.proofs.KeptViews.{rest_settled}
 use Rattle.base.proofs.FoundViews.{rest_found}
@@ -48,7 +48,7 @@ import_configs size t ws old new same higher known =
 
 module _ (size t : ℕ) (m : Moment) (image : List ℕ) (left : MayLeave m image) where
   -- an image that is certain and at rest on a view is the pool's own
-  rest_own : (flushed : ℕ) (v : View) (guid : ℕ) (contents : Contents) → v.u.guid ≡ guid → v.logged ≡ [] → MountsAs v contents → AreConfigsBelowImport size t (handed m) v
+  pub rest_own : (flushed : ℕ) (v : View) (guid : ℕ) (contents : Contents) → v.u.guid ≡ guid → v.logged ≡ [] → MountsAs v contents → AreConfigsBelowImport size t (handed m) v
       → IsAtRest size t flushed (settled image m) v → IsOwnImage size t image m guid contents
   rest_own flushed v guid contents of_guid no_log mounts configs rest =
       let none : length v.logged ≡ 0 = ap (λ (l : List Logged). length l) no_log in
@@ -62,29 +62,42 @@ module _ (size t : ℕ) (m : Moment) (image : List ℕ) (left : MayLeave m image
         applied = mounts;
       }
 
-  -- and so is each that a crash leaves of a disk in one of the phases between two views that mount the same
-  pub phase_own : (f g : ℕ) (old new : View) (guid : ℕ) (contents : Contents) → old.u.guid ≡ guid → new.u.guid ≡ guid → old.logged ≡ [] → new.logged ≡ [] → MountsAs old contents → MountsAs new contents
-      → AreConfigsBelowImport size t (handed m) old → AreConfigsBelowImport size t (handed m) new → IsPhase size t f g m old new → IsOwnImage size t image m guid contents
-  phase_own f g old new guid contents old_guid new_guid old_log new_log old_mounts new_mounts old_configs new_configs phase = elim (phase_certain size t f g m image left old new phase) as (λ _. IsOwnImage size t image m guid contents) [
-    | inl rest ↦ rest_own f old guid contents old_guid old_log old_mounts old_configs rest
-    | inr rest ↦ rest_own g new guid contents new_guid new_log new_mounts new_configs rest
+  -- and so is each that a crash leaves at a moment of an import
+  pub import_image : (old new : View) (guid : ℕ) (contents : Contents) → AreImportViews old new guid contents → IsImportMoment size t old new m → IsOwnImage size t image m guid contents
+  import_image old new guid contents views here = elim (phase_certain size t (length old.logged) (length new.logged) m image left old new here.phase) as (λ _. IsOwnImage size t image m guid contents) [
+    | inl rest ↦ rest_own (length old.logged) old guid contents views.old_guid views.old_log views.old_mounts here.configs rest
+    | inr rest ↦
+        rest_own (length new.logged) new guid contents views.new_guid views.new_log views.new_mounts
+        (import_configs size t (handed m) old new (views.new_guid ∙ sym views.old_guid) views.next_group here.configs) rest
   ]
 
 -- so an import, wherever it ends, leaves a disk that is the pool's own with what it mounted
-pub import_own : (size created : ℕ) (disk : Disk) (f g : ℕ) (old new : View) (guid : ℕ) (contents : Contents) → created ≤ moments disk → HasFairBytes size created disk.now
-    → old.u.guid ≡ guid → new.u.guid ≡ guid → old.logged ≡ [] → new.logged ≡ [] → MountsAs old contents → MountsAs new contents
-    → AreConfigsBelowImport size created (handed disk.now) old → new.u.group ≡ old.u.group + 4 → IsPhase size created f g disk.now old new → IsOwnWith disk created guid contents
-import_own size created disk f g old new guid contents began bytes old_guid new_guid old_log new_log old_mounts new_mounts configs higher phase =
-    let new_configs = import_configs size created (handed disk.now) old new (new_guid ∙ sym old_guid) higher configs in
+pub steady_own : (size created : ℕ) (before after : Disk) (guid : ℕ) (contents : Contents) → created ≤ moments after → HasSteadyPhases size created before after guid contents → IsOwnWith after created guid contents
+steady_own size created before after guid contents began steady =
+    let here = latest (IsImportMoment size created steady.old steady.new) before after steady.each in
     record {
       began = began;
       left = record {
-        bytes = subst (λ (n : ℕ). HasFairBytes n created disk.now) (sym bytes.size_is) bytes;
+        bytes = subst (λ (n : ℕ). HasFairBytes n created after.now) (sym here.bytes.size_is) here.bytes;
         each = λ image left fair.
-            subst (λ (n : ℕ). IsOwnImage n created image disk.now guid contents) (sym bytes.size_is)
-            (phase_own size created disk.now image left f g old new guid contents old_guid new_guid old_log new_log old_mounts new_mounts configs new_configs phase);
+            subst (λ (n : ℕ). IsOwnImage n created image after.now guid contents) (sym here.bytes.size_is)
+            (import_image size created after.now image left steady.old steady.new guid contents steady.views here);
       };
     }
+
+-- an import of a disk that is the pool's own keeps it so
+pub import_kept : (old new : Disk) (created guid : ℕ) (contents : Contents) → IsOwnWith old created guid contents
+    → (new ≡ old) ⊎ HasSteadyPhases (disk_size old) created (certain (bytes_of old.now) old) new guid contents → IsImportKept old new created guid contents
+import_kept old new created guid contents own (inl same) = record { steady = inl same; own = subst (λ (d : Disk). IsOwnWith d created guid contents) (sym same) own }
+import_kept old new created guid contents own (inr steady) =
+    let flushed : Disk = certain (bytes_of old.now) old in
+    let later : moments flushed ≤ moments new = moments_grow (IsImportMoment (disk_size old) created steady.old steady.new) flushed new steady.each in
+    let began : created ≤ moments old = own.began in
+    record { steady = inr steady; own = steady_own (disk_size old) created flushed new guid contents (omega (arith, began, later, more old.now.unflushed)) steady }
+  where
+    more : (ws : List Write) → moments old ≤ moments (certain_with (bytes_of old.now) old ws)
+    more [] = omega arith
+    more (w ∷ ws) = omega arith
 
 -- A run, wherever it ends, leaves a disk that is the pool's own, with a cut of its entries.
 module _ (size : ℕ) (m : Moment) (s : Shown) (past : Past) (now : Contents) (image : List ℕ) (left : MayLeave m image) (kept : IsPoolDisk size m s past)

@@ -1,7 +1,6 @@
 -- What a pool keeps of its device has the log, the synced tree and what a sync takes at distinct places; so each step keeps them so.
 use Rattle.std.proofs.Common.{◌≡◌, ℕ, zero, suc, Bool, true, false, List, [], ◌∷◌, ◌++◌, map, refl, ap, sym, subst, ◌∙◌, inl, inr}
 use Rattle.std.specs.Prelude.{Option, Some, None, slice_get}
-use Rattle.std.proofs.lemmas.Bool.{false≢true}
 use Rattle.base.specs.declared.pointer.Pointer.{Pointer}
 use Rattle.base.specs.Geometry.{IsBlockAddress}
 use Rattle.base.specs.Locks.{is_in}
@@ -13,7 +12,7 @@ use Rattle.base.specs.Shown.{Shown, SyncPlan, taken_of}
 use Rattle.base.specs.Exact.{IsInLog, AreDistinctPlaces, log_addresses}
 use Rattle.base.specs.Stored.{NewTree, IsStored, IsSyncing, IsKept, RunsAs, frame_at}
 use Rattle.base.proofs.PlacedTrees.{in-tree}
-use Rattle.base.proofs.StoredSets.{IsAt, in-at, at-in, at-map}
+use Rattle.base.proofs.StoredSets.{IsAt, in-at, at-map}
 
 not_true : (b : Bool) → (b ≡ true → ⊥) → b ≡ false
 not_true true never = absurd (never refl)

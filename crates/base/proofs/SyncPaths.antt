@@ -1,12 +1,12 @@
 -- Each moment of a whole sync, stopped anywhere or refused anywhere, has fair bytes, and no config counts but those that are known. No contract
 -- cites these lemmas yet.
-use Rattle.std.proofs.Common.{◌≡◌, ◌⊎◌, inl, inr, ℕ, ◌+◌, ◌<◌, ◌≤◌, Bool, true, List, [], ◌∷◌, length, refl, sym, ◌∙◌, ap, subst, arith}
+use Rattle.std.proofs.Common.{◌≡◌, ◌⊎◌, inl, inr, ℕ, ◌≤◌, Bool, true, List, [], ◌∷◌, length, sym, ◌∙◌, ap, subst, arith}
 use Rattle.base.specs.Geometry.{IsGeometry, block_size, config_place}
 use Rattle.base.specs.Uberblocks.{IsUberblock, slot_size}
-use Rattle.base.specs.Disk.{Moment, Disk, EachMoment, HandedSince, bytes_of, handed, settled, wrote, written, next, moments}
+use Rattle.base.specs.Disk.{Moment, Disk, EachMoment, bytes_of, handed, settled, wrote, written, next, moments}
 use Rattle.base.specs.Fairness.{HasFairBytes}
 use Rattle.base.specs.Views.{View, IsConfigContent, AreConfigsUpTo}
-use Rattle.base.specs.CallStages.{PoolCall, KeepsCall, KeepCalls, AreWholeCalls, WriteConfigsUpTo, FixedLabels, IsQuiet, AreQuiet, IsSlotCall, AreSlotCalls, AreBegun, IsLastPath, IsSyncPath}
+use Rattle.base.specs.CallStages.{PoolCall, KeepsCall, KeepCalls, AreWholeCalls, WriteConfigsUpTo, FixedLabels, AreQuiet, IsSlotCall, AreSlotCalls, AreBegun, IsLastPath, IsSyncPath}
 use Rattle.base.specs.CallStages.PoolCall.{Put, Settle}
 use Rattle.base.proofs.Moments.{starts, goes_on, latest}
 use Rattle.base.proofs.Fairness.{handed_settled}

@@ -1,16 +1,16 @@
 -- The crash rule for a pool's disk from its create on: what an import keeps, what a step keeps, what a run leaves, and what a client finds
 -- after any number of rounds, each an import with its run and then a crash. `created` is never free: it is the moment with which the disk is
 -- the pool's own. No contract cites them yet.
-use Rattle.std.specs.Prelude.{ℕ, ◌≡◌, ◌≤◌, ◌⊎◌, List, [], ◌∷◌, length, map, Ok}
+use Rattle.std.specs.Prelude.{ℕ, ◌≡◌, ◌≤◌, ◌+◌, ◌⊎◌, List, [], ◌∷◌, length, map, Ok}
 use Rattle.base.specs.Contents.{Contents}
-use Rattle.base.specs.Disk.{Disk, moments, EachMoment, MayLeave, bytes_of, certain, disk_size}
+use Rattle.base.specs.Disk.{Moment, Disk, moments, EachMoment, MayLeave, bytes_of, handed, certain, disk_size}
 use Rattle.base.specs.Fairness.{IsFairOn, HasFairBytes, LeavesFairNow, LeavesFairSince}
 use Rattle.base.specs.Mount.{MountsTo, apply_records, records_above}
 use Rattle.base.specs.Past.{Past}
 use Rattle.base.specs.Shown.{Shown}
 use Rattle.base.specs.Views.{View, Logged}
 use Rattle.base.specs.Explains.{IsLeftBy}
-use Rattle.base.specs.Own.{IsPhase, IsOwnImage, IsOwnWith}
+use Rattle.base.specs.Own.{IsPhase, AreConfigsBelowImport, IsOwnImage, IsOwnWith}
 use Rattle.base.specs.PoolViews.{IsPoolDisk}
 
 -- a view mounts these contents where its chain is all of its log blocks
@@ -21,15 +21,29 @@ MountsAs v contents = apply_records (records_above v.u.group (map (λ (l : Logge
 abbrev pub AllMountTo : Disk → Disk → ℕ → Contents → Type 0
 AllMountTo old new created contents = LeavesFairSince old new created (λ image. MountsTo image contents)
 
--- At each moment from the one disk to the other a pool is in one of the three phases between two views that mount these contents.
+-- the two views of an import: of one pool, four groups apart, and both mount these contents
+pub record AreImportViews (old new : View) (guid : ℕ) (contents : Contents) : Type 0 where
+  pub old_guid : old.u.guid ≡ guid
+  pub new_guid : new.u.guid ≡ guid
+  pub next_group : new.u.group ≡ old.u.group + 4
+  pub old_mounts : MountsAs old contents
+  pub new_mounts : MountsAs new contents
+  -- no log block is written at this stage
+  pub old_log : old.logged ≡ []
+  pub new_log : new.logged ≡ []
+
+-- a moment of an import: what a read gives is fair, no config counts that an import of the old view does not write, and it is one of the phases
+pub record IsImportMoment (size t : ℕ) (old new : View) (m : Moment) : Type 0 where
+  pub bytes : HasFairBytes size t m
+  pub configs : AreConfigsBelowImport size t (handed m) old
+  pub phase : IsPhase size t (length old.logged) (length new.logged) m old new
+
+-- each moment from the one disk to the other is one of an import that mounts these contents
 pub record HasSteadyPhases (size t : ℕ) (before after : Disk) (guid : ℕ) (contents : Contents) : Type 0 where
   pub old : View
   pub new : View
-  pub old_guid : old.u.guid ≡ guid
-  pub new_guid : new.u.guid ≡ guid
-  pub old_mounts : MountsAs old contents
-  pub new_mounts : MountsAs new contents
-  pub each : EachMoment (λ m. HasFairBytes size t m × IsPhase size t (length old.logged) (length new.logged) m old new) before after
+  pub views : AreImportViews old new guid contents
+  pub each : EachMoment (IsImportMoment size t old new) before after
 
 -- An import, wherever it stops and whatever it answers, of a disk that this pool alone wrote: no flush answered Ok and nothing is written, or
 -- from the first good flush on each moment mounts what the disk mounted; and a crash, or another import, finds a disk that this pool alone wrote.

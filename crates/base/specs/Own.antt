@@ -2,10 +2,12 @@
 -- written a disk since its create. No contract cites them yet.
 use Rattle.std.specs.Prelude.{ℕ, ◌≡◌, ◌≢◌, ◌≤◌, ◌<◌, ◌+◌, ◌⊎◌, List, [], length, map, Ok}
 use Rattle.base.specs.Contents.{Contents}
+use Rattle.base.specs.Fields.{part, number_at}
 use Rattle.base.specs.Geometry.{slot_of}
-use Rattle.base.specs.Disk.{Write, Moment, Disk, moments, handed, settled, disk_size}
-use Rattle.base.specs.Fairness.{LeavesFairNow}
-use Rattle.base.specs.Views.{View, Logged, IsLaid, HasFixedSlot, AreSlotsKnown, AreConfigsUpTo, config_content}
+use Rattle.base.specs.PlacedTrees.{HoldsTree}
+use Rattle.base.specs.Disk.{Write, Moment, Disk, HandedSince, bytes_of, moments, handed, settled, disk_size}
+use Rattle.base.specs.Fairness.{LeavesFairNow, IsCheckedPlace}
+use Rattle.base.specs.Views.{View, Logged, IsView, IsLaid, HasFixedConfig, HasFixedSlot, view_frame, AreSlotsKnown, AreConfigsUpTo, config_content}
 use Rattle.base.specs.Mount.{apply_records, records_above}
 
 -- At rest: one view is laid, its uberblock is fixed in a label, and each other that counts is of a lower group.
@@ -48,3 +50,25 @@ pub record IsOwnImage (size t : ℕ) (image : List ℕ) (m : Moment) (guid : ℕ
 pub record IsOwnWith (disk : Disk) (created guid : ℕ) (contents : Contents) : Type 0 where
   pub began : created ≤ moments disk
   pub left : LeavesFairNow disk created (λ image. IsOwnImage (disk_size disk) created image disk.now guid contents)
+
+-- all that counts of a new pool's create, whose config and uberblock are those of this view: each write begins with zeros, or is one of the two
+abbrev pub AreFirstWrites : ℕ → List Write → View → Type 0
+AreFirstWrites t ws v = (place : ℕ) (content : List ℕ) → HandedSince t ws place content → (number_at content 0 ≡ 0) ⊎ ((content ≡ v.config) ⊎ (content ≡ v.slot))
+
+-- each place that the format checks begins with zeros, or has bytes that were handed whole for it
+abbrev pub AreHandedOrZero : ℕ → ℕ → Moment → Type 0
+AreHandedOrZero size t m = (place n : ℕ) → IsCheckedPlace size place n
+    → (number_at (part (bytes_of m) place n) 0 ≡ 0) ⊎ HandedSince t (handed m) place (part (bytes_of m) place n)
+
+-- What a create leaves: all is flushed, the config and the uberblock of the view of a new pool stand in a label each, and the tree of its
+-- objects; only first writes count, and each place that the format checks begins with zeros or was handed whole.
+pub record IsCreatedDisk (size t : ℕ) (m : Moment) (v : View) : Type 0 where
+  pub view : IsView size v
+  pub no_log : v.logged ≡ []
+  pub size_is : length (bytes_of m) ≡ size
+  pub flushed : m.unflushed ≡ []
+  pub config : HasFixedConfig size m v
+  pub slot : HasFixedSlot size m v
+  pub tree : HoldsTree (bytes_of m) (view_frame size v) v.pointers v.synced.objects
+  pub first : AreFirstWrites t (handed m) v
+  pub places : AreHandedOrZero size t m
