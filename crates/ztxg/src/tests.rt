@@ -143,17 +143,17 @@ fn run(alloc: Global, row: &Row) -> Result<(u8, String), Fail> {
 
 #[test]
 fn prints_the_answers_of_whole_scripts(rt: HostRuntime) -> Result<(), Fail> {
-    for row in [
-        FIRST_PATH,
-        LOCKS,
-        RANGES,
-        WORDS,
-        STEPS,
-        DEVICES,
-        ELEVEN_STEPS,
-        NUMBERS,
-        NO_SHAPE,
-    ] {
+    for row in [FIRST_PATH, LOCKS, RANGES, WORDS, STEPS, NO_SHAPE] {
+        let (status, text) = run(rt.alloc(), &row)?;
+        assert_eq!(rt; text.as_str(), row.answers);
+        assert_eq!(rt; status, row.status);
+    }
+    Ok(())
+}
+
+#[test]
+fn leaves_devices_steps_syncs_and_tells_numbers(rt: HostRuntime) -> Result<(), Fail> {
+    for row in [DEVICES, ELEVEN_STEPS, NUMBERS] {
         let (status, text) = run(rt.alloc(), &row)?;
         assert_eq!(rt; text.as_str(), row.answers);
         assert_eq!(rt; status, row.status);
