@@ -40,8 +40,11 @@ use Rattle.import_replay.specs.Mounts.{IsImport, IsMountedFrom, frame_of_import,
 use Rattle.import_replay.specs.declared.mounted.Mounted.{Mounted}
 
 -- the frame of an active uberblock, on a device of so many bytes
+abbrev pub frame_with : Uberblock → ℕ → Frame
+frame_with u blocks = record { version = u.version; guid = u.guid; blocks = blocks; group = u.group }
+
 abbrev pub frame_at : Uberblock → ℕ → Frame
-frame_at u size = record { version = u.version; guid = u.guid; blocks = block_count size; group = u.group }
+frame_at u size = frame_with u (block_count size)
 
 not_zero : (blocks address : ℕ) → IsBlockAddress blocks address → address ≢ 0
 not_zero blocks address is none = let e = is.2 in omega (arith, e, none)

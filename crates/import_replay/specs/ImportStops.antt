@@ -9,6 +9,7 @@ use Rattle.base.specs.Geometry.{block_count}
 use Rattle.base.specs.Imports.{IsFirstLogBlock, is_past_last}
 use Rattle.base.specs.Labels.{Config}
 use Rattle.base.specs.SyncOrder.{import_calls}
+use Rattle.base.specs.Versions.{written_version}
 use Rattle.base.specs.Uberblocks.{Uberblock}
 use Rattle.object_maps.specs.declared.tree.Tree.{Tree}
 use Rattle.object_maps.specs.Pointers.{pointers_of}
@@ -23,7 +24,7 @@ next_config u name size = record { guid = u.guid; group = u.group + 4; size = si
 
 -- and the uberblock, with this moment and this first log block
 abbrev pub next_uberblock : Uberblock → ℕ → ℕ → Uberblock
-next_uberblock u moment log_address = record u { group = u.group + 4; moment = moment; import_number = u.import_number + 1; log_address = log_address; log_number = 0 }
+next_uberblock u moment log_address = record u { version = written_version; group = u.group + 4; moment = moment; import_number = u.import_number + 1; log_address = log_address; log_number = 0 }
 
 -- the sync of an import stopped, which writes the labels for this active uberblock, name and tree
 pub record IsOpenStopped (size : ℕ) (u : Uberblock) (name : List ℕ) (tree : Tree) (moment : ℕ) (even_first : Bool) (e : PoolError) (old new : Disk) : Type 0 where

@@ -18,7 +18,7 @@ ghost use Rattle.base.specs.Uberblocks as image;
 ghost use Rattle.base.specs.Uberblocks.{IsActive};
 ghost use Rattle.uberblocks.specs.Slots.{IsWithinLimits, fields_of};
 ghost use Rattle.object_maps.specs.ContentsShown.{contents_of};
-ghost use Rattle.object_maps.specs.Loading.{IsLoadRefusal, frame_of};
+ghost use Rattle.object_maps.specs.Loading.{IsLoadRefusal};
 ghost use Rattle.object_maps.specs.Pointers.{objects_of, pointers_of};
 ghost use Rattle.import_replay.specs.ImportRefusals.{CanImport, IsImportRefusal, IsMountRefusal, IsOpenRefusal, IsReadingRefusal, IsReason, IsSyncRefusal};
 ghost use Rattle.import_replay.specs.FreeBlocks.{AreAllNamed};
@@ -175,13 +175,14 @@ fn mount_pool<D: SectorDevice>(
 {
     device.flush()?;
     let found = find_pool(alloc, device, geometry)?;
+    let count = geometry.blocks();
     let frame = Frame::new(
         found.uberblock.version,
         found.uberblock.guid,
-        geometry.blocks(),
+        count,
         found.uberblock.group,
     );
-    let loaded = load(alloc, device, geometry, &frame, found.uberblock.root)?;
+    let loaded = load(alloc, device, &frame, found.uberblock.root)?;
     // The name is one, and the objects hold bytes, as their types say.
     let _name = found.name.as_slice();
     see_bytes(loaded.slots.as_slice());

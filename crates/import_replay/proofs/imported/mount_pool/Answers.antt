@@ -4,7 +4,6 @@ use Rattle.std.specs.List.{list_all}
 use Rattle.std.specs.FinMap as finite
 use Rattle.base.specs.Blocks.{Frame}
 use Rattle.base.specs.Names.{IsName}
-use Rattle.object_maps.specs.Loading.{frame_of}
 use Rattle.base.specs.declared.error.PoolError.{PoolError}
 use Rattle.base.specs.Disk.{Disk, bytes_of, certain}
 use Rattle.base.specs.Exact.{IsBounded}
@@ -27,7 +26,7 @@ use Rattle.import_replay.specs.ImportRefusals.{HasSoundPool, IsReadingRefusal, I
 use Rattle.import_replay.specs.ImportStops.{IsImportStopped}
 use Rattle.import_replay.specs.LabelSyncs.{is_even}
 use Rattle.import_replay.proofs.Configs.{err_both, err_weaker, ok_weaker, ok_both, ok_on}
-use Rattle.import_replay.proofs.MountedPools.{all_blocks, frame_at, is_explained, is_import, sound_pool}
+use Rattle.import_replay.proofs.MountedPools.{all_blocks, frame_at, frame_with, is_explained, is_import, sound_pool}
 use Rattle.import_replay.proofs.Reasons.{find_reading, load_reading, not_both, passed_on, reason-load, reason-many, reason-open}
 use Rattle.import_replay.proofs.StoppedImports.{stopped_import}
 use Rattle.import_replay.proofs.WrittenImports.{ok_written}
@@ -80,7 +79,7 @@ returns-then-is_past_last-clause-reason g c = λ keeps.
     let pool : HasPool image u name = subst (λ (b : List ℕ). HasPool b u name) flushed (c.in_ok-found.ensures.pool keeps) in
     let held : HoldsTree image (frame_at u size) (pointers_of tree) (objects_of slots) =
     subst (λ (b : List ℕ). HoldsTree b (frame_at u size) (pointers_of tree) (objects_of slots)) found
-    (subst (λ (f : Frame). HoldsTree (bytes_of (g.D.SectorDevice.disk c.find_pool.new.device).now) (frame_of f size) (pointers_of tree) (objects_of slots)) c.new-frame.ensures
+    (subst (λ (f : Frame). HoldsTree (bytes_of (g.D.SectorDevice.disk c.find_pool.new.device).now) f (pointers_of tree) (objects_of slots)) (c.new-frame.ensures ∙ ap (frame_with u) c.blocks-count.ensures)
     (c.in_ok-loaded.ensures.held keeps)) in
     reason-many image (u, name, sound_pool size u name tree slots image long held c.in_ok-loaded.ensures.root pool, sym c.if-is_past_last.ensures)
 
@@ -125,7 +124,7 @@ returns-clause-imported g c = λ keeps.
     let loaded : bytes_of (g.D.SectorDevice.disk c.load.new.device).now ≡ image = ap (λ (d : Disk). bytes_of d.now) (c.load.ensures.disk keeps) ∙ found in
     let pool : HasPool image u name = subst (λ (b : List ℕ). HasPool b u name) flushed (c.in_ok-found.ensures.pool keeps) in
     let framed : HoldsTree (bytes_of (g.D.SectorDevice.disk c.find_pool.new.device).now) (frame_at u size) (pointers_of tree) (objects_of slots) =
-    subst (λ (f : Frame). HoldsTree (bytes_of (g.D.SectorDevice.disk c.find_pool.new.device).now) (frame_of f size) (pointers_of tree) (objects_of slots)) c.new-frame.ensures
+    subst (λ (f : Frame). HoldsTree (bytes_of (g.D.SectorDevice.disk c.find_pool.new.device).now) f (pointers_of tree) (objects_of slots)) (c.new-frame.ensures ∙ ap (frame_with u) c.blocks-count.ensures)
     (c.in_ok-loaded.ensures.held keeps) in
     let held : HoldsTree image (frame_at u size) (pointers_of tree) (objects_of slots) =
     subst (λ (b : List ℕ). HoldsTree b (frame_at u size) (pointers_of tree) (objects_of slots)) found framed in
@@ -154,7 +153,7 @@ returns-in_err-loaded-clause-reason g c = λ keeps.
       pool = pool;
       fault = subst (λ (n : ℕ). IsFirstFault image (frame_at u n) u.root kind address) (sym long)
           (subst (λ (b : List ℕ). IsFirstFault b (frame_at u size) u.root kind address) found
-          (subst (λ (f : Frame). IsFirstFault (bytes_of (g.D.SectorDevice.disk c.find_pool.new.device).now) (frame_of f size) u.root kind address) c.new-frame.ensures
+          (subst (λ (f : Frame). IsFirstFault (bytes_of (g.D.SectorDevice.disk c.find_pool.new.device).now) f u.root kind address) (c.new-frame.ensures ∙ ap (frame_with u) c.blocks-count.ensures)
           (c.in_err-loaded.ensures.fault keeps kind address is)));
     }))
 
@@ -173,7 +172,7 @@ returns-clause-reason g c = λ keeps.
     let pool : HasPool image u name = subst (λ (b : List ℕ). HasPool b u name) flushed (c.in_ok-found.ensures.pool keeps) in
     let held : HoldsTree image (frame_at u size) (pointers_of tree) (objects_of slots) =
     subst (λ (b : List ℕ). HoldsTree b (frame_at u size) (pointers_of tree) (objects_of slots)) found
-    (subst (λ (f : Frame). HoldsTree (bytes_of (g.D.SectorDevice.disk c.find_pool.new.device).now) (frame_of f size) (pointers_of tree) (objects_of slots)) c.new-frame.ensures
+    (subst (λ (f : Frame). HoldsTree (bytes_of (g.D.SectorDevice.disk c.find_pool.new.device).now) f (pointers_of tree) (objects_of slots)) (c.new-frame.ensures ∙ ap (frame_with u) c.blocks-count.ensures)
     (c.in_ok-loaded.ensures.held keeps)) in
     let sound : HasSoundPool image u name = sound_pool size u name tree slots image long held c.in_ok-loaded.ensures.root pool in
     err_weaker c.open_pool.result _ (IsReason image)
@@ -195,7 +194,7 @@ returns-clause-stopped g c = λ keeps.
     let pool : HasPool image u name = subst (λ (b : List ℕ). HasPool b u name) flushed (c.in_ok-found.ensures.pool keeps) in
     let held : HoldsTree image (frame_at u size) (pointers_of tree) (objects_of slots) =
     subst (λ (b : List ℕ). HoldsTree b (frame_at u size) (pointers_of tree) (objects_of slots)) found
-    (subst (λ (f : Frame). HoldsTree (bytes_of (g.D.SectorDevice.disk c.find_pool.new.device).now) (frame_of f size) (pointers_of tree) (objects_of slots)) c.new-frame.ensures
+    (subst (λ (f : Frame). HoldsTree (bytes_of (g.D.SectorDevice.disk c.find_pool.new.device).now) f (pointers_of tree) (objects_of slots)) (c.new-frame.ensures ∙ ap (frame_with u) c.blocks-count.ensures)
     (c.in_ok-loaded.ensures.held keeps)) in
     let old = g.D.SectorDevice.disk c.args.device.now in
     let mid = g.D.SectorDevice.disk c.flush.new.self in
