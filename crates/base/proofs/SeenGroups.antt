@@ -22,6 +22,7 @@ use Rattle.base.proofs.KeptGroups.{held_above}
 use Rattle.base.proofs.KeptTables.{steps_keep_tables}
 use Rattle.base.proofs.SeenStates.{grown, at-prefix}
 
+-- the groups of a line are no lower than those of an earlier one
 abbrev GoUp : Line → Line → Type 0
 GoUp l m = (l.synced ≤ m.synced) × (l.open_group ≤ m.open_group)
 
@@ -31,6 +32,7 @@ stay old new same = subst (λ (m : Line). GoUp old.shown.line m) (sym same) (ome
 line-of : (old new : State) → new ≡ old → new.shown.line ≡ old.shown.line
 line-of old new same = ap (λ (s : State). s.shown.line) same
 
+-- they go up in a step where they do by what it does, and where its own refusals leave the line
 answered : {A : Type 0} (answer : Result A PoolError) (r : Option PoolError) (old new : State) (does : A → Type 0) (own : PoolError → Type 0)
     → ((a : A) → does a → GoUp old.shown.line new.shown.line) → ((e : PoolError) → own e → new.shown.line ≡ old.shown.line) → Answers r answer old new does own → GoUp old.shown.line new.shown.line
 answered (Ok a) r old new does own done refused h = done a (ok-none r a old new does own h).1

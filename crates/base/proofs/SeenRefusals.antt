@@ -99,6 +99,7 @@ progress-answers : (p : Progress) → is_refusal (progress_reply p) ≡ false
 progress-answers More = refl
 progress-answers (Synced group) = refl
 
+-- want of memory suspends nothing
 memory-quiet : (old new : State) (f : PoolError) → f ≡ error.NoMemory → is_suspending f ≡ true → new.shown.suspended ≡ true
 memory-quiet old new f is suspends = absurd (false≢true (ap is_suspending (sym is) ∙ suspends))
 

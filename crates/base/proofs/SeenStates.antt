@@ -157,9 +157,6 @@ held-grant owner id s p x g is =
 pub unlocks_are_seen : (owner : Owner) (id : LockId) (before after : State) → IsMadeBetween ⊥ (step.Unlock owner id) reply.Done before after → IsLetGo owner.0 id.0 before after
 unlocks_are_seen owner id before after m = seen (held m.made)
   where
-    old : State
-    old = m.old
-
     told : m.new.past ≡ past_after (step.Unlock owner id) reply.Done m.old
     told = told_past ⊥ m.now (step.Unlock owner id) reply.Done m.old m.new m.made
 

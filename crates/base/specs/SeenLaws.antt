@@ -26,7 +26,7 @@ use Rattle.base.specs.Seen.{IsMadeBetween, IsContentsBetween, IsCommitted, IsAdm
 abbrev pub ContentsAreBetween : Type 0
 ContentsAreBetween = (before s after : State) → IsExplainedNow s.shown s.past → GoesOn before s → GoesOn s after → IsContentsBetween before after s.shown.contents
 
--- a commit's entry, a begin's admission, a lock's grant and an unlocked lock are such as the words of what was seen say
+-- a commit that was answered a receipt made that entry, and so of the admission of a begin, the grant of a lock and the end of a lock
 abbrev pub CommitsAreSeen : Type 0
 CommitsAreSeen = (tx : TxId) (ops : List Op) (receipt : Receipt) (before after : State) → IsMadeBetween ⊥ (step.Commit tx ops) (reply.Committed receipt) before after
     → IsCommitted tx.0 ops receipt.ordinal.0 receipt.group.0 before after
