@@ -45,11 +45,16 @@ pub mod BuiltPlaces
 pub mod ReadTrees
 pub mod KeptTables
 pub mod AnySteps
+pub mod LabelPlaces
+pub mod WrittenLabels
 pub mod StoredSets
+pub mod BuiltNames
+pub mod StoredLabels
 pub mod StoredTrees
 pub mod StoredSteps
 pub mod StoredStarts
 pub mod StoredSyncs
+pub mod StoredCalls
 pub mod StoredCover
 pub mod StoredWrites
 pub mod StoredImports
