@@ -59,4 +59,7 @@ pub mod StoredCover
 pub mod StoredWrites
 pub mod StoredImports
 pub mod StoredRuns
+pub mod OneTree
+pub mod OneMount
+pub mod HeldMounts
 pub mod SyncEnds

@@ -1,6 +1,7 @@
 //! What each step keeps of a pool: each function's contract is a law, and its body does nothing.
 
 ghost use Rattle.base.specs.ExactNow.{StepsKeepTables, RunsKeepTables, NewPoolsAreExplained};
+ghost use Rattle.base.specs.HeldMounts.{MountsAgree, HeldMounts, IdleMounts};
 ghost use Rattle.base.specs.SyncEnds.{SuspendedPoolsRefuse, SyncsEndOnTime};
 
 /// Each step keeps what is shown of a pool exact, and its entries a history that leads to its contents.
@@ -26,4 +27,20 @@ pub fn syncs_end_on_time()
 /// A suspended pool refuses each step, and nothing changes.
 pub fn suspended_pools_refuse()
     ensures { SuspendedPoolsRefuse }
+{}
+
+/// An image that mounts contents without a log mounts nothing else.
+pub fn mounts_agree()
+    ensures { MountsAgree }
+{}
+
+/// At each moment between its steps the device of a pool mounts the synced group; or, once a running sync has written an
+/// uberblock, the group of the sync.
+pub fn held_pools_mount()
+    ensures { HeldMounts }
+{}
+
+/// While no sync runs it mounts the synced group.
+pub fn idle_pools_mount()
+    ensures { IdleMounts }
 {}
