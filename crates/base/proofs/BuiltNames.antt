@@ -1,5 +1,5 @@
 -- Transactions that create and write leave the name of the contents.
-use Rattle.std.proofs.Common.{◌≡◌, ℕ, zero, suc, Bool, true, false, List, [], ◌∷◌, map, refl, ap, sym, ◌∙◌}
+use Rattle.std.proofs.Common.{◌≡◌, ℕ, zero, suc, true, List, [], ◌∷◌, map, refl, ap, sym, ◌∙◌}
 use Rattle.std.specs.Prelude.{Option, Some, Ok, Result, slice_get, nat_le}
 use Rattle.std.specs.List.{list_all}
 use Rattle.std.specs.FinMap as finite

@@ -1,19 +1,18 @@
 -- What the bytes of a pool's device mount: the contents of the group that its labels show, and no log.
-use Rattle.std.proofs.Common.{◌≡◌, ℕ, ◌+◌, ◌<◌, ◌≤◌, List, [], length, refl, ap, sym, subst, ◌∙◌, arith, ◌⊎◌, inl, inr}
+use Rattle.std.proofs.Common.{◌≡◌, ℕ, ◌+◌, ◌<◌, ◌≤◌, List, [], length, refl, sym, subst, ◌∙◌, arith, ◌⊎◌, inl, inr}
 use Rattle.std.specs.Prelude.{Option, Some, None, Ok}
 use Rattle.base.specs.declared.pointer.Pointer.{Pointer}
 use Rattle.base.specs.Contents.{Contents}
 use Rattle.base.specs.History.{replay, entries_up_to}
 use Rattle.base.specs.Geometry.{block_count, IsBlockAddress}
 use Rattle.base.specs.Blocks.{Frame}
-use Rattle.base.specs.Places.{Place}
 use Rattle.base.specs.Tree.{IsTree}
 use Rattle.base.specs.Uberblocks.{Uberblock}
 use Rattle.base.specs.Mount.{IsChainOf, frame_of}
 use Rattle.base.specs.Past.{Past}
 use Rattle.base.specs.Shown.{Shown, SyncPlan, uberblock_of}
 use Rattle.base.specs.ShownLabels.{ShowsUberblock, ShowsSynced, ShowsSyncing, AreLabelsShown, HasNoLogBlock}
-use Rattle.base.specs.Stored.{NewTree, IsStored, IsSyncing, IsKept, RunsAs, Held, IsHeld, frame_at}
+use Rattle.base.specs.Stored.{NewTree, IsSyncing, RunsAs, Held, IsHeld, frame_at}
 use Rattle.base.specs.HeldMounts.{MountsUpTo, HeldMounts, IdleMounts}
 use Rattle.base.proofs.BusyLocks.{Some-injective}
 use Rattle.base.proofs.PlacedTrees.{holds-tree}

@@ -1,5 +1,5 @@
 -- Where the slots and the configs of a device lie: within its labels, and apart from one another and from each block.
-use Rattle.std.proofs.Common.{◌≡◌, ℕ, zero, suc, ◌+◌, ◌-◌, ◌*◌, ◌%◌, ◌<◌, ◌≤◌, ◌&&◌, List, length, arith, ◌⊎◌, inl, inr}
+use Rattle.std.proofs.Common.{◌≡◌, ℕ, zero, suc, ◌+◌, ◌*◌, ◌%◌, ◌<◌, ◌≤◌, ◌&&◌, arith, ◌⊎◌, inl, inr}
 use Rattle.std.specs.Prelude.{nat_le, ◌==◌, ◌≢◌}
 use Rattle.std.proofs.lemmas.Bool.{and_parts, leb-true, cases_order}
 use Rattle.base.specs.Geometry.{block_area, block_size, block_count, block_address, label_place, config_place, slot_place, IsGeometry, IsBlockAddress}

@@ -1,27 +1,26 @@
 -- A device call of a running sync keeps what a pool keeps of its device.
 use Rattle.std.proofs.Common.{◌≡◌, ℕ, ◌+◌, ◌<◌, ◌≤◌, List, length, refl, ap, sym, subst, ◌∙◌, arith, ◌⊎◌, inl, inr}
-use Rattle.std.specs.Prelude.{Option, Some, None, Ok, slice_get, IfSome}
+use Rattle.std.specs.Prelude.{Option, Some, Ok, slice_get, IfSome}
 use Rattle.std.proofs.lemmas.Option.{slice_get_within}
 use Rattle.base.specs.declared.pointer.Pointer.{Pointer}
-use Rattle.base.specs.Contents.{Contents}
 use Rattle.base.specs.History.{replay, entries_up_to}
-use Rattle.base.specs.Geometry.{block_count, label_place, slot_place, slot_of, IsGeometry, IsBlockAddress}
+use Rattle.base.specs.Geometry.{slot_place, slot_of, IsGeometry, IsBlockAddress}
 use Rattle.base.specs.Disk.{put}
 use Rattle.base.specs.Places.{Place}
 use Rattle.base.specs.PlannedTrees.{NewBlock}
 use Rattle.base.specs.Past.{Past}
-use Rattle.base.specs.Uberblocks.{Uberblock, IsUberblock}
+use Rattle.base.specs.Uberblocks.{Uberblock}
 use Rattle.base.specs.Shown.{Shown, SyncPlan, uberblock_of}
 use Rattle.base.specs.ExactNow.{IsExplainedNow}
 use Rattle.base.specs.SyncCalls.{PoolCall, IsCallAt, bytes_made}
 use Rattle.base.specs.SyncCalls.PoolCall.{Put, Settle}
-use Rattle.base.specs.ShownLabels.{ShowsUberblock, ShowsSynced, ShowsSyncing, AreLabelsShown}
+use Rattle.base.specs.ShownLabels.{ShowsUberblock, ShowsSyncing, AreLabelsShown}
 use Rattle.base.specs.Stored.{NewTree, IsKept, SameBlocks, AreUpTo, Advances}
 use Rattle.base.proofs.BusyLocks.{Some-injective}
 use Rattle.base.proofs.Put.{length-put}
 use Rattle.base.proofs.BuiltNames.{name-up_to}
 use Rattle.base.proofs.WrittenLabels.{block-shows, slot-shows, slot-shows_again, slot-below, slot-fits}
-use Rattle.base.proofs.StoredLabels.{synced-later, syncing-later}
+use Rattle.base.proofs.StoredLabels.{synced-later}
 use Rattle.base.proofs.StoredTrees.{written-stored, written-syncing, written-no_log, same-stored, same-syncing, same-no_log, label-put, no-change, address-fits}
 use Rattle.base.proofs.StoredSyncs.{up_to-all}
 

@@ -1,9 +1,8 @@
 -- What the labels of a pool show stays while its bytes or its state go on.
-use Rattle.std.proofs.Common.{◌≡◌, ℕ, ◌+◌, ◌<◌, ◌≤◌, List, length, refl, ap, sym, subst, ◌∙◌, ◌⊎◌, inl, inr}
-use Rattle.std.specs.Prelude.{Option, Some, None, Ok}
+use Rattle.std.proofs.Common.{◌≡◌, ℕ, List, refl, ap, sym, ◌∙◌, inl, inr}
+use Rattle.std.specs.Prelude.{Option, Some, None}
 use Rattle.base.specs.declared.pointer.Pointer.{Pointer}
 use Rattle.base.specs.Chain.{Header}
-use Rattle.base.specs.Contents.{Contents}
 use Rattle.base.specs.History.{Entry, replay, entries_up_to}
 use Rattle.base.specs.Past.{Past}
 use Rattle.base.specs.Shown.{Shown, SyncPlan}

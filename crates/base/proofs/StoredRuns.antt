@@ -1,5 +1,5 @@
 -- Steps one after another keep what a pool keeps of its device.
-use Rattle.std.proofs.Common.{◌≡◌, ℕ, false, List, [], ◌∷◌, length, refl, ap, sym, subst, ◌∙◌, ◌⊎◌, inl, inr}
+use Rattle.std.proofs.Common.{◌≡◌, ℕ, false, List, [], ◌∷◌, refl, ap, sym, subst, ◌∙◌, ◌⊎◌, inl, inr}
 use Rattle.std.specs.Prelude.{Option, Some, None, Result, Ok, Err}
 use Rattle.std.proofs.lemmas.Bool.{false≢true}
 use Rattle.base.specs.declared.error.PoolError.{PoolError}
@@ -15,8 +15,6 @@ use Rattle.base.specs.Steps.Progress.{More, Synced}
 use Rattle.base.specs.Stage as stage
 use Rattle.base.specs.Runs.{Step, Run, reply_of, progress_reply}
 use Rattle.base.specs.Stored.{NewTree, IsKept, Held, IsHeld, Starts, Calls, Moves, is_turn, total_calls}
-use Rattle.base.specs.Refusals as refusal
-use Rattle.base.proofs.CommitOrder.{ok-none}
 use Rattle.base.proofs.KeptTables.{steps_keep_tables}
 use Rattle.base.proofs.StoredCalls.{advance-keeps}
 use Rattle.base.proofs.StoredSteps.{steps_keep_kept}

@@ -1,5 +1,5 @@
 -- What a pool keeps of its device: the synced tree with its pointers, the free blocks, and of a running sync the tree and the blocks that it plans.
-use Rattle.std.specs.Prelude.{ℕ, ◌≡◌, ◌≢◌, ◌≤◌, ◌<◌, ◌+◌, ◌⊎◌, Bool, true, false, List, [], map, length, slice_get, All, Option, Some, None, IfSome, Ok}
+use Rattle.std.specs.Prelude.{ℕ, ◌≡◌, ◌≢◌, ◌≤◌, ◌<◌, Bool, true, false, List, [], map, length, slice_get, All, Option, Some, None, IfSome, Ok}
 use Rattle.std.specs.List.{list_all}
 use Rattle.std.specs.Ordering.{nat_cmp}
 use Rattle.std.specs.FinMap.{FinMap}
