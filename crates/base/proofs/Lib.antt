@@ -60,6 +60,7 @@ pub mod StoredWrites
 pub mod StoredImports
 pub mod StoredRuns
 pub mod OneTree
+pub mod RecordSpelling
 pub mod OneMount
 pub mod HeldMounts
 pub mod SyncEnds

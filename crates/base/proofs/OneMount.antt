@@ -1,4 +1,4 @@
--- Where an image mounts contents without a log, it mounts nothing else: it has one active uberblock, one chosen name and one tree.
+-- An image mounts one thing at most: it has one active uberblock, one chosen name, one tree and one chain.
 use Rattle.std.proofs.Common.{◌≡◌, ℕ, ◌-◌, ◌<◌, List, [], ◌∷◌, length, take, drop, replicate, refl, ap, sym, subst, ◌∙◌, arith, ◌⊎◌, inl, inr}
 use Rattle.std.specs.Prelude.{Ok}
 use Rattle.std.proofs.lemmas.Bool.{cases_order}
@@ -8,10 +8,13 @@ use Rattle.base.specs.Fields.{part, number_at}
 use Rattle.base.specs.Geometry.{slot_place, slot_of, block_count}
 use Rattle.base.specs.Uberblocks.{Uberblock, IsUberblock, StandsIn, IsActive, slot_size}
 use Rattle.base.specs.Labels.{IsConfig, IsChosen}
-use Rattle.base.specs.Chain.{Header, LogBlock, IsChain}
-use Rattle.base.specs.Mount.{Mounts, frame_of, header_of}
+use Rattle.base.specs.Limits.{log_block_room}
+use Rattle.base.specs.Records.{bytes_of_records}
+use Rattle.base.specs.Chain.{Header, LogBlock, IsLogBlock, IsChain, next_header}
+use Rattle.base.specs.Mount.{Mounts, frame_of, header_of, apply_records, records_above}
 use Rattle.base.specs.HeldMounts.{MountsAgree}
 use Rattle.base.proofs.OneTree.{one-tree}
+use Rattle.base.proofs.RecordSpelling.{split, one-spelling}
 
 -- bytes are an uberblock of one list of fields at most
 one-reading : (bytes : List ℕ) (u v : Uberblock) → IsUberblock bytes u → IsUberblock bytes v → u ≡ v
@@ -64,25 +67,41 @@ one-name image guid group f g a b x y = by_label (cases_order x.label y.label)
     by_label (inr (inl less)) = absurd (y.lowest x.label a less (subst (λ (h : ℕ). IsConfig image x.label guid h a) found x.stands))
     by_label (inr (inr more)) = absurd (x.lowest y.label b more (subst (λ (h : ℕ). IsConfig image y.label guid h b) (sym found) y.stands))
 
--- where one chain is empty so is each
-no-chain : (image : List ℕ) (guid blocks chain : ℕ) (header : Header) (bs : List LogBlock) → IsChain image guid blocks chain header [] → IsChain image guid blocks chain header bs → bs ≡ []
-no-chain image guid blocks chain header [] none is = refl
-no-chain image guid blocks chain header (b ∷ bs) none is = absurd (none b is.0)
+-- a header names one log block
+one-block : (image : List ℕ) (guid blocks chain : ℕ) (header : Header) (b c : LogBlock) → IsLogBlock image guid blocks chain header b → IsLogBlock image guid blocks chain header c → b ≡ c
+one-block image guid blocks chain header b c x y =
+    let same : x.payload ≡ y.payload = sym x.sealed.payload_is ∙ y.sealed.payload_is in
+    let long : length (bytes_of_records b.records) ≡ length (bytes_of_records c.records) = sym x.fields.used ∙ ap (λ (l : List ℕ). number_at l 16) same ∙ y.fields.used in
+    let bytes = (split (bytes_of_records b.records) (bytes_of_records c.records) (replicate (log_block_room - length (bytes_of_records b.records)) 0) (replicate (log_block_room - length (bytes_of_records c.records)) 0) long
+    (sym x.fields.rest ∙ ap (λ (l : List ℕ). drop 24 l) same ∙ y.fields.rest)).0 in
+    let addresses : b.address ≡ c.address = x.address_is ∙ sym y.address_is in
+    let nexts : b.next ≡ c.next = sym x.fields.next_is ∙ ap (λ (l : List ℕ). number_at l 8) same ∙ y.fields.next_is in
+    let records : b.records ≡ c.records = one-spelling b.records c.records x.fields.allowed y.fields.allowed bytes in
+    λ i. record { address = addresses i; next = nexts i; records = records i }
 
--- by one uberblock and without a log the contents are the same
-one-contents : (image : List ℕ) (u : Uberblock) (c d : Contents) → Mounts image u [] c → Mounts image u [] d → d ≡ c
-one-contents image u c d x y =
-    let names : y.synced.name ≡ x.synced.name =
-    one-name image u.guid u.group y.found.pool.config_group x.found.pool.config_group y.synced.name x.synced.name y.found.pool.chosen x.found.pool.chosen in
-    let objects : y.synced.objects ≡ x.synced.objects = one-tree image (frame_of image u) y.synced.objects x.synced.objects u.root y.found.tree x.found.tree in
-    let same : y.synced ≡ x.synced = (λ i. record { name = names i; objects = objects i }) in
-    let of_c : Ok x.synced ≡ Ok c = x.applied in
-    let of_d : Ok y.synced ≡ Ok d = y.applied in
+-- so it begins one chain
+one-chain : (image : List ℕ) (guid blocks chain : ℕ) (header : Header) (bs cs : List LogBlock) → IsChain image guid blocks chain header bs → IsChain image guid blocks chain header cs → bs ≡ cs
+one-chain image guid blocks chain header [] [] x y = refl
+one-chain image guid blocks chain header [] (c ∷ cs) x y = absurd (x c y.0)
+one-chain image guid blocks chain header (b ∷ bs) [] x y = absurd (y b x.0)
+one-chain image guid blocks chain header (b ∷ bs) (c ∷ cs) x y =
+    let first : b ≡ c = one-block image guid blocks chain header b c x.0 y.0 in
+    let rest : bs ≡ cs = one-chain image guid blocks chain (next_header header b) bs cs x.1 (subst (λ (d : LogBlock). IsChain image guid blocks chain (next_header header d) cs) (sym first) y.1) in
+    λ i. first i ∷ rest i
+
+-- by one uberblock and chain the contents are the same
+one-contents : (image : List ℕ) (u : Uberblock) (chain : List LogBlock) (c d : Contents) → Mounts image u chain c → Mounts image u chain d → c ≡ d
+one-contents image u chain c d x y =
+    let names : x.synced.name ≡ y.synced.name =
+    one-name image u.guid u.group x.found.pool.config_group y.found.pool.config_group x.synced.name y.synced.name x.found.pool.chosen y.found.pool.chosen in
+    let objects : x.synced.objects ≡ y.synced.objects = one-tree image (frame_of image u) x.synced.objects y.synced.objects u.root x.found.tree y.found.tree in
+    let same : x.synced ≡ y.synced = (λ i. record { name = names i; objects = objects i }) in
+    let applied : Ok c ≡ Ok d = sym x.applied ∙ ap (λ (s : Contents). apply_records (records_above u.group chain) s) same ∙ y.applied in
     cc
 
 pub mounts_agree : MountsAgree
-mounts_agree image u v chain c d x y =
-    let same : v ≡ u = one-active image v u y.found.pool.active x.found.pool.active in
-    let z : Mounts image u chain d = subst (λ (w : Uberblock). Mounts image w chain d) same y in
-    let none : chain ≡ [] = no-chain image u.guid (block_count (length image)) u.import_number (header_of u) chain x.found.chain_is z.found.chain_is in
-    (same, none, one-contents image u c d x (subst (λ (bs : List LogBlock). Mounts image u bs d) none z))
+mounts_agree image u v chain other c d x y =
+    let same : u ≡ v = one-active image u v x.found.pool.active y.found.pool.active in
+    let z : Mounts image u other d = subst (λ (w : Uberblock). Mounts image w other d) (sym same) y in
+    let chains : chain ≡ other = one-chain image u.guid (block_count (length image)) u.import_number (header_of u) chain other x.found.chain_is z.found.chain_is in
+    (same, chains, one-contents image u chain c d x (subst (λ (bs : List LogBlock). Mounts image u bs d) (sym chains) z))

@@ -9,10 +9,10 @@ use Rattle.base.specs.Past.{Past}
 use Rattle.base.specs.Shown.{Shown}
 use Rattle.base.specs.Stored.{Held, IsHeld}
 
--- where an image mounts contents without a log, it mounts no others, and nothing with a log
+-- an image mounts one thing at most
 abbrev pub MountsAgree : Type 0
-MountsAgree = (image : List ℕ) (u v : Uberblock) (chain : List LogBlock) (contents others : Contents) → Mounts image u [] contents → Mounts image v chain others
-    → (v ≡ u) × (chain ≡ []) × (others ≡ contents)
+MountsAgree = (image : List ℕ) (u v : Uberblock) (chain other : List LogBlock) (contents others : Contents) → Mounts image u chain contents → Mounts image v other others
+    → (u ≡ v) × (chain ≡ other) × (contents ≡ others)
 
 -- the bytes mount, without a log, what the entries up to a group leave, by an uberblock of this group and of the pool
 pub record MountsUpTo (group : ℕ) (now : List ℕ) (s : Shown) (past : Past) : Type 0 where

@@ -29,7 +29,7 @@ pub fn suspended_pools_refuse()
     ensures { SuspendedPoolsRefuse }
 {}
 
-/// An image that mounts contents without a log mounts nothing else.
+/// An image mounts one thing at most: by one uberblock, one chain of log blocks and one tree.
 pub fn mounts_agree()
     ensures { MountsAgree }
 {}
