@@ -4,7 +4,7 @@ use Rattle.std.specs.Prelude.{Option, Some, None, Ok}
 use Rattle.base.specs.declared.pointer.Pointer.{Pointer}
 use Rattle.base.specs.Contents.{Contents}
 use Rattle.base.specs.History.{replay, entries_up_to}
-use Rattle.base.specs.Geometry.{block_count, IsBlockAddress}
+use Rattle.base.specs.Geometry.{block_count}
 use Rattle.base.specs.Blocks.{Frame}
 use Rattle.base.specs.Tree.{IsTree}
 use Rattle.base.specs.Uberblocks.{Uberblock}
@@ -12,19 +12,20 @@ use Rattle.base.specs.Mount.{IsChainOf, frame_of}
 use Rattle.base.specs.Past.{Past}
 use Rattle.base.specs.Shown.{Shown, SyncPlan, uberblock_of}
 use Rattle.base.specs.ShownLabels.{ShowsUberblock, ShowsSynced, ShowsSyncing, AreLabelsShown, HasNoLogBlock}
-use Rattle.base.specs.Stored.{NewTree, IsSyncing, RunsAs, Held, IsHeld, frame_at}
-use Rattle.base.specs.HeldMounts.{MountsUpTo, HeldMounts, IdleMounts}
+use Rattle.base.specs.Stored.{IsKept, NewTree, IsSyncing, RunsAs, Held, IsHeld, Calls, frame_at}
+use Rattle.base.specs.HeldMounts.{MountsUpTo, HeldMounts, IdleMounts, StepsWriteNoLog}
+use Rattle.base.specs.declared.step.Reply.TheVariants as reply
 use Rattle.base.proofs.BusyLocks.{Some-injective}
 use Rattle.base.proofs.PlacedTrees.{holds-tree}
 use Rattle.base.proofs.StoredTrees.{stored-synced_tree}
 use Rattle.base.proofs.StoredSyncs.{group-replayed, news}
+use Rattle.base.proofs.StoredCalls.{advance-no_log}
 
 -- an image without log blocks has no chain
-no_log-chain : (now : List ℕ) (blocks : ℕ) (u : Uberblock) → blocks ≡ block_count (length now) → HasNoLogBlock blocks now → IsChainOf now u []
-no_log-chain now blocks u counted none block is =
-    none u.log_address (subst (λ (n : ℕ). IsBlockAddress n u.log_address) (sym counted) is.in_area) is.sealed.kind_is
+no_log-chain : (now : List ℕ) (u : Uberblock) → HasNoLogBlock now → IsChainOf now u []
+no_log-chain now u none block is = none u.log_address is.in_area is.sealed.kind_is
 
-module _ (h : Held) (x : IsHeld h) where
+module _ (h : Held) (x : IsHeld h) (none : HasNoLogBlock h.now) where
   abbrev s : Shown
   s = h.state.shown
 
@@ -43,7 +44,7 @@ module _ (h : Held) (x : IsHeld h) where
       found = record {
         pool = record { geometry = x.kept.geometry; active = shows.active; config_group = shows.config_group; chosen = shows.chosen u.group (omega arith) };
         tree = subst (λ (r : Pointer). IsTree h.now (frame_of h.now u) r c.objects) (sym root_is) (subst (λ (f : Frame). IsTree h.now f root c.objects) frames tree);
-        chain_is = no_log-chain h.now s.blocks u x.kept.stored.blocks x.kept.no_log_block;
+        chain_is = no_log-chain h.now u none;
       };
       applied = refl;
     };
@@ -96,7 +97,25 @@ module _ (h : Held) (x : IsHeld h) where
   by_sync (Some new) y (inr (high, z)) = inr (syncing new y high z)
 
 pub held_mounts : HeldMounts
-held_mounts h x = by_sync h x h.running x.kept.sync x.kept.labels
+held_mounts h x none = by_sync h x none h.running x.kept.sync x.kept.labels
 
 pub idle_mounts : IdleMounts
-idle_mounts h x none = synced h x (subst (λ (o : Option NewTree). AreLabelsShown h.now h.state.shown o h.state.past) none x.kept.labels)
+idle_mounts h x none idle = synced h x none (subst (λ (o : Option NewTree). AreLabelsShown h.now h.state.shown o h.state.past) idle x.kept.labels)
+
+-- what a call of a sync leaves has no log block
+call-no_log : (old new : Held) (after : NewTree) → IsHeld old → Calls old new after → HasNoLogBlock old.now → HasNoLogBlock new.now
+call-no_log old new after x c = advance-no_log old.now old.state.shown old.pointers old.state.past x.explained c.before
+    (subst (λ (o : Option NewTree). IsKept old.now old.state.shown old.pointers o old.state.past) c.running x.kept) c.group new.now after c.syncing c.advances
+
+pub steps_write_no_log : StepsWriteNoLog
+steps_write_no_log (reply.Syncing group) old new x m none = subst HasNoLogBlock (sym m.same) none
+steps_write_no_log reply.More old new x m none = call-no_log old new m.0 x m.1 none
+steps_write_no_log (reply.Synced group) old new x m none = call-no_log old new m.0 x m.1 none
+steps_write_no_log (reply.Refused e) old new x m none = subst HasNoLogBlock (sym m.0) none
+steps_write_no_log reply.Done old new x m none = subst HasNoLogBlock (sym m.0) none
+steps_write_no_log (reply.Locked id) old new x m none = subst HasNoLogBlock (sym m.0) none
+steps_write_no_log (reply.Began tx group) old new x m none = subst HasNoLogBlock (sym m.0) none
+steps_write_no_log (reply.Committed receipt) old new x m none = subst HasNoLogBlock (sym m.0) none
+steps_write_no_log (reply.Bytes all) old new x m none = subst HasNoLogBlock (sym m.0) none
+steps_write_no_log (reply.Opened group) old new x m none = subst HasNoLogBlock (sym m.0) none
+steps_write_no_log (reply.Quiesced group) old new x m none = subst HasNoLogBlock (sym m.0) none

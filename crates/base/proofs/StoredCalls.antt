@@ -4,7 +4,7 @@ use Rattle.std.specs.Prelude.{Option, Some, Ok, slice_get, IfSome}
 use Rattle.std.proofs.lemmas.Option.{slice_get_within}
 use Rattle.base.specs.declared.pointer.Pointer.{Pointer}
 use Rattle.base.specs.History.{replay, entries_up_to}
-use Rattle.base.specs.Geometry.{slot_place, slot_of, IsGeometry, IsBlockAddress}
+use Rattle.base.specs.Geometry.{block_count, slot_place, slot_of, IsGeometry, IsBlockAddress}
 use Rattle.base.specs.Disk.{put}
 use Rattle.base.specs.Places.{Place}
 use Rattle.base.specs.PlannedTrees.{NewBlock}
@@ -14,7 +14,7 @@ use Rattle.base.specs.Shown.{Shown, SyncPlan, uberblock_of}
 use Rattle.base.specs.ExactNow.{IsExplainedNow}
 use Rattle.base.specs.SyncCalls.{PoolCall, IsCallAt, bytes_made}
 use Rattle.base.specs.SyncCalls.PoolCall.{Put, Settle}
-use Rattle.base.specs.ShownLabels.{ShowsUberblock, ShowsSyncing, AreLabelsShown}
+use Rattle.base.specs.ShownLabels.{ShowsUberblock, ShowsSyncing, AreLabelsShown, HasNoLogBlock}
 use Rattle.base.specs.Stored.{NewTree, IsKept, SameBlocks, AreUpTo, Advances}
 use Rattle.base.proofs.BusyLocks.{Some-injective}
 use Rattle.base.proofs.Put.{length-put}
@@ -39,7 +39,6 @@ module _ (now : List ℕ) (s : Shown) (pointers : Place → Pointer) (past : Pas
     sync = written-syncing now later s pointers past old b x.stored x.sync at refl;
     geometry = subst IsGeometry (sym (length-put b.address b.content now fits)) x.geometry;
     labels = shown x.labels;
-    no_log_block = written-no_log now later s pointers past old b x.stored x.sync at refl x.no_log_block;
   }
     where
       later : List ℕ
@@ -66,7 +65,6 @@ module _ (now : List ℕ) (s : Shown) (pointers : Place → Pointer) (past : Pas
     sync = same-syncing now now s pointers past old x.sync (behind is) (bound is) (no-change s.blocks now);
     geometry = x.geometry;
     labels = shown is x.labels;
-    no_log_block = x.no_log_block;
   }
     where
       behind : (old.done ≡ length old.blocks) ⊎ (old.done ≡ length old.blocks + 5) → length old.blocks ≤ old.done
@@ -93,9 +91,11 @@ module _ (now : List ℕ) (s : Shown) (pointers : Place → Pointer) (past : Pas
     fits : place + length old.slot ≤ length now
     fits = slot-fits now old.slot coming label x.geometry below x.sync.slot
 
+    all_same : SameBlocks (block_count (length now)) now later
+    all_same = label-put now label place old.slot x.geometry below (omega arith) (let long = x.sync.slot.size in let in_array = slot-below x.sync.group in omega (arith, long, in_array))
+
     same : SameBlocks s.blocks now later
-    same = subst (λ (n : ℕ). SameBlocks n now later) (sym x.stored.blocks)
-        (label-put now label place old.slot x.geometry below (omega arith) (let long = x.sync.slot.size in let in_array = slot-below x.sync.group in omega (arith, long, in_array)))
+    same = subst (λ (n : ℕ). SameBlocks n now later) (sym x.stored.blocks) all_same
 
     -- its group is the one after the synced one
     next : x.sync.group ≡ s.line.synced + 1
@@ -140,22 +140,40 @@ module _ (now : List ℕ) (s : Shown) (pointers : Place → Pointer) (past : Pas
       sync = same-syncing now later s pointers past old x.sync (omega (arith, at)) (omega (arith, at, below)) same;
       geometry = subst IsGeometry (sym same.size) x.geometry;
       labels = inr (omega (arith, at), shown x.labels);
-      no_log_block = same-no_log now later s pointers past x.no_log_block same;
     }
 
-  -- each call
-  pub advance-keeps : (group : ℕ) (later : List ℕ) (new : NewTree) → s.line.syncing ≡ Some group → Advances group now later old new → IsKept later s pointers (Some new) past
-  advance-keeps group later new syncing (call, is_call, made, one_more) =
-      subst (λ (n : NewTree). IsKept later s pointers (Some n) past) (sym one_more) (subst (λ (l : List ℕ). IsKept l s pointers (Some more) past) (sym made) (by_call is_call))
-    where
-      of_group : x.sync.group ≡ group
-      of_group = Some-injective (sym x.sync.syncing ∙ syncing)
+  -- the call that is made next
+  module _ (group : ℕ) (syncing : s.line.syncing ≡ Some group) (call : PoolCall) (is_call : IsCallAt (length now) group old old.done call) where
+    -- what holds after each kind of call holds after it
+    by_call : (P : List ℕ → Type 0) → ((b : NewBlock) → slice_get old.blocks old.done ≡ Some b → P (put b.address b.content now))
+        → ((label : ℕ) → label < 4 → old.done ≡ length old.blocks + 1 + label → P (put (slot_place (length now) label (slot_of x.sync.group)) old.slot now))
+        → ((old.done ≡ length old.blocks) ⊎ (old.done ≡ length old.blocks + 5) → P now) → P (bytes_made call now)
+    by_call P block slot flush = go is_call
+      where
+        told : (c : PoolCall) → call ≡ c → P (bytes_made c now) → P (bytes_made call now)
+        told c is kept = subst (λ (d : PoolCall). P (bytes_made d now)) (sym is) kept
 
-      told : (c : PoolCall) → call ≡ c → IsKept (bytes_made c now) s pointers (Some more) past → IsKept (bytes_made call now) s pointers (Some more) past
-      told c is kept = subst (λ (d : PoolCall). IsKept (bytes_made d now) s pointers (Some more) past) (sym is) kept
+        of_group : x.sync.group ≡ group
+        of_group = Some-injective (sym x.sync.syncing ∙ syncing)
 
-      by_call : IsCallAt (length now) group old old.done call → IsKept (bytes_made call now) s pointers (Some more) past
-      by_call (inl (b, at, is)) = told (Put b.address b.content) is (block-made b at)
-      by_call (inr (inl (label, below, at, is))) = told (Put (slot_place (length now) label (slot_of x.sync.group)) old.slot)
-          (is ∙ ap (λ (g : ℕ). Put (slot_place (length now) label (slot_of g)) old.slot) (sym of_group)) (slot-made label below at)
-      by_call (inr (inr (at, is))) = told Settle is (settle-made at)
+        go : IsCallAt (length now) group old old.done call → P (bytes_made call now)
+        go (inl (b, at, is)) = told (Put b.address b.content) is (block b at)
+        go (inr (inl (label, below, at, is))) = told (Put (slot_place (length now) label (slot_of x.sync.group)) old.slot)
+            (is ∙ ap (λ (g : ℕ). Put (slot_place (length now) label (slot_of g)) old.slot) (sym of_group)) (slot label below at)
+        go (inr (inr (at, is))) = told Settle is (flush at)
+
+  -- each call keeps what is kept
+  pub advance-keeps : (group : ℕ) (after : List ℕ) (new : NewTree) → s.line.syncing ≡ Some group → Advances group now after old new → IsKept after s pointers (Some new) past
+  advance-keeps group after new syncing (call, is_call, made, one_more) =
+      subst (λ (n : NewTree). IsKept after s pointers (Some n) past) (sym one_more)
+      (subst (λ (l : List ℕ). IsKept l s pointers (Some more) past) (sym made)
+      (by_call group syncing call is_call (λ l. IsKept l s pointers (Some more) past) block-made slot-made settle-made))
+
+  -- and writes no log block
+  pub advance-no_log : (group : ℕ) (after : List ℕ) (new : NewTree) → s.line.syncing ≡ Some group → Advances group now after old new → HasNoLogBlock now → HasNoLogBlock after
+  advance-no_log group after new syncing (call, is_call, made, one_more) none =
+      subst HasNoLogBlock (sym made)
+      (by_call group syncing call is_call HasNoLogBlock
+      (λ b at. written-no_log now (put b.address b.content now) s pointers past old b x.stored x.sync at refl none)
+      (λ label below at. same-no_log now (put (slot_place (length now) label (slot_of x.sync.group)) old.slot now) none (all_same label below at))
+      (λ at. none))

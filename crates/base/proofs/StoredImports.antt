@@ -1,9 +1,8 @@
 -- What an import that answers Ok keeps of its device: the tree that the image had, and no log.
 use Rattle.std.proofs.Common.{◌≡◌, ℕ, ◌+◌, ◌<◌, List, [], length, refl, ap, sym, subst, ◌∙◌, arith}
-use Rattle.std.specs.Prelude.{Option, None, IfSome, ◌≢◌, slice_get, unwrap_or, option_map}
+use Rattle.std.specs.Prelude.{Option, None, IfSome, slice_get, unwrap_or, option_map}
 use Rattle.base.specs.declared.pointer.Pointer.{Pointer}
 use Rattle.base.specs.Contents.{Contents}
-use Rattle.base.specs.Fields.{number_at}
 use Rattle.base.specs.Geometry.{block_count, IsGeometry, IsBlockAddress}
 use Rattle.base.specs.Blocks.{Frame}
 use Rattle.base.specs.Groups.{Line, Middle}
@@ -18,7 +17,7 @@ use Rattle.base.specs.Mount.{frame_of, header_of}
 use Rattle.base.specs.Past.{new_past}
 use Rattle.base.specs.Shown.{Shown}
 use Rattle.base.specs.Exact.{AreFree}
-use Rattle.base.specs.ShownLabels.{ShowsSynced, HasNoLogBlock}
+use Rattle.base.specs.ShownLabels.{ShowsSynced}
 use Rattle.base.specs.Stored.{IsKept, SameBlocks, AreUpTo, frame_at}
 use Rattle.base.proofs.KeptLists.{none_at}
 use Rattle.base.proofs.PlacedTrees.{holds-placed}
@@ -58,12 +57,6 @@ module _ (image now : List ℕ) (u : Uberblock) (contents : Contents) (pointers 
       (λ address. subst (λ (r : Pointer). IsInTree image r address → IsInTree now r address) root (import-there address))
       (λ address. subst (λ (r : Pointer). IsInTree now r address → IsInTree image r address) root (import-back address))
 
-  -- no block is a log block, where none was
-  pub import-no_log : HasNoLogBlock (block_count (length image)) image → HasNoLogBlock s.blocks now
-  import-no_log none address area =
-      let in_area : IsBlockAddress (block_count (length image)) address = subst (λ (n : ℕ). IsBlockAddress n address) is.blocks_are area in
-      subst (λ (l : List ℕ). number_at l 0 ≢ 6) (sym (same.each address in_area)) (none address in_area)
-
   -- The labels show the pool, where its uberblock is the active one and each label has its config.
   pub import-shows : (v : Uberblock) → IsActive now v → ((label : ℕ) → label < 4 → IsConfig now label v.guid v.group contents.name) → v.guid ≡ s.guid → v.group ≡ s.line.synced → v.import_number ≡ s.import_number
       → v.root ≡ s.root → header_of v ≡ s.log.next → ShowsSynced now s (new_past contents created dirty_max)
@@ -94,9 +87,9 @@ module _ (image now : List ℕ) (u : Uberblock) (contents : Contents) (pointers 
 
   -- with the empty past, the contents are those of the tree
   pub imported-stored : pointers Root ≡ s.root → AreFree now s → IsBlockAddress s.blocks s.log.next.address → (IsInTree now s.root s.log.next.address → ⊥)
-      → IsGeometry (length image) → HasNoLogBlock (block_count (length image)) image → ShowsSynced now s (new_past contents created dirty_max)
+      → IsGeometry (length image) → ShowsSynced now s (new_past contents created dirty_max)
       → IsKept now s pointers None (new_past contents created dirty_max)
-  imported-stored root free log_block apart geometry no_log shows = record {
+  imported-stored root free log_block apart geometry shows = record {
     stored = record {
       synced = contents;
       replayed = refl;
@@ -114,5 +107,4 @@ module _ (image now : List ℕ) (u : Uberblock) (contents : Contents) (pointers 
     sync = is.sync;
     geometry = subst IsGeometry (sym same.size) geometry;
     labels = shows;
-    no_log_block = import-no_log no_log;
   }

@@ -30,7 +30,7 @@ use Rattle.base.specs.Refusals as refusal
 use Rattle.base.specs.Steps as steps
 use Rattle.base.specs.Steps.{State, IsPlanned}
 use Rattle.base.specs.Stage as stage
-use Rattle.base.specs.ShownLabels.{ShowsSynced, AreLabelsShown, HasNoLogBlock}
+use Rattle.base.specs.ShownLabels.{ShowsSynced, AreLabelsShown}
 use Rattle.base.specs.Stored.{NewTree, IsStored, IsPlannedSync, IsSyncing, RunsAs, IsKept, AreBlocks, LeavesTree, IsUnwritten, AreUpTo, AreUsed, frame_at}
 use Rattle.base.proofs.BusyLocks.{Some-injective}
 use Rattle.base.proofs.CommitOrder.{no_refusal, ok-none}
@@ -171,7 +171,6 @@ idle-shows now s p pointers (Some new) idle y labels = absurd (let no_way : None
 pub record IsIdle (now : List ℕ) (s : Shown) (past : Past) : Type 0 where
   pub shows : ShowsSynced now s past
   pub geometry : IsGeometry (length now)
-  pub no_log_block : HasNoLogBlock s.blocks now
 
 -- what is stored stays as a sync starts, and the sync has written nothing yet
 pub start-state : (now : List ℕ) (moment group : ℕ) (plan : SyncPlan) (s : State) (pointers new : Place → Pointer) (bs : List NewBlock) (slot : List ℕ) → IsExplainedNow s.shown s.past → (x : IsStored now s.shown pointers s.past)
@@ -183,7 +182,6 @@ start-state now moment group plan s pointers new bs slot explained x idle_is mid
   sync = syncing;
   geometry = idle_is.geometry;
   labels = inl (omega arith, synced-state now s.shown t.shown s.past t.past idle_is.shows refl);
-  no_log_block = idle_is.no_log_block;
 }
   where
     t : State
@@ -256,7 +254,7 @@ start-keeps keeps bytes now moment group plan old new pointers made bs slot expl
     let d = done.1 in
     let line = start-line old.shown group done.0 d.1 in
     let same : d.0 ≡ plan = Some-injective (sym (ap (λ (u : State). u.shown.sync) d.4) ∙ runs) in
-    let idle : IsIdle now old.shown old.past = record { shows = idle-shows now old.shown old.past pointers running line.1 x.sync x.labels; geometry = x.geometry; no_log_block = x.no_log_block } in
+    let idle : IsIdle now old.shown old.past = record { shows = idle-shows now old.shown old.past pointers running line.1 x.sync x.labels; geometry = x.geometry } in
     subst (λ (u : State). IsKept now u.shown pointers (Some (record { pointers = made; blocks = bs; slot = slot; done = 0 })) u.past) (sym d.4)
     (start-state now moment group d.0 old pointers made bs slot explained x.stored idle line.0 line.1 d.2
     (subst (λ (q : SyncPlan). IsUberblock slot (uberblock_of old.shown group q)) (sym same) coded)

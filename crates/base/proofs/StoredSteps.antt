@@ -106,7 +106,6 @@ module _ (now : List ℕ) (s t : Shown) (pointers : Place → Pointer) (p q : Pa
     sync = runs running x.sync;
     geometry = x.geometry;
     labels = labels-state now s after p (record q { base = p.base; entries = p.entries }) running x.labels;
-    no_log_block = x.no_log_block;
   }
     where
       after : Shown
@@ -265,7 +264,6 @@ module _ (now : List ℕ) (pointers : Place → Pointer) (running : Option NewTr
             geometry = x.geometry;
             labels = subst (λ (o : Option NewTree). AreLabelsShown now t.shown o t.past) (sym off.0)
                 (synced-state now s t.shown p t.past (subst (λ (o : Option NewTree). AreLabelsShown now s o p) off.0 x.labels) (up_to_push s.line.synced p.entries e (transaction_above tx s p a explained there)));
-            no_log_block = x.no_log_block;
           }
 
   -- a device call of a sync was made, and more are left
@@ -275,7 +273,6 @@ module _ (now : List ℕ) (pointers : Place → Pointer) (running : Option NewTr
     sync = runs running x.sync;
     geometry = x.geometry;
     labels = shown running x.sync x.labels;
-    no_log_block = x.no_log_block;
   }
     where
       t : State

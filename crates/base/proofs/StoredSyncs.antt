@@ -249,7 +249,6 @@ end-state now s pointers new explained k done = record {
   sync = refl;
   geometry = k.geometry;
   labels = end-shows now s pointers new y x.no_log done k.labels;
-  no_log_block = k.no_log_block;
 }
   where
     x : IsStored now s.shown pointers s.past

@@ -97,6 +97,12 @@ outside-blocks Region blocks now later same out = record {
         let to : i < address + block_size = here.1 in
         omega (arith, at, below, to, behind)
 
+-- no block becomes a log block then
+pub same-no_log : (now later : List ℕ) → HasNoLogBlock now → SameBlocks (block_count (length now)) now later → HasNoLogBlock later
+same-no_log now later none same address area =
+    let before : IsBlockAddress (block_count (length now)) address = subst (λ (n : ℕ). IsBlockAddress (block_count n) address) same.size area in
+    subst (λ (l : List ℕ). number_at l 0 ≢ 6) (sym (same.each address before)) (none address before)
+
 -- so does no change at all
 pub no-change : (blocks : ℕ) (now : List ℕ) → SameBlocks blocks now now
 no-change blocks now = record { size = refl; each = λ address is. refl }
@@ -209,11 +215,14 @@ module _ (now later : List ℕ) (s : Shown) (pointers : Place → Pointer) (past
         ]
 
     -- which is no log block
-    pub written-no_log : HasNoLogBlock s.blocks now → HasNoLogBlock s.blocks later
-    written-no_log none address in_area = by_address (cases_order b.address address)
+    pub written-no_log : HasNoLogBlock now → HasNoLogBlock later
+    written-no_log none address area = by_address (cases_order b.address address)
       where
+        before : IsBlockAddress (block_count (length now)) address
+        before = subst (λ (n : ℕ). IsBlockAddress (block_count n) address) size area
+
         differs : b.address ≢ address → number_at (part later address block_size) 0 ≢ 6
-        differs differ = subst (λ (l : List ℕ). number_at l 0 ≢ 6) (sym (other address in_area differ)) (none address in_area)
+        differs differ = subst (λ (l : List ℕ). number_at l 0 ≢ 6) (sym (other address (subst (λ (n : ℕ). IsBlockAddress n address) (sym x.blocks) before) differ)) (none address before)
 
         by_address : (b.address ≡ address) ⊎ ((b.address < address) ⊎ (address < b.address)) → number_at (part later address block_size) 0 ≢ 6
         by_address (inl same) = subst (λ (l : List ℕ). number_at l 0 ≢ 6) (sym (ap (λ (a : ℕ). part later a block_size) (sym same) ∙ here)) (y.not_log new.done b at)
@@ -223,9 +232,6 @@ module _ (now later : List ℕ) (s : Shown) (pointers : Place → Pointer) (past
   -- each block is as it was
   pub same-stored : IsStored now s pointers past → SameBlocks s.blocks now later → IsStored later s pointers past
   same-stored x same = stored-along x same.size (blocks-along s.blocks now later pointers (stored-placed now s pointers past x) same)
-
-  pub same-no_log : HasNoLogBlock s.blocks now → SameBlocks s.blocks now later → HasNoLogBlock s.blocks later
-  same-no_log none same address in_area = subst (λ (l : List ℕ). number_at l 0 ≢ 6) (sym (same.each address in_area)) (none address in_area)
 
   -- a call of a running sync behind its blocks
   pub same-syncing : (new : NewTree) → IsSyncing now s pointers new past → length new.blocks ≤ new.done → new.done + 1 ≤ total_calls new → SameBlocks s.blocks now later

@@ -7,7 +7,9 @@ use Rattle.base.specs.Chain.{LogBlock}
 use Rattle.base.specs.Mount.{Mounts}
 use Rattle.base.specs.Past.{Past}
 use Rattle.base.specs.Shown.{Shown}
-use Rattle.base.specs.Stored.{Held, IsHeld}
+use Rattle.base.specs.declared.step.Reply.{Reply}
+use Rattle.base.specs.ShownLabels.{HasNoLogBlock}
+use Rattle.base.specs.Stored.{Held, IsHeld, Moves}
 
 -- an image mounts one thing at most
 abbrev pub MountsAgree : Type 0
@@ -24,12 +26,17 @@ pub record MountsUpTo (group : ℕ) (now : List ℕ) (s : Shown) (past : Past) :
   pub group_is : u.group ≡ group
   pub import_is : u.import_number ≡ s.import_number
 
--- the bytes of a pool's device mount the synced group; or, once a running sync has written an uberblock, the group of the sync
+-- The bytes of a pool's device, where no block is a log block, mount the synced group; or, once a running sync has written an
+-- uberblock, the group of the sync.
 abbrev pub HeldMounts : Type 0
-HeldMounts = (h : Held) → IsHeld h
+HeldMounts = (h : Held) → IsHeld h → HasNoLogBlock h.now
     → MountsUpTo h.state.shown.line.synced h.now h.state.shown h.state.past
     ⊎ ((group : ℕ) × (h.state.shown.line.syncing ≡ Some group) × MountsUpTo group h.now h.state.shown h.state.past)
 
 -- where no sync runs it is the synced group
 abbrev pub IdleMounts : Type 0
-IdleMounts = (h : Held) → IsHeld h → h.running ≡ None → MountsUpTo h.state.shown.line.synced h.now h.state.shown h.state.past
+IdleMounts = (h : Held) → IsHeld h → HasNoLogBlock h.now → h.running ≡ None → MountsUpTo h.state.shown.line.synced h.now h.state.shown h.state.past
+
+-- no step writes a log block
+abbrev pub StepsWriteNoLog : Type 0
+StepsWriteNoLog = (reply : Reply) (old new : Held) → IsHeld old → Moves reply old new → HasNoLogBlock old.now → HasNoLogBlock new.now

@@ -4,7 +4,7 @@ use Rattle.base.specs.declared.pointer.Pointer.{Pointer}
 use Rattle.base.specs.Contents.{Contents}
 use Rattle.base.specs.History.{replay, entries_up_to}
 use Rattle.base.specs.Fields.{part, number_at}
-use Rattle.base.specs.Geometry.{block_size, IsBlockAddress}
+use Rattle.base.specs.Geometry.{block_size, block_count, IsBlockAddress}
 use Rattle.base.specs.Uberblocks.{Uberblock, IsActive}
 use Rattle.base.specs.Labels.{IsChosen}
 use Rattle.base.specs.Chain.{Header}
@@ -57,6 +57,6 @@ AreLabelsShown now s None past = ShowsSynced now s past
 AreLabelsShown now s (Some new) past =
     ((new.done ≤ length new.blocks + 1) × ShowsSynced now s past) ⊎ ((length new.blocks + 1 < new.done) × ShowsSyncing now s past)
 
--- No block of the area is a log block, so that each chain is empty. (There is no log so far.)
-abbrev pub HasNoLogBlock : ℕ → List ℕ → Type 0
-HasNoLogBlock blocks now = (address : ℕ) → IsBlockAddress blocks address → number_at (part now address block_size) 0 ≢ 6
+-- No block of the area is a log block, so that each chain is empty. (Nothing writes a log so far.)
+abbrev pub HasNoLogBlock : List ℕ → Type 0
+HasNoLogBlock now = (address : ℕ) → IsBlockAddress (block_count (length now)) address → number_at (part now address block_size) 0 ≢ 6

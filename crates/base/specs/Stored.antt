@@ -20,7 +20,7 @@ use Rattle.base.specs.Past.{Past}
 use Rattle.base.specs.Uberblocks.{IsUberblock}
 use Rattle.base.specs.Shown.{Shown, SyncPlan, uberblock_of}
 pub use Rattle.base.specs.SyncCalls.{NewTree, Advances, total_calls}
-use Rattle.base.specs.ShownLabels.{AreLabelsShown, HasNoLogBlock}
+use Rattle.base.specs.ShownLabels.{AreLabelsShown}
 use Rattle.base.specs.Stage.{is_shape_built}
 use Rattle.base.specs.Exact.{AreFree}
 use Rattle.base.specs.ExactNow.{IsExplainedNow}
@@ -111,7 +111,6 @@ pub record IsKept (now : List ℕ) (s : Shown) (pointers : Place → Pointer) (r
   pub sync : RunsAs now s pointers running past
   pub geometry : IsGeometry (length now)
   pub labels : AreLabelsShown now s running past
-  pub no_log_block : HasNoLogBlock s.blocks now
 
 -- of so many blocks each is the same in both images
 pub record SameBlocks (blocks : ℕ) (before after : List ℕ) : Type 0 where

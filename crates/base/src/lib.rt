@@ -48,7 +48,7 @@ pub use status::Status;
 pub use step::{Reply, Step};
 pub use step_laws::{
     held_pools_mount, idle_pools_mount, mounts_agree, new_pools_are_explained, runs_keep_tables,
-    steps_keep_tables, suspended_pools_refuse, syncs_end_on_time,
+    steps_keep_tables, steps_write_no_log, suspended_pools_refuse, syncs_end_on_time,
 };
 
 #[cfg(test)]

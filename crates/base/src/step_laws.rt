@@ -1,7 +1,7 @@
 //! What each step keeps of a pool: each function's contract is a law, and its body does nothing.
 
 ghost use Rattle.base.specs.ExactNow.{StepsKeepTables, RunsKeepTables, NewPoolsAreExplained};
-ghost use Rattle.base.specs.HeldMounts.{MountsAgree, HeldMounts, IdleMounts};
+ghost use Rattle.base.specs.HeldMounts.{MountsAgree, HeldMounts, IdleMounts, StepsWriteNoLog};
 ghost use Rattle.base.specs.SyncEnds.{SuspendedPoolsRefuse, SyncsEndOnTime};
 
 /// Each step keeps what is shown of a pool exact, and its entries a history that leads to its contents.
@@ -34,8 +34,8 @@ pub fn mounts_agree()
     ensures { MountsAgree }
 {}
 
-/// At each moment between its steps the device of a pool mounts the synced group; or, once a running sync has written an
-/// uberblock, the group of the sync.
+/// Between two steps the device of a pool, where no block is a log block, mounts the synced group; or, once a running sync has
+/// written an uberblock, the group of the sync.
 pub fn held_pools_mount()
     ensures { HeldMounts }
 {}
@@ -43,4 +43,9 @@ pub fn held_pools_mount()
 /// While no sync runs it mounts the synced group.
 pub fn idle_pools_mount()
     ensures { IdleMounts }
+{}
+
+/// No step writes a log block.
+pub fn steps_write_no_log()
+    ensures { StepsWriteNoLog }
 {}
