@@ -1,4 +1,5 @@
--- What a pool keeps of its device: the synced tree with its pointers, the free blocks, and of a running sync the tree and the blocks that it plans.
+-- What a pool keeps of its device: the synced tree with its pointers, the free blocks, of a running sync the tree, the blocks and the
+-- uberblock that it writes, and what the labels show.
 use Rattle.std.specs.Prelude.{ℕ, ◌≡◌, ◌≢◌, ◌≤◌, ◌<◌, Bool, true, false, List, [], map, length, slice_get, All, Option, Some, None, IfSome, Ok}
 use Rattle.std.specs.List.{list_all}
 use Rattle.std.specs.Ordering.{nat_cmp}
