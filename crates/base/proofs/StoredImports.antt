@@ -41,13 +41,13 @@ new-shows now s contents created dirty_max v active configs guid group import ro
       active = active;
       config_group = v.group;
       chosen = λ bound above. record {
-            label = 0;
-            in_range = omega arith;
-            stands = configs 0 (omega arith);
-            not_above = above;
-            highest = λ k g other below within c. let same : g ≡ v.group = sym c.block.group_is ∙ (configs k below).block.group_is in omega (arith, same);
-            lowest = λ k other before c. omega (arith, before);
-          };
+        label = 0;
+        in_range = omega arith;
+        stands = configs 0 (omega arith);
+        not_above = above;
+        highest = λ k g other below within c. let same : g ≡ v.group = sym c.block.group_is ∙ (configs k below).block.group_is in omega (arith, same);
+        lowest = λ k other before c. omega (arith, before);
+      };
     };
     guid = guid;
     group_is = group;
