@@ -50,6 +50,8 @@ pub mod SyncOrder
 pub mod ExactNow
 pub mod SyncEnds
 pub mod Errors
+pub mod SyncCalls
+pub mod ShownLabels
 pub mod Stored
 pub mod Views
 pub mod Own
@@ -57,3 +59,4 @@ pub mod Spares
 pub mod PoolViews
 pub mod CallStages
 pub mod CrashRule
+pub mod HeldMounts
