@@ -43,7 +43,8 @@ pub fn create<D: SectorDevice>(
     ensures made { OnOk result (CanCreate (D.size device) name.now) }
     ensures count { IfOk result (λ d. D.refused d ≡ D.refused device) }
     ensures given_back { IfErr result (λ e. D.size e.1 ≡ D.size device) }
-    ensures untouched { IfErr result (λ e. (e.0 ≡ PoolError.BadGeometry) ⊎ (e.0 ≡ PoolError.BadRange) → e.1 ≡ device) }
+    ensures untouched { IfErr result
+        (λ e. (e.0 ≡ PoolError.BadGeometry) ⊎ (e.0 ≡ PoolError.BadRange) → e.1 ≡ device) }
     ensures refused { IfErr result (λ e. IsCreateRefusal (D.size device) name.now e.0) }
     ensures counted { IfErr result (λ e. D.refused e.1 ≡ with_refusal e.0 (D.refused device)) }
     ensures created { IfOk result (λ d. IsTrue D.keeps_model → IsCreatedOn (bytes_of (D.disk d).now) name.now guid) }
@@ -80,8 +81,8 @@ fn initialize<D: SectorDevice>(
     ensures size { D.size device.new ≡ D.size device.old }
     ensures count { D.refused device.new ≡ counted result (D.refused device.old) }
     ensures named { IfErr result (λ e. (e ≡ PoolError.Write) ⊎ (e ≡ PoolError.Flush)) }
-    ensures outside { IsTrue D.keeps_model → (start : Disk) → WritesPoolBytes geometry start (D.disk device.old)
-        → WritesPoolBytes geometry start (D.disk device.new) }
+    ensures outside { IsTrue D.keeps_model → (start : Disk)
+        → WritesPoolBytes geometry start (D.disk device.old) → WritesPoolBytes geometry start (D.disk device.new) }
     ensures labels { IsTrue D.keeps_model
         → OnOk result (IsLabelled geometry name guid moment (bytes_of (D.disk device.new).now)) }
     ensures settled { IsTrue D.keeps_model → OnOk result ((D.disk device.new).now.unflushed ≡ []) }
@@ -101,8 +102,8 @@ fn clear_labels<D: SectorDevice>(device: &mut D, geometry: Geometry) -> Result<(
     ensures size { D.size device.new ≡ D.size device.old }
     ensures count { D.refused device.new ≡ counted result (D.refused device.old) }
     ensures named { IfErr result (λ e. (e ≡ PoolError.Write) ⊎ (e ≡ PoolError.Flush)) }
-    ensures outside { IsTrue D.keeps_model → (start : Disk) → WritesPoolBytes geometry start (D.disk device.old)
-        → WritesPoolBytes geometry start (D.disk device.new) }
+    ensures outside { IsTrue D.keeps_model → (start : Disk)
+        → WritesPoolBytes geometry start (D.disk device.old) → WritesPoolBytes geometry start (D.disk device.new) }
     ensures cleared { IsTrue D.keeps_model → OnOk result (AreTailsCleared geometry 4 (bytes_of (D.disk device.new).now)) }
 {
     let zeros = zero_tail();
@@ -124,8 +125,8 @@ fn clear_blocks<D: SectorDevice>(device: &mut D, geometry: Geometry) -> Result<(
     ensures size { D.size device.new ≡ D.size device.old }
     ensures count { D.refused device.new ≡ counted result (D.refused device.old) }
     ensures named { IfErr result (λ e. (e ≡ PoolError.Write) ⊎ (e ≡ PoolError.Flush)) }
-    ensures outside { IsTrue D.keeps_model → (start : Disk) → WritesPoolBytes geometry start (D.disk device.old)
-        → WritesPoolBytes geometry start (D.disk device.new) }
+    ensures outside { IsTrue D.keeps_model → (start : Disk)
+        → WritesPoolBytes geometry start (D.disk device.old) → WritesPoolBytes geometry start (D.disk device.new) }
     ensures cleared { IsTrue D.keeps_model → AreTailsCleared geometry 4 (bytes_of (D.disk device.old).now)
         → OnOk result (IsCleared geometry (bytes_of (D.disk device.new).now)) }
 {
@@ -147,8 +148,8 @@ fn write_configs<D: SectorDevice>(
     ensures size { D.size device.new ≡ D.size device.old }
     ensures count { D.refused device.new ≡ counted result (D.refused device.old) }
     ensures named { IfErr result (λ e. (e ≡ PoolError.Write) ⊎ (e ≡ PoolError.Flush)) }
-    ensures outside { IsTrue D.keeps_model → (start : Disk) → WritesPoolBytes geometry start (D.disk device.old)
-        → WritesPoolBytes geometry start (D.disk device.new) }
+    ensures outside { IsTrue D.keeps_model → (start : Disk)
+        → WritesPoolBytes geometry start (D.disk device.old) → WritesPoolBytes geometry start (D.disk device.new) }
     ensures cleared { IsTrue D.keeps_model → IsCleared geometry (bytes_of (D.disk device.old).now)
         → OnOk result (IsCleared geometry (bytes_of (D.disk device.new).now)) }
     ensures configs { IsTrue D.keeps_model
@@ -173,8 +174,8 @@ fn write_uberblocks<D: SectorDevice>(
     ensures size { D.size device.new ≡ D.size device.old }
     ensures count { D.refused device.new ≡ counted result (D.refused device.old) }
     ensures named { IfErr result (λ e. (e ≡ PoolError.Write) ⊎ (e ≡ PoolError.Flush)) }
-    ensures outside { IsTrue D.keeps_model → (start : Disk) → WritesPoolBytes geometry start (D.disk device.old)
-        → WritesPoolBytes geometry start (D.disk device.new) }
+    ensures outside { IsTrue D.keeps_model → (start : Disk)
+        → WritesPoolBytes geometry start (D.disk device.old) → WritesPoolBytes geometry start (D.disk device.new) }
     ensures labels { IsTrue D.keeps_model → IsCleared geometry (bytes_of (D.disk device.old).now) → (name : List ℕ)
         → HoldConfig geometry 4 (first_config name guid geometry) (bytes_of (D.disk device.old).now)
         → OnOk result (IsLabelled geometry name guid moment (bytes_of (D.disk device.new).now)) }

@@ -98,7 +98,8 @@ pub fn import<D: SectorDevice>(
 
     // A refusal by size or limit leaves the device as it was, and one before the first write the disk as it was and flushed.
     // Where the device refused a write or a flush, the disk is what the calls before it made of it.
-    ensures untouched { IfErr result (λ e. (e.0 ≡ PoolError.BadGeometry) ⊎ (e.0 ≡ PoolError.BadRange) → e.1 ≡ device) }
+    ensures untouched { IfErr result
+        (λ e. (e.0 ≡ PoolError.BadGeometry) ⊎ (e.0 ≡ PoolError.BadRange) → e.1 ≡ device) }
     ensures unchanged { IsTrue D.keeps_model → IfErr result (λ e. IsReadingRefusal e.0
         → D.disk e.1 ≡ certain (bytes_of (D.disk device).now) (D.disk device)) }
     ensures stopped { IsTrue D.keeps_model → IfErr result (λ e. IsSyncRefusal e.0
