@@ -7,7 +7,7 @@ use Rattle.base.specs.Disk.{Disk, IsInRange, Moment, bytes_of, moments, settled,
 use Rattle.base.specs.Geometry.{IsGeometry, IsWritable, block_address, block_count, label_place, slot_place}
 use Rattle.base.proofs.Moments.{each_flush, each_write, starts}
 use Rattle.base.proofs.Put.{get_or-put_other, length-put}
-use Rattle.labels.proofs.Places.{blocks-end, label-on_device}
+use Rattle.base.proofs.Geometry.{blocks-end, label-on_device}
 use Rattle.import_replay.specs.Outside.{IsPoolByte, KeepsOutside, WritesPoolBytes}
 
 module _ (Region : ℕ → Type 0) (start : Moment) where
