@@ -241,7 +241,7 @@ fn each_read_that_fails_is_told(rt: HostRuntime) -> Result<(), Fail> {
     }
     let loaded = load_from(rt.alloc(), &mut device, root)?;
     assert!(rt; loaded.slots[1].present);
-    assert!(rt; loaded.slots[1].bytes.as_slice() == b"abcd");
+    assert!(rt; loaded.slots[1].bytes.as_slice() == b"abcd".as_slice());
     assert!(rt; !loaded.slots[0].present);
     Ok(())
 }
