@@ -55,3 +55,6 @@ pub mod StoredWrites
 pub mod StoredImports
 pub mod StoredRuns
 pub mod SyncEnds
+pub mod SeenStates
+pub mod SeenGroups
+pub mod SeenRefusals

@@ -16,7 +16,7 @@ use Rattle.base.specs.Stage as stage
 use Rattle.base.specs.Steps as steps
 use Rattle.base.specs.Steps.{State, Answers, Progress}
 use Rattle.base.specs.Steps.Progress.{More, Synced}
-use Rattle.base.specs.ExactNow.{IsRun}
+use Rattle.base.specs.ExactNow.{IsRun, GoesOn}
 use Rattle.base.specs.SyncEnds.{IsAnswer, is_refusal, sync_replies, sync_reply}
 
 -- where the first refusal is that the pool is suspended, that is the answer, and nothing changes
@@ -46,16 +46,23 @@ suspended_step now step.MarkQuiesced r old new is (answer, told, h) = suspended_
 suspended_step now (step.StartSync moment) r old new is (answer, told, h) = suspended_reply _ (refusal.start_refusal old.shown) r answer old new _ _ (rw is refl) told h
 suspended_step now step.SyncStep r old new is (answer, told, h) = suspended_reply _ (refusal.sync_step_refusal old.shown) r answer old new _ _ (rw is refl) told h
 
-pub suspended_pools_refuse : (ss : List declared_step.Step) (rs : List Reply) (s new : State) → s.shown.suspended ≡ true → IsRun ⊥ ss rs s new
+suspended_run : (ss : List declared_step.Step) (rs : List Reply) (s new : State) → s.shown.suspended ≡ true → IsRun ⊥ ss rs s new
     → (new ≡ s) × (rs ≡ replicate (length ss) (reply.Refused error.Suspended))
-suspended_pools_refuse [] [] s new is h = (h, refl)
-suspended_pools_refuse (x ∷ ss) (r ∷ rs) s new is (middle, (now, one), rest) =
+suspended_run [] [] s new is h = (h, refl)
+suspended_run (x ∷ ss) (r ∷ rs) s new is (middle, (now, one), rest) =
     let first = suspended_step now x r s middle is one in
     let still : middle.shown.suspended ≡ true = ap (λ (t : State). t.shown.suspended) first.0 ∙ is in
-    let others = suspended_pools_refuse ss rs middle new still rest in
+    let others = suspended_run ss rs middle new still rest in
     (others.0 ∙ first.0, ap (λ (y : Reply). y ∷ rs) first.1 ∙ ap (λ (l : List Reply). reply.Refused error.Suspended ∷ l) others.1)
-suspended_pools_refuse [] (r ∷ rs) s new is h = absurd h
-suspended_pools_refuse (x ∷ ss) [] s new is h = absurd h
+suspended_run [] (r ∷ rs) s new is h = absurd h
+suspended_run (x ∷ ss) [] s new is h = absurd h
+
+pub suspended_pools_stay : (s new : State) → s.shown.suspended ≡ true → GoesOn s new → new ≡ s
+suspended_pools_stay s new is (ss, rs, run) = (suspended_run ss rs s new is run).0
+
+pub suspended_pools_refuse : (ss : List declared_step.Step) (rs : List Reply) (s new : State) → s.shown.suspended ≡ true → IsRun ⊥ ss rs s new
+    → rs ≡ replicate (length ss) (reply.Refused error.Suspended)
+suspended_pools_refuse ss rs s new is run = (suspended_run ss rs s new is run).1
 
 -- a sync that runs in a pool that is not suspended, with so many steps left
 abbrev Runs : State → ℕ → ℕ → Type 0

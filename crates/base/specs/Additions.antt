@@ -1,44 +1,36 @@
--- What a step, by its reply, adds to the history and the lists of a run.
+-- What a step makes of the past of a run: a function of the step, its reply and the state before it.
 use Rattle.std.specs.Prelude.{ℕ, ◌≡◌, ◌++◌, List, [], ◌∷◌}
-use Rattle.base.specs.declared.step.Step.{Step}
+use Rattle.base.specs.declared.step.Step as declared_step
 use Rattle.base.specs.declared.step.Step.TheVariants as step
-use Rattle.base.specs.declared.step.Reply.{Reply}
+use Rattle.base.specs.declared.step.Reply as declared_reply
 use Rattle.base.specs.declared.step.Reply.TheVariants as reply
-use Rattle.base.specs.History.{Entry}
-use Rattle.base.specs.Locks.{Grant}
-use Rattle.base.specs.Groups.{Admission}
-use Rattle.base.specs.Past.{Past}
+use Rattle.base.specs.Past.{Past, Grows, ordinals_of}
 use Rattle.base.specs.Refusals.{object_range}
+use Rattle.base.specs.Runs.{Step}
+use Rattle.base.specs.Steps.{State}
+use Rattle.base.specs.ExactNow.{IsRun}
 
--- the entry of a commit that was answered a receipt
-abbrev pub entries_added : Step → Reply → List Entry
-entries_added (step.Commit tx ops) (reply.Committed receipt) = record { group = receipt.group.0; tx = tx.0; ops = ops } ∷ []
-entries_added _ _ = []
+-- The past after a step. A commit adds its entry, a lock its grant, an unlock the name that is let go and a begin its admission; the step
+-- that answers that a group is synced, and no other of these, acknowledges entries: those of that group. A good flush of the log, once it
+-- is a step, acknowledges the ordinals that await one in the log of the state before. No refusal adds anything.
+abbrev pub past_after : declared_step.Step → declared_reply.Reply → State → Past
+past_after (step.Lock owner n range mode) (reply.Locked id) s =
+    record s.past { grants = s.past.grants ++ record { id = id.0; owner = owner.0; range = object_range n.0 range.low range.high; mode = mode } ∷ [] }
+past_after (step.Unlock owner id) reply.Done s = record s.past { let_go = s.past.let_go ++ id.0 ∷ [] }
+past_after (step.Begin owner plan) (reply.Began tx group) s =
+    record s.past { admissions = s.past.admissions ++ record { tx = tx.0; group = group.0; owner = owner.0; plan = plan } ∷ [] }
+past_after (step.Commit tx ops) (reply.Committed receipt) s =
+    record s.past { entries = s.past.entries ++ record { group = receipt.group.0; tx = tx.0; ops = ops } ∷ [] }
+past_after step.SyncStep (reply.Synced group) s =
+    record s.past { acknowledged = s.past.acknowledged ++ ordinals_of group.0 s.past.entries }
+past_after _ _ s = s.past
 
--- the grant of a lock that was answered a name
-abbrev pub grants_added : Step → Reply → List Grant
-grants_added (step.Lock owner n range mode) (reply.Locked id) = record { id = id.0; owner = owner.0; range = object_range n.0 range.low range.high; mode = mode } ∷ []
-grants_added _ _ = []
+-- after each step, over whichever device, the past is that one
+abbrev pub PastsAreTold : Type 0
+PastsAreTold = (now : List ℕ) (step : declared_step.Step) (reply : declared_reply.Reply) (old new : State) → Step ⊥ now step reply old new
+    → new.past ≡ past_after step reply old
 
--- the name of a lock whose unlock was answered Ok
-abbrev pub let_go_added : Step → Reply → List ℕ
-let_go_added (step.Unlock owner id) reply.Done = id.0 ∷ []
-let_go_added _ _ = []
-
--- the admission of a begin that was answered a name and a group
-abbrev pub admissions_added : Step → Reply → List Admission
-admissions_added (step.Begin owner plan) (reply.Began tx group) = record { tx = tx.0; group = group.0; owner = owner.0; plan = plan } ∷ []
-admissions_added _ _ = []
-
--- a step adds to a past what its reply says, and no other; what is acknowledged only grows
-pub record Adds (s : Step) (r : Reply) (old new : Past) : Type 0 where
-  pub base : new.base ≡ old.base
-  pub created : new.created ≡ old.created
-  pub dirty_max : new.dirty_max ≡ old.dirty_max
-  pub entries : new.entries ≡ old.entries ++ entries_added s r
-  pub grants : new.grants ≡ old.grants ++ grants_added s r
-  pub let_go : new.let_go ≡ old.let_go ++ let_go_added s r
-  pub admissions : new.admissions ≡ old.admissions ++ admissions_added s r
-  pub aborted : new.aborted ≡ old.aborted
-  pub more : List ℕ
-  pub acknowledged : new.acknowledged ≡ old.acknowledged ++ more
+-- so from step to step the past only grows
+abbrev pub PastsGrow : Type 0
+PastsGrow = (steps : List declared_step.Step) (replies : List declared_reply.Reply) (old new : State) → IsRun ⊥ steps replies old new
+    → Grows old.past new.past

@@ -4,7 +4,7 @@ use Rattle.base.specs.declared.step.Step as declared_step
 use Rattle.base.specs.declared.step.Reply as declared_reply
 use Rattle.base.specs.Limits.{last_number}
 use Rattle.base.specs.Contents.{Contents}
-use Rattle.base.specs.History.{IsHistory}
+use Rattle.base.specs.History.{IsHistory, IsInGroupOrder}
 use Rattle.base.specs.Uberblocks.{Uberblock}
 use Rattle.base.specs.Past.{Past, new_past}
 use Rattle.base.specs.Shown.{Shown}
@@ -17,6 +17,7 @@ use Rattle.base.specs.Imports.{IsImported}
 pub record IsExactNow (s : Shown) (past : Past) : Type 0 where
   pub locks : AreLocksExact s past
   pub groups : AreGroupsExact s past
+  pub order : IsInGroupOrder past.entries
   pub isolated : AreIsolated s past
   pub log : IsLogExact s past
   pub bounded : IsBounded s.contents
@@ -31,6 +32,10 @@ pub record IsExplainedNow (s : Shown) (past : Past) : Type 0 where
 -- steps one after another, each over some bytes of a device
 abbrev pub IsRun : Type 0 → List declared_step.Step → List declared_reply.Reply → State → State → Type 0
 IsRun keeps = Run (λ step reply old new. (now : List ℕ) × Step keeps now step reply old new)
+
+-- some steps with some replies lead from the one state to the other, over devices of which nothing is known
+abbrev pub GoesOn : State → State → Type 0
+GoesOn before after = (steps : List declared_step.Step) × (replies : List declared_reply.Reply) × IsRun ⊥ steps replies before after
 
 -- each step keeps this, over a device of which nothing is known: the steps over a device that keeps the disk model are among these
 abbrev pub StepsKeepTables : Type 0

@@ -42,6 +42,7 @@ pub mod Imports
 pub mod Readers
 pub mod Additions
 pub mod Seen
+pub mod SeenLaws
 pub mod Layout
 pub mod Crashes
 pub mod SyncOrder

@@ -7,7 +7,7 @@ use Rattle.base.specs.declared.step.Reply.{Reply}
 use Rattle.base.specs.declared.step.Reply.TheVariants as reply
 use Rattle.base.specs.Shown.{SyncPlan}
 use Rattle.base.specs.Steps.{State}
-use Rattle.base.specs.ExactNow.{IsRun}
+use Rattle.base.specs.ExactNow.{IsRun, GoesOn}
 
 abbrev pub is_refusal : Reply → Bool
 is_refusal (reply.Refused e) = true
@@ -33,7 +33,11 @@ SyncsEndOnTime = (s new : State) (group : ℕ) (plan : SyncPlan) (replies : List
     → IsRun ⊥ (replicate (length replies) step.SyncStep) replies s new → All IsAnswer replies → length replies ≤ plan.steps_left
     → replies ≡ take (length replies) (sync_replies group plan.steps_left)
 
--- a suspended pool refuses each step, and nothing changes
+-- a suspended pool stays as it is, whatever the steps
+abbrev pub SuspendedPoolsStay : Type 0
+SuspendedPoolsStay = (s new : State) → s.shown.suspended ≡ true → GoesOn s new → new ≡ s
+
+-- It refuses each step that is built: all but the three that only tell something of the pool, which are not among them yet.
 abbrev pub SuspendedPoolsRefuse : Type 0
 SuspendedPoolsRefuse = (steps : List declared_step.Step) (replies : List Reply) (s new : State) → s.shown.suspended ≡ true → IsRun ⊥ steps replies s new
-    → (new ≡ s) × (replies ≡ replicate (length steps) (reply.Refused error.Suspended))
+    → replies ≡ replicate (length steps) (reply.Refused error.Suspended)

@@ -14,6 +14,7 @@ mod pointer;
 mod pool_name;
 mod range;
 mod refused;
+mod seen_laws;
 mod status;
 mod step;
 mod step_laws;
@@ -44,11 +45,16 @@ pub use pointer::Pointer;
 pub use pool_name::{MAX_NAME, PoolName, is_name};
 pub use range::{Mode, Range};
 pub use refused::RefusedCalls;
+pub use seen_laws::{
+    begins_are_seen, commits_are_seen, contents_are_between, durable_is_known, groups_go_up,
+    locks_are_seen, pool_syncs_sync, reads_are_seen, refusals_suspend, suspensions_are_seen,
+    unlocks_are_seen,
+};
 pub use status::Status;
 pub use step::{Reply, Step};
 pub use step_laws::{
-    new_pools_are_explained, runs_keep_tables, steps_keep_tables, suspended_pools_refuse,
-    syncs_end_on_time,
+    new_pools_are_explained, pasts_are_told, pasts_grow, runs_keep_tables, steps_keep_tables,
+    suspended_pools_refuse, suspended_pools_stay, syncs_end_on_time,
 };
 
 #[cfg(test)]

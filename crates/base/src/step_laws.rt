@@ -1,7 +1,8 @@
 //! What each step keeps of a pool: each function's contract is a law, and its body does nothing.
 
+ghost use Rattle.base.specs.Additions.{PastsAreTold, PastsGrow};
 ghost use Rattle.base.specs.ExactNow.{StepsKeepTables, RunsKeepTables, NewPoolsAreExplained};
-ghost use Rattle.base.specs.SyncEnds.{SuspendedPoolsRefuse, SyncsEndOnTime};
+ghost use Rattle.base.specs.SyncEnds.{SuspendedPoolsRefuse, SuspendedPoolsStay, SyncsEndOnTime};
 
 /// Each step keeps what is shown of a pool exact, and its entries a history that leads to its contents.
 pub fn steps_keep_tables()
@@ -23,7 +24,22 @@ pub fn syncs_end_on_time()
     ensures { SyncsEndOnTime }
 {}
 
-/// A suspended pool refuses each step, and nothing changes.
+/// A suspended pool stays as it is.
+pub fn suspended_pools_stay()
+    ensures { SuspendedPoolsStay }
+{}
+
+/// It refuses each step that is built: name, status and durable, which are never refused, are not among them yet.
 pub fn suspended_pools_refuse()
     ensures { SuspendedPoolsRefuse }
+{}
+
+/// The past after a step is told by the step, its reply and the state before it, over whichever device.
+pub fn pasts_are_told()
+    ensures { PastsAreTold }
+{}
+
+/// From step to step the past only grows.
+pub fn pasts_grow()
+    ensures { PastsGrow }
 {}
