@@ -7,6 +7,7 @@ pub mod LockSteps
 pub mod Flags
 pub mod CommitSteps
 pub mod ReadSteps
+pub mod OfNoDevice
 pub mod Opens
 pub mod RepliedSteps
 pub mod ExplainedRuns

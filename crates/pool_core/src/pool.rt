@@ -113,7 +113,9 @@ impl Pool {
     ghost use Rattle.import_replay.specs.Mounts.{shown_of_import};
     ghost use Rattle.std.specs.Prelude.{ℕ, List};
     ghost use Rattle.base.specs.Disk.{bytes_of};
-    ghost use Rattle.pool_core.specs.Calls.{CallsNext};
+    ghost use Rattle.base.specs.Calls.{counted};
+    ghost use Rattle.sync.specs.Calls.{plain_answer};
+    ghost use Rattle.pool_core.specs.Calls.{CallsNext, IsOfNoDevice};
     ghost use Rattle.pool_core.specs.Holds.{LacksBlocks, Leads, MeetsHeld, TakesInOrder, held_with, start_reply, sync_reply, told_of};
     ghost use Rattle.pool_core.specs.Lines.{MayNotStart, MayStart, line_of};
     ghost use Rattle.pool_core.specs.Meets.{MayCommit, Meets, MeetsExplained};
@@ -360,7 +362,7 @@ impl Pool {
     /// In this order: `Suspended`; `BadRange` where the number or the range is outside its limits; `NotLocked` where no one
     /// lock of the owner covers the range; `NoObject`; `NoMemory`.
     pub fn read(&self, owner: Owner, object: ObjectId, range: Range) -> Result<Bytes, PoolError>
-        ensures { Meets (steps.Read (Unit {0}) owner.0 (object_range object.0 range.low range.high)) result (shown_of self.now) (shown_of self.now) }
+        ensures { Meets (stage.Read owner.0 (object_range object.0 range.low range.high)) result (shown_of self.now) (shown_of self.now) }
     {
         self.check_running()?;
         if !is_readable(object, range) {
@@ -422,6 +424,7 @@ impl Pool {
         ensures order { (now : List ℕ) (past : Past) → IsHeld (held_with (told_of now self.old) past) → IfOk result (λ group. TakesInOrder group.0 past (told_of now self.old) (told_of now self.new)) }
         ensures no_space { (now : List ℕ) (past : Past) → IsHeld (held_with (told_of now self.old) past) → IfErr result (λ e. e ≡ PoolError.NoSpace → LacksBlocks past (told_of now self.old)) }
         ensures leads { (now : List ℕ) → Leads (start_reply result) (told_of now self.old) (told_of now self.new) }
+        ensures refusal { IsOfNoDevice result }
     {
         self.check_running()?;
         let group = self.check_start()?;
@@ -531,7 +534,8 @@ impl Pool {
         ensures size { D.size device.new ≡ D.size device.old }
         ensures geometry { self.new.geometry ≡ self.old.geometry }
         ensures step { Meets steps.SyncStep (result_map progress_of result) (shown_of self.old) (shown_of self.new) }
-        ensures called { IsTrue D.keeps_model → CallsNext self.old.suspended self.old.sync (D.disk device.old) result (D.disk device.new) }
+        ensures called { CallsNext (IsTrue D.keeps_model) D.disk self.old (plain_answer result) device.old device.new }
+        ensures count { D.refused device.new ≡ counted result (D.refused device.old) }
         ensures leads { IsTrue D.keeps_model → Leads (sync_reply result) (told_of (bytes_of (D.disk device.old).now) self.old) (told_of (bytes_of (D.disk device.new).now) self.new) }
     {
         self.check_running()?;

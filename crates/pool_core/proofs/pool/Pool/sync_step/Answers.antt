@@ -130,7 +130,7 @@ returns-in-Err-clause-step g c =
     let same : Some (record plan { steps_left = call_count c.next.new.self - c.next.new.self.done; taken = map (λ (b : PlannedBlock). block_address b.index) c.next.new.self.blocks.items }) ≡ s.sync =
     (λ k. Some (record plan { steps_left = steps k; taken = taken k })) ∙ sym running in
     step_failed s _ c.in-Some.running.group.0 plan c.in-Err.error c.in_ok-check_running.ensures syncing
-    (refused_as told.there.0 c.in-Err.error ((told.count told.there.0 told.there.1).named))
+    (refused_as told.there.0 c.in-Err.error (told.refusal told.there.0 told.there.1))
     (λ k. record s { suspended = true; sync = same k })
 
 pub returns-in_err-check_running-clause-leads : goal.returns-in_err-check_running-clause-leads
@@ -177,3 +177,32 @@ returns-in-Err-clause-leads g c = λ keeps past later.
     let before = g.D.SectorDevice.disk c.args.device.now in
     let after = g.D.SectorDevice.disk c.next.new.device in
     (failed_same r.run told.there.0 c.in-Err.error before after (block_count pool.geometry) (told.called keeps told.there.0 told.there.1), refl, failed_running pool r c.next.new.self is told.sync told.done)
+
+pub returns-in_err-check_running-clause-called : goal.returns-in_err-check_running-clause-called
+returns-in_err-check_running-clause-called g c = rw c.in_err-check_running.ensures.1 refl
+
+pub returns-in_default-clause-called : goal.returns-in_default-clause-called
+returns-in_default-clause-called g c = rw (c.in_ok-check_running.ensures, sym c.in_default.ensures.value) refl
+
+pub returns-in-Ok-true-clause-called : goal.returns-in-Ok-true-clause-called
+returns-in-Ok-true-clause-called g c =
+    let told = c.in-Ok-true.ensures in
+    rw (c.in_ok-check_running.ensures, sym c.in-Some.ensures.value)
+    (record { call = told.there.0; next = told.there.1; refusal = tt; made = λ keeps. told.called keeps told.there.0 told.there.1 })
+
+pub returns-in-Ok-false-clause-called : goal.returns-in-Ok-false-clause-called
+returns-in-Ok-false-clause-called g c =
+    let told = c.in-Ok-false.ensures in
+    rw (c.in_ok-check_running.ensures, sym c.in-Some.ensures.value)
+    (record { call = told.there.0; next = told.there.1; refusal = tt; made = λ keeps. told.called keeps told.there.0 told.there.1 })
+
+pub returns-in-Err-clause-called : goal.returns-in-Err-clause-called
+returns-in-Err-clause-called g c =
+    let told = c.in-Err.ensures in
+    rw (c.in_ok-check_running.ensures, sym c.in-Some.ensures.value)
+    (record { call = told.there.0; next = told.there.1; refusal = told.refusal told.there.0 told.there.1; made = λ keeps. told.called keeps told.there.0 told.there.1 })
+
+pub returns-in_err-check_running-clause-count : goal.returns-in_err-check_running-clause-count
+returns-in_err-check_running-clause-count g c =
+    let p = err_from_is_err_and c.from_residual.result c.from_residual.ensures.1 in
+    rw (p.1, p.2, c.in_err-check_running.ensures.0) refl
