@@ -12,4 +12,5 @@ pub mod Areas
 pub mod Pointers
 pub mod Progresses
 pub mod Calls
+pub mod Turns
 pub mod NewStates
