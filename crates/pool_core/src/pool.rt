@@ -27,6 +27,7 @@ ghost use Rattle.pool_core.specs.GroupPlans.{IsPlannedFrom, IsShortOfBlocks};
 ghost use Rattle.object_maps.specs.ContentsShown.{contents_of};
 ghost use Rattle.pool_core.specs.Numbers.{IsGroup};
 ghost use Rattle.pool_core.specs.Pointers.{pointers_after};
+ghost use Rattle.pool_core.specs.RunningUberblocks.{WritesUberblock, uberblock_with};
 ghost use Rattle.space.specs.FreeSets.{addresses_from, free_of};
 ghost use Rattle.object_maps.specs.Pointers.{pointers_of};
 ghost use Rattle.tree_plans.specs.declared.planner.Committed.{Committed};
@@ -103,6 +104,7 @@ pub struct Pool {
     ghost next_ordinal_fits: { next_ordinal ≤ 2 ^ 60 + 1 },
     ghost plans_built: { All (λ (t : OpenTransaction). is_plan_built t.plan ≡ true) transactions.items },
     ghost running: { ForSome sync (λ r. (r.run.geometry ≡ geometry) × (r.run.done < call_count r.run)) },
+    ghost uberblock: { ForSome sync (λ r. WritesUberblock (uberblock_with guid import_number log_address r.group.0 r.moment r.root) r.run) },
     ghost planned: { ForSome sync (λ r. ∥ ArePlaced (block_count geometry) (pointers_after r.root r.directories.items r.maps tree) ∥₁) },
     ghost sync_line: { option_map (λ r. r.group.0) sync ≡ option_map (λ g. g.0) groups.syncing } by { Prim.hlevel props },
     ghost pending_built: { All (λ (c : Committed). list_any is_rename c.ops ≡ false) pending.items },
@@ -485,6 +487,9 @@ impl Pool {
         ensures maps { result.maps ≡ planned.maps }
         ensures directories { result.directories ≡ planned.directories }
         ensures root { result.root ≡ planned.root }
+        ensures uberblock { WritesUberblock (uberblock_with self.now.guid self.now.import_number self.now.log_address
+            group.0 moment planned.root) result.run }
+        ensures moment { result.moment ≡ moment }
         ensures plan { plan_of self.now.log_address result ≡ new_plan moment self.now.log_address (map address_of planned.blocks.items) planned.freed.items planned.root }
     {
         // Labels lie apart from the blocks, as the size is one of a pool's device.

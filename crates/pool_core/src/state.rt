@@ -45,16 +45,19 @@ impl<D: SectorDevice> PoolState<D> {
     ghost use Rattle.pool_core.specs.Calls.{CallsNext};
     ghost use Rattle.pool_core.specs.Holds.{LacksBlocks, Leads, MeetsHeld, TakesInOrder, held_with, start_reply, sync_reply, told_of};
     ghost use Rattle.pool_core.specs.Meets.{Meets, MeetsExplained};
-    ghost use Rattle.pool_core.specs.NewStates.{IsHeldAnew};
+    ghost use Rattle.pool_core.specs.NewStates.{IsExplainedAtFirst, IsHeldAtFirst};
     ghost use Rattle.pool_core.specs.Progresses.{progress_of};
     ghost use Rattle.pool_core.specs.Shows.{shown_of};
     ghost use Rattle.pool_core.specs.Tables.{result_map};
+    ghost use Rattle.pool_core.specs.Turns.{told_on};
 
     /// The pool that an import gave. It takes no memory.
     pub fn new(imported: Imported<D>) -> Self
         ensures shown { shown_of result.pool ≡ shown_of_import imported.mounted }
         ensures device { result.device ≡ imported.device }
-        ensures held { ∥ (IsTrue D.keeps_model → IsHeldAnew (bytes_of (D.disk result.device).now) imported.mounted result.pool) ∥₁ }
+        ensures explained { ∥ IsExplainedAtFirst result.pool ∥₁ }
+        ensures held { ∥ (IsTrue D.keeps_model
+            → IsHeldAtFirst result.pool (told_on D.disk (result.pool, result.device))) ∥₁ }
     {
         let Imported { device, mounted } = imported;
         PoolState {

@@ -9,6 +9,7 @@ use Rattle.tree_plans.specs.declared.planner.PlannedBlock.{PlannedBlock}
 use Rattle.pool_core.specs.declared.pool.RunningSync.{RunningSync}
 use Rattle.tree_plans.specs.Plans.{address_of}
 use Rattle.pool_core.specs.Pointers.{pointers_after}
+use Rattle.pool_core.specs.RunningUberblocks.{WritesUberblock, uberblock_with}
 use Rattle.pool_core.specs.Shows.{new_plan, shown_of}
 use Rattle.std.specs.Prelude.{Result}
 use Rattle.base.specs.declared.error.PoolError.{PoolError}
@@ -91,6 +92,8 @@ invariant_of-self-2 c =
         ap (λ (r : RunningSync). r.run.geometry) (sym same) ∙ ens.geometry,
         subst (λ (r : RunningSync). r.run.done < call_count r.run) same ens.left,
       );
+      uberblock = λ x e. subst (λ (r : RunningSync). WritesUberblock (uberblock_with pool.guid pool.import_number pool.log_address r.group.0 r.moment r.root) r.run) (kept_sync rs x e)
+          (rw (ens.group, ens.moment, ens.root) ens.uberblock);
       planned = λ x e. subst (λ (r : RunningSync). ∥ ArePlaced (block_count pool.geometry) (pointers_after r.root r.directories.items r.maps pool.tree) ∥₁) (kept_sync rs x e)
           (rw (ens.root, ens.directories, ens.maps) c.in_ok-planned.ensures.placed);
       sync_line = ap (λ (g : _). Some g.0) ens.group ∙ sym (ap (λ (l : Line). l.syncing) c.start_sync.ensures);

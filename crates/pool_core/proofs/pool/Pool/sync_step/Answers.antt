@@ -9,8 +9,9 @@ use Rattle.base.specs.Shown.{SyncPlan}
 use Rattle.sync.specs.Runs.{call_count}
 use Rattle.pool_core.specs.declared.pool.RunningSync.{RunningSync}
 use Rattle.pool_core.specs.Pointers.{pointers_after}
+use Rattle.pool_core.specs.RunningUberblocks.{WritesUberblock, uberblock_with}
 use Rattle.pool_core.specs.Shows.{plan_of, shown_of}
-use Rattle.pool_core.proofs.SameSyncs.{as_many, kept_sync, left_as_before, more_left, one_left, one_less, refused_as, same_taken}
+use Rattle.pool_core.proofs.SameSyncs.{as_many, kept_sync, left_as_before, more_left, one_left, one_less, refused_as, same_taken, same_uberblock}
 use Rattle.base.specs.Disk.{bytes_of}
 use Rattle.base.proofs.StoredTrees.{no-change}
 use Rattle.base.specs.declared.error.PoolError.{PoolError}
@@ -58,6 +59,8 @@ invariant_of-self-in-Ok-false g c =
         ap (λ (r : RunningSync). r.run.geometry) (sym same) ∙ told.sync.geometry ∙ was.0,
         subst (λ (r : RunningSync). r.run.done < call_count r.run) same left.1,
       );
+      uberblock = λ x e. subst (λ (r : RunningSync). WritesUberblock (uberblock_with pool.guid pool.import_number pool.log_address r.group.0 r.moment r.root) r.run) (kept_sync _ x e)
+          (same_uberblock c.in-Some.running.run c.next.new.self told.sync _ (pool.uberblock c.in-Some.running is));
       planned = λ x e. subst (λ (r : RunningSync). ∥ ArePlaced (block_count pool.geometry) (pointers_after r.root r.directories.items r.maps pool.tree) ∥₁) (kept_sync _ x e) (pool.planned c.in-Some.running is);
       sync_line = ap (λ (o : Option RunningSync). option_map (λ (r : RunningSync). r.group.0) o) (sym is) ∙ pool.sync_line;
       pending_built = pool.pending_built;
@@ -81,6 +84,8 @@ invariant_of-self-in-Err g c =
         ap (λ (r : RunningSync). r.run.geometry) (sym same) ∙ told.sync.geometry ∙ was.0,
         subst (λ (r : RunningSync). r.run.done < call_count r.run) same left,
       );
+      uberblock = λ x e. subst (λ (r : RunningSync). WritesUberblock (uberblock_with pool.guid pool.import_number pool.log_address r.group.0 r.moment r.root) r.run) (kept_sync _ x e)
+          (same_uberblock c.in-Some.running.run c.next.new.self told.sync _ (pool.uberblock c.in-Some.running is));
       planned = λ x e. subst (λ (r : RunningSync). ∥ ArePlaced (block_count pool.geometry) (pointers_after r.root r.directories.items r.maps pool.tree) ∥₁) (kept_sync _ x e) (pool.planned c.in-Some.running is);
       sync_line = ap (λ (o : Option RunningSync). option_map (λ (r : RunningSync). r.group.0) o) (sym is) ∙ pool.sync_line;
       pending_built = pool.pending_built;
