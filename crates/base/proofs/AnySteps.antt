@@ -1,12 +1,12 @@
 -- A step over whichever device is one over a device of which nothing is known.
-use Rattle.std.proofs.Common.{ℕ, List, [], ◌∷◌, inl, inr}
+use Rattle.std.proofs.Common.{ℕ, List, [], ◌∷◌}
 use Rattle.std.specs.Prelude.{Option, Some, None, Result, Ok, Err}
 use Rattle.base.specs.declared.error.PoolError.{PoolError}
 use Rattle.base.specs.declared.step.Step as declared_step
 use Rattle.base.specs.declared.step.Step.TheVariants as step
 use Rattle.base.specs.declared.step.Reply as declared_reply
 use Rattle.base.specs.Refusals as refusal
-use Rattle.base.specs.Steps.{State, Answers, WantsMemoryOrRead}
+use Rattle.base.specs.Steps.{State, Answers}
 use Rattle.base.specs.Runs.{Step}
 use Rattle.base.specs.ExactNow.{IsRun}
 
@@ -16,18 +16,12 @@ answers_weaker (Some f) answer old new does weaker own other done refused h = h
 answers_weaker None (Ok a) old new does weaker own other done refused h = done a h
 answers_weaker None (Err e) old new does weaker own other done refused h = refused e h
 
-read_weaker : (keeps : Type 0) (old new : State) (e : PoolError) → WantsMemoryOrRead keeps old new e → WantsMemoryOrRead ⊥ old new e
-read_weaker keeps old new e (inl memory, same) = (inl memory, same)
-read_weaker keeps old new e (inr (inl read), same) = (inr (inl read), same)
-read_weaker keeps old new e (inr (inr (kind, address, is, _)), same) = (inr (inr (kind, address, is, λ nothing. nothing)), same)
-
 pub any_step : (keeps : Type 0) (now : List ℕ) (s : declared_step.Step) (r : declared_reply.Reply) (old new : State) → Step keeps now s r old new → Step ⊥ now s r old new
 any_step keeps now (step.Lock owner n range mode) r old new h = h
 any_step keeps now (step.Unlock owner id) r old new h = h
 any_step keeps now (step.Begin owner plan) r old new h = h
 any_step keeps now (step.Commit tx ops) r old new h = h
-any_step keeps now (step.Read owner n range) r old new (answer, is, h) =
-    (answer, is, answers_weaker (refusal.read_refusal owner.0 (refusal.object_range n.0 range.low range.high) old.shown) answer old new _ _ _ _ (λ bytes d. (λ nothing. absurd nothing, d.1)) (read_weaker keeps old new) h)
+any_step keeps now (step.Read owner n range) r old new h = h
 any_step keeps now step.CloseGroup r old new h = h
 any_step keeps now step.MarkQuiesced r old new h = h
 any_step keeps now (step.StartSync moment) r old new (answer, is, h) =

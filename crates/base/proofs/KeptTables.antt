@@ -280,8 +280,8 @@ commit_step tx ops (Err e) old new x h = refused_step (stage.commit_refusal tx o
 same_step : (old new : State) → IsExplainedState old → new ≡ old → IsExplainedState new
 same_step old new x is = subst IsExplainedState (sym is) x
 
-read_step : (keeps : Type 0) (owner : ℕ) (range : NumberRange) (answer : Result (List ℕ) PoolError) (old new : State) → IsExplainedState old → steps.Read keeps owner range answer old new → IsExplainedState new
-read_step keeps owner range answer old new x h = by_answer answer (refusal.read_refusal owner range old.shown) old new _ _ (λ bytes none d. same_step old new x d.1) (λ e own. same_step old new x own.1) x h
+read_step : (owner : ℕ) (range : NumberRange) (answer : Result (List ℕ) PoolError) (old new : State) → IsExplainedState old → stage.Read owner range answer old new → IsExplainedState new
+read_step owner range answer old new x h = by_answer answer (refusal.read_refusal owner range old.shown) old new _ _ (λ bytes none d. same_step old new x d.1) (λ e own. same_step old new x own.1) x h
 
 -- a close
 close_state : (s : State) → IsExplainedState s → s.shown.line.middle ≡ None → s.shown.line.open_group < last_number → IsExplainedState (steps.with_line (steps.line_after_close s.shown.line) s)
@@ -427,7 +427,7 @@ steps_keep_tables keeps now (step.Lock owner n range mode) r old new (answer, is
 steps_keep_tables keeps now (step.Unlock owner id) r old new (answer, is, h) x = unlock_step owner.0 id.0 answer old new x h
 steps_keep_tables keeps now (step.Begin owner plan) r old new (answer, is, h) x = begin_step owner.0 plan answer old new x h
 steps_keep_tables keeps now (step.Commit tx ops) r old new (answer, is, h) x = commit_step tx.0 ops answer old new x h
-steps_keep_tables keeps now (step.Read owner n range) r old new (answer, is, h) x = read_step keeps owner.0 (refusal.object_range n.0 range.low range.high) answer old new x h
+steps_keep_tables keeps now (step.Read owner n range) r old new (answer, is, h) x = read_step owner.0 (refusal.object_range n.0 range.low range.high) answer old new x h
 steps_keep_tables keeps now step.CloseGroup r old new (answer, is, h) x = close_step answer old new x h
 steps_keep_tables keeps now step.MarkQuiesced r old new (answer, is, h) x = quiesce_step answer old new x h
 steps_keep_tables keeps now (step.StartSync moment) r old new (answer, is, h) x = start_step keeps now moment answer old new x h

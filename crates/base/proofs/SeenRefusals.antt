@@ -115,13 +115,8 @@ step-suspends now (step.Commit tx ops) e old new (answer, is, h) suspends =
     refused _ answer _ e old new _ _ (λ a. refl) (λ f own. memory-quiet old new f own.0)
     (λ f. suspended-first (λ s. stage.waits_for_older s (refusal.commit_tests tx.0 ops s)) old.shown f (quiet-tests (apply_all ops old.shown.contents) _ (quiet-ops ops old.shown.contents) refl)) is h suspends
 step-suspends now (step.Read owner n range) e old new (answer, is, h) suspends =
-    refused _ answer _ e old new _ _ (λ a. refl) (λ f own. read-quiet f own.0)
+    refused _ answer _ e old new _ _ (λ a. refl) (λ f own. memory-quiet old new f own.0)
     (λ f. suspended-first (refusal.read_tests owner.0 (object_range n.0 range.low range.high)) old.shown f refl) is h suspends
-  where
-    read-quiet : (f : PoolError) → (f ≡ error.NoMemory) ⊎ (f ≡ error.Read) ⊎ ((kind address : ℕ) × (f ≡ error.Damaged kind address) × ¬ ⊥) → is_suspending f ≡ true → new.shown.suspended ≡ true
-    read-quiet f (inl memory) suspending = memory-quiet old new f memory suspending
-    read-quiet f (inr (inl read)) suspending = absurd (false≢true (ap is_suspending (sym read) ∙ suspending))
-    read-quiet f (inr (inr (kind, address, damaged, _))) suspending = absurd (false≢true (ap is_suspending (sym damaged) ∙ suspending))
 step-suspends now step.CloseGroup e old new (answer, is, h) suspends =
     refused _ answer _ e old new _ _ (λ a. refl) (λ f own. absurd own) (λ f. suspended-first (λ s. stage.waits_for_older s (refusal.close_tests s)) old.shown f refl) is h suspends
 step-suspends now step.MarkQuiesced e old new (answer, is, h) suspends =

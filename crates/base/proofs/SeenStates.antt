@@ -203,6 +203,6 @@ reads_are_seen owner n range bytes before after m = read m.made
         let no_later : GoesOn m.old after = subst (λ (s : State). GoesOn s after) done.1.1 m.no_later in (
           m.old.shown.contents,
           contents_are_between before m.old after m.explained m.no_earlier no_later,
-          (some.0, some.1, same ∙ subst (λ (o : Option (List ℕ)). IfSome o (λ all. bs ≡ steps.bytes_in wanted all)) some.1 (done.1.0 tt)),
+          (some.0, some.1, same ∙ subst (λ (o : Option (List ℕ)). IfSome o (λ all. bs ≡ steps.bytes_in wanted all)) some.1 done.1.0),
         )
     read (Err e, is, h) = absurd (let no_way : reply.Bytes bytes ≡ reply.Refused e = is in cc)

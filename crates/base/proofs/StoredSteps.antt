@@ -202,8 +202,8 @@ module _ (now : List ℕ) (pointers : Place → Pointer) (running : Option NewTr
             | inr last ↦ ap (λ (c : Admission). list_all stage.is_shape_built c.plan) (sym last.1) ∙ of_plan
           ])
 
-  read : (keeps : Type 0) (owner : ℕ) (range : NumberRange) (answer : Result (List ℕ) PoolError) (old new : State) → IsKeptState old → steps.Read keeps owner range answer old new → IsKeptState new
-  read keeps owner range answer old new x h = by_answer answer (refusal.read_refusal owner range old.shown) old new _ _
+  read : (owner : ℕ) (range : NumberRange) (answer : Result (List ℕ) PoolError) (old new : State) → IsKeptState old → stage.Read owner range answer old new → IsKeptState new
+  read owner range answer old new x h = by_answer answer (refusal.read_refusal owner range old.shown) old new _ _
       (λ bytes is none d. subst IsKeptState (sym d.1) x) (λ e own. subst IsKeptState (sym own.1) x) x h
 
   -- no entry is above the open group as it is closed
@@ -322,7 +322,7 @@ module _ (now : List ℕ) (pointers : Place → Pointer) (running : Option NewTr
   steps_keep_kept keeps bytes (step.Unlock owner id) r old new (answer, is, h) off explained x = unlock owner.0 id.0 answer old new x h
   steps_keep_kept keeps bytes (step.Begin owner plan) r old new (answer, is, h) off explained x = begin owner.0 plan answer old new x h
   steps_keep_kept keeps bytes (step.Commit tx ops) r old new (answer, is, h) off explained x = commit tx.0 ops answer old new explained x h
-  steps_keep_kept keeps bytes (step.Read owner n range) r old new (answer, is, h) off explained x = read keeps owner.0 (refusal.object_range n.0 range.low range.high) answer old new x h
+  steps_keep_kept keeps bytes (step.Read owner n range) r old new (answer, is, h) off explained x = read owner.0 (refusal.object_range n.0 range.low range.high) answer old new x h
   steps_keep_kept keeps bytes step.CloseGroup r old new (answer, is, h) off explained x = close answer old new explained x h
   steps_keep_kept keeps bytes step.MarkQuiesced r old new (answer, is, h) off explained x = quiesce answer old new x h
   steps_keep_kept keeps bytes (step.StartSync moment) r old new (answer, is, h) off explained x = start keeps bytes moment answer old new (λ group. no_start answer group r is off) x h

@@ -43,7 +43,7 @@ Step keeps now (step.Commit tx ops) given old new =
     Replies receipt_reply given (λ answer. stage.Commit tx.0 ops answer old new)
 Step keeps now (step.Read owner n range) given old new =
     Replies (λ bytes. reply.Bytes bytes) given
-    (λ answer. steps.Read keeps owner.0 (object_range n.0 range.low range.high) answer old new)
+    (λ answer. stage.Read owner.0 (object_range n.0 range.low range.high) answer old new)
 Step keeps now step.CloseGroup given old new =
     Replies (λ group. reply.Opened (record { 0 = group })) given
     (λ answer. stage.CloseGroup answer old new)

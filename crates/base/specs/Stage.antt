@@ -1,6 +1,7 @@
 -- What is built so far of the steps, where it is less than the whole profile. Later these words go, one by one.
-use Rattle.std.specs.Prelude.{ℕ, ◌≡◌, ◌+◌, ◌&&◌, ◌||◌, ◌⊎◌, ◌++◌, Bool, true, false, not, List, [], ◌∷◌, length, nat_lt, nat_le, Option, Some, is_some, Result, Ok}
+use Rattle.std.specs.Prelude.{ℕ, ◌≡◌, ◌+◌, ◌&&◌, ◌||◌, ◌⊎◌, ◌++◌, Bool, true, false, not, List, [], ◌∷◌, length, nat_lt, nat_le, Option, Some, IfSome, is_some, Result, Ok}
 use Rattle.std.specs.List.{list_all}
+use Rattle.std.specs.FinMap as finite
 use Rattle.base.specs.declared.error.PoolError.{PoolError}
 use Rattle.base.specs.declared.error.PoolError.TheVariants as error
 use Rattle.base.specs.declared.operation.Op.{Op}
@@ -8,14 +9,14 @@ use Rattle.base.specs.declared.operation.Shape.{Shape}
 use Rattle.base.specs.declared.operation.Shape.TheVariants as shape
 use Rattle.base.specs.Limits.{last_number, max_log_record, max_transactions}
 use Rattle.base.specs.Contents.{Contents}
-use Rattle.base.specs.Plans.{is_plan_allowed, log_record_size}
+use Rattle.base.specs.Plans.{NumberRange, is_plan_allowed, log_record_size}
 use Rattle.base.specs.History.{apply_all}
 use Rattle.base.specs.Groups.{Line, Admission}
 use Rattle.base.specs.Records.{is_content_allowed}
 use Rattle.base.specs.Shown.{Shown, SyncPlan}
 use Rattle.base.specs.Refusals as refusal
 use Rattle.base.specs.Refusals.{Test, refused_if, first_refusal, is_plan_covered, is_plan_blocked}
-use Rattle.base.specs.Steps.{State, Answers, Never, WantsMemory, next_admission, state_after_commit, with_line, line_after_close, IsPlanned, TakesForEach, state_after_start}
+use Rattle.base.specs.Steps.{State, Answers, Never, WantsMemory, next_admission, state_after_commit, bytes_in, with_line, line_after_close, IsPlanned, TakesForEach, state_after_start}
 
 -- whether a group between the synced one and the open one is there: no transaction begins or commits then, and no group is closed
 abbrev pub has_older_group : Line → Bool
@@ -71,6 +72,11 @@ Commit tx ops answer old new = Answers (commit_refusal tx ops old.shown) answer 
     (λ receipt. (a : Admission) × (contents : Contents)
     × (refusal.transaction_of tx old.shown ≡ Some a) × (apply_all ops old.shown.contents ≡ Ok contents)
     × (list_all is_content_allowed ops ≡ true) × (receipt ≡ (old.shown.next_ordinal, a.group)) × (new ≡ state_after_commit tx a.group ops contents old)) (WantsMemory old new)
+
+-- the bytes of a range are read of contents that stand in memory: it asks nothing of the device
+abbrev pub Read : ℕ → NumberRange → Result (List ℕ) PoolError → State → State → Type 0
+Read owner range answer old new = Answers (refusal.read_refusal owner range old.shown) answer old new
+    (λ bytes. IfSome (finite.get old.shown.contents.objects range.number) (λ all. bytes ≡ bytes_in range all) × (new ≡ old)) (WantsMemory old new)
 
 abbrev pub close_refusal : Shown → Option PoolError
 close_refusal s = first_refusal (waits_for_older s (refusal.close_tests s))

@@ -7,10 +7,12 @@ pub mod LockSteps
 pub mod Flags
 pub mod CommitSteps
 pub mod ReadSteps
+pub mod OfNoDevice
 pub mod Opens
 pub mod RepliedSteps
-pub mod ExplainedRuns
-pub mod HeldRuns
+pub mod HeldSteps
+pub mod Turns
+pub mod MadeRuns
 pub mod StepsOver
 pub mod StillSteps
 pub mod SyncLeads

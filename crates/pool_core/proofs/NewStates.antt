@@ -2,7 +2,9 @@
 use Rattle.std.proofs.Common.{◌≡◌, ℕ, List, length, refl, sym, subst}
 use Rattle.std.specs.Prelude.{None, option_map}
 use Rattle.base.specs.Geometry.{block_count}
-use Rattle.base.specs.Past.{Past, new_past}
+use Rattle.base.specs.ExactNow.{IsExplainedNow}
+use Rattle.base.specs.Past.{new_past}
+use Rattle.base.specs.Shown.{Shown}
 use Rattle.base.specs.Stored.{IsHeld, IsStored}
 use Rattle.base.proofs.KeptLists.{none_at}
 use Rattle.object_maps.specs.ContentsShown.{contents_of}
@@ -11,6 +13,7 @@ use Rattle.import_replay.specs.declared.mounted.Mounted.{Mounted}
 use Rattle.import_replay.specs.Mounts.{IsExplainedAnew, StandsOn, shown_of_import}
 use Rattle.pool_core.specs.declared.pool.Pool.{Pool}
 use Rattle.pool_core.specs.Holds.{held_with, new_tree_of, told_of}
+use Rattle.pool_core.specs.NewStates.{IsExplainedAtFirst, IsHeldAtFirst, first_past}
 use Rattle.pool_core.specs.Shows.{shown_of}
 
 module _ (now : List ℕ) (created : ℕ) (m : Mounted) (sized : block_count m.geometry ≡ block_count (length now)) (on : StandsOn now m) (explained : IsExplainedAnew m) where
@@ -31,7 +34,7 @@ module _ (now : List ℕ) (created : ℕ) (m : Mounted) (sized : block_count m.g
   }
 
   -- all of what a run asks for
-  pub is_held : IsHeld (record {
+  is_held : IsHeld (record {
     state = record { shown = shown_of_import m; past = new_past (contents_of m.contents) created m.dirty_max };
     now = now;
     pointers = pointers_of m.tree;
@@ -39,10 +42,16 @@ module _ (now : List ℕ) (created : ℕ) (m : Mounted) (sized : block_count m.g
   })
   is_held = record { explained = explained created; kept = record { stored = stored; sync = refl } }
 
--- the same of a pool that shows it, has the tree and no running sync
-pub held_as : (m : Mounted) (pool : Pool) (now : List ℕ) (past : Past) → shown_of pool ≡ shown_of_import m → pool.tree ≡ m.tree → pool.sync ≡ None
-    → IsHeld (record { state = record { shown = shown_of_import m; past = past }; now = now; pointers = pointers_of m.tree; running = None }) → IsHeld (held_with (told_of now pool) past)
-held_as m pool now past shown tree idle held =
-    let same : held_with (told_of now pool) past ≡ record { state = record { shown = shown_of_import m; past = past }; now = now; pointers = pointers_of m.tree; running = None } = λ k.
-    record { state = record { shown = shown k; past = past }; now = now; pointers = pointers_of (tree k); running = option_map (new_tree_of pool.tree) (idle k) } in
-    subst IsHeld (sym same) held
+-- A pool that shows what an import mounted is explained by its own first past.
+pub explained_as : (m : Mounted) (pool : Pool) → shown_of pool ≡ shown_of_import m → IsExplainedAnew m → IsExplainedAtFirst pool
+explained_as m pool shown explained created =
+    subst (λ (s : Shown). IsExplainedNow s (new_past s.contents created s.dirty_max)) (sym shown) (explained created)
+
+-- And where it has the tree and no running sync, the device holds what it should.
+pub held_as : (m : Mounted) (pool : Pool) (now : List ℕ) → shown_of pool ≡ shown_of_import m → pool.tree ≡ m.tree → pool.sync ≡ None
+    → block_count m.geometry ≡ block_count (length now) → StandsOn now m → IsExplainedAnew m → IsHeldAtFirst pool (told_of now pool)
+held_as m pool now shown tree idle sized on explained created =
+    let same : held_with (told_of now pool) (first_past pool created)
+    ≡ record { state = record { shown = shown_of_import m; past = new_past (contents_of m.contents) created m.dirty_max }; now = now; pointers = pointers_of m.tree; running = None } = λ k.
+    record { state = record { shown = shown k; past = new_past (shown k).contents created (shown k).dirty_max }; now = now; pointers = pointers_of (tree k); running = option_map (new_tree_of pool.tree) (idle k) } in
+    subst IsHeld (sym same) (is_held now created m sized on explained)

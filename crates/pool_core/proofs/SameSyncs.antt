@@ -1,5 +1,5 @@
 -- A sync that goes on as it was.
-use Rattle.std.proofs.Common.{◌≡◌, ◌∙◌, ◌<◌, ◌+◌, ◌-◌, ◌⊎◌, inl, inr, ℕ, false, map, vec_len, ap, sym, subst, arith}
+use Rattle.std.proofs.Common.{◌≡◌, ◌∙◌, ◌<◌, ◌+◌, ◌-◌, ◌⊎◌, inl, inr, ℕ, false, List, map, vec_len, ap, sym, subst, arith}
 use Rattle.std.proofs.Math.Logic.{∥∥₁_map}
 use Rattle.std.proofs.lemmas.Bool.{cases_lt, true≢false}
 use Rattle.std.specs.Prelude.{Option, Some, is_some}
@@ -10,6 +10,7 @@ use Rattle.base.specs.declared.pointer.Pointer.{Pointer}
 use Rattle.base.specs.Geometry.{block_address}
 use Rattle.base.specs.SyncOrder.{DeviceCall}
 use Rattle.base.specs.SyncOrder.DeviceCall.{Block, Config, Uberblock, Flush}
+use Rattle.base.specs.Uberblocks.{Uberblock as Fields, IsUberblock}
 use Rattle.sync.specs.Calls.{refusal_of}
 use Rattle.tree_plans.specs.declared.planner.PlannedBlock.{PlannedBlock}
 use Rattle.base.specs.Places.{IsPlace, Place}
@@ -17,6 +18,7 @@ use Rattle.base.specs.PlacedTrees.{ArePlaced, IsPlaced}
 use Rattle.sync.specs.declared.run.SyncRun.{SyncRun}
 use Rattle.pool_core.specs.declared.pool.RunningSync.{RunningSync}
 use Rattle.sync.specs.Runs.{SameSync, call_count, other_calls}
+use Rattle.pool_core.specs.RunningUberblocks.{WritesUberblock}
 
 pub same_count : (old new : SyncRun) → SameSync old new → call_count new ≡ call_count old
 same_count old new same = omega (arith, ap vec_len same.blocks, ap other_calls same.stages)
@@ -67,6 +69,10 @@ one_left old new same done last = let count = same_count old new same in omega a
 -- the blocks that it writes lie where they did
 pub same_taken : (old new : SyncRun) → SameSync old new → map (λ (b : PlannedBlock). block_address b.index) new.blocks.items ≡ map (λ (b : PlannedBlock). block_address b.index) old.blocks.items
 same_taken old new same = ap (λ (v : Vec PlannedBlock). map (λ (b : PlannedBlock). block_address b.index) v.items) same.blocks
+
+-- and its uberblock is the one that it was
+pub same_uberblock : (old new : SyncRun) → SameSync old new → (u : Fields) → WritesUberblock u old → WritesUberblock u new
+same_uberblock old new same u writes = record { slot = same.slot ∙ writes.slot; bytes = subst (λ (l : List ℕ). IsUberblock l u) (sym same.uberblock) writes.bytes }
 
 -- a call is refused as a write or as a flush
 pub refused_as : (call : DeviceCall) (e : PoolError) → e ≡ refusal_of call → (e ≡ error.Write) ⊎ (e ≡ error.Flush)

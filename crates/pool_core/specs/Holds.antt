@@ -101,10 +101,6 @@ IsStepOver s r old new = runs.Step (Unit {0}) old.now s r old.state new.state
 abbrev pub StepsOver : declared_step.Step → declared_reply.Reply → Told → Told → Type 0
 StepsOver s r old new = (past : Past) → IsHeld (held_with old past) → (later : Past) × IsStepOver s r (held_with old past) (held_with new later)
 
--- a step of a pool over its device: it replies as the definitions say, and moves so
-abbrev pub StepHolds : declared_step.Step → declared_reply.Reply → Told → Told → Type 0
-StepHolds s r old new = StepsOver s r old new × Leads r old new
-
 -- a step after which its past explains what is shown then, and the device, with the bytes of then, holds what it should
 abbrev pub KeepsHeld : declared_step.Step → declared_reply.Reply → Held → Held → Type 0
 KeepsHeld s r old new = IsStepOver s r old new × IsHeld new

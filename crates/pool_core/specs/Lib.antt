@@ -11,5 +11,7 @@ pub mod GroupPlans
 pub mod Areas
 pub mod Pointers
 pub mod Progresses
+pub mod RunningUberblocks
 pub mod Calls
+pub mod Turns
 pub mod NewStates

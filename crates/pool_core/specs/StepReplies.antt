@@ -9,21 +9,10 @@ use Rattle.base.specs.Runs as runs
 use Rattle.base.specs.Shown.{Shown}
 use Rattle.base.specs.Steps.{State}
 
--- over what a step is told: a start of a sync says nothing yet of the blocks that the device has, all else is exact
-abbrev pub tells : declared_step.Step → Type 0
-tells (step.Lock owner n range mode) = Unit {0}
-tells (step.Unlock owner id) = Unit {0}
-tells (step.Begin owner plan) = Unit {0}
-tells (step.Commit tx ops) = Unit {0}
-tells (step.Read owner n range) = Unit {0}
-tells step.CloseGroup = Unit {0}
-tells step.MarkQuiesced = Unit {0}
-tells (step.StartSync moment) = ⊥
-tells step.SyncStep = Unit {0}
-
--- a step with its reply, from a state to the next one
+-- a step with its reply, from a state to the next one, over a device of which nothing is known: it says nothing of the blocks that the
+-- device has
 abbrev pub IsStep : declared_step.Step → declared_reply.Reply → State → State → Type 0
-IsStep s r old new = runs.Step (tells s) [] s r old new
+IsStep s r old new = runs.Step ⊥ [] s r old new
 
 -- whatever the past of a run, the step leads with this reply from what was shown before to what is shown after
 abbrev pub Replied : declared_step.Step → declared_reply.Reply → Shown → Shown → Type 0

@@ -27,6 +27,7 @@ ghost use Rattle.pool_core.specs.GroupPlans.{IsPlannedFrom, IsShortOfBlocks};
 ghost use Rattle.object_maps.specs.ContentsShown.{contents_of};
 ghost use Rattle.pool_core.specs.Numbers.{IsGroup};
 ghost use Rattle.pool_core.specs.Pointers.{pointers_after};
+ghost use Rattle.pool_core.specs.RunningUberblocks.{WritesUberblock, uberblock_with};
 ghost use Rattle.space.specs.FreeSets.{addresses_from, free_of};
 ghost use Rattle.object_maps.specs.Pointers.{pointers_of};
 ghost use Rattle.tree_plans.specs.declared.planner.Committed.{Committed};
@@ -103,6 +104,7 @@ pub struct Pool {
     ghost next_ordinal_fits: { next_ordinal ≤ 2 ^ 60 + 1 },
     ghost plans_built: { All (λ (t : OpenTransaction). is_plan_built t.plan ≡ true) transactions.items },
     ghost running: { ForSome sync (λ r. (r.run.geometry ≡ geometry) × (r.run.done < call_count r.run)) },
+    ghost uberblock: { ForSome sync (λ r. WritesUberblock (uberblock_with guid import_number log_address r.group.0 r.moment r.root) r.run) },
     ghost planned: { ForSome sync (λ r. ∥ ArePlaced (block_count geometry) (pointers_after r.root r.directories.items r.maps tree) ∥₁) },
     ghost sync_line: { option_map (λ r. r.group.0) sync ≡ option_map (λ g. g.0) groups.syncing } by { Prim.hlevel props },
     ghost pending_built: { All (λ (c : Committed). list_any is_rename c.ops ≡ false) pending.items },
@@ -113,7 +115,9 @@ impl Pool {
     ghost use Rattle.import_replay.specs.Mounts.{shown_of_import};
     ghost use Rattle.std.specs.Prelude.{ℕ, List};
     ghost use Rattle.base.specs.Disk.{bytes_of};
-    ghost use Rattle.pool_core.specs.Calls.{CallsNext};
+    ghost use Rattle.base.specs.Calls.{counted};
+    ghost use Rattle.sync.specs.Calls.{plain_answer};
+    ghost use Rattle.pool_core.specs.Calls.{CallsNext, IsOfNoDevice};
     ghost use Rattle.pool_core.specs.Holds.{LacksBlocks, Leads, MeetsHeld, TakesInOrder, held_with, start_reply, sync_reply, told_of};
     ghost use Rattle.pool_core.specs.Lines.{MayNotStart, MayStart, line_of};
     ghost use Rattle.pool_core.specs.Meets.{MayCommit, Meets, MeetsExplained};
@@ -360,7 +364,7 @@ impl Pool {
     /// In this order: `Suspended`; `BadRange` where the number or the range is outside its limits; `NotLocked` where no one
     /// lock of the owner covers the range; `NoObject`; `NoMemory`.
     pub fn read(&self, owner: Owner, object: ObjectId, range: Range) -> Result<Bytes, PoolError>
-        ensures { Meets (steps.Read (Unit {0}) owner.0 (object_range object.0 range.low range.high)) result (shown_of self.now) (shown_of self.now) }
+        ensures { Meets (stage.Read owner.0 (object_range object.0 range.low range.high)) result (shown_of self.now) (shown_of self.now) }
     {
         self.check_running()?;
         if !is_readable(object, range) {
@@ -422,6 +426,7 @@ impl Pool {
         ensures order { (now : List ℕ) (past : Past) → IsHeld (held_with (told_of now self.old) past) → IfOk result (λ group. TakesInOrder group.0 past (told_of now self.old) (told_of now self.new)) }
         ensures no_space { (now : List ℕ) (past : Past) → IsHeld (held_with (told_of now self.old) past) → IfErr result (λ e. e ≡ PoolError.NoSpace → LacksBlocks past (told_of now self.old)) }
         ensures leads { (now : List ℕ) → Leads (start_reply result) (told_of now self.old) (told_of now self.new) }
+        ensures refusal { IsOfNoDevice result }
     {
         self.check_running()?;
         let group = self.check_start()?;
@@ -482,6 +487,9 @@ impl Pool {
         ensures maps { result.maps ≡ planned.maps }
         ensures directories { result.directories ≡ planned.directories }
         ensures root { result.root ≡ planned.root }
+        ensures uberblock { WritesUberblock (uberblock_with self.now.guid self.now.import_number self.now.log_address
+            group.0 moment planned.root) result.run }
+        ensures moment { result.moment ≡ moment }
         ensures plan { plan_of self.now.log_address result ≡ new_plan moment self.now.log_address (map address_of planned.blocks.items) planned.freed.items planned.root }
     {
         // Labels lie apart from the blocks, as the size is one of a pool's device.
@@ -532,7 +540,8 @@ impl Pool {
         ensures size { D.size device.new ≡ D.size device.old }
         ensures geometry { self.new.geometry ≡ self.old.geometry }
         ensures step { Meets steps.SyncStep (result_map progress_of result) (shown_of self.old) (shown_of self.new) }
-        ensures called { IsTrue D.keeps_model → CallsNext self.old.suspended self.old.sync (D.disk device.old) result (D.disk device.new) }
+        ensures called { CallsNext (IsTrue D.keeps_model) D.disk self.old (plain_answer result) device.old device.new }
+        ensures count { D.refused device.new ≡ counted result (D.refused device.old) }
         ensures leads { IsTrue D.keeps_model → Leads (sync_reply result) (told_of (bytes_of (D.disk device.old).now) self.old) (told_of (bytes_of (D.disk device.new).now) self.new) }
     {
         self.check_running()?;

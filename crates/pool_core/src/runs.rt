@@ -2,12 +2,14 @@
 
 ghost use Rattle.std.specs.Prelude.{◌≡◌, IfErr, IfOk, IsTrue, MatchResult, OnErr, vec_len};
 ghost use Rattle.std.specs.Result.{ForOk};
+ghost use Rattle.base.specs.Calls.{counted};
 ghost use Rattle.base.specs.Runs.{Run};
-ghost use Rattle.base.specs.Disk.{bytes_of};
-ghost use Rattle.pool_core.specs.Holds.{HoldsOn, Leads, StepsOver, told_of};
+ghost use Rattle.pool_core.specs.Calls.{Calls, answer_of, counted_in_turn};
 ghost use Rattle.pool_core.specs.ExplainedRuns.{RunsOn};
+ghost use Rattle.pool_core.specs.Holds.{HoldsOn, Leads};
 ghost use Rattle.pool_core.specs.Shows.{shown_of};
 ghost use Rattle.pool_core.specs.StepReplies.{StepReplies};
+ghost use Rattle.pool_core.specs.Turns.{MakesStep, Turns, told_on};
 
 use crate::state::{PoolState, Progress};
 use base::{PoolError, Reply, Step};
@@ -17,8 +19,13 @@ impl<D: SectorDevice> PoolState<D> {
     /// Makes one step.
     pub fn step(&mut self, step: Step) -> Reply
         ensures replied { StepReplies step result (shown_of self.old.pool) (shown_of self.new.pool) }
-        ensures over { StepsOver step result (told_of (bytes_of (D.disk self.old.device).now) self.old.pool) (told_of (bytes_of (D.disk self.new.device).now) self.new.pool) }
-        ensures leads { IsTrue D.keeps_model → Leads result (told_of (bytes_of (D.disk self.old.device).now) self.old.pool) (told_of (bytes_of (D.disk self.new.device).now) self.new.pool) }
+        ensures turns { Turns (IsTrue D.keeps_model) step result
+            (told_on D.disk (self.old.pool, self.old.device)) (told_on D.disk (self.new.pool, self.new.device)) }
+        ensures leads { IsTrue D.keeps_model → Leads result
+            (told_on D.disk (self.old.pool, self.old.device)) (told_on D.disk (self.new.pool, self.new.device)) }
+        ensures calls { Calls (IsTrue D.keeps_model) D.disk step result
+            (self.old.pool, self.old.device) (self.new.pool, self.new.device) }
+        ensures count { D.refused self.new.device ≡ counted (answer_of result) (D.refused self.old.device) }
     {
         match step {
             Step::Lock(owner, object, range, mode) => reply(
@@ -70,9 +77,14 @@ pub fn run<D: SectorDevice>(
     steps: Vec<Step>,
 ) -> Result<Vec<Reply>, PoolError>
     ensures each { IfOk result (λ replies. vec_len replies ≡ vec_len steps) }
-    ensures ran { IfOk result (λ replies. Run StepReplies steps.items replies.items (shown_of state.old.pool) (shown_of state.new.pool)) }
-    ensures held { IsTrue D.keeps_model → IfOk result (λ replies. HoldsOn steps.items replies.items (told_of (bytes_of (D.disk state.old.device).now) state.old.pool) (told_of (bytes_of (D.disk state.new.device).now) state.new.pool)) }
-    ensures explained { IfOk result (λ replies. RunsOn steps.items replies.items (shown_of state.old.pool) (shown_of state.new.pool)) }
+    ensures ran { IfOk result (λ replies. Run (MakesStep D (IsTrue D.keeps_model) D.refused D.disk) steps.items replies.items
+        (state.old.pool, state.old.device) (state.new.pool, state.new.device)) }
+    ensures explained { IfOk result (λ replies. RunsOn steps.items replies.items
+        (shown_of state.old.pool) (shown_of state.new.pool)) }
+    ensures held { IsTrue D.keeps_model → IfOk result (λ replies. HoldsOn steps.items replies.items
+        (told_on D.disk (state.old.pool, state.old.device)) (told_on D.disk (state.new.pool, state.new.device))) }
+    ensures count { IfOk result (λ replies.
+        D.refused state.new.device ≡ counted_in_turn replies.items (D.refused state.old.device)) }
     ensures refused { IfErr result (λ e. e ≡ PoolError.NoMemory) }
     ensures kept { OnErr result (state.new ≡ state.old) }
 {

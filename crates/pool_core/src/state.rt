@@ -40,19 +40,24 @@ impl<D: SectorDevice> PoolState<D> {
     ghost use Rattle.import_replay.specs.Mounts.{shown_of_import};
     ghost use Rattle.std.specs.Prelude.{ℕ, List};
     ghost use Rattle.base.specs.Disk.{bytes_of};
+    ghost use Rattle.base.specs.Calls.{counted};
+    ghost use Rattle.sync.specs.Calls.{plain_answer};
     ghost use Rattle.pool_core.specs.Calls.{CallsNext};
     ghost use Rattle.pool_core.specs.Holds.{LacksBlocks, Leads, MeetsHeld, TakesInOrder, held_with, start_reply, sync_reply, told_of};
     ghost use Rattle.pool_core.specs.Meets.{Meets, MeetsExplained};
-    ghost use Rattle.pool_core.specs.NewStates.{IsHeldAnew};
+    ghost use Rattle.pool_core.specs.NewStates.{IsExplainedAtFirst, IsHeldAtFirst};
     ghost use Rattle.pool_core.specs.Progresses.{progress_of};
     ghost use Rattle.pool_core.specs.Shows.{shown_of};
     ghost use Rattle.pool_core.specs.Tables.{result_map};
+    ghost use Rattle.pool_core.specs.Turns.{told_on};
 
     /// The pool that an import gave. It takes no memory.
     pub fn new(imported: Imported<D>) -> Self
         ensures shown { shown_of result.pool ≡ shown_of_import imported.mounted }
         ensures device { result.device ≡ imported.device }
-        ensures held { ∥ (IsTrue D.keeps_model → IsHeldAnew (bytes_of (D.disk result.device).now) imported.mounted result.pool) ∥₁ }
+        ensures explained { ∥ IsExplainedAtFirst result.pool ∥₁ }
+        ensures held { ∥ (IsTrue D.keeps_model
+            → IsHeldAtFirst result.pool (told_on D.disk (result.pool, result.device))) ∥₁ }
     {
         let Imported { device, mounted } = imported;
         PoolState {
@@ -91,6 +96,7 @@ impl<D: SectorDevice> PoolState<D> {
         ensures step { Meets (steps.Lock owner.0 (object_range object.0 range.low range.high) mode) (result_map (λ id. id.0) result) (shown_of self.old.pool) (shown_of self.new.pool) }
         ensures rest { (self.new.pool.tree ≡ self.old.pool.tree) × (self.new.pool.sync ≡ self.old.pool.sync) }
         ensures device { self.new.device ≡ self.old.device }
+        ensures count { D.refused self.new.device ≡ counted result (D.refused self.old.device) }
     {
         self.pool.lock(owner, object, range, mode)
     }
@@ -104,6 +110,7 @@ impl<D: SectorDevice> PoolState<D> {
         ensures step { Meets (steps.Unlock owner.0 id.0) result (shown_of self.old.pool) (shown_of self.new.pool) }
         ensures rest { (self.new.pool.tree ≡ self.old.pool.tree) × (self.new.pool.sync ≡ self.old.pool.sync) }
         ensures device { self.new.device ≡ self.old.device }
+        ensures count { D.refused self.new.device ≡ counted result (D.refused self.old.device) }
     {
         self.pool.unlock(owner, id)
     }
@@ -120,6 +127,7 @@ impl<D: SectorDevice> PoolState<D> {
         ensures step { Meets (stage.Begin owner.0 plan) (result_map (λ a. (a.0.0, a.1.0)) result) (shown_of self.old.pool) (shown_of self.new.pool) }
         ensures rest { (self.new.pool.tree ≡ self.old.pool.tree) × (self.new.pool.sync ≡ self.old.pool.sync) }
         ensures device { self.new.device ≡ self.old.device }
+        ensures count { D.refused self.new.device ≡ counted result (D.refused self.old.device) }
     {
         self.pool.begin(owner, plan)
     }
@@ -135,6 +143,7 @@ impl<D: SectorDevice> PoolState<D> {
         ensures step { Meets (stage.Commit tx.0 ops) (result_map (λ (r : Receipt). (r.ordinal.0, r.group.0)) result) (shown_of self.old.pool) (shown_of self.new.pool) }
         ensures rest { (self.new.pool.tree ≡ self.old.pool.tree) × (self.new.pool.sync ≡ self.old.pool.sync) }
         ensures device { self.new.device ≡ self.old.device }
+        ensures count { D.refused self.new.device ≡ counted result (D.refused self.old.device) }
     {
         self.pool.commit(tx, ops)
     }
@@ -145,7 +154,8 @@ impl<D: SectorDevice> PoolState<D> {
     /// In this order: `Suspended`; `BadRange` where the number or the range is outside its limits; `NotLocked` where no one
     /// lock of the owner covers the range; `NoObject`; `NoMemory`.
     pub fn read(&self, owner: Owner, object: ObjectId, range: Range) -> Result<Bytes, PoolError>
-        ensures { Meets (steps.Read (Unit {0}) owner.0 (object_range object.0 range.low range.high)) result (shown_of self.now.pool) (shown_of self.now.pool) }
+        ensures step { Meets (stage.Read owner.0 (object_range object.0 range.low range.high)) result (shown_of self.now.pool) (shown_of self.now.pool) }
+        ensures count { D.refused self.now.device ≡ counted result (D.refused self.now.device) }
     {
         self.pool.read(owner, object, range)
     }
@@ -158,6 +168,7 @@ impl<D: SectorDevice> PoolState<D> {
         ensures step { Meets stage.CloseGroup (result_map (λ group. group.0) result) (shown_of self.old.pool) (shown_of self.new.pool) }
         ensures rest { (self.new.pool.tree ≡ self.old.pool.tree) × (self.new.pool.sync ≡ self.old.pool.sync) }
         ensures device { self.new.device ≡ self.old.device }
+        ensures count { D.refused self.new.device ≡ counted result (D.refused self.old.device) }
     {
         self.pool.close_group()
     }
@@ -170,6 +181,7 @@ impl<D: SectorDevice> PoolState<D> {
         ensures step { Meets steps.MarkQuiesced (result_map (λ group. group.0) result) (shown_of self.old.pool) (shown_of self.new.pool) }
         ensures rest { (self.new.pool.tree ≡ self.old.pool.tree) × (self.new.pool.sync ≡ self.old.pool.sync) }
         ensures device { self.new.device ≡ self.old.device }
+        ensures count { D.refused self.new.device ≡ counted result (D.refused self.old.device) }
     {
         self.pool.mark_quiesced()
     }
@@ -187,6 +199,7 @@ impl<D: SectorDevice> PoolState<D> {
         ensures no_space { (now : List ℕ) (past : Past) → IsHeld (held_with (told_of now self.old.pool) past) → IfErr result (λ e. e ≡ PoolError.NoSpace → LacksBlocks past (told_of now self.old.pool)) }
         ensures leads { (now : List ℕ) → Leads (start_reply result) (told_of now self.old.pool) (told_of now self.new.pool) }
         ensures device { self.new.device ≡ self.old.device }
+        ensures count { D.refused self.new.device ≡ counted result (D.refused self.old.device) }
     {
         self.pool.start_sync(moment)
     }
@@ -200,7 +213,8 @@ impl<D: SectorDevice> PoolState<D> {
     pub fn sync_step(&mut self) -> Result<Progress, PoolError>
         ensures step { Meets steps.SyncStep (result_map progress_of result) (shown_of self.old.pool) (shown_of self.new.pool) }
         ensures leads { IsTrue D.keeps_model → Leads (sync_reply result) (told_of (bytes_of (D.disk self.old.device).now) self.old.pool) (told_of (bytes_of (D.disk self.new.device).now) self.new.pool) }
-        ensures called { IsTrue D.keeps_model → CallsNext self.old.pool.suspended self.old.pool.sync (D.disk self.old.device) result (D.disk self.new.device) }
+        ensures called { CallsNext (IsTrue D.keeps_model) D.disk self.old.pool (plain_answer result) self.old.device self.new.device }
+        ensures count { D.refused self.new.device ≡ counted result (D.refused self.old.device) }
     {
         self.pool.sync_step(&mut self.device)
     }

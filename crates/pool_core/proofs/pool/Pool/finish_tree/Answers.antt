@@ -23,6 +23,7 @@ invariant_of-self-3 c =
       next_ordinal_fits = pool.next_ordinal_fits;
       plans_built = pool.plans_built;
       running = pool.running;
+      uberblock = λ x e. absurd (none_running pool.sync x c.requires.none e);
       planned = λ x e. absurd (none_running pool.sync x c.requires.none e);
       sync_line = pool.sync_line;
       pending_built = rw c.drop_synced.ensures (All-filter later Built pool.pending.items pool.pending_built);

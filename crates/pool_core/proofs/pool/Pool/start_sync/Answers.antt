@@ -9,6 +9,7 @@ use Rattle.tree_plans.specs.declared.planner.PlannedBlock.{PlannedBlock}
 use Rattle.pool_core.specs.declared.pool.RunningSync.{RunningSync}
 use Rattle.tree_plans.specs.Plans.{address_of}
 use Rattle.pool_core.specs.Pointers.{pointers_after}
+use Rattle.pool_core.specs.RunningUberblocks.{WritesUberblock, uberblock_with}
 use Rattle.pool_core.specs.Shows.{new_plan, shown_of}
 use Rattle.std.specs.Prelude.{Result}
 use Rattle.base.specs.declared.error.PoolError.{PoolError}
@@ -19,6 +20,7 @@ use Rattle.base.proofs.StoredTrees.{no-change}
 use Rattle.tree_plans.specs.Plans.{new_block}
 use Rattle.pool_core.specs.Holds.{start_reply}
 use Rattle.pool_core.proofs.StartLeads.{group_lacks, group_planned, group_takes, group_takes_each, nothing_made}
+use Rattle.pool_core.proofs.OfNoDevice.{plan_own}
 use Rattle.pool_core.proofs.StillSteps.{still_pool}
 use Rattle.pool_core.proofs.SameSyncs.{kept_sync}
 use Rattle.pool_core.proofs.Starts.{lowest_taken, pending_names, start_done, start_not_ready, start_suspended, start_wants}
@@ -90,6 +92,8 @@ invariant_of-self-2 c =
         ap (λ (r : RunningSync). r.run.geometry) (sym same) ∙ ens.geometry,
         subst (λ (r : RunningSync). r.run.done < call_count r.run) same ens.left,
       );
+      uberblock = λ x e. subst (λ (r : RunningSync). WritesUberblock (uberblock_with pool.guid pool.import_number pool.log_address r.group.0 r.moment r.root) r.run) (kept_sync rs x e)
+          (rw (ens.group, ens.moment, ens.root) ens.uberblock);
       planned = λ x e. subst (λ (r : RunningSync). ∥ ArePlaced (block_count pool.geometry) (pointers_after r.root r.directories.items r.maps pool.tree) ∥₁) (kept_sync rs x e)
           (rw (ens.root, ens.directories, ens.maps) c.in_ok-planned.ensures.placed);
       sync_line = ap (λ (g : _). Some g.0) ens.group ∙ sym (ap (λ (l : Line). l.syncing) c.start_sync.ensures);
@@ -183,3 +187,18 @@ pub returns-in_err-planned-clause-no_space : goal.returns-in_err-planned-clause-
 returns-in_err-planned-clause-no_space c =
     let p = err_from_is_err_and c.from_residual-in_err-planned.result c.from_residual-in_err-planned.ensures.1 in
     rw (p.1, p.2) (λ now past x no_space. group_lacks now past c.args.self.now c.in_ok-group.group.0 c.in_ok-group.ensures.may (c.in_err-planned.ensures.no_space no_space) x)
+
+pub returns-in_err-check_running-clause-refusal : goal.returns-in_err-check_running-clause-refusal
+returns-in_err-check_running-clause-refusal c =
+    let p = err_from_is_err_and c.from_residual.result c.from_residual.ensures.1 in
+    rw (p.1, p.2, c.in_err-check_running.ensures.0) (λ calls. refl)
+
+pub returns-in_err-group-clause-refusal : goal.returns-in_err-group-clause-refusal
+returns-in_err-group-clause-refusal c =
+    let p = err_from_is_err_and c.from_residual-in_err-group.result c.from_residual-in_err-group.ensures.1 in
+    rw (p.1, p.2, c.in_err-group.ensures.may.0) (λ calls. refl)
+
+pub returns-in_err-planned-clause-refusal : goal.returns-in_err-planned-clause-refusal
+returns-in_err-planned-clause-refusal c =
+    let p = err_from_is_err_and c.from_residual-in_err-planned.result c.from_residual-in_err-planned.ensures.1 in
+    rw (p.1, p.2) (plan_own c.in_err-planned.field-0.0 c.in_err-planned.ensures.refused)

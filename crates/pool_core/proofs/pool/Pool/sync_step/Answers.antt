@@ -9,8 +9,9 @@ use Rattle.base.specs.Shown.{SyncPlan}
 use Rattle.sync.specs.Runs.{call_count}
 use Rattle.pool_core.specs.declared.pool.RunningSync.{RunningSync}
 use Rattle.pool_core.specs.Pointers.{pointers_after}
+use Rattle.pool_core.specs.RunningUberblocks.{WritesUberblock, uberblock_with}
 use Rattle.pool_core.specs.Shows.{plan_of, shown_of}
-use Rattle.pool_core.proofs.SameSyncs.{as_many, kept_sync, left_as_before, more_left, one_left, one_less, refused_as, same_taken}
+use Rattle.pool_core.proofs.SameSyncs.{as_many, kept_sync, left_as_before, more_left, one_left, one_less, refused_as, same_taken, same_uberblock}
 use Rattle.base.specs.Disk.{bytes_of}
 use Rattle.base.proofs.StoredTrees.{no-change}
 use Rattle.base.specs.declared.error.PoolError.{PoolError}
@@ -58,6 +59,8 @@ invariant_of-self-in-Ok-false g c =
         ap (λ (r : RunningSync). r.run.geometry) (sym same) ∙ told.sync.geometry ∙ was.0,
         subst (λ (r : RunningSync). r.run.done < call_count r.run) same left.1,
       );
+      uberblock = λ x e. subst (λ (r : RunningSync). WritesUberblock (uberblock_with pool.guid pool.import_number pool.log_address r.group.0 r.moment r.root) r.run) (kept_sync _ x e)
+          (same_uberblock c.in-Some.running.run c.next.new.self told.sync _ (pool.uberblock c.in-Some.running is));
       planned = λ x e. subst (λ (r : RunningSync). ∥ ArePlaced (block_count pool.geometry) (pointers_after r.root r.directories.items r.maps pool.tree) ∥₁) (kept_sync _ x e) (pool.planned c.in-Some.running is);
       sync_line = ap (λ (o : Option RunningSync). option_map (λ (r : RunningSync). r.group.0) o) (sym is) ∙ pool.sync_line;
       pending_built = pool.pending_built;
@@ -81,6 +84,8 @@ invariant_of-self-in-Err g c =
         ap (λ (r : RunningSync). r.run.geometry) (sym same) ∙ told.sync.geometry ∙ was.0,
         subst (λ (r : RunningSync). r.run.done < call_count r.run) same left,
       );
+      uberblock = λ x e. subst (λ (r : RunningSync). WritesUberblock (uberblock_with pool.guid pool.import_number pool.log_address r.group.0 r.moment r.root) r.run) (kept_sync _ x e)
+          (same_uberblock c.in-Some.running.run c.next.new.self told.sync _ (pool.uberblock c.in-Some.running is));
       planned = λ x e. subst (λ (r : RunningSync). ∥ ArePlaced (block_count pool.geometry) (pointers_after r.root r.directories.items r.maps pool.tree) ∥₁) (kept_sync _ x e) (pool.planned c.in-Some.running is);
       sync_line = ap (λ (o : Option RunningSync). option_map (λ (r : RunningSync). r.group.0) o) (sym is) ∙ pool.sync_line;
       pending_built = pool.pending_built;
@@ -130,7 +135,7 @@ returns-in-Err-clause-step g c =
     let same : Some (record plan { steps_left = call_count c.next.new.self - c.next.new.self.done; taken = map (λ (b : PlannedBlock). block_address b.index) c.next.new.self.blocks.items }) ≡ s.sync =
     (λ k. Some (record plan { steps_left = steps k; taken = taken k })) ∙ sym running in
     step_failed s _ c.in-Some.running.group.0 plan c.in-Err.error c.in_ok-check_running.ensures syncing
-    (refused_as told.there.0 c.in-Err.error ((told.count told.there.0 told.there.1).named))
+    (refused_as told.there.0 c.in-Err.error (told.refusal told.there.0 told.there.1))
     (λ k. record s { suspended = true; sync = same k })
 
 pub returns-in_err-check_running-clause-leads : goal.returns-in_err-check_running-clause-leads
@@ -177,3 +182,32 @@ returns-in-Err-clause-leads g c = λ keeps past later.
     let before = g.D.SectorDevice.disk c.args.device.now in
     let after = g.D.SectorDevice.disk c.next.new.device in
     (failed_same r.run told.there.0 c.in-Err.error before after (block_count pool.geometry) (told.called keeps told.there.0 told.there.1), refl, failed_running pool r c.next.new.self is told.sync told.done)
+
+pub returns-in_err-check_running-clause-called : goal.returns-in_err-check_running-clause-called
+returns-in_err-check_running-clause-called g c = rw c.in_err-check_running.ensures.1 refl
+
+pub returns-in_default-clause-called : goal.returns-in_default-clause-called
+returns-in_default-clause-called g c = rw (c.in_ok-check_running.ensures, sym c.in_default.ensures.value) refl
+
+pub returns-in-Ok-true-clause-called : goal.returns-in-Ok-true-clause-called
+returns-in-Ok-true-clause-called g c =
+    let told = c.in-Ok-true.ensures in
+    rw (c.in_ok-check_running.ensures, sym c.in-Some.ensures.value)
+    (record { call = told.there.0; next = told.there.1; refusal = tt; made = λ keeps. told.called keeps told.there.0 told.there.1 })
+
+pub returns-in-Ok-false-clause-called : goal.returns-in-Ok-false-clause-called
+returns-in-Ok-false-clause-called g c =
+    let told = c.in-Ok-false.ensures in
+    rw (c.in_ok-check_running.ensures, sym c.in-Some.ensures.value)
+    (record { call = told.there.0; next = told.there.1; refusal = tt; made = λ keeps. told.called keeps told.there.0 told.there.1 })
+
+pub returns-in-Err-clause-called : goal.returns-in-Err-clause-called
+returns-in-Err-clause-called g c =
+    let told = c.in-Err.ensures in
+    rw (c.in_ok-check_running.ensures, sym c.in-Some.ensures.value)
+    (record { call = told.there.0; next = told.there.1; refusal = told.refusal told.there.0 told.there.1; made = λ keeps. told.called keeps told.there.0 told.there.1 })
+
+pub returns-in_err-check_running-clause-count : goal.returns-in_err-check_running-clause-count
+returns-in_err-check_running-clause-count g c =
+    let p = err_from_is_err_and c.from_residual.result c.from_residual.ensures.1 in
+    rw (p.1, p.2, c.in_err-check_running.ensures.0) refl

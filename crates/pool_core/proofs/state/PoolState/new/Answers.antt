@@ -2,16 +2,16 @@ use Rattle.std.proofs.Common.{◌∙◌, ℕ, List, ap, sym}
 use Rattle.std.proofs.Math.Logic.{∥∥₁_elim, ∥∥₁_map, ∥∥₁_prop}
 use Rattle.base.specs.Disk.{bytes_of}
 use Rattle.base.specs.Geometry.{block_count}
-use Rattle.base.specs.Past.{new_past}
-use Rattle.object_maps.specs.ContentsShown.{contents_of}
-use Rattle.pool_core.proofs.NewStates.{held_as, is_held}
+use Rattle.pool_core.proofs.NewStates.{explained_as, held_as}
 use Rattle.pool_core.proofs.state.PoolState.new.Goals as goal
+
+pub returns-clause-explained : goal.returns-clause-explained
+returns-clause-explained g c = ∥∥₁_map c.args.imported.explained (explained_as c.args.imported.mounted c.new.result c.new.ensures.shown)
 
 pub returns-clause-held : goal.returns-clause-held
 returns-clause-held g c =
     let m = c.args.imported.mounted in
     let now : List ℕ = bytes_of (g.D.SectorDevice.disk c.args.imported.device).now in
-    ∥∥₁_elim c.args.imported.stands ∥∥₁_prop (λ stands. ∥∥₁_map c.args.imported.explained (λ explained keeps created.
+    ∥∥₁_elim c.args.imported.stands ∥∥₁_prop (λ stands. ∥∥₁_map c.args.imported.explained (λ explained keeps.
     let sized = ap (λ (n : ℕ). block_count n) (sym (g.met.D.SectorDevice.sized keeps c.args.imported.device ∙ c.args.imported.sized)) in
-    held_as m c.new.result now (new_past (contents_of m.contents) created m.dirty_max) c.new.ensures.shown c.new.ensures.tree c.new.ensures.idle
-    (is_held now created m sized (stands keeps) explained)))
+    held_as m c.new.result now c.new.ensures.shown c.new.ensures.tree c.new.ensures.idle sized (stands keeps) explained))

@@ -1,4 +1,5 @@
 use Rattle.std.proofs.Common.{ℕ, List, [], Ok, Err, ap, refl, sym}
+use Rattle.std.specs.Prelude.{IsTrue}
 use Rattle.base.specs.declared.names.Group.{Group}
 use Rattle.base.specs.declared.names.LockId.{LockId}
 use Rattle.base.specs.declared.names.Receipt.{Receipt}
@@ -12,7 +13,9 @@ use Rattle.pool_core.specs.declared.state.Progress.{Progress}
 use Rattle.pool_core.specs.Progresses.{progress_of}
 use Rattle.pool_core.specs.Shows.{shown_of}
 use Rattle.pool_core.specs.Holds.{sync_reply}
-use Rattle.pool_core.proofs.StepsOver.{any_device, is_start, start_over}
+use Rattle.pool_core.specs.Turns.{told_on}
+use Rattle.pool_core.proofs.StepsOver.{is_start, start_over}
+use Rattle.pool_core.proofs.Turns.{any_turns, turns}
 use Rattle.pool_core.proofs.StillSteps.{leads_as, start_told, still_on, still_replied}
 use Rattle.pool_core.proofs.RepliedSteps.{replied, replied_explained, replied_same}
 use Rattle.pool_core.proofs.state.PoolState.step.Goals as goal
@@ -27,7 +30,7 @@ returns-in-Commit-clause-replied g c =
 
 pub returns-in-Read-clause-replied : goal.returns-in-Read-clause-replied
 returns-in-Read-clause-replied g c =
-    rw c.in-Read.is (replied_same (steps.Read (Unit {0}) c.in-Read.owner.0 (object_range c.in-Read.object.0 c.in-Read.range.low c.in-Read.range.high)) (λ (bytes : List ℕ). reply.Bytes bytes) c.read.result c.reply-in-Read.result (shown_of c.args.self.now.pool) (shown_of c.args.self.now.pool) c.read.ensures c.reply-in-Read.ensures)
+    rw c.in-Read.is (replied_same (stage.Read c.in-Read.owner.0 (object_range c.in-Read.object.0 c.in-Read.range.low c.in-Read.range.high)) (λ (bytes : List ℕ). reply.Bytes bytes) c.read.result c.reply-in-Read.result (shown_of c.args.self.now.pool) (shown_of c.args.self.now.pool) c.read.ensures.step c.reply-in-Read.ensures)
 
 pub returns-in-CloseGroup-clause-replied : goal.returns-in-CloseGroup-clause-replied
 returns-in-CloseGroup-clause-replied g c =
@@ -69,59 +72,6 @@ returns-in-Ok-Synced-clause-replied g c =
 pub returns-in-Err-sync_step-clause-replied : goal.returns-in-Err-sync_step-clause-replied
 returns-in-Err-sync_step-clause-replied g c =
     rw c.in-SyncStep.is (replied steps.SyncStep progress_of progress_reply (Err c.in-Err-sync_step.error) (reply.Refused c.in-Err-sync_step.error) (shown_of c.args.self.now.pool) (shown_of c.sync_step.new.self.pool) c.in-Err-sync_step.ensures.step refl)
-
-pub returns-in-Lock-clause-over : goal.returns-in-Lock-clause-over
-returns-in-Lock-clause-over g c =
-    any_device g.D.SectorDevice.disk c.reply.result c.args.self.now.device c.lock.new.self.device c.args.self.now.pool c.lock.new.self.pool c.args.step (ap is_start c.in-Lock.is) (returns-in-Lock-clause-replied g c)
-
-pub returns-in-Commit-clause-over : goal.returns-in-Commit-clause-over
-returns-in-Commit-clause-over g c =
-    any_device g.D.SectorDevice.disk c.reply-in-Commit.result c.args.self.now.device c.commit.new.self.device c.args.self.now.pool c.commit.new.self.pool c.args.step (ap is_start c.in-Commit.is) (returns-in-Commit-clause-replied g c)
-
-pub returns-in-Read-clause-over : goal.returns-in-Read-clause-over
-returns-in-Read-clause-over g c =
-    any_device g.D.SectorDevice.disk c.reply-in-Read.result c.args.self.now.device c.args.self.now.device c.args.self.now.pool c.args.self.now.pool c.args.step (ap is_start c.in-Read.is) (returns-in-Read-clause-replied g c)
-
-pub returns-in-CloseGroup-clause-over : goal.returns-in-CloseGroup-clause-over
-returns-in-CloseGroup-clause-over g c =
-    any_device g.D.SectorDevice.disk c.reply-in-CloseGroup.result c.args.self.now.device c.close_group.new.self.device c.args.self.now.pool c.close_group.new.self.pool c.args.step (ap is_start c.in-CloseGroup.is) (returns-in-CloseGroup-clause-replied g c)
-
-pub returns-in-MarkQuiesced-clause-over : goal.returns-in-MarkQuiesced-clause-over
-returns-in-MarkQuiesced-clause-over g c =
-    any_device g.D.SectorDevice.disk c.reply-in-MarkQuiesced.result c.args.self.now.device c.mark_quiesced.new.self.device c.args.self.now.pool c.mark_quiesced.new.self.pool c.args.step (ap is_start c.in-MarkQuiesced.is) (returns-in-MarkQuiesced-clause-replied g c)
-
-pub returns-in-Ok-clause-over : goal.returns-in-Ok-clause-over
-returns-in-Ok-clause-over g c =
-    any_device g.D.SectorDevice.disk reply.Done c.args.self.now.device c.unlock.new.self.device c.args.self.now.pool c.unlock.new.self.pool c.args.step (ap is_start c.in-Unlock.is) (returns-in-Ok-clause-replied g c)
-
-pub returns-in-Err-clause-over : goal.returns-in-Err-clause-over
-returns-in-Err-clause-over g c =
-    any_device g.D.SectorDevice.disk (reply.Refused c.in-Err.error) c.args.self.now.device c.unlock.new.self.device c.args.self.now.pool c.unlock.new.self.pool c.args.step (ap is_start c.in-Unlock.is) (returns-in-Err-clause-replied g c)
-
-pub returns-in-Ok-begin-clause-over : goal.returns-in-Ok-begin-clause-over
-returns-in-Ok-begin-clause-over g c =
-    any_device g.D.SectorDevice.disk (reply.Began c.in-Ok-begin.tx c.in-Ok-begin.group) c.args.self.now.device c.begin.new.self.device c.args.self.now.pool c.begin.new.self.pool c.args.step (ap is_start c.in-Begin.is) (returns-in-Ok-begin-clause-replied g c)
-
-pub returns-in-Err-begin-clause-over : goal.returns-in-Err-begin-clause-over
-returns-in-Err-begin-clause-over g c =
-    any_device g.D.SectorDevice.disk (reply.Refused c.in-Err-begin.error) c.args.self.now.device c.begin.new.self.device c.args.self.now.pool c.begin.new.self.pool c.args.step (ap is_start c.in-Begin.is) (returns-in-Err-begin-clause-replied g c)
-
-pub returns-in-StartSync-clause-over : goal.returns-in-StartSync-clause-over
-returns-in-StartSync-clause-over g c =
-    rw c.in-StartSync.is (start_over g.D.SectorDevice.disk c.reply-in-StartSync.result c.args.self.now.device c.start_sync.new.self.device c.args.self.now.pool c.start_sync.new.self.pool
-    c.in-StartSync.moment c.start_sync.result c.start_sync.ensures.held c.reply-in-StartSync.ensures)
-
-pub returns-in-Ok-More-clause-over : goal.returns-in-Ok-More-clause-over
-returns-in-Ok-More-clause-over g c =
-    any_device g.D.SectorDevice.disk reply.More c.args.self.now.device c.sync_step.new.self.device c.args.self.now.pool c.sync_step.new.self.pool c.args.step (ap is_start c.in-SyncStep.is) (returns-in-Ok-More-clause-replied g c)
-
-pub returns-in-Ok-Synced-clause-over : goal.returns-in-Ok-Synced-clause-over
-returns-in-Ok-Synced-clause-over g c =
-    any_device g.D.SectorDevice.disk (reply.Synced c.in-Ok-Synced.group) c.args.self.now.device c.sync_step.new.self.device c.args.self.now.pool c.sync_step.new.self.pool c.args.step (ap is_start c.in-SyncStep.is) (returns-in-Ok-Synced-clause-replied g c)
-
-pub returns-in-Err-sync_step-clause-over : goal.returns-in-Err-sync_step-clause-over
-returns-in-Err-sync_step-clause-over g c =
-    any_device g.D.SectorDevice.disk (reply.Refused c.in-Err-sync_step.error) c.args.self.now.device c.sync_step.new.self.device c.args.self.now.pool c.sync_step.new.self.pool c.args.step (ap is_start c.in-SyncStep.is) (returns-in-Err-sync_step-clause-replied g c)
 
 pub returns-in-Lock-clause-leads : goal.returns-in-Lock-clause-leads
 returns-in-Lock-clause-leads g c = λ keeps.
@@ -176,3 +126,71 @@ returns-in-Ok-Synced-clause-leads g c = λ keeps.
 
 pub returns-in-Err-sync_step-clause-leads : goal.returns-in-Err-sync_step-clause-leads
 returns-in-Err-sync_step-clause-leads g c = λ keeps. c.in-Err-sync_step.ensures.leads keeps
+
+pub returns-in-Lock-clause-turns : goal.returns-in-Lock-clause-turns
+returns-in-Lock-clause-turns g c =
+    any_turns (IsTrue g.D.SectorDevice.keeps_model) c.args.step c.reply.result (told_on g.D.SectorDevice.disk (c.args.self.now.pool, c.args.self.now.device)) (told_on g.D.SectorDevice.disk (c.lock.new.self.pool, c.lock.new.self.device))
+    (ap is_start c.in-Lock.is) (returns-in-Lock-clause-replied g c) (returns-in-Lock-clause-leads g c)
+
+pub returns-in-Commit-clause-turns : goal.returns-in-Commit-clause-turns
+returns-in-Commit-clause-turns g c =
+    any_turns (IsTrue g.D.SectorDevice.keeps_model) c.args.step c.reply-in-Commit.result (told_on g.D.SectorDevice.disk (c.args.self.now.pool, c.args.self.now.device)) (told_on g.D.SectorDevice.disk (c.commit.new.self.pool, c.commit.new.self.device))
+    (ap is_start c.in-Commit.is) (returns-in-Commit-clause-replied g c) (returns-in-Commit-clause-leads g c)
+
+pub returns-in-Read-clause-turns : goal.returns-in-Read-clause-turns
+returns-in-Read-clause-turns g c =
+    any_turns (IsTrue g.D.SectorDevice.keeps_model) c.args.step c.reply-in-Read.result (told_on g.D.SectorDevice.disk (c.args.self.now.pool, c.args.self.now.device)) (told_on g.D.SectorDevice.disk (c.args.self.now.pool, c.args.self.now.device))
+    (ap is_start c.in-Read.is) (returns-in-Read-clause-replied g c) (returns-in-Read-clause-leads g c)
+
+pub returns-in-CloseGroup-clause-turns : goal.returns-in-CloseGroup-clause-turns
+returns-in-CloseGroup-clause-turns g c =
+    any_turns (IsTrue g.D.SectorDevice.keeps_model) c.args.step c.reply-in-CloseGroup.result (told_on g.D.SectorDevice.disk (c.args.self.now.pool, c.args.self.now.device)) (told_on g.D.SectorDevice.disk (c.close_group.new.self.pool, c.close_group.new.self.device))
+    (ap is_start c.in-CloseGroup.is) (returns-in-CloseGroup-clause-replied g c) (returns-in-CloseGroup-clause-leads g c)
+
+pub returns-in-MarkQuiesced-clause-turns : goal.returns-in-MarkQuiesced-clause-turns
+returns-in-MarkQuiesced-clause-turns g c =
+    any_turns (IsTrue g.D.SectorDevice.keeps_model) c.args.step c.reply-in-MarkQuiesced.result (told_on g.D.SectorDevice.disk (c.args.self.now.pool, c.args.self.now.device)) (told_on g.D.SectorDevice.disk (c.mark_quiesced.new.self.pool, c.mark_quiesced.new.self.device))
+    (ap is_start c.in-MarkQuiesced.is) (returns-in-MarkQuiesced-clause-replied g c) (returns-in-MarkQuiesced-clause-leads g c)
+
+pub returns-in-Ok-clause-turns : goal.returns-in-Ok-clause-turns
+returns-in-Ok-clause-turns g c =
+    any_turns (IsTrue g.D.SectorDevice.keeps_model) c.args.step reply.Done (told_on g.D.SectorDevice.disk (c.args.self.now.pool, c.args.self.now.device)) (told_on g.D.SectorDevice.disk (c.unlock.new.self.pool, c.unlock.new.self.device))
+    (ap is_start c.in-Unlock.is) (returns-in-Ok-clause-replied g c) (returns-in-Ok-clause-leads g c)
+
+pub returns-in-Err-clause-turns : goal.returns-in-Err-clause-turns
+returns-in-Err-clause-turns g c =
+    any_turns (IsTrue g.D.SectorDevice.keeps_model) c.args.step (reply.Refused c.in-Err.error) (told_on g.D.SectorDevice.disk (c.args.self.now.pool, c.args.self.now.device)) (told_on g.D.SectorDevice.disk (c.unlock.new.self.pool, c.unlock.new.self.device))
+    (ap is_start c.in-Unlock.is) (returns-in-Err-clause-replied g c) (returns-in-Err-clause-leads g c)
+
+pub returns-in-Ok-begin-clause-turns : goal.returns-in-Ok-begin-clause-turns
+returns-in-Ok-begin-clause-turns g c =
+    any_turns (IsTrue g.D.SectorDevice.keeps_model) c.args.step (reply.Began c.in-Ok-begin.tx c.in-Ok-begin.group) (told_on g.D.SectorDevice.disk (c.args.self.now.pool, c.args.self.now.device)) (told_on g.D.SectorDevice.disk (c.begin.new.self.pool, c.begin.new.self.device))
+    (ap is_start c.in-Begin.is) (returns-in-Ok-begin-clause-replied g c) (returns-in-Ok-begin-clause-leads g c)
+
+pub returns-in-Err-begin-clause-turns : goal.returns-in-Err-begin-clause-turns
+returns-in-Err-begin-clause-turns g c =
+    any_turns (IsTrue g.D.SectorDevice.keeps_model) c.args.step (reply.Refused c.in-Err-begin.error) (told_on g.D.SectorDevice.disk (c.args.self.now.pool, c.args.self.now.device)) (told_on g.D.SectorDevice.disk (c.begin.new.self.pool, c.begin.new.self.device))
+    (ap is_start c.in-Begin.is) (returns-in-Err-begin-clause-replied g c) (returns-in-Err-begin-clause-leads g c)
+
+pub returns-in-StartSync-clause-turns : goal.returns-in-StartSync-clause-turns
+returns-in-StartSync-clause-turns g c =
+    turns (IsTrue g.D.SectorDevice.keeps_model) c.args.step c.reply-in-StartSync.result (told_on g.D.SectorDevice.disk (c.args.self.now.pool, c.args.self.now.device)) (told_on g.D.SectorDevice.disk (c.start_sync.new.self.pool, c.start_sync.new.self.device))
+    (returns-in-StartSync-clause-replied g c)
+    (rw c.in-StartSync.is (start_over g.D.SectorDevice.disk c.reply-in-StartSync.result c.args.self.now.device c.start_sync.new.self.device c.args.self.now.pool c.start_sync.new.self.pool
+    c.in-StartSync.moment c.start_sync.result c.start_sync.ensures.held c.reply-in-StartSync.ensures))
+    (returns-in-StartSync-clause-leads g c)
+
+pub returns-in-Ok-More-clause-turns : goal.returns-in-Ok-More-clause-turns
+returns-in-Ok-More-clause-turns g c =
+    any_turns (IsTrue g.D.SectorDevice.keeps_model) c.args.step reply.More (told_on g.D.SectorDevice.disk (c.args.self.now.pool, c.args.self.now.device)) (told_on g.D.SectorDevice.disk (c.sync_step.new.self.pool, c.sync_step.new.self.device))
+    (ap is_start c.in-SyncStep.is) (returns-in-Ok-More-clause-replied g c) (returns-in-Ok-More-clause-leads g c)
+
+pub returns-in-Ok-Synced-clause-turns : goal.returns-in-Ok-Synced-clause-turns
+returns-in-Ok-Synced-clause-turns g c =
+    any_turns (IsTrue g.D.SectorDevice.keeps_model) c.args.step (reply.Synced c.in-Ok-Synced.group) (told_on g.D.SectorDevice.disk (c.args.self.now.pool, c.args.self.now.device)) (told_on g.D.SectorDevice.disk (c.sync_step.new.self.pool, c.sync_step.new.self.device))
+    (ap is_start c.in-SyncStep.is) (returns-in-Ok-Synced-clause-replied g c) (returns-in-Ok-Synced-clause-leads g c)
+
+pub returns-in-Err-sync_step-clause-turns : goal.returns-in-Err-sync_step-clause-turns
+returns-in-Err-sync_step-clause-turns g c =
+    any_turns (IsTrue g.D.SectorDevice.keeps_model) c.args.step (reply.Refused c.in-Err-sync_step.error) (told_on g.D.SectorDevice.disk (c.args.self.now.pool, c.args.self.now.device)) (told_on g.D.SectorDevice.disk (c.sync_step.new.self.pool, c.sync_step.new.self.device))
+    (ap is_start c.in-SyncStep.is) (returns-in-Err-sync_step-clause-replied g c) (returns-in-Err-sync_step-clause-leads g c)

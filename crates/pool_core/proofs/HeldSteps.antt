@@ -1,5 +1,5 @@
--- Steps one after another keep what a pool keeps of its device.
-use Rattle.std.proofs.Common.{◌≡◌, ℕ, ◌+◌, ◌*◌, List, [], ◌∷◌, ap, sym, subst, ◌∙◌, arith, inl, inr}
+-- A step that moves the bytes, the pointers and the running sync as the definitions say keeps what a pool keeps of its device.
+use Rattle.std.proofs.Common.{◌≡◌, ℕ, ◌+◌, ◌*◌, List, ap, sym, subst, ◌∙◌, arith, inl, inr}
 use Rattle.std.specs.Prelude.{Option, None, IfSome}
 use Rattle.std.specs.Ordering.{nat_cmp}
 use Rattle.std.specs.FinMap as finite
@@ -14,14 +14,13 @@ use Rattle.base.specs.Past.{Past}
 use Rattle.base.specs.PlacedTrees.{HoldsTree, StandsAt}
 use Rattle.base.specs.Places.{Place, IsPlace}
 use Rattle.base.specs.Places.Place.{Root, Directory, Indirect, Data}
-use Rattle.base.specs.Runs.{Run}
 use Rattle.base.specs.Shown.{Shown}
 use Rattle.base.specs.Stored.{IsHeld, IsStored, Moves, NewTree, RunsAs, frame_at}
 use Rattle.base.specs.Tree.{IsRecord, OpensAt}
 use Rattle.base.specs.PlacedTrees.{IsEntryFor}
 use Rattle.base.specs.Fields.{entry_in}
 use Rattle.base.proofs.StoredRuns.{moves-keep}
-use Rattle.pool_core.specs.Holds.{HoldsOn, IsStepOver, Leads, SamePlaces, StepHolds, Told, held_with}
+use Rattle.pool_core.specs.Holds.{IsStepOver, Leads, SamePlaces, Told, held_with}
 
 module _ (image : List ℕ) (frame : Frame) (old new : Place → Pointer) (same : SamePlaces new old) (objects : FinMap nat_cmp (List ℕ)) where
   -- what stands at a place by its pointers stands there by others that are the same
@@ -76,7 +75,7 @@ module _ (s : declared_step.Step) (old new : Told) (past later : Past) (x : IsHe
   plain r h m = moves-keep (held_with old past) (held_with new later) x (Unit {0}) old.now s r h (m past later)
 
   -- a step that leads so keeps it
-  leads_keep : (r : declared_reply.Reply) → IsStepOver s r (held_with old past) (held_with new later) → Leads r old new → IsHeld (held_with new later)
+  pub leads_keep : (r : declared_reply.Reply) → IsStepOver s r (held_with old past) (held_with new later) → Leads r old new → IsHeld (held_with new later)
   leads_keep (reply.Refused e) h m = plain (reply.Refused e) h m
   leads_keep reply.Done h m = plain reply.Done h m
   leads_keep (reply.Locked id) h m = plain (reply.Locked id) h m
@@ -90,14 +89,3 @@ module _ (s : declared_step.Step) (old new : Told) (past later : Past) (x : IsHe
   leads_keep (reply.Synced group) h (pointers, same, m) =
       let at = m past later in
       kept_as new pointers later same at.4 (moves-keep (held_with old past) (held_with (record new { pointers = pointers }) later) x (Unit {0}) old.now s (reply.Synced group) h at)
-
--- From a run of such steps to what is held behind it.
-pub holds_on : (ss : List declared_step.Step) (rs : List declared_reply.Reply) (old new : Told) → Run StepHolds ss rs old new → HoldsOn ss rs old new
-holds_on [] [] old new same past x = (past, ap (λ (t : Told). held_with t past) same, subst (λ (t : Told). IsHeld (held_with t past)) (sym same) x)
-holds_on (s ∷ ss) (r ∷ rs) old new (middle, one, rest) past x =
-    let first = one.0 past x in
-    let kept = leads_keep s old middle past first.0 x r first.1 one.1 in
-    let more = holds_on ss rs middle new rest first.0 kept in
-    (more.0, (held_with middle first.0, (first.1, kept), more.1), more.2)
-holds_on [] (r ∷ rs) old new h past x = absurd h
-holds_on (s ∷ ss) [] old new h past x = absurd h

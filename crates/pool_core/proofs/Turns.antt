@@ -1,0 +1,55 @@
+-- A step of a pool on its device leads from a past that explains it to the past after the step.
+use Rattle.std.proofs.Common.{◌≡◌, false, List, [], ap, subst}
+use Rattle.base.specs.declared.step.Step as declared_step
+use Rattle.base.specs.declared.step.Step.TheVariants as step
+use Rattle.base.specs.declared.step.Reply as declared_reply
+use Rattle.base.specs.ExactNow.{IsExplainedNow}
+use Rattle.base.specs.Past.{Past}
+use Rattle.base.specs.Steps.{State}
+use Rattle.base.specs.Stored.{IsHeld}
+use Rattle.base.proofs.Additions.{told_past}
+use Rattle.base.proofs.KeptTables.{steps_keep_tables}
+use Rattle.pool_core.specs.Holds.{IsStepOver, Leads, StepsOver, Told, held_with}
+use Rattle.pool_core.specs.StepReplies.{IsStep, StepReplies}
+use Rattle.pool_core.specs.Turns.{Turns, TurnsTo, held_after, state_after, state_with}
+use Rattle.pool_core.proofs.HeldSteps.{leads_keep}
+use Rattle.pool_core.proofs.StepsOver.{any_bytes, is_start}
+
+-- a step from what a past explains leads to a later past
+one_step : (s : declared_step.Step) (r : declared_reply.Reply) (old new : Told) → StepReplies s r old.shown new.shown
+    → (past : Past) → IsExplainedNow old.shown past → (later : Past) × IsStep s r (state_with old past) (state_with new later)
+one_step (step.Lock owner n range mode) r old new h past explained = h past
+one_step (step.Unlock owner id) r old new h past explained = h past
+one_step (step.Begin owner plan) r old new h past explained = h past
+one_step (step.Commit tx ops) r old new h past explained = h past
+one_step (step.Read owner n range) r old new h past explained = h past
+one_step step.CloseGroup r old new h past explained = h past
+one_step step.MarkQuiesced r old new h past explained = h past
+one_step (step.StartSync moment) r old new h past explained = h past explained
+one_step step.SyncStep r old new h past explained = h past
+
+-- and that past is the one after the step
+module _ (keeps : Type 0) (s : declared_step.Step) (r : declared_reply.Reply) (old new : Told) where
+  pub turns : StepReplies s r old.shown new.shown → StepsOver s r old new → (keeps → Leads r old new) → Turns keeps s r old new
+  turns replies over leads past = record {
+    step = stepped;
+    explained = λ x. steps_keep_tables ⊥ [] s r (state_with old past) (state_after s r old new past) (stepped x) x;
+    over = stepped_over;
+    held = λ keep x. leads_keep s old new past (state_after s r old new past).past x r (stepped_over x) (leads keep);
+  }
+    where
+      stepped : IsExplainedNow old.shown past → IsStep s r (state_with old past) (state_after s r old new past)
+      stepped x =
+          let one = one_step s r old new replies past x in
+          let is = told_past ⊥ [] s r (state_with old past) (state_with new one.0) one.1 in
+          subst (λ (later : Past). IsStep s r (state_with old past) (state_with new later)) is one.1
+
+      stepped_over : IsHeld (held_with old past) → IsStepOver s r (held_with old past) (held_after s r old new past)
+      stepped_over x =
+          let one = over past x in
+          let is = told_past (Unit {0}) old.now s r (state_with old past) (state_with new one.0) one.1 in
+          subst (λ (later : Past). IsStepOver s r (held_with old past) (held_with new later)) is one.1
+
+  -- so does each step but the start of a sync, over whichever bytes
+  pub any_turns : is_start s ≡ false → StepReplies s r old.shown new.shown → (keeps → Leads r old new) → Turns keeps s r old new
+  any_turns off replies leads = turns replies (any_bytes s r old new off replies) leads

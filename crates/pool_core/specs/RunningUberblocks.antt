@@ -1,0 +1,23 @@
+-- The uberblock that a running sync writes into the labels.
+use Rattle.std.specs.Prelude.{ℕ, ◌≡◌}
+use Rattle.base.specs.declared.pointer.Pointer.{Pointer}
+use Rattle.base.specs.Geometry.{slot_of}
+use Rattle.base.specs.Uberblocks.{Uberblock, IsUberblock}
+use Rattle.sync.specs.declared.run.SyncRun.{SyncRun}
+
+-- of a pool with this guid, import number and next log block, that of a sync of this group with this moment and root
+abbrev pub uberblock_with : (guid import_number log_address group moment : ℕ) → Pointer → Uberblock
+uberblock_with guid import_number log_address group moment root = record {
+  group = group;
+  guid = guid;
+  moment = moment;
+  root = root;
+  import_number = import_number;
+  log_address = log_address;
+  log_number = 0;
+}
+
+-- a sync writes the bytes of this uberblock, in the slot of its group
+pub record WritesUberblock (u : Uberblock) (run : SyncRun) : Type 0 where
+  pub slot : run.slot ≡ slot_of u.group
+  pub bytes : IsUberblock run.uberblock u
