@@ -1,5 +1,5 @@
 -- Steps one after another keep what a pool keeps of its device.
-use Rattle.std.proofs.Common.{◌≡◌, ℕ, false, List, [], ◌∷◌, length, refl, ap, sym, subst, ◌∙◌, ◌⊎◌, inl, inr}
+use Rattle.std.proofs.Common.{◌≡◌, ℕ, false, List, [], ◌∷◌, refl, ap, sym, subst, ◌∙◌, ◌⊎◌, inl, inr}
 use Rattle.std.specs.Prelude.{Option, Some, None, Result, Ok, Err}
 use Rattle.std.proofs.lemmas.Bool.{false≢true}
 use Rattle.base.specs.declared.error.PoolError.{PoolError}
@@ -14,11 +14,9 @@ use Rattle.base.specs.Steps.{State, Progress}
 use Rattle.base.specs.Steps.Progress.{More, Synced}
 use Rattle.base.specs.Stage as stage
 use Rattle.base.specs.Runs.{Step, Run, reply_of, progress_reply}
-use Rattle.base.specs.Stored.{NewTree, IsKept, SameBlocks, Held, IsHeld, Starts, Calls, Moves, is_turn}
-use Rattle.base.specs.Refusals as refusal
-use Rattle.base.proofs.CommitOrder.{ok-none}
+use Rattle.base.specs.Stored.{NewTree, IsKept, Held, IsHeld, Starts, Calls, Moves, is_turn, total_calls}
 use Rattle.base.proofs.KeptTables.{steps_keep_tables}
-use Rattle.base.proofs.StoredTrees.{advance-keeps, same-keeps}
+use Rattle.base.proofs.StoredCalls.{advance-keeps}
 use Rattle.base.proofs.StoredSteps.{steps_keep_kept}
 use Rattle.base.proofs.StoredStarts.{start-keeps}
 use Rattle.base.proofs.StoredSyncs.{finish-keeps}
@@ -61,8 +59,8 @@ turn-of keeps bytes step.SyncStep r old new (answer, is, h) = stepped keeps byte
 module _ (old new : Held) (x : IsHeld old) where
   -- what is kept after a call, while all that is shown is as before
   called : (after : NewTree) → Calls old new after → IsKept new.now old.state.shown old.pointers (Some after) old.state.past
-  called after c = advance-keeps old.now new.now old.state.shown old.pointers old.state.past c.before after
-      (subst (λ (o : Option NewTree). IsKept old.now old.state.shown old.pointers o old.state.past) c.running x.kept) c.advances
+  called after c = advance-keeps old.now old.state.shown old.pointers old.state.past x.explained c.before
+      (subst (λ (o : Option NewTree). IsKept old.now old.state.shown old.pointers o old.state.past) c.running x.kept) c.group new.now after c.syncing c.advances
 
   -- with other pointers and another running sync
   told : (pointers : Place → Pointer) (running : Option NewTree) → new.pointers ≡ pointers → new.running ≡ running → IsKept new.now new.state.shown pointers running new.state.past
@@ -74,12 +72,12 @@ module _ (old new : Held) (x : IsHeld old) where
     abbrev Kept : Type 0
     Kept = IsKept new.now new.state.shown new.pointers new.running new.state.past
 
-    -- a step that changes no block
+    -- a step that leaves the device
     beside : (r : declared_reply.Reply) → Step keeps bytes s r old.state new.state → is_turn r ≡ false
-        → SameBlocks old.state.shown.blocks old.now new.now × (new.pointers ≡ old.pointers) × (new.running ≡ old.running) → Kept
+        → (new.now ≡ old.now) × (new.pointers ≡ old.pointers) × (new.running ≡ old.running) → Kept
     beside r h off (same, pointers_are, running_is) = told old.pointers old.running pointers_are running_is
         (steps_keep_kept new.now old.pointers old.running keeps bytes s r old.state new.state h off x.explained
-        (same-keeps old.now new.now old.state.shown old.pointers old.state.past old.running x.kept same))
+        (subst (λ (l : List ℕ). IsKept l old.state.shown old.pointers old.running old.state.past) (sym same) x.kept))
 
     -- a call of a sync that has more to make
     more : (r : declared_reply.Reply) → Step keeps bytes s r old.state new.state → is_turn r ≡ false
@@ -103,17 +101,13 @@ module _ (old new : Held) (x : IsHeld old) where
 
     -- the start of a sync
     start : (group : ℕ) (moment : ℕ) → stage.StartSync keeps bytes moment (Ok group) old.state new.state → Starts group old new → Kept
-    start group moment h m = told old.pointers (Some (record { pointers = m.tree; blocks = m.bs; made = 0 })) m.pointers m.running
-        (same-keeps old.now new.now new.state.shown old.pointers new.state.past (Some (record { pointers = m.tree; blocks = m.bs; made = 0 }))
-        (start-keeps keeps bytes old.now moment group m.plan old.state new.state old.pointers m.tree m.bs x.explained x.kept.stored h m.plan_is (m.planned x))
-        (subst (λ (n : ℕ). SameBlocks n old.now new.now) (same-count group moment h) m.same))
-      where
-        same-count : (group moment : ℕ) → stage.StartSync keeps bytes moment (Ok group) old.state new.state → old.state.shown.blocks ≡ new.state.shown.blocks
-        same-count group moment h = let d = (ok-none (refusal.start_refusal old.state.shown) group old.state new.state _ _ h).1 in ap (λ (u : State). u.shown.blocks) (sym d.4)
+    start group moment h m = told old.pointers (Some (record { pointers = m.tree; blocks = m.bs; slot = m.slot; done = 0 })) m.pointers m.running
+        (subst (λ (l : List ℕ). IsKept l new.state.shown old.pointers (Some (record { pointers = m.tree; blocks = m.bs; slot = m.slot; done = 0 })) new.state.past) (sym m.same)
+        (start-keeps keeps bytes old.now moment group m.plan old.state new.state old.pointers m.tree m.bs m.slot x.explained old.running x.kept h m.plan_is m.slot_is (m.planned x)))
 
     -- its end
     end : (group : ℕ) → steps.SyncStep (Ok (Synced group)) old.state new.state
-        → (after : NewTree) × Calls old new after × (after.made ≡ length after.blocks) × (new.pointers ≡ after.pointers) × (new.running ≡ None) → Kept
+        → (after : NewTree) × Calls old new after × (after.done ≡ total_calls after) × (new.pointers ≡ after.pointers) × (new.running ≡ None) → Kept
     end group h (after, call, all, pointers_are, running_is) = told after.pointers None pointers_are running_is
         (finish-keeps new.now group old.state new.state old.pointers after x.explained (called after call) all h)
 

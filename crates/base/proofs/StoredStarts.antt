@@ -1,7 +1,9 @@
 -- The start of a sync: what it takes is free, and what it plans is from the synced tree to that of the contents.
-use Rattle.std.proofs.Common.{◌≡◌, ℕ, ◌+◌, Bool, true, false, not, ◌&&◌, List, length, map, refl, ap, sym, subst, ◌∙◌, arith, ◌⊎◌, inl, inr}
-use Rattle.std.specs.Prelude.{Option, Some, None, Ok, is_some, is_none, slice_get, IfSome, unwrap_or}
+use Rattle.std.proofs.Common.{◌≡◌, ℕ, ◌+◌, ◌-◌, ◌*◌, ◌/◌, ◌≤◌, Bool, true, false, not, ◌&&◌, List, length, map, refl, ap, sym, subst, ◌∙◌, arith, ◌⊎◌, inl, inr}
+use Rattle.std.specs.Prelude.{Option, Some, None, Ok, ◌≢◌, is_some, is_none, slice_get, IfSome, unwrap_or, option_map, find}
 use Rattle.std.specs.Ordering.{nat_cmp}
+use Rattle.std.specs.FinMap as finite
+use Rattle.std.specs.FinMap.{FinMap}
 use Rattle.std.specs.FinSet as set
 use Rattle.std.specs.FinSet.{contains-difference}
 use Rattle.std.proofs.lemmas.Bool.{and_parts, or_parts, not-true, false≢true, cases_lt}
@@ -9,23 +11,36 @@ use Rattle.std.proofs.lemmas.Cmp.{nat_cmp_total}
 use Rattle.base.specs.declared.pointer.Pointer.{Pointer}
 use Rattle.base.specs.Locks.{is_in}
 use Rattle.base.specs.Groups.{Middle}
-use Rattle.base.specs.Geometry.{IsBlockAddress}
-use Rattle.base.specs.Places.{Place, IsInTree}
-use Rattle.base.specs.PlannedTrees.{NewBlock}
+use Rattle.base.specs.Limits.{object_count}
+use Rattle.base.specs.Fields.{part, number_at}
+use Rattle.base.specs.Geometry.{block_area, block_size, IsGeometry, IsBlockAddress}
+use Rattle.base.specs.Blocks.{Frame}
+use Rattle.base.specs.Places.{Place, IsInTree, kind_of}
+use Rattle.base.specs.Places.Place.{Root, Directory, Indirect, Data}
+use Rattle.base.specs.PlacedTrees.{HoldsTree}
+use Rattle.base.specs.PlannedTrees.{NewBlock, IsTreePlan}
 use Rattle.base.specs.Past.{Past}
 use Rattle.base.specs.Rising.{rising}
-use Rattle.base.specs.Shown.{Shown, SyncPlan, taken_of}
+use Rattle.base.specs.Logs.{KeptBlock, header_at, reaches_above}
+use Rattle.base.specs.Uberblocks.{IsUberblock}
+use Rattle.base.specs.Shown.{Shown, SyncPlan, taken_of, uberblock_of}
 use Rattle.base.specs.Exact.{AreFree, IsInLog}
 use Rattle.base.specs.ExactNow.{IsExplainedNow}
 use Rattle.base.specs.Refusals as refusal
 use Rattle.base.specs.Steps as steps
 use Rattle.base.specs.Steps.{State, IsPlanned}
 use Rattle.base.specs.Stage as stage
-use Rattle.base.specs.Stored.{NewTree, IsStored, IsPlannedSync, IsSyncing, IsKept, AreBlocks, LeavesTree, IsUnwritten, AreUpTo, frame_at}
+use Rattle.base.specs.ShownLabels.{ShowsSynced, AreLabelsShown}
+use Rattle.base.specs.Stored.{NewTree, IsStored, IsPlannedSync, IsSyncing, RunsAs, IsKept, AreBlocks, LeavesTree, IsUnwritten, AreUpTo, AreUsed, frame_at}
 use Rattle.base.proofs.BusyLocks.{Some-injective}
 use Rattle.base.proofs.CommitOrder.{no_refusal, ok-none}
 use Rattle.base.proofs.KeptGroups.{quiesced_is, none_there}
-use Rattle.base.proofs.WrittenBlocks.{free-leaves_tree}
+use Rattle.base.proofs.PlacedTrees.{in-tree, opens-at}
+use Rattle.base.proofs.WrittenBlocks.{put_blocks, free-leaves_tree, new-stand, planned-written}
+use Rattle.base.proofs.FreedBlocks.{new-in_tree}
+use Rattle.base.proofs.WrittenRecords.{bounded-no_others}
+use Rattle.base.proofs.LabelPlaces.{geometry-large}
+use Rattle.base.proofs.StoredLabels.{synced-state}
 use Rattle.base.proofs.StoredSets.{in-at, at-in, set-at, at-set, rising-in, rising-rises, at-take, map-at}
 
 -- where a sync may start, its group is the quiesced one and none runs
@@ -127,18 +142,53 @@ module _ (now : List ℕ) (s : Shown) (p : Past) (pointers : Place → Pointer) 
           | inr is ↦ inr (inr (at-in address plan.taken (set-at plan.taken address is)))
         ]
 
+-- the kind of a tree's block is not that of a log block
+kind-in_tree : (place : Place) → kind_of place ≢ 6
+kind-in_tree Root = λ same. omega (arith, same)
+kind-in_tree (Directory d) = λ same. omega (arith, same)
+kind-in_tree (Indirect n) = λ same. omega (arith, same)
+kind-in_tree (Data n r) = λ same. omega (arith, same)
+
+-- so no new block of a planned tree is one
+new-not_log : (now : List ℕ) (frame grown : Frame) (bs : List NewBlock) (old new : Place → Pointer) (before after : FinMap nat_cmp (List ℕ)) → grown.guid ≡ frame.guid → grown.blocks ≡ frame.blocks → frame.group ≤ grown.group
+    → HoldsTree now frame old before → IsTreePlan bs grown old new before after → ((n : ℕ) → object_count ≤ n → finite.get after n ≡ None) → AreBlocks grown.blocks bs → LeavesTree bs old → AreUsed bs new
+    → block_area + block_size * grown.blocks ≤ length now → (i : ℕ) (b : NewBlock) → slice_get bs i ≡ Some b → number_at b.content 0 ≢ 6
+new-not_log now frame grown bs old new before after guids counts later olds planned no_others are leaves used room i b at =
+    let image : List ℕ = put_blocks bs now in
+    let news : HoldsTree image grown new after = planned-written now frame grown bs old new before after guids counts later olds planned no_others are leaves room in
+    let t = in-tree image grown new after news b.address (new-in_tree now image frame grown bs old new before after olds news planned leaves grown.blocks are used b.address (i, b, at, refl)) in
+    let o = opens-at image grown new after news t.0 t.1 t.3 in
+    let stands : part image b.address block_size ≡ b.content = (new-stand grown.blocks bs now are room i b at).stands in
+    let kind : number_at b.content 0 ≡ kind_of t.0 = ap (λ (l : List ℕ). number_at l 0) (sym stands) ∙ ap (λ (a : ℕ). number_at (part image a block_size) 0) (sym t.2) ∙ o.1.block.kind_is in
+    λ same. kind-in_tree t.0 (sym kind ∙ same)
+
+-- what a pool keeps while no sync runs: also what its labels show
+pub idle-shows : (now : List ℕ) (s : Shown) (p : Past) (pointers : Place → Pointer) (running : Option NewTree) → s.line.syncing ≡ None → RunsAs now s pointers running p → AreLabelsShown now s running p → ShowsSynced now s p
+idle-shows now s p pointers None idle y labels = labels
+idle-shows now s p pointers (Some new) idle y labels = absurd (let no_way : None ≡ Some y.group = sym idle ∙ y.syncing in cc)
+
+-- what is kept of the device before a sync is started, but for its tree
+pub record IsIdle (now : List ℕ) (s : Shown) (past : Past) : Type 0 where
+  pub shows : ShowsSynced now s past
+  pub geometry : IsGeometry (length now)
+
 -- what is stored stays as a sync starts, and the sync has written nothing yet
-pub start-state : (now : List ℕ) (moment group : ℕ) (plan : SyncPlan) (s : State) (pointers new : Place → Pointer) (bs : List NewBlock) → IsExplainedNow s.shown s.past → (x : IsStored now s.shown pointers s.past)
-    → s.shown.line.middle ≡ Some (record { group = group; quiesced = true }) → s.shown.line.syncing ≡ None → IsPlanned s moment group plan
-    → IsPlannedSync (frame_at s.shown group) pointers new bs x.synced.objects s.shown.contents.objects plan
-    → IsKept now (steps.state_after_start group plan s).shown pointers (Some (record { pointers = new; blocks = bs; made = 0 })) (steps.state_after_start group plan s).past
-start-state now moment group plan s pointers new bs explained x middle idle planned y = record { stored = stored; sync = syncing }
+pub start-state : (now : List ℕ) (moment group : ℕ) (plan : SyncPlan) (s : State) (pointers new : Place → Pointer) (bs : List NewBlock) (slot : List ℕ) → IsExplainedNow s.shown s.past → (x : IsStored now s.shown pointers s.past)
+    → IsIdle now s.shown s.past → s.shown.line.middle ≡ Some (record { group = group; quiesced = true }) → s.shown.line.syncing ≡ None → IsPlanned s moment group plan
+    → IsUberblock slot (uberblock_of s.shown group plan) → IsPlannedSync (frame_at s.shown group) pointers new bs x.synced.objects s.shown.contents.objects plan
+    → IsKept now (steps.state_after_start group plan s).shown pointers (Some (record { pointers = new; blocks = bs; slot = slot; done = 0 })) (steps.state_after_start group plan s).past
+start-state now moment group plan s pointers new bs slot explained x idle_is middle idle planned coded y = record {
+  stored = stored;
+  sync = syncing;
+  geometry = idle_is.geometry;
+  labels = inl (omega arith, synced-state now s.shown t.shown s.past t.past idle_is.shows refl);
+}
   where
     t : State
     t = steps.state_after_start group plan s
 
     tree : NewTree
-    tree = record { pointers = new; blocks = bs; made = 0 }
+    tree = record { pointers = new; blocks = bs; slot = slot; done = 0 }
 
     up_to : AreUpTo group s.past.entries
     up_to = all_up_to now s.shown s.past pointers x explained group idle middle
@@ -159,6 +209,21 @@ start-state now moment group plan s pointers new bs explained x middle idle plan
       built = x.built;
     }
 
+    are : AreBlocks s.shown.blocks bs
+    are = taken-blocks now s.shown s.past pointers x explained group idle plan bs planned.taken y.taken y.whole
+
+    leaves : LeavesTree bs pointers
+    leaves = taken-leaves now s.shown s.past pointers x explained group idle plan bs planned.taken y.taken
+
+    next : group ≡ s.shown.line.synced + 1
+    next = next-group now s.shown s.past pointers x explained group idle middle
+
+    room : block_area + block_size * s.shown.blocks ≤ length now
+    room =
+        let large = geometry-large (length now) idle_is.geometry in
+        let count : s.shown.blocks ≡ (length now - 524288 - 4194304) / 4096 = x.blocks in
+        omega (arith, large, count)
+
     syncing : IsSyncing now t.shown pointers tree t.past
     syncing = record {
       group = group;
@@ -168,23 +233,29 @@ start-state now moment group plan s pointers new bs explained x middle idle plan
       synced = x.synced;
       replayed = x.replayed;
       planned = y;
-      are = taken-blocks now s.shown s.past pointers x explained group idle plan bs planned.taken y.taken y.whole;
-      leaves = taken-leaves now s.shown s.past pointers x explained group idle plan bs planned.taken y.taken;
+      are = are;
+      leaves = leaves;
       log_apart = taken-not_log now s.shown s.past pointers x explained group idle plan bs planned.taken y.taken;
-      made = omega arith;
+      not_log = new-not_log now (frame_at s.shown s.shown.line.synced) (frame_at s.shown group) bs pointers new x.synced.objects s.shown.contents.objects refl refl (omega (arith, next)) x.tree y.planned
+          (bounded-no_others s.shown.contents explained.exact.bounded) are leaves y.used room;
+      header = planned.header ∙ ap (λ (bs : List KeptBlock). unwrap_or (option_map header_at (find (reaches_above group) bs)) s.shown.log.next) x.no_log;
+      slot = coded;
+      done = omega arith;
       written = λ i b below at. absurd (omega (arith, below));
     }
 
 -- the start of a sync, as a step
-pub start-keeps : (keeps : Type 0) (bytes now : List ℕ) (moment group : ℕ) (plan : SyncPlan) (old new : State) (pointers made : Place → Pointer) (bs : List NewBlock) → IsExplainedNow old.shown old.past
-    → (x : IsStored now old.shown pointers old.past) → stage.StartSync keeps bytes moment (Ok group) old new → new.shown.sync ≡ Some plan
-    → IsPlannedSync (frame_at old.shown group) pointers made bs x.synced.objects old.shown.contents.objects plan
-    → IsKept now new.shown pointers (Some (record { pointers = made; blocks = bs; made = 0 })) new.past
-start-keeps keeps bytes now moment group plan old new pointers made bs explained x h runs y =
+pub start-keeps : (keeps : Type 0) (bytes now : List ℕ) (moment group : ℕ) (plan : SyncPlan) (old new : State) (pointers made : Place → Pointer) (bs : List NewBlock) (slot : List ℕ) → IsExplainedNow old.shown old.past
+    → (running : Option NewTree) (x : IsKept now old.shown pointers running old.past) → stage.StartSync keeps bytes moment (Ok group) old new → new.shown.sync ≡ Some plan → IsUberblock slot (uberblock_of old.shown group plan)
+    → IsPlannedSync (frame_at old.shown group) pointers made bs x.stored.synced.objects old.shown.contents.objects plan
+    → IsKept now new.shown pointers (Some (record { pointers = made; blocks = bs; slot = slot; done = 0 })) new.past
+start-keeps keeps bytes now moment group plan old new pointers made bs slot explained running x h runs coded y =
     let done = ok-none (refusal.start_refusal old.shown) group old new _ _ h in
     let d = done.1 in
     let line = start-line old.shown group done.0 d.1 in
     let same : d.0 ≡ plan = Some-injective (sym (ap (λ (u : State). u.shown.sync) d.4) ∙ runs) in
-    subst (λ (u : State). IsKept now u.shown pointers (Some (record { pointers = made; blocks = bs; made = 0 })) u.past) (sym d.4)
-    (start-state now moment group d.0 old pointers made bs explained x line.0 line.1 d.2
-    (subst (λ (q : SyncPlan). IsPlannedSync (frame_at old.shown group) pointers made bs x.synced.objects old.shown.contents.objects q) (sym same) y))
+    let idle : IsIdle now old.shown old.past = record { shows = idle-shows now old.shown old.past pointers running line.1 x.sync x.labels; geometry = x.geometry } in
+    subst (λ (u : State). IsKept now u.shown pointers (Some (record { pointers = made; blocks = bs; slot = slot; done = 0 })) u.past) (sym d.4)
+    (start-state now moment group d.0 old pointers made bs slot explained x.stored idle line.0 line.1 d.2
+    (subst (λ (q : SyncPlan). IsUberblock slot (uberblock_of old.shown group q)) (sym same) coded)
+    (subst (λ (q : SyncPlan). IsPlannedSync (frame_at old.shown group) pointers made bs x.stored.synced.objects old.shown.contents.objects q) (sym same) y))

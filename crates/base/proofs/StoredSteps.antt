@@ -28,11 +28,13 @@ use Rattle.base.specs.Stage as stage
 use Rattle.base.specs.declared.step.Reply.TheVariants as reply
 use Rattle.base.specs.Runs.{Step, reply_of, progress_reply}
 use Rattle.base.specs.ExactNow.{IsExplainedNow}
+use Rattle.base.specs.ShownLabels.{AreLabelsShown}
 use Rattle.base.specs.Stored.{NewTree, IsStored, IsSyncing, RunsAs, IsKept, AreUpTo, AreBuilt, is_turn}
 use Rattle.base.proofs.BusyLocks.{Some-injective}
 use Rattle.base.proofs.CommitOrder.{no_refusal, push-cases}
 use Rattle.base.proofs.KeptLists.{found_at}
 use Rattle.base.proofs.KeptGroups.{held_above, quiescing_is, none_there}
+use Rattle.base.proofs.StoredLabels.{synced-state, counted-state, labels-state}
 
 -- the free blocks are the same where a sync has taken the same
 pub free-state : (now : List ℕ) (s t : Shown) → taken_of t.sync ≡ taken_of s.sync → AreFree now s
@@ -68,7 +70,7 @@ module _ (now : List ℕ) (s t : Shown) (pointers : Place → Pointer) (p q : Pa
 
   -- a running sync stays where only its steps are counted
   pub syncing-state : (new : NewTree) (x : IsSyncing now s pointers new p) (left : ℕ) → t.sync ≡ Some (record x.plan { steps_left = left })
-      → IsSyncing now (record t { guid = s.guid; blocks = s.blocks; line = record t.line { synced = s.line.synced; syncing = s.line.syncing }; contents = s.contents; log = record t.log { next = s.log.next } })
+      → IsSyncing now (record t { guid = s.guid; import_number = s.import_number; blocks = s.blocks; line = record t.line { synced = s.line.synced; syncing = s.line.syncing }; contents = s.contents; log = record t.log { next = s.log.next } })
       pointers new (record q { base = p.base; entries = p.entries })
   syncing-state new x left running = record {
     group = x.group;
@@ -88,18 +90,26 @@ module _ (now : List ℕ) (s t : Shown) (pointers : Place → Pointer) (p q : Pa
     are = x.are;
     leaves = x.leaves;
     log_apart = x.log_apart;
-    made = x.made;
+    not_log = x.not_log;
+    header = x.header;
+    slot = x.slot;
+    done = x.done;
     written = x.written;
   }
 
   -- all stays where the line moves on in the middle and there are more admissions
   pub kept-state : (running : Option NewTree) → IsKept now s pointers running p → IfSome t.line.middle (λ (m : Middle). AreUpTo m.group p.entries) → AreBuilt q.admissions
-      → IsKept now (record t { guid = s.guid; blocks = s.blocks; line = record t.line { synced = s.line.synced; syncing = s.line.syncing }; contents = s.contents; free = s.free; log = record t.log { kept = s.log.kept; next = s.log.next }; root = s.root; sync = s.sync })
+      → IsKept now (record t { guid = s.guid; import_number = s.import_number; blocks = s.blocks; line = record t.line { synced = s.line.synced; syncing = s.line.syncing }; contents = s.contents; free = s.free; log = record t.log { kept = s.log.kept; next = s.log.next }; root = s.root; sync = s.sync })
       pointers running (record q { base = p.base; entries = p.entries })
-  kept-state running x middle built = record { stored = stored; sync = runs running x.sync }
+  kept-state running x middle built = record {
+    stored = stored;
+    sync = runs running x.sync;
+    geometry = x.geometry;
+    labels = labels-state now s after p (record q { base = p.base; entries = p.entries }) running x.labels;
+  }
     where
       after : Shown
-      after = record t { guid = s.guid; blocks = s.blocks; line = record t.line { synced = s.line.synced; syncing = s.line.syncing }; contents = s.contents; free = s.free; log = record t.log { kept = s.log.kept; next = s.log.next }; root = s.root; sync = s.sync }
+      after = record t { guid = s.guid; import_number = s.import_number; blocks = s.blocks; line = record t.line { synced = s.line.synced; syncing = s.line.syncing }; contents = s.contents; free = s.free; log = record t.log { kept = s.log.kept; next = s.log.next }; root = s.root; sync = s.sync }
 
       stored : IsStored now after pointers (record q { base = p.base; entries = p.entries })
       stored = record {
@@ -130,7 +140,10 @@ module _ (now : List ℕ) (s t : Shown) (pointers : Place → Pointer) (p q : Pa
         are = y.are;
         leaves = y.leaves;
         log_apart = y.log_apart;
-        made = y.made;
+        not_log = y.not_log;
+        header = y.header;
+        slot = y.slot;
+        done = y.done;
         written = y.written;
       }
 
@@ -156,7 +169,7 @@ module _ (now : List ℕ) (pointers : Place → Pointer) (running : Option NewTr
 
   -- what changes neither the line nor the admissions
   stays : (s t : Shown) (p q : Past) → IsKept now s pointers running p
-      → IsKept now (record t { guid = s.guid; blocks = s.blocks; line = s.line; contents = s.contents; free = s.free; log = record t.log { kept = s.log.kept; next = s.log.next }; root = s.root; sync = s.sync })
+      → IsKept now (record t { guid = s.guid; import_number = s.import_number; blocks = s.blocks; line = s.line; contents = s.contents; free = s.free; log = record t.log { kept = s.log.kept; next = s.log.next }; root = s.root; sync = s.sync })
       pointers running (record q { base = p.base; entries = p.entries; admissions = p.admissions })
   stays s t p q x = kept-state now s (record t { line = s.line }) pointers p (record q { admissions = p.admissions }) running x x.stored.middle x.stored.built
 
@@ -248,6 +261,9 @@ module _ (now : List ℕ) (pointers : Place → Pointer) (running : Option NewTr
                 (subst (λ (o : Option Middle). IfSome o (λ (m : Middle). AreUpTo m.group t.past.entries)) (sym idle.0) tt)
                 (subst (λ (o : Option ℕ). IfSome o (λ group. AreUpTo group t.past.entries)) (sym idle.1) tt) x.stored.built;
             sync = subst (λ (o : Option NewTree). RunsAs now t.shown pointers o t.past) (sym off.0) off.1;
+            geometry = x.geometry;
+            labels = subst (λ (o : Option NewTree). AreLabelsShown now t.shown o t.past) (sym off.0)
+                (synced-state now s t.shown p t.past (subst (λ (o : Option NewTree). AreLabelsShown now s o p) off.0 x.labels) (up_to_push s.line.synced p.entries e (transaction_above tx s p a explained there)));
           }
 
   -- a device call of a sync was made, and more are left
@@ -255,10 +271,16 @@ module _ (now : List ℕ) (pointers : Place → Pointer) (running : Option NewTr
   more plan old x is = record {
     stored = stored-state now old.shown t.shown pointers old.past t.past x.stored (ap taken_of (sym is)) refl x.stored.middle x.stored.syncing x.stored.built;
     sync = runs running x.sync;
+    geometry = x.geometry;
+    labels = shown running x.sync x.labels;
   }
     where
       t : State
       t = steps.state_after_step plan old
+
+      shown : (o : Option NewTree) → RunsAs now old.shown pointers o old.past → AreLabelsShown now old.shown o old.past → AreLabelsShown now t.shown o t.past
+      shown None none labels = absurd (let no_way : None ≡ Some plan = sym none ∙ is in cc)
+      shown (Some new) y labels = counted-state now old.shown t.shown old.past t.past new (plan.steps_left - 1) plan is refl labels
 
       runs : (o : Option NewTree) → RunsAs now old.shown pointers o old.past → RunsAs now t.shown pointers o t.past
       runs None none = absurd (let no_way : None ≡ Some plan = sym none ∙ is in cc)

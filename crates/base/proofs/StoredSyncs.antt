@@ -1,6 +1,6 @@
 -- The end of a sync: its tree is the synced one, and the blocks that it has replaced are free.
-use Rattle.std.proofs.Common.{◌≡◌, ℕ, ◌+◌, Bool, true, false, ◌||◌, List, [], ◌∷◌, ◌++◌, length, map, filter, refl, ap, sym, subst, ◌∙◌, arith, ◌⊎◌, inl, inr}
-use Rattle.std.specs.Prelude.{Option, Some, None, Ok, slice_get, IfSome, nat_le}
+use Rattle.std.proofs.Common.{◌≡◌, ℕ, ◌+◌, ◌≤◌, Bool, true, false, ◌||◌, List, [], ◌∷◌, ◌++◌, length, map, filter, refl, ap, sym, subst, ◌∙◌, arith, ◌⊎◌, inl, inr}
+use Rattle.std.specs.Prelude.{Option, Some, None, Ok, slice_get, IfSome, nat_le, unwrap_or, option_map}
 use Rattle.std.specs.Ordering.{nat_cmp}
 use Rattle.std.specs.FinSet as set
 use Rattle.std.specs.FinSet.{FinSet, contains-union}
@@ -17,15 +17,16 @@ use Rattle.base.specs.Places.Place.{Root}
 use Rattle.base.specs.PlacedTrees.{HoldsTree}
 use Rattle.base.specs.PlannedTrees.{NewBlock, StandsIn}
 use Rattle.base.specs.Past.{Past}
-use Rattle.base.specs.Logs.{Log, KeptBlock, blocks_before, log_after_sync}
-use Rattle.base.specs.Shown.{Shown, SyncPlan, taken_of}
+use Rattle.base.specs.Logs.{Log, KeptBlock, blocks_before, header_at, log_after_sync}
+use Rattle.base.specs.Shown.{Shown, SyncPlan, taken_of, uberblock_of}
 use Rattle.base.specs.Exact.{AreFree, IsInLog}
 use Rattle.base.specs.ExactNow.{IsExplainedNow}
 use Rattle.base.specs.Refusals as refusal
 use Rattle.base.specs.Steps as steps
 use Rattle.base.specs.Steps.{State, Progress, returned_addresses}
 use Rattle.base.specs.Steps.Progress.{Synced}
-use Rattle.base.specs.Stored.{NewTree, IsStored, IsSyncing, IsKept, AreUpTo, frame_at}
+use Rattle.base.specs.ShownLabels.{ShowsUberblock, ShowsSynced, AreLabelsShown}
+use Rattle.base.specs.Stored.{NewTree, IsStored, IsSyncing, IsKept, AreUpTo, total_calls, frame_at}
 use Rattle.base.proofs.BusyLocks.{Some-injective}
 use Rattle.base.proofs.CommitOrder.{ok-none}
 use Rattle.base.proofs.Sieves.{filter_all}
@@ -50,7 +51,7 @@ either : (a b : Bool) → (a || b) ≡ true → (a ≡ true) ⊎ (b ≡ true)
 either true b h = inl refl
 either false b h = inr h
 
-module _ (now : List ℕ) (s : Shown) (p : Past) (pointers : Place → Pointer) (new : NewTree) (x : IsStored now s pointers p) (y : IsSyncing now s pointers new p) (explained : IsExplainedNow s p) (done : new.made ≡ length new.blocks) where
+module _ (now : List ℕ) (s : Shown) (p : Past) (pointers : Place → Pointer) (new : NewTree) (x : IsStored now s pointers p) (y : IsSyncing now s pointers new p) (explained : IsExplainedNow s p) (done : length new.blocks ≤ new.done) where
   -- the contents are those of the entries up to its group
   group-up_to : AreUpTo y.group p.entries
   group-up_to = subst (λ (o : Option ℕ). IfSome o (λ group. AreUpTo group p.entries)) y.syncing x.syncing
@@ -204,39 +205,73 @@ module _ (now : List ℕ) (s : Shown) (p : Past) (pointers : Place → Pointer) 
   pub log-apart : New s.log.next.address → ⊥
   log-apart is = elim (new-from s.log.next.address is) as (λ _. ⊥) [ inl old ↦ x.log_apart old | inr h ↦ y.log_apart h.0 h.1 h.2 h.3 ]
 
+-- the uberblock that the labels show is that of the synced group
+end-shows : (now : List ℕ) (s : State) (pointers : Place → Pointer) (new : NewTree) (y : IsSyncing now s.shown pointers new s.past) → s.shown.log.kept ≡ [] → new.done ≡ total_calls new → AreLabelsShown now s.shown (Some new) s.past
+    → ShowsSynced now (steps.state_after_sync y.group y.plan s).shown (steps.state_after_sync y.group y.plan s).past
+end-shows now s pointers new y no_log done (inl (low, z)) = absurd (omega (arith, low, done))
+end-shows now s pointers new y no_log done (inr (high, z)) =
+    let of_group : z.group ≡ y.group = Some-injective (sym z.syncing ∙ y.syncing) in
+    let of_plan : z.plan ≡ y.plan = Some-injective (sym z.running ∙ y.running) in
+    record {
+      contents = z.contents;
+      replayed = subst (λ (g : ℕ). replay (entries_up_to g s.past.entries) s.past.base ≡ Ok z.contents) of_group z.replayed;
+      shows = record {
+        u = uberblock_of s.shown y.group y.plan;
+        shows = subst (λ (q : SyncPlan). ShowsUberblock now (uberblock_of s.shown y.group q) z.contents.name) of_plan
+            (subst (λ (g : ℕ). ShowsUberblock now (uberblock_of s.shown g z.plan) z.contents.name) of_group z.shows);
+        guid = refl;
+        group_is = refl;
+        import_is = refl;
+        root_is = refl;
+        header_is = y.header ∙ sym (ap (λ (bs : List KeptBlock). unwrap_or (option_map header_at (slice_get bs 0)) s.shown.log.next)
+            (ap (λ (bs : List KeptBlock). filter (λ (b : KeptBlock). nat_le y.plan.header.number b.number) bs) no_log));
+      };
+    }
+
 -- with its last step the new tree is what is stored
-end-state : (now : List ℕ) (s : State) (pointers : Place → Pointer) (new : NewTree) → IsExplainedNow s.shown s.past → (x : IsStored now s.shown pointers s.past) (y : IsSyncing now s.shown pointers new s.past)
-    → new.made ≡ length new.blocks → IsKept now (steps.state_after_sync y.group y.plan s).shown new.pointers None (steps.state_after_sync y.group y.plan s).past
-end-state now s pointers new explained x y done = record {
+end-state : (now : List ℕ) (s : State) (pointers : Place → Pointer) (new : NewTree) → IsExplainedNow s.shown s.past → (k : IsKept now s.shown pointers (Some new) s.past)
+    → new.done ≡ total_calls new → IsKept now (steps.state_after_sync k.sync.group k.sync.plan s).shown new.pointers None (steps.state_after_sync k.sync.group k.sync.plan s).past
+end-state now s pointers new explained k done = record {
   stored = record {
     synced = s.shown.contents;
-    replayed = group-replayed now s.shown s.past pointers new x y explained done;
+    replayed = group-replayed now s.shown s.past pointers new x y explained behind;
     blocks = x.blocks;
-    tree = news now s.shown s.past pointers new x y explained done;
+    tree = news now s.shown s.past pointers new x y explained behind;
     root = y.planned.root;
-    free = free-synced now s.shown s.past pointers new x y explained done (steps.state_after_sync y.group y.plan s).shown;
-    no_log = log-kept now s.shown s.past pointers new x y explained done;
+    free = free-synced now s.shown s.past pointers new x y explained behind (steps.state_after_sync y.group y.plan s).shown;
+    no_log = log-kept now s.shown s.past pointers new x y explained behind;
     log_block = x.log_block;
-    log_apart = log-apart now s.shown s.past pointers new x y explained done;
+    log_apart = log-apart now s.shown s.past pointers new x y explained behind;
     middle = x.middle;
     syncing = tt;
     built = x.built;
   };
   sync = refl;
+  geometry = k.geometry;
+  labels = end-shows now s pointers new y x.no_log done k.labels;
 }
+  where
+    x : IsStored now s.shown pointers s.past
+    x = k.stored
+
+    y : IsSyncing now s.shown pointers new s.past
+    y = k.sync
+
+    behind : length new.blocks ≤ new.done
+    behind = omega (arith, done)
 
 pub finish-state : (now : List ℕ) (group : ℕ) (plan : SyncPlan) (s : State) (pointers : Place → Pointer) (new : NewTree) → IsExplainedNow s.shown s.past → IsKept now s.shown pointers (Some new) s.past
-    → new.made ≡ length new.blocks → s.shown.line.syncing ≡ Some group → s.shown.sync ≡ Some plan → IsKept now (steps.state_after_sync group plan s).shown new.pointers None (steps.state_after_sync group plan s).past
+    → new.done ≡ total_calls new → s.shown.line.syncing ≡ Some group → s.shown.sync ≡ Some plan → IsKept now (steps.state_after_sync group plan s).shown new.pointers None (steps.state_after_sync group plan s).past
 finish-state now group plan s pointers new explained x done syncing running =
     let of_group : x.sync.group ≡ group = Some-injective (sym x.sync.syncing ∙ syncing) in
     let of_plan : x.sync.plan ≡ plan = Some-injective (sym x.sync.running ∙ running) in
     subst (λ (g : ℕ). IsKept now (steps.state_after_sync g plan s).shown new.pointers None (steps.state_after_sync g plan s).past) of_group
     (subst (λ (q : SyncPlan). IsKept now (steps.state_after_sync x.sync.group q s).shown new.pointers None (steps.state_after_sync x.sync.group q s).past) of_plan
-    (end-state now s pointers new explained x.stored x.sync done))
+    (end-state now s pointers new explained x done))
 
 -- the end of a sync, as a step
 pub finish-keeps : (now : List ℕ) (group : ℕ) (old new : State) (pointers : Place → Pointer) (tree : NewTree) → IsExplainedNow old.shown old.past → IsKept now old.shown pointers (Some tree) old.past
-    → tree.made ≡ length tree.blocks → steps.SyncStep (Ok (Synced group)) old new → IsKept now new.shown tree.pointers None new.past
+    → tree.done ≡ total_calls tree → steps.SyncStep (Ok (Synced group)) old new → IsKept now new.shown tree.pointers None new.past
 finish-keeps now group old new pointers tree explained x done h =
     let d = (ok-none (refusal.sync_step_refusal old.shown) (Synced group) old new _ _ h).1 in
     subst (λ (u : State). IsKept now u.shown tree.pointers None u.past) (sym d.4.2) (finish-state now d.0 d.1 old pointers tree explained x done d.2 d.3)

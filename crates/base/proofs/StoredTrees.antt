@@ -1,12 +1,12 @@
 -- What a pool keeps of its device, while its bytes change and nothing that is shown does.
-use Rattle.std.proofs.Common.{◌≡◌, ℕ, zero, suc, ◌+◌, ◌-◌, ◌*◌, ◌/◌, ◌%◌, ◌<◌, ◌≤◌, ◌&&◌, true, List, length, refl, ap, sym, subst, ◌∙◌, arith, ◌⊎◌, inl, inr}
-use Rattle.std.specs.Prelude.{Option, Some, None, slice_get, nat_le, ◌==◌, ◌≢◌}
+use Rattle.std.proofs.Common.{◌≡◌, ℕ, ◌+◌, ◌-◌, ◌*◌, ◌/◌, ◌<◌, ◌≤◌, true, List, length, refl, ap, sym, subst, ◌∙◌, arith, ◌⊎◌, inl, inr}
+use Rattle.std.specs.Prelude.{Some, slice_get, ◌≢◌}
 use Rattle.std.specs.Ordering.{nat_cmp}
 use Rattle.std.specs.FinMap.{FinMap}
-use Rattle.std.proofs.lemmas.Bool.{cases_lt, and_parts, leb-true}
+use Rattle.std.proofs.lemmas.Bool.{cases_lt, cases_order}
 use Rattle.std.proofs.lemmas.Option.{slice_get_within}
 use Rattle.base.specs.declared.pointer.Pointer.{Pointer}
-use Rattle.base.specs.Fields.{part}
+use Rattle.base.specs.Fields.{part, number_at}
 use Rattle.base.specs.Geometry.{block_area, block_size, block_address, block_count, label_place, IsGeometry, IsBlockAddress}
 use Rattle.base.specs.Blocks.{Frame}
 use Rattle.base.specs.Disk.{put, SameOutside, IsInRange}
@@ -20,8 +20,10 @@ use Rattle.base.specs.Past.{Past}
 use Rattle.base.specs.Shown.{Shown, taken_of}
 use Rattle.base.specs.Exact.{AreFree, IsInLog}
 use Rattle.base.specs.Explains.{IsSyncedTree}
-use Rattle.base.specs.Stored.{NewTree, IsStored, IsSyncing, IsKept, SameBlocks, Advances, frame_at}
+use Rattle.base.specs.ShownLabels.{HasNoLogBlock}
+use Rattle.base.specs.Stored.{NewTree, IsStored, IsSyncing, SameBlocks, total_calls, frame_at}
 use Rattle.base.proofs.Put.{Apart, length-put, part-put_same, part-put_apart}
+use Rattle.base.proofs.LabelPlaces.{geometry-large, label-apart}
 use Rattle.base.proofs.BusyLocks.{Some-injective}
 use Rattle.base.proofs.PlacedTrees.{holds-tree, holds-placed, none_or_opens, in-tree, told-in_tree}
 use Rattle.base.proofs.PlannedTrees.{holds-elsewhere}
@@ -95,6 +97,12 @@ outside-blocks Region blocks now later same out = record {
         let to : i < address + block_size = here.1 in
         omega (arith, at, below, to, behind)
 
+-- no block becomes a log block then
+pub same-no_log : (now later : List ℕ) → HasNoLogBlock now → SameBlocks (block_count (length now)) now later → HasNoLogBlock later
+same-no_log now later none same address area =
+    let before : IsBlockAddress (block_count (length now)) address = subst (λ (n : ℕ). IsBlockAddress (block_count n) address) same.size area in
+    subst (λ (l : List ℕ). number_at l 0 ≢ 6) (sym (same.each address before)) (none address before)
+
 -- so does no change at all
 pub no-change : (blocks : ℕ) (now : List ℕ) → SameBlocks blocks now now
 no-change blocks now = record { size = refl; each = λ address is. refl }
@@ -138,8 +146,8 @@ module _ (now later : List ℕ) (s : Shown) (pointers : Place → Pointer) (past
       back address = subst (λ (root : Pointer). IsInTree later root address → IsInTree now root address) x.root (tree-along later now frame frame pointers x.synced.objects x.synced.objects tree x.tree address)
 
   -- a running sync goes on where what it has written stands
-  pub syncing-along : (new : NewTree) (more : ℕ) → (x : IsSyncing now s pointers new past) → more ≤ length new.blocks
-      → ((i : ℕ) (b : NewBlock) → i < more → slice_get new.blocks i ≡ Some b → StandsIn later s.blocks b) → IsSyncing later s pointers (record new { made = more }) past
+  pub syncing-along : (new : NewTree) (more : ℕ) → (x : IsSyncing now s pointers new past) → more ≤ total_calls new
+      → ((i : ℕ) (b : NewBlock) → i < more → slice_get new.blocks i ≡ Some b → StandsIn later s.blocks b) → IsSyncing later s pointers (record new { done = more }) past
   syncing-along new more x bound stands = record {
     group = x.group;
     plan = x.plan;
@@ -151,19 +159,22 @@ module _ (now later : List ℕ) (s : Shown) (pointers : Place → Pointer) (past
     are = x.are;
     leaves = x.leaves;
     log_apart = x.log_apart;
-    made = bound;
+    not_log = x.not_log;
+    header = x.header;
+    slot = x.slot;
+    done = bound;
     written = stands;
   }
 
   -- one more block is written
-  module _ (new : NewTree) (b : NewBlock) (x : IsStored now s pointers past) (y : IsSyncing now s pointers new past) (at : slice_get new.blocks new.made ≡ Some b) (is : later ≡ put b.address b.content now) where
+  module _ (new : NewTree) (b : NewBlock) (x : IsStored now s pointers past) (y : IsSyncing now s pointers new past) (at : slice_get new.blocks new.done ≡ Some b) (is : later ≡ put b.address b.content now) where
     area : IsBlockAddress s.blocks b.address
-    area = y.are.in_area new.made b at
+    area = y.are.in_area new.done b at
 
     fits : b.address + length b.content ≤ length now
     fits =
         let low = address-fits s.blocks (length now) b.address x.blocks area in
-        let long = y.are.whole new.made b at in
+        let long = y.are.whole new.done b at in
         omega (arith, low, long)
 
     size : length later ≡ length now
@@ -173,12 +184,12 @@ module _ (now later : List ℕ) (s : Shown) (pointers : Place → Pointer) (past
     other : (address : ℕ) → IsBlockAddress s.blocks address → b.address ≢ address → part later address block_size ≡ part now address block_size
     other address in_area differ =
         let side : Apart b.address (length b.content) address block_size =
-        subst (λ (n : ℕ). Apart b.address n address block_size) (sym (y.are.whole new.made b at)) (blocks-apart s.blocks b.address address area in_area differ) in
+        subst (λ (n : ℕ). Apart b.address n address block_size) (sym (y.are.whole new.done b at)) (blocks-apart s.blocks b.address address area in_area differ) in
         ap (λ (l : List ℕ). part l address block_size) is ∙ part-put_apart b.address b.content now address block_size fits side
 
     -- and this one has its bytes
     here : part later b.address block_size ≡ b.content
-    here = ap (λ (l : List ℕ). part l b.address block_size) is ∙ ap (λ (n : ℕ). part (put b.address b.content now) b.address n) (sym (y.are.whole new.made b at)) ∙ part-put_same b.address b.content now fits
+    here = ap (λ (l : List ℕ). part l b.address block_size) is ∙ ap (λ (n : ℕ). part (put b.address b.content now) b.address n) (sym (y.are.whole new.done b at)) ∙ part-put_same b.address b.content now fits
 
     pub written-stored : IsStored later s pointers past
     written-stored = stored-along x size (λ place in_range some. same place in_range some)
@@ -186,44 +197,49 @@ module _ (now later : List ℕ) (s : Shown) (pointers : Place → Pointer) (past
         same : (place : Place) → IsPlace place → SameBlock now later (pointers place)
         same place in_range some = elim (stored-placed now s pointers past x place in_range) as (λ _. part later (pointers place).address block_size ≡ part now (pointers place).address block_size) [
           | inl none ↦ absurd (some none)
-          | inr in_area ↦ other (pointers place).address in_area (y.leaves place in_range some new.made b at)
+          | inr in_area ↦ other (pointers place).address in_area (y.leaves place in_range some new.done b at)
         ]
 
-    pub written-syncing : IsSyncing later s pointers (record new { made = new.made + 1 }) past
-    written-syncing = syncing-along new (new.made + 1) y (let below = slice_get_within new.blocks new.made b at in omega (arith, below)) stands
+    pub written-syncing : IsSyncing later s pointers (record new { done = new.done + 1 }) past
+    written-syncing = syncing-along new (new.done + 1) y (let below = slice_get_within new.blocks new.done b at in omega (arith, below)) stands
       where
-        stands : (i : ℕ) (c : NewBlock) → i < new.made + 1 → slice_get new.blocks i ≡ Some c → StandsIn later s.blocks c
-        stands i c below at_c = elim (cases_lt i new.made) as (λ _. StandsIn later s.blocks c) [
+        stands : (i : ℕ) (c : NewBlock) → i < new.done + 1 → slice_get new.blocks i ≡ Some c → StandsIn later s.blocks c
+        stands i c below at_c = elim (cases_lt i new.done) as (λ _. StandsIn later s.blocks c) [
           | inl before ↦
-              let differ : b.address ≢ c.address = λ same. (let one = y.are.apart new.made i b c at at_c same in omega (arith, one, before)) in
+              let differ : b.address ≢ c.address = λ same. (let one = y.are.apart new.done i b c at at_c same in omega (arith, one, before)) in
               record { in_area = y.are.in_area i c at_c; stands = other c.address (y.are.in_area i c at_c) differ ∙ (y.written i c before at_c).stands }
           | inr from ↦
-              let one : new.made ≡ i = omega (arith, from, below) in
+              let one : new.done ≡ i = omega (arith, from, below) in
               let same : b ≡ c = Some-injective (sym at ∙ ap (λ (j : ℕ). slice_get new.blocks j) one ∙ at_c) in
               subst (λ (d : NewBlock). StandsIn later s.blocks d) same (record { in_area = area; stands = here })
         ]
+
+    -- which is no log block
+    pub written-no_log : HasNoLogBlock now → HasNoLogBlock later
+    written-no_log none address area = by_address (cases_order b.address address)
+      where
+        before : IsBlockAddress (block_count (length now)) address
+        before = subst (λ (n : ℕ). IsBlockAddress (block_count n) address) size area
+
+        differs : b.address ≢ address → number_at (part later address block_size) 0 ≢ 6
+        differs differ = subst (λ (l : List ℕ). number_at l 0 ≢ 6) (sym (other address (subst (λ (n : ℕ). IsBlockAddress n address) (sym x.blocks) before) differ)) (none address before)
+
+        by_address : (b.address ≡ address) ⊎ ((b.address < address) ⊎ (address < b.address)) → number_at (part later address block_size) 0 ≢ 6
+        by_address (inl same) = subst (λ (l : List ℕ). number_at l 0 ≢ 6) (sym (ap (λ (a : ℕ). part later a block_size) (sym same) ∙ here)) (y.not_log new.done b at)
+        by_address (inr (inl less)) = differs (λ same. omega (arith, same, less))
+        by_address (inr (inr more)) = differs (λ same. omega (arith, same, more))
 
   -- each block is as it was
   pub same-stored : IsStored now s pointers past → SameBlocks s.blocks now later → IsStored later s pointers past
   same-stored x same = stored-along x same.size (blocks-along s.blocks now later pointers (stored-placed now s pointers past x) same)
 
-  pub same-syncing : (new : NewTree) → IsSyncing now s pointers new past → SameBlocks s.blocks now later → IsSyncing later s pointers new past
-  same-syncing new y same = syncing-along new new.made y y.made (λ i b below at. record {
+  -- a call of a running sync behind its blocks
+  pub same-syncing : (new : NewTree) → IsSyncing now s pointers new past → length new.blocks ≤ new.done → new.done + 1 ≤ total_calls new → SameBlocks s.blocks now later
+      → IsSyncing later s pointers (record new { done = new.done + 1 }) past
+  same-syncing new y behind bound same = syncing-along new (new.done + 1) y bound (λ i b below at. record {
     in_area = y.are.in_area i b at;
-    stands = same.each b.address (y.are.in_area i b at) ∙ (y.written i b below at).stands;
+    stands = same.each b.address (y.are.in_area i b at) ∙ (y.written i b (let within = slice_get_within new.blocks i b at in omega (arith, within, behind)) at).stands;
   })
-
-  -- a device call of a sync
-  pub advance-keeps : (old new : NewTree) → IsKept now s pointers (Some old) past → Advances s.blocks now later old new → IsKept later s pointers (Some new) past
-  advance-keeps old new x (inl (b, at, is, one_more)) = subst (λ (n : NewTree). IsKept later s pointers (Some n) past) (sym one_more)
-      (record { stored = written-stored old b x.stored x.sync at is; sync = written-syncing old b x.stored x.sync at is })
-  advance-keeps old new x (inr (same, as_before)) = subst (λ (n : NewTree). IsKept later s pointers (Some n) past) (sym as_before)
-      (record { stored = same-stored x.stored same; sync = same-syncing old x.sync same })
-
-  -- a change outside the blocks, whether a sync runs or not
-  pub same-keeps : (running : Option NewTree) → IsKept now s pointers running past → SameBlocks s.blocks now later → IsKept later s pointers running past
-  same-keeps None x same = record { stored = same-stored x.stored same; sync = x.sync }
-  same-keeps (Some new) x same = record { stored = same-stored x.stored same; sync = same-syncing new x.sync same }
 
 -- bytes that are put outside the block area leave each block as it was
 pub outside-put : (blocks : ℕ) (now : List ℕ) (place : ℕ) (content : List ℕ) → place + length content ≤ length now → (place + length content ≤ block_area) ⊎ (block_area + block_size * blocks ≤ place)
@@ -240,20 +256,9 @@ outside-put blocks now place content fits out = record {
         let below : is.0 < blocks = is.1 in
         inr (omega (arith, at, below, behind))
 
--- the labels lie before and behind the block area
-label-apart : (size label place n : ℕ) → 6291456 ≤ size → label < 4 → label_place size label ≤ place → place + n ≤ label_place size label + 262144
-    → (place + n ≤ size) × ((place + n ≤ block_area) ⊎ (block_area + block_size * block_count size ≤ place))
-label-apart size zero place n large below from to = (omega (arith, large, from, to), inl (omega (arith, from, to)))
-label-apart size (suc zero) place n large below from to = (omega (arith, large, from, to), inl (omega (arith, from, to)))
-label-apart size (suc (suc zero)) place n large below from to = (omega (arith, large, from, to), inr (omega (arith, large, from, to)))
-label-apart size (suc (suc (suc zero))) place n large below from to = (omega (arith, large, from, to), inr (omega (arith, large, from, to)))
-label-apart size (suc (suc (suc (suc k)))) place n large below from to = absurd (omega (arith, below))
-
 -- so a write of a config or an uberblock leaves each block as it was
 pub label-put : (now : List ℕ) (label place : ℕ) (content : List ℕ) → IsGeometry (length now) → label < 4 → label_place (length now) label ≤ place
     → place + length content ≤ label_place (length now) label + 262144 → SameBlocks (block_count (length now)) now (put place content now)
 label-put now label place content geometry below from to =
-    let limits = and_parts (nat_le 6291456 (length now) && nat_le (length now) 1073741824) ((length now % 262144) == 0) geometry in
-    let large : 6291456 ≤ length now = leb-true 6291456 (length now) (and_parts (nat_le 6291456 (length now)) (nat_le (length now) 1073741824) limits.0).0 in
-    let apart = label-apart (length now) label place (length content) large below from to in
+    let apart = label-apart (length now) label place (length content) (geometry-large (length now) geometry) below from to in
     outside-put (block_count (length now)) now place content apart.0 apart.1

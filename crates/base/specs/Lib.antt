@@ -49,4 +49,7 @@ pub mod SyncOrder
 pub mod ExactNow
 pub mod SyncEnds
 pub mod Errors
+pub mod SyncCalls
+pub mod ShownLabels
 pub mod Stored
+pub mod HeldMounts

@@ -1,5 +1,6 @@
--- What a pool keeps of its device: the synced tree with its pointers, the free blocks, and of a running sync the tree and the blocks that it plans.
-use Rattle.std.specs.Prelude.{ℕ, ◌≡◌, ◌≢◌, ◌≤◌, ◌<◌, ◌+◌, ◌⊎◌, Bool, true, false, List, [], map, length, slice_get, All, Option, Some, None, IfSome, Ok}
+-- What a pool keeps of its device: the synced tree with its pointers, the free blocks, of a running sync the tree, the blocks and the
+-- uberblock that it writes, and what the labels show.
+use Rattle.std.specs.Prelude.{ℕ, ◌≡◌, ◌≢◌, ◌≤◌, ◌<◌, Bool, true, false, List, [], map, length, slice_get, All, Option, Some, None, IfSome, Ok}
 use Rattle.std.specs.List.{list_all}
 use Rattle.std.specs.Ordering.{nat_cmp}
 use Rattle.std.specs.FinMap.{FinMap}
@@ -7,18 +8,20 @@ use Rattle.base.specs.declared.pointer.Pointer.{Pointer}
 use Rattle.base.specs.declared.step.Reply.{Reply}
 use Rattle.base.specs.declared.step.Reply.TheVariants as reply
 use Rattle.base.specs.Contents.{Contents}
-use Rattle.base.specs.Fields.{part, no_pointer}
-use Rattle.base.specs.Geometry.{block_size, block_count, IsBlockAddress}
+use Rattle.base.specs.Fields.{part, number_at, no_pointer}
+use Rattle.base.specs.Geometry.{block_size, block_count, IsGeometry, IsBlockAddress}
 use Rattle.base.specs.History.{Entry, replay, entries_up_to}
 use Rattle.base.specs.Groups.{Middle, Admission}
 use Rattle.base.specs.Blocks.{Frame}
-use Rattle.base.specs.Disk.{put}
 use Rattle.base.specs.Places.{Place, IsPlace, IsInTree}
 use Rattle.base.specs.Places.Place.{Root}
 use Rattle.base.specs.PlacedTrees.{HoldsTree}
 use Rattle.base.specs.PlannedTrees.{NewBlock, IsTreePlan, StandsIn, AreFreed}
 use Rattle.base.specs.Past.{Past}
-use Rattle.base.specs.Shown.{Shown, SyncPlan}
+use Rattle.base.specs.Uberblocks.{IsUberblock}
+use Rattle.base.specs.Shown.{Shown, SyncPlan, uberblock_of}
+pub use Rattle.base.specs.SyncCalls.{NewTree, Advances, total_calls}
+use Rattle.base.specs.ShownLabels.{AreLabelsShown}
 use Rattle.base.specs.Stage.{is_shape_built}
 use Rattle.base.specs.Exact.{AreFree}
 use Rattle.base.specs.ExactNow.{IsExplainedNow}
@@ -70,12 +73,6 @@ pub record IsStored (now : List ℕ) (s : Shown) (pointers : Place → Pointer) 
   pub syncing : IfSome s.line.syncing (λ group. AreUpTo group past.entries)
   pub built : AreBuilt past.admissions
 
--- what a running sync makes: the pointers of the new tree, its blocks, and how many of them are written
-pub record NewTree : Type 0 where
-  pub pointers : Place → Pointer
-  pub blocks : List NewBlock
-  pub made : ℕ
-
 -- from the tree of the old pointers, of the objects before, a sync makes one of the new pointers and the objects after by writing these blocks
 pub record IsPlannedSync (frame : Frame) (old new : Place → Pointer) (bs : List NewBlock) (before after : FinMap nat_cmp (List ℕ)) (plan : SyncPlan) : Type 0 where
   pub planned : IsTreePlan bs frame old new before after
@@ -85,8 +82,8 @@ pub record IsPlannedSync (frame : Frame) (old new : Place → Pointer) (bs : Lis
   pub used : AreUsed bs new
   pub root : new Root ≡ plan.root
 
--- The sync of the syncing group runs: it makes the tree of the contents, none of its blocks is one of the old tree or of the log, and
--- the first so many of them are written.
+-- The sync of the syncing group runs: it makes the tree of the contents, none of its blocks is one of the old tree or of the log, none
+-- is a log block, and those are written whose calls were made. Its uberblock is the one of its plan.
 pub record IsSyncing (now : List ℕ) (s : Shown) (old : Place → Pointer) (new : NewTree) (past : Past) : Type 0 where
   pub group : ℕ
   pub plan : SyncPlan
@@ -98,29 +95,28 @@ pub record IsSyncing (now : List ℕ) (s : Shown) (old : Place → Pointer) (new
   pub are : AreBlocks s.blocks new.blocks
   pub leaves : LeavesTree new.blocks old
   pub log_apart : IsUnwritten new.blocks s.log.next.address
-  pub made : new.made ≤ length new.blocks
-  pub written : (i : ℕ) (b : NewBlock) → i < new.made → slice_get new.blocks i ≡ Some b → StandsIn now s.blocks b
+  pub not_log : (i : ℕ) (b : NewBlock) → slice_get new.blocks i ≡ Some b → number_at b.content 0 ≢ 6
+  pub header : plan.header ≡ s.log.next
+  pub slot : IsUberblock new.slot (uberblock_of s group plan)
+  pub done : new.done ≤ total_calls new
+  pub written : (i : ℕ) (b : NewBlock) → i < new.done → slice_get new.blocks i ≡ Some b → StandsIn now s.blocks b
 
 -- the sync that runs, or that none does
 abbrev pub RunsAs : List ℕ → Shown → (Place → Pointer) → Option NewTree → Past → Type 0
 RunsAs now s old None past = s.sync ≡ None
 RunsAs now s old (Some new) past = IsSyncing now s old new past
 
--- all of it
+-- all of it, with what the labels show
 pub record IsKept (now : List ℕ) (s : Shown) (pointers : Place → Pointer) (running : Option NewTree) (past : Past) : Type 0 where
   pub stored : IsStored now s pointers past
   pub sync : RunsAs now s pointers running past
+  pub geometry : IsGeometry (length now)
+  pub labels : AreLabelsShown now s running past
 
 -- of so many blocks each is the same in both images
 pub record SameBlocks (blocks : ℕ) (before after : List ℕ) : Type 0 where
   pub size : length after ≡ length before
   pub each : (address : ℕ) → IsBlockAddress blocks address → part after address block_size ≡ part before address block_size
-
--- a device call of a sync wrote the next of its blocks, or left each block of the area as it was
-abbrev pub Advances : ℕ → List ℕ → List ℕ → NewTree → NewTree → Type 0
-Advances blocks now later old new =
-    ((b : NewBlock) × (slice_get old.blocks old.made ≡ Some b) × (later ≡ put b.address b.content now) × (new ≡ record old { made = old.made + 1 }))
-    ⊎ (SameBlocks blocks now later × (new ≡ old))
 
 -- whether a reply says that the sync of a group was started, or is done: what is kept of the device turns then
 abbrev pub is_turn : Reply → Bool
@@ -142,24 +138,28 @@ pub record IsHeld (h : Held) : Type 0 where
 
 -- the sync of a group was started: its tree and blocks are planned from the stored tree, and nothing is written
 pub record Starts (group : ℕ) (old new : Held) : Type 0 where
-  pub same : SameBlocks old.state.shown.blocks old.now new.now
+  pub same : new.now ≡ old.now
   pub pointers : new.pointers ≡ old.pointers
   pub tree : Place → Pointer
   pub bs : List NewBlock
+  pub slot : List ℕ
   pub plan : SyncPlan
-  pub running : new.running ≡ Some (record { pointers = tree; blocks = bs; made = 0 })
+  pub running : new.running ≡ Some (record { pointers = tree; blocks = bs; slot = slot; done = 0 })
   pub plan_is : new.state.shown.sync ≡ Some plan
+  pub slot_is : IsUberblock slot (uberblock_of old.state.shown group plan)
   pub planned : (x : IsHeld old) → IsPlannedSync (frame_at old.state.shown group) old.pointers tree bs x.kept.stored.synced.objects old.state.shown.contents.objects plan
 
--- a device call of a running sync was made
+-- the next device call of a running sync was made
 pub record Calls (old new : Held) (after : NewTree) : Type 0 where
   pub before : NewTree
   pub running : old.running ≡ Some before
-  pub advances : Advances old.state.shown.blocks old.now new.now before after
+  pub group : ℕ
+  pub syncing : old.state.shown.line.syncing ≡ Some group
+  pub advances : Advances group old.now new.now before after
 
 -- how a step moves the bytes, the pointers and the running sync, by its reply
 abbrev pub Moves : Reply → Held → Held → Type 0
 Moves (reply.Syncing group) old new = Starts group.0 old new
 Moves reply.More old new = (after : NewTree) × Calls old new after × (new.pointers ≡ old.pointers) × (new.running ≡ Some after)
-Moves (reply.Synced group) old new = (after : NewTree) × Calls old new after × (after.made ≡ length after.blocks) × (new.pointers ≡ after.pointers) × (new.running ≡ None)
-Moves _ old new = SameBlocks old.state.shown.blocks old.now new.now × (new.pointers ≡ old.pointers) × (new.running ≡ old.running)
+Moves (reply.Synced group) old new = (after : NewTree) × Calls old new after × (after.done ≡ total_calls after) × (new.pointers ≡ after.pointers) × (new.running ≡ None)
+Moves _ old new = (new.now ≡ old.now) × (new.pointers ≡ old.pointers) × (new.running ≡ old.running)

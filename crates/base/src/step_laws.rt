@@ -2,6 +2,7 @@
 
 ghost use Rattle.base.specs.Additions.{PastsAreTold, PastsGrow};
 ghost use Rattle.base.specs.ExactNow.{StepsKeepTables, RunsKeepTables, NewPoolsAreExplained};
+ghost use Rattle.base.specs.HeldMounts.{MountsAgree, HeldMounts, IdleMounts, StepsWriteNoLog};
 ghost use Rattle.base.specs.SyncEnds.{SuspendedPoolsRefuse, SuspendedPoolsStay, SyncsEndOnTime};
 
 /// Each step keeps what is shown of a pool exact, and its entries a history that leads to its contents.
@@ -42,4 +43,25 @@ pub fn pasts_are_told()
 /// From step to step the past only grows.
 pub fn pasts_grow()
     ensures { PastsGrow }
+{}
+
+/// An image mounts one thing at most: by one uberblock, one chain of log blocks and one tree.
+pub fn mounts_agree()
+    ensures { MountsAgree }
+{}
+
+/// Between two steps the device of a pool, where no block is a log block, mounts the synced group; or, once a running sync has
+/// written an uberblock, the group of the sync.
+pub fn held_pools_mount()
+    ensures { HeldMounts }
+{}
+
+/// While no sync runs it mounts the synced group.
+pub fn idle_pools_mount()
+    ensures { IdleMounts }
+{}
+
+/// No step writes a log block.
+pub fn steps_write_no_log()
+    ensures { StepsWriteNoLog }
 {}
