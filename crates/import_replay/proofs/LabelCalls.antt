@@ -1,10 +1,12 @@
 -- The calls of a sync of the labels, and what they make of the disk.
-use Rattle.std.proofs.Common.{◌≡◌, ℕ, ◌+◌, true, List, [], ◌∷◌, ◌++◌, length, map, take, nat_eq, Option, Some, Ok, refl, sym, ◌∙◌, ap, subst, arith}
+use Rattle.std.proofs.Common.{◌≡◌, ℕ, ◌+◌, true, List, [], ◌∷◌, ◌++◌, length, map, take, nat_eq, Option, Some, Result, Ok, Err, refl, sym, ◌∙◌, ap, subst, arith}
 use Rattle.std.specs.Prelude.{is_some, slice_get, vec_len}
 use Rattle.std.specs.List.{IsDistinct}
 use Rattle.std.specs.Option.{option_map}
 use Rattle.std.proofs.lemmas.List.{take_all, take_more}
 use Rattle.std.proofs.lemmas.Option.{get_or_from_slice_get, slice_get_within}
+use Rattle.base.specs.declared.error.PoolError.{PoolError}
+use Rattle.base.specs.Calls.{Writes}
 use Rattle.base.specs.Disk.{Disk, written}
 use Rattle.base.specs.Geometry.{config_place, slot_of, slot_place}
 use Rattle.base.specs.Labels.{Config}
@@ -20,11 +22,11 @@ use Rattle.sync.specs.declared.run.SyncRun.{SyncRun}
 use Rattle.sync.specs.CallOrder.{stage_after}
 use Rattle.sync.specs.Made.{HasDistinctBlocks}
 use Rattle.sync.specs.Runs.{call_count, other_calls}
-use Rattle.sync.specs.Calls.{IsNextCall, MakesCall, Target, WritesTarget, block_target, calls_of, config_target, first_labels, last_labels}
-use Rattle.import_replay.specs.LabelSyncs.{IsLabelSync, after_call, after_calls, is_even}
+use Rattle.sync.specs.Calls.{IsNextCall, MakesCall, Target, WritesTarget, block_target, calls_of, config_target, first_labels, last_labels, refusal_of}
+use Rattle.import_replay.specs.LabelSyncs.{IsLabelSync, IsStoppedSync, LeavesRefused, after_call, after_calls, is_even}
 
-no_block : {A : Type 0} (f : A → Target) (k : ℕ) (blocks : List A) (old new : Disk) → blocks ≡ [] → WritesTarget (option_map f (slice_get blocks k)) old (Ok tt) new → ⊥
-no_block {A} f k blocks old new none made = subst (λ (bs : List A). WritesTarget (option_map f (slice_get bs k)) old (Ok tt) new) none made
+no_block : {A : Type 0} (f : A → Target) (k : ℕ) (blocks : List A) (old new : Disk) (r : Result (Unit {0}) PoolError) → blocks ≡ [] → WritesTarget (option_map f (slice_get blocks k)) old r new → ⊥
+no_block {A} f k blocks old new r none made = subst (λ (bs : List A). WritesTarget (option_map f (slice_get bs k)) old r new) none made
 
 module _ (size : ℕ) (config : Config) (u : Uberblock) (first : Stage) (run : SyncRun) (is : IsLabelSync size config u first run) where
   -- its calls are those of an import without blocks
@@ -44,7 +46,7 @@ module _ (size : ℕ) (config : Config) (u : Uberblock) (first : Stage) (run : S
   -- a good call makes of the disk what it has to
   pub call_makes : (c : DeviceCall) (old new : Disk) → MakesCall run c old (Ok tt) new → new ≡ after_call size config u c old
   call_makes (Block k) old new made =
-      absurd (no_block block_target k run.blocks.items old new is.blocks made)
+      absurd (no_block block_target k run.blocks.items old new (Ok tt) is.blocks made)
   call_makes (ConfigCall label) old new made =
       subst (λ (s : Option LabelStages). WritesTarget (option_map (config_target run.geometry label) s) old (Ok tt) new) is.stages made
       ∙ ap (λ n. written (config_place n label) (config_block config) true old) is.geometry
@@ -54,6 +56,18 @@ module _ (size : ℕ) (config : Config) (u : Uberblock) (first : Stage) (run : S
       ∙ ap (λ n. written (slot_place size label n) run.uberblock true old) is.slot
       ∙ ap (λ (bytes : List ℕ). written (slot_place size label (slot_of u.group)) bytes true old) is.uberblock
   call_makes Flush old new made = made
+
+  -- and so does one that the device refused
+  call_leaves : (c : DeviceCall) (e : PoolError) (old new : Disk) → MakesCall run c old (Err e) new → LeavesRefused size config u c e old new
+  call_leaves (Block k) e old new made =
+      absurd (no_block block_target k run.blocks.items old new (Err e) is.blocks made)
+  call_leaves (ConfigCall label) e old new made =
+      subst (λ n. Writes old (config_place n label) (config_block config) (Err e) new) is.geometry
+      (subst (λ (s : Option LabelStages). WritesTarget (option_map (config_target run.geometry label) s) old (Err e) new) is.stages made)
+  call_leaves (UberblockCall label) e old new made =
+      subst (λ (bytes : List ℕ). Writes old (slot_place size label (slot_of u.group)) bytes (Err e) new) is.uberblock
+      (subst (λ n. Writes old (slot_place size label n) run.uberblock (Err e) new) is.slot (subst (λ n. Writes old (slot_place n label run.slot) run.uberblock (Err e) new) is.geometry made))
+  call_leaves Flush e old new made = made
 
 none_distinct : IsDistinct nat_eq []
 unfolding IsDistinct
@@ -88,6 +102,17 @@ module _ (size : ℕ) (config : Config) (u : Uberblock) (first : Stage) (run : S
       (ap (λ (l : List DeviceCall). slice_get l run.done) (sym (calls_are size config u first run is)) ∙ at) before (call_makes size config u first run is c old new made)
       ∙ ap (λ n. after_calls size config u (take n (import_calls 0 (is_even first))) start) (sym more)
 
+  -- a call that the device refused stops the sync
+  pub stopped_at : (start old new : Disk) (c : DeviceCall) (e : PoolError) → IsNextCall run c → old ≡ after_calls size config u (take run.done (import_calls 0 (is_even first))) start
+      → MakesCall run c old (Err e) new → e ≡ refusal_of c → IsStoppedSync size config u (import_calls 0 (is_even first)) e start new
+  stopped_at start old new c e at before made refusal = record {
+    done = run.done;
+    call = c;
+    there = ap (λ (l : List DeviceCall). slice_get l run.done) (sym (calls_are size config u first run is)) ∙ at;
+    refusal = refusal;
+    left = subst (λ (d : Disk). LeavesRefused size config u c e d new) before (call_leaves size config u first run is c e old new made);
+  }
+
   -- the calls are twelve
   pub whole : run.done ≡ call_count run → take run.done (import_calls 0 (is_even first)) ≡ import_calls 0 (is_even first)
   whole all = take_all run.done (import_calls 0 (is_even first)) (let twelve = by_stage first in let count = ap (λ (s : Option LabelStages). other_calls s) is.stages in omega (arith, twelve, all, count))
@@ -99,3 +124,8 @@ module _ (size : ℕ) (config : Config) (u : Uberblock) (first : Stage) (run : S
   -- no two blocks have one place
   pub distinct_blocks : HasDistinctBlocks run
   distinct_blocks = no_distinct run.blocks.items is.blocks (λ b. b.index)
+
+-- the same sync of equal fields
+pub stopped_same : (size : ℕ) (config other : Config) (u v : Uberblock) (calls : List DeviceCall) (e : PoolError) (old new : Disk) → config ≡ other → u ≡ v → IsStoppedSync size config u calls e old new → IsStoppedSync size other v calls e old new
+stopped_same size config other u v calls e old new same agree stopped =
+    subst (λ (w : Uberblock). IsStoppedSync size other w calls e old new) agree (subst (λ (c : Config). IsStoppedSync size c u calls e old new) same stopped)

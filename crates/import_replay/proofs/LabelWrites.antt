@@ -37,7 +37,7 @@ pub settles : (old new : Disk) (r : Result (Unit {0}) PoolError) → Flushes old
 settles old new (Ok x) is = (flushed_clean old new is).0
 settles old new (Err e) is = tt
 
-length-zeros : (n : ℕ) → length (zeros n) ≡ n
+pub length-zeros : (n : ℕ) → length (zeros n) ≡ n
 unfolding zeros
 length-zeros n = length-replicate n 0
 

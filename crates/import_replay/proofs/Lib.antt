@@ -1,5 +1,6 @@
 pub mod LabelWrites
 pub mod NewLabels
+pub mod OutsideWrites
 pub mod FreeBlocks
 pub mod Rings
 pub mod Configs
@@ -11,3 +12,4 @@ pub mod ImportedLabels
 pub mod WrittenImports
 pub mod ByteObjects
 pub mod MountedPools
+pub mod StoppedImports

@@ -4,6 +4,7 @@ use Rattle.std.specs.Prelude.{nat_lt}
 use Rattle.std.specs.Ordering.{nat_cmp}
 use Rattle.std.specs.FinMap.{FinMap, get-empty}
 use Rattle.std.specs.FinSet as set
+use Rattle.std.specs.FinSet.{FinSet}
 use Rattle.std.proofs.lemmas.Bool.{or_parts, ltb-false}
 use Rattle.base.specs.declared.pointer.Pointer.{Pointer}
 use Rattle.base.specs.Blocks.{Frame}
@@ -31,8 +32,8 @@ use Rattle.object_maps.specs.declared.contents.Slot.{Slot}
 use Rattle.object_maps.specs.declared.tree.Tree.{Tree}
 use Rattle.object_maps.specs.ContentsShown.{contents_of}
 use Rattle.object_maps.specs.Pointers.{objects_of, pointers_of}
-use Rattle.import_replay.specs.FreeBlocks.{AreAllNamed, IsNamed}
-use Rattle.import_replay.specs.ImportRefusals.{HasAllBlocks}
+use Rattle.import_replay.specs.FreeBlocks.{AreAllNamed, HasTakenLowest, IsNamed}
+use Rattle.import_replay.specs.ImportRefusals.{HasAllBlocks, HasSoundPool}
 use Rattle.import_replay.specs.Labelled.{HoldLabels}
 use Rattle.import_replay.specs.LabelSyncs.{HasSameBlocks}
 use Rattle.import_replay.specs.Mounts.{IsImport, IsMountedFrom, frame_of_import, shown_of_import}
@@ -62,6 +63,37 @@ all_blocks size u tree slots image long held root named address is =
     let block : IsBlockAddress (block_count size) address = subst (λ n. IsBlockAddress (block_count n) address) long is in
     subst (λ (p : Pointer). IsInTree image p address) root
     (tree-of_named image (frame_at u size) (pointers_of tree) (objects_of slots) held address (not_zero (block_count size) address block) (named address block))
+
+-- the tree that was loaded is that of a pool without a fault
+pub sound_pool : (size : ℕ) (u : Uberblock) (name : List ℕ) (tree : Tree) (slots : List Slot) (image : List ℕ) → length image ≡ size → HoldsTree image (frame_at u size) (pointers_of tree) (objects_of slots)
+    → tree.root ≡ u.root → HasPool image u name → HasSoundPool image u name
+sound_pool size u name tree slots image long held root pool = record {
+  pool = pool;
+  objects = objects_of slots;
+  tree = subst (λ (n : ℕ). IsTree image (frame_at u n) u.root (objects_of slots)) (sym long)
+      (subst (λ (p : Pointer). IsTree image (frame_at u size) p (objects_of slots)) root (holds-tree image (frame_at u size) (pointers_of tree) (objects_of slots) held));
+}
+
+-- the lowest block that its pointers do not name is the first log block
+pub log_block_found : (size : ℕ) (u : Uberblock) (tree : Tree) (slots : List Slot) (image : List ℕ) → length image ≡ size → HoldsTree image (frame_at u size) (pointers_of tree) (objects_of slots)
+    → tree.root ≡ u.root → (address : ℕ) (free : FinSet nat_cmp) → HasTakenLowest (pointers_of tree) (block_count size) address free → IsFirstLogBlock image u [] image u.root address
+log_block_found size u tree slots image long held root address free taken = record {
+  in_area = subst (λ (n : ℕ). IsBlockAddress (block_count n) address) (sym long) taken.is_block;
+  not_old = not_used;
+  not_new = not_in_tree;
+  lowest = λ other below is.
+      (let block : IsBlockAddress (block_count size) other = subst (λ (n : ℕ). IsBlockAddress (block_count n) other) long is in
+      inr (subst (λ (p : Pointer). IsInTree image p other) root
+      (tree-of_named image (frame_at u size) (pointers_of tree) (objects_of slots) held other (not_zero (block_count size) other block) (taken.lowest other below block))));
+}
+  where
+    not_in_tree : IsInTree image u.root address → ⊥
+    not_in_tree is =
+        taken.is_unnamed (named-of_tree image (frame_at u size) (pointers_of tree) (objects_of slots) held address (subst (λ (p : Pointer). IsInTree image p address) (sym root) is))
+
+    not_used : IsUsed image u.root [] address → ⊥
+    not_used (inl is) = not_in_tree is
+    not_used (inr is) = let low = is.1 in omega (arith, low)
 
 -- the numbers of an import that is not past the last
 pub group-within : (group import_number : ℕ) → is_past_last group import_number ≡ false → group + 5 ≤ last_number

@@ -1,14 +1,13 @@
 -- What a refusal says of the image.
-use Rattle.std.proofs.Common.{◌≡◌, inl, inr, ℕ, List, true, Result, Ok, Err, IfErr, sym, subst}
+use Rattle.std.proofs.Common.{◌≡◌, ◌⊎◌, inl, inr, ℕ, List, Result, Ok, Err, IfErr, sym, subst}
 use Rattle.std.specs.Prelude.{IsErrAnd}
 use Rattle.base.specs.declared.error.PoolError.{PoolError}
-use Rattle.base.specs.declared.error.PoolError.TheVariants.{Damaged, NoPool, NoSpace, TooMany}
-use Rattle.base.specs.Imports.{is_past_last}
+use Rattle.base.specs.declared.error.PoolError.TheVariants.{BadGeometry, BadRange, Damaged, NoPool, NoSpace, TooMany}
 use Rattle.base.specs.Mount.{HasNoPool, IsTreeDamaged}
 use Rattle.base.specs.Uberblocks.{Uberblock, IsActive}
 use Rattle.object_maps.specs.Loading.{IsLoadRefusal}
 use Rattle.import_replay.specs.Found.{LacksName, LacksUberblock}
-use Rattle.import_replay.specs.ImportRefusals.{HasAllBlocks, IsFindRefusal, IsOpenRefusal, IsReason}
+use Rattle.import_replay.specs.ImportRefusals.{HasLastNumbers, HasNoFreeBlock, IsFindRefusal, IsMountRefusal, IsOpenRefusal, IsReadingRefusal, IsReason, IsSyncRefusal}
 
 -- an error that is passed on
 pub passed_on : {A : Type 0} (r : Result A PoolError) (x : PoolError) (P : PoolError → Type 0) → IsErrAnd r (λ e. e ≡ x) → P x → IfErr r P
@@ -49,26 +48,46 @@ reason-load image e (inl is) = maybe_damaged image e (λ f. cc) (λ f. cc) (λ f
 reason-load image e (inr (inl is)) = maybe_damaged image e (λ f. cc) (λ f. cc) (λ f. cc)
 reason-load image e (inr (inr (kind, address, is))) = maybe_damaged image e (λ f. cc) (λ f. cc) (λ f. cc)
 
--- or that each block is in the tree
-other_than_full : (image : List ℕ) (u : Uberblock) (e : PoolError) → (e ≡ NoPool → ⊥) → (e ≡ TooMany → ⊥) → ((kind address : ℕ) → e ≡ Damaged kind address → ⊥) → IsActive image u
-    → (e ≡ NoSpace → HasAllBlocks image u.root) → IsReason image e
-other_than_full image u e not_pool not_many not_damaged active full = record {
+-- or that no block is free
+other_than_full : (image : List ℕ) (e : PoolError) → (e ≡ NoPool → ⊥) → (e ≡ TooMany → ⊥) → ((kind address : ℕ) → e ≡ Damaged kind address → ⊥) → (e ≡ NoSpace → HasNoFreeBlock image) → IsReason image e
+other_than_full image e not_pool not_many not_damaged full = record {
   no_pool = λ is. absurd (not_pool is);
   too_many = λ is. absurd (not_many is);
   damaged = λ kind address is. absurd (not_damaged kind address is);
-  no_space = λ is. (u, active, full is);
+  no_space = full;
 }
 
-pub reason-open : (image : List ℕ) (u : Uberblock) (e : PoolError) → IsOpenRefusal e → IsActive image u → (e ≡ NoSpace → HasAllBlocks image u.root) → IsReason image e
-reason-open image u e (inl is) = other_than_full image u e (λ f. cc) (λ f. cc) (λ k a f. cc)
-reason-open image u e (inr (inl is)) = other_than_full image u e (λ f. cc) (λ f. cc) (λ k a f. cc)
-reason-open image u e (inr (inr (inl is))) = other_than_full image u e (λ f. cc) (λ f. cc) (λ k a f. cc)
-reason-open image u e (inr (inr (inr is))) = other_than_full image u e (λ f. cc) (λ f. cc) (λ k a f. cc)
+pub reason-open : (image : List ℕ) (e : PoolError) → IsOpenRefusal e → (e ≡ NoSpace → HasNoFreeBlock image) → IsReason image e
+reason-open image e (inl is) = other_than_full image e (λ f. cc) (λ f. cc) (λ k a f. cc)
+reason-open image e (inr (inl is)) = other_than_full image e (λ f. cc) (λ f. cc) (λ k a f. cc)
+reason-open image e (inr (inr (inl is))) = other_than_full image e (λ f. cc) (λ f. cc) (λ k a f. cc)
+reason-open image e (inr (inr (inr is))) = other_than_full image e (λ f. cc) (λ f. cc) (λ k a f. cc)
 
-pub reason-many : (image : List ℕ) (u : Uberblock) → IsActive image u → is_past_last u.group u.import_number ≡ true → IsReason image TooMany
-reason-many image u active past = record {
+pub reason-many : (image : List ℕ) → HasLastNumbers image → IsReason image TooMany
+reason-many image past = record {
   no_pool = λ is. absurd (let f : TooMany ≡ NoPool = is in cc);
-  too_many = λ is. (u, active, past);
+  too_many = λ is. past;
   damaged = λ kind address is. absurd (let f : TooMany ≡ Damaged kind address = is in cc);
   no_space = λ is. absurd (let f : TooMany ≡ NoSpace = is in cc);
 }
+
+-- a refusal before the first write is none of a write or a flush
+pub not_both : (e : PoolError) → IsReadingRefusal e → IsSyncRefusal e → ⊥
+not_both e reading (inl is) = subst IsReadingRefusal is reading
+not_both e reading (inr is) = subst IsReadingRefusal is reading
+
+-- those of a search and of a load come before it
+pub find_reading : (e : PoolError) → IsFindRefusal e → IsReadingRefusal e
+find_reading e (inl is) = subst IsReadingRefusal (sym is) tt
+find_reading e (inr (inl is)) = subst IsReadingRefusal (sym is) tt
+find_reading e (inr (inr is)) = subst IsReadingRefusal (sym is) tt
+
+pub load_reading : (e : PoolError) → IsLoadRefusal e → IsReadingRefusal e
+load_reading e (inl is) = subst IsReadingRefusal (sym is) tt
+load_reading e (inr (inl is)) = subst IsReadingRefusal (sym is) tt
+load_reading e (inr (inr (kind, address, is))) = subst IsReadingRefusal (sym is) tt
+
+-- an import that has begun is not refused by size or limit
+pub has_begun : (e : PoolError) → IsMountRefusal e → (e ≡ BadGeometry) ⊎ (e ≡ BadRange) → ⊥
+has_begun e refusal (inl is) = subst IsMountRefusal is refusal
+has_begun e refusal (inr is) = subst IsMountRefusal is refusal

@@ -1,12 +1,15 @@
 -- When an import is refused.
 use Rattle.std.specs.Prelude.{ℕ, ⊤, ◌≡◌, ◌⊎◌, true, false, List, length}
+use Rattle.std.specs.Ordering.{nat_cmp}
+use Rattle.std.specs.FinMap.{FinMap}
 use Rattle.base.specs.declared.error.PoolError.{PoolError}
 use Rattle.base.specs.declared.error.PoolError.TheVariants.{NoMemory, Read, Write, Flush, NoPool, Damaged, BadGeometry, BadRange, NoSpace, TooMany}
 use Rattle.base.specs.declared.pointer.Pointer.{Pointer}
 use Rattle.base.specs.Geometry.{IsBlockAddress, IsGeometry, block_count}
 use Rattle.base.specs.Places.{IsInTree}
-use Rattle.base.specs.Uberblocks.{Uberblock, IsActive}
-use Rattle.base.specs.Mount.{HasNoPool, IsTreeDamaged}
+use Rattle.base.specs.Uberblocks.{Uberblock}
+use Rattle.base.specs.Tree.{IsTree}
+use Rattle.base.specs.Mount.{HasNoPool, HasPool, IsTreeDamaged, frame_of}
 use Rattle.base.specs.Imports.{is_dirty_max_allowed, is_past_last}
 
 -- an import of a device of so many bytes with this limit may begin
@@ -24,6 +27,16 @@ IsSyncRefusal e = (e ≡ Write) ⊎ (e ≡ Flush)
 -- and before that there may be no memory, or no free block for the log
 abbrev pub IsOpenRefusal : PoolError → Type 0
 IsOpenRefusal e = (e ≡ NoMemory) ⊎ ((e ≡ NoSpace) ⊎ IsSyncRefusal e)
+
+-- an import is refused after its first flush and before its first write
+abbrev pub IsReadingRefusal : PoolError → Type 0
+IsReadingRefusal NoMemory = ⊤
+IsReadingRefusal Read = ⊤
+IsReadingRefusal NoPool = ⊤
+IsReadingRefusal (Damaged kind address) = ⊤
+IsReadingRefusal TooMany = ⊤
+IsReadingRefusal NoSpace = ⊤
+IsReadingRefusal _ = ⊥
 
 -- why an import that has begun is refused
 abbrev pub IsMountRefusal : PoolError → Type 0
@@ -47,10 +60,24 @@ IsImportRefusal size dirty_max e = CanImport size dirty_max × IsMountRefusal e
 abbrev pub HasAllBlocks : List ℕ → Pointer → Type 0
 HasAllBlocks image root = (address : ℕ) → IsBlockAddress (block_count (length image)) address → IsInTree image root address
 
--- What a refusal says of the image: that there is no pool, that the numbers of its active uberblock would pass the last one, that
--- this is the first fault of the active tree, or that the active tree has each block.
+-- the image has a pool with this active uberblock and name, and its tree has no fault
+pub record HasSoundPool (image : List ℕ) (u : Uberblock) (name : List ℕ) : Type 0 where
+  pub pool : HasPool image u name
+  pub objects : FinMap nat_cmp (List ℕ)
+  pub tree : IsTree image (frame_of image u) u.root objects
+
+-- the tree is sound, but the numbers of the active uberblock would pass the last one
+abbrev pub HasLastNumbers : List ℕ → Type 0
+HasLastNumbers image = (u : Uberblock) × (name : List ℕ) × HasSoundPool image u name × (is_past_last u.group u.import_number ≡ true)
+
+-- the tree is sound and the numbers fit, but the tree has each block
+abbrev pub HasNoFreeBlock : List ℕ → Type 0
+HasNoFreeBlock image = (u : Uberblock) × (name : List ℕ) × HasSoundPool image u name × (is_past_last u.group u.import_number ≡ false) × HasAllBlocks image u.root
+
+-- What a refusal says of the image, in the order in which they come: that there is no pool, that this is the first fault of the
+-- active tree, that the numbers would pass the last one, or that no block is free.
 pub record IsReason (image : List ℕ) (e : PoolError) : Type 0 where
   pub no_pool : e ≡ NoPool → HasNoPool image
-  pub too_many : e ≡ TooMany → (u : Uberblock) × IsActive image u × (is_past_last u.group u.import_number ≡ true)
   pub damaged : (kind address : ℕ) → e ≡ Damaged kind address → IsTreeDamaged image kind address
-  pub no_space : e ≡ NoSpace → (u : Uberblock) × IsActive image u × HasAllBlocks image u.root
+  pub too_many : e ≡ TooMany → HasLastNumbers image
+  pub no_space : e ≡ NoSpace → HasNoFreeBlock image

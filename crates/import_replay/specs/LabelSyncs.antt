@@ -1,5 +1,7 @@
 -- What the sync of an import writes.
-use Rattle.std.specs.Prelude.{ℕ, ◌≡◌, ◌<◌, Bool, true, false, List, [], ◌∷◌, Some, length}
+use Rattle.std.specs.Prelude.{ℕ, ◌≡◌, ◌<◌, Bool, true, false, List, [], ◌∷◌, Some, Err, length, slice_get, take}
+use Rattle.base.specs.declared.error.PoolError.{PoolError}
+use Rattle.base.specs.Calls.{Flushes, Writes}
 use Rattle.base.specs.Disk.{Disk, bytes_of, certain, written}
 use Rattle.base.specs.Fields.{part}
 use Rattle.base.specs.Geometry.{block_address, block_count, block_size, config_place, slot_of, slot_place}
@@ -12,6 +14,7 @@ use Rattle.labels.specs.declared.stage.Stage.{Stage}
 use Rattle.labels.specs.declared.stage.Stage.TheVariants.{Even, Odd}
 use Rattle.uberblocks.specs.Slots.{slot_bytes}
 use Rattle.sync.specs.declared.run.SyncRun.{SyncRun}
+use Rattle.sync.specs.Calls.{refusal_of}
 
 -- the bytes after are as many as before, and each block is the same
 pub record HasSameBlocks (size : ℕ) (before after : List ℕ) : Type 0 where
@@ -34,6 +37,21 @@ after_call size config u Flush disk = certain (bytes_of disk.now) disk
 abbrev pub after_calls : (size : ℕ) → Config → Uberblock → List DeviceCall → Disk → Disk
 after_calls size config u [] disk = disk
 after_calls size config u (call ∷ calls) disk = after_calls size config u calls (after_call size config u call disk)
+
+-- the disk after such a call that the device refused: a read gives what it gave, and a refused write may count for a crash
+abbrev pub LeavesRefused : (size : ℕ) → Config → Uberblock → DeviceCall → PoolError → Disk → Disk → Type 0
+LeavesRefused size config u (Block k) e old new = new ≡ old
+LeavesRefused size config u (ConfigCall label) e old new = Writes old (config_place size label) (config_block config) (Err e) new
+LeavesRefused size config u (UberblockCall label) e old new = Writes old (slot_place size label (slot_of u.group)) (slot_bytes u) (Err e) new
+LeavesRefused size config u Flush e old new = Flushes old (Err e) new
+
+-- such a sync stops at one of its calls: those before it are made, and the device refuses this one
+pub record IsStoppedSync (size : ℕ) (config : Config) (u : Uberblock) (calls : List DeviceCall) (e : PoolError) (old new : Disk) : Type 0 where
+  pub done : ℕ
+  pub call : DeviceCall
+  pub there : slice_get calls done ≡ Some call
+  pub refusal : e ≡ refusal_of call
+  pub left : LeavesRefused size config u call e (after_calls size config u (take done calls) old) new
 
 -- a sync of the labels alone, which writes this config and this uberblock, this stage first
 pub record IsLabelSync (size : ℕ) (config : Config) (u : Uberblock) (first : Stage) (run : SyncRun) : Type 0 where

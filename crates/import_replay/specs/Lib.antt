@@ -2,9 +2,11 @@ pub mod CreateRefusals
 pub mod Cleared
 pub mod Creations
 pub mod Labelled
+pub mod Outside
 pub mod Found
 pub mod FreeBlocks
 pub mod ImportRefusals
 pub mod LabelSyncs
 pub mod ImportSyncs
+pub mod ImportStops
 pub mod Mounts

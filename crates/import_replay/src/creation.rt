@@ -1,13 +1,14 @@
 //! A new pool.
 
-ghost use Rattle.std.specs.Prelude.{◌≡◌, ◌⊎◌, IfErr, IfOk, IsTrue, List, OnOk, [], ℕ};
+ghost use Rattle.std.specs.Prelude.{◌≡◌, ◌⊎◌, IfErr, IfOk, IsTrue, List, MatchResult, OnOk, [], ℕ};
 ghost use Rattle.base.specs.Calls.{counted, with_refusal};
-ghost use Rattle.base.specs.Disk.{CrashLeaves, bytes_of};
+ghost use Rattle.base.specs.Disk.{CrashLeaves, Disk, bytes_of};
 ghost use Rattle.base.specs.Geometry.{IsGeometry};
 ghost use Rattle.import_replay.specs.Cleared.{AreTailsCleared, IsCleared, zeros};
 ghost use Rattle.import_replay.specs.CreateRefusals.{CanCreate, IsCreateRefusal};
 ghost use Rattle.import_replay.specs.Creations.{IsCreatedOn, IsNewPool, first_config};
 ghost use Rattle.import_replay.specs.Labelled.{HoldConfig, IsLabelled};
+ghost use Rattle.import_replay.specs.Outside.{WritesPoolBytes};
 
 use base::{FIRST_GROUP, Group, Pointer, PoolError, PoolName};
 use checked_blocks::Block;
@@ -25,8 +26,9 @@ const TAIL_SIZE: usize = 245_760;
 /// The name/value areas, the uberblock arrays and all blocks are cleared to zeros and flushed; then four configs of group
 /// 4 are written and flushed, and then uberblock 4, with no tree and no log, in each label (On-Disk Specification, chapter
 /// 1), which are flushed too. So a device that keeps the model of a disk then holds all this, whatever a crash makes of
-/// it, and mounts an empty pool. A create that is refused while it writes promises nothing of what the device holds. It
-/// takes no memory.
+/// it, and mounts an empty pool. All bytes before the name/value areas, and those between the labels and the blocks, stay
+/// as they are at each moment, also in a create that is refused; what it leaves of the others it does not say. It takes no
+/// memory.
 ///
 /// # Errors
 /// `BadGeometry` where the device's size is none that a pool may have; `BadRange` where the name is none; before either no
@@ -41,7 +43,8 @@ pub fn create<D: SectorDevice>(
     ensures made { OnOk result (CanCreate (D.size device) name.now) }
     ensures count { IfOk result (λ d. D.refused d ≡ D.refused device) }
     ensures given_back { IfErr result (λ e. D.size e.1 ≡ D.size device) }
-    ensures untouched { IfErr result (λ e. (e.0 ≡ PoolError.BadGeometry) ⊎ (e.0 ≡ PoolError.BadRange) → e.1 ≡ device) }
+    ensures untouched { IfErr result
+        (λ e. (e.0 ≡ PoolError.BadGeometry) ⊎ (e.0 ≡ PoolError.BadRange) → e.1 ≡ device) }
     ensures refused { IfErr result (λ e. IsCreateRefusal (D.size device) name.now e.0) }
     ensures counted { IfErr result (λ e. D.refused e.1 ≡ with_refusal e.0 (D.refused device)) }
     ensures created { IfOk result (λ d. IsTrue D.keeps_model → IsCreatedOn (bytes_of (D.disk d).now) name.now guid) }
@@ -49,6 +52,9 @@ pub fn create<D: SectorDevice>(
         → CrashLeaves (λ image. IsCreatedOn image name.now guid) (D.disk d).now) }
     ensures written { IfOk result (λ d. IsTrue D.keeps_model
         → CrashLeaves (λ image. IsNewPool image name.now guid moment) (D.disk d).now) }
+    ensures outside { IsTrue D.keeps_model → MatchResult result
+        (λ d. WritesPoolBytes (D.size device) (D.disk device) (D.disk d))
+        (λ e. WritesPoolBytes (D.size device) (D.disk device) (D.disk e.1)) }
 {
     let geometry = match Geometry::of(device.sectors()) {
         Ok(geometry) => geometry,
@@ -75,6 +81,8 @@ fn initialize<D: SectorDevice>(
     ensures size { D.size device.new ≡ D.size device.old }
     ensures count { D.refused device.new ≡ counted result (D.refused device.old) }
     ensures named { IfErr result (λ e. (e ≡ PoolError.Write) ⊎ (e ≡ PoolError.Flush)) }
+    ensures outside { IsTrue D.keeps_model → (start : Disk)
+        → WritesPoolBytes geometry start (D.disk device.old) → WritesPoolBytes geometry start (D.disk device.new) }
     ensures labels { IsTrue D.keeps_model
         → OnOk result (IsLabelled geometry name guid moment (bytes_of (D.disk device.new).now)) }
     ensures settled { IsTrue D.keeps_model → OnOk result ((D.disk device.new).now.unflushed ≡ []) }
@@ -94,6 +102,8 @@ fn clear_labels<D: SectorDevice>(device: &mut D, geometry: Geometry) -> Result<(
     ensures size { D.size device.new ≡ D.size device.old }
     ensures count { D.refused device.new ≡ counted result (D.refused device.old) }
     ensures named { IfErr result (λ e. (e ≡ PoolError.Write) ⊎ (e ≡ PoolError.Flush)) }
+    ensures outside { IsTrue D.keeps_model → (start : Disk)
+        → WritesPoolBytes geometry start (D.disk device.old) → WritesPoolBytes geometry start (D.disk device.new) }
     ensures cleared { IsTrue D.keeps_model → OnOk result (AreTailsCleared geometry 4 (bytes_of (D.disk device.new).now)) }
 {
     let zeros = zero_tail();
@@ -115,6 +125,8 @@ fn clear_blocks<D: SectorDevice>(device: &mut D, geometry: Geometry) -> Result<(
     ensures size { D.size device.new ≡ D.size device.old }
     ensures count { D.refused device.new ≡ counted result (D.refused device.old) }
     ensures named { IfErr result (λ e. (e ≡ PoolError.Write) ⊎ (e ≡ PoolError.Flush)) }
+    ensures outside { IsTrue D.keeps_model → (start : Disk)
+        → WritesPoolBytes geometry start (D.disk device.old) → WritesPoolBytes geometry start (D.disk device.new) }
     ensures cleared { IsTrue D.keeps_model → AreTailsCleared geometry 4 (bytes_of (D.disk device.old).now)
         → OnOk result (IsCleared geometry (bytes_of (D.disk device.new).now)) }
 {
@@ -136,6 +148,8 @@ fn write_configs<D: SectorDevice>(
     ensures size { D.size device.new ≡ D.size device.old }
     ensures count { D.refused device.new ≡ counted result (D.refused device.old) }
     ensures named { IfErr result (λ e. (e ≡ PoolError.Write) ⊎ (e ≡ PoolError.Flush)) }
+    ensures outside { IsTrue D.keeps_model → (start : Disk)
+        → WritesPoolBytes geometry start (D.disk device.old) → WritesPoolBytes geometry start (D.disk device.new) }
     ensures cleared { IsTrue D.keeps_model → IsCleared geometry (bytes_of (D.disk device.old).now)
         → OnOk result (IsCleared geometry (bytes_of (D.disk device.new).now)) }
     ensures configs { IsTrue D.keeps_model
@@ -160,6 +174,8 @@ fn write_uberblocks<D: SectorDevice>(
     ensures size { D.size device.new ≡ D.size device.old }
     ensures count { D.refused device.new ≡ counted result (D.refused device.old) }
     ensures named { IfErr result (λ e. (e ≡ PoolError.Write) ⊎ (e ≡ PoolError.Flush)) }
+    ensures outside { IsTrue D.keeps_model → (start : Disk)
+        → WritesPoolBytes geometry start (D.disk device.old) → WritesPoolBytes geometry start (D.disk device.new) }
     ensures labels { IsTrue D.keeps_model → IsCleared geometry (bytes_of (D.disk device.old).now) → (name : List ℕ)
         → HoldConfig geometry 4 (first_config name guid geometry) (bytes_of (D.disk device.old).now)
         → OnOk result (IsLabelled geometry name guid moment (bytes_of (D.disk device.new).now)) }

@@ -1,9 +1,9 @@
 //! The import of a pool: what its image mounts, and a sync that makes the image the run's own.
 
-ghost use Rattle.std.specs.Prelude.{◌≡◌, ◌<◌, ◌+◌, ◌*◌, ◌≤◌, ◌^◌, ℕ, [], true, false, IfErr, IfOk, IfSome, IsTrue, OnOk, length, vec_len};
+ghost use Rattle.std.specs.Prelude.{◌≡◌, ◌<◌, ◌+◌, ◌*◌, ◌≤◌, ◌^◌, ◌⊎◌, ℕ, [], true, false, IfErr, IfOk, IfSome, IsTrue, OnOk, length, vec_len};
 ghost use Rattle.std.specs.FinMap as finite;
 ghost use Rattle.base.specs.Calls.{counted, with_refusal};
-ghost use Rattle.base.specs.Disk.{bytes_of};
+ghost use Rattle.base.specs.Disk.{bytes_of, certain};
 ghost use Rattle.base.specs.Exact.{AreFree, IsBounded};
 ghost use Rattle.base.specs.ExactNow.{IsExplainedNow};
 ghost use Rattle.base.specs.Geometry.{IsGeometry, block_count};
@@ -20,8 +20,9 @@ ghost use Rattle.uberblocks.specs.Slots.{IsWithinLimits, fields_of};
 ghost use Rattle.object_maps.specs.ContentsShown.{contents_of};
 ghost use Rattle.object_maps.specs.Loading.{IsLoadRefusal, frame_of};
 ghost use Rattle.object_maps.specs.Pointers.{objects_of, pointers_of};
-ghost use Rattle.import_replay.specs.ImportRefusals.{CanImport, IsImportRefusal, IsMountRefusal, IsOpenRefusal, IsReason};
+ghost use Rattle.import_replay.specs.ImportRefusals.{CanImport, IsImportRefusal, IsMountRefusal, IsOpenRefusal, IsReadingRefusal, IsReason, IsSyncRefusal};
 ghost use Rattle.import_replay.specs.FreeBlocks.{AreAllNamed};
+ghost use Rattle.import_replay.specs.ImportStops.{IsImportStopped, IsOpenStopped};
 ghost use Rattle.import_replay.specs.ImportSyncs.{IsImportLabelled, IsImportSynced, IsImportWritten, config_of_import, uberblock_of_import};
 ghost use Rattle.import_replay.specs.Labelled.{HasOtherSlots};
 ghost use Rattle.import_replay.specs.LabelSyncs.{HasSameBlocks, after_calls, is_even};
@@ -51,7 +52,9 @@ use uberblocks::Uberblock;
 /// # Errors
 /// In this order: `BadGeometry`; `BadRange` where the limit is not 4,096 to 2^40 bytes; these two before any device call;
 /// `NoPool`; `Damaged` with the first fault of the tree; `TooMany` where u + 5 or i + 1 would pass 2^60; `NoSpace` where no
-/// block is free for the log. `NoMemory`, `Read`, `Write` and `Flush` where they happen. The device comes back.
+/// block is free for the log. `NoMemory`, `Read`, `Write` and `Flush` where they happen, the last three exactly where the
+/// device refused such a call. The device comes back: as it was with the first two, flushed where no write and no flush was
+/// refused, and otherwise with just those of the calls made that come before the refused one.
 pub fn import<D: SectorDevice>(
     alloc: Global,
     mut device: D,
@@ -90,6 +93,15 @@ pub fn import<D: SectorDevice>(
     ensures counted { IfErr result (λ e. D.refused e.1 ≡ with_refusal e.0 (D.refused device)) }
     ensures reason { IsTrue D.keeps_model → IfErr result (λ e. IsReason (bytes_of (D.disk device).now) e.0) }
     ensures given_back { IfErr result (λ e. D.size e.1 ≡ D.size device) }
+
+    // A refusal by size or limit leaves the device as it was, and one before the first write the disk as it was and flushed.
+    // Where the device refused a write or a flush, the disk is what the calls before it made of it.
+    ensures untouched { IfErr result
+        (λ e. (e.0 ≡ PoolError.BadGeometry) ⊎ (e.0 ≡ PoolError.BadRange) → e.1 ≡ device) }
+    ensures unchanged { IsTrue D.keeps_model → IfErr result (λ e. IsReadingRefusal e.0
+        → D.disk e.1 ≡ certain (bytes_of (D.disk device).now) (D.disk device)) }
+    ensures stopped { IsTrue D.keeps_model → IfErr result (λ e. IsSyncRefusal e.0
+        → IsImportStopped (D.disk device) (D.disk e.1) moment e.0) }
 {
     match mount(alloc, &mut device, dirty_max, moment) {
         Ok(mounted) => Ok(Imported { device, mounted }),
@@ -110,6 +122,12 @@ fn mount<D: SectorDevice>(
     ensures count { D.refused device.new ≡ counted result (D.refused device.old) }
     ensures refused { IfErr result (IsImportRefusal (D.size device.old) dirty_max) }
     ensures reason { IsTrue D.keeps_model → IfErr result (IsReason (bytes_of (D.disk device.old).now)) }
+    ensures untouched { IfErr result
+        (λ e. (e ≡ PoolError.BadGeometry) ⊎ (e ≡ PoolError.BadRange) → device.new ≡ device.old) }
+    ensures unchanged { IsTrue D.keeps_model → IfErr result (λ e. IsReadingRefusal e
+        → D.disk device.new ≡ certain (bytes_of (D.disk device.old).now) (D.disk device.old)) }
+    ensures stopped { IsTrue D.keeps_model → IfErr result (λ e. IsSyncRefusal e
+        → IsImportStopped (D.disk device.old) (D.disk device.new) moment e) }
     ensures explained { IfOk result (λ m. (created : ℕ) → IsExplainedNow (shown_of_import m)
         (new_past (contents_of m.contents) created dirty_max)) }
     ensures bounded { IfOk result (λ m. IsBounded (contents_of m.contents)) }
@@ -142,6 +160,10 @@ fn mount_pool<D: SectorDevice>(
     ensures count { D.refused device.new ≡ counted result (D.refused device.old) }
     ensures refused { IfErr result IsMountRefusal }
     ensures reason { IsTrue D.keeps_model → IfErr result (IsReason (bytes_of (D.disk device.old).now)) }
+    ensures unchanged { IsTrue D.keeps_model → IfErr result (λ e. IsReadingRefusal e
+        → D.disk device.new ≡ certain (bytes_of (D.disk device.old).now) (D.disk device.old)) }
+    ensures stopped { IsTrue D.keeps_model → IfErr result (λ e. IsSyncRefusal e
+        → IsImportStopped (D.disk device.old) (D.disk device.new) moment e) }
     ensures explained { IfOk result (λ m. (created : ℕ) → IsExplainedNow (shown_of_import m)
         (new_past (contents_of m.contents) created dirty_max)) }
     ensures bounded { IfOk result (λ m. IsBounded (contents_of m.contents)) }
@@ -203,6 +225,11 @@ fn open_pool<D: SectorDevice>(
         → AreAllNamed (pointers_of loaded.tree) (block_count geometry)) }
     ensures synced { IsTrue D.keeps_model → IfOk result (λ m. D.disk device.new ≡ after_calls geometry
         (config_of_import m) (uberblock_of_import moment m) (import_calls 0 (is_even found.first)) (D.disk device.old)) }
+    ensures unchanged { IsTrue D.keeps_model
+        → IfErr result (λ e. IsReadingRefusal e → D.disk device.new ≡ D.disk device.old) }
+    ensures stopped { IsTrue D.keeps_model → IfErr result (λ e. IsSyncRefusal e
+        → IsOpenStopped geometry (fields_of found.uberblock) found.name loaded.tree moment (is_even found.first)
+        e (D.disk device.old) (D.disk device.new)) }
     ensures labelled { IsTrue D.keeps_model → IfOk result (IsImportLabelled (D.disk device.new) moment) }
     ensures others { IsTrue D.keeps_model → OnOk result (HasOtherSlots geometry (found.uberblock.group.0 + 4)
         (bytes_of (D.disk device.old).now) (bytes_of (D.disk device.new).now)) }

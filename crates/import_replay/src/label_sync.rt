@@ -9,7 +9,7 @@ ghost use Rattle.sync.specs.Runs.{call_count};
 ghost use Rattle.uberblocks.specs.Slots.{IsWithinLimits, fields_of};
 ghost use Rattle.import_replay.specs.ImportRefusals.{IsSyncRefusal};
 ghost use Rattle.import_replay.specs.Labelled.{HasOtherSlots, HoldLabels};
-ghost use Rattle.import_replay.specs.LabelSyncs.{HasSameBlocks, IsLabelSync, after_calls, is_even};
+ghost use Rattle.import_replay.specs.LabelSyncs.{HasSameBlocks, IsLabelSync, IsStoppedSync, after_calls, is_even};
 
 use base::PoolError;
 use device_model::SectorDevice;
@@ -38,6 +38,8 @@ pub(crate) fn sync_labels<D: SectorDevice>(
         → OnOk result (HasSameBlocks geometry (bytes_of (D.disk device.old).now) (bytes_of (D.disk device.new).now)) }
     ensures synced { IsTrue D.keeps_model → OnOk result (D.disk device.new
         ≡ after_calls geometry config.now (fields_of uberblock.now) (import_calls 0 (is_even first)) (D.disk device.old)) }
+    ensures stopped { IsTrue D.keeps_model → IfErr result (λ e. IsStoppedSync geometry config.now
+        (fields_of uberblock.now) (import_calls 0 (is_even first)) e (D.disk device.old) (D.disk device.new)) }
     ensures labelled { IsTrue D.keeps_model
         → OnOk result (HoldLabels geometry config.now (fields_of uberblock.now) (bytes_of (D.disk device.new).now)) }
     ensures others { IsTrue D.keeps_model → OnOk result (HasOtherSlots geometry uberblock.now.group.0

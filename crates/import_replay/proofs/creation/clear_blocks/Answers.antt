@@ -4,7 +4,16 @@ use Rattle.base.specs.Disk.{bytes_of}
 use Rattle.base.specs.Geometry.{block_count}
 use Rattle.import_replay.specs.Cleared.{AreBlocksCleared, AreTailsCleared}
 use Rattle.import_replay.proofs.LabelWrites.{after_write, block_beside, block_next}
+use Rattle.import_replay.proofs.OutsideWrites.{block_writable, writes_on}
 use Rattle.import_replay.proofs.creation.clear_blocks.Goals as goal
+
+pub returns-in_err-write-clause-outside : goal.returns-in_err-write-clause-outside
+returns-in_err-write-clause-outside g c = λ keeps start so_far.
+    let long = g.met.D.SectorDevice.sized keeps c.loop-index.device ∙ c.loop-index.invariant.sized in
+    writes_on c.args.geometry start (g.D.SectorDevice.disk c.loop-index.device) (g.D.SectorDevice.disk c.write.new.self) _ _ _ _ c.write.result c.requires.geometry long
+    (c.loop-index.invariant.outside keeps start so_far) (c.write.ensures.disk keeps) c.block_address.ensures.address
+    (length-replicate {A = ℕ} 4096 0)
+    (block_writable c.args.geometry c.loop-index.index (omega (arith, c.loop-index-test.true, c.blocks-index-end.ensures)))
 
 pub loop-index-preserved : goal.loop-index-preserved
 loop-index-preserved g c =
@@ -21,6 +30,12 @@ loop-index-preserved g c =
           let long = g.met.D.SectorDevice.sized keeps c.loop-index.device ∙ c.loop-index.invariant.sized in
           after_write (AreTailsCleared c.args.geometry 4) _ _ _ _ _ (c.in_ok-write.ensures.disk keeps) c.block_address.ensures.address
           (block_beside c.args.geometry c.requires.geometry _ long c.loop-index.index (replicate 4096 0) below (length-replicate {A = ℕ} 4096 0) (c.loop-index.invariant.tails keeps cleared));
+      outside = λ keeps start so_far.
+          let long = g.met.D.SectorDevice.sized keeps c.loop-index.device ∙ c.loop-index.invariant.sized in
+          writes_on c.args.geometry start (g.D.SectorDevice.disk c.loop-index.device) (g.D.SectorDevice.disk c.write.new.self) _ _ _ _ c.write.result c.requires.geometry long
+          (c.loop-index.invariant.outside keeps start so_far) (c.write.ensures.disk keeps) c.block_address.ensures.address
+          (length-replicate {A = ℕ} 4096 0)
+          (block_writable c.args.geometry c.loop-index.index (omega (arith, c.loop-index-test.true, c.blocks-index-end.ensures)));
     }
 
 pub returns-clause-cleared : goal.returns-clause-cleared

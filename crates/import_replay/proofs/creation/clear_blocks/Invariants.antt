@@ -1,7 +1,8 @@
 use Rattle.std.proofs.Common.{◌≡◌}
 use Rattle.std.specs.Prelude.{IsTrue}
-use Rattle.base.specs.Disk.{bytes_of}
+use Rattle.base.specs.Disk.{Disk, bytes_of}
 use Rattle.import_replay.specs.Cleared.{AreTailsCleared, AreBlocksCleared}
+use Rattle.import_replay.specs.Outside.{WritesPoolBytes}
 use Rattle.import_replay.proofs.creation.clear_blocks.Given as goal
 
 -- the device keeps its size, and refused no call; where it keeps the model, this is what its labels hold so far
@@ -12,4 +13,5 @@ invariant-loop-index g l = record {
   refused : g.D.SectorDevice.refused l.device ≡ g.D.SectorDevice.refused l.fn.device;
   blocks : IsTrue g.D.SectorDevice.keeps_model → AreBlocksCleared l.index (bytes_of (g.D.SectorDevice.disk l.device).now);
   tails : IsTrue g.D.SectorDevice.keeps_model → AreTailsCleared l.geometry 4 (bytes_of (g.D.SectorDevice.disk l.fn.device).now) → AreTailsCleared l.geometry 4 (bytes_of (g.D.SectorDevice.disk l.device).now);
+  outside : IsTrue g.D.SectorDevice.keeps_model → (start : Disk) → WritesPoolBytes l.geometry start (g.D.SectorDevice.disk l.fn.device) → WritesPoolBytes l.geometry start (g.D.SectorDevice.disk l.device);
 }

@@ -1,7 +1,16 @@
-use Rattle.std.proofs.Common.{ℕ, ◌+◌, ◌∙◌, ap}
+use Rattle.std.proofs.Common.{ℕ, ◌+◌, ◌∙◌, List, length, ap, arith}
 use Rattle.import_replay.specs.Cleared.{AreTailsCleared}
-use Rattle.import_replay.proofs.LabelWrites.{after_write, cleared_next}
+use Rattle.import_replay.proofs.LabelWrites.{after_write, cleared_next, length-zeros}
+use Rattle.import_replay.proofs.OutsideWrites.{label_writable, writes_on}
 use Rattle.import_replay.proofs.creation.clear_labels.Goals as goal
+
+pub returns-in_err-write-clause-outside : goal.returns-in_err-write-clause-outside
+returns-in_err-write-clause-outside g c = λ keeps start so_far.
+    let long = g.met.D.SectorDevice.sized keeps c.loop-label.device ∙ c.loop-label.invariant.sized in
+    writes_on c.args.geometry start (g.D.SectorDevice.disk c.loop-label.device) (g.D.SectorDevice.disk c.write.new.self) _ _ _ _ c.write.result c.requires.geometry long
+    (c.loop-label.invariant.outside keeps start so_far) (c.write.ensures.disk keeps) (ap (λ (k : ℕ). k + 16384) c.label_place.ensures.place)
+    (ap (λ (l : List ℕ). length l) c.zero_tail-zeros.ensures ∙ length-zeros 245760)
+    (label_writable c.args.geometry c.loop-label.label 16384 245760 c.loop-label-test.true (omega arith) (omega arith))
 
 pub loop-label-preserved : goal.loop-label-preserved
 loop-label-preserved g c = record {
@@ -12,4 +21,10 @@ loop-label-preserved g c = record {
       let long = g.met.D.SectorDevice.sized keeps c.loop-label.device ∙ c.loop-label.invariant.sized in
       after_write (AreTailsCleared c.args.geometry (c.loop-label.label + 1)) _ _ _ _ _ (c.in_ok-write.ensures.disk keeps) (ap (λ (k : ℕ). k + 16384) c.label_place.ensures.place)
       (cleared_next c.args.geometry c.requires.geometry _ long c.loop-label.label _ c.loop-label-test.true c.zero_tail-zeros.ensures (c.loop-label.invariant.cleared keeps));
+  outside = λ keeps start so_far.
+      let long = g.met.D.SectorDevice.sized keeps c.loop-label.device ∙ c.loop-label.invariant.sized in
+      writes_on c.args.geometry start (g.D.SectorDevice.disk c.loop-label.device) (g.D.SectorDevice.disk c.write.new.self) _ _ _ _ c.write.result c.requires.geometry long
+      (c.loop-label.invariant.outside keeps start so_far) (c.write.ensures.disk keeps) (ap (λ (k : ℕ). k + 16384) c.label_place.ensures.place)
+      (ap (λ (l : List ℕ). length l) c.zero_tail-zeros.ensures ∙ length-zeros 245760)
+      (label_writable c.args.geometry c.loop-label.label 16384 245760 c.loop-label-test.true (omega arith) (omega arith));
 }

@@ -1,7 +1,8 @@
 use Rattle.std.proofs.Common.{◌≡◌}
 use Rattle.std.specs.Prelude.{IsTrue}
-use Rattle.base.specs.Disk.{bytes_of}
+use Rattle.base.specs.Disk.{Disk, bytes_of}
 use Rattle.import_replay.specs.Cleared.{AreTailsCleared}
+use Rattle.import_replay.specs.Outside.{WritesPoolBytes}
 use Rattle.import_replay.proofs.creation.clear_labels.Given as goal
 
 -- the device keeps its size, and refused no call; where it keeps the model, this is what its labels hold so far
@@ -11,4 +12,5 @@ invariant-loop-label g l = record {
   size : g.D.SectorDevice.size l.device ≡ g.D.SectorDevice.size l.fn.device;
   refused : g.D.SectorDevice.refused l.device ≡ g.D.SectorDevice.refused l.fn.device;
   cleared : IsTrue g.D.SectorDevice.keeps_model → AreTailsCleared l.geometry l.label (bytes_of (g.D.SectorDevice.disk l.device).now);
+  outside : IsTrue g.D.SectorDevice.keeps_model → (start : Disk) → WritesPoolBytes l.geometry start (g.D.SectorDevice.disk l.fn.device) → WritesPoolBytes l.geometry start (g.D.SectorDevice.disk l.device);
 }

@@ -2,6 +2,7 @@ use Rattle.import_replay.specs.Creations.{first_config}
 use Rattle.import_replay.specs.Cleared.{IsCleared}
 use Rattle.import_replay.specs.Labelled.{HoldConfig, IsLabelled}
 use Rattle.import_replay.proofs.LabelWrites.{after_flush, after_last_flush, settles}
+use Rattle.import_replay.proofs.OutsideWrites.{flushes_on}
 use Rattle.import_replay.proofs.creation.initialize.Goals as goal
 
 pub returns-clause-labels : goal.returns-clause-labels
@@ -17,3 +18,27 @@ returns-clause-labels g c = λ keeps.
 pub returns-clause-settled : goal.returns-clause-settled
 returns-clause-settled g c = λ keeps.
     settles (g.D.SectorDevice.disk c.write_uberblocks.new.device) (g.D.SectorDevice.disk c.flush-3.new.self) c.flush-3.result (c.flush-3.ensures.disk keeps)
+
+pub returns-in_err-write_configs-clause-outside : goal.returns-in_err-write_configs-clause-outside
+returns-in_err-write_configs-clause-outside g c = λ keeps start so_far.
+    let cleared = c.clear_blocks.ensures.outside keeps start (c.clear_labels.ensures.outside keeps start so_far) in
+    c.write_configs.ensures.outside keeps start (flushes_on c.args.geometry start _ _ c.flush.result cleared (c.flush.ensures.disk keeps))
+
+pub returns-in_err-flush-2-clause-outside : goal.returns-in_err-flush-2-clause-outside
+returns-in_err-flush-2-clause-outside g c = λ keeps start so_far.
+    let cleared = c.clear_blocks.ensures.outside keeps start (c.clear_labels.ensures.outside keeps start so_far) in
+    let configs = c.write_configs.ensures.outside keeps start (flushes_on c.args.geometry start _ _ c.flush.result cleared (c.flush.ensures.disk keeps)) in
+    flushes_on c.args.geometry start _ _ c.flush-2.result configs (c.flush-2.ensures.disk keeps)
+
+pub returns-in_err-write_uberblocks-clause-outside : goal.returns-in_err-write_uberblocks-clause-outside
+returns-in_err-write_uberblocks-clause-outside g c = λ keeps start so_far.
+    let cleared = c.clear_blocks.ensures.outside keeps start (c.clear_labels.ensures.outside keeps start so_far) in
+    let configs = c.write_configs.ensures.outside keeps start (flushes_on c.args.geometry start _ _ c.flush.result cleared (c.flush.ensures.disk keeps)) in
+    c.write_uberblocks.ensures.outside keeps start (flushes_on c.args.geometry start _ _ c.flush-2.result configs (c.flush-2.ensures.disk keeps))
+
+pub returns-clause-outside : goal.returns-clause-outside
+returns-clause-outside g c = λ keeps start so_far.
+    let cleared = c.clear_blocks.ensures.outside keeps start (c.clear_labels.ensures.outside keeps start so_far) in
+    let configs = c.write_configs.ensures.outside keeps start (flushes_on c.args.geometry start _ _ c.flush.result cleared (c.flush.ensures.disk keeps)) in
+    let uberblocks = c.write_uberblocks.ensures.outside keeps start (flushes_on c.args.geometry start _ _ c.flush-2.result configs (c.flush-2.ensures.disk keeps)) in
+    flushes_on c.args.geometry start _ _ c.flush-3.result uberblocks (c.flush-3.ensures.disk keeps)

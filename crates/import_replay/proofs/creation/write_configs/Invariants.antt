@@ -1,9 +1,10 @@
 use Rattle.std.proofs.Common.{◌≡◌}
 use Rattle.std.specs.Prelude.{IsTrue}
-use Rattle.base.specs.Disk.{bytes_of}
+use Rattle.base.specs.Disk.{Disk, bytes_of}
 use Rattle.import_replay.specs.Creations.{first_config}
 use Rattle.import_replay.specs.Cleared.{IsCleared}
 use Rattle.import_replay.specs.Labelled.{HoldConfig}
+use Rattle.import_replay.specs.Outside.{WritesPoolBytes}
 use Rattle.import_replay.proofs.creation.write_configs.Given as goal
 
 -- the device keeps its size, and refused no call; where it keeps the model, this is what its labels hold so far
@@ -14,4 +15,5 @@ invariant-loop-label g l = record {
   refused : g.D.SectorDevice.refused l.device ≡ g.D.SectorDevice.refused l.fn.device;
   cleared : IsTrue g.D.SectorDevice.keeps_model → IsCleared l.geometry (bytes_of (g.D.SectorDevice.disk l.fn.device).now) → IsCleared l.geometry (bytes_of (g.D.SectorDevice.disk l.device).now);
   configs : IsTrue g.D.SectorDevice.keeps_model → HoldConfig l.geometry l.label (first_config l.fn.name l.guid l.geometry) (bytes_of (g.D.SectorDevice.disk l.device).now);
+  outside : IsTrue g.D.SectorDevice.keeps_model → (start : Disk) → WritesPoolBytes l.geometry start (g.D.SectorDevice.disk l.fn.device) → WritesPoolBytes l.geometry start (g.D.SectorDevice.disk l.device);
 }

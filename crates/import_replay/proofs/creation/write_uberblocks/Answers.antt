@@ -5,7 +5,16 @@ use Rattle.import_replay.specs.Creations.{first_config, first_uberblock}
 use Rattle.import_replay.specs.Cleared.{IsCleared}
 use Rattle.import_replay.specs.Labelled.{HoldConfig, HoldUberblock}
 use Rattle.import_replay.proofs.LabelWrites.{after_write, uberblock_next, uberblock_behind, uberblock_beside}
+use Rattle.import_replay.proofs.OutsideWrites.{first_slot_writable, writes_on}
 use Rattle.import_replay.proofs.creation.write_uberblocks.Goals as goal
+
+pub returns-in_err-write-clause-outside : goal.returns-in_err-write-clause-outside
+returns-in_err-write-clause-outside g c = λ keeps start so_far.
+    let long = g.met.D.SectorDevice.sized keeps c.loop-label.device ∙ c.loop-label.invariant.sized in
+    writes_on c.args.geometry start (g.D.SectorDevice.disk c.loop-label.device) (g.D.SectorDevice.disk c.write.new.self) _ _ _ _ c.write.result c.requires.geometry long
+    (c.loop-label.invariant.outside keeps start so_far) (c.write.ensures.disk keeps) (c.slot_place.ensures.place ∙ ap (slot_place c.args.geometry c.loop-label.label) c.slot.ensures)
+    c.encode-bytes.ensures.uberblock.size
+    (first_slot_writable c.args.geometry c.loop-label.label c.loop-label-test.true)
 
 pub loop-label-preserved : goal.loop-label-preserved
 loop-label-preserved g c = record {
@@ -24,6 +33,12 @@ loop-label-preserved g c = record {
       let long = g.met.D.SectorDevice.sized keeps c.loop-label.device ∙ c.loop-label.invariant.sized in
       after_write (HoldUberblock c.args.geometry (c.loop-label.label + 1) (first_uberblock c.args.guid c.args.moment)) _ _ _ _ _ (c.in_ok-write.ensures.disk keeps) (c.slot_place.ensures.place ∙ ap (slot_place c.args.geometry c.loop-label.label) c.slot.ensures)
       (uberblock_next c.args.geometry c.requires.geometry _ long c.loop-label.label _ _ c.loop-label-test.true c.encode-bytes.ensures.uberblock.size c.encode-bytes.ensures.uberblock (c.loop-label.invariant.uberblocks keeps));
+  outside = λ keeps start so_far.
+      let long = g.met.D.SectorDevice.sized keeps c.loop-label.device ∙ c.loop-label.invariant.sized in
+      writes_on c.args.geometry start (g.D.SectorDevice.disk c.loop-label.device) (g.D.SectorDevice.disk c.write.new.self) _ _ _ _ c.write.result c.requires.geometry long
+      (c.loop-label.invariant.outside keeps start so_far) (c.write.ensures.disk keeps) (c.slot_place.ensures.place ∙ ap (slot_place c.args.geometry c.loop-label.label) c.slot.ensures)
+      c.encode-bytes.ensures.uberblock.size
+      (first_slot_writable c.args.geometry c.loop-label.label c.loop-label-test.true);
 }
 
 pub returns-clause-labels : goal.returns-clause-labels

@@ -1,9 +1,10 @@
 use Rattle.std.proofs.Common.{ℕ, ◌≡◌, List}
 use Rattle.std.specs.Prelude.{IsTrue}
-use Rattle.base.specs.Disk.{bytes_of}
+use Rattle.base.specs.Disk.{Disk, bytes_of}
 use Rattle.import_replay.specs.Creations.{first_config, first_uberblock}
 use Rattle.import_replay.specs.Cleared.{IsCleared}
 use Rattle.import_replay.specs.Labelled.{HoldConfig, HoldUberblock}
+use Rattle.import_replay.specs.Outside.{WritesPoolBytes}
 use Rattle.import_replay.proofs.creation.write_uberblocks.Given as goal
 
 -- the device keeps its size, and refused no call; where it keeps the model, this is what its labels hold so far
@@ -16,4 +17,5 @@ invariant-loop-label g l = record {
   configs : IsTrue g.D.SectorDevice.keeps_model → (name : List ℕ) → HoldConfig l.geometry 4 (first_config name l.guid l.geometry) (bytes_of (g.D.SectorDevice.disk l.fn.device).now)
       → HoldConfig l.geometry 4 (first_config name l.guid l.geometry) (bytes_of (g.D.SectorDevice.disk l.device).now);
   uberblocks : IsTrue g.D.SectorDevice.keeps_model → HoldUberblock l.geometry l.label (first_uberblock l.guid l.moment) (bytes_of (g.D.SectorDevice.disk l.device).now);
+  outside : IsTrue g.D.SectorDevice.keeps_model → (start : Disk) → WritesPoolBytes l.geometry start (g.D.SectorDevice.disk l.fn.device) → WritesPoolBytes l.geometry start (g.D.SectorDevice.disk l.device);
 }

@@ -1,11 +1,12 @@
-use Rattle.std.proofs.Common.{◌≡◌, ℕ, Bool, List, length, sym, subst, ap, ◌∙◌, true}
+use Rattle.std.proofs.Common.{◌≡◌, inl, inr, ℕ, Bool, List, length, sym, subst, ap, ◌∙◌, true}
 use Rattle.std.specs.Prelude.{IfSome, nat_lt}
 use Rattle.std.specs.List.{list_all}
 use Rattle.std.specs.FinMap as finite
 use Rattle.base.specs.Blocks.{Frame}
 use Rattle.base.specs.Names.{IsName}
 use Rattle.object_maps.specs.Loading.{frame_of}
-use Rattle.base.specs.Disk.{Disk, bytes_of}
+use Rattle.base.specs.declared.error.PoolError.{PoolError}
+use Rattle.base.specs.Disk.{Disk, bytes_of, certain}
 use Rattle.base.specs.Exact.{IsBounded}
 use Rattle.base.specs.Faults.{IsFirstFault}
 use Rattle.base.specs.Mount.{HasPool}
@@ -22,22 +23,66 @@ use Rattle.import_replay.specs.LabelSyncs.{HasSameBlocks}
 use Rattle.import_replay.specs.Mounts.{IsMountedFrom}
 use Rattle.import_replay.proofs.ByteObjects.{is_bounded}
 use Rattle.import_replay.specs.Found.{HasFirstStage}
-use Rattle.import_replay.specs.ImportRefusals.{IsReason}
+use Rattle.import_replay.specs.ImportRefusals.{HasSoundPool, IsReadingRefusal, IsReason, IsSyncRefusal}
+use Rattle.import_replay.specs.ImportStops.{IsImportStopped}
 use Rattle.import_replay.specs.LabelSyncs.{is_even}
 use Rattle.import_replay.proofs.Configs.{err_both, err_weaker, ok_weaker, ok_both, ok_on}
-use Rattle.import_replay.proofs.MountedPools.{all_blocks, frame_at, is_explained, is_import}
-use Rattle.import_replay.proofs.Reasons.{passed_on, reason-load, reason-many, reason-open}
+use Rattle.import_replay.proofs.MountedPools.{all_blocks, frame_at, is_explained, is_import, sound_pool}
+use Rattle.import_replay.proofs.Reasons.{find_reading, load_reading, not_both, passed_on, reason-load, reason-many, reason-open}
+use Rattle.import_replay.proofs.StoppedImports.{stopped_import}
 use Rattle.import_replay.proofs.WrittenImports.{ok_written}
 use Rattle.import_replay.proofs.imported.mount_pool.Goals as goal
+
+pub returns-in_err-flush-clause-unchanged : goal.returns-in_err-flush-clause-unchanged
+returns-in_err-flush-clause-unchanged g c = λ keeps.
+    let x = c.in_err-flush.field-0.0 in
+    let old = g.D.SectorDevice.disk c.args.device.now in
+    let new = g.D.SectorDevice.disk c.flush.new.self in
+    passed_on c.from_residual.result x (λ (e : PoolError). IsReadingRefusal e → new ≡ certain (bytes_of old.now) old) c.from_residual.ensures.1
+    (λ reading. absurd (not_both x reading (inr c.in_err-flush.ensures.refusal)))
+
+pub returns-in_err-flush-clause-stopped : goal.returns-in_err-flush-clause-stopped
+returns-in_err-flush-clause-stopped g c = λ keeps.
+    let x = c.in_err-flush.field-0.0 in
+    let old = g.D.SectorDevice.disk c.args.device.now in
+    let new = g.D.SectorDevice.disk c.flush.new.self in
+    passed_on c.from_residual.result x (λ (e : PoolError). IsSyncRefusal e → IsImportStopped old new c.args.moment e) c.from_residual.ensures.1
+    (λ is. inl (c.in_err-flush.ensures.refusal, c.in_err-flush.ensures.disk keeps))
+
+pub returns-in_err-found-clause-stopped : goal.returns-in_err-found-clause-stopped
+returns-in_err-found-clause-stopped g c = λ keeps.
+    let x = c.in_err-found.field-0.0 in
+    let old = g.D.SectorDevice.disk c.args.device.now in
+    let new = g.D.SectorDevice.disk c.find_pool.new.device in
+    passed_on c.from_residual-in_err-found.result x (λ (e : PoolError). IsSyncRefusal e → IsImportStopped old new c.args.moment e) c.from_residual-in_err-found.ensures.1
+    (λ is. absurd (not_both x (find_reading x c.in_err-found.ensures.refused) is))
+
+pub returns-in_err-loaded-clause-stopped : goal.returns-in_err-loaded-clause-stopped
+returns-in_err-loaded-clause-stopped g c = λ keeps.
+    let x = c.in_err-loaded.field-0.0 in
+    let old = g.D.SectorDevice.disk c.args.device.now in
+    let new = g.D.SectorDevice.disk c.load.new.device in
+    passed_on c.from_residual-in_err-loaded.result x (λ (e : PoolError). IsSyncRefusal e → IsImportStopped old new c.args.moment e) c.from_residual-in_err-loaded.ensures.1
+    (λ is. absurd (not_both x (load_reading x c.in_err-loaded.ensures.cause) is))
 
 pub returns-then-is_past_last-clause-reason : goal.returns-then-is_past_last-clause-reason
 returns-then-is_past_last-clause-reason g c = λ keeps.
     let image : List ℕ = bytes_of (g.D.SectorDevice.disk c.args.device.now).now in
-    let u = c.in_ok-found.found.uberblock in
-    let flushed = (flushed_clean (g.D.SectorDevice.disk c.args.device.now) (g.D.SectorDevice.disk c.flush.new.self) (c.in_ok-flush.ensures.disk keeps)).1 in
-    let pool : HasPool image (fields_of u) c.in_ok-found.found.name =
-    subst (λ (b : List ℕ). HasPool b (fields_of u) c.in_ok-found.found.name) flushed (c.in_ok-found.ensures.pool keeps) in
-    reason-many image (fields_of u) pool.active (sym c.if-is_past_last.ensures)
+    let u : Uberblock = fields_of c.in_ok-found.found.uberblock in
+    let name : List ℕ = c.in_ok-found.found.name in
+    let slots : List Slot = c.in_ok-loaded.loaded.slots.items in
+    let tree : Tree = c.in_ok-loaded.loaded.tree in
+    let size : ℕ = c.args.geometry in
+    let long : length image ≡ size = g.met.D.SectorDevice.sized keeps c.args.device.now ∙ c.requires.sized in
+    let flushed : bytes_of (g.D.SectorDevice.disk c.flush.new.self).now ≡ image =
+    (flushed_clean (g.D.SectorDevice.disk c.args.device.now) (g.D.SectorDevice.disk c.flush.new.self) (c.in_ok-flush.ensures.disk keeps)).1 in
+    let found : bytes_of (g.D.SectorDevice.disk c.find_pool.new.device).now ≡ image = ap (λ (d : Disk). bytes_of d.now) (c.find_pool.ensures.disk keeps) ∙ flushed in
+    let pool : HasPool image u name = subst (λ (b : List ℕ). HasPool b u name) flushed (c.in_ok-found.ensures.pool keeps) in
+    let held : HoldsTree image (frame_at u size) (pointers_of tree) (objects_of slots) =
+    subst (λ (b : List ℕ). HoldsTree b (frame_at u size) (pointers_of tree) (objects_of slots)) found
+    (subst (λ (f : Frame). HoldsTree (bytes_of (g.D.SectorDevice.disk c.find_pool.new.device).now) (frame_of f size) (pointers_of tree) (objects_of slots)) c.new-frame.ensures
+    (c.in_ok-loaded.ensures.held keeps)) in
+    reason-many image (u, name, sound_pool size u name tree slots image long held c.in_ok-loaded.ensures.root pool, sym c.if-is_past_last.ensures)
 
 pub returns-clause-bounded : goal.returns-clause-bounded
 returns-clause-bounded g c =
@@ -130,9 +175,38 @@ returns-clause-reason g c = λ keeps.
     subst (λ (b : List ℕ). HoldsTree b (frame_at u size) (pointers_of tree) (objects_of slots)) found
     (subst (λ (f : Frame). HoldsTree (bytes_of (g.D.SectorDevice.disk c.find_pool.new.device).now) (frame_of f size) (pointers_of tree) (objects_of slots)) c.new-frame.ensures
     (c.in_ok-loaded.ensures.held keeps)) in
+    let sound : HasSoundPool image u name = sound_pool size u name tree slots image long held c.in_ok-loaded.ensures.root pool in
     err_weaker c.open_pool.result _ (IsReason image)
-    (λ e h. reason-open image u e h.0 pool.active (λ is. all_blocks size u tree slots image long held c.in_ok-loaded.ensures.root (h.1 is)))
+    (λ e h. reason-open image e h.0 (λ is. (u, name, sound, sym c.if-is_past_last.ensures, all_blocks size u tree slots image long held c.in_ok-loaded.ensures.root (h.1 is))))
     (err_both c.open_pool.result _ _ c.open_pool.ensures.refused c.open_pool.ensures.full)
+
+pub returns-clause-stopped : goal.returns-clause-stopped
+returns-clause-stopped g c = λ keeps.
+    let image : List ℕ = bytes_of (g.D.SectorDevice.disk c.args.device.now).now in
+    let u : Uberblock = fields_of c.in_ok-found.found.uberblock in
+    let name : List ℕ = c.in_ok-found.found.name in
+    let slots : List Slot = c.in_ok-loaded.loaded.slots.items in
+    let tree : Tree = c.in_ok-loaded.loaded.tree in
+    let size : ℕ = c.args.geometry in
+    let long : length image ≡ size = g.met.D.SectorDevice.sized keeps c.args.device.now ∙ c.requires.sized in
+    let flushed : bytes_of (g.D.SectorDevice.disk c.flush.new.self).now ≡ image =
+    (flushed_clean (g.D.SectorDevice.disk c.args.device.now) (g.D.SectorDevice.disk c.flush.new.self) (c.in_ok-flush.ensures.disk keeps)).1 in
+    let found : bytes_of (g.D.SectorDevice.disk c.find_pool.new.device).now ≡ image = ap (λ (d : Disk). bytes_of d.now) (c.find_pool.ensures.disk keeps) ∙ flushed in
+    let pool : HasPool image u name = subst (λ (b : List ℕ). HasPool b u name) flushed (c.in_ok-found.ensures.pool keeps) in
+    let held : HoldsTree image (frame_at u size) (pointers_of tree) (objects_of slots) =
+    subst (λ (b : List ℕ). HoldsTree b (frame_at u size) (pointers_of tree) (objects_of slots)) found
+    (subst (λ (f : Frame). HoldsTree (bytes_of (g.D.SectorDevice.disk c.find_pool.new.device).now) (frame_of f size) (pointers_of tree) (objects_of slots)) c.new-frame.ensures
+    (c.in_ok-loaded.ensures.held keeps)) in
+    let old = g.D.SectorDevice.disk c.args.device.now in
+    let mid = g.D.SectorDevice.disk c.flush.new.self in
+    let before = g.D.SectorDevice.disk c.load.new.device in
+    let new = g.D.SectorDevice.disk c.open_pool.new.device in
+    let even : Bool = is_even c.in_ok-found.found.first in
+    let first : HasFirstStage image u.guid u.group name even = subst (λ (b : List ℕ). HasFirstStage b u.guid u.group name even) flushed (c.in_ok-found.ensures.first keeps) in
+    err_weaker c.open_pool.result _ _
+    (λ e h is. stopped_import size old mid before new u name slots tree c.args.moment even e long (c.in_ok-flush.ensures.disk keeps) (c.load.ensures.disk keeps ∙ c.find_pool.ensures.disk keeps) pool first held
+    c.in_ok-loaded.ensures.root (sym c.if-is_past_last.ensures) (h is))
+    (c.open_pool.ensures.stopped keeps)
 
 pub returns-clause-written : goal.returns-clause-written
 returns-clause-written g c = λ keeps.

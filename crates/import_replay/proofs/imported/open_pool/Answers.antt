@@ -1,17 +1,23 @@
-use Rattle.std.proofs.Common.{◌≡◌, ◌+◌, ◌∙◌, refl, sym, subst, ℕ, vec_len, arith}
+use Rattle.std.proofs.Common.{◌≡◌, ◌+◌, ◌∙◌, refl, sym, subst, ℕ, Bool, List, vec_len, arith}
 use Rattle.std.specs.Ordering.{nat_cmp}
 use Rattle.std.specs.FinSet.{FinSet}
 use Rattle.object_maps.specs.declared.tree.Tree.{Tree}
 use Rattle.base.specs.Geometry.{block_address, block_count}
 use Rattle.base.specs.Labels.{Config}
+use Rattle.base.specs.SyncOrder.{import_calls}
 use Rattle.base.specs.Uberblocks.{Uberblock}
 use Rattle.base.specs.declared.error.PoolError.{PoolError}
 use Rattle.base.specs.declared.error.PoolError.TheVariants.{NoSpace}
 use Rattle.object_maps.specs.Pointers.{pointers_of}
+use Rattle.uberblocks.specs.Slots.{fields_of}
 use Rattle.space.specs.FreeSets.{free_of}
 use Rattle.import_replay.specs.FreeBlocks.{AreAllNamed, AreUnnamed, HasTakenLowest}
+use Rattle.import_replay.specs.ImportRefusals.{IsReadingRefusal, IsSyncRefusal}
+use Rattle.import_replay.specs.ImportStops.{IsOpenStopped, next_config, next_uberblock}
+use Rattle.import_replay.specs.LabelSyncs.{is_even}
+use Rattle.import_replay.proofs.LabelCalls.{stopped_same}
 use Rattle.import_replay.proofs.MountedPools.{group-within, import-within, labels_same}
-use Rattle.import_replay.proofs.Reasons.{passed_on}
+use Rattle.import_replay.proofs.Reasons.{not_both, passed_on}
 use Rattle.import_replay.proofs.imported.open_pool.Goals as goal
 
 pub invariant_of-result-2-clause-tree_placed : goal.invariant_of-result-2-clause-tree_placed
@@ -73,3 +79,37 @@ returns-clause-labelled g c = λ keeps.
     (c.new-config.ensures ∙ (λ i. record config { size = c.size.ensures.size i; name = c.in_ok-copy_name.ensures.same i }))
     (λ i. record next { root = sym c.requires.root i })
     (c.in_ok-sync_labels.ensures.labelled keeps)
+
+pub returns-in_err-sync_labels-clause-unchanged : goal.returns-in_err-sync_labels-clause-unchanged
+returns-in_err-sync_labels-clause-unchanged g c = λ keeps.
+    let x = c.in_err-sync_labels.field-0.0 in
+    let old = g.D.SectorDevice.disk c.args.device.now in
+    let new = g.D.SectorDevice.disk c.sync_labels.new.device in
+    passed_on c.from_residual-in_err-sync_labels.result x (λ (e : PoolError). IsReadingRefusal e → new ≡ old) c.from_residual-in_err-sync_labels.ensures.1
+    (λ reading. absurd (not_both x reading c.in_err-sync_labels.ensures.refused))
+
+pub returns-in_err-sync_labels-clause-stopped : goal.returns-in_err-sync_labels-clause-stopped
+returns-in_err-sync_labels-clause-stopped g c = λ keeps.
+    let x = c.in_err-sync_labels.field-0.0 in
+    let size : ℕ = c.args.geometry in
+    let u : Uberblock = fields_of c.args.found.uberblock in
+    let name : List ℕ = c.args.found.name in
+    let tree : Tree = c.args.loaded.tree in
+    let even : Bool = is_even c.args.found.first in
+    let old = g.D.SectorDevice.disk c.args.device.now in
+    let new = g.D.SectorDevice.disk c.sync_labels.new.device in
+    let count = c.in_ok-free.ensures.count in
+    let free : FinSet nat_cmp = free_of c.in_ok-free.free.flags.items in
+    let left : FinSet nat_cmp = free_of c.take_lowest.new.free.flags.items in
+    let taken : HasTakenLowest (pointers_of tree) (block_count size) (block_address c.in_ok-log_block.log_block) left =
+    subst (λ (n : ℕ). HasTakenLowest (pointers_of tree) n (block_address c.in_ok-log_block.log_block) left) count
+    (c.in_ok-log_block.ensures.taken (pointers_of tree) (subst (λ (n : ℕ). AreUnnamed (pointers_of tree) n free) (sym count) c.in_ok-free.ensures.free)) in
+    let config : Config = next_config u name size in
+    passed_on c.from_residual-in_err-sync_labels.result x (λ (e : PoolError). IsSyncRefusal e → IsOpenStopped size u name tree c.args.moment even e old new) c.from_residual-in_err-sync_labels.ensures.1
+    (λ is. record {
+      log_address = c.block_address.result;
+      free = left;
+      log = subst (λ (a : ℕ). HasTakenLowest (pointers_of tree) (block_count size) a left) (sym c.block_address.ensures.address) taken;
+      stopped = stopped_same size _ config _ (next_uberblock u c.args.moment c.block_address.result) (import_calls 0 even) x old new
+          (c.new-config.ensures ∙ (λ i. record config { size = c.size.ensures.size i; name = c.in_ok-copy_name.ensures.same i })) refl (c.in_err-sync_labels.ensures.stopped keeps);
+    })

@@ -1,13 +1,14 @@
 use Rattle.std.proofs.Common.{◌≡◌, ◌∙◌, ℕ, List, length, ap}
+use Rattle.base.specs.declared.error.PoolError.{PoolError}
 use Rattle.base.specs.Disk.{bytes_of}
 use Rattle.base.specs.Labels.{Config}
-use Rattle.base.specs.SyncOrder.{DeviceCall}
+use Rattle.base.specs.SyncOrder.{DeviceCall, import_calls}
 use Rattle.base.specs.Uberblocks.{Uberblock}
 use Rattle.uberblocks.specs.Slots.{fields_of}
 use Rattle.sync.specs.Runs.{call_count}
 use Rattle.import_replay.specs.ImportRefusals.{IsSyncRefusal}
-use Rattle.import_replay.specs.LabelSyncs.{after_calls}
-use Rattle.import_replay.proofs.LabelCalls.{after_next, distinct_blocks, whole}
+use Rattle.import_replay.specs.LabelSyncs.{IsStoppedSync, after_calls, is_even}
+use Rattle.import_replay.proofs.LabelCalls.{after_next, distinct_blocks, stopped_at, whole}
 use Rattle.import_replay.proofs.LabelSyncs.{blocks_then, call_keeps, sync_goes_on, sync_left, sync_refused}
 use Rattle.import_replay.proofs.Reasons.{passed_on}
 use Rattle.import_replay.proofs.SyncedLabels.{hold_labels, other_slots}
@@ -18,6 +19,19 @@ returns-in_err-next-clause-refused g c =
     let x = c.in_err-next.field-0.0 in
     let call = c.next.ensures.there in
     passed_on c.from_residual.result x IsSyncRefusal c.from_residual.ensures.1 (sync_refused call.0 x (c.in_err-next.ensures.refusal call.0 call.1))
+
+pub returns-in_err-next-clause-stopped : goal.returns-in_err-next-clause-stopped
+returns-in_err-next-clause-stopped g c = λ keeps.
+    let i = c.loop-run.invariant in
+    let x = c.in_err-next.field-0.0 in
+    let call = c.next.ensures.there in
+    let config : Config = c.args.config.now in
+    let u : Uberblock = fields_of c.args.uberblock.now in
+    let start = g.D.SectorDevice.disk c.args.device.now in
+    let old = g.D.SectorDevice.disk c.loop-run.device in
+    let new = g.D.SectorDevice.disk c.next.new.device in
+    passed_on c.from_residual.result x (λ (e : PoolError). IsStoppedSync c.args.geometry config u (import_calls 0 (is_even c.args.first)) e start new) c.from_residual.ensures.1
+    (stopped_at c.args.geometry config u c.args.first c.loop-run.run i.run start old new call.0 x call.1 (i.called keeps) (c.in_err-next.ensures.called keeps call.0 call.1) (c.in_err-next.ensures.refusal call.0 call.1))
 
 pub loop-run-preserved : goal.loop-run-preserved
 loop-run-preserved g c =
