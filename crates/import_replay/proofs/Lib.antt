@@ -13,3 +13,4 @@ pub mod WrittenImports
 pub mod ByteObjects
 pub mod MountedPools
 pub mod StoppedImports
+pub mod ShownMounts

@@ -10,3 +10,4 @@ pub mod LabelSyncs
 pub mod ImportSyncs
 pub mod ImportStops
 pub mod Mounts
+pub mod ShownMounts

@@ -67,6 +67,8 @@ kept_as t pointers past same none x = record {
   kept = record {
     stored = stored_as t.now t.shown pointers t.pointers past same x.kept.stored;
     sync = subst (λ (o : Option NewTree). RunsAs t.now t.shown t.pointers o past) (sym none) (subst (λ (o : Option NewTree). RunsAs t.now t.shown pointers o past) none x.kept.sync);
+    geometry = x.kept.geometry;
+    labels = x.kept.labels;
   };
 }
 

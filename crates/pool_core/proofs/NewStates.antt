@@ -11,12 +11,13 @@ use Rattle.object_maps.specs.ContentsShown.{contents_of}
 use Rattle.object_maps.specs.Pointers.{pointers_of}
 use Rattle.import_replay.specs.declared.mounted.Mounted.{Mounted}
 use Rattle.import_replay.specs.Mounts.{IsExplainedAnew, StandsOn, shown_of_import}
+use Rattle.import_replay.specs.ShownMounts.{LabelsShow}
 use Rattle.pool_core.specs.declared.pool.Pool.{Pool}
 use Rattle.pool_core.specs.Holds.{held_with, new_tree_of, told_of}
 use Rattle.pool_core.specs.NewStates.{IsExplainedAtFirst, IsHeldAtFirst, first_past}
 use Rattle.pool_core.specs.Shows.{shown_of}
 
-module _ (now : List ℕ) (created : ℕ) (m : Mounted) (sized : block_count m.geometry ≡ block_count (length now)) (on : StandsOn now m) (explained : IsExplainedAnew m) where
+module _ (now : List ℕ) (created : ℕ) (m : Mounted) (sized : block_count m.geometry ≡ block_count (length now)) (on : StandsOn now m) (shows : LabelsShow now m) (explained : IsExplainedAnew m) where
   stored : IsStored now (shown_of_import m) (pointers_of m.tree) (new_past (contents_of m.contents) created m.dirty_max)
   stored = record {
     synced = contents_of m.contents;
@@ -40,7 +41,7 @@ module _ (now : List ℕ) (created : ℕ) (m : Mounted) (sized : block_count m.g
     pointers = pointers_of m.tree;
     running = None;
   })
-  is_held = record { explained = explained created; kept = record { stored = stored; sync = refl } }
+  is_held = record { explained = explained created; kept = record { stored = stored; sync = refl; geometry = shows.geometry; labels = shows.labels created } }
 
 -- A pool that shows what an import mounted is explained by its own first past.
 pub explained_as : (m : Mounted) (pool : Pool) → shown_of pool ≡ shown_of_import m → IsExplainedAnew m → IsExplainedAtFirst pool
@@ -49,9 +50,9 @@ explained_as m pool shown explained created =
 
 -- And where it has the tree and no running sync, the device holds what it should.
 pub held_as : (m : Mounted) (pool : Pool) (now : List ℕ) → shown_of pool ≡ shown_of_import m → pool.tree ≡ m.tree → pool.sync ≡ None
-    → block_count m.geometry ≡ block_count (length now) → StandsOn now m → IsExplainedAnew m → IsHeldAtFirst pool (told_of now pool)
-held_as m pool now shown tree idle sized on explained created =
+    → block_count m.geometry ≡ block_count (length now) → StandsOn now m → LabelsShow now m → IsExplainedAnew m → IsHeldAtFirst pool (told_of now pool)
+held_as m pool now shown tree idle sized on shows explained created =
     let same : held_with (told_of now pool) (first_past pool created)
     ≡ record { state = record { shown = shown_of_import m; past = new_past (contents_of m.contents) created m.dirty_max }; now = now; pointers = pointers_of m.tree; running = None } = λ k.
     record { state = record { shown = shown k; past = new_past (shown k).contents created (shown k).dirty_max }; now = now; pointers = pointers_of (tree k); running = option_map (new_tree_of pool.tree) (idle k) } in
-    subst IsHeld (sym same) (is_held now created m sized on explained)
+    subst IsHeld (sym same) (is_held now created m sized on shows explained)

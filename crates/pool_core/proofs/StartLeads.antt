@@ -1,9 +1,8 @@
 -- The start of a sync, with what is planned of its tree.
-use Rattle.std.proofs.Common.{◌≡◌, ℕ, List, [], ◌∷◌, length, map, min, refl, ap, ◌∙◌}
+use Rattle.std.proofs.Common.{◌≡◌, ℕ, List, [], ◌∷◌, length, map, refl, ap}
 use Rattle.std.specs.Prelude.{Some, slice_get}
 use Rattle.std.specs.BTreeMap.{BTreeMap}
 use Rattle.std.specs.Global.{Vec}
-use Rattle.std.proofs.Math.Nat.{zero-min}
 use Rattle.base.specs.declared.names.ObjectId.{ObjectId}
 use Rattle.base.specs.declared.pointer.Pointer.{Pointer}
 use Rattle.base.specs.Past.{Past}
@@ -11,7 +10,7 @@ use Rattle.base.specs.Places.{Place, has_block}
 use Rattle.base.specs.PlannedTrees.{AreFreed, NewBlock}
 use Rattle.base.specs.Shown.{SyncPlan}
 use Rattle.base.specs.Steps.{TakesForEach, ops_of_group}
-use Rattle.base.specs.Stored.{AreUsed, IsHeld, IsPlannedSync, NewTree, frame_at}
+use Rattle.base.specs.Stored.{AreUsed, IsHeld, IsPlannedSync, frame_at}
 use Rattle.base.specs.Syncs.{written_places}
 use Rattle.base.proofs.KeptGroups.{none_there, quiesced_is}
 use Rattle.object_maps.specs.declared.tree.ObjectMap.{ObjectMap}
@@ -36,14 +35,11 @@ pub addresses_are : (blocks : List PlannedBlock) → map (λ (b : NewBlock). b.a
 addresses_are [] = refl
 addresses_are (b ∷ blocks) = ap (λ (l : List ℕ). address_of b ∷ l) (addresses_are blocks)
 
--- before its first call a sync has written none of its blocks
+-- a sync that has made no call yet
 pub nothing_made : (tree : Tree) (r : RunningSync) (root : Pointer) (directories : Vec Pointer) (maps : BTreeMap ObjectId ObjectMap) (blocks : Vec PlannedBlock) → r.root ≡ root → r.directories ≡ directories → r.maps ≡ maps
-    → r.run.blocks ≡ blocks → r.run.done ≡ 0 → new_tree_of tree r ≡ record { pointers = pointers_after root directories.items maps tree; blocks = map new_block blocks.items; made = 0 }
+    → r.run.blocks ≡ blocks → r.run.done ≡ 0 → new_tree_of tree r ≡ record { pointers = pointers_after root directories.items maps tree; blocks = map new_block blocks.items; slot = r.run.uberblock; done = 0 }
 nothing_made tree r root directories maps blocks root_is directories_are maps_are blocks_are none =
-    let at : ℕ → NewTree = λ n. record { pointers = pointers_after root directories.items maps tree; blocks = map new_block blocks.items; made = n } in
-    let first : new_tree_of tree r ≡ at (min 0 (length (map new_block blocks.items))) = λ k.
-    record { pointers = pointers_after (root_is k) (directories_are k).items (maps_are k) tree; blocks = map new_block (blocks_are k).items; made = min (none k) (length (map new_block (blocks_are k).items)) } in
-    first ∙ ap at (zero-min (length (map new_block blocks.items)))
+    λ k. record { pointers = pointers_after (root_is k) (directories_are k).items (maps_are k) tree; blocks = map new_block (blocks_are k).items; slot = r.run.uberblock; done = none k }
 
 -- what the plan of a group says is what a start of its sync asks, with each past
 pub group_planned : (now : List ℕ) (past : Past) (pool : Pool) (group moment : ℕ) (blocks : List PlannedBlock) (freed : List ℕ) (root : Pointer) (directories : List Pointer) (maps : BTreeMap ObjectId ObjectMap)

@@ -7,9 +7,6 @@ use Rattle.base.specs.declared.names.Group.{Group}
 use Rattle.base.specs.declared.step.Reply as declared_reply
 use Rattle.base.specs.declared.step.Reply.TheVariants as reply
 use Rattle.base.specs.Disk.{Disk, bytes_of}
-use Rattle.base.specs.Geometry.{block_count}
-use Rattle.base.specs.Stored.{SameBlocks}
-use Rattle.base.proofs.StoredTrees.{no-change}
 use Rattle.object_maps.specs.declared.tree.Tree.{Tree}
 use Rattle.object_maps.specs.Pointers.{pointers_of}
 use Rattle.pool_core.specs.declared.pool.Pool.{Pool}
@@ -22,9 +19,9 @@ is_still (reply.Synced group) = false
 is_still reply.More = false
 is_still _ = true
 
--- each block, the pointers and what the running sync makes are as before
+-- the bytes, the pointers and what the running sync makes are as before
 abbrev pub IsStill : Told → Told → Type 0
-IsStill old new = SameBlocks old.shown.blocks old.now new.now × (new.pointers ≡ old.pointers) × (new.running ≡ old.running)
+IsStill old new = (new.now ≡ old.now) × (new.pointers ≡ old.pointers) × (new.running ≡ old.running)
 
 pub still_leads : (r : declared_reply.Reply) (old new : Told) → is_still r ≡ true → IsStill old new → Leads r old new
 still_leads (reply.Refused e) old new is same = λ past later. same
@@ -39,15 +36,9 @@ still_leads reply.More old new is same = absurd (false≢true is)
 still_leads (reply.Syncing group) old new is same = absurd (false≢true is)
 still_leads (reply.Synced group) old new is same = absurd (false≢true is)
 
--- the same tree and running sync over the same blocks
-pub still_over : (old new : Pool) (before after : List ℕ) → SameBlocks (block_count old.geometry) before after → (new.tree ≡ old.tree) × (new.sync ≡ old.sync) → IsStill (told_of before old) (told_of after new)
-still_over old new before after blocks (tree, sync) = (blocks, ap (λ (t : Tree). pointers_of t) tree, λ k. option_map (new_tree_of (tree k)) (sync k))
-
--- and over the same device
+-- the same tree and running sync over the same device
 pub still : {Dev : Type 0} (disk : Dev → Disk) (a b : Dev) (old new : Pool) → b ≡ a → (new.tree ≡ old.tree) × (new.sync ≡ old.sync) → IsStill (told_of (bytes_of (disk a).now) old) (told_of (bytes_of (disk b).now) new)
-still {Dev} disk a b old new device rest =
-    still_over old new (bytes_of (disk a).now) (bytes_of (disk b).now)
-    (subst (λ (d : Dev). SameBlocks (block_count old.geometry) (bytes_of (disk a).now) (bytes_of (disk d).now)) (sym device) (no-change (block_count old.geometry) (bytes_of (disk a).now))) rest
+still {Dev} disk a b old new device (tree, sync) = (ap (λ (d : Dev). bytes_of (disk d).now) device, ap (λ (t : Tree). pointers_of t) tree, λ k. option_map (new_tree_of (tree k)) (sync k))
 
 -- so such a step leads on, with a reply that says nothing of a sync
 pub still_on : {Dev : Type 0} (disk : Dev → Disk) (r : declared_reply.Reply) (a b : Dev) (old new : Pool) → is_still r ≡ true → b ≡ a → (new.tree ≡ old.tree) × (new.sync ≡ old.sync)
@@ -62,7 +53,7 @@ still_refused disk given e a b old new is device rest =
 
 pub still_pool : (given : declared_reply.Reply) (e : PoolError) (now : List ℕ) (pool : Pool) → given ≡ reply.Refused e → Leads given (told_of now pool) (told_of now pool)
 still_pool given e now pool is =
-    subst (λ (r : declared_reply.Reply). Leads r (told_of now pool) (told_of now pool)) (sym is) (λ past later. (no-change (block_count pool.geometry) now, refl, refl))
+    subst (λ (r : declared_reply.Reply). Leads r (told_of now pool) (told_of now pool)) (sym is) (λ past later. (refl, refl, refl))
 
 -- with another word for its reply
 pub leads_as : {Dev : Type 0} (disk : Dev → Disk) (r given : declared_reply.Reply) (a b : Dev) (old new : Pool) → r ≡ given → Leads r (told_of (bytes_of (disk a).now) old) (told_of (bytes_of (disk b).now) new)

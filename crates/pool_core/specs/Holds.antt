@@ -1,5 +1,5 @@
 -- What a pool keeps of its device, step by step.
-use Rattle.std.specs.Prelude.{ℕ, ◌≡◌, ◌<◌, List, map, length, min, Option, Some, option_map, Result, Ok}
+use Rattle.std.specs.Prelude.{ℕ, ◌≡◌, ◌<◌, List, map, length, Option, Some, option_map, Result, Ok}
 use Rattle.base.specs.declared.error.PoolError.{PoolError}
 use Rattle.base.specs.declared.names.Group.{Group}
 use Rattle.base.specs.declared.pointer.Pointer.{Pointer}
@@ -36,9 +36,9 @@ pub record Told : Type 0 where
   pub pointers : Place → Pointer
   pub running : Option NewTree
 
--- the tree of these pointers that a sync makes, its blocks as they are written, and how many of them are
+-- the tree of these pointers that a sync makes, its blocks as they are written, its uberblock, and how many of its calls it has made
 abbrev pub made_by : (Place → Pointer) → SyncRun → NewTree
-made_by pointers run = record { pointers = pointers; blocks = map new_block run.blocks.items; made = min run.done (length (map new_block run.blocks.items)) }
+made_by pointers run = record { pointers = pointers; blocks = map new_block run.blocks.items; slot = run.uberblock; done = run.done }
 
 -- the one that a running sync makes of this tree
 abbrev pub new_tree_of : Tree → RunningSync → NewTree

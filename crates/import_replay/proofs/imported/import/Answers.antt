@@ -1,8 +1,11 @@
-use Rattle.std.proofs.Common.{ℕ, sym, subst}
+use Rattle.std.proofs.Common.{◌≡◌, ◌∙◌, ℕ, List, length, sym, subst}
+use Rattle.base.specs.Disk.{bytes_of}
+use Rattle.base.specs.Geometry.{IsGeometry}
 use Rattle.base.specs.ExactNow.{IsExplainedNow}
 use Rattle.base.specs.Past.{new_past}
 use Rattle.object_maps.specs.ContentsShown.{contents_of}
 use Rattle.import_replay.specs.Mounts.{shown_of_import}
+use Rattle.import_replay.proofs.ShownMounts.{labels_show}
 use Rattle.import_replay.proofs.imported.import.Goals as goal
 
 pub returns-in-Ok-clause-imported : goal.returns-in-Ok-clause-imported
@@ -13,6 +16,15 @@ returns-in-Ok-clause-labelled g c = λ keeps. (c.in-Ok.ensures.written keeps).la
 
 pub invariant_of-result-clause-stands : goal.invariant_of-result-clause-stands
 invariant_of-result-clause-stands g c = ∣ (λ keeps. (c.in-Ok.ensures.imported keeps).stands) ∣₁
+
+pub invariant_of-result-clause-labels : goal.invariant_of-result-clause-labels
+invariant_of-result-clause-labels g c = ∣ (λ keeps.
+    let m = c.in-Ok.mounted in
+    let told = c.in-Ok.ensures in
+    let now : List ℕ = bytes_of (g.D.SectorDevice.disk c.mount.new.device).now in
+    let written = told.written keeps in
+    let size : length now ≡ g.D.SectorDevice.size c.args.device = g.met.D.SectorDevice.sized keeps c.mount.new.device ∙ told.size in
+    labels_show now c.args.moment m (size ∙ sym told.geometry) written.labelled.0 (subst IsGeometry (sym size) told.made.0) written.active) ∣₁
 
 pub invariant_of-result-clause-explained : goal.invariant_of-result-clause-explained
 invariant_of-result-clause-explained g c =

@@ -16,7 +16,6 @@ use Rattle.base.specs.declared.error.PoolError.{PoolError}
 use Rattle.base.specs.declared.names.Group.{Group}
 use Rattle.base.specs.Shown.{SyncPlan}
 use Rattle.base.specs.Stored.{NewTree}
-use Rattle.base.proofs.StoredTrees.{no-change}
 use Rattle.tree_plans.specs.Plans.{new_block}
 use Rattle.pool_core.specs.Holds.{start_reply}
 use Rattle.pool_core.proofs.StartLeads.{group_lacks, group_planned, group_takes, group_takes_each, nothing_made}
@@ -140,7 +139,7 @@ returns-clause-order c = λ now past x.
     record {
       synced = x.kept.stored.synced;
       replayed = x.kept.stored.replayed;
-      tree = record { pointers = pointers_after planned.root planned.directories.items planned.maps pool.tree; blocks = map new_block planned.blocks.items; made = 0 };
+      tree = record { pointers = pointers_after planned.root planned.directories.items planned.maps pool.tree; blocks = map new_block planned.blocks.items; slot = rs.run.uberblock; done = 0 };
       running = ap (λ (t : NewTree). Some t) (nothing_made pool.tree rs planned.root planned.directories planned.maps planned.blocks ens.root ens.directories ens.maps ens.blocks ens.done);
       plan = new_plan c.args.moment pool.log_address (map address_of planned.blocks.items) planned.freed.items planned.root;
       plan_is = ap (λ (q : SyncPlan). Some q) ens.plan;
@@ -172,13 +171,15 @@ returns-clause-leads c = λ now past later.
     let ens = c.running_sync.ensures in
     let made = nothing_made pool.tree rs planned.root planned.directories planned.maps planned.blocks ens.root ens.directories ens.maps ens.blocks ens.done in
     record {
-      same = no-change (block_count pool.geometry) now;
+      same = refl;
       pointers = refl;
       tree = pointers_after planned.root planned.directories.items planned.maps pool.tree;
       bs = map new_block planned.blocks.items;
+      slot = rs.run.uberblock;
       plan = new_plan c.args.moment pool.log_address (map address_of planned.blocks.items) planned.freed.items planned.root;
       running = ap (λ (t : NewTree). Some t) made;
       plan_is = ap (λ (q : SyncPlan). Some q) ens.plan;
+      slot_is = ens.uberblock.bytes;
       planned = λ x. group_planned now past pool c.in_ok-group.group.0 c.args.moment planned.blocks.items planned.freed.items planned.root planned.directories.items planned.maps
           c.in_ok-group.ensures.may told.planned told.freed_are told.used told.whole x;
     }

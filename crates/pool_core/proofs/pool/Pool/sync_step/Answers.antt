@@ -13,12 +13,11 @@ use Rattle.pool_core.specs.RunningUberblocks.{WritesUberblock, uberblock_with}
 use Rattle.pool_core.specs.Shows.{plan_of, shown_of}
 use Rattle.pool_core.proofs.SameSyncs.{as_many, kept_sync, left_as_before, more_left, one_left, one_less, refused_as, same_taken, same_uberblock}
 use Rattle.base.specs.Disk.{bytes_of}
-use Rattle.base.proofs.StoredTrees.{no-change}
 use Rattle.base.specs.declared.error.PoolError.{PoolError}
 use Rattle.pool_core.specs.declared.state.Progress.{Progress}
 use Rattle.pool_core.specs.Holds.{made_by, new_tree_of, sync_reply}
 use Rattle.pool_core.proofs.StillSteps.{still_pool}
-use Rattle.pool_core.proofs.SyncLeads.{advanced, failed_running, failed_same, synced_told, was_running}
+use Rattle.pool_core.proofs.SyncLeads.{advanced, failed_call, failed_running, synced_told, was_running, was_syncing}
 use Rattle.pool_core.proofs.SyncSteps.{step_failed, step_more, step_not_ready, step_suspended, step_synced}
 use Rattle.pool_core.proofs.pool.Pool.sync_step.Goals as goal
 
@@ -145,7 +144,7 @@ returns-in_err-check_running-clause-leads g c = λ keeps.
 
 pub returns-in_default-clause-leads : goal.returns-in_default-clause-leads
 returns-in_default-clause-leads g c = λ keeps past later. (
-  no-change (block_count c.args.self.now.geometry) (bytes_of (g.D.SectorDevice.disk c.args.device.now).now),
+  refl,
   refl,
   ap (λ (o : Option RunningSync). option_map (new_tree_of c.args.self.now.tree) o) (c.take.ensures.after ∙ c.in_default.ensures.value),
 )
@@ -158,7 +157,7 @@ returns-in-Ok-true-clause-leads g c = λ keeps.
     let told = c.in-Ok-true.ensures in
     let sized = g.met.D.SectorDevice.sized keeps c.args.device.now ∙ c.requires in
     synced_told pool c.in-Some.running c.next.new.self (g.D.SectorDevice.disk c.args.device.now) (g.D.SectorDevice.disk c.next.new.device) is told.sync sized was.0 told.there
-    c.finish_tree.new.self c.in-Some.running.group told.done (told.last.0 c.in-Ok-true.field-0-test) (told.called keeps) (c.finish_tree.ensures.sync ∙ c.take.ensures.after) c.finish_tree.ensures.pointers
+    c.finish_tree.new.self told.done (told.last.0 c.in-Ok-true.field-0-test) (told.called keeps) (c.finish_tree.ensures.sync ∙ c.take.ensures.after) c.finish_tree.ensures.pointers
 
 pub returns-in-Ok-false-clause-leads : goal.returns-in-Ok-false-clause-leads
 returns-in-Ok-false-clause-leads g c = λ keeps past later.
@@ -171,7 +170,7 @@ returns-in-Ok-false-clause-leads g c = λ keeps past later.
     let before = g.D.SectorDevice.disk c.args.device.now in
     let after = g.D.SectorDevice.disk c.next.new.device in
     let advances = advanced pool r c.next.new.self before after is told.sync sized size told.there told.done (told.called keeps) in
-    (made_by (pointers_after r.root r.directories.items r.maps pool.tree) c.next.new.self, record { before = made_by (pointers_after r.root r.directories.items r.maps pool.tree) r.run; running = was_running pool r is; advances = advances }, refl, refl)
+    (made_by (pointers_after r.root r.directories.items r.maps pool.tree) c.next.new.self, record { before = made_by (pointers_after r.root r.directories.items r.maps pool.tree) r.run; running = was_running pool r is; group = r.group.0; syncing = was_syncing pool r is; advances = advances }, refl, refl)
 
 pub returns-in-Err-clause-leads : goal.returns-in-Err-clause-leads
 returns-in-Err-clause-leads g c = λ keeps past later.
@@ -181,7 +180,7 @@ returns-in-Err-clause-leads g c = λ keeps past later.
     let told = c.in-Err.ensures in
     let before = g.D.SectorDevice.disk c.args.device.now in
     let after = g.D.SectorDevice.disk c.next.new.device in
-    (failed_same r.run told.there.0 c.in-Err.error before after (block_count pool.geometry) (told.called keeps told.there.0 told.there.1), refl, failed_running pool r c.next.new.self is told.sync told.done)
+    (failed_call r.run told.there.0 c.in-Err.error before after (told.called keeps told.there.0 told.there.1), refl, failed_running pool r c.next.new.self is told.sync told.done)
 
 pub returns-in_err-check_running-clause-called : goal.returns-in_err-check_running-clause-called
 returns-in_err-check_running-clause-called g c = rw c.in_err-check_running.ensures.1 refl

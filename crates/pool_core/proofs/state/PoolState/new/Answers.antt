@@ -12,6 +12,6 @@ pub returns-clause-held : goal.returns-clause-held
 returns-clause-held g c =
     let m = c.args.imported.mounted in
     let now : List ℕ = bytes_of (g.D.SectorDevice.disk c.args.imported.device).now in
-    ∥∥₁_elim c.args.imported.stands ∥∥₁_prop (λ stands. ∥∥₁_map c.args.imported.explained (λ explained keeps.
+    ∥∥₁_elim c.args.imported.stands ∥∥₁_prop (λ stands. ∥∥₁_elim c.args.imported.labels ∥∥₁_prop (λ labels. ∥∥₁_map c.args.imported.explained (λ explained keeps.
     let sized = ap (λ (n : ℕ). block_count n) (sym (g.met.D.SectorDevice.sized keeps c.args.imported.device ∙ c.args.imported.sized)) in
-    held_as m c.new.result now c.new.ensures.shown c.new.ensures.tree c.new.ensures.idle sized (stands keeps) explained))
+    held_as m c.new.result now c.new.ensures.shown c.new.ensures.tree c.new.ensures.idle sized (stands keeps) (labels keeps) explained)))
