@@ -159,12 +159,8 @@ step-tested now (step.Begin owner plan) e old new (answer, is, h) seen =
     tested (step.Begin owner plan) _ answer _ e old new _ _ (λ a. refl) (λ f own. ap (is_untested (step.Begin owner plan)) own.0) is h seen
 step-tested now (step.Commit tx ops) e old new (answer, is, h) seen =
     tested (step.Commit tx ops) _ answer _ e old new _ _ (λ a. refl) (λ f own. ap (is_untested (step.Commit tx ops)) own.0) is h seen
-step-tested now (step.Read owner n range) e old new (answer, is, h) seen = tested (step.Read owner n range) _ answer _ e old new _ _ (λ a. refl) (λ f own. by_read f own.0) is h seen
-  where
-    by_read : (f : PoolError) → (f ≡ error.NoMemory) ⊎ (f ≡ error.Read) ⊎ ((kind address : ℕ) × (f ≡ error.Damaged kind address) × ¬ ⊥) → is_untested (step.Read owner n range) f ≡ true
-    by_read f (inl memory) = ap (is_untested (step.Read owner n range)) memory
-    by_read f (inr (inl read)) = ap (is_untested (step.Read owner n range)) read
-    by_read f (inr (inr (kind, address, damaged, _))) = ap (is_untested (step.Read owner n range)) damaged
+step-tested now (step.Read owner n range) e old new (answer, is, h) seen =
+    tested (step.Read owner n range) _ answer _ e old new _ _ (λ a. refl) (λ f own. ap (is_untested (step.Read owner n range)) own.0) is h seen
 step-tested now step.CloseGroup e old new (answer, is, h) seen = tested step.CloseGroup _ answer _ e old new _ _ (λ a. refl) (λ f own. absurd own) is h seen
 step-tested now step.MarkQuiesced e old new (answer, is, h) seen = tested step.MarkQuiesced _ answer _ e old new _ _ (λ a. refl) (λ f own. absurd own) is h seen
 step-tested now (step.StartSync moment) e old new (answer, is, h) seen = tested (step.StartSync moment) _ answer _ e old new _ _ (λ a. refl) (λ f own. by_start f own.0) is h seen
