@@ -26,13 +26,13 @@ const TAIL_SIZE: usize = 245_760;
 /// The name/value areas, the uberblock arrays and all blocks are cleared to zeros and flushed; then four configs of group
 /// 4 are written and flushed, and then uberblock 4, with no tree and no log, in each label (On-Disk Specification, chapter
 /// 1), which are flushed too. So a device that keeps the model of a disk then holds all this, whatever a crash makes of
-/// it, and mounts an empty pool. All bytes before the name/value areas, and those between the labels and the blocks, stay
-/// as they are at each moment, also in a create that is refused; what it leaves of the others it does not say. It takes no
-/// memory.
+/// it, and mounts an empty pool. All bytes before the name/value areas and those between the labels and the blocks stay as
+/// they are at each moment, also in a create that is refused; of the other bytes a refused create promises nothing. It takes
+/// no memory.
 ///
 /// # Errors
 /// `BadGeometry` where the device's size is none that a pool may have; `BadRange` where the name is none; before either no
-/// device call is made. `Write`, `Flush`.
+/// device call is made. `Write` and `Flush` exactly where the device refused such a call.
 pub fn create<D: SectorDevice>(
     mut device: D,
     name: &[u8],
