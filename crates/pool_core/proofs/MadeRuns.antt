@@ -1,5 +1,5 @@
 -- What the steps of a pool on its device do, one after another.
-use Rattle.std.proofs.Common.{◌≡◌, List, [], ◌∷◌, ap, refl, sym, subst, ◌∙◌}
+use Rattle.std.proofs.Common.{◌≡◌, List, [], ◌∷◌, ap, sym, subst, ◌∙◌}
 use Rattle.base.specs.declared.refused.RefusedCalls.{RefusedCalls}
 use Rattle.base.specs.declared.step.Step.{Step}
 use Rattle.base.specs.declared.step.Reply.{Reply}
@@ -9,7 +9,7 @@ use Rattle.base.specs.ExactNow.{IsExplainedNow}
 use Rattle.base.specs.Runs.{Run}
 use Rattle.base.specs.Stored.{IsHeld}
 use Rattle.pool_core.specs.declared.pool.Pool.{Pool}
-use Rattle.pool_core.specs.Calls.{answer_of, counted_in_turn}
+use Rattle.pool_core.specs.Calls.{counted_in_turn}
 use Rattle.pool_core.specs.ExplainedRuns.{RunsOn}
 use Rattle.pool_core.specs.Holds.{HoldsOn, held_with}
 use Rattle.pool_core.specs.Shows.{shown_of}

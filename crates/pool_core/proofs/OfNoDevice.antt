@@ -1,5 +1,5 @@
 -- Steps that make no device call are refused by none.
-use Rattle.std.proofs.Common.{◌≡◌, ℕ, Bool, true, false, ◌&&◌, List, [], ◌∷◌, ◌++◌, refl, ap, sym, ◌∙◌, ◌⊎◌, inl, inr}
+use Rattle.std.proofs.Common.{◌≡◌, ℕ, Bool, true, false, List, [], ◌∷◌, ◌++◌, refl, ap, sym, ◌∙◌, ◌⊎◌, inl, inr}
 use Rattle.std.specs.Prelude.{Option, Some, None, Result, Ok, Err}
 use Rattle.std.specs.FinMap as finite
 use Rattle.std.specs.List.{list_all}
@@ -16,7 +16,7 @@ use Rattle.base.specs.Contents.{Contents, apply, created, removed, changed, with
 use Rattle.base.specs.History.{apply_all}
 use Rattle.base.specs.Past.{Past, new_past}
 use Rattle.base.specs.Plans.{NumberRange}
-use Rattle.base.specs.Refusals.{Test, first_refusal, ops_tests, lock_refusal, unlock_refusal, read_refusal, quiesce_refusal, lock_tests, unlock_tests, read_tests, commit_tests, close_tests, quiesce_tests}
+use Rattle.base.specs.Refusals.{Test, first_refusal, ops_tests, lock_tests, unlock_tests, read_tests, commit_tests, close_tests, quiesce_tests}
 use Rattle.base.specs.Sequences.{and_then, in_turn}
 use Rattle.base.specs.Shown.{Shown}
 use Rattle.base.specs.Stage as stage

@@ -31,7 +31,6 @@ use Rattle.pool_core.specs.declared.pool.Pool.{Pool}
 use Rattle.pool_core.specs.declared.pool.RunningSync.{RunningSync}
 use Rattle.pool_core.specs.Holds.{Leads, SamePlaces, Told, made_by, new_tree_of, told_of}
 use Rattle.pool_core.specs.Pointers.{pointers_after}
-use Rattle.pool_core.specs.RunningUberblocks.{WritesUberblock, uberblock_with}
 
 -- each call of a list, with its place in it
 abbrev EachAt : (ℕ → DeviceCall → Type 0) → ℕ → List DeviceCall → Type 0

@@ -1,17 +1,16 @@
 -- A step of a pool on its device leads from a past that explains it to the past after the step.
-use Rattle.std.proofs.Common.{◌≡◌, false, List, [], ap, subst}
+use Rattle.std.proofs.Common.{◌≡◌, false, [], subst}
 use Rattle.base.specs.declared.step.Step as declared_step
 use Rattle.base.specs.declared.step.Step.TheVariants as step
 use Rattle.base.specs.declared.step.Reply as declared_reply
 use Rattle.base.specs.ExactNow.{IsExplainedNow}
 use Rattle.base.specs.Past.{Past}
-use Rattle.base.specs.Steps.{State}
 use Rattle.base.specs.Stored.{IsHeld}
 use Rattle.base.proofs.Additions.{told_past}
 use Rattle.base.proofs.KeptTables.{steps_keep_tables}
 use Rattle.pool_core.specs.Holds.{IsStepOver, Leads, StepsOver, Told, held_with}
 use Rattle.pool_core.specs.StepReplies.{IsStep, StepReplies}
-use Rattle.pool_core.specs.Turns.{Turns, TurnsTo, held_after, state_after, state_with}
+use Rattle.pool_core.specs.Turns.{Turns, held_after, state_after, state_with}
 use Rattle.pool_core.proofs.HeldSteps.{leads_keep}
 use Rattle.pool_core.proofs.StepsOver.{any_bytes, is_start}
 

@@ -2,8 +2,8 @@
 
 use crate::{PoolState, Progress, run};
 use base::{
-    Bytes, Group, Mode, ObjectId, Op, Ops, Owner, Plan, PoolError, Range, Reply, Shape, Step, TxId,
-    read_u64,
+    Bytes, Group, LockId, Mode, ObjectId, Op, Ops, Owner, Plan, PoolError, Range, Reply, Shape,
+    Step, TxId, read_u64,
 };
 use device_model::{Fault, MemDevice, SectorDevice};
 use import_replay::{create, import};
@@ -162,6 +162,51 @@ fn a_refused_flush_suspends(rt: HostRuntime) -> Result<(), Fail> {
     assert_eq!(rt; pool.close_group(), Err(PoolError::Suspended));
     let device = pool.into_device();
     assert_eq!(rt; device.unflushed(), 4);
+    Ok(())
+}
+
+#[test]
+fn a_range_is_read_below_the_length(rt: HostRuntime) -> Result<(), Fail> {
+    let alloc = rt.alloc();
+    let mut pool = tank(alloc, MemDevice::new(alloc, 16_384)?)?;
+    fill(alloc, &mut pool, b"abcd")?;
+    pool.lock(OWNER, OBJECT, WHOLE, Mode::Reader)?;
+    let bytes = pool.read(OWNER, OBJECT, Range { low: 1, high: 9 })?;
+    assert_eq!(rt; bytes.as_slice(), b"bcd".as_slice());
+    let all = pool.read(OWNER, OBJECT, WHOLE)?;
+    assert_eq!(rt; all.as_slice(), b"abcd".as_slice());
+    Ok(())
+}
+
+#[test]
+fn a_refused_write_suspends(rt: HostRuntime) -> Result<(), Fail> {
+    let alloc = rt.alloc();
+    let mut device = tank(alloc, MemDevice::new(alloc, 16_384)?)?.into_device();
+    // four configs and four uberblocks of an import, and the second block of the sync
+    device.fail(Fault::Write, 10);
+    let mut pool = match import(alloc, device, 1_048_576, 7) {
+        Ok(imported) => PoolState::new(imported),
+        Err((error, _)) => return Err(error)?,
+    };
+    fill(alloc, &mut pool, b"abcd")?;
+    pool.start_sync(8)?;
+    assert_eq!(rt; pool.sync_step(), Ok(Progress::More));
+    assert_eq!(rt; pool.sync_step(), Err(PoolError::Write));
+    let mut steps = Vec::new(alloc);
+    steps.push(Step::Lock(OWNER, OBJECT, WHOLE, Mode::Reader))?;
+    steps.push(Step::Unlock(OWNER, LockId(0)))?;
+    steps.push(Step::Begin(OWNER, Plan::new(Vec::new(alloc))))?;
+    steps.push(Step::Commit(TxId(0), Ops::new(Vec::new(alloc))))?;
+    steps.push(Step::Read(OWNER, OBJECT, WHOLE))?;
+    steps.push(Step::CloseGroup)?;
+    steps.push(Step::MarkQuiesced)?;
+    steps.push(Step::StartSync(9))?;
+    steps.push(Step::SyncStep)?;
+    let replies = run(&mut pool, steps)?;
+    assert_eq!(rt; replies.len(), 9);
+    for reply in &replies {
+        assert!(rt; matches!(reply, Reply::Refused(PoolError::Suspended)));
+    }
     Ok(())
 }
 
