@@ -2,12 +2,14 @@
 use Rattle.std.specs.Prelude.{ℕ, ◌≡◌}
 use Rattle.base.specs.declared.pointer.Pointer.{Pointer}
 use Rattle.base.specs.Geometry.{slot_of}
+use Rattle.base.specs.Versions.{written_version}
 use Rattle.base.specs.Uberblocks.{Uberblock, IsUberblock}
 use Rattle.sync.specs.declared.run.SyncRun.{SyncRun}
 
 -- of a pool with this guid, import number and next log block, that of a sync of this group with this moment and root
 abbrev pub uberblock_with : (guid import_number log_address group moment : ℕ) → Pointer → Uberblock
 uberblock_with guid import_number log_address group moment root = record {
+  version = written_version;
   group = group;
   guid = guid;
   moment = moment;
