@@ -3,10 +3,11 @@ use Rattle.std.specs.Prelude.{ℕ, ◌≡◌, ◌⊎◌, ◌+◌, ◌/◌, false
 use Rattle.base.specs.declared.error.PoolError.{PoolError}
 use Rattle.base.specs.declared.error.PoolError.TheVariants.{BadGeometry, BadRange}
 use Rattle.base.specs.declared.step.Reply.TheVariants.{Done, Refused}
-use Rattle.base.specs.Disk.{CrashLeaves, bytes_of, disk_size}
+use Rattle.base.specs.Disk.{CrashLeaves, bytes_of, certain, disk_size}
 use Rattle.device_model.specs.MemState.{MemState, new_state}
 use Rattle.import_replay.specs.Creations.{IsNewPool}
-use Rattle.import_replay.specs.ImportRefusals.{IsReason}
+use Rattle.import_replay.specs.ImportRefusals.{IsReadingRefusal, IsReason, IsSyncRefusal}
+use Rattle.import_replay.specs.ImportStops.{IsImportStopped}
 use Rattle.import_replay.specs.ImportSyncs.{IsImportSynced}
 use Rattle.import_replay.specs.Mounts.{shown_of_import}
 use Rattle.import_replay.specs.declared.mounted.Mounted.{Mounted}
@@ -38,10 +39,14 @@ Creates name guid s (answer.Reply (Refused e)) (Device new) = IsLeftByCreate (de
 Creates name guid s (answer.Reply (Refused e)) Nothing = has_device s.place ≡ false
 Creates name guid s told new = ⊥
 
--- a refused import gives the device back, and told what the image is
-pub record IsLeftByImport (old : MemState) (e : PoolError) (new : MemState) : Type 0 where
+-- A refused import gives the device back, and told what the image is: as it was where the limit is the reason, with the disk as it
+-- was and flushed where no write and no flush was refused, and else with what the calls before the refused one made of it.
+pub record IsLeftByImport (moment : ℕ) (old : MemState) (e : PoolError) (new : MemState) : Type 0 where
   pub size : disk_size new.disk ≡ disk_size old.disk
   pub reason : IsReason (bytes_of old.disk.now) e
+  pub untouched : (e ≡ BadGeometry) ⊎ (e ≡ BadRange) → new ≡ old
+  pub unchanged : IsReadingRefusal e → new.disk ≡ certain (bytes_of old.disk.now) old.disk
+  pub stopped : IsSyncRefusal e → IsImportStopped old.disk new.disk moment e
 
 -- what is told of an imported pool
 abbrev pub answer_of : Mounted → Answer
@@ -75,7 +80,7 @@ pub record IsImportOn (dirty_max moment : ℕ) (old : MemState) (told : Answer) 
 -- so it does, or it is refused
 abbrev pub Imports : ℕ → ℕ → MemState → Answer → Place → Type 0
 Imports dirty_max moment old (answer.Imported synced next records) new = IsImportOn dirty_max moment old (answer.Imported synced next records) new
-Imports dirty_max moment old (answer.Reply (Refused e)) (Device new) = IsLeftByImport old e new
+Imports dirty_max moment old (answer.Reply (Refused e)) (Device new) = IsLeftByImport moment old e new
 Imports dirty_max moment old told new = ⊥
 
 -- what a create or an import makes of the device
