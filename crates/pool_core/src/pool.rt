@@ -104,7 +104,8 @@ pub struct Pool {
     ghost next_ordinal_fits: { next_ordinal ≤ 2 ^ 60 + 1 },
     ghost plans_built: { All (λ (t : OpenTransaction). is_plan_built t.plan ≡ true) transactions.items },
     ghost running: { ForSome sync (λ r. (r.run.geometry ≡ geometry) × (r.run.done < call_count r.run)) },
-    ghost uberblock: { ForSome sync (λ r. WritesUberblock (uberblock_with guid import_number log_address r.group.0 r.moment r.root) r.run) },
+    ghost uberblock: { ForSome sync (λ r. WritesUberblock
+        (uberblock_with guid import_number log_address r.group.0 r.moment r.root) r.run) },
     ghost planned: { ForSome sync (λ r. ∥ ArePlaced (block_count geometry) (pointers_after r.root r.directories.items r.maps tree) ∥₁) },
     ghost sync_line: { option_map (λ r. r.group.0) sync ≡ option_map (λ g. g.0) groups.syncing } by { Prim.hlevel props },
     ghost pending_built: { All (λ (c : Committed). list_any is_rename c.ops ≡ false) pending.items },

@@ -16,7 +16,7 @@ use base::{PoolError, Reply, Step};
 use device_model::SectorDevice;
 
 impl<D: SectorDevice> PoolState<D> {
-    /// Makes one step.
+    /// Makes one step. Of the steps only that of a sync calls the device: it makes the next call of its sync.
     pub fn step(&mut self, step: Step) -> Reply
         ensures replied { StepReplies step result (shown_of self.old.pool) (shown_of self.new.pool) }
         ensures turns { Turns (IsTrue D.keeps_model) step result
@@ -68,7 +68,8 @@ fn reply<T, F: FnOnce(T) -> Reply>(answer: Result<T, PoolError>, told: F) -> Rep
     }
 }
 
-/// Makes steps one after another, and answers each. It takes the room for all replies first.
+/// Makes steps one after another, and answers each. It takes the room for all replies first, and makes no device call but
+/// those of the steps of a sync.
 ///
 /// # Errors
 /// `NoMemory` where there is none for the replies, and then no step was made.
