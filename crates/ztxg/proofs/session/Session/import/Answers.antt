@@ -11,3 +11,9 @@ returns-in-Ok-clause-imports c =
       told_is = refl;
       pool = c.keep_pool.ensures.pool;
     })
+
+pub returns-in-Err-clause-imports : goal.returns-in-Err-clause-imports
+returns-in-Err-clause-imports c =
+    let left = c.in-Err.ensures in
+    rw (← c.in-Some.ensures.device, c.give_back.ensures.refused, c.give_back.ensures.device, ← c.take_device.ensures.moment)
+    (record { size = left.given_back; reason = left.reason refl; untouched = left.untouched; unchanged = left.unchanged refl; stopped = left.stopped refl })
