@@ -18,6 +18,10 @@ pub record HoldsContents (now : List ℕ) (contents : Contents) : Type 0 where
   pub mounts : MountsTo now contents
   pub no_log : HasNoLogBlock now
 
+-- an import of these bytes shows the contents that they hold
+abbrev pub Shows : List ℕ → Contents → Type 0
+Shows now shown = (contents : Contents) → HoldsContents now contents → shown ≡ contents
+
 -- Contents that a pool leaves: the replay, over its base, of its entries up to a group. This is the synced one, or that of a sync
 -- which runs.
 pub record AreLeft (h : Held) (contents : Contents) : Type 0 where

@@ -1,12 +1,11 @@
 //! A client of the pool without any crash: what one run leaves on its device is what the next import finds.
 #![tactic(auto)]
 
-ghost use Rattle.std.specs.Prelude.{◌≡◌, IfOk, IsTrue};
-ghost use Rattle.base.specs.Contents.{Contents};
+ghost use Rattle.std.specs.Prelude.{IfOk, IsTrue};
 ghost use Rattle.base.specs.Disk.{bytes_of};
 ghost use Rattle.base.specs.ShownLabels.{HasNoLogBlock};
 ghost use Rattle.object_maps.specs.ContentsShown.{contents_of};
-ghost use Rattle.round_trip.specs.Rounds.{GoesRound, HoldsContents, HoldsNew, IsFoundAfter};
+ghost use Rattle.round_trip.specs.Rounds.{GoesRound, HoldsNew, IsFoundAfter, Shows};
 
 use base::{PoolError, Reply, Step};
 use device_model::SectorDevice;
@@ -45,8 +44,8 @@ pub fn open<D: SectorDevice + Drop>(
     dirty_max: u64,
     moment: u64,
 ) -> Result<Imported<D>, PoolError>
-    ensures found { IsTrue D.keeps_model → IfOk result (λ i. (contents : Contents)
-        → HoldsContents (bytes_of (D.disk device).now) contents → contents_of i.mounted.contents ≡ contents) }
+    ensures found { IsTrue D.keeps_model → IfOk result
+        (λ i. Shows (bytes_of (D.disk device).now) (contents_of i.mounted.contents)) }
     ensures no_log { IsTrue D.keeps_model → IfOk result (λ i. HasNoLogBlock (bytes_of (D.disk device).now)
         → HasNoLogBlock (bytes_of (D.disk i.device).now)) }
 {
