@@ -17,7 +17,6 @@ use Rattle.base.specs.ShownLabels.{HasNoLogBlock}
 use Rattle.base.specs.Stored.{Held, IsHeld}
 use Rattle.base.specs.Uberblocks.{Uberblock}
 use Rattle.base.proofs.Additions.{runs_grow}
-use Rattle.base.proofs.BusyLocks.{Some-injective}
 use Rattle.base.proofs.HeldMounts.{held_mounts, steps_write_no_log}
 use Rattle.base.proofs.StoredSyncs.{up_to-all}
 use Rattle.pool_core.specs.declared.pool.Pool.{Pool}

@@ -6,9 +6,8 @@ use Rattle.base.specs.declared.step.Reply as declared_reply
 use Rattle.base.specs.Contents.{Contents}
 use Rattle.base.specs.History.{entries_up_to, replay}
 use Rattle.base.specs.Mount.{MountsTo}
-use Rattle.base.specs.Past.{Past, new_past}
+use Rattle.base.specs.Past.{new_past}
 use Rattle.base.specs.Runs.{Run}
-use Rattle.base.specs.Shown.{Shown}
 use Rattle.base.specs.ShownLabels.{HasNoLogBlock}
 use Rattle.base.specs.Stored.{AreUpTo, Held, IsHeld}
 use Rattle.pool_core.specs.Holds.{KeepsHeld}
