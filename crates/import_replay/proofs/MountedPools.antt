@@ -247,4 +247,11 @@ module _ (size : ℕ) (u : Uberblock) (name : List ℕ) (slots : List Slot) (tre
         log_apart = λ is. from.log.is_unnamed (now_named m.log_address is);
         free = are_free;
       };
+      blocks = record {
+        size = same.length_is;
+        each = λ address is. block_same address (subst (λ (n : ℕ). IsBlockAddress (block_count n) address) long is);
+      };
     }
+      where
+        block_same : (address : ℕ) → IsBlockAddress (block_count size) address → part now address block_size ≡ part image address block_size
+        block_same address (k, low, is) = subst (λ (a : ℕ). part now a block_size ≡ part image a block_size) (sym is) (same.each k low)

@@ -1,5 +1,5 @@
 -- What an import mounts, as contracts see the pool that it gives.
-use Rattle.std.specs.Prelude.{ℕ, ◌≡◌, ◌+◌, false, List, [], None}
+use Rattle.std.specs.Prelude.{ℕ, ◌≡◌, ◌+◌, false, List, [], length, None}
 use Rattle.std.specs.FinMap as finite
 use Rattle.base.specs.Versions.{written_version}
 use Rattle.base.specs.Blocks.{Frame}
@@ -12,6 +12,7 @@ use Rattle.base.specs.Past.{new_past}
 use Rattle.base.specs.PlacedTrees.{HoldsTree}
 use Rattle.base.specs.Places.{IsInTree}
 use Rattle.base.specs.Shown.{Shown}
+use Rattle.base.specs.Stored.{SameBlocks}
 use Rattle.base.specs.Uberblocks.{Uberblock, IsActive}
 use Rattle.object_maps.specs.declared.contents.Slot.{Slot}
 use Rattle.object_maps.specs.declared.tree.Tree.{Tree}
@@ -73,7 +74,8 @@ abbrev pub IsExplainedAnew : Mounted → Type 0
 IsExplainedAnew m = (created : ℕ) → IsExplainedNow (shown_of_import m) (new_past (contents_of m.contents) created m.dirty_max)
 
 -- an import of an image that leaves these bytes: for the active uberblock, where it has no chain, the pool that the import gives;
--- and that it stands on the device
+-- and that it stands on the device; each block is the image's
 pub record IsImport (image now : List ℕ) (dirty_max : ℕ) (m : Mounted) : Type 0 where
   pub imported : (u : Uberblock) → IsActive image u → IsChainOf image u [] → IsImportOf image now dirty_max 0 (shown_of_import m)
   pub stands : StandsOn now m
+  pub blocks : SameBlocks (block_count (length image)) image now

@@ -3,7 +3,7 @@
 ghost use Rattle.std.specs.Prelude.{◌≡◌, ◌<◌, ◌+◌, ◌*◌, ◌≤◌, ◌^◌, ◌⊎◌, ℕ, [], true, false, IfErr, IfOk, IfSome, IsTrue, OnOk, length, vec_len};
 ghost use Rattle.std.specs.FinMap as finite;
 ghost use Rattle.base.specs.Calls.{counted, with_refusal};
-ghost use Rattle.base.specs.Disk.{bytes_of, certain};
+ghost use Rattle.base.specs.Disk.{bytes_of, certain, disk_size};
 ghost use Rattle.base.specs.Exact.{AreFree, IsBounded};
 ghost use Rattle.base.specs.ExactNow.{IsExplainedNow};
 ghost use Rattle.base.specs.Geometry.{IsGeometry, block_count};
@@ -13,6 +13,7 @@ ghost use Rattle.base.specs.Limits.{max_length, object_count};
 ghost use Rattle.base.specs.Mount.{IsChainOf};
 ghost use Rattle.base.specs.Past.{new_past};
 ghost use Rattle.base.specs.PlacedTrees.{ArePlaced, HoldsTree};
+ghost use Rattle.base.specs.Stored.{SameBlocks};
 ghost use Rattle.base.specs.SyncOrder.{import_calls};
 ghost use Rattle.base.specs.Uberblocks as image;
 ghost use Rattle.base.specs.Uberblocks.{IsActive};
@@ -63,7 +64,7 @@ pub fn import<D: SectorDevice>(
     dirty_max: u64,
     moment: u64,
 ) -> Result<Imported<D>, (PoolError, D)>
-    // The pool is that of the active uberblock, where it has no log chain, and the device holds its tree.
+    // The pool is that of the active uberblock, where it has no log chain, and the device holds its tree. All blocks stay.
     ensures imported { IsTrue D.keeps_model → IfOk result (λ i. (u : image.Uberblock) → IsActive (bytes_of (D.disk device).now) u
         → IsChainOf (bytes_of (D.disk device).now) u []
         → IsImportOf (bytes_of (D.disk device).now) (bytes_of (D.disk i.device).now) dirty_max 0 (shown_of_import i.mounted)) }
@@ -72,6 +73,8 @@ pub fn import<D: SectorDevice>(
     ensures tree { IsTrue D.keeps_model → IfOk result
         (λ i. HoldsTree (bytes_of (D.disk i.device).now) (frame_of_import i.mounted) (pointers_of i.mounted.tree)
         (contents_of i.mounted.contents).objects) }
+    ensures blocks { IsTrue D.keeps_model → IfOk result (λ i. SameBlocks (block_count (disk_size (D.disk device)))
+        (bytes_of (D.disk device).now) (bytes_of (D.disk i.device).now)) }
 
     // It makes just its calls, in their order. Then each label has its config and its uberblock, this is the active one, and
     // all is certain.

@@ -1,0 +1,139 @@
+-- A run of steps from an import on, and what the bytes mount then.
+use Rattle.std.proofs.Common.{◌≡◌, ℕ, List, [], ◌∷◌, refl, sym, ap, subst, ◌∙◌, ◌⊎◌, inl, inr}
+use Rattle.std.specs.Prelude.{None, Some, Ok}
+use Rattle.base.specs.declared.refused.RefusedCalls.{RefusedCalls}
+use Rattle.base.specs.declared.step.Step as declared_step
+use Rattle.base.specs.declared.step.Reply as declared_reply
+use Rattle.base.specs.declared.step.Reply.TheVariants as reply
+use Rattle.base.specs.Additions.{past_after}
+use Rattle.base.specs.Contents.{Contents}
+use Rattle.base.specs.Disk.{Disk, bytes_of}
+use Rattle.base.specs.History.{Entry, entries_up_to, replay}
+use Rattle.base.specs.HeldMounts.{MountsUpTo}
+use Rattle.base.specs.Mount.{IsChainOf}
+use Rattle.base.specs.Past.{Past, new_past}
+use Rattle.base.specs.Runs.{Run}
+use Rattle.base.specs.ShownLabels.{HasNoLogBlock}
+use Rattle.base.specs.Stored.{Held, IsHeld}
+use Rattle.base.specs.Uberblocks.{Uberblock}
+use Rattle.base.proofs.Additions.{runs_grow}
+use Rattle.base.proofs.HeldMounts.{held_mounts, steps_write_no_log}
+use Rattle.base.proofs.StoredSyncs.{up_to-all}
+use Rattle.pool_core.specs.declared.pool.Pool.{Pool}
+use Rattle.pool_core.specs.Holds.{KeepsHeld, Leads, Told, held_with}
+use Rattle.pool_core.specs.Turns.{MakesStep, state_after, state_with, told_on}
+use Rattle.round_trip.specs.Rounds.{AreLeft, HoldsContents, IsAllSynced, IsRound}
+
+-- an image without log blocks has no chain
+pub no_chain : (now : List ℕ) (u : Uberblock) → HasNoLogBlock now → IsChainOf now u []
+no_chain now u none block is = none u.log_address is.in_area is.sealed.kind_is
+
+-- a step of a pool leaves no log block where none was
+still_none : (r : declared_reply.Reply) (old new : Told) (past : Past) → IsHeld (held_with old past) → Leads r old new → HasNoLogBlock old.now → HasNoLogBlock new.now
+still_none (reply.Synced group) old new past held leads none =
+    steps_write_no_log (reply.Synced group) (held_with old past) (held_with (record new { pointers = leads.0 }) past) held (leads.2 past past) none
+still_none (reply.Syncing group) old new past held leads none = steps_write_no_log (reply.Syncing group) (held_with old past) (held_with new past) held (leads past past) none
+still_none reply.More old new past held leads none = steps_write_no_log reply.More (held_with old past) (held_with new past) held (leads past past) none
+still_none (reply.Refused e) old new past held leads none = steps_write_no_log (reply.Refused e) (held_with old past) (held_with new past) held (leads past past) none
+still_none reply.Done old new past held leads none = steps_write_no_log reply.Done (held_with old past) (held_with new past) held (leads past past) none
+still_none (reply.Locked id) old new past held leads none = steps_write_no_log (reply.Locked id) (held_with old past) (held_with new past) held (leads past past) none
+still_none (reply.Began tx group) old new past held leads none = steps_write_no_log (reply.Began tx group) (held_with old past) (held_with new past) held (leads past past) none
+still_none (reply.Committed receipt) old new past held leads none = steps_write_no_log (reply.Committed receipt) (held_with old past) (held_with new past) held (leads past past) none
+still_none (reply.Bytes all) old new past held leads none = steps_write_no_log (reply.Bytes all) (held_with old past) (held_with new past) held (leads past past) none
+still_none (reply.Opened group) old new past held leads none = steps_write_no_log (reply.Opened group) (held_with old past) (held_with new past) held (leads past past) none
+still_none (reply.Quiesced group) old new past held leads none = steps_write_no_log (reply.Quiesced group) (held_with old past) (held_with new past) held (leads past past) none
+
+-- what steps lead to from a past with which the device holds what it should, where no block is a log block
+record Led (ss : List declared_step.Step) (rs : List declared_reply.Reply) (old new : Told) (past : Past) : Type 0 where
+  pub later : Past
+  pub ran : Run KeepsHeld ss rs (held_with old past) (held_with new later)
+  pub held : IsHeld (held_with new later)
+  pub no_log : HasNoLogBlock new.now
+  pub base : later.base ≡ past.base
+
+module _ (Dev keeps : Type 0) (refused : Dev → RefusedCalls) (disk : Dev → Disk) (keep : keeps) where
+  led : (ss : List declared_step.Step) (rs : List declared_reply.Reply) (old new : Pool × Dev) → Run (MakesStep Dev keeps refused disk) ss rs old new → (past : Past)
+      → IsHeld (held_with (told_on disk old) past) → HasNoLogBlock (told_on disk old).now → Led ss rs (told_on disk old) (told_on disk new) past
+  led [] [] old new ran past held none = record {
+    later = past;
+    ran = ap (λ (p : Pool × Dev). held_with (told_on disk p) past) ran;
+    held = subst (λ (p : Pool × Dev). IsHeld (held_with (told_on disk p) past)) (sym ran) held;
+    no_log = subst (λ (p : Pool × Dev). HasNoLogBlock (told_on disk p).now) (sym ran) none;
+    base = refl;
+  }
+  led (s ∷ ss) (r ∷ rs) old new (middle, makes, rest) past held none =
+      let before : Told = told_on disk old in
+      let after : Told = told_on disk middle in
+      let t = makes.turns past in
+      let later : Past = past_after s r (state_with before past) in
+      let held_then : IsHeld (held_with after later) = t.held keep held in
+      let grows = runs_grow (s ∷ []) (r ∷ []) (state_with before past) (state_after s r before after past) (state_after s r before after past, ([], t.step held.explained), refl) in
+      let next = led ss rs middle new rest later held_then (still_none r before after past held (makes.leads keep) none) in
+      record {
+        later = next.later;
+        ran = (held_with after later, (t.over held, held_then), next.ran);
+        held = next.held;
+        no_log = next.no_log;
+        base = next.base ∙ grows.base;
+      }
+  led [] (r ∷ rs) old new ran past held none = absurd ran
+  led (s ∷ ss) [] old new ran past held none = absurd ran
+
+  -- where all is synced, the entries up to a group that is the synced one or that of a sync leave what is shown
+  all_shown : (h : Held) → IsHeld h → (after : Contents) → AreLeft h after → IsAllSynced h → after ≡ h.state.shown.contents
+  all_shown h x after left all = by_group left.group_is
+    where
+      entries : List Entry
+      entries = h.state.past.entries
+
+      by_group : (left.group ≡ h.state.shown.line.synced) ⊎ (h.state.shown.line.syncing ≡ Some left.group) → after ≡ h.state.shown.contents
+      by_group (inr is) = let none : None ≡ Some left.group = sym all.idle ∙ is in cc
+      by_group (inl is) =
+          let whole : entries_up_to h.state.shown.line.synced entries ≡ entries = up_to-all h.state.shown.line.synced entries all.none_above in
+          let replayed : replay (entries_up_to h.state.shown.line.synced entries) h.state.past.base ≡ Ok after =
+          subst (λ (g : ℕ). replay (entries_up_to g entries) h.state.past.base ≡ Ok after) is left.replayed in
+          let same : Ok after ≡ Ok h.state.shown.contents = sym replayed ∙ ap (λ (l : List Entry). replay l h.state.past.base) whole ∙ x.explained.history.replays in
+          cc
+
+  -- the bytes hold what the pool leaves
+  left_by : (h : Held) → IsHeld h → HasNoLogBlock h.now → (after : Contents) × AreLeft h after × HoldsContents h.now after
+  left_by h x none = by_sync (held_mounts h x none)
+    where
+      found : (group : ℕ) → (group ≡ h.state.shown.line.synced) ⊎ (h.state.shown.line.syncing ≡ Some group) → MountsUpTo group h.now h.state.shown h.state.past
+          → (after : Contents) × AreLeft h after × HoldsContents h.now after
+      found group is m = (
+        m.contents,
+        record { group = group; group_is = is; replayed = m.replayed },
+        record { mounts = (m.u, [], m.mounts); no_log = none },
+      )
+
+      by_sync : MountsUpTo h.state.shown.line.synced h.now h.state.shown h.state.past ⊎ ((group : ℕ) × (h.state.shown.line.syncing ≡ Some group) × MountsUpTo group h.now h.state.shown h.state.past)
+          → (after : Contents) × AreLeft h after × HoldsContents h.now after
+      by_sync (inl m) = found h.state.shown.line.synced (inl refl) m
+      by_sync (inr (group, is, m)) = found group (inr is) m
+
+  -- a run from a pool that was just imported is a round
+  pub round : (ss : List declared_step.Step) (rs : List declared_reply.Reply) (old new : Pool × Dev) → Run (MakesStep Dev keeps refused disk) ss rs old new → (before : Contents) (dirty_max : ℕ)
+      → (told_on disk old).shown.contents ≡ before → IsHeld (held_with (told_on disk old) (new_past before 0 dirty_max)) → HasNoLogBlock (bytes_of (disk old.1).now)
+      → (after : Contents) × IsRound before ss rs (bytes_of (disk new.1).now) after
+  round ss rs old new ran before dirty_max shows held none =
+      let past : Past = new_past before 0 dirty_max in
+      let l = led ss rs old new ran past held none in
+      let end : Held = held_with (told_on disk new) l.later in
+      let left = left_by end l.held l.no_log in (
+        left.0,
+        record {
+          start = held_with (told_on disk old) past;
+          shows = shows;
+          dirty_max = dirty_max;
+          anew = refl;
+          end = end;
+          ran = l.ran;
+          held = l.held;
+          base = l.base;
+          given_up = refl;
+          left = left.1;
+          all = all_shown end l.held left.0 left.1;
+          holds = left.2;
+        },
+      )

@@ -1,0 +1,19 @@
+use Rattle.std.proofs.Common.{sym, subst}
+use Rattle.std.proofs.Math.Logic.{∥∥₁_map}
+use Rattle.base.specs.Contents.{Contents}
+use Rattle.base.specs.Disk.{bytes_of}
+use Rattle.round_trip.specs.Rounds.{IsRound}
+use Rattle.round_trip.proofs.play.Goals as goal
+
+pub returns : goal.returns
+returns g c = λ keeps.
+    let new = c.in_ok-made.ensures keeps in
+    let now = bytes_of (g.D.SectorDevice.disk c.in_ok-replies.left).now in
+    let ss = c.args.steps.items in
+    let rs = c.in_ok-replies.replies.items in
+    ∥∥₁_map (c.in_ok-replies.ensures keeps new.0 new.2) (λ left. record {
+      before = new.0;
+      new = new.1;
+      now = now;
+      round = subst (λ (found : Contents). IsRound new.0 ss rs now found) (sym (c.in_ok-imported.ensures.found keeps left.0 left.1.holds)) left.1;
+    })
