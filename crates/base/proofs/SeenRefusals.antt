@@ -17,7 +17,7 @@ use Rattle.base.specs.Contents.{Contents, apply, created, removed, changed, with
 use Rattle.base.specs.History.{apply_all}
 use Rattle.base.specs.Shown.{Shown}
 use Rattle.base.specs.Refusals as refusal
-use Rattle.base.specs.Refusals.{Test, refused_if, first_refusal, ops_tests, object_range}
+use Rattle.base.specs.Refusals.{Test, first_refusal, ops_tests, object_range}
 use Rattle.base.specs.Stage as stage
 use Rattle.base.specs.Steps.{State, Answers, Progress}
 use Rattle.base.specs.Steps.Progress.{More, Synced}

@@ -27,8 +27,7 @@ use Rattle.base.specs.Refusals as refusal
 use Rattle.base.specs.Refusals.{object_range}
 use Rattle.base.specs.Stage as stage
 use Rattle.base.specs.Steps as steps
-use Rattle.base.specs.Steps.{State, Answers, Progress, IsProgress}
-use Rattle.base.specs.Steps.Progress.{More, Synced}
+use Rattle.base.specs.Steps.{State}
 use Rattle.base.specs.Additions.{past_after}
 use Rattle.base.specs.Runs.{Step}
 use Rattle.base.specs.ExactNow.{IsExplainedNow, GoesOn}

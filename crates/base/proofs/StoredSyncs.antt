@@ -23,7 +23,7 @@ use Rattle.base.specs.Exact.{AreFree, IsInLog}
 use Rattle.base.specs.ExactNow.{IsExplainedNow}
 use Rattle.base.specs.Refusals as refusal
 use Rattle.base.specs.Steps as steps
-use Rattle.base.specs.Steps.{State, Progress, returned_addresses}
+use Rattle.base.specs.Steps.{State, returned_addresses}
 use Rattle.base.specs.Steps.Progress.{Synced}
 use Rattle.base.specs.ShownLabels.{ShowsUberblock, ShowsSynced, AreLabelsShown}
 use Rattle.base.specs.Stored.{NewTree, IsStored, IsSyncing, IsKept, AreUpTo, total_calls, frame_at}

@@ -1,3 +1,5 @@
+//! The counts of the calls that a device has refused.
+
 ghost use Rattle.std.specs.Prelude.{◌≡◌};
 ghost use Rattle.base.specs.Calls.{with_refusal};
 

@@ -46,7 +46,8 @@ impl Frame {
 
     /// The frame of this version, guid, number of blocks and greatest group.
     pub fn new(version: Version, guid: u64, blocks: u64, group: Group) -> Self
-        ensures { result ≡ record { version = number_of version; guid = guid; blocks = blocks; group = group.0 } }
+        ensures { result
+            ≡ record { version = number_of version; guid = guid; blocks = blocks; group = group.0 } }
     {
         Frame {
             version,

@@ -168,7 +168,8 @@ impl SectorDevice for MemDevice {
 
         // It fails as planned, and is then one of the writes of which a crash leaves pieces. Else it fails only where it finds
         // no memory to be noted, and then counts for nothing.
-        ensures noted { IsNoted at bytes.now result self.old self.new ⊎ IsUnnoted result self.old self.new }
+        ensures noted { IsNoted at bytes.now result self.old self.new
+            ⊎ IsUnnoted result self.old self.new }
         ensures plans { KeepsPlans Fault.Write self.old self.new }
     {
         let fails = fires(&mut self.writes);

@@ -1,11 +1,11 @@
 -- The writes of a create change only bytes that a pool has.
-use Rattle.std.proofs.Common.{◌≡◌, ◌⊎◌, inl, inr, ℕ, ◌+◌, ◌<◌, ◌≤◌, Bool, true, false, List, length, Result, refl, sym, ◌∙◌, subst, arith}
+use Rattle.std.proofs.Common.{◌≡◌, ◌⊎◌, inl, inr, ℕ, ◌+◌, ◌<◌, ◌≤◌, Bool, true, false, List, length, Result, sym, ◌∙◌, subst, arith}
 use Rattle.std.proofs.lemmas.Bool.{cases_lt}
 use Rattle.base.specs.declared.error.PoolError.{PoolError}
 use Rattle.base.specs.Calls.{Flushes, Writes}
 use Rattle.base.specs.Disk.{Disk, IsInRange, Moment, bytes_of, moments, settled, wrote}
 use Rattle.base.specs.Geometry.{IsGeometry, IsWritable, block_address, block_count, label_place, slot_place}
-use Rattle.base.proofs.Moments.{each_flush, each_write, starts}
+use Rattle.base.proofs.Moments.{each_flush, each_write}
 use Rattle.base.proofs.Put.{get_or-put_other, length-put}
 use Rattle.base.proofs.Geometry.{blocks-end, label-on_device}
 use Rattle.import_replay.specs.Outside.{IsPoolByte, KeepsOutside, WritesPoolBytes}
@@ -40,10 +40,6 @@ module _ (Region : ℕ → Type 0) (start : Moment) where
   -- after a flush nothing is touched
   keeps_settled : (m : Moment) → KeepsOutside Region start m → KeepsOutside Region start (settled (bytes_of m) m)
   keeps_settled m so_far = record { bytes = record { size = so_far.bytes.size; others = so_far.bytes.others }; touched = λ i out touched. absurd touched }
-
--- before the first call
-pub writes_nothing : (size : ℕ) (disk : Disk) → WritesPoolBytes size disk disk
-writes_nothing size disk = starts (KeepsOutside (IsPoolByte size) disk.now) disk (record { bytes = record { size = refl; others = λ i out. refl }; touched = λ i out touched. touched })
 
 byte_writable : (size at count i : ℕ) → IsWritable size at count → IsInRange at count i → IsPoolByte size i
 byte_writable size at count i (inl (label, low, from, to)) here = inl (label, low, omega (arith, from, here.0), omega (arith, to, here.1))

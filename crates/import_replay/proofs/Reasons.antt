@@ -1,13 +1,13 @@
 -- What a refusal says of the image.
-use Rattle.std.proofs.Common.{◌≡◌, ◌⊎◌, inl, inr, ℕ, List, Result, Ok, Err, IfErr, sym, subst}
+use Rattle.std.proofs.Common.{◌≡◌, inl, inr, ℕ, List, Result, Ok, Err, IfErr, sym, subst}
 use Rattle.std.specs.Prelude.{IsErrAnd}
 use Rattle.base.specs.declared.error.PoolError.{PoolError}
-use Rattle.base.specs.declared.error.PoolError.TheVariants.{BadGeometry, BadRange, Damaged, NoPool, NoSpace, TooMany}
+use Rattle.base.specs.declared.error.PoolError.TheVariants.{Damaged, NoPool, NoSpace, TooMany}
 use Rattle.base.specs.Mount.{HasNoPool, IsTreeDamaged}
 use Rattle.base.specs.Uberblocks.{Uberblock, IsActive}
 use Rattle.object_maps.specs.Loading.{IsLoadRefusal}
 use Rattle.import_replay.specs.Found.{LacksName, LacksUberblock}
-use Rattle.import_replay.specs.ImportRefusals.{HasLastNumbers, HasNoFreeBlock, IsFindRefusal, IsMountRefusal, IsOpenRefusal, IsReadingRefusal, IsReason, IsSyncRefusal}
+use Rattle.import_replay.specs.ImportRefusals.{HasLastNumbers, HasNoFreeBlock, IsFindRefusal, IsOpenRefusal, IsReadingRefusal, IsReason, IsSyncRefusal}
 
 -- an error that is passed on
 pub passed_on : {A : Type 0} (r : Result A PoolError) (x : PoolError) (P : PoolError → Type 0) → IsErrAnd r (λ e. e ≡ x) → P x → IfErr r P
@@ -86,8 +86,3 @@ pub load_reading : (e : PoolError) → IsLoadRefusal e → IsReadingRefusal e
 load_reading e (inl is) = subst IsReadingRefusal (sym is) tt
 load_reading e (inr (inl is)) = subst IsReadingRefusal (sym is) tt
 load_reading e (inr (inr (kind, address, is))) = subst IsReadingRefusal (sym is) tt
-
--- an import that has begun is not refused by size or limit
-pub has_begun : (e : PoolError) → IsMountRefusal e → (e ≡ BadGeometry) ⊎ (e ≡ BadRange) → ⊥
-has_begun e refusal (inl is) = subst IsMountRefusal is refusal
-has_begun e refusal (inr is) = subst IsMountRefusal is refusal

@@ -6,7 +6,6 @@ use Rattle.base.specs.declared.pointer.Pointer.{Pointer}
 use Rattle.base.specs.Limits.{max_length, pointer_count, entry_count}
 use Rattle.base.specs.Fields.{pointer_in, entry_in, no_pointer}
 use Rattle.base.specs.Disk.{Disk, bytes_of}
-use Rattle.base.specs.Geometry.{block_count}
 use Rattle.base.specs.Blocks.{Frame}
 use Rattle.base.specs.Places.Place.{Root, Directory, Indirect}
 use Rattle.base.specs.Tree.{OpensAt, IsRecord, record_bytes}

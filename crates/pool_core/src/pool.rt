@@ -365,7 +365,8 @@ impl Pool {
     /// In this order: `Suspended`; `BadRange` where the number or the range is outside its limits; `NotLocked` where no one
     /// lock of the owner covers the range; `NoObject`; `NoMemory`.
     pub fn read(&self, owner: Owner, object: ObjectId, range: Range) -> Result<Bytes, PoolError>
-        ensures { Meets (stage.Read owner.0 (object_range object.0 range.low range.high)) result (shown_of self.now) (shown_of self.now) }
+        ensures { Meets (stage.Read owner.0 (object_range object.0 range.low range.high)) result
+            (shown_of self.now) (shown_of self.now) }
     {
         self.check_running()?;
         if !is_readable(object, range) {
@@ -541,7 +542,8 @@ impl Pool {
         ensures size { D.size device.new ≡ D.size device.old }
         ensures geometry { self.new.geometry ≡ self.old.geometry }
         ensures step { Meets steps.SyncStep (result_map progress_of result) (shown_of self.old) (shown_of self.new) }
-        ensures called { CallsNext (IsTrue D.keeps_model) D.disk self.old (plain_answer result) device.old device.new }
+        ensures called { CallsNext (IsTrue D.keeps_model) D.disk self.old (plain_answer result)
+            device.old device.new }
         ensures count { D.refused device.new ≡ counted result (D.refused device.old) }
         ensures leads { IsTrue D.keeps_model → Leads (sync_reply result) (told_of (bytes_of (D.disk device.old).now) self.old) (told_of (bytes_of (D.disk device.new).now) self.new) }
     {

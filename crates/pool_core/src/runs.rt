@@ -25,7 +25,8 @@ impl<D: SectorDevice> PoolState<D> {
             (told_on D.disk (self.old.pool, self.old.device)) (told_on D.disk (self.new.pool, self.new.device)) }
         ensures calls { Calls (IsTrue D.keeps_model) D.disk step result
             (self.old.pool, self.old.device) (self.new.pool, self.new.device) }
-        ensures count { D.refused self.new.device ≡ counted (answer_of result) (D.refused self.old.device) }
+        ensures count { D.refused self.new.device
+            ≡ counted (answer_of result) (D.refused self.old.device) }
     {
         match step {
             Step::Lock(owner, object, range, mode) => reply(

@@ -154,7 +154,8 @@ impl<D: SectorDevice> PoolState<D> {
     /// In this order: `Suspended`; `BadRange` where the number or the range is outside its limits; `NotLocked` where no one
     /// lock of the owner covers the range; `NoObject`; `NoMemory`.
     pub fn read(&self, owner: Owner, object: ObjectId, range: Range) -> Result<Bytes, PoolError>
-        ensures step { Meets (stage.Read owner.0 (object_range object.0 range.low range.high)) result (shown_of self.now.pool) (shown_of self.now.pool) }
+        ensures step { Meets (stage.Read owner.0 (object_range object.0 range.low range.high)) result
+            (shown_of self.now.pool) (shown_of self.now.pool) }
         ensures count { D.refused self.now.device ≡ counted result (D.refused self.now.device) }
     {
         self.pool.read(owner, object, range)
@@ -213,7 +214,8 @@ impl<D: SectorDevice> PoolState<D> {
     pub fn sync_step(&mut self) -> Result<Progress, PoolError>
         ensures step { Meets steps.SyncStep (result_map progress_of result) (shown_of self.old.pool) (shown_of self.new.pool) }
         ensures leads { IsTrue D.keeps_model → Leads (sync_reply result) (told_of (bytes_of (D.disk self.old.device).now) self.old.pool) (told_of (bytes_of (D.disk self.new.device).now) self.new.pool) }
-        ensures called { CallsNext (IsTrue D.keeps_model) D.disk self.old.pool (plain_answer result) self.old.device self.new.device }
+        ensures called { CallsNext (IsTrue D.keeps_model) D.disk self.old.pool (plain_answer result)
+            self.old.device self.new.device }
         ensures count { D.refused self.new.device ≡ counted result (D.refused self.old.device) }
     {
         self.pool.sync_step(&mut self.device)
