@@ -1,7 +1,5 @@
-use crate::{Contents, Loaded, load};
-use base::{
-    Bytes, Group, ObjectId, Op, Pointer, PoolError, PoolName, Version, write_pointer, write_u64,
-};
+use crate::{Loaded, load};
+use base::{Group, Pointer, PoolError, Version, write_pointer, write_u64};
 use checked_blocks::{Frame, Kind, PAYLOAD_SIZE, seal};
 use device_model::{Fault, MemDevice, SectorDevice};
 use std::alloc::Global;
@@ -36,10 +34,6 @@ enum Damage {
     RecordPointerIsBehind,
     ByteIsBehind,
     LongEntryOverByteBehind,
-}
-
-fn frame() -> Frame {
-    Frame::new(Version::One, GUID, 384, Group(9))
 }
 
 fn device(alloc: Global) -> Result<MemDevice, PoolError> {
@@ -183,7 +177,8 @@ fn load_from(alloc: Global, device: &mut MemDevice, root: Pointer) -> Result<Loa
     if device.sectors() < 12_288 {
         return Err(PoolError::BadGeometry);
     }
-    load(alloc, device, &frame(), root)
+    let frame = Frame::new(Version::One, GUID, 384, Group(9));
+    load(alloc, device, &frame, root)
 }
 
 fn damaged(kind: u64, address: u64) -> Option<PoolError> {
@@ -275,39 +270,6 @@ fn the_last_object_has_its_greatest_length(rt: HostRuntime) -> Result<(), Fail> 
             bytes.last().copied(),
         ],
         [Some(0), Some(0), Some(7), Some(7)]
-    );
-    Ok(())
-}
-
-#[test]
-fn ten_thousand_writes_take_place_in_order(rt: HostRuntime) -> Result<(), Fail> {
-    let Some(name) = PoolName::new(b"tank") else {
-        assert!(rt; false, "a name is refused");
-        return Ok(());
-    };
-    let mut contents = Contents::new(rt.alloc(), name)?;
-    let mut ops = Vec::new(rt.alloc());
-    ops.push(Op::Create(ObjectId(3)))?;
-    for i in 0..10_001 {
-        let byte = [(i / 5_000) as u8 + 1];
-        let content = Bytes::from_slice(rt.alloc(), &byte)?;
-        ops.push(Op::Write(ObjectId(3), i % 5_000, content))?;
-    }
-    assert_eq!(rt; contents.judge(&ops), Ok(()));
-    contents.reserve(&ops)?;
-    contents.apply(&ops);
-    let Some(bytes) = contents.object(ObjectId(3)) else {
-        assert!(rt; false, "the object is not there");
-        return Ok(());
-    };
-    assert_eq!(rt; bytes.len(), 5_000);
-    assert_eq!(rt;
-        [
-            bytes.first().copied(),
-            bytes.get(1).copied(),
-            bytes.last().copied(),
-        ],
-        [Some(3), Some(2), Some(2)]
     );
     Ok(())
 }
