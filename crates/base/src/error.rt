@@ -99,7 +99,7 @@ impl<T: Drop> From<AllocFailed<T>> for PoolError {
 
 impl PoolError {
     ghost use Rattle.std.specs.Prelude.{◌≡◌};
-    ghost use Rattle.base.specs.Errors.{number_of_error};
+    ghost use Rattle.base.specs.formats.Errors.{number_of_error};
 
     /// The refusal's number, from 1 to 23.
     pub fn number(&self) -> u8

@@ -1,9 +1,9 @@
 //! Little-endian fields of a block, a slot or a payload (On-Disk Specification, chapter 2, in this project's one byte order).
 
 ghost use Rattle.std.specs.Prelude.{◌≡◌, ◌+◌, ◌≤◌, length};
-ghost use Rattle.base.specs.Disk.{put};
-ghost use Rattle.base.specs.FieldLaws.{FieldsReadBack, FieldsStay, PointersReadBack};
-ghost use Rattle.base.specs.Fields.{number_at, number_bytes, pointer_at, pointer_bytes, part};
+ghost use Rattle.base.specs.disk.Disk.{put};
+ghost use Rattle.base.specs.formats.FieldLaws.{FieldsReadBack, FieldsStay, PointersReadBack};
+ghost use Rattle.base.specs.formats.Fields.{number_at, number_bytes, pointer_at, pointer_bytes, part};
 
 use crate::pointer::Pointer;
 use byteorder::{ByteOrder, LittleEndian};
@@ -12,7 +12,7 @@ use byteorder::{ByteOrder, LittleEndian};
 pub const POINTER_SIZE: usize = 48;
 
 /// The number of 8 bytes at a place.
-#[tactic(auto, unfolding(crate::specs::Fields::number_at))]
+#[tactic(auto, unfolding(crate::specs::formats::Fields::number_at))]
 pub fn read_u64(bytes: &[u8], at: usize) -> u64
     requires { at + 8 ≤ length bytes.now }
     ensures { result ≡ number_at bytes.now at }

@@ -11,7 +11,7 @@ pub struct Pointer {
 
 impl Pointer {
     ghost use Rattle.std.specs.Prelude.{◌≡◌, ◌↔◌, IsTrue};
-    ghost use Rattle.base.specs.Fields.{no_pointer};
+    ghost use Rattle.base.specs.formats.Fields.{no_pointer};
 
     /// The pointer to nothing, 48 zero bytes.
     pub const NONE: Pointer = Pointer {

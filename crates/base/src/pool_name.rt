@@ -1,6 +1,6 @@
 ghost use Rattle.std.specs.Prelude.{◌≡◌};
 ghost use Rattle.std.specs.List.{list_all};
-ghost use Rattle.base.specs.Names as names;
+ghost use Rattle.base.specs.formats.Names as names;
 
 use std::marker::Model;
 
@@ -17,7 +17,7 @@ pub struct PoolName {
 
 impl Model for PoolName {
     ghost use Rattle.std.specs.Prelude.{List, ℕ, take, ◌≤◌};
-    ghost use Rattle.base.specs.Names.{IsName};
+    ghost use Rattle.base.specs.formats.Names.{IsName};
 
     ghost Value = { List ℕ };
 
@@ -28,7 +28,7 @@ impl Model for PoolName {
 
 impl PoolName {
     ghost use Rattle.std.specs.Prelude.{◌≡◌, ◌≤◌, length, IfSome, IfNone, false};
-    ghost use Rattle.base.specs.Names.{IsName, is_name};
+    ghost use Rattle.base.specs.formats.Names.{IsName, is_name};
 
     /// The name of these bytes, or None where they are no name.
     pub fn new(bytes: &[u8]) -> Option<Self>

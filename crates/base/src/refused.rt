@@ -1,7 +1,7 @@
 //! The counts of the calls that a device has refused.
 
 ghost use Rattle.std.specs.Prelude.{◌≡◌};
-ghost use Rattle.base.specs.Calls.{with_refusal};
+ghost use Rattle.base.specs.disk.Calls.{with_refusal};
 
 use crate::error::PoolError;
 

@@ -1,6 +1,6 @@
 //! What a reply says to a thread, by the states that it has seen before and after: each function's contract is a law, and its body does nothing.
 
-ghost use Rattle.base.specs.SeenLaws.{ContentsAreBetween, CommitsAreSeen, BeginsAreSeen, LocksAreSeen, UnlocksAreSeen, ReadsAreSeen, DurableIsKnown, GroupsGoUp, PoolSyncsSync, RefusalsAreSeen, RefusalsSuspend, SuspensionsAreSeen};
+ghost use Rattle.base.specs.steps.SeenLaws.{ContentsAreBetween, CommitsAreSeen, BeginsAreSeen, LocksAreSeen, UnlocksAreSeen, ReadsAreSeen, DurableIsKnown, GroupsGoUp, PoolSyncsSync, RefusalsAreSeen, RefusalsSuspend, SuspensionsAreSeen};
 
 /// The contents of a state between two are replayed by a prefix between their histories.
 pub fn contents_are_between()

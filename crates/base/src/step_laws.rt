@@ -1,9 +1,9 @@
 //! What each step keeps of a pool: each function's contract is a law, and its body does nothing.
 
-ghost use Rattle.base.specs.Additions.{PastsAreTold, PastsGrow};
-ghost use Rattle.base.specs.ExactNow.{StepsKeepTables, RunsKeepTables, LogStepsKeepTables, NewPoolsAreExplained};
-ghost use Rattle.base.specs.HeldMounts.{MountsAgree, HeldMounts, IdleMounts, StepsWriteNoLog};
-ghost use Rattle.base.specs.SyncEnds.{SuspendedPoolsRefuse, SuspendedPoolsStay, SyncsEndOnTime};
+ghost use Rattle.base.specs.steps.Additions.{PastsAreTold, PastsGrow};
+ghost use Rattle.base.specs.steps.ExactNow.{StepsKeepTables, RunsKeepTables, LogStepsKeepTables, NewPoolsAreExplained};
+ghost use Rattle.base.specs.stored.HeldMounts.{MountsAgree, HeldMounts, IdleMounts, StepsWriteNoLog};
+ghost use Rattle.base.specs.steps.SyncEnds.{SuspendedPoolsRefuse, SuspendedPoolsStay, SyncsEndOnTime};
 
 /// Each step keeps what is shown of a pool exact, and its entries a history that leads to its contents.
 pub fn steps_keep_tables()

@@ -1,7 +1,7 @@
 //! The versions of the format, by whose rules the blocks of a pool are read and written. An uberblock names that of its tree.
 
 ghost use Rattle.std.specs.Prelude.{◌≡◌, IfNone, IfSome, false, true};
-ghost use Rattle.base.specs.Versions.{is_version_known, number_of};
+ghost use Rattle.base.specs.formats.Versions.{is_version_known, number_of};
 
 /// A version of the format.
 #[derive(Clone, Copy, Debug, PartialEq, Eq)]

@@ -1,6 +1,6 @@
 -- Addresses of blocks, and their numbers.
 use Rattle.std.proofs.Common.{◌≡◌, ℕ, ◌-◌, ◌/◌, ◌%◌, ◌<◌, ◌≤◌, arith}
-use Rattle.base.specs.Geometry.{IsBlockAddress, block_area, block_size}
+use Rattle.base.specs.formats.Geometry.{IsBlockAddress, block_area, block_size}
 
 -- the number of a block is what its address gives
 pub address-below : (blocks address : ℕ) → IsBlockAddress blocks address → (address - block_area) / block_size < blocks

@@ -6,10 +6,10 @@ use Rattle.std.proofs.lemmas.Bool.{cases_lt}
 use Rattle.std.proofs.lemmas.Nat.{le_bytes_8}
 use Rattle.std.specs.Int.{from_le_bytes, w64}
 use Rattle.std.specs.List.{All}
-use Rattle.base.specs.Disk.{put}
-use Rattle.base.specs.Fields.{part, number_at, number_bytes}
-use Rattle.base.proofs.Put.{length-part}
-use Rattle.base.proofs.FieldsRead.{length-number_bytes, number_bytes-read, put-put_behind}
+use Rattle.base.specs.disk.Disk.{put}
+use Rattle.base.specs.formats.Fields.{part, number_at, number_bytes}
+use Rattle.base.proofs.disk.Put.{length-part}
+use Rattle.base.proofs.formats.FieldsRead.{length-number_bytes, number_bytes-read, put-put_behind}
 
 -- what is put over what lies between
 pub put-between : (place : ℕ) (content before old after : List ℕ) → length before ≡ place → length old ≡ length content

@@ -7,9 +7,9 @@ use Rattle.std.specs.Option.{IfSome}
 use Rattle.sha2.specs.Sha256.{sha256}
 use Rattle.sha2.proofs.Facts256.{length-sha256}
 use Rattle.base.specs.declared.names.Group.{Group}
-use Rattle.base.specs.Fields.{part, number_at, number_bytes}
-use Rattle.base.specs.Blocks.{IsSealed, IsBlock, head_bytes, sealed_block}
-use Rattle.base.proofs.FieldsRead.{length-number_bytes}
+use Rattle.base.specs.formats.Fields.{part, number_at, number_bytes}
+use Rattle.base.specs.formats.Blocks.{IsSealed, IsBlock, head_bytes, sealed_block}
+use Rattle.base.proofs.formats.FieldsRead.{length-number_bytes}
 use Rattle.checked_blocks.specs.declared.expected.Expected.{Expected}
 use Rattle.checked_blocks.specs.Opening.{IsExpected}
 use Rattle.checked_blocks.proofs.Placed.{number_at-between, number_bytes-number_at}

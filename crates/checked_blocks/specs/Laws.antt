@@ -1,8 +1,8 @@
 -- What holds of sealed blocks.
 use Rattle.std.specs.Prelude.{ℕ, ◌≡◌, ◌<◌, ◌^◌, List, length, drop, All, IfSome}
 use Rattle.base.specs.declared.names.Group.{Group}
-use Rattle.base.specs.Fields.{part, number_at}
-use Rattle.base.specs.Blocks.{IsBlock, sealed_block}
+use Rattle.base.specs.formats.Fields.{part, number_at}
+use Rattle.base.specs.formats.Blocks.{IsBlock, sealed_block}
 use Rattle.checked_blocks.specs.declared.expected.Expected.{Expected}
 use Rattle.checked_blocks.specs.Opening.{IsExpected}
 

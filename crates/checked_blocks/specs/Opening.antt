@@ -1,8 +1,8 @@
 -- Which blocks a reader accepts.
 use Rattle.std.specs.Prelude.{ℕ, ◌≡◌, List, IfSome}
 use Rattle.base.specs.declared.names.Group.{Group}
-use Rattle.base.specs.Fields.{part, number_at}
-use Rattle.base.specs.Blocks.{IsSealed}
+use Rattle.base.specs.formats.Fields.{part, number_at}
+use Rattle.base.specs.formats.Blocks.{IsSealed}
 use Rattle.checked_blocks.specs.declared.expected.Expected.{Expected}
 
 -- the check agrees with the bytes, and every field that is expected is there

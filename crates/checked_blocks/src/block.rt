@@ -1,6 +1,6 @@
 ghost use Rattle.std.specs.Prelude.{◌≡◌, ◌<◌, ◌≤◌, ◌^◌, ◌↔◌, IsOk, IfOk, IfErr, length};
-ghost use Rattle.base.specs.Blocks.{IsBlock, head_bytes, sealed_block};
-ghost use Rattle.base.specs.Disk.{put};
+ghost use Rattle.base.specs.formats.Blocks.{IsBlock, head_bytes, sealed_block};
+ghost use Rattle.base.specs.disk.Disk.{put};
 ghost use Rattle.checked_blocks.specs.Sealing.{IsKind, padded, zeros};
 
 use base::{Group, PoolError, write_bytes, write_u64};
@@ -22,7 +22,7 @@ pub struct Block {
 
 impl Model for Block {
     ghost use Rattle.std.specs.Prelude.{List, ℕ};
-    ghost use Rattle.base.specs.Blocks.{IsSealed};
+    ghost use Rattle.base.specs.formats.Blocks.{IsSealed};
 
     ghost Value = { List ℕ };
 
@@ -33,8 +33,8 @@ impl Model for Block {
 
 impl Block {
     ghost use Rattle.std.specs.Prelude.{◌≡◌, length};
-    ghost use Rattle.base.specs.Blocks.{IsSealed};
-    ghost use Rattle.base.specs.Fields.{part};
+    ghost use Rattle.base.specs.formats.Blocks.{IsSealed};
+    ghost use Rattle.base.specs.formats.Fields.{part};
 
     /// The 4,096 bytes, as they are written to a device.
     pub fn as_bytes(&self) -> &[u8; BLOCK_SIZE]

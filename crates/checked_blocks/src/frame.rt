@@ -16,9 +16,9 @@ pub struct Frame {
 }
 
 impl Model for Frame {
-    ghost use Rattle.base.specs.Blocks as blocks_of;
-    ghost use Rattle.base.specs.Versions.{number_of, version_of};
-    ghost use Rattle.base.proofs.Versions.{version_of-number_of};
+    ghost use Rattle.base.specs.formats.Blocks as blocks_of;
+    ghost use Rattle.base.specs.formats.Versions.{number_of, version_of};
+    ghost use Rattle.base.proofs.formats.Versions.{version_of-number_of};
 
     ghost Value = { blocks_of.Frame };
 
@@ -41,8 +41,8 @@ impl Model for Frame {
 
 impl Frame {
     ghost use Rattle.std.specs.Prelude.{◌≡◌, ◌↔◌, IsTrue};
-    ghost use Rattle.base.specs.Geometry.{IsBlockAddress};
-    ghost use Rattle.base.specs.Versions.{number_of};
+    ghost use Rattle.base.specs.formats.Geometry.{IsBlockAddress};
+    ghost use Rattle.base.specs.formats.Versions.{number_of};
 
     /// The frame of this version, guid, number of blocks and greatest group.
     pub fn new(version: Version, guid: u64, blocks: u64, group: Group) -> Self

@@ -1,6 +1,6 @@
 ghost use Rattle.std.specs.Prelude.{◌≡◌, ◌↔◌, IsTrue, IsOk, IfOk, IfErr, IfSome, drop};
-ghost use Rattle.base.specs.Blocks.{IsBlock, IsSealed};
-ghost use Rattle.base.specs.Fields.{number_at, part};
+ghost use Rattle.base.specs.formats.Blocks.{IsBlock, IsSealed};
+ghost use Rattle.base.specs.formats.Fields.{number_at, part};
 ghost use Rattle.sha2.specs.Sha256.{sha256};
 ghost use Rattle.checked_blocks.specs.Sealing.{hashed_bytes};
 ghost use Rattle.checked_blocks.specs.Opening.{IsExpected};
@@ -20,7 +20,7 @@ pub struct Payload<'a> {
 
 impl<'a> Model for Payload<'a> {
     ghost use Rattle.std.specs.Prelude.{◌≡◌, drop, length};
-    ghost use Rattle.base.specs.Fields.{number_at};
+    ghost use Rattle.base.specs.formats.Fields.{number_at};
     ghost use Rattle.checked_blocks.specs.Payloads.{Opened};
 
     ghost Value = { Opened };

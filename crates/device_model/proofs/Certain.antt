@@ -1,12 +1,12 @@
 -- Bytes that each crash leaves: how they become certain, and that they stay so until they are written.
 use Rattle.std.proofs.Common.{◌≡◌, inl, inr, ⊎_elim, ℕ, ◌+◌, ◌≤◌, Bool, true, false, List, [], ◌∷◌, length, Result, Ok, refl, ◌∙◌, ap, subst, arith, sym, ◌<◌}
 use Rattle.base.specs.declared.error.PoolError.{PoolError}
-use Rattle.base.specs.Fields.{part}
-use Rattle.base.specs.Disk.{Write, Moment, Disk, moments, bytes_of, disk_size, IsTouched, IsInRange, MayLeave, wrote, settled, certain, certain_with, written, EachMoment, CrashLeaves, LeavesOnly}
-use Rattle.base.specs.Calls.{Writes, Flushes}
-use Rattle.base.proofs.Put.{Apart, part-put_same, part-put_apart}
-use Rattle.base.proofs.Moments.{weaker, part_stands, each_write, each_flush, bytes_may_be_left}
-use Rattle.base.proofs.Regions.{flushed_clean}
+use Rattle.base.specs.formats.Fields.{part}
+use Rattle.base.specs.disk.Disk.{Write, Moment, Disk, moments, bytes_of, disk_size, IsTouched, IsInRange, MayLeave, wrote, settled, certain, certain_with, written, EachMoment, CrashLeaves, LeavesOnly}
+use Rattle.base.specs.disk.Calls.{Writes, Flushes}
+use Rattle.base.proofs.disk.Put.{Apart, part-put_same, part-put_apart}
+use Rattle.base.proofs.disk.Moments.{weaker, part_stands, each_write, each_flush, bytes_may_be_left}
+use Rattle.base.proofs.disk.Regions.{flushed_clean}
 use Rattle.device_model.specs.Certain.{IsCertain}
 
 -- what a good write wrote, a read gives

@@ -6,10 +6,10 @@ use Rattle.std.proofs.lemmas.Bool.{cases_lt}
 use Rattle.base.specs.declared.piece.Piece.{Piece}
 use Rattle.base.specs.declared.piece.Piece.TheVariants.{Keep, Lose, Fill}
 use Rattle.device_model.specs.declared.notes.Note.{Note}
-use Rattle.base.specs.Disk.{Write, Moment, bytes_after, IsTouched, MayLeave}
-use Rattle.base.specs.Crashes.{left, piece_at, image_after, crash_image}
+use Rattle.base.specs.disk.Disk.{Write, Moment, bytes_after, IsTouched, MayLeave}
+use Rattle.base.specs.disk.Crashes.{left, piece_at, image_after, crash_image}
 use Rattle.device_model.specs.Notes.{Track, after_note, tracked, IsOpen}
-use Rattle.base.proofs.Put.{get_or-put_other}
+use Rattle.base.proofs.disk.Put.{get_or-put_other}
 use Rattle.device_model.proofs.Tracks.{Fits, length-left, goes_on_step}
 
 abbrev pub FitsWrite : ℕ → Write → Type 0

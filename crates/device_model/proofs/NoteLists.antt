@@ -3,8 +3,8 @@ use Rattle.std.proofs.Common.{◌≡◌, ℕ, suc, ◌+◌, ◌-◌, ◌<◌, �
 use Rattle.std.proofs.lemmas.List.{get_or_at, take_more, drop_more, take_all, set_at, length-take-le, get_or-drop}
 use Rattle.base.specs.declared.piece.Piece.{Piece}
 use Rattle.device_model.specs.declared.notes.Note.{Note}
-use Rattle.base.specs.Disk.{put}
-use Rattle.base.specs.Crashes.{piece_at}
+use Rattle.base.specs.disk.Disk.{put}
+use Rattle.base.specs.disk.Crashes.{piece_at}
 use Rattle.device_model.specs.Notes.{undone, with_piece, with_pieces, ended, Closes}
 
 pub undone-push : (ns : List Note) (n : Note) (bytes : List ℕ) → undone (ns ++ n ∷ []) bytes ≡ undone ns (put n.place n.old bytes)

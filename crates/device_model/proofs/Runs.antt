@@ -1,11 +1,11 @@
 -- Parts that a run of calls spares, and what may be left since a moment before it.
 use Rattle.std.proofs.Common.{◌≡◌, ◌⊎◌, inl, inr, ℕ, ◌≤◌, List, [], ◌∷◌, ◌++◌, length, ap, subst, arith, length-append}
 use Rattle.std.specs.List.{AllByRecursion}
-use Rattle.base.specs.Fields.{part}
-use Rattle.base.specs.Disk.{Write, Moment, Disk, settled, certain, certain_with, moments, bytes_of, MayLeave, EachMoment, CrashLeaves, LeavesOnly, SomeSince, LeftSince, ChangesOnly, SameOutside, IsInRange}
-use Rattle.base.proofs.Put.{part_same}
-use Rattle.base.proofs.Moments.{goes_on, weaker, latest}
-use Rattle.base.proofs.Regions.{inside_leaves}
+use Rattle.base.specs.formats.Fields.{part}
+use Rattle.base.specs.disk.Disk.{Write, Moment, Disk, settled, certain, certain_with, moments, bytes_of, MayLeave, EachMoment, CrashLeaves, LeavesOnly, SomeSince, LeftSince, ChangesOnly, SameOutside, IsInRange}
+use Rattle.base.proofs.disk.Put.{part_same}
+use Rattle.base.proofs.disk.Moments.{goes_on, weaker, latest}
+use Rattle.base.proofs.disk.Regions.{inside_leaves}
 
 -- a part with no byte in the region
 abbrev pub IsSpared : (ℕ → Type 0) → ℕ → ℕ → Type 0

@@ -2,9 +2,9 @@
 use Rattle.std.proofs.Common.{◌≡◌, inl, inr, ℕ, ◌+◌, ◌≤◌, Bool, true, false, List, [], ◌∷◌, length, Result, Ok, Err, refl, ◌∙◌, ap}
 use Rattle.std.proofs.lemmas.List.{length-replicate}
 use Rattle.base.specs.declared.error.PoolError.{PoolError}
-use Rattle.base.specs.Disk.{Write, Disk, bytes_of, disk_size, written, certain, certain_with}
-use Rattle.base.specs.Calls.{Writes, Flushes}
-use Rattle.base.proofs.Put.{length-put}
+use Rattle.base.specs.disk.Disk.{Write, Disk, bytes_of, disk_size, written, certain, certain_with}
+use Rattle.base.specs.disk.Calls.{Writes, Flushes}
+use Rattle.base.proofs.disk.Put.{length-put}
 use Rattle.device_model.specs.MemState.{zeros}
 
 pub length-zeros : (n : ℕ) → length (zeros n) ≡ n

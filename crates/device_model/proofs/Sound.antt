@@ -5,10 +5,10 @@ use Rattle.std.proofs.lemmas.List.Elements.{All-from_recursion}
 use Rattle.base.specs.declared.piece.Piece.{Piece}
 use Rattle.device_model.specs.declared.notes.Note.{Note}
 use Rattle.device_model.specs.declared.memory.MemDevice.TheInside.{Inside}
-use Rattle.base.specs.Disk.{Write, Disk, MayLeave, bytes_of, written, certain}
+use Rattle.base.specs.disk.Disk.{Write, Disk, MayLeave, bytes_of, written, certain}
 use Rattle.device_model.proofs.Left.{FitsWrite, crash_may_leave, open_fit}
 use Rattle.base.specs.declared.piece.Piece.TheVariants.{Keep}
-use Rattle.base.specs.Crashes.{left, crash_image}
+use Rattle.base.specs.disk.Crashes.{left, crash_image}
 use Rattle.device_model.specs.Notes.{Track, after_note, tracked, start, IsOpen, LeadTo, AddsNote, Closes, with_pieces, replayed, undone}
 use Rattle.device_model.specs.MemState.{MemState}
 use Rattle.device_model.specs.Memory.{state_of, IsSound}

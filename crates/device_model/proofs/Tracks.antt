@@ -8,11 +8,11 @@ use Rattle.std.proofs.lemmas.Bool.{cases_lt}
 use Rattle.base.specs.declared.piece.Piece.{Piece}
 use Rattle.base.specs.declared.piece.Piece.TheVariants.{Keep, Lose, Fill}
 use Rattle.device_model.specs.declared.notes.Note.{Note}
-use Rattle.base.specs.Fields.{part}
-use Rattle.base.specs.Disk.{Write, Disk, put, bytes_after, bytes_of, written, next, settled, certain, certain_with}
-use Rattle.base.specs.Crashes.{left, piece_at, image_after, crash_image}
+use Rattle.base.specs.formats.Fields.{part}
+use Rattle.base.specs.disk.Disk.{Write, Disk, put, bytes_after, bytes_of, written, next, settled, certain, certain_with}
+use Rattle.base.specs.disk.Crashes.{left, piece_at, image_after, crash_image}
 use Rattle.device_model.specs.Notes.{Track, left_of, noted, ended_track, after_note, tracked, replayed, undone, with_piece, with_pieces, ended, IsOpen, Recall, LeadTo, AddsNote, TellSame, Closes}
-use Rattle.base.proofs.Put.{length-put, put-put_part, put-part}
+use Rattle.base.proofs.disk.Put.{length-put, put-put_part, put-part}
 
 -- no good flush or crash came behind it
 abbrev pub GoesOn : Note → Type 0

@@ -1,8 +1,8 @@
 -- What callers see of a device in memory.
 use Rattle.std.specs.Prelude.{ℕ, ◌*◌, List, [], replicate}
 use Rattle.base.specs.declared.piece.Piece.{Piece}
-use Rattle.base.specs.Disk.{Disk, certain}
-use Rattle.base.specs.Crashes.{crash_image}
+use Rattle.base.specs.disk.Disk.{Disk, certain}
+use Rattle.base.specs.disk.Crashes.{crash_image}
 use Rattle.base.specs.declared.refused.RefusedCalls.{RefusedCalls}
 
 -- the disk, how many calls of each kind it refused, how many writes found no memory to be noted, and which call of each kind from now fails (0: none will)

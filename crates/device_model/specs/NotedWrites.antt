@@ -1,8 +1,8 @@
 -- What a device in memory makes of a write.
 use Rattle.std.specs.Prelude.{ℕ, ◌≡◌, ◌==◌, List, Result, IsErr, is_ok, not}
 use Rattle.base.specs.declared.error.PoolError.{PoolError}
-use Rattle.base.specs.Calls.{one_more}
-use Rattle.base.specs.Disk.{written}
+use Rattle.base.specs.disk.Calls.{one_more}
+use Rattle.base.specs.disk.Disk.{written}
 use Rattle.device_model.specs.MemState.{MemState}
 
 -- it was noted: it fails exactly where that was planned, and a crash leaves pieces of it

@@ -4,9 +4,9 @@ use Rattle.std.specs.List.{AllByRecursion}
 use Rattle.base.specs.declared.piece.Piece.TheVariants.{Keep}
 use Rattle.base.specs.declared.piece.Piece.{Piece}
 use Rattle.device_model.specs.declared.notes.Note.{Note}
-use Rattle.base.specs.Fields.{part}
-use Rattle.base.specs.Disk.{Disk, put, written, next, settled}
-use Rattle.base.specs.Crashes.{left, piece_at}
+use Rattle.base.specs.formats.Fields.{part}
+use Rattle.base.specs.disk.Disk.{Disk, put, written, next, settled}
+use Rattle.base.specs.disk.Crashes.{left, piece_at}
 use Rattle.device_model.specs.MemState.{zeros, blank}
 
 -- the disk after some notes, and the image that would stand if the newest of them were the last before a crash

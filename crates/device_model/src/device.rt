@@ -1,7 +1,7 @@
 ghost use Rattle.std.specs.Prelude.{◌≡◌, ℕ, ◌*◌, Bool, IfErr, IsTrue, length, OnOk};
-ghost use Rattle.base.specs.Fields.{part};
-ghost use Rattle.base.specs.Disk.{Disk, bytes_of, disk_size};
-ghost use Rattle.base.specs.Calls.{IsOnDevice, Writes, Flushes, counted};
+ghost use Rattle.base.specs.formats.Fields.{part};
+ghost use Rattle.base.specs.disk.Disk.{Disk, bytes_of, disk_size};
+ghost use Rattle.base.specs.disk.Calls.{IsOnDevice, Writes, Flushes, counted};
 ghost use Rattle.base.specs.declared.refused.RefusedCalls.{RefusedCalls};
 
 use base::PoolError;

@@ -1,7 +1,7 @@
 ghost use Rattle.std.specs.Prelude.{◌≡◌, ◌+◌, ◌*◌, ◌-◌, ◌<◌, ◌≤◌, ◌↔◌, ◌⊎◌, ◌++◌, [], ◌∷◌, length, take, drop, true, refl, IsTrue, IfOk, IfErr, OnOk, OnErr, Ok, Err, All, IsErr};
-ghost use Rattle.base.specs.Fields.{part};
-ghost use Rattle.base.specs.Disk.{bytes_of, disk_size, MayLeave};
-ghost use Rattle.base.specs.Crashes.{crash_image};
+ghost use Rattle.base.specs.formats.Fields.{part};
+ghost use Rattle.base.specs.disk.Disk.{bytes_of, disk_size, MayLeave};
+ghost use Rattle.base.specs.disk.Crashes.{crash_image};
 
 use crate::device::SectorDevice;
 use crate::fault::Fault;
@@ -118,7 +118,7 @@ impl MemDevice {
 }
 
 impl SectorDevice for MemDevice {
-    ghost use Rattle.base.specs.Calls.{IsOnDevice, Writes, Flushes, counted};
+    ghost use Rattle.base.specs.disk.Calls.{IsOnDevice, Writes, Flushes, counted};
     ghost use Rattle.device_model.specs.NotedWrites.{IsNoted, IsUnnoted};
     ghost use Rattle.device_model.specs.Plans.{KeepsPlans};
 

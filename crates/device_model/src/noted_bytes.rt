@@ -1,7 +1,7 @@
 //! The bytes that a note keeps: a run of one byte as that byte and its count, all others as they are.
 
 ghost use Rattle.std.specs.Prelude.{◌≡◌, ◌+◌, ◌≤◌, [], IfOk, IfSome, length, replicate};
-ghost use Rattle.base.specs.Disk.{put};
+ghost use Rattle.base.specs.disk.Disk.{put};
 
 use crate::notes::overwrite;
 use std::alloc::{AllocError, Global};

@@ -1,7 +1,7 @@
 ghost use Rattle.std.specs.Prelude.{◌≡◌, ◌+◌, ◌-◌, ◌<◌, ◌≤◌, ◌↔◌, ◌++◌, length, take, drop, All, IsTrue, OnOk, OnErr};
-ghost use Rattle.base.specs.Fields.{part};
-ghost use Rattle.base.specs.Disk.{put};
-ghost use Rattle.base.specs.Crashes.{piece_at};
+ghost use Rattle.base.specs.formats.Fields.{part};
+ghost use Rattle.base.specs.disk.Disk.{put};
+ghost use Rattle.base.specs.disk.Crashes.{piece_at};
 ghost use Rattle.device_model.specs.Notes.{AddsNote, Settles, TellSame, Closes, left_of, replayed, undone, with_pieces};
 
 use crate::noted_bytes::{NotedBytes, fill};

@@ -1,5 +1,5 @@
 ghost use Rattle.std.specs.Prelude.{◌≡◌, length, IsTrue, OnOk};
-ghost use Rattle.base.specs.Calls.{IsOnDevice};
+ghost use Rattle.base.specs.disk.Calls.{IsOnDevice};
 ghost use Rattle.device_model.specs.Certain.{IsCertain};
 
 use crate::{Fault, MemDevice, SectorDevice};

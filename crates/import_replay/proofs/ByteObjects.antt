@@ -5,9 +5,9 @@ use Rattle.std.specs.List.{list_all}
 use Rattle.std.specs.Option.{option_map_or}
 use Rattle.std.specs.FinMap as finite
 use Rattle.std.proofs.lemmas.Option.{get_or_from_slice_get}
-use Rattle.base.specs.Exact.{IsBounded}
-use Rattle.base.specs.Limits.{max_length, object_count}
-use Rattle.base.specs.Names.{IsName}
+use Rattle.base.specs.steps.Exact.{IsBounded}
+use Rattle.base.specs.formats.Limits.{max_length, object_count}
+use Rattle.base.specs.formats.Names.{IsName}
 use Rattle.object_maps.specs.declared.contents.Slot.{Slot}
 use Rattle.object_maps.specs.declared.contents.Contents as declared
 use Rattle.object_maps.specs.ContentsShown.{contents_of, object_of}

@@ -3,7 +3,7 @@ use Rattle.std.proofs.Common.{◌≡◌, ◌↔◌, ℕ, Bool, zero, suc, List, 
 use Rattle.std.specs.Prelude.{slice_get}
 use Rattle.base.specs.declared.error.PoolError.{PoolError}
 use Rattle.base.specs.declared.error.PoolError.TheVariants.{NoPool}
-use Rattle.base.specs.Labels.{Config, IsChosen, IsKeptInOdd, HasNoCandidate}
+use Rattle.base.specs.formats.Labels.{Config, IsChosen, IsKeptInOdd, HasNoCandidate}
 use Rattle.labels.specs.Choices.{AreRead, IsKeptIn, IsRead}
 use Rattle.labels.proofs.LabelsOfImage.{so_of_image}
 use Rattle.import_replay.specs.Found.{HasChosen, HasChosenFirst, HasFirstStage, HasName, LacksName}

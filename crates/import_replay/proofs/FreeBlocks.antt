@@ -11,10 +11,10 @@ use Rattle.std.proofs.lemmas.List.{get_or-take, get_or-set_same, get_or-set_othe
 use Rattle.std.proofs.lemmas.List.Folds.{list_any_more}
 use Rattle.std.proofs.lemmas.Option.{get_or_from_slice_get}
 use Rattle.base.specs.declared.pointer.Pointer.{Pointer}
-use Rattle.base.specs.Fields.{no_pointer}
-use Rattle.base.specs.Geometry.{block_address, IsBlockAddress}
-use Rattle.base.specs.Places.{Place, IsPlace}
-use Rattle.base.specs.Places.Place.{Root, Directory, Indirect, Data}
+use Rattle.base.specs.formats.Fields.{no_pointer}
+use Rattle.base.specs.formats.Geometry.{block_address, IsBlockAddress}
+use Rattle.base.specs.tree.Places.{Place, IsPlace}
+use Rattle.base.specs.tree.Places.Place.{Root, Directory, Indirect, Data}
 use Rattle.object_maps.specs.declared.tree.ObjectMap.{ObjectMap}
 use Rattle.object_maps.specs.declared.tree.Tree.{Tree}
 use Rattle.object_maps.specs.Pointers.{pointers_of}

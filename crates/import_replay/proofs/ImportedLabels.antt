@@ -1,9 +1,9 @@
 -- The uberblock that an import writes is the active one.
 use Rattle.std.proofs.Common.{◌≡◌, ◌≢◌, ◌⊎◌, inl, inr, ℕ, ◌<◌, ◌≤◌, List, length, sym, ap, subst, arith}
 use Rattle.std.proofs.lemmas.Bool.{cases_eq}
-use Rattle.base.specs.Fields.{part}
-use Rattle.base.specs.Geometry.{slot_of, slot_place}
-use Rattle.base.specs.Uberblocks.{Uberblock, IsActive, IsUberblock, StandsIn}
+use Rattle.base.specs.formats.Fields.{part}
+use Rattle.base.specs.formats.Geometry.{slot_of, slot_place}
+use Rattle.base.specs.formats.Uberblocks.{Uberblock, IsActive, IsUberblock, StandsIn}
 use Rattle.uberblocks.proofs.Places.{slot_below}
 use Rattle.uberblocks.proofs.SlotReads.{readings_agree}
 use Rattle.import_replay.specs.Labelled.{HasOtherSlots, HoldUberblock}

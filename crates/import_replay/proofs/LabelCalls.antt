@@ -6,13 +6,13 @@ use Rattle.std.specs.Option.{option_map}
 use Rattle.std.proofs.lemmas.List.{take_all, take_more}
 use Rattle.std.proofs.lemmas.Option.{get_or_from_slice_get, slice_get_within}
 use Rattle.base.specs.declared.error.PoolError.{PoolError}
-use Rattle.base.specs.Calls.{Writes}
-use Rattle.base.specs.Disk.{Disk, written}
-use Rattle.base.specs.Geometry.{config_place, slot_of, slot_place}
-use Rattle.base.specs.Labels.{Config}
-use Rattle.base.specs.SyncOrder.{DeviceCall, calls_in_order, import_calls}
-use Rattle.base.specs.SyncOrder.DeviceCall.{Block, Config as ConfigCall, Uberblock as UberblockCall, Flush}
-use Rattle.base.specs.Uberblocks.{Uberblock}
+use Rattle.base.specs.disk.Calls.{Writes}
+use Rattle.base.specs.disk.Disk.{Disk, written}
+use Rattle.base.specs.formats.Geometry.{config_place, slot_of, slot_place}
+use Rattle.base.specs.formats.Labels.{Config}
+use Rattle.base.specs.disk.SyncOrder.{DeviceCall, calls_in_order, import_calls}
+use Rattle.base.specs.disk.SyncOrder.DeviceCall.{Block, Config as ConfigCall, Uberblock as UberblockCall, Flush}
+use Rattle.base.specs.formats.Uberblocks.{Uberblock}
 use Rattle.labels.specs.Configs.{config_block}
 use Rattle.labels.specs.Stages.{labels_of}
 use Rattle.labels.specs.declared.stage.Stage.{Stage}

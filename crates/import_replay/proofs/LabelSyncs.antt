@@ -3,15 +3,15 @@ use Rattle.std.proofs.Common.{◌≡◌, ◌≢◌, ◌⊎◌, inl, inr, ℕ, ze
 use Rattle.std.specs.Prelude.{vec_len}
 use Rattle.std.proofs.lemmas.Bool.{cases_eq, false≢true}
 use Rattle.base.specs.declared.error.PoolError.{PoolError}
-use Rattle.base.specs.Disk.{Disk, bytes_of, certain, put}
-use Rattle.base.specs.Geometry.{IsGeometry, block_address, block_count, label_place, config_place, slot_of, slot_place}
-use Rattle.base.specs.Labels.{Config}
-use Rattle.base.specs.SyncOrder.{DeviceCall}
-use Rattle.base.specs.SyncOrder.DeviceCall.{Block, Config as ConfigCall, Uberblock as UberblockCall, Flush}
-use Rattle.base.specs.Uberblocks.{Uberblock}
-use Rattle.base.proofs.Put.{Apart, length-put, part-put_apart}
-use Rattle.base.proofs.Regions.{flushed_clean}
-use Rattle.base.proofs.Geometry.{IsGeometry-IsSize}
+use Rattle.base.specs.disk.Disk.{Disk, bytes_of, certain, put}
+use Rattle.base.specs.formats.Geometry.{IsGeometry, block_address, block_count, label_place, config_place, slot_of, slot_place}
+use Rattle.base.specs.formats.Labels.{Config}
+use Rattle.base.specs.disk.SyncOrder.{DeviceCall}
+use Rattle.base.specs.disk.SyncOrder.DeviceCall.{Block, Config as ConfigCall, Uberblock as UberblockCall, Flush}
+use Rattle.base.specs.formats.Uberblocks.{Uberblock}
+use Rattle.base.proofs.disk.Put.{Apart, length-put, part-put_apart}
+use Rattle.base.proofs.disk.Regions.{flushed_clean}
+use Rattle.base.proofs.formats.Geometry.{IsGeometry-IsSize}
 use Rattle.labels.specs.Configs.{config_block}
 use Rattle.labels.specs.declared.stage.Stage.{Stage}
 use Rattle.uberblocks.specs.Slots.{slot_bytes}

@@ -4,16 +4,16 @@ use Rattle.std.specs.Prelude.{OnOk}
 use Rattle.std.proofs.lemmas.Bool.{cases_lt, cases_order}
 use Rattle.std.proofs.lemmas.List.{length-take-le, get_or_append_left, get_or-append_right, get_or-replicate, get_or_past, length-replicate}
 use Rattle.base.specs.declared.error.PoolError.{PoolError}
-use Rattle.base.specs.Fields.{part}
-use Rattle.base.specs.Disk.{Disk, bytes_of, put, written, IsInRange}
-use Rattle.base.specs.Calls.{Flushes}
-use Rattle.base.specs.Geometry.{IsGeometry, block_area, block_size, block_address, block_count, label_place, config_place, slot_of, slot_place}
-use Rattle.base.specs.Labels.{Config}
-use Rattle.base.specs.Uberblocks.{Uberblock, IsUberblock}
-use Rattle.base.proofs.Put.{Apart, get_or-put_other, part-put_same, part-put_apart}
-use Rattle.base.proofs.Regions.{flushed_clean}
+use Rattle.base.specs.formats.Fields.{part}
+use Rattle.base.specs.disk.Disk.{Disk, bytes_of, put, written, IsInRange}
+use Rattle.base.specs.disk.Calls.{Flushes}
+use Rattle.base.specs.formats.Geometry.{IsGeometry, block_area, block_size, block_address, block_count, label_place, config_place, slot_of, slot_place}
+use Rattle.base.specs.formats.Labels.{Config}
+use Rattle.base.specs.formats.Uberblocks.{Uberblock, IsUberblock}
+use Rattle.base.proofs.disk.Put.{Apart, get_or-put_other, part-put_same, part-put_apart}
+use Rattle.base.proofs.disk.Regions.{flushed_clean}
 use Rattle.labels.specs.Configs.{IsConfigBlock}
-use Rattle.base.proofs.Geometry.{labels-apart, label-on_device, blocks-end, IsGeometry-IsSize}
+use Rattle.base.proofs.formats.Geometry.{labels-apart, label-on_device, blocks-end, IsGeometry-IsSize}
 use Rattle.uberblocks.proofs.Places.{slot_below}
 use Rattle.import_replay.specs.Creations.{first_config}
 use Rattle.import_replay.specs.Cleared.{zeros, IsInTail, IsInConfig, IsInFirstSlot, AreTailsCleared, AreBlocksCleared, IsCleared}

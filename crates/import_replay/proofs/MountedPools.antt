@@ -7,26 +7,26 @@ use Rattle.std.specs.FinSet as set
 use Rattle.std.specs.FinSet.{FinSet}
 use Rattle.std.proofs.lemmas.Bool.{or_parts, ltb-false}
 use Rattle.base.specs.declared.pointer.Pointer.{Pointer}
-use Rattle.base.specs.Blocks.{Frame}
-use Rattle.base.specs.Exact.{AreFree, IsBounded, IsInLog}
-use Rattle.base.specs.ExactNow.{IsExplainedNow}
-use Rattle.base.specs.Fields.{part}
-use Rattle.base.specs.Geometry.{IsBlockAddress, block_count, block_size}
-use Rattle.base.specs.Imports.{IsFirstLogBlock, IsImported, IsImportOf, is_dirty_max_allowed, is_past_last}
-use Rattle.base.specs.Labels.{Config}
-use Rattle.base.specs.Limits.{last_number}
-use Rattle.base.specs.Mount.{HasPool, IsChainOf, IsUsed, Mounts}
-use Rattle.base.specs.Past.{new_past}
-use Rattle.base.specs.PlacedTrees.{HoldsTree, IsPlaced}
-use Rattle.base.specs.Places.{Place, IsInTree}
-use Rattle.base.specs.Places.Place.{Root}
-use Rattle.base.specs.PlannedTrees.{SameBlock}
-use Rattle.base.specs.Shown.{Shown}
-use Rattle.base.specs.Tree.{IsTree}
-use Rattle.base.specs.Uberblocks.{Uberblock}
-use Rattle.base.proofs.KeptTables.{new_pools_are_explained}
-use Rattle.base.proofs.PlacedTrees.{holds-tree, holds-placed, in-tree, told-in_tree}
-use Rattle.base.proofs.PlannedTrees.{holds-elsewhere}
+use Rattle.base.specs.formats.Blocks.{Frame}
+use Rattle.base.specs.steps.Exact.{AreFree, IsBounded, IsInLog}
+use Rattle.base.specs.steps.ExactNow.{IsExplainedNow}
+use Rattle.base.specs.formats.Fields.{part}
+use Rattle.base.specs.formats.Geometry.{IsBlockAddress, block_count, block_size}
+use Rattle.base.specs.crash.Imports.{IsFirstLogBlock, IsImported, IsImportOf, is_dirty_max_allowed, is_past_last}
+use Rattle.base.specs.formats.Labels.{Config}
+use Rattle.base.specs.formats.Limits.{last_number}
+use Rattle.base.specs.crash.Mount.{HasPool, IsChainOf, IsUsed, Mounts}
+use Rattle.base.specs.history.Past.{new_past}
+use Rattle.base.specs.tree.PlacedTrees.{HoldsTree, IsPlaced}
+use Rattle.base.specs.tree.Places.{Place, IsInTree}
+use Rattle.base.specs.tree.Places.Place.{Root}
+use Rattle.base.specs.tree.PlannedTrees.{SameBlock}
+use Rattle.base.specs.steps.Shown.{Shown}
+use Rattle.base.specs.tree.Tree.{IsTree}
+use Rattle.base.specs.formats.Uberblocks.{Uberblock}
+use Rattle.base.proofs.steps.KeptTables.{new_pools_are_explained}
+use Rattle.base.proofs.tree.PlacedTrees.{holds-tree, holds-placed, in-tree, told-in_tree}
+use Rattle.base.proofs.tree.PlannedTrees.{holds-elsewhere}
 use Rattle.uberblocks.proofs.Stands.{actives_agree}
 use Rattle.object_maps.specs.declared.contents.Slot.{Slot}
 use Rattle.object_maps.specs.declared.tree.Tree.{Tree}

@@ -6,23 +6,23 @@ use Rattle.std.specs.List.{IsDistinct}
 use Rattle.std.specs.Int.{from_le_bytes, w64}
 use Rattle.std.proofs.lemmas.Bool.{cases_order}
 use Rattle.std.proofs.lemmas.List.{ext_get_or, get_or-take, get_or-drop, get_or-replicate}
-use Rattle.base.specs.Fields.{part, number_at, no_pointer}
-use Rattle.base.specs.Limits.{first_group}
-use Rattle.base.specs.Geometry.{IsGeometry, block_address, block_count, slot_place, slot_of}
-use Rattle.base.specs.Blocks.{Frame}
-use Rattle.base.specs.Places.{Place, pointer_of, IsInTree}
-use Rattle.base.specs.Places.Place.{Root, Directory, Indirect, Data}
-use Rattle.base.specs.Tree.{IsTree}
-use Rattle.base.specs.Chain.{IsChain}
-use Rattle.base.specs.Contents.{Contents}
-use Rattle.base.specs.Disk.{Moment, bytes_of, CrashLeaves}
-use Rattle.base.specs.Uberblocks.{Uberblock, StandsIn, IsActive, IsUberblock}
-use Rattle.base.specs.Labels.{IsConfig, IsChosen}
-use Rattle.base.specs.Mount.{IsMounted, IsUseCount}
-use Rattle.base.proofs.Put.{length-part}
-use Rattle.base.proofs.Moments.{only_bytes}
+use Rattle.base.specs.formats.Fields.{part, number_at, no_pointer}
+use Rattle.base.specs.formats.Limits.{first_group}
+use Rattle.base.specs.formats.Geometry.{IsGeometry, block_address, block_count, slot_place, slot_of}
+use Rattle.base.specs.formats.Blocks.{Frame}
+use Rattle.base.specs.tree.Places.{Place, pointer_of, IsInTree}
+use Rattle.base.specs.tree.Places.Place.{Root, Directory, Indirect, Data}
+use Rattle.base.specs.tree.Tree.{IsTree}
+use Rattle.base.specs.formats.Chain.{IsChain}
+use Rattle.base.specs.history.Contents.{Contents}
+use Rattle.base.specs.disk.Disk.{Moment, bytes_of, CrashLeaves}
+use Rattle.base.specs.formats.Uberblocks.{Uberblock, StandsIn, IsActive, IsUberblock}
+use Rattle.base.specs.formats.Labels.{IsConfig, IsChosen}
+use Rattle.base.specs.crash.Mount.{IsMounted, IsUseCount}
+use Rattle.base.proofs.disk.Put.{length-part}
+use Rattle.base.proofs.disk.Moments.{only_bytes}
 use Rattle.labels.proofs.LabelsOfImage.{IsConfigBlock-IsConfig}
-use Rattle.base.proofs.Geometry.{slot-on_device}
+use Rattle.base.proofs.formats.Geometry.{slot-on_device}
 use Rattle.uberblocks.proofs.Places.{part-part, slot_below}
 use Rattle.uberblocks.proofs.SlotReads.{readings_agree}
 use Rattle.import_replay.specs.Creations.{IsCreatedOn, IsNewPool, first_uberblock, first_config}

@@ -2,12 +2,12 @@
 use Rattle.std.proofs.Common.{◌≡◌, ◌⊎◌, inl, inr, ℕ, ◌+◌, ◌<◌, ◌≤◌, Bool, true, false, List, length, Result, sym, ◌∙◌, subst, arith}
 use Rattle.std.proofs.lemmas.Bool.{cases_lt}
 use Rattle.base.specs.declared.error.PoolError.{PoolError}
-use Rattle.base.specs.Calls.{Flushes, Writes}
-use Rattle.base.specs.Disk.{Disk, IsInRange, Moment, bytes_of, moments, settled, wrote}
-use Rattle.base.specs.Geometry.{IsGeometry, IsWritable, block_address, block_count, label_place, slot_place}
-use Rattle.base.proofs.Moments.{each_flush, each_write}
-use Rattle.base.proofs.Put.{get_or-put_other, length-put}
-use Rattle.base.proofs.Geometry.{blocks-end, label-on_device}
+use Rattle.base.specs.disk.Calls.{Flushes, Writes}
+use Rattle.base.specs.disk.Disk.{Disk, IsInRange, Moment, bytes_of, moments, settled, wrote}
+use Rattle.base.specs.formats.Geometry.{IsGeometry, IsWritable, block_address, block_count, label_place, slot_place}
+use Rattle.base.proofs.disk.Moments.{each_flush, each_write}
+use Rattle.base.proofs.disk.Put.{get_or-put_other, length-put}
+use Rattle.base.proofs.formats.Geometry.{blocks-end, label-on_device}
 use Rattle.import_replay.specs.Outside.{IsPoolByte, KeepsOutside, WritesPoolBytes}
 
 module _ (Region : ℕ → Type 0) (start : Moment) where

@@ -3,8 +3,8 @@ use Rattle.std.proofs.Common.{◌≡◌, inl, inr, ℕ, List, Result, Ok, Err, I
 use Rattle.std.specs.Prelude.{IsErrAnd}
 use Rattle.base.specs.declared.error.PoolError.{PoolError}
 use Rattle.base.specs.declared.error.PoolError.TheVariants.{Damaged, NoPool, NoSpace, TooMany}
-use Rattle.base.specs.Mount.{HasNoPool, IsTreeDamaged}
-use Rattle.base.specs.Uberblocks.{Uberblock, IsActive}
+use Rattle.base.specs.crash.Mount.{HasNoPool, IsTreeDamaged}
+use Rattle.base.specs.formats.Uberblocks.{Uberblock, IsActive}
 use Rattle.object_maps.specs.Loading.{IsLoadRefusal}
 use Rattle.import_replay.specs.Found.{LacksName, LacksUberblock}
 use Rattle.import_replay.specs.ImportRefusals.{HasLastNumbers, HasNoFreeBlock, IsFindRefusal, IsOpenRefusal, IsReadingRefusal, IsReason, IsSyncRefusal}

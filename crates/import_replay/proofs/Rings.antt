@@ -6,16 +6,16 @@ use Rattle.std.specs.Prelude.{IfSome, IfNone, ok_or}
 use borrow.Rule.Slice.PartMut.{put_mid}
 use Rattle.base.specs.declared.error.PoolError.{PoolError}
 use Rattle.base.specs.declared.error.PoolError.TheVariants.{NoPool}
-use Rattle.base.specs.Disk.{put}
-use Rattle.base.specs.Fields.{part}
-use Rattle.base.specs.Geometry.{slot_place}
-use Rattle.base.specs.Uberblocks.{IsActive}
+use Rattle.base.specs.disk.Disk.{put}
+use Rattle.base.specs.formats.Fields.{part}
+use Rattle.base.specs.formats.Geometry.{slot_place}
+use Rattle.base.specs.formats.Uberblocks.{IsActive}
 use Rattle.uberblocks.specs.declared.uberblock.Uberblock.{Uberblock}
 use Rattle.uberblocks.specs.Rings.{IsActiveInRing, HasNoneInRing, IsRingOf}
 use Rattle.uberblocks.specs.Slots.{fields_of}
 use Rattle.uberblocks.proofs.Images.{rings_show_actives, rings_show_none}
 use Rattle.import_replay.specs.Found.{LacksUberblock}
-use Rattle.base.proofs.Put.{Apart, length-part, part-put_same, part-put_apart}
+use Rattle.base.proofs.disk.Put.{Apart, length-part, part-put_same, part-put_apart}
 
 -- what is read into a part of a ring is put there
 pub put_array : {A : Type 0} (r : Result A PoolError) (a k at place : ℕ) (ring into image : List ℕ) → k ≡ 131072 → a + 131072 ≤ length ring → at ≡ place

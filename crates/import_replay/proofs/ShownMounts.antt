@@ -1,10 +1,10 @@
 -- The labels that an import wrote show the pool that it gives.
 use Rattle.std.proofs.Common.{◌≡◌, ℕ, ◌<◌, List, length, drop, refl, sym, subst}
-use Rattle.base.specs.Fields.{part}
-use Rattle.base.specs.Geometry.{IsGeometry, block_size, config_place}
-use Rattle.base.specs.Labels.{IsConfig}
-use Rattle.base.specs.Uberblocks.{IsActive}
-use Rattle.base.proofs.StoredImports.{new-shows}
+use Rattle.base.specs.formats.Fields.{part}
+use Rattle.base.specs.formats.Geometry.{IsGeometry, block_size, config_place}
+use Rattle.base.specs.formats.Labels.{IsConfig}
+use Rattle.base.specs.formats.Uberblocks.{IsActive}
+use Rattle.base.proofs.stored.StoredImports.{new-shows}
 use Rattle.labels.specs.Configs.{IsConfigBlock}
 use Rattle.object_maps.specs.ContentsShown.{contents_of}
 use Rattle.import_replay.specs.declared.mounted.Mounted.{Mounted}

@@ -1,13 +1,13 @@
 -- What an import has left whose sync stopped, from what it found and loaded.
 use Rattle.std.proofs.Common.{◌≡◌, inr, ℕ, Bool, false, List, length, Ok, sym, subst, ◌∙◌}
 use Rattle.base.specs.declared.error.PoolError.{PoolError}
-use Rattle.base.specs.Calls.{Flushes}
-use Rattle.base.specs.Disk.{Disk, bytes_of, certain}
-use Rattle.base.specs.Imports.{is_past_last}
-use Rattle.base.specs.Mount.{HasPool}
-use Rattle.base.specs.PlacedTrees.{HoldsTree}
-use Rattle.base.specs.SyncOrder.{import_calls}
-use Rattle.base.specs.Uberblocks.{Uberblock}
+use Rattle.base.specs.disk.Calls.{Flushes}
+use Rattle.base.specs.disk.Disk.{Disk, bytes_of, certain}
+use Rattle.base.specs.crash.Imports.{is_past_last}
+use Rattle.base.specs.crash.Mount.{HasPool}
+use Rattle.base.specs.tree.PlacedTrees.{HoldsTree}
+use Rattle.base.specs.disk.SyncOrder.{import_calls}
+use Rattle.base.specs.formats.Uberblocks.{Uberblock}
 use Rattle.object_maps.specs.declared.contents.Slot.{Slot}
 use Rattle.object_maps.specs.declared.tree.Tree.{Tree}
 use Rattle.object_maps.specs.Pointers.{objects_of, pointers_of}

@@ -3,18 +3,18 @@ use Rattle.std.proofs.Common.{◌≡◌, ◌≢◌, ◌⊎◌, inl, inr, ℕ, ze
 use Rattle.std.specs.Prelude.{slice_get}
 use Rattle.std.specs.Option.{option_map}
 use Rattle.std.proofs.lemmas.Bool.{cases_order}
-use Rattle.base.specs.Disk.{IsInRange}
-use Rattle.base.specs.Fields.{part}
-use Rattle.base.specs.Geometry.{IsGeometry, config_place, label_place, slot_of, slot_place}
-use Rattle.base.specs.Labels.{Config}
-use Rattle.base.specs.SyncOrder.{DeviceCall, import_calls}
-use Rattle.base.specs.SyncOrder.DeviceCall.{Block, Config as ConfigCall, Uberblock as UberblockCall, Flush}
-use Rattle.base.specs.Uberblocks.{Uberblock, IsUberblock}
-use Rattle.base.proofs.Put.{part_same}
+use Rattle.base.specs.disk.Disk.{IsInRange}
+use Rattle.base.specs.formats.Fields.{part}
+use Rattle.base.specs.formats.Geometry.{IsGeometry, config_place, label_place, slot_of, slot_place}
+use Rattle.base.specs.formats.Labels.{Config}
+use Rattle.base.specs.disk.SyncOrder.{DeviceCall, import_calls}
+use Rattle.base.specs.disk.SyncOrder.DeviceCall.{Block, Config as ConfigCall, Uberblock as UberblockCall, Flush}
+use Rattle.base.specs.formats.Uberblocks.{Uberblock, IsUberblock}
+use Rattle.base.proofs.disk.Put.{part_same}
 use Rattle.labels.specs.Configs.{IsConfigBlock, config_block}
 use Rattle.labels.specs.declared.stage.Stage.{Stage}
 use Rattle.labels.specs.declared.stage.Stage.TheVariants.{Even, Odd}
-use Rattle.base.proofs.Geometry.{labels-apart}
+use Rattle.base.proofs.formats.Geometry.{labels-apart}
 use Rattle.uberblocks.proofs.Places.{slot_below}
 use Rattle.sync.specs.declared.run.LabelStages.{LabelStages}
 use Rattle.sync.specs.declared.run.SyncRun.{SyncRun}

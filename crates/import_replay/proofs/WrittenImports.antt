@@ -1,11 +1,11 @@
 -- What an import has written, from what it found, mounted and synced.
 use Rattle.std.proofs.Common.{◌≡◌, ℕ, ◌+◌, Bool, List, [], length, Result, Ok, Err, IfOk, OnOk, sym, subst, ap, ◌∙◌, arith}
 use Rattle.base.specs.declared.error.PoolError.{PoolError}
-use Rattle.base.specs.Calls.{Flushes}
-use Rattle.base.specs.Disk.{Disk, bytes_of}
-use Rattle.base.specs.SyncOrder.{import_calls}
-use Rattle.base.specs.Uberblocks.{Uberblock, IsActive}
-use Rattle.base.proofs.Regions.{flushed_clean}
+use Rattle.base.specs.disk.Calls.{Flushes}
+use Rattle.base.specs.disk.Disk.{Disk, bytes_of}
+use Rattle.base.specs.disk.SyncOrder.{import_calls}
+use Rattle.base.specs.formats.Uberblocks.{Uberblock, IsActive}
+use Rattle.base.proofs.disk.Regions.{flushed_clean}
 use Rattle.object_maps.specs.declared.contents.Slot.{Slot}
 use Rattle.object_maps.specs.declared.tree.Tree.{Tree}
 use Rattle.import_replay.specs.Found.{HasFirstStage}

@@ -1,9 +1,9 @@
 -- What of a new pool's device is zeros, on a device of so many bytes.
 use Rattle.std.specs.Prelude.{ℕ, ◌≡◌, ◌<◌, ◌+◌, ◌*◌, List, slice_index, replicate}
-use Rattle.base.specs.Limits.{first_group}
-use Rattle.base.specs.Geometry.{block_area, block_size, block_count, label_place, config_place, slot_place, slot_of}
-use Rattle.base.specs.Disk.{IsInRange}
-use Rattle.base.specs.Uberblocks.{slot_size}
+use Rattle.base.specs.formats.Limits.{first_group}
+use Rattle.base.specs.formats.Geometry.{block_area, block_size, block_count, label_place, config_place, slot_place, slot_of}
+use Rattle.base.specs.disk.Disk.{IsInRange}
+use Rattle.base.specs.formats.Uberblocks.{slot_size}
 
 -- so many zeros
 unfoldable pub zeros : ℕ → List ℕ

@@ -2,8 +2,8 @@
 use Rattle.std.specs.Prelude.{ℕ, ◌≡◌, false, List}
 use Rattle.base.specs.declared.error.PoolError.{PoolError}
 use Rattle.base.specs.declared.error.PoolError.TheVariants.{Write, Flush, BadGeometry, BadRange}
-use Rattle.base.specs.Geometry.{IsGeometry}
-use Rattle.base.specs.Names.{is_name, IsName}
+use Rattle.base.specs.formats.Geometry.{IsGeometry}
+use Rattle.base.specs.formats.Names.{is_name, IsName}
 
 -- a pool of this name can be made on a device of so many bytes
 abbrev pub CanCreate : ℕ → List ℕ → Type 0

@@ -1,13 +1,13 @@
 -- What a create leaves on the disk.
 use Rattle.std.specs.Prelude.{ℕ, ◌<◌, List, length}
-use Rattle.base.specs.Fields.{no_pointer}
-use Rattle.base.specs.Limits.{first_group}
-use Rattle.base.specs.Geometry.{block_count}
-use Rattle.base.specs.Uberblocks.{Uberblock, StandsIn, IsActive}
-use Rattle.base.specs.Versions.{written_version}
-use Rattle.base.specs.Labels.{Config, IsConfig}
-use Rattle.base.specs.Mount.{Mount, IsMounted}
-use Rattle.base.specs.Imports.{IsCreated}
+use Rattle.base.specs.formats.Fields.{no_pointer}
+use Rattle.base.specs.formats.Limits.{first_group}
+use Rattle.base.specs.formats.Geometry.{block_count}
+use Rattle.base.specs.formats.Uberblocks.{Uberblock, StandsIn, IsActive}
+use Rattle.base.specs.formats.Versions.{written_version}
+use Rattle.base.specs.formats.Labels.{Config, IsConfig}
+use Rattle.base.specs.crash.Mount.{Mount, IsMounted}
+use Rattle.base.specs.crash.Imports.{IsCreated}
 use Rattle.import_replay.specs.Cleared.{IsCleared}
 
 -- the image mounts a new pool of this name and guid

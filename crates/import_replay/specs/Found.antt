@@ -2,8 +2,8 @@
 use Rattle.std.specs.Prelude.{ℕ, ◌≡◌, ◌↔◌, Bool, IsTrue, List, Option}
 use Rattle.base.specs.declared.error.PoolError.{PoolError}
 use Rattle.base.specs.declared.error.PoolError.TheVariants.{NoPool}
-use Rattle.base.specs.Labels.{Config, IsChoice, IsChosen, IsKeptInOdd, HasNoConfig}
-use Rattle.base.specs.Uberblocks.{HasNoUberblock}
+use Rattle.base.specs.formats.Labels.{Config, IsChoice, IsChosen, IsKeptInOdd, HasNoConfig}
+use Rattle.base.specs.formats.Uberblocks.{HasNoUberblock}
 use Rattle.labels.specs.Choices.{IsKeptIn}
 
 -- the config that is chosen for a pool and a group has this name

@@ -5,8 +5,8 @@ use Rattle.std.specs.Ordering.{nat_cmp}
 use Rattle.std.specs.FinSet as set
 use Rattle.std.specs.FinSet.{FinSet}
 use Rattle.base.specs.declared.pointer.Pointer.{Pointer}
-use Rattle.base.specs.Geometry.{block_address, IsBlockAddress}
-use Rattle.base.specs.Places.{Place, IsPlace}
+use Rattle.base.specs.formats.Geometry.{block_address, IsBlockAddress}
+use Rattle.base.specs.tree.Places.{Place, IsPlace}
 use Rattle.object_maps.specs.declared.tree.ObjectMap.{ObjectMap}
 use Rattle.object_maps.specs.declared.tree.Tree.{Tree}
 

@@ -5,12 +5,12 @@ use Rattle.std.specs.FinMap.{FinMap}
 use Rattle.base.specs.declared.error.PoolError.{PoolError}
 use Rattle.base.specs.declared.error.PoolError.TheVariants.{NoMemory, Read, Write, Flush, NoPool, Damaged, BadGeometry, BadRange, NoSpace, TooMany}
 use Rattle.base.specs.declared.pointer.Pointer.{Pointer}
-use Rattle.base.specs.Geometry.{IsBlockAddress, IsGeometry, block_count}
-use Rattle.base.specs.Places.{IsInTree}
-use Rattle.base.specs.Uberblocks.{Uberblock}
-use Rattle.base.specs.Tree.{IsTree}
-use Rattle.base.specs.Mount.{HasNoPool, HasPool, IsTreeDamaged, frame_of}
-use Rattle.base.specs.Imports.{is_dirty_max_allowed, is_past_last}
+use Rattle.base.specs.formats.Geometry.{IsBlockAddress, IsGeometry, block_count}
+use Rattle.base.specs.tree.Places.{IsInTree}
+use Rattle.base.specs.formats.Uberblocks.{Uberblock}
+use Rattle.base.specs.tree.Tree.{IsTree}
+use Rattle.base.specs.crash.Mount.{HasNoPool, HasPool, IsTreeDamaged, frame_of}
+use Rattle.base.specs.crash.Imports.{is_dirty_max_allowed, is_past_last}
 
 -- an import of a device of so many bytes with this limit may begin
 abbrev pub CanImport : ℕ → ℕ → Type 0

@@ -4,13 +4,13 @@ use Rattle.std.specs.Ordering.{nat_cmp}
 use Rattle.std.specs.FinSet.{FinSet}
 use Rattle.base.specs.declared.error.PoolError.{PoolError}
 use Rattle.base.specs.declared.error.PoolError.TheVariants.{Flush}
-use Rattle.base.specs.Disk.{Disk, bytes_of, certain, disk_size}
-use Rattle.base.specs.Geometry.{block_count}
-use Rattle.base.specs.Imports.{IsFirstLogBlock, is_past_last}
-use Rattle.base.specs.Labels.{Config}
-use Rattle.base.specs.SyncOrder.{import_calls}
-use Rattle.base.specs.Versions.{written_version}
-use Rattle.base.specs.Uberblocks.{Uberblock}
+use Rattle.base.specs.disk.Disk.{Disk, bytes_of, certain, disk_size}
+use Rattle.base.specs.formats.Geometry.{block_count}
+use Rattle.base.specs.crash.Imports.{IsFirstLogBlock, is_past_last}
+use Rattle.base.specs.formats.Labels.{Config}
+use Rattle.base.specs.disk.SyncOrder.{import_calls}
+use Rattle.base.specs.formats.Versions.{written_version}
+use Rattle.base.specs.formats.Uberblocks.{Uberblock}
 use Rattle.object_maps.specs.declared.tree.Tree.{Tree}
 use Rattle.object_maps.specs.Pointers.{pointers_of}
 use Rattle.import_replay.specs.Found.{HasFirstStage}

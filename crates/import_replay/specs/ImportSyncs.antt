@@ -1,10 +1,10 @@
 -- What an import writes to the device, in which order, and what it leaves in the labels.
 use Rattle.std.specs.Prelude.{ℕ, ◌≡◌, ◌+◌, Bool, []}
-use Rattle.base.specs.Disk.{Disk, bytes_of, certain}
-use Rattle.base.specs.Labels.{Config}
-use Rattle.base.specs.SyncOrder.{import_calls}
-use Rattle.base.specs.Uberblocks.{Uberblock, IsActive}
-use Rattle.base.specs.Versions.{written_version}
+use Rattle.base.specs.disk.Disk.{Disk, bytes_of, certain}
+use Rattle.base.specs.formats.Labels.{Config}
+use Rattle.base.specs.disk.SyncOrder.{import_calls}
+use Rattle.base.specs.formats.Uberblocks.{Uberblock, IsActive}
+use Rattle.base.specs.formats.Versions.{written_version}
 use Rattle.import_replay.specs.Found.{HasFirstStage}
 use Rattle.import_replay.specs.Labelled.{HoldLabels}
 use Rattle.import_replay.specs.LabelSyncs.{after_calls}

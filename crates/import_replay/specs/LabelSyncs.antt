@@ -1,14 +1,14 @@
 -- What the sync of an import writes.
 use Rattle.std.specs.Prelude.{ℕ, ◌≡◌, ◌<◌, Bool, true, false, List, [], ◌∷◌, Some, Err, length, slice_get, take}
 use Rattle.base.specs.declared.error.PoolError.{PoolError}
-use Rattle.base.specs.Calls.{Flushes, Writes}
-use Rattle.base.specs.Disk.{Disk, bytes_of, certain, written}
-use Rattle.base.specs.Fields.{part}
-use Rattle.base.specs.Geometry.{block_address, block_count, block_size, config_place, slot_of, slot_place}
-use Rattle.base.specs.Labels.{Config}
-use Rattle.base.specs.SyncOrder.{DeviceCall}
-use Rattle.base.specs.SyncOrder.DeviceCall.{Block, Config as ConfigCall, Uberblock as UberblockCall, Flush}
-use Rattle.base.specs.Uberblocks.{Uberblock, IsUberblock}
+use Rattle.base.specs.disk.Calls.{Flushes, Writes}
+use Rattle.base.specs.disk.Disk.{Disk, bytes_of, certain, written}
+use Rattle.base.specs.formats.Fields.{part}
+use Rattle.base.specs.formats.Geometry.{block_address, block_count, block_size, config_place, slot_of, slot_place}
+use Rattle.base.specs.formats.Labels.{Config}
+use Rattle.base.specs.disk.SyncOrder.{DeviceCall}
+use Rattle.base.specs.disk.SyncOrder.DeviceCall.{Block, Config as ConfigCall, Uberblock as UberblockCall, Flush}
+use Rattle.base.specs.formats.Uberblocks.{Uberblock, IsUberblock}
 use Rattle.labels.specs.Configs.{IsConfigBlock, config_block}
 use Rattle.labels.specs.declared.stage.Stage.{Stage}
 use Rattle.labels.specs.declared.stage.Stage.TheVariants.{Even, Odd}

@@ -1,9 +1,9 @@
 -- How far the labels are written, on a device of so many bytes.
 use Rattle.std.specs.Prelude.{ℕ, ◌≡◌, ◌≢◌, ◌<◌, List}
-use Rattle.base.specs.Fields.{part}
-use Rattle.base.specs.Geometry.{block_size, config_place, slot_place, slot_of}
-use Rattle.base.specs.Uberblocks.{Uberblock, IsUberblock, slot_size}
-use Rattle.base.specs.Labels.{Config}
+use Rattle.base.specs.formats.Fields.{part}
+use Rattle.base.specs.formats.Geometry.{block_size, config_place, slot_place, slot_of}
+use Rattle.base.specs.formats.Uberblocks.{Uberblock, IsUberblock, slot_size}
+use Rattle.base.specs.formats.Labels.{Config}
 use Rattle.labels.specs.Configs.{IsConfigBlock}
 use Rattle.import_replay.specs.Cleared.{IsCleared}
 use Rattle.import_replay.specs.Creations.{first_config, first_uberblock}

@@ -1,19 +1,19 @@
 -- What an import mounts, as contracts see the pool that it gives.
 use Rattle.std.specs.Prelude.{ℕ, ◌≡◌, ◌+◌, false, List, [], length, None}
 use Rattle.std.specs.FinMap as finite
-use Rattle.base.specs.Versions.{written_version}
-use Rattle.base.specs.Blocks.{Frame}
-use Rattle.base.specs.Geometry.{IsBlockAddress, block_count}
-use Rattle.base.specs.Exact.{AreFree}
-use Rattle.base.specs.ExactNow.{IsExplainedNow}
-use Rattle.base.specs.Imports.{IsImportOf, is_past_last}
-use Rattle.base.specs.Mount.{IsChainOf}
-use Rattle.base.specs.Past.{new_past}
-use Rattle.base.specs.PlacedTrees.{HoldsTree}
-use Rattle.base.specs.Places.{IsInTree}
-use Rattle.base.specs.Shown.{Shown}
-use Rattle.base.specs.Stored.{SameBlocks}
-use Rattle.base.specs.Uberblocks.{Uberblock, IsActive}
+use Rattle.base.specs.formats.Versions.{written_version}
+use Rattle.base.specs.formats.Blocks.{Frame}
+use Rattle.base.specs.formats.Geometry.{IsBlockAddress, block_count}
+use Rattle.base.specs.steps.Exact.{AreFree}
+use Rattle.base.specs.steps.ExactNow.{IsExplainedNow}
+use Rattle.base.specs.crash.Imports.{IsImportOf, is_past_last}
+use Rattle.base.specs.crash.Mount.{IsChainOf}
+use Rattle.base.specs.history.Past.{new_past}
+use Rattle.base.specs.tree.PlacedTrees.{HoldsTree}
+use Rattle.base.specs.tree.Places.{IsInTree}
+use Rattle.base.specs.steps.Shown.{Shown}
+use Rattle.base.specs.stored.Stored.{SameBlocks}
+use Rattle.base.specs.formats.Uberblocks.{Uberblock, IsActive}
 use Rattle.object_maps.specs.declared.contents.Slot.{Slot}
 use Rattle.object_maps.specs.declared.tree.Tree.{Tree}
 use Rattle.object_maps.specs.ContentsShown.{contents_of}

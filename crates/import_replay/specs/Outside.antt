@@ -1,7 +1,7 @@
 -- What the calls of a create leave of the bytes that no pool has.
 use Rattle.std.specs.Prelude.{ℕ}
-use Rattle.base.specs.Disk.{Disk, EachMoment, IsTouched, Moment, SameOutside, bytes_of}
-use Rattle.base.specs.Geometry.{IsWritable}
+use Rattle.base.specs.disk.Disk.{Disk, EachMoment, IsTouched, Moment, SameOutside, bytes_of}
+use Rattle.base.specs.formats.Geometry.{IsWritable}
 
 -- a byte behind the boot header of a label, or of the block area
 abbrev pub IsPoolByte : ℕ → ℕ → Type 0

@@ -1,8 +1,8 @@
 -- When the labels show the pool that an import gives.
 use Rattle.std.specs.Prelude.{ℕ, List, length}
-use Rattle.base.specs.Geometry.{IsGeometry}
-use Rattle.base.specs.Past.{new_past}
-use Rattle.base.specs.ShownLabels.{ShowsSynced}
+use Rattle.base.specs.formats.Geometry.{IsGeometry}
+use Rattle.base.specs.history.Past.{new_past}
+use Rattle.base.specs.stored.ShownLabels.{ShowsSynced}
 use Rattle.object_maps.specs.ContentsShown.{contents_of}
 use Rattle.import_replay.specs.Mounts.{shown_of_import}
 use Rattle.import_replay.specs.declared.mounted.Mounted.{Mounted}

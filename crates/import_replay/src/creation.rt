@@ -1,9 +1,9 @@
 //! A new pool.
 
 ghost use Rattle.std.specs.Prelude.{◌≡◌, ◌⊎◌, IfErr, IfOk, IsTrue, List, MatchResult, OnOk, [], ℕ};
-ghost use Rattle.base.specs.Calls.{counted, with_refusal};
-ghost use Rattle.base.specs.Disk.{CrashLeaves, Disk, bytes_of};
-ghost use Rattle.base.specs.Geometry.{IsGeometry};
+ghost use Rattle.base.specs.disk.Calls.{counted, with_refusal};
+ghost use Rattle.base.specs.disk.Disk.{CrashLeaves, Disk, bytes_of};
+ghost use Rattle.base.specs.formats.Geometry.{IsGeometry};
 ghost use Rattle.import_replay.specs.Cleared.{AreTailsCleared, IsCleared, zeros};
 ghost use Rattle.import_replay.specs.CreateRefusals.{CanCreate, IsCreateRefusal};
 ghost use Rattle.import_replay.specs.Creations.{IsCreatedOn, IsNewPool, first_config};

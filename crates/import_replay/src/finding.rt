@@ -1,13 +1,13 @@
 //! The pool that a device has: its active uberblock, and its name.
 
 ghost use Rattle.std.specs.Prelude.{◌≡◌, ◌<◌, ◌≤◌, ◌+◌, ◌*◌, ◌⊎◌, IfErr, IfOk, IsTrue, OnOk, length, vec_len};
-ghost use Rattle.base.specs.Calls.{counted};
-ghost use Rattle.base.specs.Disk.{bytes_of, put};
-ghost use Rattle.base.specs.Fields.{part};
-ghost use Rattle.base.specs.Geometry.{IsGeometry, slot_place};
-ghost use Rattle.base.specs.Labels.{HasNoCandidate};
-ghost use Rattle.base.specs.Mount.{HasPool};
-ghost use Rattle.base.specs.Uberblocks.{IsActive};
+ghost use Rattle.base.specs.disk.Calls.{counted};
+ghost use Rattle.base.specs.disk.Disk.{bytes_of, put};
+ghost use Rattle.base.specs.formats.Fields.{part};
+ghost use Rattle.base.specs.formats.Geometry.{IsGeometry, slot_place};
+ghost use Rattle.base.specs.formats.Labels.{HasNoCandidate};
+ghost use Rattle.base.specs.crash.Mount.{HasPool};
+ghost use Rattle.base.specs.formats.Uberblocks.{IsActive};
 ghost use Rattle.uberblocks.specs.Slots.{IsWithinLimits, fields_of};
 ghost use Rattle.labels.specs.Choices.{AreRead, IsRead};
 ghost use Rattle.import_replay.specs.ImportRefusals.{IsFindRefusal, IsReason};

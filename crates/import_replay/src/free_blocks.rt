@@ -2,8 +2,8 @@
 
 ghost use Rattle.std.specs.Prelude.{◌≡◌, ◌<◌, IfErr, IfOk, length, vec_len};
 ghost use Rattle.std.specs.List.{list_any};
-ghost use Rattle.base.specs.Geometry.{block_address, block_count};
-ghost use Rattle.base.specs.Places.{Place};
+ghost use Rattle.base.specs.formats.Geometry.{block_address, block_count};
+ghost use Rattle.base.specs.tree.Places.{Place};
 ghost use Rattle.base.specs.declared.pointer.Pointer.{Pointer};
 ghost use Rattle.object_maps.specs.Pointers.{pointers_of};
 ghost use Rattle.space.specs.FreeSets.{free_of};

@@ -1,7 +1,7 @@
 //! What an import gives: what it mounted, on its device.
 
 ghost use Rattle.std.specs.Prelude.{◌≡◌, ◌<◌, ◌≤◌, ◌^◌, IsTrue};
-ghost use Rattle.base.specs.Disk.{bytes_of};
+ghost use Rattle.base.specs.disk.Disk.{bytes_of};
 ghost use Rattle.import_replay.specs.Mounts.{IsExplainedAnew, StandsOn};
 ghost use Rattle.import_replay.specs.ShownMounts.{LabelsShow};
 

@@ -1,10 +1,10 @@
 //! The sync of an import.
 
 ghost use Rattle.std.specs.Prelude.{◌≡◌, ◌<◌, [], IfErr, IsTrue, OnOk};
-ghost use Rattle.base.specs.Calls.{counted};
-ghost use Rattle.base.specs.Disk.{bytes_of};
-ghost use Rattle.base.specs.Geometry.{IsGeometry};
-ghost use Rattle.base.specs.SyncOrder.{import_calls};
+ghost use Rattle.base.specs.disk.Calls.{counted};
+ghost use Rattle.base.specs.disk.Disk.{bytes_of};
+ghost use Rattle.base.specs.formats.Geometry.{IsGeometry};
+ghost use Rattle.base.specs.disk.SyncOrder.{import_calls};
 ghost use Rattle.sync.specs.Runs.{call_count};
 ghost use Rattle.uberblocks.specs.Slots.{IsWithinLimits, fields_of};
 ghost use Rattle.import_replay.specs.ImportRefusals.{IsSyncRefusal};

@@ -1,8 +1,8 @@
 //! What an import mounts.
 
 ghost use Rattle.std.specs.Prelude.{◌≡◌, ◌<◌, ◌≤◌, ◌^◌, vec_len};
-ghost use Rattle.base.specs.Geometry.{block_count};
-ghost use Rattle.base.specs.PlacedTrees.{ArePlaced};
+ghost use Rattle.base.specs.formats.Geometry.{block_count};
+ghost use Rattle.base.specs.tree.PlacedTrees.{ArePlaced};
 ghost use Rattle.object_maps.specs.Pointers.{pointers_of};
 
 use base::Group;

@@ -4,7 +4,7 @@ use Rattle.std.specs.Prelude.{slice_get, IfSome, IfOk, OnErr, IsTrue}
 use Rattle.std.specs.Option.{option_copied, ok_or}
 use Rattle.std.proofs.lemmas.Bool.{cases_lt}
 use Rattle.std.proofs.lemmas.Option.{slice_get_within}
-use Rattle.base.specs.Labels.{Config, IsCandidate, IsChoice, HasNoCandidate}
+use Rattle.base.specs.formats.Labels.{Config, IsCandidate, IsChoice, HasNoCandidate}
 
 -- of the candidates of the first labels the one of the highest group, and then of the lowest label
 pub record IsBest (configs : List (Option Config)) (guid group n : ℕ) (c : Config) : Type 0 where

@@ -2,13 +2,13 @@
 use Rattle.std.proofs.Common.{◌≡◌, ℕ, ◌+◌, ◌-◌, ◌^◌, ◌<◌, ◌≤◌, List, [], ◌++◌, length, take, drop, replicate, true, refl, sym, ◌∙◌, ap, subst, append_assoc, arith}
 use Rattle.std.proofs.lemmas.List.{take_at, drop_at, length-append, length-replicate, drop-drop, take-append-drop, length-take-le, length-drop}
 use Rattle.std.proofs.lemmas.Bool.Decides.{nat_tests}
-use Rattle.base.specs.Disk.{put}
-use Rattle.base.specs.Fields.{number_at, number_bytes}
-use Rattle.base.specs.Names.{IsName, is_name_length}
-use Rattle.base.specs.Blocks.{IsBlock}
-use Rattle.base.specs.Labels.{Config, IsConfigPayload}
-use Rattle.base.proofs.CommitOrder.{and-true}
-use Rattle.base.proofs.FieldsRead.{length-number_bytes, put-put_behind}
+use Rattle.base.specs.disk.Disk.{put}
+use Rattle.base.specs.formats.Fields.{number_at, number_bytes}
+use Rattle.base.specs.formats.Names.{IsName, is_name_length}
+use Rattle.base.specs.formats.Blocks.{IsBlock}
+use Rattle.base.specs.formats.Labels.{Config, IsConfigPayload}
+use Rattle.base.proofs.history.CommitOrder.{and-true}
+use Rattle.base.proofs.formats.FieldsRead.{length-number_bytes, put-put_behind}
 use Rattle.checked_blocks.specs.Sealing.{padded}
 use Rattle.checked_blocks.proofs.Placed.{number_at-between}
 use Rattle.checked_blocks.proofs.SealedBlocks.{sealed_block-is}

@@ -2,10 +2,10 @@
 use Rattle.std.proofs.Common.{◌≡◌, ℕ, ◌<◌, ◌≤◌, ◌⊎◌, inl, inr, List, length, drop, get_or, Option, Some, None, refl, sym, ◌∙◌, ap, subst, arith}
 use Rattle.std.specs.Prelude.{slice_get}
 use Rattle.std.proofs.lemmas.Option.{slice_get_within, slice_get_cases}
-use Rattle.base.specs.Fields.{part}
-use Rattle.base.specs.Geometry.{config_place}
-use Rattle.base.specs.Blocks.{IsBlock}
-use Rattle.base.specs.Labels.{Config, IsConfigPayload, IsConfig, IsChoice, HasNoCandidate, IsChosen, HasNoConfig, IsKeptInOdd}
+use Rattle.base.specs.formats.Fields.{part}
+use Rattle.base.specs.formats.Geometry.{config_place}
+use Rattle.base.specs.formats.Blocks.{IsBlock}
+use Rattle.base.specs.formats.Labels.{Config, IsConfigPayload, IsConfig, IsChoice, HasNoCandidate, IsChosen, HasNoConfig, IsKeptInOdd}
 use Rattle.labels.specs.Configs.{IsConfigBlock}
 use Rattle.labels.specs.Choices.{IsKeptIn, IsRead, AreRead}
 use Rattle.labels.specs.Laws.{IsSoOfImage}

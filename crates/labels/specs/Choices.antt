@@ -1,8 +1,8 @@
 -- Configs as they were read from the labels.
 use Rattle.std.specs.Prelude.{ℕ, ◌≡◌, ◌⊎◌, List, length, Option, Some, None, slice_get}
-use Rattle.base.specs.Fields.{part}
-use Rattle.base.specs.Geometry.{block_size, config_place}
-use Rattle.base.specs.Labels.{Config}
+use Rattle.base.specs.formats.Fields.{part}
+use Rattle.base.specs.formats.Geometry.{block_size, config_place}
+use Rattle.base.specs.formats.Labels.{Config}
 use Rattle.labels.specs.Configs.{IsConfigBlock}
 
 -- an odd label holds this config

@@ -1,6 +1,6 @@
 -- The payload of a label config, as it is written.
 use Rattle.std.specs.Prelude.{ℕ, List, ◌++◌, length}
-use Rattle.base.specs.Fields.{number_bytes}
+use Rattle.base.specs.formats.Fields.{number_bytes}
 
 -- version, size of the device, length of the name, and the name
 abbrev pub config_bytes : ℕ → List ℕ → List ℕ

@@ -1,7 +1,7 @@
 -- Label configs as blocks.
 use Rattle.std.specs.Prelude.{ℕ, ◌≡◌, List, drop}
-use Rattle.base.specs.Blocks.{IsBlock, sealed_block}
-use Rattle.base.specs.Labels.{Config, IsConfigPayload}
+use Rattle.base.specs.formats.Blocks.{IsBlock, sealed_block}
+use Rattle.base.specs.formats.Labels.{Config, IsConfigPayload}
 use Rattle.checked_blocks.specs.Sealing.{padded}
 use Rattle.labels.specs.ConfigBytes.{config_bytes}
 

@@ -1,7 +1,7 @@
 -- What holds of label configs.
 use Rattle.std.specs.Prelude.{ℕ, ◌≡◌, ◌<◌, ◌^◌, ◌↔◌, List, length, Option}
-use Rattle.base.specs.Names.{IsName}
-use Rattle.base.specs.Labels.{Config, IsChoice, HasNoCandidate, IsChosen, HasNoConfig, IsKeptInOdd}
+use Rattle.base.specs.formats.Names.{IsName}
+use Rattle.base.specs.formats.Labels.{Config, IsChoice, HasNoCandidate, IsChosen, HasNoConfig, IsKeptInOdd}
 use Rattle.labels.specs.Configs.{IsConfigBlock, config_block}
 use Rattle.labels.specs.Choices.{AreRead, IsKeptIn}
 

@@ -1,6 +1,6 @@
 -- The two stages in which labels are written.
 use Rattle.std.specs.Prelude.{ℕ, List}
-use Rattle.base.specs.Labels.{even_labels, odd_labels}
+use Rattle.base.specs.formats.Labels.{even_labels, odd_labels}
 use Rattle.labels.specs.declared.stage.Stage.{Stage}
 use Rattle.labels.specs.declared.stage.Stage.TheVariants.{Even, Odd}
 

@@ -1,5 +1,5 @@
 ghost use Rattle.std.specs.Prelude.{◌≡◌, ◌<◌, ◌↔◌, IsTrue, IfOk, IfErr, IfSome, OnErr};
-ghost use Rattle.base.specs.Labels.{IsChoice, HasNoCandidate};
+ghost use Rattle.base.specs.formats.Labels.{IsChoice, HasNoCandidate};
 ghost use Rattle.labels.specs.Choices.{IsKeptIn};
 
 use crate::config::LabelConfig;

@@ -1,5 +1,5 @@
 ghost use Rattle.std.specs.Prelude.{◌≡◌, ◌+◌, ◌<◌, ◌≤◌, ◌^◌, ◌↔◌, ℕ, List, IsTrue, IfSome, IfNone, length, replicate, take};
-ghost use Rattle.base.specs.Labels.{IsConfigPayload};
+ghost use Rattle.base.specs.formats.Labels.{IsConfigPayload};
 ghost use Rattle.labels.specs.ConfigBytes.{config_bytes};
 
 use base::{Group, MAX_NAME, PoolName, read_u64, write_bytes, write_u64};
@@ -25,7 +25,7 @@ pub struct LabelConfig {
 }
 
 impl Model for LabelConfig {
-    ghost use Rattle.base.specs.Labels.{Config};
+    ghost use Rattle.base.specs.formats.Labels.{Config};
 
     ghost Value = { Config };
 
@@ -34,7 +34,7 @@ impl Model for LabelConfig {
 
 impl LabelConfig {
     ghost use Rattle.std.specs.Prelude.{◌≡◌, ◌≤◌, ◌↔◌, IsTrue, IfSome, IfNone};
-    ghost use Rattle.base.specs.Labels.{Config};
+    ghost use Rattle.base.specs.formats.Labels.{Config};
     ghost use Rattle.labels.specs.Configs.{IsConfigBlock, config_block};
 
     /// The config of the pool of this guid and name, written in this group on a device of so many bytes.

@@ -1,5 +1,5 @@
 ghost use Rattle.std.specs.Prelude.{◌≡◌};
-ghost use Rattle.base.specs.Geometry.{is_geometry};
+ghost use Rattle.base.specs.formats.Geometry.{is_geometry};
 
 use base::PoolError;
 use checked_blocks::{BLOCK_AREA, BLOCK_SIZE};
@@ -43,7 +43,7 @@ pub struct Geometry {
 
 impl Model for Geometry {
     ghost use Rattle.std.specs.Prelude.{ℕ};
-    ghost use Rattle.base.specs.Geometry.{IsGeometry};
+    ghost use Rattle.base.specs.formats.Geometry.{IsGeometry};
 
     ghost Value = { ℕ };
 
@@ -56,9 +56,9 @@ impl Model for Geometry {
 
 impl Geometry {
     ghost use Rattle.std.specs.Prelude.{◌≡◌, ◌<◌, ◌*◌, ◌↔◌, IsTrue, IsOk, IfOk, IfErr};
-    ghost use Rattle.base.specs.Calls.{IsOnDevice};
-    ghost use Rattle.base.specs.Geometry as place;
-    ghost use Rattle.base.specs.Geometry.{IsGeometry, IsBlockAddress};
+    ghost use Rattle.base.specs.disk.Calls.{IsOnDevice};
+    ghost use Rattle.base.specs.formats.Geometry as place;
+    ghost use Rattle.base.specs.formats.Geometry.{IsGeometry, IsBlockAddress};
 
     /// The layout of a device of so many sectors of 512 bytes.
     ///

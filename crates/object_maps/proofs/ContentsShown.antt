@@ -10,8 +10,8 @@ use Rattle.std.proofs.lemmas.Bool.{cases_eq}
 use Rattle.std.proofs.lemmas.List.Elements.{All-head, All-tail}
 use Rattle.std.specs.FinMap as finite
 use Rattle.std.specs.FinMap.{FinMap, get-empty, same_map, nat_cmp-IsAntisymmetric}
-use Rattle.base.specs.Contents.{Contents, stored}
-use Rattle.base.proofs.Objects.{get-stored_same, get-stored_other}
+use Rattle.base.specs.history.Contents.{Contents, stored}
+use Rattle.base.proofs.history.Objects.{get-stored_same, get-stored_other}
 use Rattle.object_maps.specs.declared.contents.Slot.{Slot}
 use Rattle.object_maps.specs.ContentsShown.{object_of, object_in, objects_from}
 

@@ -5,9 +5,9 @@ use Rattle.std.specs.Int.{from_le_bytes, w64}
 use Rattle.std.proofs.lemmas.List.{drop-drop, drop-take, take-take, take-append-drop}
 use Rattle.std.proofs.lemmas.List.Elements.{All-from_get_or}
 use Rattle.base.specs.declared.pointer.Pointer.{Pointer}
-use Rattle.base.specs.Fields.{part, number_at, number_bytes, pointer_at, entry_in, entry_present, entry_length, entry_pointer, no_pointer}
-use Rattle.base.specs.Limits.{max_length}
-use Rattle.base.specs.Faults.{IsPointerForm, IsEntryForm}
+use Rattle.base.specs.formats.Fields.{part, number_at, number_bytes, pointer_at, entry_in, entry_present, entry_length, entry_pointer, no_pointer}
+use Rattle.base.specs.formats.Limits.{max_length}
+use Rattle.base.specs.tree.Faults.{IsPointerForm, IsEntryForm}
 use Rattle.checked_blocks.proofs.Placed.{number_bytes-number_at}
 
 -- a part of a part

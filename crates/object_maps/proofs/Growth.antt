@@ -2,12 +2,12 @@
 use Rattle.std.proofs.Common.{◌≡◌, ◌⊎◌, inl, inr, ℕ, ◌+◌, ◌-◌, ◌<◌, ◌≤◌, max, List, ◌++◌, length, take, drop, get_or, sym, ◌∙◌, arith}
 use Rattle.std.proofs.lemmas.List.{ext_get_or, get_or-append_right, get_or_append_left, get_or_past, length-take-le}
 use Rattle.std.proofs.lemmas.Bool.{cases_lt}
-use Rattle.base.specs.Disk.{put}
-use Rattle.base.specs.Contents.{resize, bytes_after_write}
+use Rattle.base.specs.disk.Disk.{put}
+use Rattle.base.specs.history.Contents.{resize, bytes_after_write}
 use Rattle.base.specs.declared.operation.Op.{Op}
 use Rattle.base.specs.declared.operation.Op.TheVariants.{Create, Remove, Write, SetLength, SetName}
-use Rattle.base.proofs.Put.{length-put, get_or-put_other}
-use Rattle.base.proofs.Writes.{overwritten_below, overwritten_in, overwritten_above, length-bytes_after_write, length-resize, get_or-resize}
+use Rattle.base.proofs.disk.Put.{length-put, get_or-put_other}
+use Rattle.base.proofs.history.Writes.{overwritten_below, overwritten_in, overwritten_above, length-bytes_after_write, length-resize, get_or-resize}
 use Rattle.object_maps.specs.declared.contents.Slot.{Slot}
 use Rattle.object_maps.specs.Ops.{HasRoom, RoomGrows}
 

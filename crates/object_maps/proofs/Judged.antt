@@ -11,11 +11,11 @@ use Rattle.base.specs.declared.error.PoolError.TheVariants.{NoObject, Exists}
 use Rattle.base.specs.declared.names.ObjectId.{ObjectId}
 use Rattle.base.specs.declared.operation.Op.{Op}
 use Rattle.base.specs.declared.operation.Op.TheVariants.{Create, Remove, Write, SetLength, SetName}
-use Rattle.base.specs.Sequences.{and_then}
-use Rattle.base.specs.Contents.{Contents, at_object, apply, created, changed, bytes_after_write, with_object}
-use Rattle.base.specs.History.{apply_all}
-use Rattle.base.proofs.Sequences.{parted, joined}
-use Rattle.base.proofs.Objects.{get-stored_same, get-stored_other, reached, reach}
+use Rattle.base.specs.history.Sequences.{and_then}
+use Rattle.base.specs.history.Contents.{Contents, at_object, apply, created, changed, bytes_after_write, with_object}
+use Rattle.base.specs.history.History.{apply_all}
+use Rattle.base.proofs.common.Sequences.{parted, joined}
+use Rattle.base.proofs.history.Objects.{get-stored_same, get-stored_other, reached, reach}
 use Rattle.object_maps.specs.Ops.{IsOpAllowed, AreOpsAllowed}
 use Rattle.object_maps.specs.Creations.{creates}
 use Rattle.object_maps.specs.ContentsShown.{Applies, Apply}

@@ -1,11 +1,11 @@
 -- Blocks as they are read.
 use Rattle.std.proofs.Common.{◌≡◌, ℕ, ◌≤◌, List, length, drop, refl, ap, ◌∙◌}
 use Rattle.base.specs.declared.pointer.Pointer.{Pointer}
-use Rattle.base.specs.Fields.{part}
-use Rattle.base.specs.Disk.{Disk, bytes_of}
+use Rattle.base.specs.formats.Fields.{part}
+use Rattle.base.specs.disk.Disk.{Disk, bytes_of}
 use Rattle.std.specs.Prelude.{Bool, IsTrue}
-use Rattle.base.specs.Geometry.{IsBlockAddress}
-use Rattle.base.specs.Blocks.{Frame, Opens}
+use Rattle.base.specs.formats.Geometry.{IsBlockAddress}
+use Rattle.base.specs.formats.Blocks.{Frame, Opens}
 use Rattle.checked_blocks.specs.declared.expected.Expected.{Expected}
 use Rattle.checked_blocks.specs.Opening.{IsExpected}
 use Rattle.checked_blocks.proofs.NamedBlocks.{IsNamed, IsExpected-Opens}

@@ -6,13 +6,13 @@ use Rattle.std.proofs.Math.ListN.{set}
 use Rattle.std.proofs.lemmas.List.{get_or_default}
 use Rattle.std.proofs.lemmas.Bool.{cases_eq}
 use Rattle.base.specs.declared.pointer.Pointer.{Pointer}
-use Rattle.base.specs.Limits.{max_length, entry_count}
-use Rattle.base.specs.Fields.{entry_in, entry_present, entry_length, entry_pointer, no_pointer}
-use Rattle.base.specs.Geometry.{IsBlockAddress}
-use Rattle.base.specs.Blocks.{Frame}
-use Rattle.base.specs.Places.Place.{Directory}
-use Rattle.base.specs.Tree.{OpensAt}
-use Rattle.base.specs.PlacedTrees.{IsEntryFor}
+use Rattle.base.specs.formats.Limits.{max_length, entry_count}
+use Rattle.base.specs.formats.Fields.{entry_in, entry_present, entry_length, entry_pointer, no_pointer}
+use Rattle.base.specs.formats.Geometry.{IsBlockAddress}
+use Rattle.base.specs.formats.Blocks.{Frame}
+use Rattle.base.specs.tree.Places.Place.{Directory}
+use Rattle.base.specs.tree.Tree.{OpensAt}
+use Rattle.base.specs.tree.PlacedTrees.{IsEntryFor}
 use Rattle.object_maps.specs.declared.contents.Slot.{Slot}
 use Rattle.object_maps.specs.declared.tree.ObjectMap.{ObjectMap}
 use Rattle.object_maps.specs.ContentsShown.{object_of, object_in}

@@ -4,14 +4,14 @@ use Rattle.std.specs.Prelude.{Bool, IsTrue}
 use Rattle.std.proofs.lemmas.List.{ext_get_or, get_or-take, get_or-drop, get_or-replicate, get_or_past, get_or_default, length-replicate, length-take, length-take-le, length-drop, take_all, take-append-drop}
 use Rattle.std.proofs.lemmas.Bool.{cases_lt, cases_eq}
 use Rattle.base.specs.declared.pointer.Pointer.{Pointer}
-use Rattle.base.specs.Limits.{max_length, record_size, pointer_count}
-use Rattle.base.specs.Fields.{part, pointer_in, no_pointer}
-use Rattle.base.specs.Disk.{put}
-use Rattle.base.specs.Geometry.{IsBlockAddress}
-use Rattle.base.specs.Blocks.{Frame}
-use Rattle.base.specs.Places.Place.{Indirect, Data}
-use Rattle.base.specs.Tree.{OpensAt, IsRecord, record_bytes}
-use Rattle.base.proofs.Put.{length-put, part-put_same, part-put_apart}
+use Rattle.base.specs.formats.Limits.{max_length, record_size, pointer_count}
+use Rattle.base.specs.formats.Fields.{part, pointer_in, no_pointer}
+use Rattle.base.specs.disk.Disk.{put}
+use Rattle.base.specs.formats.Geometry.{IsBlockAddress}
+use Rattle.base.specs.formats.Blocks.{Frame}
+use Rattle.base.specs.tree.Places.Place.{Indirect, Data}
+use Rattle.base.specs.tree.Tree.{OpensAt, IsRecord, record_bytes}
+use Rattle.base.proofs.disk.Put.{length-put, part-put_same, part-put_apart}
 use Rattle.object_maps.specs.Pointers.{pointer_of_list}
 use Rattle.object_maps.specs.Loading.{IsLoadedRecord, IsZeroRecord, AreLoadedRecords, IsLoadedObject}
 

@@ -8,14 +8,14 @@ use Rattle.std.proofs.lemmas.List.Elements.{All-head, All-tail}
 use Rattle.std.proofs.lemmas.Bool.{cases_lt}
 use Rattle.std.proofs.lemmas.Option.{slice_get_past}
 use Rattle.base.specs.declared.pointer.Pointer.{Pointer}
-use Rattle.base.specs.Limits.{object_count, max_length, pointer_count, entry_count}
-use Rattle.base.specs.Fields.{pointer_in, entry_in, no_pointer}
-use Rattle.base.specs.Geometry.{IsBlockAddress}
-use Rattle.base.specs.Blocks.{Frame}
-use Rattle.base.specs.Places.{Place, IsPlace}
-use Rattle.base.specs.Places.Place.{Root, Directory, Indirect, Data}
-use Rattle.base.specs.Tree.{OpensAt}
-use Rattle.base.specs.PlacedTrees.{ArePlaced, IsEntryFor, StandsAt, HoldsTree}
+use Rattle.base.specs.formats.Limits.{object_count, max_length, pointer_count, entry_count}
+use Rattle.base.specs.formats.Fields.{pointer_in, entry_in, no_pointer}
+use Rattle.base.specs.formats.Geometry.{IsBlockAddress}
+use Rattle.base.specs.formats.Blocks.{Frame}
+use Rattle.base.specs.tree.Places.{Place, IsPlace}
+use Rattle.base.specs.tree.Places.Place.{Root, Directory, Indirect, Data}
+use Rattle.base.specs.tree.Tree.{OpensAt}
+use Rattle.base.specs.tree.PlacedTrees.{ArePlaced, IsEntryFor, StandsAt, HoldsTree}
 use Rattle.object_maps.specs.declared.contents.Slot.{Slot}
 use Rattle.object_maps.specs.declared.tree.ObjectMap.{ObjectMap}
 use Rattle.object_maps.specs.ContentsShown.{object_in, object_of}

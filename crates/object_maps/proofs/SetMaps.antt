@@ -16,10 +16,10 @@ use Rattle.std.proofs.lemmas.Map.Keys.{sorted_head, sorted_tail}
 use Rattle.std.proofs.lemmas.Bool.{cases_eq, cases_lt}
 use Rattle.base.specs.declared.names.ObjectId.{ObjectId}
 use Rattle.base.specs.declared.pointer.Pointer.{Pointer}
-use Rattle.base.specs.Limits.{object_count}
-use Rattle.base.specs.Fields.{no_pointer}
-use Rattle.base.specs.Places.{Place, IsPlace}
-use Rattle.base.specs.Places.Place.{Root, Directory, Indirect, Data}
+use Rattle.base.specs.formats.Limits.{object_count}
+use Rattle.base.specs.formats.Fields.{no_pointer}
+use Rattle.base.specs.tree.Places.{Place, IsPlace}
+use Rattle.base.specs.tree.Places.Place.{Root, Directory, Indirect, Data}
 use Rattle.object_maps.specs.declared.tree.ObjectMap.{ObjectMap}
 use Rattle.object_maps.specs.Pointers.{pointers_at, pointer_of_list, indirect_of, records_of, with_maps, map_among, id_cmp}
 use Rattle.object_maps.specs.SetMaps.{set_maps}

@@ -5,12 +5,12 @@ use Rattle.std.proofs.lemmas.List.{length-drop, drop_all}
 use Rattle.base.specs.declared.error.PoolError.{PoolError}
 use Rattle.base.specs.declared.error.PoolError.TheVariants.{Damaged}
 use Rattle.base.specs.declared.pointer.Pointer.{Pointer}
-use Rattle.base.specs.Limits.{object_count, pointer_count, record_size}
-use Rattle.base.specs.Fields.{part, no_pointer}
-use Rattle.base.specs.Blocks.{Frame, Opens}
-use Rattle.base.specs.Places.{Place, IsPlace, kind_of, number_of, walk_index_of, pointer_of, pointer_below}
-use Rattle.base.specs.Places.Place.{Data}
-use Rattle.base.specs.Faults.{IsSoundAt, IsWellFormed, length_in}
+use Rattle.base.specs.formats.Limits.{object_count, pointer_count, record_size}
+use Rattle.base.specs.formats.Fields.{part, no_pointer}
+use Rattle.base.specs.formats.Blocks.{Frame, Opens}
+use Rattle.base.specs.tree.Places.{Place, IsPlace, kind_of, number_of, walk_index_of, pointer_of, pointer_below}
+use Rattle.base.specs.tree.Places.Place.{Data}
+use Rattle.base.specs.tree.Faults.{IsSoundAt, IsWellFormed, length_in}
 use Rattle.checked_blocks.specs.declared.expected.Expected.{Expected}
 use Rattle.checked_blocks.specs.Opening.{IsExpected}
 use Rattle.checked_blocks.proofs.NamedBlocks.{IsNamed, Opens-IsExpected}

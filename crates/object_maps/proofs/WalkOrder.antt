@@ -2,11 +2,11 @@
 use Rattle.std.proofs.Common.{◌≡◌, ℕ, ◌+◌, ◌*◌, ◌/◌, ◌%◌, ◌<◌, ◌≤◌, List, refl, ap, subst, arith, ◌⊎◌, inl, inr}
 use Rattle.std.proofs.lemmas.Bool.{cases_lt}
 use Rattle.base.specs.declared.pointer.Pointer.{Pointer}
-use Rattle.base.specs.Limits.{entry_count}
-use Rattle.base.specs.Blocks.{Frame}
-use Rattle.base.specs.Places.{Place, IsPlace, walk_index_of, walk_index_of_indirect}
-use Rattle.base.specs.Places.Place.{Root, Directory, Indirect, Data}
-use Rattle.base.specs.Faults.{IsSoundAt}
+use Rattle.base.specs.formats.Limits.{entry_count}
+use Rattle.base.specs.formats.Blocks.{Frame}
+use Rattle.base.specs.tree.Places.{Place, IsPlace, walk_index_of, walk_index_of_indirect}
+use Rattle.base.specs.tree.Places.Place.{Root, Directory, Indirect, Data}
+use Rattle.base.specs.tree.Faults.{IsSoundAt}
 use Rattle.object_maps.specs.Walking.{AreSound, IsFaultFrom}
 
 -- a quotient and a remainder are told by their number

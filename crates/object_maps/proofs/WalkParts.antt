@@ -4,13 +4,13 @@ use Rattle.std.proofs.lemmas.List.{get_or_default}
 use Rattle.base.specs.declared.error.PoolError.{PoolError}
 use Rattle.base.specs.declared.error.PoolError.TheVariants.{Damaged}
 use Rattle.base.specs.declared.pointer.Pointer.{Pointer}
-use Rattle.base.specs.Limits.{object_count, pointer_count, entry_count}
-use Rattle.base.specs.Fields.{number_at, pointer_in, entry_in, entry_length, entry_pointer, no_pointer}
-use Rattle.base.specs.Blocks.{Frame, payload_at}
-use Rattle.base.specs.Places.{walk_index_of_indirect, pointer_of, pointer_below, directory_pointer}
-use Rattle.base.specs.Places.Place.{Root, Directory, Indirect, Data}
-use Rattle.base.specs.Tree.{OpensAt}
-use Rattle.base.specs.Faults.{IsPointerForm, IsSoundAt, IsRecordPointerForm, IsFirstFault}
+use Rattle.base.specs.formats.Limits.{object_count, pointer_count, entry_count}
+use Rattle.base.specs.formats.Fields.{number_at, pointer_in, entry_in, entry_length, entry_pointer, no_pointer}
+use Rattle.base.specs.formats.Blocks.{Frame, payload_at}
+use Rattle.base.specs.tree.Places.{walk_index_of_indirect, pointer_of, pointer_below, directory_pointer}
+use Rattle.base.specs.tree.Places.Place.{Root, Directory, Indirect, Data}
+use Rattle.base.specs.tree.Tree.{OpensAt}
+use Rattle.base.specs.tree.Faults.{IsPointerForm, IsSoundAt, IsRecordPointerForm, IsFirstFault}
 use Rattle.object_maps.specs.Pointers.{pointer_of_list}
 use Rattle.object_maps.specs.Walking.{AreSound, IsFaultFrom, TellsFault, IsDataOf, AreDataOf, IsIndirectOf, IsPayloadOf, AreDirectoriesOf}
 use Rattle.object_maps.proofs.WalkOrder.{index_within, sound_none, sound_more, sound_one, fault_behind}

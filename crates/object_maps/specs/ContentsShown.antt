@@ -6,8 +6,8 @@ use Rattle.std.specs.FinMap as finite
 use Rattle.std.specs.FinMap.{FinMap}
 use Rattle.base.specs.declared.error.PoolError.{PoolError}
 use Rattle.base.specs.declared.operation.Op.{Op}
-use Rattle.base.specs.Contents.{Contents, stored, apply}
-use Rattle.base.specs.History.{apply_all}
+use Rattle.base.specs.history.Contents.{Contents, stored, apply}
+use Rattle.base.specs.history.History.{apply_all}
 use Rattle.object_maps.specs.declared.contents.Slot.{Slot}
 use Rattle.object_maps.specs.declared.contents.Contents as declared
 

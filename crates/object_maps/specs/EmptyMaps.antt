@@ -1,6 +1,6 @@
 -- Objects of which none is there.
 use Rattle.std.specs.Prelude.{◌≡◌, []}
-use Rattle.base.specs.Fields.{no_pointer}
+use Rattle.base.specs.formats.Fields.{no_pointer}
 use Rattle.object_maps.specs.declared.tree.ObjectMap.{ObjectMap}
 
 -- an object has no pointers

@@ -3,13 +3,13 @@ use Rattle.std.specs.Prelude.{ℕ, ◌≡◌, ◌≤◌, ◌<◌, ◌+◌, ◌*�
 use Rattle.base.specs.declared.error.PoolError.{PoolError}
 use Rattle.base.specs.declared.error.PoolError.TheVariants.{NoMemory, Read, Damaged}
 use Rattle.base.specs.declared.pointer.Pointer.{Pointer}
-use Rattle.base.specs.Limits.{max_length, pointer_count, entry_count}
-use Rattle.base.specs.Fields.{pointer_in, entry_in, no_pointer}
-use Rattle.base.specs.Disk.{Disk, bytes_of}
-use Rattle.base.specs.Blocks.{Frame}
-use Rattle.base.specs.Places.Place.{Root, Directory, Indirect}
-use Rattle.base.specs.Tree.{OpensAt, IsRecord, record_bytes}
-use Rattle.base.specs.PlacedTrees.{IsEntryFor, IsPlaced}
+use Rattle.base.specs.formats.Limits.{max_length, pointer_count, entry_count}
+use Rattle.base.specs.formats.Fields.{pointer_in, entry_in, no_pointer}
+use Rattle.base.specs.disk.Disk.{Disk, bytes_of}
+use Rattle.base.specs.formats.Blocks.{Frame}
+use Rattle.base.specs.tree.Places.Place.{Root, Directory, Indirect}
+use Rattle.base.specs.tree.Tree.{OpensAt, IsRecord, record_bytes}
+use Rattle.base.specs.tree.PlacedTrees.{IsEntryFor, IsPlaced}
 use Rattle.object_maps.specs.declared.contents.Slot.{Slot}
 use Rattle.object_maps.specs.declared.tree.ObjectMap.{ObjectMap}
 use Rattle.object_maps.specs.ContentsShown.{object_in}

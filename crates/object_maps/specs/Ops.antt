@@ -3,8 +3,8 @@ use Rattle.std.specs.Prelude.{ℕ, ◌≡◌, ◌≤◌, ◌+◌, true, List, le
 use Rattle.std.specs.Option.{option_map_or}
 use Rattle.base.specs.declared.operation.Op.{Op}
 use Rattle.base.specs.declared.operation.Op.TheVariants.{Create, Remove, Write, SetLength, SetName}
-use Rattle.base.specs.Plans.{shape_of, is_shape_allowed}
-use Rattle.base.specs.Stage.{is_shape_built}
+use Rattle.base.specs.history.Plans.{shape_of, is_shape_allowed}
+use Rattle.base.specs.steps.Stage.{is_shape_built}
 use Rattle.object_maps.specs.declared.contents.Slot.{Slot}
 
 -- an operation creates or writes within the limits

@@ -3,14 +3,14 @@ use Rattle.std.specs.Prelude.{ℕ, ◌≡◌, ◌≢◌, ◌≤◌, ◌<◌, Lis
 use Rattle.base.specs.declared.error.PoolError.{PoolError}
 use Rattle.base.specs.declared.error.PoolError.TheVariants.{Damaged}
 use Rattle.base.specs.declared.pointer.Pointer.{Pointer}
-use Rattle.base.specs.Fields.{no_pointer}
-use Rattle.base.specs.Blocks.{Frame, Opens}
-use Rattle.base.specs.Places.{Place, IsPlace, kind_of, walk_index_of, pointer_of}
-use Rattle.base.specs.Places.Place.{Directory, Indirect, Data}
-use Rattle.base.specs.Limits.{pointer_count}
-use Rattle.base.specs.Tree.{OpensAt}
+use Rattle.base.specs.formats.Fields.{no_pointer}
+use Rattle.base.specs.formats.Blocks.{Frame, Opens}
+use Rattle.base.specs.tree.Places.{Place, IsPlace, kind_of, walk_index_of, pointer_of}
+use Rattle.base.specs.tree.Places.Place.{Directory, Indirect, Data}
+use Rattle.base.specs.formats.Limits.{pointer_count}
+use Rattle.base.specs.tree.Tree.{OpensAt}
 use Rattle.object_maps.specs.Pointers.{pointer_of_list}
-use Rattle.base.specs.Faults.{IsSoundAt, length_in}
+use Rattle.base.specs.tree.Faults.{IsSoundAt, length_in}
 
 -- the places of the walk from one index up to another are sound
 pub record AreSound (image : List ℕ) (frame : Frame) (root : Pointer) (start end : ℕ) : Type 0 where

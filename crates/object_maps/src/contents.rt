@@ -3,8 +3,8 @@
 ghost use Rattle.std.specs.Prelude.{◌≡◌, ◌+◌, ◌≤◌, ◌<◌, ℕ, ◌++◌, ◌∷◌, [], true, false, length, max, slice_index, All, vec_len, vec_capacity, OnOk, IfOk, Ok, Err, Some, is_some, option_map, nat_lt};
 ghost use Rattle.std.specs.List.{list_all, list_any};
 ghost use Rattle.std.specs.FinMap as finite;
-ghost use Rattle.base.specs.Contents.{bytes_after_write};
-ghost use Rattle.base.specs.Disk.{put};
+ghost use Rattle.base.specs.history.Contents.{bytes_after_write};
+ghost use Rattle.base.specs.disk.Disk.{put};
 ghost use Rattle.object_maps.specs.Creations.{creates};
 
 use base::{OBJECT_COUNT, ObjectId, Op, PoolError, PoolName};
@@ -93,9 +93,9 @@ impl Slot {
 }
 
 impl Contents {
-    ghost use Rattle.base.specs.Contents.{apply, with_object};
-    ghost use Rattle.base.specs.History.{apply_all};
-    ghost use Rattle.base.specs.Records.{is_content_allowed};
+    ghost use Rattle.base.specs.history.Contents.{apply, with_object};
+    ghost use Rattle.base.specs.history.History.{apply_all};
+    ghost use Rattle.base.specs.formats.Records.{is_content_allowed};
     ghost use Rattle.object_maps.specs.Ops.{AreOpsAllowed, HasRoom, HaveRoom, IsOpAllowed, RoomGrows, room_of};
     ghost use Rattle.object_maps.specs.ContentsShown.{Applies, Apply, Judges, contents_of};
 

@@ -17,7 +17,7 @@ pub struct ObjectMap {
 
 impl ObjectMap {
     ghost use Rattle.std.specs.Prelude.{◌≡◌, get_or};
-    ghost use Rattle.base.specs.Fields.{no_pointer};
+    ghost use Rattle.base.specs.formats.Fields.{no_pointer};
 
     /// The pointer to a record, or to nothing.
     pub fn record(&self, index: usize) -> Pointer
@@ -57,7 +57,7 @@ pub fn empty_maps(alloc: Global) -> Result<Vec<ObjectMap>, AllocError>
 
 impl Tree {
     ghost use Rattle.std.specs.Prelude.{◌≡◌};
-    ghost use Rattle.base.specs.Places.{Place, IsPlace};
+    ghost use Rattle.base.specs.tree.Places.{Place, IsPlace};
     ghost use Rattle.object_maps.specs.Pointers.{pointers_of, with_maps, map_among};
     ghost use Rattle.std.proofs.Math.ListN.{set};
 

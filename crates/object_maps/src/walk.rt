@@ -2,22 +2,22 @@
 
 ghost use Rattle.std.specs.Prelude.{◌≡◌, ◌≢◌, ℕ, ◌+◌, ◌*◌, ◌<◌, ◌≤◌, ◌↔◌, List, IfOk, IfErr, OnOk, IfSome, IsTrue, Some, true, drop, get_or, length, replicate, vec_len};
 ghost use Rattle.std.specs.FinMap as finite;
-ghost use Rattle.base.specs.Limits.{object_count, max_length};
-ghost use Rattle.base.specs.Fields.{number_at, pointer_at, pointer_in, entry_in, entry_present, entry_length, entry_pointer, no_pointer};
-ghost use Rattle.base.specs.Calls.{counted};
-ghost use Rattle.base.specs.Disk.{bytes_of};
-ghost use Rattle.base.specs.Geometry.{block_address, IsBlockAddress};
-ghost use Rattle.base.specs.Blocks.{Opens};
-ghost use Rattle.base.specs.Tree.{record_bytes};
-ghost use Rattle.base.specs.Faults.{IsPointerForm, IsEntryForm, IsRecordPointerForm, IsFirstFault};
-ghost use Rattle.base.specs.PlacedTrees.{HoldsTree, ArePlaced};
+ghost use Rattle.base.specs.formats.Limits.{object_count, max_length};
+ghost use Rattle.base.specs.formats.Fields.{number_at, pointer_at, pointer_in, entry_in, entry_present, entry_length, entry_pointer, no_pointer};
+ghost use Rattle.base.specs.disk.Calls.{counted};
+ghost use Rattle.base.specs.disk.Disk.{bytes_of};
+ghost use Rattle.base.specs.formats.Geometry.{block_address, IsBlockAddress};
+ghost use Rattle.base.specs.formats.Blocks.{Opens};
+ghost use Rattle.base.specs.tree.Tree.{record_bytes};
+ghost use Rattle.base.specs.tree.Faults.{IsPointerForm, IsEntryForm, IsRecordPointerForm, IsFirstFault};
+ghost use Rattle.base.specs.tree.PlacedTrees.{HoldsTree, ArePlaced};
 ghost use Rattle.checked_blocks.proofs.NamedBlocks.{IsNamed};
 ghost use Rattle.object_maps.specs.Pointers.{pointers_of, objects_of, pointer_of_list};
 ghost use Rattle.object_maps.specs.Kinds.{kind_number};
 ghost use Rattle.object_maps.specs.Loading.{Shows, IsLoadRefusal, IsLoadedRecord, AreLoadedRecords, IsZeroRecord, IsLoadedObject, AreEmptyFrom, SameBut, AreLoadedEntries, IsLoadedDirectory, AreLoadedDirectories, IsLoadedTree};
 ghost use Rattle.base.specs.declared.pointer.Pointer.{Pointer};
-ghost use Rattle.base.specs.Places.{walk_index_of, walk_index_of_indirect, pointer_of};
-ghost use Rattle.base.specs.Places.Place.{Directory, Data};
+ghost use Rattle.base.specs.tree.Places.{walk_index_of, walk_index_of_indirect, pointer_of};
+ghost use Rattle.base.specs.tree.Places.Place.{Directory, Data};
 ghost use Rattle.object_maps.specs.Walking.{TellsBlock, TellsFault, AreSound, IsDataOf, AreDataOf, IsIndirectOf, IsPayloadOf, AreDirectoriesOf};
 
 use crate::contents::{Slot, empty_slots};

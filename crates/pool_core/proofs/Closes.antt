@@ -6,12 +6,12 @@ use Rattle.std.specs.List.{list_any}
 use Rattle.base.specs.declared.names.Group.{Group}
 use Rattle.base.specs.declared.error.PoolError.{PoolError}
 use Rattle.base.specs.declared.error.PoolError.TheVariants as error
-use Rattle.base.specs.Limits.{last_number}
-use Rattle.base.specs.Shown.{Shown}
-use Rattle.base.specs.Groups.{Admission, hold_count}
-use Rattle.base.specs.Refusals.{quiesce_refusal, quiescing_group}
-use Rattle.base.specs.Stage.{has_older_group, close_refusal, CloseGroup}
-use Rattle.base.specs.Steps.{line_after_close, line_after_quiesce, MarkQuiesced}
+use Rattle.base.specs.formats.Limits.{last_number}
+use Rattle.base.specs.steps.Shown.{Shown}
+use Rattle.base.specs.steps.Groups.{Admission, hold_count}
+use Rattle.base.specs.steps.Refusals.{quiesce_refusal, quiescing_group}
+use Rattle.base.specs.steps.Stage.{has_older_group, close_refusal, CloseGroup}
+use Rattle.base.specs.steps.Steps.{line_after_close, line_after_quiesce, MarkQuiesced}
 use Rattle.pool_core.specs.Meets.{Meets}
 use Rattle.pool_core.specs.Tables.{result_map}
 use Rattle.pool_core.specs.Lines.{is_last_open, line_of}

@@ -9,17 +9,17 @@ use Rattle.base.specs.declared.operation.Op.{Op}
 use Rattle.base.specs.declared.operation.Op.TheVariants as op
 use Rattle.base.specs.declared.operation.Shape.{Shape}
 use Rattle.base.specs.declared.operation.Shape.TheVariants as shape
-use Rattle.base.specs.Contents.{Contents}
-use Rattle.base.specs.Groups.{Admission}
-use Rattle.base.specs.History.{apply_all}
-use Rattle.base.specs.Limits.{last_number}
-use Rattle.base.specs.Plans.{shape_of}
-use Rattle.base.specs.Records.{is_content_allowed}
-use Rattle.base.specs.Refusals.{transaction_of, is_same_shape, is_same_plan, gives_bad_name}
-use Rattle.base.specs.Shown.{Shown}
-use Rattle.base.specs.Stage.{has_older_group, commit_refusal, Commit}
-use Rattle.base.specs.Steps.{transactions_without}
-use Rattle.base.proofs.CommitOrder.{same_plan}
+use Rattle.base.specs.history.Contents.{Contents}
+use Rattle.base.specs.steps.Groups.{Admission}
+use Rattle.base.specs.history.History.{apply_all}
+use Rattle.base.specs.formats.Limits.{last_number}
+use Rattle.base.specs.history.Plans.{shape_of}
+use Rattle.base.specs.formats.Records.{is_content_allowed}
+use Rattle.base.specs.steps.Refusals.{transaction_of, is_same_shape, is_same_plan, gives_bad_name}
+use Rattle.base.specs.steps.Shown.{Shown}
+use Rattle.base.specs.steps.Stage.{has_older_group, commit_refusal, Commit}
+use Rattle.base.specs.steps.Steps.{transactions_without}
+use Rattle.base.proofs.history.CommitOrder.{same_plan}
 use Rattle.pool_core.specs.Meets.{Meets, MayCommit}
 use Rattle.object_maps.specs.Ops.{AreOpsAllowed, IsOpAllowed}
 

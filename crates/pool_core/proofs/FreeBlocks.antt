@@ -12,9 +12,9 @@ use mathlib.Core.Bool.{Bool-set}
 use Rattle.std.proofs.lemmas.Bool.{and_from, and_parts, eq-eqb, eqb-true, le-leb, leb-true, lt-ltb, ltb-true}
 use Rattle.std.specs.FinSet as set
 use Rattle.std.specs.FinSet.{FinSet, contains-empty, contains-insert, contains-remove, contains-from_list, contains-difference, contains-union, same_set, nat_cmp-IsAntisymmetric}
-use Rattle.base.specs.Geometry.{IsBlockAddress, block_address, block_area, block_size}
+use Rattle.base.specs.formats.Geometry.{IsBlockAddress, block_address, block_area, block_size}
 use Rattle.tree_plans.specs.declared.planner.PlannedBlock.{PlannedBlock}
-use Rattle.base.specs.PlacedTrees.{ArePlaced, IsPlaced}
+use Rattle.base.specs.tree.PlacedTrees.{ArePlaced, IsPlaced}
 use Rattle.object_maps.specs.declared.tree.Tree.{Tree}
 use Rattle.object_maps.specs.Pointers as kept
 use Rattle.tree_plans.specs.Pointers as plans

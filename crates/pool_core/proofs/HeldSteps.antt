@@ -8,18 +8,18 @@ use Rattle.base.specs.declared.pointer.Pointer.{Pointer}
 use Rattle.base.specs.declared.step.Step as declared_step
 use Rattle.base.specs.declared.step.Reply as declared_reply
 use Rattle.base.specs.declared.step.Reply.TheVariants as reply
-use Rattle.base.specs.Blocks.{Frame}
-use Rattle.base.specs.Limits.{entry_count}
-use Rattle.base.specs.Past.{Past}
-use Rattle.base.specs.PlacedTrees.{HoldsTree, StandsAt}
-use Rattle.base.specs.Places.{Place, IsPlace}
-use Rattle.base.specs.Places.Place.{Root, Directory, Indirect, Data}
-use Rattle.base.specs.Shown.{Shown}
-use Rattle.base.specs.Stored.{IsHeld, IsStored, Moves, NewTree, RunsAs, frame_at}
-use Rattle.base.specs.Tree.{IsRecord, OpensAt}
-use Rattle.base.specs.PlacedTrees.{IsEntryFor}
-use Rattle.base.specs.Fields.{entry_in}
-use Rattle.base.proofs.StoredRuns.{moves-keep}
+use Rattle.base.specs.formats.Blocks.{Frame}
+use Rattle.base.specs.formats.Limits.{entry_count}
+use Rattle.base.specs.history.Past.{Past}
+use Rattle.base.specs.tree.PlacedTrees.{HoldsTree, StandsAt}
+use Rattle.base.specs.tree.Places.{Place, IsPlace}
+use Rattle.base.specs.tree.Places.Place.{Root, Directory, Indirect, Data}
+use Rattle.base.specs.steps.Shown.{Shown}
+use Rattle.base.specs.stored.Stored.{IsHeld, IsStored, Moves, NewTree, RunsAs, frame_at}
+use Rattle.base.specs.tree.Tree.{IsRecord, OpensAt}
+use Rattle.base.specs.tree.PlacedTrees.{IsEntryFor}
+use Rattle.base.specs.formats.Fields.{entry_in}
+use Rattle.base.proofs.stored.StoredRuns.{moves-keep}
 use Rattle.pool_core.specs.Holds.{IsStepOver, Leads, SamePlaces, Told, held_with}
 
 module _ (image : List ℕ) (frame : Frame) (old new : Place → Pointer) (same : SamePlaces new old) (objects : FinMap nat_cmp (List ℕ)) where

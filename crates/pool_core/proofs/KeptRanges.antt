@@ -5,12 +5,12 @@ use Rattle.std.specs.List.{list_any, list_all}
 use Rattle.std.proofs.lemmas.Bool.Decides.{nat_tests}
 use Rattle.base.specs.declared.operation.Shape.{Shape}
 use Rattle.base.specs.declared.operation.Shape.TheVariants as shape
-use Rattle.base.specs.Limits.{max_length, object_count}
-use Rattle.base.specs.Plans.{NumberRange, range_of, is_shape_allowed, is_plan_allowed, overlaps, lies_in, plans_overlap}
-use Rattle.base.specs.Stage.{is_shape_built, is_plan_built}
-use Rattle.base.specs.Groups.{Admission}
-use Rattle.base.specs.Refusals.{is_plan_blocked}
-use Rattle.base.proofs.CommitOrder.{and-true}
+use Rattle.base.specs.formats.Limits.{max_length, object_count}
+use Rattle.base.specs.history.Plans.{NumberRange, range_of, is_shape_allowed, is_plan_allowed, overlaps, lies_in, plans_overlap}
+use Rattle.base.specs.steps.Stage.{is_shape_built, is_plan_built}
+use Rattle.base.specs.steps.Groups.{Admission}
+use Rattle.base.specs.steps.Refusals.{is_plan_blocked}
+use Rattle.base.proofs.history.CommitOrder.{and-true}
 use Rattle.pool_core.specs.Targets.{kept_range_of}
 use Rattle.pool_core.specs.Shows.{admission_of}
 use Rattle.pool_core.specs.declared.transactions.OpenTransaction.{OpenTransaction}

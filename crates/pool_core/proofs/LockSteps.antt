@@ -5,13 +5,13 @@ use Rattle.base.specs.declared.error.PoolError.{PoolError}
 use Rattle.base.specs.declared.error.PoolError.TheVariants as error
 use Rattle.base.specs.declared.operation.Shape.{Shape}
 use Rattle.base.specs.declared.range.Mode.{Mode}
-use Rattle.base.specs.Limits.{last_number, max_log_record, max_transactions, name_number}
-use Rattle.base.specs.Locks.{Grant, is_range_allowed}
-use Rattle.base.specs.Plans.{NumberRange, log_record_size}
-use Rattle.base.specs.Refusals.{lock_refusal, lock_of, is_lock_in_use, unlock_refusal, is_plan_covered, is_plan_blocked}
-use Rattle.base.specs.Shown.{Shown}
-use Rattle.base.specs.Stage.{has_older_group, is_plan_built, begin_refusal, Begin}
-use Rattle.base.specs.Steps.{Lock, Unlock, next_grant, next_admission}
+use Rattle.base.specs.formats.Limits.{last_number, max_log_record, max_transactions, name_number}
+use Rattle.base.specs.steps.Locks.{Grant, is_range_allowed}
+use Rattle.base.specs.history.Plans.{NumberRange, log_record_size}
+use Rattle.base.specs.steps.Refusals.{lock_refusal, lock_of, is_lock_in_use, unlock_refusal, is_plan_covered, is_plan_blocked}
+use Rattle.base.specs.steps.Shown.{Shown}
+use Rattle.base.specs.steps.Stage.{has_older_group, is_plan_built, begin_refusal, Begin}
+use Rattle.base.specs.steps.Steps.{Lock, Unlock, next_grant, next_admission}
 use Rattle.pool_core.specs.Meets.{Meets}
 use Rattle.pool_core.specs.Tables.{Locks, LocksBy, lock_refusal_of}
 

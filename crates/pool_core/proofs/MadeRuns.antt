@@ -3,11 +3,11 @@ use Rattle.std.proofs.Common.{◌≡◌, List, [], ◌∷◌, ap, sym, subst, �
 use Rattle.base.specs.declared.refused.RefusedCalls.{RefusedCalls}
 use Rattle.base.specs.declared.step.Step.{Step}
 use Rattle.base.specs.declared.step.Reply.{Reply}
-use Rattle.base.specs.Additions.{past_after}
-use Rattle.base.specs.Disk.{Disk}
-use Rattle.base.specs.ExactNow.{IsExplainedNow}
-use Rattle.base.specs.Runs.{Run}
-use Rattle.base.specs.Stored.{IsHeld}
+use Rattle.base.specs.steps.Additions.{past_after}
+use Rattle.base.specs.disk.Disk.{Disk}
+use Rattle.base.specs.steps.ExactNow.{IsExplainedNow}
+use Rattle.base.specs.steps.Runs.{Run}
+use Rattle.base.specs.stored.Stored.{IsHeld}
 use Rattle.pool_core.specs.declared.pool.Pool.{Pool}
 use Rattle.pool_core.specs.Calls.{counted_in_turn}
 use Rattle.pool_core.specs.ExplainedRuns.{RunsOn}

@@ -1,12 +1,12 @@
 -- The state that an import gives is held by its device, with a past in which nothing happened.
 use Rattle.std.proofs.Common.{◌≡◌, ℕ, List, length, refl, sym, subst}
 use Rattle.std.specs.Prelude.{None, option_map}
-use Rattle.base.specs.Geometry.{block_count}
-use Rattle.base.specs.ExactNow.{IsExplainedNow}
-use Rattle.base.specs.Past.{new_past}
-use Rattle.base.specs.Shown.{Shown}
-use Rattle.base.specs.Stored.{IsHeld, IsStored}
-use Rattle.base.proofs.KeptLists.{none_at}
+use Rattle.base.specs.formats.Geometry.{block_count}
+use Rattle.base.specs.steps.ExactNow.{IsExplainedNow}
+use Rattle.base.specs.history.Past.{new_past}
+use Rattle.base.specs.steps.Shown.{Shown}
+use Rattle.base.specs.stored.Stored.{IsHeld, IsStored}
+use Rattle.base.proofs.common.KeptLists.{none_at}
 use Rattle.object_maps.specs.ContentsShown.{contents_of}
 use Rattle.object_maps.specs.Pointers.{pointers_of}
 use Rattle.import_replay.specs.declared.mounted.Mounted.{Mounted}

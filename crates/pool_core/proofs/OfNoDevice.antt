@@ -11,17 +11,17 @@ use Rattle.base.specs.declared.operation.Op.TheVariants as op
 use Rattle.base.specs.declared.operation.Shape.{Shape}
 use Rattle.base.specs.declared.range.Mode.{Mode}
 use Rattle.base.specs.declared.refused.RefusedCalls.{RefusedCalls}
-use Rattle.base.specs.Calls.{counted, with_refusal}
-use Rattle.base.specs.Contents.{Contents, apply, created, removed, changed, with_object, bytes_after_write, resize}
-use Rattle.base.specs.History.{apply_all}
-use Rattle.base.specs.Past.{Past, new_past}
-use Rattle.base.specs.Plans.{NumberRange}
-use Rattle.base.specs.Refusals.{Test, first_refusal, ops_tests, lock_tests, unlock_tests, read_tests, commit_tests, close_tests, quiesce_tests}
-use Rattle.base.specs.Sequences.{and_then, in_turn}
-use Rattle.base.specs.Shown.{Shown}
-use Rattle.base.specs.Stage as stage
-use Rattle.base.specs.Steps as steps
-use Rattle.base.specs.Steps.{State, Answers}
+use Rattle.base.specs.disk.Calls.{counted, with_refusal}
+use Rattle.base.specs.history.Contents.{Contents, apply, created, removed, changed, with_object, bytes_after_write, resize}
+use Rattle.base.specs.history.History.{apply_all}
+use Rattle.base.specs.history.Past.{Past, new_past}
+use Rattle.base.specs.history.Plans.{NumberRange}
+use Rattle.base.specs.steps.Refusals.{Test, first_refusal, ops_tests, lock_tests, unlock_tests, read_tests, commit_tests, close_tests, quiesce_tests}
+use Rattle.base.specs.history.Sequences.{and_then, in_turn}
+use Rattle.base.specs.steps.Shown.{Shown}
+use Rattle.base.specs.steps.Stage as stage
+use Rattle.base.specs.steps.Steps as steps
+use Rattle.base.specs.steps.Steps.{State, Answers}
 use Rattle.pool_core.specs.Meets.{Meets}
 use Rattle.pool_core.specs.Tables.{result_map}
 

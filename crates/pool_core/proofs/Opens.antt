@@ -3,8 +3,8 @@ use Rattle.std.proofs.Common.{ℕ, suc, ◌≡◌, ◌<◌, ◌≤◌, ◌^◌, 
 use Rattle.std.specs.Prelude.{Some, None, option_map, All, ◌==◌}
 use Rattle.std.specs.List.{find}
 use Rattle.std.proofs.lemmas.Bool.Decides.{nat_tests}
-use Rattle.base.specs.Groups.{Admission}
-use Rattle.base.specs.Limits.{last_number}
+use Rattle.base.specs.steps.Groups.{Admission}
+use Rattle.base.specs.formats.Limits.{last_number}
 use Rattle.pool_core.specs.Shows.{admission_of}
 use Rattle.pool_core.specs.declared.transactions.OpenTransaction.{OpenTransaction}
 use Rattle.pool_core.proofs.Mapped.{find-map}

@@ -8,21 +8,21 @@ use Rattle.std.proofs.lemmas.List.{length-map}
 use Rattle.base.specs.declared.names.ObjectId.{ObjectId}
 use Rattle.base.specs.declared.operation.Op.{Op}
 use Rattle.base.specs.declared.pointer.Pointer.{Pointer}
-use Rattle.base.specs.ExactNow.{IsExplainedNow}
-use Rattle.base.specs.History.{apply_all}
-use Rattle.base.specs.Limits.{max_length, object_count}
-use Rattle.base.specs.Past.{Past}
-use Rattle.base.specs.Places.{Place, has_block}
-use Rattle.base.specs.PlannedPlaces.{written_by}
-use Rattle.base.specs.PlannedTrees.{NewBlock}
-use Rattle.base.specs.Rising.{rising}
-use Rattle.base.specs.Shown.{Shown, SyncPlan}
-use Rattle.base.specs.Steps.{TakesForEach, ops_of_group}
-use Rattle.base.specs.Stored.{IsStored, frame_at}
-use Rattle.base.specs.Syncs.{written_places}
-use Rattle.base.proofs.BuiltPlaces.{HasBytes, built-places, group-bytes}
-use Rattle.base.proofs.UntouchedRecords.{writes_record}
-use Rattle.base.proofs.WrittenRecords.{IsBuilt}
+use Rattle.base.specs.steps.ExactNow.{IsExplainedNow}
+use Rattle.base.specs.history.History.{apply_all}
+use Rattle.base.specs.formats.Limits.{max_length, object_count}
+use Rattle.base.specs.history.Past.{Past}
+use Rattle.base.specs.tree.Places.{Place, has_block}
+use Rattle.base.specs.tree.PlannedPlaces.{written_by}
+use Rattle.base.specs.tree.PlannedTrees.{NewBlock}
+use Rattle.base.specs.common.Rising.{rising}
+use Rattle.base.specs.steps.Shown.{Shown, SyncPlan}
+use Rattle.base.specs.steps.Steps.{TakesForEach, ops_of_group}
+use Rattle.base.specs.stored.Stored.{IsStored, frame_at}
+use Rattle.base.specs.tree.Syncs.{written_places}
+use Rattle.base.proofs.tree.BuiltPlaces.{HasBytes, built-places, group-bytes}
+use Rattle.base.proofs.tree.UntouchedRecords.{writes_record}
+use Rattle.base.proofs.tree.WrittenRecords.{IsBuilt}
 use Rattle.space.specs.FreeSets.{addresses_from, free_of}
 use Rattle.space.proofs.FreeLists.{rising-free_of}
 use Rattle.tree_plans.specs.declared.planner.Committed.{Committed}

@@ -9,31 +9,31 @@ use Rattle.base.specs.declared.names.ObjectId.{ObjectId}
 use Rattle.base.specs.declared.operation.Op.{Op}
 use Rattle.base.specs.declared.operation.Op.TheVariants.{Create, Remove, Write, SetLength, SetName}
 use Rattle.base.specs.declared.pointer.Pointer.{Pointer}
-use Rattle.base.specs.Contents.{Contents, apply}
-use Rattle.base.specs.ExactNow.{IsExplainedNow}
-use Rattle.base.specs.History.{Entry, apply_all, entries_in, replay, run}
-use Rattle.base.specs.Limits.{max_length, object_count, record_size}
-use Rattle.base.specs.Logs.{KeptBlock, committed_of, has_record}
-use Rattle.base.specs.Past.{Past}
-use Rattle.base.specs.Places.{Place}
-use Rattle.base.specs.Places.Place.{Root}
-use Rattle.base.specs.PlannedTrees.{AreFreed, NewBlock}
-use Rattle.base.specs.Plans.{shape_of}
-use Rattle.base.specs.Records.{Record}
-use Rattle.base.specs.Sequences.{in_turn}
-use Rattle.base.specs.Shown.{Shown, SyncPlan}
-use Rattle.base.specs.Stage.{is_shape_built}
-use Rattle.base.specs.Steps.{ops_of_group}
-use Rattle.base.specs.Stored.{AreUsed, IsPlannedSync, IsStored, frame_at}
-use Rattle.base.specs.Syncs.{is_on}
-use Rattle.base.proofs.BuiltPlaces.{still-there, there-after}
-use Rattle.base.proofs.PlacedTrees.{absent-indirect}
-use Rattle.base.proofs.Sequences.{in_turn-append, parted}
-use Rattle.base.proofs.StoredCover.{All-passing, entry-built, group-follows}
-use Rattle.base.proofs.StoredStarts.{next-group}
-use Rattle.base.proofs.StoredTrees.{stored-births}
-use Rattle.base.proofs.UntouchedRecords.{LeavesObject, LeavesRecord, untouched-entry, untouched-stays, writes_record}
-use Rattle.base.proofs.WrittenRecords.{HasRecord, IsBuilt, written-record}
+use Rattle.base.specs.history.Contents.{Contents, apply}
+use Rattle.base.specs.steps.ExactNow.{IsExplainedNow}
+use Rattle.base.specs.history.History.{Entry, apply_all, entries_in, replay, run}
+use Rattle.base.specs.formats.Limits.{max_length, object_count, record_size}
+use Rattle.base.specs.steps.Logs.{KeptBlock, committed_of, has_record}
+use Rattle.base.specs.history.Past.{Past}
+use Rattle.base.specs.tree.Places.{Place}
+use Rattle.base.specs.tree.Places.Place.{Root}
+use Rattle.base.specs.tree.PlannedTrees.{AreFreed, NewBlock}
+use Rattle.base.specs.history.Plans.{shape_of}
+use Rattle.base.specs.formats.Records.{Record}
+use Rattle.base.specs.history.Sequences.{in_turn}
+use Rattle.base.specs.steps.Shown.{Shown, SyncPlan}
+use Rattle.base.specs.steps.Stage.{is_shape_built}
+use Rattle.base.specs.steps.Steps.{ops_of_group}
+use Rattle.base.specs.stored.Stored.{AreUsed, IsPlannedSync, IsStored, frame_at}
+use Rattle.base.specs.tree.Syncs.{is_on}
+use Rattle.base.proofs.tree.BuiltPlaces.{still-there, there-after}
+use Rattle.base.proofs.tree.PlacedTrees.{absent-indirect}
+use Rattle.base.proofs.common.Sequences.{in_turn-append, parted}
+use Rattle.base.proofs.stored.StoredCover.{All-passing, entry-built, group-follows}
+use Rattle.base.proofs.stored.StoredStarts.{next-group}
+use Rattle.base.proofs.stored.StoredTrees.{stored-births}
+use Rattle.base.proofs.tree.UntouchedRecords.{LeavesObject, LeavesRecord, untouched-entry, untouched-stays, writes_record}
+use Rattle.base.proofs.tree.WrittenRecords.{HasRecord, IsBuilt, written-record}
 use Rattle.tree_plans.specs.declared.planner.Committed.{Committed}
 use Rattle.tree_plans.specs.declared.planner.DirtyRecords.{DirtyRecords}
 use Rattle.tree_plans.specs.Changes.{AreBornBefore, AreChanges, HasNoOthers, IsCoveredBy}

@@ -10,11 +10,11 @@ use Rattle.std.specs.BTreeMap.{BTreeMap}
 use Rattle.base.specs.declared.error.PoolError.{PoolError}
 use Rattle.base.specs.declared.names.ObjectId.{ObjectId}
 use Rattle.base.specs.declared.pointer.Pointer.{Pointer}
-use Rattle.base.specs.Fields.{no_pointer}
+use Rattle.base.specs.formats.Fields.{no_pointer}
 use Rattle.std.proofs.Math.Logic.{∥∥₁_map}
-use Rattle.base.specs.PlacedTrees.{ArePlaced, IsPlaced}
-use Rattle.base.specs.Places.{Place}
-use Rattle.base.specs.Places.Place.{Root, Directory, Indirect, Data}
+use Rattle.base.specs.tree.PlacedTrees.{ArePlaced, IsPlaced}
+use Rattle.base.specs.tree.Places.{Place}
+use Rattle.base.specs.tree.Places.Place.{Root, Directory, Indirect, Data}
 use Rattle.object_maps.specs.declared.tree.ObjectMap.{ObjectMap}
 use Rattle.object_maps.specs.declared.tree.Tree.{Tree}
 use Rattle.object_maps.specs.Pointers as kept

@@ -3,13 +3,13 @@ use Rattle.std.proofs.Common.{ℕ, ◌≡◌, Bool, true, false, ◌||◌, List,
 use Rattle.std.specs.Prelude.{Some, None, Ok, Err}
 use Rattle.std.specs.FinMap as finite
 use Rattle.base.specs.declared.error.PoolError.TheVariants as error
-use Rattle.base.specs.Limits.{object_count}
-use Rattle.base.specs.Locks.{is_range_allowed, is_covered}
-use Rattle.base.specs.Plans.{NumberRange}
-use Rattle.base.specs.Refusals.{read_refusal}
-use Rattle.base.specs.Shown.{Shown}
-use Rattle.base.specs.Stage.{Read}
-use Rattle.base.specs.Steps.{bytes_in}
+use Rattle.base.specs.formats.Limits.{object_count}
+use Rattle.base.specs.steps.Locks.{is_range_allowed, is_covered}
+use Rattle.base.specs.history.Plans.{NumberRange}
+use Rattle.base.specs.steps.Refusals.{read_refusal}
+use Rattle.base.specs.steps.Shown.{Shown}
+use Rattle.base.specs.steps.Stage.{Read}
+use Rattle.base.specs.steps.Steps.{bytes_in}
 use Rattle.pool_core.specs.Meets.{Meets}
 
 abbrev pub is_unreadable : NumberRange → Bool

@@ -4,11 +4,11 @@ use Rattle.std.specs.Prelude.{Result, Ok, Err, MatchResult}
 use Rattle.base.specs.declared.error.PoolError.{PoolError}
 use Rattle.base.specs.declared.step.Reply.{Reply}
 use Rattle.base.specs.declared.step.Reply.TheVariants as reply
-use Rattle.base.specs.ExactNow.{IsExplainedNow}
-use Rattle.base.specs.Past.{Past}
-use Rattle.base.specs.Runs.{Replies}
-use Rattle.base.specs.Shown.{Shown}
-use Rattle.base.specs.Steps.{State}
+use Rattle.base.specs.steps.ExactNow.{IsExplainedNow}
+use Rattle.base.specs.history.Past.{Past}
+use Rattle.base.specs.steps.Runs.{Replies}
+use Rattle.base.specs.steps.Shown.{Shown}
+use Rattle.base.specs.steps.Steps.{State}
 use Rattle.pool_core.specs.Meets.{Meets, MeetsExplained}
 use Rattle.pool_core.specs.Tables.{result_map}
 

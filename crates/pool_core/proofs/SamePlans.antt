@@ -10,10 +10,10 @@ use Rattle.std.specs.List.{list_all, list_any}
 use Rattle.std.proofs.lemmas.Bool.{false≢true}
 use Rattle.std.proofs.lemmas.List.Elements.{All-head, All-tail}
 use Rattle.std.proofs.lemmas.List.Folds.{list_all_at, list_all-map}
-use Rattle.base.specs.Plans.{shape_of, is_shape_allowed, is_plan_allowed}
-use Rattle.base.specs.Stage.{is_shape_built, is_plan_built}
-use Rattle.base.proofs.CommitOrder.{and-true}
-use Rattle.base.specs.Syncs.{is_rename}
+use Rattle.base.specs.history.Plans.{shape_of, is_shape_allowed, is_plan_allowed}
+use Rattle.base.specs.steps.Stage.{is_shape_built, is_plan_built}
+use Rattle.base.proofs.history.CommitOrder.{and-true}
+use Rattle.base.specs.tree.Syncs.{is_rename}
 use Rattle.object_maps.specs.Ops.{AreOpsAllowed, IsOpAllowed}
 
 abbrev some_op : Op

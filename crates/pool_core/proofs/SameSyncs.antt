@@ -7,14 +7,14 @@ use Rattle.std.specs.Global.{Vec}
 use Rattle.base.specs.declared.error.PoolError.{PoolError}
 use Rattle.base.specs.declared.error.PoolError.TheVariants as error
 use Rattle.base.specs.declared.pointer.Pointer.{Pointer}
-use Rattle.base.specs.Geometry.{block_address}
-use Rattle.base.specs.SyncOrder.{DeviceCall}
-use Rattle.base.specs.SyncOrder.DeviceCall.{Block, Config, Uberblock, Flush}
-use Rattle.base.specs.Uberblocks.{Uberblock as Fields, IsUberblock}
+use Rattle.base.specs.formats.Geometry.{block_address}
+use Rattle.base.specs.disk.SyncOrder.{DeviceCall}
+use Rattle.base.specs.disk.SyncOrder.DeviceCall.{Block, Config, Uberblock, Flush}
+use Rattle.base.specs.formats.Uberblocks.{Uberblock as Fields, IsUberblock}
 use Rattle.sync.specs.Calls.{refusal_of}
 use Rattle.tree_plans.specs.declared.planner.PlannedBlock.{PlannedBlock}
-use Rattle.base.specs.Places.{IsPlace, Place}
-use Rattle.base.specs.PlacedTrees.{ArePlaced, IsPlaced}
+use Rattle.base.specs.tree.Places.{IsPlace, Place}
+use Rattle.base.specs.tree.PlacedTrees.{ArePlaced, IsPlaced}
 use Rattle.sync.specs.declared.run.SyncRun.{SyncRun}
 use Rattle.pool_core.specs.declared.pool.RunningSync.{RunningSync}
 use Rattle.sync.specs.Runs.{SameSync, call_count, other_calls}

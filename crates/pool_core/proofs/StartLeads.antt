@@ -5,14 +5,14 @@ use Rattle.std.specs.BTreeMap.{BTreeMap}
 use Rattle.std.specs.Global.{Vec}
 use Rattle.base.specs.declared.names.ObjectId.{ObjectId}
 use Rattle.base.specs.declared.pointer.Pointer.{Pointer}
-use Rattle.base.specs.Past.{Past}
-use Rattle.base.specs.Places.{Place, has_block}
-use Rattle.base.specs.PlannedTrees.{AreFreed, NewBlock}
-use Rattle.base.specs.Shown.{SyncPlan}
-use Rattle.base.specs.Steps.{TakesForEach, ops_of_group}
-use Rattle.base.specs.Stored.{AreUsed, IsHeld, IsPlannedSync, frame_at}
-use Rattle.base.specs.Syncs.{written_places}
-use Rattle.base.proofs.KeptGroups.{none_there, quiesced_is}
+use Rattle.base.specs.history.Past.{Past}
+use Rattle.base.specs.tree.Places.{Place, has_block}
+use Rattle.base.specs.tree.PlannedTrees.{AreFreed, NewBlock}
+use Rattle.base.specs.steps.Shown.{SyncPlan}
+use Rattle.base.specs.steps.Steps.{TakesForEach, ops_of_group}
+use Rattle.base.specs.stored.Stored.{AreUsed, IsHeld, IsPlannedSync, frame_at}
+use Rattle.base.specs.tree.Syncs.{written_places}
+use Rattle.base.proofs.steps.KeptGroups.{none_there, quiesced_is}
 use Rattle.object_maps.specs.declared.tree.ObjectMap.{ObjectMap}
 use Rattle.object_maps.specs.declared.tree.Tree.{Tree}
 use Rattle.object_maps.specs.ContentsShown.{contents_of}

@@ -9,19 +9,19 @@ use Rattle.std.proofs.lemmas.List.Elements.{All-cons, All-head, All-tail}
 use Rattle.std.proofs.lemmas.List.Folds.{list_any-append}
 use Rattle.base.specs.declared.error.PoolError.{PoolError}
 use Rattle.base.specs.declared.error.PoolError.TheVariants as error
-use Rattle.base.specs.ExactNow.{IsExplainedNow}
-use Rattle.base.specs.Groups.{Line, Middle, IsLine, before_middle}
-use Rattle.base.specs.History.{Entry, entries_in}
-use Rattle.base.specs.Logs.{KeptBlock, committed_of, has_record, header_at, header_for, reaches_above}
-use Rattle.base.specs.Past.{Past}
-use Rattle.base.specs.Records.{Record}
-use Rattle.base.specs.Refusals.{quiesced_group, start_refusal}
-use Rattle.base.specs.Shown.{Shown, SyncPlan}
-use Rattle.base.specs.Stage.{StartSync}
-use Rattle.base.specs.Steps.{IsPlanned, TakesForEach, lowest_free, ops_of_group, State}
-use Rattle.base.specs.Syncs.{is_rename, other_step_count}
-use Rattle.base.proofs.KeptGroups.{quiesced_is}
-use Rattle.base.specs.Rising.{rising}
+use Rattle.base.specs.steps.ExactNow.{IsExplainedNow}
+use Rattle.base.specs.steps.Groups.{Line, Middle, IsLine, before_middle}
+use Rattle.base.specs.history.History.{Entry, entries_in}
+use Rattle.base.specs.steps.Logs.{KeptBlock, committed_of, has_record, header_at, header_for, reaches_above}
+use Rattle.base.specs.history.Past.{Past}
+use Rattle.base.specs.formats.Records.{Record}
+use Rattle.base.specs.steps.Refusals.{quiesced_group, start_refusal}
+use Rattle.base.specs.steps.Shown.{Shown, SyncPlan}
+use Rattle.base.specs.steps.Stage.{StartSync}
+use Rattle.base.specs.steps.Steps.{IsPlanned, TakesForEach, lowest_free, ops_of_group, State}
+use Rattle.base.specs.tree.Syncs.{is_rename, other_step_count}
+use Rattle.base.proofs.steps.KeptGroups.{quiesced_is}
+use Rattle.base.specs.common.Rising.{rising}
 use Rattle.space.specs.FreeSets.{addresses_from, free_of}
 use Rattle.space.proofs.FreeLists.{rising-free_of}
 use Rattle.tree_plans.specs.declared.planner.Committed.{Committed}

@@ -8,8 +8,8 @@ use Rattle.base.specs.declared.step.Step as declared_step
 use Rattle.base.specs.declared.step.Step.TheVariants as step
 use Rattle.base.specs.declared.step.Reply as declared_reply
 use Rattle.base.specs.declared.step.Reply.TheVariants as reply
-use Rattle.base.specs.Disk.{Disk, bytes_of}
-use Rattle.base.specs.Stage as stage
+use Rattle.base.specs.disk.Disk.{Disk, bytes_of}
+use Rattle.base.specs.steps.Stage as stage
 use Rattle.pool_core.specs.declared.pool.Pool.{Pool}
 use Rattle.pool_core.specs.Holds.{MeetsHeld, StepsOver, Told}
 use Rattle.pool_core.specs.Shows.{shown_of}

@@ -8,17 +8,17 @@ use Rattle.base.specs.declared.error.PoolError.{PoolError}
 use Rattle.base.specs.declared.pointer.Pointer.{Pointer}
 use Rattle.base.specs.declared.step.Reply.TheVariants as reply
 use Rattle.base.specs.declared.names.Group.{Group}
-use Rattle.base.specs.Disk.{Disk, bytes_of, put}
-use Rattle.base.specs.Geometry.{slot_of, slot_place}
-use Rattle.base.specs.Places.{Place}
-use Rattle.base.specs.PlannedTrees.{NewBlock}
-use Rattle.base.specs.Stored.{Advances, NewTree, total_calls}
-use Rattle.base.specs.SyncCalls.PoolCall.{Put, Settle}
-use Rattle.base.specs.SyncOrder.{DeviceCall, calls_in_order}
-use Rattle.base.specs.SyncOrder.DeviceCall.{Block, Config, Uberblock, Flush}
-use Rattle.base.proofs.BusyLocks.{Some-injective}
-use Rattle.base.proofs.KeptLists.{at_within}
-use Rattle.base.proofs.Regions.{flushed_clean}
+use Rattle.base.specs.disk.Disk.{Disk, bytes_of, put}
+use Rattle.base.specs.formats.Geometry.{slot_of, slot_place}
+use Rattle.base.specs.tree.Places.{Place}
+use Rattle.base.specs.tree.PlannedTrees.{NewBlock}
+use Rattle.base.specs.stored.Stored.{Advances, NewTree, total_calls}
+use Rattle.base.specs.crash.SyncCalls.PoolCall.{Put, Settle}
+use Rattle.base.specs.disk.SyncOrder.{DeviceCall, calls_in_order}
+use Rattle.base.specs.disk.SyncOrder.DeviceCall.{Block, Config, Uberblock, Flush}
+use Rattle.base.proofs.steps.BusyLocks.{Some-injective}
+use Rattle.base.proofs.common.KeptLists.{at_within}
+use Rattle.base.proofs.disk.Regions.{flushed_clean}
 use Rattle.sync.specs.declared.run.LabelStages.{LabelStages}
 use Rattle.sync.specs.declared.run.SyncRun.{SyncRun}
 use Rattle.sync.specs.Calls.{IsNextCall, MakesCall, Target, WritesTarget, block_target, first_labels, last_labels, target_of}

@@ -9,13 +9,13 @@ use Rattle.std.proofs.lemmas.Cmp.{nat_cmp_total}
 use Rattle.std.proofs.lemmas.List.{append-nil}
 use Rattle.base.specs.declared.error.PoolError.{PoolError}
 use Rattle.base.specs.declared.error.PoolError.TheVariants as error
-use Rattle.base.specs.Logs.{KeptBlock, blocks_before}
-use Rattle.base.specs.Records.{Record}
-use Rattle.base.specs.Refusals.{sync_step_refusal}
-use Rattle.base.specs.Shown.{Shown, SyncPlan}
-use Rattle.base.specs.Past.{Past, ordinals_of}
-use Rattle.base.specs.Steps.{State, SyncStep, returned_addresses, state_after_sync}
-use Rattle.base.specs.Steps.Progress.{More, Synced}
+use Rattle.base.specs.steps.Logs.{KeptBlock, blocks_before}
+use Rattle.base.specs.formats.Records.{Record}
+use Rattle.base.specs.steps.Refusals.{sync_step_refusal}
+use Rattle.base.specs.steps.Shown.{Shown, SyncPlan}
+use Rattle.base.specs.history.Past.{Past, ordinals_of}
+use Rattle.base.specs.steps.Steps.{State, SyncStep, returned_addresses, state_after_sync}
+use Rattle.base.specs.steps.Steps.Progress.{More, Synced}
 use Rattle.pool_core.specs.Meets.{Meets}
 
 pub step_suspended : (s : Shown) → s.suspended ≡ true → Meets SyncStep (Err error.Suspended) s s

@@ -3,11 +3,11 @@ use Rattle.std.proofs.Common.{◌≡◌, false, [], subst}
 use Rattle.base.specs.declared.step.Step as declared_step
 use Rattle.base.specs.declared.step.Step.TheVariants as step
 use Rattle.base.specs.declared.step.Reply as declared_reply
-use Rattle.base.specs.ExactNow.{IsExplainedNow}
-use Rattle.base.specs.Past.{Past}
-use Rattle.base.specs.Stored.{IsHeld}
-use Rattle.base.proofs.Additions.{told_past}
-use Rattle.base.proofs.KeptTables.{steps_keep_tables}
+use Rattle.base.specs.steps.ExactNow.{IsExplainedNow}
+use Rattle.base.specs.history.Past.{Past}
+use Rattle.base.specs.stored.Stored.{IsHeld}
+use Rattle.base.proofs.steps.Additions.{told_past}
+use Rattle.base.proofs.steps.KeptTables.{steps_keep_tables}
 use Rattle.pool_core.specs.Holds.{IsStepOver, Leads, StepsOver, Told, held_with}
 use Rattle.pool_core.specs.StepReplies.{IsStep, StepReplies}
 use Rattle.pool_core.specs.Turns.{Turns, held_after, state_after, state_with}

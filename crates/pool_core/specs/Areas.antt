@@ -1,6 +1,6 @@
 -- Addresses of blocks, by a test.
 use Rattle.std.specs.Prelude.{ℕ, ◌-◌, ◌/◌, ◌%◌, ◌==◌, ◌&&◌, Bool, nat_le, nat_lt}
-use Rattle.base.specs.Geometry.{block_area, block_size}
+use Rattle.base.specs.formats.Geometry.{block_area, block_size}
 
 -- whether this is the address of one of so many blocks
 abbrev pub is_block_of : ℕ → ℕ → Bool

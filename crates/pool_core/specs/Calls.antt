@@ -6,9 +6,9 @@ use Rattle.base.specs.declared.step.Step as declared_step
 use Rattle.base.specs.declared.step.Step.TheVariants as step
 use Rattle.base.specs.declared.step.Reply as declared_reply
 use Rattle.base.specs.declared.step.Reply.TheVariants as reply
-use Rattle.base.specs.Calls.{counted}
-use Rattle.base.specs.Disk.{Disk}
-use Rattle.base.specs.SyncOrder.{DeviceCall}
+use Rattle.base.specs.disk.Calls.{counted}
+use Rattle.base.specs.disk.Disk.{Disk}
+use Rattle.base.specs.disk.SyncOrder.{DeviceCall}
 use Rattle.sync.specs.declared.run.SyncRun.{SyncRun}
 use Rattle.sync.specs.Calls.{IsNextCall, MakesCall, refusal_of}
 use Rattle.pool_core.specs.declared.pool.Pool.{Pool}

@@ -2,10 +2,10 @@
 use Rattle.std.specs.Prelude.{List}
 use Rattle.base.specs.declared.step.Step as declared_step
 use Rattle.base.specs.declared.step.Reply as declared_reply
-use Rattle.base.specs.ExactNow.{IsExplainedNow}
-use Rattle.base.specs.Past.{Past}
-use Rattle.base.specs.Runs.{Run}
-use Rattle.base.specs.Shown.{Shown}
+use Rattle.base.specs.steps.ExactNow.{IsExplainedNow}
+use Rattle.base.specs.history.Past.{Past}
+use Rattle.base.specs.steps.Runs.{Run}
+use Rattle.base.specs.steps.Shown.{Shown}
 use Rattle.pool_core.specs.StepReplies.{IsStep}
 
 -- whatever past explained what was shown, the steps with these replies are a run of the definitions to a later past, which explains what is shown then

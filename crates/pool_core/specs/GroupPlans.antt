@@ -4,10 +4,10 @@ use Rattle.std.specs.Ordering.{nat_cmp}
 use Rattle.std.specs.FinMap.{FinMap}
 use Rattle.base.specs.declared.names.ObjectId.{ObjectId}
 use Rattle.base.specs.declared.pointer.Pointer.{Pointer}
-use Rattle.base.specs.Blocks.{Frame}
-use Rattle.base.specs.Places.{Place}
-use Rattle.base.specs.PlannedPlaces.{written_by}
-use Rattle.base.specs.PlannedTrees.{IsTreePlan, NewBlock}
+use Rattle.base.specs.formats.Blocks.{Frame}
+use Rattle.base.specs.tree.Places.{Place}
+use Rattle.base.specs.tree.PlannedPlaces.{written_by}
+use Rattle.base.specs.tree.PlannedTrees.{IsTreePlan, NewBlock}
 use Rattle.space.specs.FreeSets.{addresses_from}
 use Rattle.tree_plans.specs.declared.planner.Committed.{Committed}
 use Rattle.tree_plans.specs.declared.planner.DirtyRecords.{DirtyRecords}

@@ -6,18 +6,18 @@ use Rattle.base.specs.declared.pointer.Pointer.{Pointer}
 use Rattle.base.specs.declared.step.Step as declared_step
 use Rattle.base.specs.declared.step.Reply as declared_reply
 use Rattle.base.specs.declared.step.Reply.TheVariants as reply
-use Rattle.base.specs.Contents.{Contents}
-use Rattle.base.specs.History.{entries_up_to, replay}
-use Rattle.base.specs.Past.{Past}
-use Rattle.base.specs.Places.{Place, IsPlace, has_block}
-use Rattle.base.specs.Refusals.{quiesced_group}
-use Rattle.base.specs.Rising.{rising}
-use Rattle.base.specs.Runs as runs
-use Rattle.base.specs.Runs.{Run, progress_reply, reply_of}
-use Rattle.base.specs.Shown.{Shown, SyncPlan}
-use Rattle.base.specs.Steps.{State, ops_of_group}
-use Rattle.base.specs.Stored.{Held, IsHeld, Moves, NewTree}
-use Rattle.base.specs.Syncs.{written_places}
+use Rattle.base.specs.history.Contents.{Contents}
+use Rattle.base.specs.history.History.{entries_up_to, replay}
+use Rattle.base.specs.history.Past.{Past}
+use Rattle.base.specs.tree.Places.{Place, IsPlace, has_block}
+use Rattle.base.specs.steps.Refusals.{quiesced_group}
+use Rattle.base.specs.common.Rising.{rising}
+use Rattle.base.specs.steps.Runs as runs
+use Rattle.base.specs.steps.Runs.{Run, progress_reply, reply_of}
+use Rattle.base.specs.steps.Shown.{Shown, SyncPlan}
+use Rattle.base.specs.steps.Steps.{State, ops_of_group}
+use Rattle.base.specs.stored.Stored.{Held, IsHeld, Moves, NewTree}
+use Rattle.base.specs.tree.Syncs.{written_places}
 use Rattle.object_maps.specs.declared.tree.Tree.{Tree}
 use Rattle.object_maps.specs.Pointers.{pointers_of}
 use Rattle.sync.specs.declared.run.SyncRun.{SyncRun}

@@ -1,9 +1,9 @@
 -- The line of groups as definitions speak of it.
 use Rattle.std.specs.Prelude.{ℕ, ◌≡◌, ◌||◌, Bool, true, false, Some, option_map, is_some, is_none, nat_le}
-use Rattle.base.specs.Limits.{last_number}
-use Rattle.base.specs.Refusals.{quiesced_group}
-use Rattle.base.specs.Groups as line
-use Rattle.base.specs.Groups.{Line}
+use Rattle.base.specs.formats.Limits.{last_number}
+use Rattle.base.specs.steps.Refusals.{quiesced_group}
+use Rattle.base.specs.steps.Groups as line
+use Rattle.base.specs.steps.Groups.{Line}
 use Rattle.pool_core.specs.declared.groups.Middle.{Middle}
 use Rattle.pool_core.specs.declared.groups.Groups.{Groups}
 

@@ -2,15 +2,15 @@
 use Rattle.std.specs.Prelude.{ℕ, ◌≡◌, List, Result, Ok, Some, None}
 use Rattle.base.specs.declared.error.PoolError.{PoolError}
 use Rattle.base.specs.declared.operation.Op.{Op}
-use Rattle.base.specs.Contents.{Contents}
-use Rattle.base.specs.ExactNow.{IsExplainedNow}
-use Rattle.base.specs.Groups.{Admission}
-use Rattle.base.specs.History.{apply_all}
-use Rattle.base.specs.Past.{Past}
-use Rattle.base.specs.Refusals.{transaction_of}
-use Rattle.base.specs.Shown.{Shown}
-use Rattle.base.specs.Stage.{commit_refusal}
-use Rattle.base.specs.Steps.{State}
+use Rattle.base.specs.history.Contents.{Contents}
+use Rattle.base.specs.steps.ExactNow.{IsExplainedNow}
+use Rattle.base.specs.steps.Groups.{Admission}
+use Rattle.base.specs.history.History.{apply_all}
+use Rattle.base.specs.history.Past.{Past}
+use Rattle.base.specs.steps.Refusals.{transaction_of}
+use Rattle.base.specs.steps.Shown.{Shown}
+use Rattle.base.specs.steps.Stage.{commit_refusal}
+use Rattle.base.specs.steps.Steps.{State}
 
 -- whatever the past of a run, the step leads with this answer from what was shown before to what is shown after, and to a later past
 abbrev pub Meets : {A : Type 0} → (Result A PoolError → State → State → Type 0) → Result A PoolError → Shown → Shown → Type 0

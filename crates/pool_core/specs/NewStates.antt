@@ -1,8 +1,8 @@
 -- The past of a pool that an import gave.
 use Rattle.std.specs.Prelude.{ℕ}
-use Rattle.base.specs.ExactNow.{IsExplainedNow}
-use Rattle.base.specs.Past.{Past, new_past}
-use Rattle.base.specs.Stored.{IsHeld}
+use Rattle.base.specs.steps.ExactNow.{IsExplainedNow}
+use Rattle.base.specs.history.Past.{Past, new_past}
+use Rattle.base.specs.stored.Stored.{IsHeld}
 use Rattle.object_maps.specs.ContentsShown.{contents_of}
 use Rattle.pool_core.specs.declared.pool.Pool.{Pool}
 use Rattle.pool_core.specs.Holds.{Told, held_with}

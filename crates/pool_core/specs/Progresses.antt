@@ -1,6 +1,6 @@
 -- What a step of a sync answers, as definitions speak of it.
-use Rattle.base.specs.Steps as steps
-use Rattle.base.specs.Steps.Progress.{More as more, Synced as synced}
+use Rattle.base.specs.steps.Steps as steps
+use Rattle.base.specs.steps.Steps.Progress.{More as more, Synced as synced}
 use Rattle.pool_core.specs.declared.state.Progress.{Progress}
 use Rattle.pool_core.specs.declared.state.Progress.TheVariants.{More, Synced}
 

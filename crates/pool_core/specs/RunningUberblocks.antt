@@ -1,9 +1,9 @@
 -- The uberblock that a running sync writes into the labels.
 use Rattle.std.specs.Prelude.{ℕ, ◌≡◌}
 use Rattle.base.specs.declared.pointer.Pointer.{Pointer}
-use Rattle.base.specs.Geometry.{slot_of}
-use Rattle.base.specs.Versions.{written_version}
-use Rattle.base.specs.Uberblocks.{Uberblock, IsUberblock}
+use Rattle.base.specs.formats.Geometry.{slot_of}
+use Rattle.base.specs.formats.Versions.{written_version}
+use Rattle.base.specs.formats.Uberblocks.{Uberblock, IsUberblock}
 use Rattle.sync.specs.declared.run.SyncRun.{SyncRun}
 
 -- of a pool with this guid, import number and next log block, that of a sync of this group with this moment and root

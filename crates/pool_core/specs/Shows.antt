@@ -3,12 +3,12 @@ use Rattle.std.specs.Prelude.{ℕ, ◌-◌, ◌+◌, List, [], filter, length, m
 use Rattle.std.specs.FinMap as finite
 use Rattle.std.specs.FinSet as set
 use Rattle.base.specs.declared.pointer.Pointer.{Pointer}
-use Rattle.base.specs.Locks.{Grant}
-use Rattle.base.specs.Groups.{Admission}
-use Rattle.base.specs.Geometry.{block_address, block_count}
-use Rattle.base.specs.Records.{Record}
-use Rattle.base.specs.Logs.{Log}
-use Rattle.base.specs.Shown.{Shown, SyncPlan}
+use Rattle.base.specs.steps.Locks.{Grant}
+use Rattle.base.specs.steps.Groups.{Admission}
+use Rattle.base.specs.formats.Geometry.{block_address, block_count}
+use Rattle.base.specs.formats.Records.{Record}
+use Rattle.base.specs.steps.Logs.{Log}
+use Rattle.base.specs.steps.Shown.{Shown, SyncPlan}
 use Rattle.space.specs.FreeSets.{free_of}
 use Rattle.pool_core.specs.Targets.{target_of}
 use Rattle.object_maps.specs.ContentsShown.{contents_of}

@@ -3,11 +3,11 @@ use Rattle.std.specs.Prelude.{[]}
 use Rattle.base.specs.declared.step.Step as declared_step
 use Rattle.base.specs.declared.step.Step.TheVariants as step
 use Rattle.base.specs.declared.step.Reply as declared_reply
-use Rattle.base.specs.ExactNow.{IsExplainedNow}
-use Rattle.base.specs.Past.{Past}
-use Rattle.base.specs.Runs as runs
-use Rattle.base.specs.Shown.{Shown}
-use Rattle.base.specs.Steps.{State}
+use Rattle.base.specs.steps.ExactNow.{IsExplainedNow}
+use Rattle.base.specs.history.Past.{Past}
+use Rattle.base.specs.steps.Runs as runs
+use Rattle.base.specs.steps.Shown.{Shown}
+use Rattle.base.specs.steps.Steps.{State}
 
 -- a step with its reply, from a state to the next one, over a device of which nothing is known: it says nothing of the blocks that the
 -- device has

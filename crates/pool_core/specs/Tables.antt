@@ -3,10 +3,10 @@ use Rattle.std.specs.Prelude.{ℕ, ◌≡◌, ◌+◌, ◌||◌, List, [], ◌�
 use Rattle.base.specs.declared.error.PoolError.{PoolError}
 use Rattle.base.specs.declared.error.PoolError.TheVariants as error
 use Rattle.base.specs.declared.range.Mode.{Mode}
-use Rattle.base.specs.Limits.{max_locks, last_number}
-use Rattle.base.specs.Plans.{NumberRange}
-use Rattle.base.specs.Locks.{Grant, is_blocked}
-use Rattle.base.specs.Refusals.{refused_if, first_refusal}
+use Rattle.base.specs.formats.Limits.{max_locks, last_number}
+use Rattle.base.specs.history.Plans.{NumberRange}
+use Rattle.base.specs.steps.Locks.{Grant, is_blocked}
+use Rattle.base.specs.steps.Refusals.{refused_if, first_refusal}
 
 abbrev pub result_map : {A B : Type 0} → (A → B) → Result A PoolError → Result B PoolError
 result_map f (Ok a) = Ok (f a)

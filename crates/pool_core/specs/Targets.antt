@@ -2,8 +2,8 @@
 use Rattle.std.specs.Prelude.{◌+◌, ◌-◌, ◌^◌, min}
 use Rattle.base.specs.declared.operation.Shape.{Shape}
 use Rattle.base.specs.declared.operation.Shape.TheVariants as shape
-use Rattle.base.specs.Limits.{name_number}
-use Rattle.base.specs.Plans.{NumberRange, whole_range}
+use Rattle.base.specs.formats.Limits.{name_number}
+use Rattle.base.specs.history.Plans.{NumberRange, whole_range}
 use Rattle.pool_core.specs.declared.range_locks.ObjectRange.{ObjectRange}
 
 abbrev pub target_of : ObjectRange → NumberRange

@@ -3,13 +3,13 @@ use Rattle.std.specs.Prelude.{◌≡◌}
 use Rattle.base.specs.declared.refused.RefusedCalls.{RefusedCalls}
 use Rattle.base.specs.declared.step.Step as declared_step
 use Rattle.base.specs.declared.step.Reply as declared_reply
-use Rattle.base.specs.Additions.{past_after}
-use Rattle.base.specs.Calls.{counted}
-use Rattle.base.specs.Disk.{Disk, bytes_of}
-use Rattle.base.specs.ExactNow.{IsExplainedNow}
-use Rattle.base.specs.Past.{Past}
-use Rattle.base.specs.Steps.{State}
-use Rattle.base.specs.Stored.{Held, IsHeld}
+use Rattle.base.specs.steps.Additions.{past_after}
+use Rattle.base.specs.disk.Calls.{counted}
+use Rattle.base.specs.disk.Disk.{Disk, bytes_of}
+use Rattle.base.specs.steps.ExactNow.{IsExplainedNow}
+use Rattle.base.specs.history.Past.{Past}
+use Rattle.base.specs.steps.Steps.{State}
+use Rattle.base.specs.stored.Stored.{Held, IsHeld}
 use Rattle.pool_core.specs.declared.pool.Pool.{Pool}
 use Rattle.pool_core.specs.Calls.{Calls, answer_of}
 use Rattle.pool_core.specs.Holds.{IsStepOver, Leads, Told, held_with, told_of}

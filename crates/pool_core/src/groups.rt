@@ -3,9 +3,9 @@
 
 ghost use Rattle.std.specs.Prelude.{◌≡◌, ◌<◌, ◌≤◌, ◌+◌, ◌^◌, true, false, IfErr, IfOk, None, option_map};
 ghost use Rattle.std.specs.Option.{ForSome};
-ghost use Rattle.base.specs.Refusals.{quiesced_group, quiescing_group};
-ghost use Rattle.base.specs.Stage.{has_older_group};
-ghost use Rattle.base.specs.Steps.{line_after_close, line_after_quiesce};
+ghost use Rattle.base.specs.steps.Refusals.{quiesced_group, quiescing_group};
+ghost use Rattle.base.specs.steps.Stage.{has_older_group};
+ghost use Rattle.base.specs.steps.Steps.{line_after_close, line_after_quiesce};
 ghost use Rattle.pool_core.specs.Numbers.{IsGroup};
 
 use base::{Group, LAST_NUMBER, PoolError};

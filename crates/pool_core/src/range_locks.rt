@@ -3,8 +3,8 @@
 ghost use Rattle.std.specs.Prelude.{[], ◌≤◌, ◌<◌, ◌+◌, ◌^◌, ◌≡◌, IfSome, IsTrue, vec_len};
 ghost use Rattle.std.specs.Prelude.{◌&&◌, ◌==◌, filter, not};
 ghost use Rattle.std.specs.List.{find, list_any};
-ghost use Rattle.base.specs.Locks as locks;
-ghost use Rattle.base.specs.Plans.{lies_in, overlaps};
+ghost use Rattle.base.specs.steps.Locks as locks;
+ghost use Rattle.base.specs.history.Plans.{lies_in, overlaps};
 ghost use Rattle.pool_core.specs.declared.range_locks.HeldLock.{HeldLock};
 ghost use Rattle.pool_core.specs.Targets.{target_of};
 
@@ -64,7 +64,7 @@ pub struct RangeLocks {
 impl RangeLocks {
     ghost use Rattle.std.specs.Prelude.{◌&&◌, ◌==◌, filter, map, not, option_map};
     ghost use Rattle.std.specs.List.{find};
-    ghost use Rattle.base.specs.Locks.{Grant, is_covered, is_covered_for_writing};
+    ghost use Rattle.base.specs.steps.Locks.{Grant, is_covered, is_covered_for_writing};
     ghost use Rattle.pool_core.specs.Shows.{grant_of};
     ghost use Rattle.pool_core.specs.Tables.{Locks, result_map};
 

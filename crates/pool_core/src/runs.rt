@@ -2,8 +2,8 @@
 
 ghost use Rattle.std.specs.Prelude.{◌≡◌, IfErr, IfOk, IsTrue, MatchResult, OnErr, vec_len};
 ghost use Rattle.std.specs.Result.{ForOk};
-ghost use Rattle.base.specs.Calls.{counted};
-ghost use Rattle.base.specs.Runs.{Run};
+ghost use Rattle.base.specs.disk.Calls.{counted};
+ghost use Rattle.base.specs.steps.Runs.{Run};
 ghost use Rattle.pool_core.specs.Calls.{Calls, answer_of, counted_in_turn};
 ghost use Rattle.pool_core.specs.ExplainedRuns.{RunsOn};
 ghost use Rattle.pool_core.specs.Holds.{HoldsOn, Leads};

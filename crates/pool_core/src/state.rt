@@ -1,11 +1,11 @@
 //! A running pool on its device, and each of its steps.
 
 ghost use Rattle.std.specs.Prelude.{◌≡◌, [], IfErr, IfOk, IsTrue};
-ghost use Rattle.base.specs.Past.{Past};
-ghost use Rattle.base.specs.Refusals.{object_range};
-ghost use Rattle.base.specs.Stage as stage;
-ghost use Rattle.base.specs.Steps as steps;
-ghost use Rattle.base.specs.Stored.{IsHeld};
+ghost use Rattle.base.specs.history.Past.{Past};
+ghost use Rattle.base.specs.steps.Refusals.{object_range};
+ghost use Rattle.base.specs.steps.Stage as stage;
+ghost use Rattle.base.specs.steps.Steps as steps;
+ghost use Rattle.base.specs.stored.Stored.{IsHeld};
 ghost use Rattle.base.specs.declared.names.Receipt.{Receipt};
 
 use crate::pool::Pool;
@@ -39,8 +39,8 @@ pub struct PoolState<D: SectorDevice> {
 impl<D: SectorDevice> PoolState<D> {
     ghost use Rattle.import_replay.specs.Mounts.{shown_of_import};
     ghost use Rattle.std.specs.Prelude.{ℕ, List};
-    ghost use Rattle.base.specs.Disk.{bytes_of};
-    ghost use Rattle.base.specs.Calls.{counted};
+    ghost use Rattle.base.specs.disk.Disk.{bytes_of};
+    ghost use Rattle.base.specs.disk.Calls.{counted};
     ghost use Rattle.sync.specs.Calls.{plain_answer};
     ghost use Rattle.pool_core.specs.Calls.{CallsNext};
     ghost use Rattle.pool_core.specs.Holds.{LacksBlocks, Leads, MeetsHeld, TakesInOrder, held_with, start_reply, sync_reply, told_of};

@@ -2,12 +2,12 @@
 
 ghost use Rattle.std.specs.Prelude.{◌≡◌, ◌↔◌, ◌+◌, ◌-◌, ◌^◌, ◌==◌, ◌&&◌, IsTrue, filter, map, min, nat_le, nat_lt, not, option_map};
 ghost use Rattle.std.specs.List.{find, list_all, list_any};
-ghost use Rattle.base.specs.Limits.{max_length, max_log_record};
-ghost use Rattle.base.specs.Locks as locks;
-ghost use Rattle.base.specs.Plans as plans;
-ghost use Rattle.base.specs.Plans.{lies_in, overlaps, shape_of};
-ghost use Rattle.base.specs.Stage as stage;
-ghost use Rattle.base.specs.Stage.{is_plan_built};
+ghost use Rattle.base.specs.formats.Limits.{max_length, max_log_record};
+ghost use Rattle.base.specs.steps.Locks as locks;
+ghost use Rattle.base.specs.history.Plans as plans;
+ghost use Rattle.base.specs.history.Plans.{lies_in, overlaps, shape_of};
+ghost use Rattle.base.specs.steps.Stage as stage;
+ghost use Rattle.base.specs.steps.Stage.{is_plan_built};
 ghost use Rattle.pool_core.specs.Targets.{kept_range_of, target_of};
 ghost use Rattle.pool_core.specs.declared.transactions.OpenTransaction.{OpenTransaction};
 

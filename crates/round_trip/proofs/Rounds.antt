@@ -5,20 +5,20 @@ use Rattle.base.specs.declared.refused.RefusedCalls.{RefusedCalls}
 use Rattle.base.specs.declared.step.Step as declared_step
 use Rattle.base.specs.declared.step.Reply as declared_reply
 use Rattle.base.specs.declared.step.Reply.TheVariants as reply
-use Rattle.base.specs.Additions.{past_after}
-use Rattle.base.specs.Contents.{Contents}
-use Rattle.base.specs.Disk.{Disk, bytes_of}
-use Rattle.base.specs.History.{Entry, entries_up_to, replay}
-use Rattle.base.specs.HeldMounts.{MountsUpTo}
-use Rattle.base.specs.Mount.{IsChainOf}
-use Rattle.base.specs.Past.{Past, new_past}
-use Rattle.base.specs.Runs.{Run}
-use Rattle.base.specs.ShownLabels.{HasNoLogBlock}
-use Rattle.base.specs.Stored.{Held, IsHeld}
-use Rattle.base.specs.Uberblocks.{Uberblock}
-use Rattle.base.proofs.Additions.{runs_grow}
-use Rattle.base.proofs.HeldMounts.{held_mounts, steps_write_no_log}
-use Rattle.base.proofs.StoredSyncs.{up_to-all}
+use Rattle.base.specs.steps.Additions.{past_after}
+use Rattle.base.specs.history.Contents.{Contents}
+use Rattle.base.specs.disk.Disk.{Disk, bytes_of}
+use Rattle.base.specs.history.History.{Entry, entries_up_to, replay}
+use Rattle.base.specs.stored.HeldMounts.{MountsUpTo}
+use Rattle.base.specs.crash.Mount.{IsChainOf}
+use Rattle.base.specs.history.Past.{Past, new_past}
+use Rattle.base.specs.steps.Runs.{Run}
+use Rattle.base.specs.stored.ShownLabels.{HasNoLogBlock}
+use Rattle.base.specs.stored.Stored.{Held, IsHeld}
+use Rattle.base.specs.formats.Uberblocks.{Uberblock}
+use Rattle.base.proofs.steps.Additions.{runs_grow}
+use Rattle.base.proofs.stored.HeldMounts.{held_mounts, steps_write_no_log}
+use Rattle.base.proofs.stored.StoredSyncs.{up_to-all}
 use Rattle.pool_core.specs.declared.pool.Pool.{Pool}
 use Rattle.pool_core.specs.Holds.{KeepsHeld, Leads, Told, held_with}
 use Rattle.pool_core.specs.Turns.{MakesStep, state_after, state_with, told_on}

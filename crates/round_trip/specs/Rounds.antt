@@ -3,13 +3,13 @@ use Rattle.std.specs.Prelude.{ℕ, ◌≡◌, ◌⊎◌, List, Ok, None, Some}
 use Rattle.std.specs.FinMap as finite
 use Rattle.base.specs.declared.step.Step as declared_step
 use Rattle.base.specs.declared.step.Reply as declared_reply
-use Rattle.base.specs.Contents.{Contents}
-use Rattle.base.specs.History.{entries_up_to, replay}
-use Rattle.base.specs.Mount.{MountsTo}
-use Rattle.base.specs.Past.{new_past}
-use Rattle.base.specs.Runs.{Run}
-use Rattle.base.specs.ShownLabels.{HasNoLogBlock}
-use Rattle.base.specs.Stored.{AreUpTo, Held, IsHeld}
+use Rattle.base.specs.history.Contents.{Contents}
+use Rattle.base.specs.history.History.{entries_up_to, replay}
+use Rattle.base.specs.crash.Mount.{MountsTo}
+use Rattle.base.specs.history.Past.{new_past}
+use Rattle.base.specs.steps.Runs.{Run}
+use Rattle.base.specs.stored.ShownLabels.{HasNoLogBlock}
+use Rattle.base.specs.stored.Stored.{AreUpTo, Held, IsHeld}
 use Rattle.pool_core.specs.Holds.{KeepsHeld}
 
 -- the bytes mount these contents, and no block is a log block

@@ -2,8 +2,8 @@
 #![tactic(auto)]
 
 ghost use Rattle.std.specs.Prelude.{IfOk, IsTrue};
-ghost use Rattle.base.specs.Disk.{bytes_of};
-ghost use Rattle.base.specs.ShownLabels.{HasNoLogBlock};
+ghost use Rattle.base.specs.disk.Disk.{bytes_of};
+ghost use Rattle.base.specs.stored.ShownLabels.{HasNoLogBlock};
 ghost use Rattle.object_maps.specs.ContentsShown.{contents_of};
 ghost use Rattle.round_trip.specs.Rounds.{GoesRound, HoldsNew, IsFoundAfter, Shows};
 

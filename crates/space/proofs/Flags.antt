@@ -11,7 +11,7 @@ use Rattle.std.proofs.lemmas.Bool.{eq-eqb, eqb-true}
 use Rattle.std.proofs.lemmas.Cmp.{nat_cmp_total}
 use Rattle.std.specs.FinSet as set
 use Rattle.std.specs.FinSet.{contains-from_list_nat, contains-remove, contains-insert, same_set, nat_cmp-IsAntisymmetric}
-use Rattle.base.specs.Geometry.{block_address}
+use Rattle.base.specs.formats.Geometry.{block_address}
 use Rattle.space.specs.FreeSets.{addresses_from, free_from, free_of, HasAllOf}
 
 -- whether an address is one of these

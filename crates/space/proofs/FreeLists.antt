@@ -13,8 +13,8 @@ use Rattle.std.specs.FinMap.{entries-from_sorted, get-from_sorted, get-from_entr
 use Rattle.std.specs.FinMap.Entries.{below_all, is_some-find}
 use Rattle.std.specs.FinSet as set
 use Rattle.std.specs.FinSet.{FinSet, contains-items, contains-empty, contains-insert, contains-remove, contains-from_list, contains-difference, contains-union, same_set, nat_cmp-IsAntisymmetric}
-use Rattle.base.specs.Geometry.{block_address}
-use Rattle.base.specs.Rising.{as_keys, rising}
+use Rattle.base.specs.formats.Geometry.{block_address}
+use Rattle.base.specs.common.Rising.{as_keys, rising}
 use Rattle.space.specs.FreeSets.{addresses_from, free_of, flags_after}
 use Rattle.space.proofs.Flags.{free_of-taken, free_of-given}
 

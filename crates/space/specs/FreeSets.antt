@@ -3,7 +3,7 @@ use Rattle.std.specs.Prelude.{ℕ, ◌+◌, ◌↔◌, Bool, true, false, IsTrue
 use Rattle.std.specs.Ordering.{nat_cmp}
 use Rattle.std.specs.FinSet as set
 use Rattle.std.specs.FinSet.{FinSet}
-use Rattle.base.specs.Geometry.{block_address, IsBlockAddress}
+use Rattle.base.specs.formats.Geometry.{block_address, IsBlockAddress}
 
 -- the addresses of the free ones of blocks from this index on
 unfoldable pub addresses_from : ℕ → List Bool → List ℕ

@@ -2,7 +2,7 @@
 
 ghost use Rattle.std.specs.Prelude.{◌≡◌, ◌+◌, ◌<◌, ◌≤◌, ◌∷◌, [], true, false, replicate, set as list_set, slice_get, vec_len, IfOk, IfSome, IfNone, Some};
 ghost use Rattle.std.specs.FinSet as finite;
-ghost use Rattle.base.specs.Geometry.{block_address};
+ghost use Rattle.base.specs.formats.Geometry.{block_address};
 ghost use Rattle.space.specs.FreeSets.{HasAllOf, free_from, free_of};
 
 use std::alloc::{AllocError, Global};

@@ -5,13 +5,13 @@ use Rattle.std.specs.Option.{option_map}
 use Rattle.std.specs.List.{AllByRecursion}
 use Rattle.std.proofs.lemmas.Bool.{cases_lt}
 use Rattle.std.proofs.lemmas.Option.{slice_get_within}
-use Rattle.base.specs.Fields.{part}
-use Rattle.base.specs.Disk.{Moment, Disk, IsInRange, IsTouched}
-use Rattle.base.specs.Geometry.{IsGeometry, block_area, block_count, block_size}
-use Rattle.base.specs.SyncOrder.{DeviceCall, calls_in_order}
-use Rattle.base.specs.SyncOrder.DeviceCall.{Block, Config, Uberblock, Flush}
-use Rattle.base.proofs.Regions.{flushed_clean}
-use Rattle.base.proofs.Geometry.{blocks-end, IsGeometry-IsSize}
+use Rattle.base.specs.formats.Fields.{part}
+use Rattle.base.specs.disk.Disk.{Moment, Disk, IsInRange, IsTouched}
+use Rattle.base.specs.formats.Geometry.{IsGeometry, block_area, block_count, block_size}
+use Rattle.base.specs.disk.SyncOrder.{DeviceCall, calls_in_order}
+use Rattle.base.specs.disk.SyncOrder.DeviceCall.{Block, Config, Uberblock, Flush}
+use Rattle.base.proofs.disk.Regions.{flushed_clean}
+use Rattle.base.proofs.formats.Geometry.{blocks-end, IsGeometry-IsSize}
 use Rattle.labels.specs.declared.stage.Stage.{Stage}
 use Rattle.labels.specs.declared.stage.Stage.TheVariants.{Even, Odd}
 use Rattle.tree_plans.specs.declared.planner.PlannedBlock.{PlannedBlock}

@@ -5,8 +5,8 @@ use Rattle.std.specs.List.{range_with_len}
 use Rattle.std.proofs.lemmas.List.{length-append}
 use Rattle.std.proofs.lemmas.List.FromFn.{length-map-range_with_len, get_or-map-range_with_len}
 use Rattle.std.proofs.lemmas.Option.{slice_get-get_or}
-use Rattle.base.specs.SyncOrder.{DeviceCall, calls_in_order, label_stage}
-use Rattle.base.specs.SyncOrder.DeviceCall.{Block, Uberblock, Flush}
+use Rattle.base.specs.disk.SyncOrder.{DeviceCall, calls_in_order, label_stage}
+use Rattle.base.specs.disk.SyncOrder.DeviceCall.{Block, Uberblock, Flush}
 use Rattle.labels.specs.declared.stage.Stage.{Stage}
 use Rattle.labels.specs.declared.stage.Stage.TheVariants.{Even, Odd}
 use Rattle.sync.specs.declared.run.LabelStages.{LabelStages}

@@ -3,11 +3,11 @@ use Rattle.std.proofs.Common.{◌≡◌, inl, inr, ⊎_elim, ℕ, ◌+◌, ◌<�
 use Rattle.std.specs.Prelude.{slice_get, IfSome}
 use Rattle.std.proofs.lemmas.Bool.{cases_lt}
 use Rattle.base.specs.declared.error.PoolError.{PoolError}
-use Rattle.base.specs.Disk.{Write, Disk, IsInRange, IsTouched}
-use Rattle.base.specs.Calls.{Flushes}
-use Rattle.base.specs.SyncOrder.{DeviceCall}
-use Rattle.base.specs.SyncOrder.DeviceCall.{Block, Config, Uberblock, Flush}
-use Rattle.base.proofs.Regions.{flushed_clean}
+use Rattle.base.specs.disk.Disk.{Write, Disk, IsInRange, IsTouched}
+use Rattle.base.specs.disk.Calls.{Flushes}
+use Rattle.base.specs.disk.SyncOrder.{DeviceCall}
+use Rattle.base.specs.disk.SyncOrder.DeviceCall.{Block, Config, Uberblock, Flush}
+use Rattle.base.proofs.disk.Regions.{flushed_clean}
 use Rattle.sync.specs.declared.run.SyncRun.{SyncRun}
 use Rattle.sync.specs.Calls.{Target, target_of, IsNextCall, MakesCall, WritesTarget, TargetFits}
 use Rattle.sync.specs.Made.{IsTarget, IsPending, targets_of, HasPending}

@@ -5,14 +5,14 @@ use Rattle.std.specs.List.{AllByRecursion, IsDistinct}
 use Rattle.std.specs.Option.{option_map}
 use Rattle.std.proofs.lemmas.Bool.{cases_eq, cases_lt, cases_order, eqb-false}
 use Rattle.std.proofs.lemmas.Option.{slice_get-map}
-use Rattle.base.specs.Geometry.{IsGeometry, IsWritable, block_address, block_count, block_size, label_place, slot_place}
-use Rattle.base.specs.SyncOrder.{DeviceCall, calls_in_order}
-use Rattle.base.specs.SyncOrder.DeviceCall.{Block, Config, Uberblock, Flush}
-use Rattle.base.proofs.CommitOrder.{All-at}
-use Rattle.base.proofs.Put.{Apart}
+use Rattle.base.specs.formats.Geometry.{IsGeometry, IsWritable, block_address, block_count, block_size, label_place, slot_place}
+use Rattle.base.specs.disk.SyncOrder.{DeviceCall, calls_in_order}
+use Rattle.base.specs.disk.SyncOrder.DeviceCall.{Block, Config, Uberblock, Flush}
+use Rattle.base.proofs.history.CommitOrder.{All-at}
+use Rattle.base.proofs.disk.Put.{Apart}
 use Rattle.labels.specs.declared.stage.Stage.{Stage}
 use Rattle.labels.specs.declared.stage.Stage.TheVariants.{Even, Odd}
-use Rattle.base.proofs.Geometry.{labels-apart, blocks-end, IsGeometry-IsSize, config-writable, slot-writable, block-writable}
+use Rattle.base.proofs.formats.Geometry.{labels-apart, blocks-end, IsGeometry-IsSize, config-writable, slot-writable, block-writable}
 use Rattle.tree_plans.specs.declared.planner.PlannedBlock.{PlannedBlock}
 use Rattle.sync.specs.declared.run.LabelStages.{LabelStages}
 use Rattle.sync.specs.declared.run.SyncRun.{SyncRun}

@@ -2,9 +2,9 @@
 use Rattle.std.proofs.Common.{◌≡◌, ◌⊎◌, inl, inr, ℕ, ◌+◌, ◌<◌, ◌≤◌, List, length, get_or, Option, Some, None, sym, ◌∙◌, ap, subst, arith}
 use Rattle.std.specs.Prelude.{slice_get}
 use Rattle.std.proofs.lemmas.Bool.{cases_lt}
-use Rattle.base.specs.Fields.{part}
-use Rattle.base.specs.Disk.{put, IsInRange}
-use Rattle.base.proofs.Put.{Apart, length-put, get_or-put_other, part-put_same, part-put_apart}
+use Rattle.base.specs.formats.Fields.{part}
+use Rattle.base.specs.disk.Disk.{put, IsInRange}
+use Rattle.base.proofs.disk.Put.{Apart, length-put, get_or-put_other, part-put_same, part-put_apart}
 use Rattle.sync.specs.Calls.{Target}
 use Rattle.sync.specs.Made.{AreWritten, IsTarget}
 

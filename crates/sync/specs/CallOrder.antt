@@ -1,7 +1,7 @@
 -- The device calls of a sync, in order.
 use Rattle.std.specs.Prelude.{true, false, List, []}
-use Rattle.base.specs.SyncOrder.{DeviceCall, calls_in_order}
-use Rattle.base.specs.SyncOrder.DeviceCall.{Block, Config, Uberblock, Flush}
+use Rattle.base.specs.disk.SyncOrder.{DeviceCall, calls_in_order}
+use Rattle.base.specs.disk.SyncOrder.DeviceCall.{Block, Config, Uberblock, Flush}
 use Rattle.labels.specs.declared.stage.Stage.{Stage}
 use Rattle.labels.specs.declared.stage.Stage.TheVariants.{Even, Odd}
 use Rattle.labels.specs.Stages.{labels_of}

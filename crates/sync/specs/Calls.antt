@@ -3,11 +3,11 @@ use Rattle.std.specs.Prelude.{ℕ, ⊤, true, ◌≡◌, ◌+◌, ◌<◌, ◌�
 use Rattle.std.specs.Option.{option_map}
 use Rattle.base.specs.declared.error.PoolError.{PoolError}
 use Rattle.base.specs.declared.error.PoolError.TheVariants as refusal
-use Rattle.base.specs.Disk.{Disk}
-use Rattle.base.specs.Calls.{Writes, Flushes}
-use Rattle.base.specs.Geometry.{block_address, block_size, config_place, slot_place}
-use Rattle.base.specs.SyncOrder.{DeviceCall, calls_in_order}
-use Rattle.base.specs.SyncOrder.DeviceCall.{Block, Config, Uberblock, Flush}
+use Rattle.base.specs.disk.Disk.{Disk}
+use Rattle.base.specs.disk.Calls.{Writes, Flushes}
+use Rattle.base.specs.formats.Geometry.{block_address, block_size, config_place, slot_place}
+use Rattle.base.specs.disk.SyncOrder.{DeviceCall, calls_in_order}
+use Rattle.base.specs.disk.SyncOrder.DeviceCall.{Block, Config, Uberblock, Flush}
 use Rattle.labels.specs.Stages.{labels_of}
 use Rattle.tree_plans.specs.declared.planner.PlannedBlock.{PlannedBlock}
 use Rattle.sync.specs.declared.run.LabelStages.{LabelStages}

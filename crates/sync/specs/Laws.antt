@@ -1,7 +1,7 @@
 -- What holds of each sync.
 use Rattle.std.specs.Prelude.{ℕ, ◌≡◌, ◌+◌, ◌*◌, ◌<◌, ◌≤◌, List, vec_len}
-use Rattle.base.specs.Disk.{Moment, IsTouched}
-use Rattle.base.specs.Geometry.{IsGeometry, IsWritable, block_area, block_count, block_size}
+use Rattle.base.specs.disk.Disk.{Moment, IsTouched}
+use Rattle.base.specs.formats.Geometry.{IsGeometry, IsWritable, block_area, block_count, block_size}
 use Rattle.sync.specs.declared.run.SyncRun.{SyncRun}
 use Rattle.sync.specs.Calls.{Target}
 use Rattle.sync.specs.Made.{BlocksWritten, HasMade, HasPending, IsTarget, targets_of}

@@ -1,9 +1,9 @@
 -- What a sync has written so far.
 use Rattle.std.specs.Prelude.{ℕ, ◌≡◌, ◌+◌, ◌*◌, ◌<◌, ◌≤◌, List, map, Option, Some, None, nat_eq, length, slice_get, slice_index}
 use Rattle.std.specs.List.{IsDistinct}
-use Rattle.base.specs.Fields.{part}
-use Rattle.base.specs.Disk.{Moment, IsInRange, IsTouched}
-use Rattle.base.specs.Geometry.{block_address, block_area, block_count, block_size}
+use Rattle.base.specs.formats.Fields.{part}
+use Rattle.base.specs.disk.Disk.{Moment, IsInRange, IsTouched}
+use Rattle.base.specs.formats.Geometry.{block_address, block_area, block_count, block_size}
 use Rattle.tree_plans.specs.declared.planner.PlannedBlock.{PlannedBlock}
 use Rattle.sync.specs.declared.run.SyncRun.{SyncRun}
 use Rattle.sync.specs.Calls.{Target, target_of, calls_of}

@@ -2,7 +2,7 @@
 //! labels and a flush, the uberblock in each label and a flush, and then the other two labels.
 
 ghost use Rattle.std.specs.Prelude.{◌≡◌, ◌<◌, ◌+◌, ◌≤◌, ◌↔◌, All, IfErr, IfOk, IsTrue, if◌then◌else◌, is_ok, vec_len};
-ghost use Rattle.base.specs.Geometry.{block_count};
+ghost use Rattle.base.specs.formats.Geometry.{block_count};
 ghost use Rattle.tree_plans.specs.declared.planner.PlannedBlock.{PlannedBlock};
 
 use crate::call::{Call, plain_call, staged_call};
@@ -36,9 +36,9 @@ pub struct SyncRun {
 
 impl SyncRun {
     ghost use Rattle.std.specs.Prelude.{ℕ, List, [], length};
-    ghost use Rattle.base.specs.Disk.{bytes_of};
-    ghost use Rattle.base.specs.SyncOrder.{DeviceCall};
-    ghost use Rattle.base.specs.Calls.{counted};
+    ghost use Rattle.base.specs.disk.Disk.{bytes_of};
+    ghost use Rattle.base.specs.disk.SyncOrder.{DeviceCall};
+    ghost use Rattle.base.specs.disk.Calls.{counted};
     ghost use Rattle.sync.specs.CallOrder.{call_said};
     ghost use Rattle.sync.specs.Calls.{HasCall, IsNextCall, MakesCall, TargetFits, calls_of, plain_answer, refusal_of};
     ghost use Rattle.sync.specs.Made.{HasDistinctBlocks, HasMade, HasPending};

@@ -4,10 +4,10 @@ use Rattle.std.proofs.lemmas.List.{take-take, drop-take, drop-drop, length-repli
 use Rattle.std.proofs.lemmas.Bool.{cases_lt}
 use Rattle.std.specs.Int.{from_le_bytes, w64}
 use Rattle.base.specs.declared.pointer.Pointer.{Pointer}
-use Rattle.base.specs.Disk.{put}
-use Rattle.base.specs.Fields.{number_bytes, pointer_bytes, pointer_at, number_at, part, entry_in, entry_present, entry_length, entry_pointer}
-use Rattle.base.proofs.Put.{Apart, part-put_apart, length-put}
-use Rattle.base.proofs.FieldsRead.{length-number_bytes, number_at-put, number_at-put_apart, pointers_read_back}
+use Rattle.base.specs.disk.Disk.{put}
+use Rattle.base.specs.formats.Fields.{number_bytes, pointer_bytes, pointer_at, number_at, part, entry_in, entry_present, entry_length, entry_pointer}
+use Rattle.base.proofs.disk.Put.{Apart, part-put_apart, length-put}
+use Rattle.base.proofs.formats.FieldsRead.{length-number_bytes, number_at-put, number_at-put_apart, pointers_read_back}
 use Rattle.checked_blocks.specs.Sealing.{zeros}
 use Rattle.tree_plans.proofs.Payloads.{length-pointer_bytes}
 

@@ -5,10 +5,10 @@ use Rattle.std.proofs.lemmas.List.{take_all, take_rest, drop_all, append-nil}
 use Rattle.std.proofs.lemmas.Bool.{cases_lt}
 use Rattle.std.proofs.lemmas.List.{length-append}
 use Rattle.base.specs.declared.pointer.Pointer.{Pointer}
-use Rattle.base.specs.Disk.{put}
-use Rattle.base.specs.Fields.{number_bytes, pointer_bytes, pointer_at, pointer_in}
-use Rattle.base.proofs.Put.{Apart, part-put_apart}
-use Rattle.base.proofs.FieldsRead.{length-number_bytes, number_at-put_apart, pointers_read_back}
+use Rattle.base.specs.disk.Disk.{put}
+use Rattle.base.specs.formats.Fields.{number_bytes, pointer_bytes, pointer_at, pointer_in}
+use Rattle.base.proofs.disk.Put.{Apart, part-put_apart}
+use Rattle.base.proofs.formats.FieldsRead.{length-number_bytes, number_at-put_apart, pointers_read_back}
 use Rattle.checked_blocks.specs.Sealing.{padded}
 
 take_none : (k : ℕ) → ◌≡◌ {A = List ℕ} (take k []) []

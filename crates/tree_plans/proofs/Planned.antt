@@ -11,14 +11,14 @@ use Rattle.std.proofs.lemmas.Option.{slice_get-get_or}
 use Rattle.std.proofs.lemmas.Map.Entries.{place_from_lookup}
 use Rattle.base.specs.declared.pointer.Pointer.{Pointer}
 use Rattle.base.specs.declared.names.ObjectId.{ObjectId}
-use Rattle.base.specs.Limits.{object_count, max_length}
-use Rattle.base.specs.Fields.{no_pointer, entry_in}
-use Rattle.base.specs.Geometry.{IsBlockAddress, block_address}
-use Rattle.base.specs.Blocks.{Frame}
-use Rattle.base.specs.Places.{Place, IsPlace}
-use Rattle.base.specs.Places.Place.{Root, Directory, Indirect, Data}
-use Rattle.base.specs.PlacedTrees.{IsEntryFor, IsPlaced, ArePlaced, padded_record}
-use Rattle.base.specs.PlannedTrees.{IsNewAt, IsPlannedAt, IsTreePlan, NewBlock, AreFreed}
+use Rattle.base.specs.formats.Limits.{object_count, max_length}
+use Rattle.base.specs.formats.Fields.{no_pointer, entry_in}
+use Rattle.base.specs.formats.Geometry.{IsBlockAddress, block_address}
+use Rattle.base.specs.formats.Blocks.{Frame}
+use Rattle.base.specs.tree.Places.{Place, IsPlace}
+use Rattle.base.specs.tree.Places.Place.{Root, Directory, Indirect, Data}
+use Rattle.base.specs.tree.PlacedTrees.{IsEntryFor, IsPlaced, ArePlaced, padded_record}
+use Rattle.base.specs.tree.PlannedTrees.{IsNewAt, IsPlannedAt, IsTreePlan, NewBlock, AreFreed}
 use Rattle.space.specs.FreeSets.{addresses_from, free_from}
 use Rattle.object_maps.specs.declared.tree.ObjectMap.{ObjectMap}
 use Rattle.object_maps.specs.declared.tree.Tree.{Tree}

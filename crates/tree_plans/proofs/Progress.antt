@@ -2,12 +2,12 @@
 use Rattle.std.proofs.Common.{◌≡◌, ◌≢◌, ℕ, zero, suc, ◌+◌, ◌<◌, ◌⊎◌, inl, inr, Bool, true, false, List, [], ◌∷◌, ◌++◌, length, map, ◌≤◌, Some, refl, sym, ◌∙◌, ap, append_assoc, arith}
 use Rattle.std.specs.Prelude.{slice_get, slice_index_or}
 use Rattle.base.specs.declared.pointer.Pointer.{Pointer}
-use Rattle.base.specs.Fields.{no_pointer, part, pointer_in}
-use Rattle.base.specs.Geometry.{block_address}
-use Rattle.base.specs.Blocks.{Frame, IsBlock}
-use Rattle.base.specs.Places.{Place, kind_of, number_of}
-use Rattle.base.specs.Places.Place.{Indirect}
-use Rattle.base.specs.PlannedTrees.{NewBlock, IsNewAt}
+use Rattle.base.specs.formats.Fields.{no_pointer, part, pointer_in}
+use Rattle.base.specs.formats.Geometry.{block_address}
+use Rattle.base.specs.formats.Blocks.{Frame, IsBlock}
+use Rattle.base.specs.tree.Places.{Place, kind_of, number_of}
+use Rattle.base.specs.tree.Places.Place.{Indirect}
+use Rattle.base.specs.tree.PlannedTrees.{NewBlock, IsNewAt}
 use Rattle.space.specs.FreeSets.{free_from}
 use Rattle.tree_plans.specs.declared.planner.PlannedBlock.{PlannedBlock}
 use Rattle.std.proofs.lemmas.Bool.{cases_lt}

@@ -11,11 +11,11 @@ use Rattle.std.proofs.lemmas.Result.{err_from_is_err_and}
 use Rattle.base.specs.declared.error.PoolError.{PoolError}
 use Rattle.base.specs.declared.pointer.Pointer.{Pointer}
 use Rattle.base.specs.declared.names.ObjectId.{ObjectId}
-use Rattle.base.specs.Fields.{no_pointer}
-use Rattle.base.specs.Places.{Place}
-use Rattle.base.specs.Places.Place.{Root, Directory, Indirect, Data}
-use Rattle.base.specs.PlannedPlaces.{has_changed, object_places, written_by}
-use Rattle.base.specs.PlannedTrees.{NewBlock}
+use Rattle.base.specs.formats.Fields.{no_pointer}
+use Rattle.base.specs.tree.Places.{Place}
+use Rattle.base.specs.tree.Places.Place.{Root, Directory, Indirect, Data}
+use Rattle.base.specs.tree.PlannedPlaces.{has_changed, object_places, written_by}
+use Rattle.base.specs.tree.PlannedTrees.{NewBlock}
 use Rattle.object_maps.specs.declared.tree.ObjectMap.{ObjectMap}
 use Rattle.space.specs.FreeSets.{addresses_from, free_from}
 use Rattle.tree_plans.specs.declared.planner.DirtyRecords.{DirtyRecords}

@@ -13,9 +13,9 @@ use Rattle.std.specs.FinMap.{FinMap}
 use Rattle.std.proofs.lemmas.Bool.{eq-eqb, eqb-true}
 use Rattle.base.specs.declared.pointer.Pointer.{Pointer}
 use Rattle.base.specs.declared.names.ObjectId.{ObjectId}
-use Rattle.base.specs.Limits.{object_count}
-use Rattle.base.specs.Fields.{no_pointer, pointer_in}
-use Rattle.base.specs.Places.Place.{Root, Directory}
+use Rattle.base.specs.formats.Limits.{object_count}
+use Rattle.base.specs.formats.Fields.{no_pointer, pointer_in}
+use Rattle.base.specs.tree.Places.Place.{Root, Directory}
 use Rattle.checked_blocks.specs.Sealing.{padded}
 use Rattle.object_maps.specs.declared.tree.ObjectMap.{ObjectMap}
 use Rattle.tree_plans.specs.declared.planner.DirtyRecords.{DirtyRecords}

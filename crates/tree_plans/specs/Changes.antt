@@ -6,14 +6,14 @@ use Rattle.std.specs.FinMap as finite
 use Rattle.std.specs.FinMap.{FinMap}
 use Rattle.base.specs.declared.pointer.Pointer.{Pointer}
 use Rattle.base.specs.declared.names.ObjectId.{ObjectId}
-use Rattle.base.specs.Limits.{object_count, max_length, record_size, pointer_count}
-use Rattle.base.specs.Fields.{no_pointer}
-use Rattle.base.specs.Geometry.{block_count}
-use Rattle.base.specs.Versions.{written_version}
-use Rattle.base.specs.Blocks.{Frame}
-use Rattle.base.specs.Places.{Place, IsPlace}
-use Rattle.base.specs.Places.Place.{Indirect}
-use Rattle.base.specs.PlannedTrees.{SameEntry, SameRecord}
+use Rattle.base.specs.formats.Limits.{object_count, max_length, record_size, pointer_count}
+use Rattle.base.specs.formats.Fields.{no_pointer}
+use Rattle.base.specs.formats.Geometry.{block_count}
+use Rattle.base.specs.formats.Versions.{written_version}
+use Rattle.base.specs.formats.Blocks.{Frame}
+use Rattle.base.specs.tree.Places.{Place, IsPlace}
+use Rattle.base.specs.tree.Places.Place.{Indirect}
+use Rattle.base.specs.tree.PlannedTrees.{SameEntry, SameRecord}
 use Rattle.tree_plans.specs.declared.planner.DirtyRecords.{DirtyRecords}
 use Rattle.tree_plans.specs.Pointers.{entry_of}
 

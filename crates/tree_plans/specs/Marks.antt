@@ -4,8 +4,8 @@ use Rattle.std.specs.List.{flat_map, list_any}
 use Rattle.base.specs.declared.names.ObjectId.{ObjectId}
 use Rattle.base.specs.declared.operation.Op.{Op}
 use Rattle.base.specs.declared.operation.Op.TheVariants.{Create, Remove, Write, SetLength, SetName}
-use Rattle.base.specs.Limits.{pointer_count}
-use Rattle.base.specs.Syncs.{is_record_touched}
+use Rattle.base.specs.formats.Limits.{pointer_count}
+use Rattle.base.specs.tree.Syncs.{is_record_touched}
 use Rattle.tree_plans.specs.declared.planner.Committed.{Committed}
 use Rattle.tree_plans.specs.declared.planner.DirtyRecords.{DirtyRecords}
 use Rattle.tree_plans.specs.Pointers.{entry_of}

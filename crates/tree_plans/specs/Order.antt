@@ -4,12 +4,12 @@ use Rattle.std.specs.List.{list_any, flat_map, range_with_len}
 use Rattle.std.specs.Option.{option_map_or}
 use Rattle.base.specs.declared.pointer.Pointer.{Pointer}
 use Rattle.base.specs.declared.names.ObjectId.{ObjectId}
-use Rattle.base.specs.Limits.{pointer_count}
-use Rattle.base.specs.Fields.{no_pointer}
-use Rattle.base.specs.Places.{Place}
-use Rattle.base.specs.PlannedPlaces.{written_by}
-use Rattle.base.specs.PlannedTrees.{NewBlock}
-use Rattle.base.specs.Syncs.{record_numbers}
+use Rattle.base.specs.formats.Limits.{pointer_count}
+use Rattle.base.specs.formats.Fields.{no_pointer}
+use Rattle.base.specs.tree.Places.{Place}
+use Rattle.base.specs.tree.PlannedPlaces.{written_by}
+use Rattle.base.specs.tree.PlannedTrees.{NewBlock}
+use Rattle.base.specs.tree.Syncs.{record_numbers}
 use Rattle.object_maps.specs.declared.tree.ObjectMap.{ObjectMap}
 use Rattle.tree_plans.specs.declared.planner.DirtyRecords.{DirtyRecords}
 use Rattle.tree_plans.specs.Pointers.{entry_of, record_in}

@@ -3,15 +3,15 @@ use Rattle.std.specs.Prelude.{ℕ, ◌≡◌, ◌≢◌, ◌<◌, ◌⊎◌, ◌
 use Rattle.base.specs.declared.error.PoolError.{PoolError}
 use Rattle.base.specs.declared.error.PoolError.TheVariants as error
 use Rattle.base.specs.declared.pointer.Pointer.{Pointer}
-use Rattle.base.specs.Limits.{pointer_count}
-use Rattle.base.specs.Fields.{no_pointer, pointer_in}
-use Rattle.base.specs.Geometry.{block_address, block_count, IsBlockAddress}
-use Rattle.base.specs.Versions.{written_version}
-use Rattle.base.specs.Blocks.{Frame}
-use Rattle.base.specs.Places.{Place}
-use Rattle.base.specs.Places.Place.{Root as AtRoot, Directory as AtDirectory, Indirect as AtIndirect, Data as AtData}
-use Rattle.base.specs.PlacedTrees.{padded_record}
-use Rattle.base.specs.PlannedTrees.{NewBlock, IsNewAt}
+use Rattle.base.specs.formats.Limits.{pointer_count}
+use Rattle.base.specs.formats.Fields.{no_pointer, pointer_in}
+use Rattle.base.specs.formats.Geometry.{block_address, block_count, IsBlockAddress}
+use Rattle.base.specs.formats.Versions.{written_version}
+use Rattle.base.specs.formats.Blocks.{Frame}
+use Rattle.base.specs.tree.Places.{Place}
+use Rattle.base.specs.tree.Places.Place.{Root as AtRoot, Directory as AtDirectory, Indirect as AtIndirect, Data as AtData}
+use Rattle.base.specs.tree.PlacedTrees.{padded_record}
+use Rattle.base.specs.tree.PlannedTrees.{NewBlock, IsNewAt}
 use Rattle.space.specs.FreeSets.{addresses_from, free_from}
 use Rattle.object_maps.specs.declared.tree.ObjectMap.{ObjectMap}
 use Rattle.tree_plans.specs.declared.planner.PlannedBlock.{PlannedBlock}

@@ -2,7 +2,7 @@
 use Rattle.std.specs.Prelude.{ℕ, ◌<◌, ◌+◌, Bool, List, length, filter, is_some, if◌then◌else◌}
 use Rattle.std.specs.List.{flat_map, range_with_len}
 use Rattle.base.specs.declared.names.ObjectId.{ObjectId}
-use Rattle.base.specs.PlannedPlaces.{object_places, written_by}
+use Rattle.base.specs.tree.PlannedPlaces.{object_places, written_by}
 use Rattle.space.specs.FreeSets.{addresses_from}
 use Rattle.tree_plans.specs.declared.planner.DirtyRecords.{DirtyRecords}
 use Rattle.tree_plans.specs.Pointers.{entry_of}

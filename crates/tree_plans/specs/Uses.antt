@@ -2,9 +2,9 @@
 use Rattle.std.specs.Prelude.{ℕ, ◌≡◌, ◌<◌, ◌⊎◌, List, slice_get, slice_index_or, Some, None}
 use Rattle.base.specs.declared.pointer.Pointer.{Pointer}
 use Rattle.base.specs.declared.names.ObjectId.{ObjectId}
-use Rattle.base.specs.Limits.{object_count, pointer_count}
-use Rattle.base.specs.Fields.{no_pointer}
-use Rattle.base.specs.PlannedTrees.{NewBlock}
+use Rattle.base.specs.formats.Limits.{object_count, pointer_count}
+use Rattle.base.specs.formats.Fields.{no_pointer}
+use Rattle.base.specs.tree.PlannedTrees.{NewBlock}
 use Rattle.object_maps.specs.declared.tree.ObjectMap.{ObjectMap}
 use Rattle.tree_plans.specs.Pointers.{entry_of}
 

@@ -8,9 +8,9 @@ use Rattle.std.specs.FinMap as finite
 use Rattle.std.specs.FinMap.{FinMap}
 use Rattle.base.specs.declared.pointer.Pointer.{Pointer}
 use Rattle.base.specs.declared.names.ObjectId.{ObjectId}
-use Rattle.base.specs.Limits.{object_count, pointer_count, entry_count}
-use Rattle.base.specs.Fields.{no_pointer, pointer_in, entry_in, entry_present, entry_length, entry_pointer}
-use Rattle.base.specs.Places.Place.{Root, Directory}
+use Rattle.base.specs.formats.Limits.{object_count, pointer_count, entry_count}
+use Rattle.base.specs.formats.Fields.{no_pointer, pointer_in, entry_in, entry_present, entry_length, entry_pointer}
+use Rattle.base.specs.tree.Places.Place.{Root, Directory}
 use Rattle.object_maps.specs.declared.tree.ObjectMap.{ObjectMap}
 use Rattle.object_maps.specs.declared.tree.Tree.{Tree}
 use Rattle.tree_plans.specs.declared.planner.DirtyRecords.{DirtyRecords}

@@ -2,7 +2,7 @@
 
 ghost use Rattle.std.specs.Prelude.{◌≡◌, ◌<◌, ◌∷◌, [], ℕ, false, slice_index_or, IfErr, IfOk, OnOk};
 ghost use Rattle.base.specs.declared.error.PoolError.TheVariants as error;
-ghost use Rattle.base.specs.Syncs.{is_record_touched};
+ghost use Rattle.base.specs.tree.Syncs.{is_record_touched};
 ghost use Rattle.tree_plans.specs.Changes.{is_marked};
 ghost use Rattle.tree_plans.specs.Marks.{AreMarks, Marks, pending_ops};
 ghost use Rattle.tree_plans.specs.Pointers.{IsPut};

@@ -1,7 +1,7 @@
 //! The blocks that come back.
 
 ghost use Rattle.std.specs.Prelude.{◌≡◌, ◌<◌, vec_len, vec_capacity};
-ghost use Rattle.base.specs.Fields.{no_pointer};
+ghost use Rattle.base.specs.formats.Fields.{no_pointer};
 ghost use Rattle.tree_plans.specs.Plans.{FreesOnly, IsAmong, Keeps};
 
 use base::Pointer;

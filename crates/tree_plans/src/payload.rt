@@ -1,8 +1,8 @@
 //! The payloads of a tree's blocks (On-Disk Specification, chapter 2).
 
 ghost use Rattle.std.specs.Prelude.{◌≡◌, ◌≢◌, ◌<◌, ◌≤◌, ℕ, length, option_map, replicate, slice_index_or};
-ghost use Rattle.base.specs.Fields.{entry_in, entry_length, entry_pointer, entry_present, no_pointer, pointer_in};
-ghost use Rattle.base.specs.Tree.{record_bytes};
+ghost use Rattle.base.specs.formats.Fields.{entry_in, entry_length, entry_pointer, entry_present, no_pointer, pointer_in};
+ghost use Rattle.base.specs.tree.Tree.{record_bytes};
 ghost use Rattle.checked_blocks.specs.Sealing.{zeros};
 ghost use Rattle.object_maps.specs.ContentsShown.{contents_of};
 ghost use Rattle.tree_plans.specs.Walks.{AreEntriesWritten, IsEntryWritten, indirect_after};

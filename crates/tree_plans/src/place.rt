@@ -1,7 +1,7 @@
 //! The places of a tree that blocks are planned for.
 
 ghost use Rattle.std.specs.Prelude.{◌≡◌};
-ghost use Rattle.base.specs.Places.{IsPlace, kind_of, number_of};
+ghost use Rattle.base.specs.tree.Places.{IsPlace, kind_of, number_of};
 ghost use Rattle.tree_plans.specs.Plans.{place_of};
 
 use base::{ObjectId, POINTER_COUNT};

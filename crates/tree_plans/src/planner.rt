@@ -3,7 +3,7 @@
 
 ghost use Rattle.std.specs.Prelude.{◌≡◌, ◌<◌, All, length, vec_len};
 ghost use Rattle.std.specs.List.{list_any};
-ghost use Rattle.base.specs.Geometry.{block_count};
+ghost use Rattle.base.specs.formats.Geometry.{block_count};
 ghost use Rattle.tree_plans.specs.declared.planner.PlannedBlock.{PlannedBlock};
 
 use crate::dirty::is_touched;
@@ -42,7 +42,7 @@ pub struct DirtyRecords {
 
 impl DirtyRecords {
     ghost use Rattle.std.specs.Prelude.{ℕ, ◌<◌, ◌||◌, false, length, slice_index_or};
-    ghost use Rattle.base.specs.Syncs.{is_record_touched};
+    ghost use Rattle.base.specs.tree.Syncs.{is_record_touched};
 
     /// No record is dirty.
     pub fn none() -> Self
@@ -106,7 +106,7 @@ pub struct Planner {
 impl Planner {
     ghost use Rattle.std.specs.Prelude.{◌≤◌, ◌<◌, ◌+◌, ◌++◌, ◌∷◌, [], false, length, slice_index_or, IfOk, IfErr, OnOk};
     ghost use Rattle.base.specs.declared.error.PoolError.TheVariants as error;
-    ghost use Rattle.base.specs.Places.{IsPlace};
+    ghost use Rattle.base.specs.tree.Places.{IsPlace};
     ghost use Rattle.checked_blocks.specs.Sealing.{padded};
     ghost use Rattle.object_maps.specs.Pointers.{pointer_of_list};
     ghost use Rattle.space.specs.FreeSets.{free_from};

@@ -1,8 +1,8 @@
 -- The best of the uberblocks that stand in a ring, by the order in which positions are looked at.
 use Rattle.std.proofs.Common.{ℕ, ◌≡◌, ◌≢◌, ◌+◌, ◌/◌, ◌<◌, ◌≤◌, ◌⊎◌, inl, inr, List, true, false, Option, Some, None, IfSome, IfNone, ap, sym, subst, arith}
 use Rattle.std.proofs.lemmas.Bool.{cases_lt, ltb-true, ltb-false, true≢false}
-use Rattle.base.specs.Geometry.{slot_of}
-use Rattle.base.specs.Uberblocks.{Uberblock as Fields}
+use Rattle.base.specs.formats.Geometry.{slot_of}
+use Rattle.base.specs.formats.Uberblocks.{Uberblock as Fields}
 use Rattle.uberblocks.specs.declared.uberblock.Uberblock.{Uberblock}
 use Rattle.uberblocks.specs.Slots.{fields_of}
 use Rattle.uberblocks.specs.Rings.{StandsAt, StandsInRing, IsBetterAt, IsActiveInRing, HasNoneInRing, is_above, position_of}

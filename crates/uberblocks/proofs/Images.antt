@@ -1,8 +1,8 @@
 -- What is active in the arrays of an image is active in the image.
 use Rattle.std.proofs.Common.{ℕ, zero, suc, Option, Some, None, IfSome, IfNone, ◌≡◌, ◌+◌, ◌*◌, ◌<◌, List, length, sym, ap, ◌∙◌, subst, arith}
-use Rattle.base.specs.Fields.{part}
-use Rattle.base.specs.Geometry.{slot_of, slot_place, label_place}
-use Rattle.base.specs.Uberblocks.{Uberblock as Fields, IsUberblock, StandsIn, IsActive, HasNoUberblock}
+use Rattle.base.specs.formats.Fields.{part}
+use Rattle.base.specs.formats.Geometry.{slot_of, slot_place, label_place}
+use Rattle.base.specs.formats.Uberblocks.{Uberblock as Fields, IsUberblock, StandsIn, IsActive, HasNoUberblock}
 use Rattle.uberblocks.specs.declared.uberblock.Uberblock.{Uberblock}
 use Rattle.uberblocks.specs.Slots.{fields_of}
 use Rattle.uberblocks.specs.Rings.{StandsInRing, IsActiveInRing, HasNoneInRing, IsRingOf}

@@ -2,9 +2,9 @@
 use Rattle.std.proofs.Common.{ℕ, ◌≡◌, ◌+◌, ◌-◌, ◌*◌, ◌/◌, ◌<◌, ◌≤◌, List, take, drop, sym, ap, ◌∙◌, subst, arith}
 use Rattle.std.proofs.lemmas.List.{drop-drop, drop-take, take-take}
 use Rattle.std.proofs.lemmas.Nat.{mod-mul-add, div-add-mod', mod_below}
-use Rattle.base.specs.Fields.{part, number_at}
-use Rattle.base.specs.Geometry.{slot_of}
-use Rattle.base.specs.Uberblocks.{Uberblock as Fields, IsUberblock}
+use Rattle.base.specs.formats.Fields.{part, number_at}
+use Rattle.base.specs.formats.Geometry.{slot_of}
+use Rattle.base.specs.formats.Uberblocks.{Uberblock as Fields, IsUberblock}
 use Rattle.uberblocks.specs.Rings.{StandsAt, StandsInRing, position_of}
 
 pub part-part : (bytes : List ℕ) (a n b m : ℕ) → b + m ≤ n → part (part bytes a n) b m ≡ part bytes (a + b) m

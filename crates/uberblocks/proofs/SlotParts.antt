@@ -2,9 +2,9 @@
 use Rattle.std.proofs.Common.{ℕ, ◌≡◌, ◌+◌, ◌^◌, ◌<◌, List, ◌++◌, length, take, drop, refl, sym, ap, ◌∙◌, arith}
 use Rattle.std.proofs.lemmas.List.{take_at, drop_at, drop-drop, append_assoc, length-append}
 use Rattle.std.specs.Int.{from_le_bytes, w64}
-use Rattle.base.specs.Fields.{part, number_at, number_bytes, pointer_at, pointer_bytes}
+use Rattle.base.specs.formats.Fields.{part, number_at, number_bytes, pointer_at, pointer_bytes}
 use Rattle.base.specs.declared.pointer.Pointer.{Pointer}
-use Rattle.base.proofs.FieldsRead.{length-number_bytes, number_bytes-read}
+use Rattle.base.proofs.formats.FieldsRead.{length-number_bytes, number_bytes-read}
 
 -- what is left from a place on begins with a field: the field stands there, and the rest is left behind it
 pub part_first : (bytes field rest : List ℕ) (at size : ℕ) → drop at bytes ≡ field ++ rest → length field ≡ size → part bytes at size ≡ field

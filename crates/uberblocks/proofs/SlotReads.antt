@@ -3,10 +3,10 @@ use Rattle.std.proofs.Common.{ℕ, zero, suc, ◌≡◌, ◌==◌, true, List, [
 use Rattle.std.specs.List.{list_all}
 use Rattle.std.proofs.lemmas.Bool.{and_parts, eqb-true}
 use Rattle.base.specs.declared.pointer.Pointer.{Pointer}
-use Rattle.base.specs.Uberblocks.{Uberblock as Fields, IsUberblock, IsSealedSlot}
-use Rattle.base.specs.Versions.{version_of}
+use Rattle.base.specs.formats.Uberblocks.{Uberblock as Fields, IsUberblock, IsSealedSlot}
+use Rattle.base.specs.formats.Versions.{version_of}
 use Rattle.base.specs.declared.version.Version.{Version}
-use Rattle.base.proofs.Versions.{version_of-number_of}
+use Rattle.base.proofs.formats.Versions.{version_of-number_of}
 use Rattle.uberblocks.specs.declared.uberblock.Uberblock.{Uberblock}
 use Rattle.uberblocks.specs.Slots.{fields_of, fields_at, zeros, HasMagic, HasZeros, IsWithinLimits}
 

@@ -4,10 +4,10 @@ use Rattle.std.proofs.lemmas.List.{take_at, drop_at, drop_all, append-nil, appen
 use Rattle.std.proofs.Math.Seq.{take-append-add}
 use Rattle.sha2.specs.Sha256.{sha256}
 use Rattle.sha2.proofs.Facts256.{length-sha256}
-use Rattle.base.specs.Disk.{put}
-use Rattle.base.specs.Fields.{part, number_bytes, pointer_bytes}
-use Rattle.base.specs.Uberblocks.{Uberblock as Fields, IsUberblock}
-use Rattle.base.proofs.FieldsRead.{length-number_bytes, put-put_behind}
+use Rattle.base.specs.disk.Disk.{put}
+use Rattle.base.specs.formats.Fields.{part, number_bytes, pointer_bytes}
+use Rattle.base.specs.formats.Uberblocks.{Uberblock as Fields, IsUberblock}
+use Rattle.base.proofs.formats.FieldsRead.{length-number_bytes, put-put_behind}
 use Rattle.uberblocks.specs.Slots.{field_bytes, head_bytes, slot_bytes, zeros, FieldsFit, IsWithinLimits}
 use Rattle.uberblocks.proofs.SlotParts.{part_first, number_first, number_behind, pointer_first, pointer_behind, length-pointer_bytes}
 

@@ -5,8 +5,8 @@ use Rattle.std.proofs.lemmas.List.{take_at, take-append-drop, drop-drop, drop_al
 use Rattle.std.proofs.lemmas.Nat.{le_bytes_8}
 use Rattle.sha2.specs.Sha256.{sha256}
 use Rattle.base.specs.declared.pointer.Pointer.{Pointer}
-use Rattle.base.specs.Fields.{part, number_at, number_bytes, pointer_at, pointer_bytes}
-use Rattle.base.proofs.Put.{length-part}
+use Rattle.base.specs.formats.Fields.{part, number_at, number_bytes, pointer_at, pointer_bytes}
+use Rattle.base.proofs.disk.Put.{length-part}
 use Rattle.uberblocks.specs.Slots.{field_bytes, head_bytes, zeros}
 use Rattle.uberblocks.specs.Laws.{SlotsSpelledOnce}
 use Rattle.uberblocks.proofs.SlotWrites.{length-head_bytes, field_bytes-nested}

@@ -1,11 +1,11 @@
 -- Uberblocks in an image: there is one active one at most, and what a write does to those that stand.
 use Rattle.std.proofs.Common.{ℕ, ◌≡◌, ◌+◌, ◌<◌, ◌≤◌, ◌⊎◌, ◌↔◌, inl, inr, List, length, sym, ap, ◌∙◌, subst, arith}
 use Rattle.std.proofs.lemmas.Bool.{cases_order}
-use Rattle.base.specs.Disk.{put}
-use Rattle.base.specs.Fields.{part}
-use Rattle.base.specs.Geometry.{slot_of, slot_place}
-use Rattle.base.specs.Uberblocks.{Uberblock as Fields, IsUberblock, StandsIn}
-use Rattle.base.proofs.Put.{Apart, length-put, part-put_same, part-put_apart}
+use Rattle.base.specs.disk.Disk.{put}
+use Rattle.base.specs.formats.Fields.{part}
+use Rattle.base.specs.formats.Geometry.{slot_of, slot_place}
+use Rattle.base.specs.formats.Uberblocks.{Uberblock as Fields, IsUberblock, StandsIn}
+use Rattle.base.proofs.disk.Put.{Apart, length-put, part-put_same, part-put_apart}
 use Rattle.uberblocks.specs.Slots.{FieldsFit, IsWithinLimits, slot_bytes}
 use Rattle.uberblocks.specs.Laws.{ActivesAgree, SlotsDiffer}
 use Rattle.uberblocks.proofs.SlotReads.{readings_agree}

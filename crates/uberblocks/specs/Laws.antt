@@ -1,7 +1,7 @@
 -- What holds of slots, uberblocks and rings.
 use Rattle.std.specs.Prelude.{ℕ, ◌≡◌, ◌≢◌, ◌≤◌, ◌<◌, ◌+◌, ◌↔◌, List, slice_index}
-use Rattle.base.specs.Geometry.{slot_of}
-use Rattle.base.specs.Uberblocks.{Uberblock as Fields, IsUberblock, IsActive, HasNoUberblock}
+use Rattle.base.specs.formats.Geometry.{slot_of}
+use Rattle.base.specs.formats.Uberblocks.{Uberblock as Fields, IsUberblock, IsActive, HasNoUberblock}
 use Rattle.uberblocks.specs.Slots.{FieldsFit, IsWithinLimits, slot_bytes}
 use Rattle.uberblocks.specs.Rings.{IsActiveInRing, HasNoneInRing, IsRingOf}
 

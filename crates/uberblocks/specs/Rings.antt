@@ -1,8 +1,8 @@
 -- The uberblock arrays of four labels, one after the other, and the active uberblock in them.
 use Rattle.std.specs.Prelude.{ℕ, ◌≡◌, ◌≢◌, ◌≤◌, ◌<◌, ◌+◌, ◌-◌, ◌*◌, ◌/◌, ◌%◌, ◌⊎◌, Bool, true, false, List, length, Option, Some, None, nat_lt}
-use Rattle.base.specs.Fields.{part}
-use Rattle.base.specs.Geometry.{slot_place, slot_of}
-use Rattle.base.specs.Uberblocks.{Uberblock as Fields, IsUberblock}
+use Rattle.base.specs.formats.Fields.{part}
+use Rattle.base.specs.formats.Geometry.{slot_place, slot_of}
+use Rattle.base.specs.formats.Uberblocks.{Uberblock as Fields, IsUberblock}
 use Rattle.uberblocks.specs.declared.uberblock.Uberblock.{Uberblock}
 use Rattle.uberblocks.specs.Slots.{fields_of}
 

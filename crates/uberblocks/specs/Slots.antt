@@ -1,10 +1,10 @@
 -- An uberblock's fields, and the bytes of its slot.
 use Rattle.std.specs.Prelude.{ℕ, ◌≡◌, ◌≤◌, ◌<◌, ◌^◌, true, List, ◌++◌, length, replicate}
 use Rattle.sha2.specs.Sha256.{sha256}
-use Rattle.base.specs.Limits.{first_group, last_number}
-use Rattle.base.specs.Versions.{is_version_known, number_of}
-use Rattle.base.specs.Fields.{part, number_at, number_bytes, pointer_at, pointer_bytes}
-use Rattle.base.specs.Uberblocks.{Uberblock as Fields, IsUberblock}
+use Rattle.base.specs.formats.Limits.{first_group, last_number}
+use Rattle.base.specs.formats.Versions.{is_version_known, number_of}
+use Rattle.base.specs.formats.Fields.{part, number_at, number_bytes, pointer_at, pointer_bytes}
+use Rattle.base.specs.formats.Uberblocks.{Uberblock as Fields, IsUberblock}
 use Rattle.uberblocks.specs.declared.uberblock.Uberblock.{Uberblock}
 
 -- the fields that definitions of images speak of

@@ -1,7 +1,7 @@
 //! The uberblock arrays of the four labels, and the active uberblock in them.
 
 ghost use Rattle.std.specs.Prelude.{◌≡◌, ◌+◌, ◌*◌, ◌%◌, ◌≤◌, ◌<◌, IfNone, IfSome, length};
-ghost use Rattle.base.specs.Geometry.{slot_of};
+ghost use Rattle.base.specs.formats.Geometry.{slot_of};
 ghost use Rattle.uberblocks.specs.Slots.{fields_of};
 ghost use Rattle.uberblocks.specs.Rings as above;
 ghost use Rattle.uberblocks.specs.Rings.{HasNoneInRing, IsActiveInRing, IsBetterAt, position_of};

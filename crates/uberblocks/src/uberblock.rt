@@ -3,11 +3,11 @@
 ghost use Rattle.std.specs.Prelude.{◌≡◌, ◌==◌, ◌≤◌, ◌↔◌, IfNone, IfSome, IsTrue, Some, length, take};
 ghost use Rattle.std.specs.List.{list_all};
 ghost use Rattle.sha2.specs.Sha256.{sha256};
-ghost use Rattle.base.specs.Disk.{put};
-ghost use Rattle.base.specs.Limits.{first_group, last_number};
-ghost use Rattle.base.specs.Fields.{number_at};
-ghost use Rattle.base.specs.Versions.{number_of};
-ghost use Rattle.base.specs.Uberblocks.{IsSealedSlot, IsUberblock};
+ghost use Rattle.base.specs.disk.Disk.{put};
+ghost use Rattle.base.specs.formats.Limits.{first_group, last_number};
+ghost use Rattle.base.specs.formats.Fields.{number_at};
+ghost use Rattle.base.specs.formats.Versions.{number_of};
+ghost use Rattle.base.specs.formats.Uberblocks.{IsSealedSlot, IsUberblock};
 ghost use Rattle.uberblocks.specs.Slots.{FieldsFit, HasMagic, HasZeros, HoldsNoUberblock, IsWithinLimits, field_bytes, fields_at, fields_of, slot_bytes, zeros};
 
 use base::{

@@ -2,7 +2,7 @@
 use Rattle.std.proofs.Common.{ℕ, ◌≡◌, ◌+◌, suc, subst, arith}
 use Rattle.base.specs.declared.step.Step.TheVariants.{SyncStep}
 use Rattle.base.specs.declared.step.Reply.TheVariants.{More}
-use Rattle.base.specs.Shown.{Shown}
+use Rattle.base.specs.steps.Shown.{Shown}
 use Rattle.pool_core.specs.StepReplies.{StepReplies}
 use Rattle.ztxg.specs.PoolSteps.{MakesSteps}
 

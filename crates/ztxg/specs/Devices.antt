@@ -3,7 +3,7 @@ use Rattle.std.specs.Prelude.{ℕ, ◌≡◌, ◌⊎◌, ◌+◌, ◌/◌, false
 use Rattle.base.specs.declared.error.PoolError.{PoolError}
 use Rattle.base.specs.declared.error.PoolError.TheVariants.{BadGeometry, BadRange}
 use Rattle.base.specs.declared.step.Reply.TheVariants.{Done, Refused}
-use Rattle.base.specs.Disk.{CrashLeaves, bytes_of, certain, disk_size}
+use Rattle.base.specs.disk.Disk.{CrashLeaves, bytes_of, certain, disk_size}
 use Rattle.device_model.specs.MemState.{MemState, new_state}
 use Rattle.import_replay.specs.Creations.{IsNewPool}
 use Rattle.import_replay.specs.ImportRefusals.{IsReadingRefusal, IsReason, IsSyncRefusal}

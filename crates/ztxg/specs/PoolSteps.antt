@@ -3,7 +3,7 @@ use Rattle.std.specs.Prelude.{ℕ, zero, suc, ◌≡◌, ◌≢◌, ◌⊎◌, �
 use Rattle.base.specs.declared.step.Step.TheVariants.{StartSync, SyncStep, CloseGroup, MarkQuiesced}
 use Rattle.base.specs.declared.step.Reply.{Reply}
 use Rattle.base.specs.declared.step.Reply.TheVariants.{More, Refused}
-use Rattle.base.specs.Shown.{Shown}
+use Rattle.base.specs.steps.Shown.{Shown}
 use Rattle.pool_core.specs.Shows.{shown_of}
 use Rattle.pool_core.specs.StepReplies.{StepReplies}
 use Rattle.ztxg.specs.declared.command.PoolCommand.{PoolCommand}

@@ -1,8 +1,8 @@
 //! The device and the pool that a script works on.
 
 ghost use Rattle.std.specs.Prelude.{◌≡◌, ◌↔◌, ◌*◌, ◌/◌, true, false, is_ok, is_some, IsTrue, IsOk, IsErr, IfOk, IsErrOf, MatchResult, [], drop, unwrap_or, IfSome, IsSomeAnd};
-ghost use Rattle.base.specs.Disk.{bytes_of};
-ghost use Rattle.base.specs.Geometry.{is_geometry};
+ghost use Rattle.base.specs.disk.Disk.{bytes_of};
+ghost use Rattle.base.specs.formats.Geometry.{is_geometry};
 ghost use Rattle.device_model.specs.MemState.{new_state};
 ghost use Rattle.import_replay.specs.Creations.{IsCreatedOn};
 ghost use Rattle.std.specs.Vec.Iter.{into_iter_items};

@@ -1,6 +1,6 @@
 use Rattle.std.proofs.Common.{ℕ, List, refl}
-use Rattle.base.specs.Disk.{bytes_of}
-use Rattle.base.proofs.StoredImports.{zeros-no_log}
+use Rattle.base.specs.disk.Disk.{bytes_of}
+use Rattle.base.proofs.stored.StoredImports.{zeros-no_log}
 use Rattle.round_trip.proofs.make.Goals as goal
 
 pub returns-in-Ok : goal.returns-in-Ok

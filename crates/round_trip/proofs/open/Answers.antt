@@ -1,8 +1,8 @@
 use Rattle.std.proofs.Common.{ℕ, List, ◌∙◌}
-use Rattle.base.specs.Disk.{bytes_of}
-use Rattle.base.specs.Uberblocks.{Uberblock}
-use Rattle.base.proofs.OneMount.{mounts_agree}
-use Rattle.base.proofs.StoredTrees.{same-no_log}
+use Rattle.base.specs.disk.Disk.{bytes_of}
+use Rattle.base.specs.formats.Uberblocks.{Uberblock}
+use Rattle.base.proofs.crash.OneMount.{mounts_agree}
+use Rattle.base.proofs.stored.StoredTrees.{same-no_log}
 use Rattle.round_trip.proofs.Rounds.{no_chain}
 use Rattle.round_trip.proofs.open.Goals as goal
 

@@ -1,7 +1,7 @@
 use Rattle.std.proofs.Common.{sym, subst}
 use Rattle.std.proofs.Math.Logic.{∥∥₁_map}
-use Rattle.base.specs.Contents.{Contents}
-use Rattle.base.specs.Disk.{bytes_of}
+use Rattle.base.specs.history.Contents.{Contents}
+use Rattle.base.specs.disk.Disk.{bytes_of}
 use Rattle.round_trip.specs.Rounds.{IsRound}
 use Rattle.round_trip.proofs.play.Goals as goal
 

@@ -1,11 +1,11 @@
 use Rattle.std.proofs.Common.{◌≡◌, ◌∙◌, ap, sym, subst}
 use Rattle.std.proofs.Math.Logic.{∥∥₁_map}
-use Rattle.base.specs.Contents.{Contents}
-use Rattle.base.specs.Disk.{bytes_of}
-use Rattle.base.specs.Past.{new_past}
-use Rattle.base.specs.Shown.{Shown}
-use Rattle.base.specs.ShownLabels.{HasNoLogBlock}
-use Rattle.base.specs.Stored.{IsHeld}
+use Rattle.base.specs.history.Contents.{Contents}
+use Rattle.base.specs.disk.Disk.{bytes_of}
+use Rattle.base.specs.history.Past.{new_past}
+use Rattle.base.specs.steps.Shown.{Shown}
+use Rattle.base.specs.stored.ShownLabels.{HasNoLogBlock}
+use Rattle.base.specs.stored.Stored.{IsHeld}
 use Rattle.object_maps.specs.ContentsShown.{contents_of}
 use Rattle.pool_core.specs.Holds.{held_with}
 use Rattle.pool_core.specs.Turns.{told_on}

@@ -1,8 +1,8 @@
 use Rattle.std.proofs.Common.{ℕ, ◌≡◌, ◌+◌, ◌≤◌, List, ◌++◌, length, ap, sym, append_assoc, ◌∙◌, arith, rules}
 use Rattle.std.proofs.lemmas.List.{length-append}
-use Rattle.base.specs.Disk.{put}
-use Rattle.base.specs.Fields.{number_bytes}
-use Rattle.base.proofs.FieldsRead.{length-number_bytes, put-put_behind}
+use Rattle.base.specs.disk.Disk.{put}
+use Rattle.base.specs.formats.Fields.{number_bytes}
+use Rattle.base.proofs.formats.FieldsRead.{length-number_bytes, put-put_behind}
 use Rattle.base.proofs.fields.write_pointer.Goals as goal
 
 three : (at : ℕ) (a b c bytes first second third : List ℕ) → length a ≡ 8 → length b ≡ 8 → length c ≡ 32 → at + 48 ≤ length bytes

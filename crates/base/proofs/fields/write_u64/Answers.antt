@@ -1,5 +1,5 @@
-use Rattle.base.specs.Fields.{number_bytes}
-use Rattle.base.proofs.FieldsRead.{put_mid-put}
+use Rattle.base.specs.formats.Fields.{number_bytes}
+use Rattle.base.proofs.formats.FieldsRead.{put_mid-put}
 use Rattle.base.proofs.fields.write_u64.Goals as goal
 
 pub returns : goal.returns

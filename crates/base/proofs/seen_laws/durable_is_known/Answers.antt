@@ -1,5 +1,5 @@
 use Rattle.base.proofs.seen_laws.durable_is_known.Goals as goal
-use Rattle.base.proofs.SeenGroups.{durable_is_known}
+use Rattle.base.proofs.steps.SeenGroups.{durable_is_known}
 
 pub returns : goal.returns
 returns c = durable_is_known

@@ -1,5 +1,5 @@
 use Rattle.base.proofs.seen_laws.unlocks_are_seen.Goals as goal
-use Rattle.base.proofs.SeenStates.{unlocks_are_seen}
+use Rattle.base.proofs.steps.SeenStates.{unlocks_are_seen}
 
 pub returns : goal.returns
 returns c = unlocks_are_seen

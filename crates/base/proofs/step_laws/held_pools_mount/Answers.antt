@@ -1,5 +1,5 @@
 use Rattle.base.proofs.step_laws.held_pools_mount.Goals as goal
-use Rattle.base.proofs.HeldMounts.{held_mounts}
+use Rattle.base.proofs.stored.HeldMounts.{held_mounts}
 
 pub returns : goal.returns
 returns c = held_mounts

@@ -1,5 +1,5 @@
 use Rattle.base.proofs.step_laws.pasts_grow.Goals as goal
-use Rattle.base.proofs.Additions.{runs_grow}
+use Rattle.base.proofs.steps.Additions.{runs_grow}
 
 pub returns : goal.returns
 returns c = runs_grow

@@ -1,5 +1,5 @@
 use Rattle.base.proofs.step_laws.suspended_pools_refuse.Goals as goal
-use Rattle.base.proofs.SyncEnds.{suspended_pools_refuse}
+use Rattle.base.proofs.steps.SyncEnds.{suspended_pools_refuse}
 
 pub returns : goal.returns
 returns c = suspended_pools_refuse

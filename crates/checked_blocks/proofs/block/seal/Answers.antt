@@ -2,8 +2,8 @@ use Rattle.std.proofs.Common.{◌≡◌, ◌+◌, ◌-◌, List, ℕ, ◌++◌, 
 use Rattle.std.proofs.lemmas.List.{length-append, length-replicate}
 use Rattle.sha2.specs.Sha256.{sha256}
 use Rattle.sha2.proofs.Facts256.{length-sha256}
-use Rattle.base.specs.Blocks.{IsBlock, IsSealed, head_bytes, sealed_block}
-use Rattle.base.specs.Disk.{put}
+use Rattle.base.specs.formats.Blocks.{IsBlock, IsSealed, head_bytes, sealed_block}
+use Rattle.base.specs.disk.Disk.{put}
 use Rattle.checked_blocks.specs.Sealing.{zeros, padded}
 use Rattle.checked_blocks.proofs.SealedBlocks.{length-head_bytes, sealed-by_digest, sealed_block-is}
 use Rattle.checked_blocks.proofs.Placed.{put-between, put-payload}

@@ -1,6 +1,6 @@
 use Rattle.std.proofs.Common.{arith}
-use Rattle.base.specs.Fields.{number_bytes}
-use Rattle.base.proofs.FieldsRead.{length-number_bytes}
+use Rattle.base.specs.formats.Fields.{number_bytes}
+use Rattle.base.proofs.formats.FieldsRead.{length-number_bytes}
 use Rattle.checked_blocks.proofs.Placed.{put-head}
 use Rattle.checked_blocks.proofs.block.write_head.Goals as goal
 

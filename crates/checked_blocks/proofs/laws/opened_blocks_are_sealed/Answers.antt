@@ -1,5 +1,5 @@
 use Rattle.std.proofs.Common.{drop}
-use Rattle.base.specs.Fields.{number_at}
+use Rattle.base.specs.formats.Fields.{number_at}
 use Rattle.checked_blocks.proofs.SealedBlocks.{IsBlock-sealed_block, IsExpected-block}
 use Rattle.checked_blocks.proofs.laws.opened_blocks_are_sealed.Goals as goal
 

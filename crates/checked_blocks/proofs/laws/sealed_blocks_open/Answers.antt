@@ -1,4 +1,4 @@
-use Rattle.base.specs.Blocks.{sealed_block}
+use Rattle.base.specs.formats.Blocks.{sealed_block}
 use Rattle.checked_blocks.proofs.SealedBlocks.{sealed_block-is, block-IsExpected}
 use Rattle.checked_blocks.proofs.laws.sealed_blocks_open.Goals as goal
 

@@ -1,7 +1,7 @@
 use Rattle.std.proofs.Common.{ℕ, ◌≡◌, ◌<◌, ◌+◌, ◌∙◌, replicate, refl, subst, arith}
 use Rattle.std.proofs.lemmas.List.{length-replicate}
-use Rattle.base.specs.Disk.{bytes_of}
-use Rattle.base.specs.Geometry.{block_count}
+use Rattle.base.specs.disk.Disk.{bytes_of}
+use Rattle.base.specs.formats.Geometry.{block_count}
 use Rattle.import_replay.specs.Cleared.{AreBlocksCleared, AreTailsCleared}
 use Rattle.import_replay.proofs.LabelWrites.{after_write, block_beside, block_next}
 use Rattle.import_replay.proofs.OutsideWrites.{block_writable, writes_on}

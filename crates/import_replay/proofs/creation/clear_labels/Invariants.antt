@@ -1,6 +1,6 @@
 use Rattle.std.proofs.Common.{◌≡◌}
 use Rattle.std.specs.Prelude.{IsTrue}
-use Rattle.base.specs.Disk.{Disk, bytes_of}
+use Rattle.base.specs.disk.Disk.{Disk, bytes_of}
 use Rattle.import_replay.specs.Cleared.{AreTailsCleared}
 use Rattle.import_replay.specs.Outside.{WritesPoolBytes}
 use Rattle.import_replay.proofs.creation.clear_labels.Given as goal

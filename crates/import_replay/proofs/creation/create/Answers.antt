@@ -1,6 +1,6 @@
 use Rattle.std.proofs.Common.{◌∙◌, List, ℕ, refl, sym, subst}
-use Rattle.base.specs.Disk.{bytes_of}
-use Rattle.base.specs.Geometry.{IsGeometry}
+use Rattle.base.specs.disk.Disk.{bytes_of}
+use Rattle.base.specs.formats.Geometry.{IsGeometry}
 use Rattle.import_replay.specs.Creations.{IsNewPool, IsCreatedOn}
 use Rattle.import_replay.specs.Labelled.{IsLabelled}
 use Rattle.import_replay.proofs.NewLabels.{created_from, new_pool_from, settled_from}

@@ -1,6 +1,6 @@
 use Rattle.std.proofs.Common.{◌≡◌}
 use Rattle.std.specs.Prelude.{IsTrue}
-use Rattle.base.specs.Disk.{Disk, bytes_of}
+use Rattle.base.specs.disk.Disk.{Disk, bytes_of}
 use Rattle.import_replay.specs.Creations.{first_config}
 use Rattle.import_replay.specs.Cleared.{IsCleared}
 use Rattle.import_replay.specs.Labelled.{HoldConfig}

@@ -1,6 +1,6 @@
 use Rattle.std.proofs.Common.{ℕ, ◌≡◌, ◌+◌, ◌∙◌, ap, subst, arith}
-use Rattle.base.specs.Disk.{bytes_of}
-use Rattle.base.specs.Geometry.{slot_place}
+use Rattle.base.specs.disk.Disk.{bytes_of}
+use Rattle.base.specs.formats.Geometry.{slot_place}
 use Rattle.import_replay.specs.Creations.{first_config, first_uberblock}
 use Rattle.import_replay.specs.Cleared.{IsCleared}
 use Rattle.import_replay.specs.Labelled.{HoldConfig, HoldUberblock}

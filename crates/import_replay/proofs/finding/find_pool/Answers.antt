@@ -1,6 +1,6 @@
 use Rattle.std.proofs.Common.{◌≡◌, ℕ, List, length, sym, subst, ◌∙◌}
-use Rattle.base.specs.Disk.{Disk, bytes_of}
-use Rattle.base.specs.Geometry.{IsGeometry}
+use Rattle.base.specs.disk.Disk.{Disk, bytes_of}
+use Rattle.base.specs.formats.Geometry.{IsGeometry}
 use Rattle.uberblocks.specs.Slots.{fields_of}
 use Rattle.import_replay.specs.Found.{HasFirstStage, HasName, LacksName}
 use Rattle.import_replay.specs.ImportRefusals.{IsReason}

@@ -1,6 +1,6 @@
 use Rattle.std.proofs.Common.{◌+◌, ◌*◌, ◌-◌, arith}
-use Rattle.base.specs.Disk.{bytes_of}
-use Rattle.base.specs.Geometry.{slot_place}
+use Rattle.base.specs.disk.Disk.{bytes_of}
+use Rattle.base.specs.formats.Geometry.{slot_place}
 use Rattle.import_replay.proofs.Rings.{put_array}
 use Rattle.import_replay.proofs.finding.read_array.Goals as goal
 

@@ -1,5 +1,5 @@
 use Rattle.std.proofs.Common.{subst, ◌∙◌, ℕ, List}
-use Rattle.base.specs.Disk.{Disk, bytes_of}
+use Rattle.base.specs.disk.Disk.{Disk, bytes_of}
 use Rattle.labels.specs.Choices.{IsRead}
 use Rattle.import_replay.proofs.Configs.{four_read}
 use Rattle.import_replay.proofs.finding.read_configs.Goals as goal

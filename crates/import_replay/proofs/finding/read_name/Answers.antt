@@ -1,5 +1,5 @@
 use Rattle.std.proofs.Common.{ℕ, List}
-use Rattle.base.specs.Disk.{bytes_of}
+use Rattle.base.specs.disk.Disk.{bytes_of}
 use Rattle.import_replay.proofs.Configs.{ok_weaker, err_weaker, named, first_named, lacks}
 use Rattle.import_replay.specs.LabelSyncs.{is_even}
 use Rattle.import_replay.proofs.finding.read_name.Goals as goal

@@ -1,8 +1,8 @@
 use Rattle.std.proofs.Common.{◌≡◌, ◌≤◌, ◌+◌, ◌*◌, ℕ, List, length, ap, sym, refl, subst, ◌∙◌, arith}
-use Rattle.base.specs.Disk.{Disk, bytes_of, put}
-use Rattle.base.specs.Fields.{part}
-use Rattle.base.specs.Geometry.{slot_place}
-use Rattle.base.proofs.Put.{length-part}
+use Rattle.base.specs.disk.Disk.{Disk, bytes_of, put}
+use Rattle.base.specs.formats.Fields.{part}
+use Rattle.base.specs.formats.Geometry.{slot_place}
+use Rattle.base.proofs.disk.Put.{length-part}
 use Rattle.import_replay.proofs.Rings.{one_more, written_back, active-of_image, none-of_image, is_ring}
 use Rattle.import_replay.proofs.finding.read_uberblock.Goals as goal
 

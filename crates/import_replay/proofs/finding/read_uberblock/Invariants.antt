@@ -1,7 +1,7 @@
 use Rattle.std.proofs.Common.{◌≡◌, ◌<◌, ◌*◌, ℕ, IsTrue, vec_len}
-use Rattle.base.specs.Disk.{bytes_of}
-use Rattle.base.specs.Fields.{part}
-use Rattle.base.specs.Geometry.{slot_place}
+use Rattle.base.specs.disk.Disk.{bytes_of}
+use Rattle.base.specs.formats.Fields.{part}
+use Rattle.base.specs.formats.Geometry.{slot_place}
 use Rattle.import_replay.proofs.finding.read_uberblock.Given as goal
 
 -- the device keeps its size, its disk and its count of refused calls, and the ring's parts so far are the labels' arrays

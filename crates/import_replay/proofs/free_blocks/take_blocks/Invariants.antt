@@ -1,6 +1,6 @@
 use Rattle.std.proofs.Common.{◌≡◌, vec_len, take}
 use Rattle.std.specs.List.{list_any}
-use Rattle.base.specs.Geometry.{block_count}
+use Rattle.base.specs.formats.Geometry.{block_count}
 use Rattle.import_replay.specs.FreeBlocks.{FlagsTaken, names_block}
 use Rattle.import_replay.proofs.free_blocks.take_blocks.Given as goal
 

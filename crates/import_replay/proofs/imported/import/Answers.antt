@@ -1,8 +1,8 @@
 use Rattle.std.proofs.Common.{◌≡◌, ◌∙◌, ℕ, List, length, sym, subst}
-use Rattle.base.specs.Disk.{bytes_of}
-use Rattle.base.specs.Geometry.{IsGeometry}
-use Rattle.base.specs.ExactNow.{IsExplainedNow}
-use Rattle.base.specs.Past.{new_past}
+use Rattle.base.specs.disk.Disk.{bytes_of}
+use Rattle.base.specs.formats.Geometry.{IsGeometry}
+use Rattle.base.specs.steps.ExactNow.{IsExplainedNow}
+use Rattle.base.specs.history.Past.{new_past}
 use Rattle.object_maps.specs.ContentsShown.{contents_of}
 use Rattle.import_replay.specs.Mounts.{shown_of_import}
 use Rattle.import_replay.proofs.ShownMounts.{labels_show}

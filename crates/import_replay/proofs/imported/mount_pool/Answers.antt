@@ -2,17 +2,17 @@ use Rattle.std.proofs.Common.{◌≡◌, inl, inr, ℕ, Bool, List, length, sym,
 use Rattle.std.specs.Prelude.{IfSome, nat_lt}
 use Rattle.std.specs.List.{list_all}
 use Rattle.std.specs.FinMap as finite
-use Rattle.base.specs.Blocks.{Frame}
-use Rattle.base.specs.Names.{IsName}
+use Rattle.base.specs.formats.Blocks.{Frame}
+use Rattle.base.specs.formats.Names.{IsName}
 use Rattle.base.specs.declared.error.PoolError.{PoolError}
-use Rattle.base.specs.Disk.{Disk, bytes_of, certain}
-use Rattle.base.specs.Exact.{IsBounded}
-use Rattle.base.specs.Faults.{IsFirstFault}
-use Rattle.base.specs.Mount.{HasPool}
-use Rattle.base.specs.PlacedTrees.{HoldsTree}
-use Rattle.base.proofs.Regions.{flushed_clean}
+use Rattle.base.specs.disk.Disk.{Disk, bytes_of, certain}
+use Rattle.base.specs.steps.Exact.{IsBounded}
+use Rattle.base.specs.tree.Faults.{IsFirstFault}
+use Rattle.base.specs.crash.Mount.{HasPool}
+use Rattle.base.specs.tree.PlacedTrees.{HoldsTree}
+use Rattle.base.proofs.disk.Regions.{flushed_clean}
 use Rattle.uberblocks.specs.Slots.{fields_of}
-use Rattle.base.specs.Uberblocks.{Uberblock}
+use Rattle.base.specs.formats.Uberblocks.{Uberblock}
 use Rattle.object_maps.specs.declared.contents.Slot.{Slot}
 use Rattle.object_maps.specs.declared.tree.Tree.{Tree}
 use Rattle.object_maps.specs.ContentsShown.{contents_of}

@@ -2,11 +2,11 @@ use Rattle.std.proofs.Common.{◌≡◌, ◌+◌, ◌∙◌, refl, sym, subst, �
 use Rattle.std.specs.Ordering.{nat_cmp}
 use Rattle.std.specs.FinSet.{FinSet}
 use Rattle.object_maps.specs.declared.tree.Tree.{Tree}
-use Rattle.base.specs.Geometry.{block_address, block_count}
-use Rattle.base.specs.Labels.{Config}
-use Rattle.base.specs.SyncOrder.{import_calls}
-use Rattle.base.specs.Uberblocks.{Uberblock}
-use Rattle.base.specs.Versions.{written_version}
+use Rattle.base.specs.formats.Geometry.{block_address, block_count}
+use Rattle.base.specs.formats.Labels.{Config}
+use Rattle.base.specs.disk.SyncOrder.{import_calls}
+use Rattle.base.specs.formats.Uberblocks.{Uberblock}
+use Rattle.base.specs.formats.Versions.{written_version}
 use Rattle.base.specs.declared.error.PoolError.{PoolError}
 use Rattle.base.specs.declared.error.PoolError.TheVariants.{NoSpace}
 use Rattle.object_maps.specs.Pointers.{pointers_of}

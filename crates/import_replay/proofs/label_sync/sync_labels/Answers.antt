@@ -1,9 +1,9 @@
 use Rattle.std.proofs.Common.{◌≡◌, ◌∙◌, ℕ, List, length, ap}
 use Rattle.base.specs.declared.error.PoolError.{PoolError}
-use Rattle.base.specs.Disk.{bytes_of}
-use Rattle.base.specs.Labels.{Config}
-use Rattle.base.specs.SyncOrder.{DeviceCall, import_calls}
-use Rattle.base.specs.Uberblocks.{Uberblock}
+use Rattle.base.specs.disk.Disk.{bytes_of}
+use Rattle.base.specs.formats.Labels.{Config}
+use Rattle.base.specs.disk.SyncOrder.{DeviceCall, import_calls}
+use Rattle.base.specs.formats.Uberblocks.{Uberblock}
 use Rattle.uberblocks.specs.Slots.{fields_of}
 use Rattle.sync.specs.Runs.{call_count}
 use Rattle.import_replay.specs.ImportRefusals.{IsSyncRefusal}

@@ -1,6 +1,6 @@
 use Rattle.std.proofs.Common.{◌≡◌, ◌<◌, ◌-◌, IsTrue, take}
-use Rattle.base.specs.Disk.{bytes_of}
-use Rattle.base.specs.SyncOrder.{import_calls}
+use Rattle.base.specs.disk.Disk.{bytes_of}
+use Rattle.base.specs.disk.SyncOrder.{import_calls}
 use Rattle.uberblocks.specs.Slots.{fields_of}
 use Rattle.sync.specs.Made.{HasMade}
 use Rattle.sync.specs.Runs.{call_count}

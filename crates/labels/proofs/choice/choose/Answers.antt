@@ -3,7 +3,7 @@ use Rattle.std.specs.Prelude.{slice_get}
 use Rattle.std.specs.Option.{option_copied}
 use Rattle.std.proofs.lemmas.Option.{slice_get_read}
 use Rattle.base.specs.declared.error.PoolError.TheVariants.{NoPool}
-use Rattle.base.specs.Labels.{Config, IsCandidate}
+use Rattle.base.specs.formats.Labels.{Config, IsCandidate}
 use Rattle.labels.proofs.BestConfigs.{BestAmong-keeps, BestAmong-takes, IsNotHigher, held, held-none, higher-copied, not_higher, chosen, none_chosen}
 use Rattle.labels.proofs.choice.choose.Goals as goal
 use Rattle.labels.proofs.choice.choose.Goals.{in-Some+then-is_candidate+then-is_higher, in-Some+else-is_candidate, else-is_candidate-via-then-is_candidate+else-is_higher, else-is_candidate-via-else-is_candidate, in_default}

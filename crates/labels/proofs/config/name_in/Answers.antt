@@ -1,8 +1,8 @@
 use Rattle.std.proofs.Common.{◌≡◌, ℕ, ◌+◌, ◌-◌, List, length, take, drop, replicate, Option, Some, None, true, false, subst, sym, ◌∙◌, ap, arith}
 use Rattle.std.specs.Prelude.{IfSome}
 use Rattle.std.proofs.lemmas.List.{take_rest}
-use Rattle.base.specs.Names.{IsName}
-use Rattle.base.specs.Labels.{IsConfigPayload}
+use Rattle.base.specs.formats.Names.{IsName}
+use Rattle.base.specs.formats.Labels.{IsConfigPayload}
 use Rattle.labels.proofs.ConfigBlocks.{zeros-behind, IsConfigPayload-by}
 use Rattle.labels.proofs.config.name_in.Goals as goal
 

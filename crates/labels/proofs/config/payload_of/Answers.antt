@@ -1,6 +1,6 @@
 use Rattle.std.proofs.Common.{ℕ, List, length, arith}
-use Rattle.base.specs.Fields.{number_bytes}
-use Rattle.base.proofs.FieldsRead.{length-number_bytes}
+use Rattle.base.specs.formats.Fields.{number_bytes}
+use Rattle.base.proofs.formats.FieldsRead.{length-number_bytes}
 use Rattle.labels.proofs.ConfigBlocks.{put-config}
 use Rattle.labels.proofs.config.payload_of.Goals as goal
 

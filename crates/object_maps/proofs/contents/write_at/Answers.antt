@@ -1,7 +1,7 @@
 use Rattle.std.proofs.Common.{ℕ, ◌≡◌, ◌+◌, max, List, length, drop, ◌∙◌, sym, ap, arith}
 use Rattle.std.proofs.lemmas.List.{take_at}
-use Rattle.base.specs.Disk.{put}
-use Rattle.base.proofs.Put.{length-put}
+use Rattle.base.specs.disk.Disk.{put}
+use Rattle.base.proofs.disk.Put.{length-put}
 use Rattle.object_maps.proofs.Growth.{put_is_write}
 use Rattle.object_maps.proofs.contents.write_at.Goals as goal
 

@@ -1,6 +1,6 @@
 use Rattle.std.proofs.Common.{ℕ, ◌<◌}
-use Rattle.base.specs.Fields.{entry_in}
-use Rattle.base.specs.Faults.{IsEntryForm}
+use Rattle.base.specs.formats.Fields.{entry_in}
+use Rattle.base.specs.tree.Faults.{IsEntryForm}
 use Rattle.object_maps.proofs.walk.are_entries.Given as goal
 
 abbrev pub invariant-loop-index : goal.invariant-loop-index

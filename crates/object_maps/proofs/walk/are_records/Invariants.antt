@@ -1,6 +1,6 @@
 use Rattle.std.proofs.Common.{ℕ, ◌<◌}
-use Rattle.base.specs.Fields.{pointer_in}
-use Rattle.base.specs.Faults.{IsRecordPointerForm}
+use Rattle.base.specs.formats.Fields.{pointer_in}
+use Rattle.base.specs.tree.Faults.{IsRecordPointerForm}
 use Rattle.object_maps.proofs.walk.are_records.Given as goal
 
 abbrev pub invariant-loop-index : goal.invariant-loop-index

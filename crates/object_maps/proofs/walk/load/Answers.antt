@@ -1,5 +1,5 @@
 use Rattle.std.proofs.Common.{◌∙◌, ℕ, List, refl}
-use Rattle.base.specs.Disk.{bytes_of}
+use Rattle.base.specs.disk.Disk.{bytes_of}
 use Rattle.object_maps.proofs.LoadedTrees.{all_empty, no_pointers, standing_tree, length-standing, tree_placed, tree_bounded, tree_holds}
 use Rattle.std.proofs.lemmas.Result.{err_from_is_err_and}
 use Rattle.object_maps.proofs.WalkParts.{first_fault}

@@ -2,16 +2,16 @@ use Rattle.std.proofs.Common.{◌≡◌, ◌+◌, ◌∙◌, ℕ, List, length, 
 use Rattle.std.specs.Prelude.{IsTrue}
 use Rattle.std.proofs.lemmas.List.{take_at}
 use Rattle.base.specs.declared.pointer.Pointer.{Pointer}
-use Rattle.base.specs.Faults.{IsRecordPointerForm}
-use Rattle.base.specs.Places.Place.{Indirect}
-use Rattle.base.specs.Tree.{OpensAt}
+use Rattle.base.specs.tree.Faults.{IsRecordPointerForm}
+use Rattle.base.specs.tree.Places.Place.{Indirect}
+use Rattle.base.specs.tree.Tree.{OpensAt}
 use Rattle.object_maps.specs.Pointers.{pointer_of_list}
 use Rattle.object_maps.specs.Loading.{IsLoadedObject, AreLoadedRecords}
 use Rattle.object_maps.proofs.LoadedBlocks.{still_shows}
 use Rattle.object_maps.proofs.LoadedRecords.{zero_records, hole_loaded, object_loaded}
 use Rattle.std.proofs.lemmas.Result.{err_from_is_err_and}
-use Rattle.base.specs.Disk.{Disk, bytes_of}
-use Rattle.base.specs.Places.{walk_index_of_indirect}
+use Rattle.base.specs.disk.Disk.{Disk, bytes_of}
+use Rattle.base.specs.tree.Places.{walk_index_of_indirect}
 use Rattle.object_maps.proofs.WalkOrder.{sound_more}
 use Rattle.object_maps.proofs.WalkFaults.{missing_fault}
 use Rattle.object_maps.proofs.WalkParts.{tells_behind, object_none, data_linked, indirect_sound, indirect_fault}

@@ -3,8 +3,8 @@ use Rattle.object_maps.proofs.LoadedBlocks.{still_shows}
 use Rattle.object_maps.proofs.LoadedEntries.{directories_skip, directories_load, empty_more, empty_behind}
 use Rattle.std.proofs.lemmas.List.{get_or_default}
 use Rattle.std.proofs.lemmas.Result.{err_from_is_err_and}
-use Rattle.base.specs.Fields.{no_pointer}
-use Rattle.base.specs.Disk.{Disk, bytes_of}
+use Rattle.base.specs.formats.Fields.{no_pointer}
+use Rattle.base.specs.disk.Disk.{Disk, bytes_of}
 use Rattle.object_maps.specs.Walking.{AreSound}
 use Rattle.object_maps.proofs.WalkOrder.{sound_more}
 use Rattle.object_maps.proofs.WalkParts.{tells_behind, directory_skip}

@@ -1,7 +1,7 @@
 use Rattle.std.proofs.Common.{◌≡◌, ◌+◌, ◌*◌, List, ℕ}
 use Rattle.std.specs.Prelude.{IsTrue}
 use Rattle.base.specs.declared.pointer.Pointer.{Pointer}
-use Rattle.base.specs.Disk.{bytes_of}
+use Rattle.base.specs.disk.Disk.{bytes_of}
 use Rattle.object_maps.specs.Walking.{AreSound, AreDirectoriesOf}
 use Rattle.object_maps.specs.Loading.{Shows, AreLoadedDirectories, AreEmptyFrom}
 use Rattle.object_maps.proofs.walk.load_directories.Given as goal

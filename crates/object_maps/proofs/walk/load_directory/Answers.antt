@@ -1,9 +1,9 @@
 use Rattle.std.proofs.Common.{◌+◌, ◌*◌, ◌∙◌, ℕ, List, refl, ap, sym, subst}
 use Rattle.std.specs.Prelude.{IsTrue}
 use Rattle.std.proofs.lemmas.Result.{on_ok_weaker, IfErr-weaker, err_from_is_err_and}
-use Rattle.base.specs.Disk.{Disk, bytes_of}
-use Rattle.base.specs.Places.Place.{Directory}
-use Rattle.base.specs.Tree.{OpensAt}
+use Rattle.base.specs.disk.Disk.{Disk, bytes_of}
+use Rattle.base.specs.tree.Places.Place.{Directory}
+use Rattle.base.specs.tree.Tree.{OpensAt}
 use Rattle.object_maps.proofs.LoadedBlocks.{still_shows}
 use Rattle.object_maps.proofs.LoadedEntries.{directory_loaded}
 use Rattle.object_maps.specs.Walking.{TellsFault}

@@ -1,11 +1,11 @@
 use Rattle.std.proofs.Common.{◌≡◌, ◌<◌, ◌≤◌, ◌+◌, ◌*◌, ◌∙◌, ℕ, List, length, ap, subst, sym, arith}
-use Rattle.base.specs.Limits.{max_length}
-use Rattle.base.specs.Fields.{entry_in, entry_present, entry_length}
+use Rattle.base.specs.formats.Limits.{max_length}
+use Rattle.base.specs.formats.Fields.{entry_in, entry_present, entry_length}
 use Rattle.object_maps.proofs.LoadedBlocks.{still_shows}
 use Rattle.object_maps.proofs.EntryForms.{entry_absent, entry_short}
 use Rattle.object_maps.proofs.LoadedEntries.{entries_skip, entries_put}
 use Rattle.std.proofs.lemmas.Result.{err_from_is_err_and}
-use Rattle.base.specs.Disk.{Disk, bytes_of}
+use Rattle.base.specs.disk.Disk.{Disk, bytes_of}
 use Rattle.object_maps.specs.Walking.{AreSound}
 use Rattle.object_maps.proofs.WalkParts.{entry_skip, object_more, linked_entry, entry_tells}
 use Rattle.object_maps.proofs.walk.load_entries.Goals as goal

@@ -1,10 +1,10 @@
 use Rattle.std.proofs.Common.{ℕ, List, length, refl, sym, subst}
 use Rattle.std.proofs.lemmas.List.{take_rest}
-use Rattle.base.specs.Places.Place.{Data}
-use Rattle.base.specs.Tree.{OpensAt}
+use Rattle.base.specs.tree.Places.Place.{Data}
+use Rattle.base.specs.tree.Tree.{OpensAt}
 use Rattle.object_maps.proofs.LoadedRecords.{record_taken, records_apart}
 use Rattle.std.proofs.lemmas.Result.{err_from_is_err_and}
-use Rattle.base.specs.Places.{walk_index_of}
+use Rattle.base.specs.tree.Places.{walk_index_of}
 use Rattle.object_maps.proofs.WalkFaults.{missing_fault, record_fault, record_sound}
 use Rattle.object_maps.proofs.walk.load_record.Goals as goal
 

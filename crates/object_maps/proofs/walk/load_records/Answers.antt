@@ -2,8 +2,8 @@ use Rattle.std.proofs.Common.{◌≡◌, ◌<◌, ◌+◌, ◌∙◌, ℕ, lengt
 use Rattle.object_maps.proofs.LoadedBlocks.{still_shows}
 use Rattle.object_maps.proofs.LoadedRecords.{records_skip, records_load}
 use Rattle.std.proofs.lemmas.Result.{err_from_is_err_and}
-use Rattle.base.specs.Disk.{Disk, bytes_of}
-use Rattle.base.specs.Places.{walk_index_of_indirect}
+use Rattle.base.specs.disk.Disk.{Disk, bytes_of}
+use Rattle.base.specs.tree.Places.{walk_index_of_indirect}
 use Rattle.object_maps.specs.Walking.{AreSound}
 use Rattle.object_maps.proofs.WalkParts.{sound_then, tells_behind, data_of, record_skip}
 use Rattle.object_maps.proofs.walk.load_records.Goals as goal

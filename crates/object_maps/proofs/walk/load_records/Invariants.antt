@@ -1,8 +1,8 @@
 use Rattle.std.proofs.Common.{◌≡◌, ◌+◌, length, List, ℕ}
 use Rattle.std.specs.Prelude.{IsTrue}
 use Rattle.base.specs.declared.pointer.Pointer.{Pointer}
-use Rattle.base.specs.Disk.{bytes_of}
-use Rattle.base.specs.Places.{walk_index_of_indirect}
+use Rattle.base.specs.disk.Disk.{bytes_of}
+use Rattle.base.specs.tree.Places.{walk_index_of_indirect}
 use Rattle.object_maps.specs.Walking.{AreSound, AreDataOf}
 use Rattle.object_maps.specs.Loading.{Shows, AreLoadedRecords}
 use Rattle.object_maps.proofs.walk.load_records.Given as goal

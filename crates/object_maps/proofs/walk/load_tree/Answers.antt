@@ -1,11 +1,11 @@
 use Rattle.std.proofs.Common.{◌∙◌, ℕ, List, refl, ap, sym, subst, arith}
 use Rattle.std.specs.Prelude.{IsTrue}
 use Rattle.std.proofs.lemmas.Result.{on_ok_weaker, IfErr-weaker, err_from_is_err_and}
-use Rattle.base.specs.Places.Place.{Root}
-use Rattle.base.specs.Tree.{OpensAt}
+use Rattle.base.specs.tree.Places.Place.{Root}
+use Rattle.base.specs.tree.Tree.{OpensAt}
 use Rattle.object_maps.proofs.LoadedBlocks.{still_shows}
 use Rattle.object_maps.proofs.LoadedTrees.{no_tree, tree_loaded}
-use Rattle.base.specs.Disk.{Disk, bytes_of}
+use Rattle.base.specs.disk.Disk.{Disk, bytes_of}
 use Rattle.object_maps.specs.Walking.{TellsFault}
 use Rattle.object_maps.proofs.WalkFaults.{missing_fault, formless_fault}
 use Rattle.object_maps.proofs.WalkParts.{tells_behind, root_sound, root_fault, directories_linked}

@@ -1,5 +1,5 @@
 use Rattle.std.proofs.Common.{◌≡◌, ◌≤◌, ◌∙◌, ap, refl, arith, List, ℕ, length}
-use Rattle.base.specs.Fields.{part}
+use Rattle.base.specs.formats.Fields.{part}
 use Rattle.object_maps.specs.Kinds.{kind_number}
 use Rattle.std.proofs.lemmas.Result.{err_from_is_err_and}
 use Rattle.object_maps.proofs.LoadedBlocks.{block_opens}

@@ -1,5 +1,5 @@
 use Rattle.std.proofs.Common.{◌≡◌, ℕ, ◌<◌}
-use Rattle.base.specs.Fields.{pointer_in}
+use Rattle.base.specs.formats.Fields.{pointer_in}
 use Rattle.object_maps.specs.Pointers.{pointer_of_list}
 use Rattle.object_maps.proofs.walk.read_pointers.Given as goal
 

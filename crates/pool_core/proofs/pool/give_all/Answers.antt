@@ -1,5 +1,5 @@
 use Rattle.std.proofs.Common.{◌<◌, ◌∙◌, arith, vec_len}
-use Rattle.base.specs.Geometry.{block_count}
+use Rattle.base.specs.formats.Geometry.{block_count}
 use Rattle.space.specs.FreeSets.{free_of}
 use Rattle.pool_core.proofs.FreeBlocks.{block_of, given_more, union_none}
 use Rattle.pool_core.proofs.pool.give_all.Goals as goal

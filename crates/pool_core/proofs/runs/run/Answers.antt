@@ -4,7 +4,7 @@ use Rattle.std.specs.Vec.Iter.{into_iter_items}
 use Rattle.std.proofs.lemmas.List.{append-nil, nil_from_length}
 use Rattle.base.specs.declared.step.Reply.{Reply}
 use Rattle.base.specs.declared.step.Step.{Step}
-use Rattle.base.specs.Runs.{Run}
+use Rattle.base.specs.steps.Runs.{Run}
 use Rattle.pool_core.specs.Turns.{MakesStep}
 use Rattle.pool_core.proofs.MadeRuns.{count_on, holds_on, runs_on}
 use Rattle.pool_core.proofs.runs.run.Goals as goal

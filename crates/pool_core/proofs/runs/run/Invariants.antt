@@ -2,7 +2,7 @@ use Rattle.std.proofs.Common.{◌≡◌, ◌+◌, ◌≤◌, ◌++◌, List, vec
 use Rattle.std.specs.Prelude.{IsTrue}
 use Rattle.std.specs.Vec.Iter.{into_iter_items, into_iter_len}
 use Rattle.base.specs.declared.step.Reply.{Reply}
-use Rattle.base.specs.Runs.{Run}
+use Rattle.base.specs.steps.Runs.{Run}
 use Rattle.pool_core.specs.declared.pool.Pool.{Pool}
 use Rattle.pool_core.specs.Turns.{MakesStep}
 use Rattle.pool_core.proofs.runs.run.Given as goal

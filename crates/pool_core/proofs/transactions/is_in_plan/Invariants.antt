@@ -1,7 +1,7 @@
 use Rattle.std.proofs.Common.{ℕ, ◌≡◌, ◌<◌, get_or}
 use Rattle.base.specs.declared.operation.Op.{Op}
 use Rattle.base.specs.declared.operation.Shape.{Shape}
-use Rattle.base.specs.Plans.{shape_of}
+use Rattle.base.specs.history.Plans.{shape_of}
 use Rattle.pool_core.proofs.transactions.is_in_plan.Given as goal
 
 -- the operations so far have the plan's shapes

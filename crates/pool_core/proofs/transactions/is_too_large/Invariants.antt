@@ -1,6 +1,6 @@
 use Rattle.std.proofs.Common.{◌≡◌, ◌+◌, ◌≤◌, take}
 use Rattle.std.specs.Prelude.{sum_by}
-use Rattle.base.specs.Plans.{size_of_shape}
+use Rattle.base.specs.history.Plans.{size_of_shape}
 use Rattle.pool_core.proofs.transactions.is_too_large.Given as goal
 
 -- the size so far, which is within the limit

@@ -1,5 +1,5 @@
 use Rattle.std.proofs.Common.{◌≡◌, ℕ, ◌<◌, ◌≤◌, length, replicate}
-use Rattle.base.specs.Fields.{entry_in}
+use Rattle.base.specs.formats.Fields.{entry_in}
 use Rattle.object_maps.specs.ContentsShown.{contents_of}
 use Rattle.tree_plans.specs.Walks.{AreEntriesWritten}
 use Rattle.tree_plans.proofs.payload.directory_payload.Given as goal

@@ -1,6 +1,6 @@
 use Rattle.std.proofs.Common.{◌≡◌, ℕ, ◌<◌, length}
 use Rattle.std.specs.Prelude.{slice_index_or}
-use Rattle.base.specs.Fields.{no_pointer, pointer_in}
+use Rattle.base.specs.formats.Fields.{no_pointer, pointer_in}
 use Rattle.tree_plans.proofs.payload.payload_of.Given as goal
 
 abbrev pub invariant-loop-index : goal.invariant-loop-index

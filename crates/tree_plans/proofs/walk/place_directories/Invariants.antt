@@ -1,5 +1,5 @@
 use Rattle.std.proofs.Common.{◌≡◌, ◌≤◌, [], slice_index_or, vec_len, vec_capacity}
-use Rattle.base.specs.Fields.{no_pointer}
+use Rattle.base.specs.formats.Fields.{no_pointer}
 use Rattle.object_maps.specs.ContentsShown.{contents_of}
 use Rattle.tree_plans.specs.Order.{Adds, addresses_where}
 use Rattle.tree_plans.specs.Plans.{Goes, progress_of}

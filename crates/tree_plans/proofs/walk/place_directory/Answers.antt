@@ -1,6 +1,6 @@
 use Rattle.std.proofs.Common.{◌≡◌, ◌<◌, true, length, arith, rules}
 use Rattle.std.specs.Prelude.{slice_index_or}
-use Rattle.base.specs.Fields.{no_pointer}
+use Rattle.base.specs.formats.Fields.{no_pointer}
 use Rattle.tree_plans.proofs.Walks.{at_any, directory_written, frees_weaker}
 use Rattle.tree_plans.proofs.walk.place_directory.Goals as goal
 

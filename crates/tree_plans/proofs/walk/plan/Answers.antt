@@ -1,9 +1,9 @@
 use Rattle.std.proofs.Common.{List, ap, refl, map, subst}
 use Rattle.std.specs.Prelude.{All}
-use Rattle.base.specs.Geometry.{IsBlockAddress}
-use Rattle.base.specs.Blocks.{Frame}
-use Rattle.base.specs.PlacedTrees.{ArePlaced}
-use Rattle.base.specs.PlannedTrees.{AreFreed, IsTreePlan}
+use Rattle.base.specs.formats.Geometry.{IsBlockAddress}
+use Rattle.base.specs.formats.Blocks.{Frame}
+use Rattle.base.specs.tree.PlacedTrees.{ArePlaced}
+use Rattle.base.specs.tree.PlannedTrees.{AreFreed, IsTreePlan}
 use Rattle.object_maps.specs.ContentsShown.{contents_of}
 use Rattle.tree_plans.specs.Changes.{AreBornBefore}
 use Rattle.tree_plans.specs.declared.planner.PlannedBlock.{PlannedBlock}

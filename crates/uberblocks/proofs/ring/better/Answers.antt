@@ -1,7 +1,7 @@
 use Rattle.std.proofs.Common.{ℕ, ◌≡◌, ◌+◌, ◌-◌, ◌*◌, inl, inr, refl, subst, sym, ap, ◌∙◌, arith}
-use Rattle.base.specs.Fields.{part}
-use Rattle.base.specs.Geometry.{slot_of}
-use Rattle.base.specs.Uberblocks.{IsUberblock}
+use Rattle.base.specs.formats.Fields.{part}
+use Rattle.base.specs.formats.Geometry.{slot_of}
+use Rattle.base.specs.formats.Uberblocks.{IsUberblock}
 use Rattle.uberblocks.specs.Slots.{fields_of}
 use Rattle.uberblocks.specs.Rings.{is_above}
 use Rattle.uberblocks.proofs.Places.{group-at}

@@ -1,6 +1,6 @@
 use Rattle.std.proofs.Common.{sym, ◌∙◌, arith}
-use Rattle.base.specs.Fields.{part}
-use Rattle.base.proofs.Put.{length-part}
+use Rattle.base.specs.formats.Fields.{part}
+use Rattle.base.proofs.disk.Put.{length-part}
 use Rattle.uberblocks.proofs.SlotReads.{clear_from_all, all_from_clear}
 use Rattle.uberblocks.proofs.uberblock.is_clear.Goals as goal
 

@@ -1,6 +1,6 @@
 use Rattle.std.proofs.Common.{subst, sym, ap, ◌∙◌, Some}
 use Rattle.std.proofs.lemmas.Bool.{iff_false}
-use Rattle.base.specs.Uberblocks.{Uberblock as Fields, IsUberblock}
+use Rattle.base.specs.formats.Uberblocks.{Uberblock as Fields, IsUberblock}
 use Rattle.uberblocks.specs.Slots.{fields_of, IsWithinLimits}
 use Rattle.uberblocks.specs.declared.uberblock.Uberblock.{Uberblock}
 use Rattle.uberblocks.proofs.SlotReads.{IsFormed, IsFormed-read, IsUberblock-formed, fields_at-read, fields_of-same}

@@ -1,6 +1,6 @@
 use Rattle.std.proofs.Common.{◌≡◌, ◌<◌, ◌-◌, ◌/◌, ap, arith}
 use Rattle.std.proofs.lemmas.Bool.Decides.{nat_tests}
-use Rattle.base.specs.Blocks.{Frame}
+use Rattle.base.specs.formats.Blocks.{Frame}
 use Rattle.checked_blocks.proofs.Addresses.{address-below, IsBlockAddress-by}
 use Rattle.checked_blocks.proofs.frame.Frame.is_block_address.Goals as goal
 

@@ -1,8 +1,8 @@
 use Rattle.std.proofs.Common.{◌≡◌, ◌∙◌, ◌+◌, ◌≤◌, ◌++◌, List, ℕ, length, take, drop, ap, subst, arith, refl, sym, All}
 use Rattle.std.proofs.lemmas.List.{with_items_is}
 use Rattle.device_model.specs.declared.notes.Note.{Note}
-use Rattle.base.specs.Disk.{Disk, MayLeave}
-use Rattle.base.specs.Crashes.{crash_image}
+use Rattle.base.specs.disk.Disk.{Disk, MayLeave}
+use Rattle.base.specs.disk.Crashes.{crash_image}
 use Rattle.base.specs.declared.refused.RefusedCalls.{RefusedCalls}
 use Rattle.device_model.specs.MemState.{MemState, after_crash}
 use Rattle.device_model.specs.Notes.{Track, Settles, LeadTo, replayed, undone, with_pieces, tracked, start}

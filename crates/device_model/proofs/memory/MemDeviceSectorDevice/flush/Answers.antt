@@ -1,7 +1,7 @@
 use Rattle.std.proofs.Common.{◌≡◌, ◌∙◌, List, ap, subst, arith, refl, sym, length, take, drop}
 use Rattle.std.proofs.lemmas.List.{with_items_is}
 use Rattle.device_model.specs.declared.notes.Note.{Note}
-use Rattle.base.specs.Disk.{certain, bytes_of}
+use Rattle.base.specs.disk.Disk.{certain, bytes_of}
 use Rattle.device_model.specs.Notes.{Track, Settles, LeadTo, tracked, start}
 use Rattle.device_model.proofs.Tracks.{tells_leads}
 use Rattle.device_model.proofs.Sound.{same_size, sound, flush_leads, flush_disk}

@@ -1,6 +1,6 @@
 use Rattle.std.proofs.Common.{List, ℕ, length, ◌∙◌, ap, sym, arith}
-use Rattle.base.specs.Fields.{part}
-use Rattle.base.specs.Disk.{bytes_of}
+use Rattle.base.specs.formats.Fields.{part}
+use Rattle.base.specs.disk.Disk.{bytes_of}
 use Rattle.device_model.proofs.Sound.{sound_reads, seen_size}
 use Rattle.device_model.proofs.memory.MemDeviceSectorDevice.read.Goals as goal
 

@@ -1,8 +1,8 @@
 use Rattle.std.proofs.Common.{◌≡◌, ◌∙◌, List, ℕ, Bool, not, length, take, drop, ◌+◌, ◌*◌, ◌≤◌, ap, subst, arith, refl, sym}
 use Rattle.std.proofs.lemmas.List.{with_items_is}
 use Rattle.base.specs.declared.piece.Piece.TheVariants.{Keep}
-use Rattle.base.specs.Disk.{put}
-use Rattle.base.specs.Crashes.{left}
+use Rattle.base.specs.disk.Disk.{put}
+use Rattle.base.specs.disk.Crashes.{left}
 use Rattle.device_model.specs.Notes.{LeadTo, tracked, start}
 use Rattle.device_model.proofs.Sound.{seen_size, same_size, sound, from_ok, write_counted, write_leads}
 use Rattle.device_model.proofs.memory.MemDeviceSectorDevice.write.Goals as goal

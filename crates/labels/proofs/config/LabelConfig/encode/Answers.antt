@@ -1,9 +1,9 @@
 use Rattle.std.proofs.Common.{◌≡◌, ◌<◌, ◌^◌, ℕ, ◌+◌, List, length, take, ap, subst, ◌∙◌, Result, Ok}
 use Rattle.std.specs.Prelude.{IfOk}
 use Rattle.base.specs.declared.error.PoolError.{PoolError}
-use Rattle.base.specs.Names.{IsName}
-use Rattle.base.specs.Blocks.{IsBlock, sealed_block}
-use Rattle.base.specs.Labels.{Config}
+use Rattle.base.specs.formats.Names.{IsName}
+use Rattle.base.specs.formats.Blocks.{IsBlock, sealed_block}
+use Rattle.base.specs.formats.Labels.{Config}
 use Rattle.checked_blocks.specs.Sealing.{padded}
 use Rattle.labels.specs.ConfigBytes.{config_bytes}
 use Rattle.labels.specs.Configs.{IsConfigBlock, config_block}

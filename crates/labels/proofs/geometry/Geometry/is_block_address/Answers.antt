@@ -1,6 +1,6 @@
 use Rattle.std.proofs.Common.{◌<◌, ◌-◌, ◌/◌, arith}
 use Rattle.std.proofs.lemmas.Bool.Decides.{nat_tests}
-use Rattle.base.specs.Geometry.{block_count}
+use Rattle.base.specs.formats.Geometry.{block_count}
 use Rattle.checked_blocks.proofs.Addresses.{address-below, IsBlockAddress-by}
 use Rattle.labels.proofs.geometry.Geometry.is_block_address.Goals as goal
 

@@ -1,5 +1,5 @@
 use Rattle.std.proofs.Common.{◌≡◌, drop}
-use Rattle.base.specs.History.{apply_all}
+use Rattle.base.specs.history.History.{apply_all}
 use Rattle.object_maps.specs.Ops.{HaveRoom}
 use Rattle.object_maps.specs.ContentsShown.{contents_of}
 use Rattle.object_maps.proofs.contents.Contents.apply.Given as goal

@@ -1,5 +1,5 @@
 use Rattle.std.proofs.Common.{◌≡◌, ◌<◌, List, [], length, slice_set, Some, None, cond, ap, ◌∙◌, arith}
-use Rattle.base.specs.Contents.{stored}
+use Rattle.base.specs.history.Contents.{stored}
 use Rattle.object_maps.specs.declared.contents.Slot.{Slot}
 use Rattle.object_maps.specs.ContentsShown.{objects_from, object_of}
 use Rattle.object_maps.proofs.ContentsShown.{objects-set, same_contents}

@@ -1,6 +1,6 @@
 use Rattle.std.proofs.Common.{◌≡◌, true, false, is_some, refl, sym, ◌∙◌}
-use Rattle.base.specs.Contents.{Contents}
-use Rattle.base.specs.History.{apply_all}
+use Rattle.base.specs.history.Contents.{Contents}
+use Rattle.base.specs.history.History.{apply_all}
 use Rattle.std.specs.FinMap as finite
 use Rattle.object_maps.specs.ContentsShown.{contents_of}
 use Rattle.object_maps.proofs.Judged.{there_after, IfOk-from}

@@ -2,7 +2,7 @@ use Rattle.std.proofs.Common.{◌≡◌, ap, sym, ◌∙◌, refl, List, take}
 use Rattle.std.proofs.lemmas.List.{take_all}
 use Rattle.std.proofs.lemmas.Result.{err_from_is_err_and}
 use Rattle.base.specs.declared.operation.Op.{Op}
-use Rattle.base.specs.History.{apply_all}
+use Rattle.base.specs.history.History.{apply_all}
 use Rattle.object_maps.specs.ContentsShown.{contents_of}
 use Rattle.object_maps.proofs.Judged.{judged_more, judged_refused}
 use Rattle.object_maps.proofs.contents.Contents.judge.Goals as goal

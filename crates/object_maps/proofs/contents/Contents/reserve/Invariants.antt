@@ -1,7 +1,7 @@
 use Rattle.std.proofs.Common.{ℕ, ◌≡◌, ◌<◌, true, get_or, take}
 use Rattle.std.specs.List.{list_all}
 use Rattle.base.specs.declared.operation.Op.{Op}
-use Rattle.base.specs.Records.{is_content_allowed}
+use Rattle.base.specs.formats.Records.{is_content_allowed}
 use Rattle.object_maps.specs.Ops.{HasRoom}
 use Rattle.object_maps.specs.ContentsShown.{contents_of}
 use Rattle.object_maps.proofs.contents.Contents.reserve.Given as goal

@@ -1,5 +1,5 @@
 use Rattle.std.proofs.Common.{◌≡◌, ℕ, ◌<◌, List, length, slice_set, option_map, ap, sym, ◌∙◌, arith}
-use Rattle.base.specs.Contents.{stored, bytes_after_write}
+use Rattle.base.specs.history.Contents.{stored, bytes_after_write}
 use Rattle.std.specs.FinMap as finite
 use Rattle.object_maps.specs.declared.contents.Slot.{Slot}
 use Rattle.object_maps.specs.ContentsShown.{objects_from, object_of}

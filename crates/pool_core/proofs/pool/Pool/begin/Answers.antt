@@ -3,7 +3,7 @@ use Rattle.std.specs.Prelude.{Some, None}
 use Rattle.std.proofs.lemmas.Result.{err_from_is_err_and}
 use Rattle.std.proofs.lemmas.List.{map-append}
 use Rattle.base.specs.declared.operation.Shape.{Shape}
-use Rattle.base.specs.Stage.{begin_refusal}
+use Rattle.base.specs.steps.Stage.{begin_refusal}
 use Rattle.pool_core.specs.Shows.{shown_of}
 use Rattle.pool_core.proofs.LockSteps.{begin_refused, begin_wants, begin_done}
 use Rattle.pool_core.proofs.pool.Pool.begin.Goals as goal

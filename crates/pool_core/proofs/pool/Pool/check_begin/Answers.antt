@@ -2,10 +2,10 @@ use Rattle.std.proofs.Common.{◌≡◌, ◌∙◌, ◌||◌, true, List, ap, sy
 use Rattle.std.proofs.lemmas.Result.{err_from_is_err_and}
 use Rattle.std.proofs.lemmas.List.{length-map}
 use Rattle.std.specs.List.{list_any}
-use Rattle.base.specs.Limits.{last_number, max_transactions}
-use Rattle.base.specs.Locks.{is_covered_for_writing}
-use Rattle.base.specs.Plans.{NumberRange, overlaps}
-use Rattle.base.specs.Stage.{is_plan_built}
+use Rattle.base.specs.formats.Limits.{last_number, max_transactions}
+use Rattle.base.specs.steps.Locks.{is_covered_for_writing}
+use Rattle.base.specs.history.Plans.{NumberRange, overlaps}
+use Rattle.base.specs.steps.Stage.{is_plan_built}
 use Rattle.pool_core.specs.Targets.{kept_range_of}
 use Rattle.pool_core.specs.Shows.{admission_of, grant_of, shown_of}
 use Rattle.pool_core.specs.declared.transactions.OpenTransaction.{OpenTransaction}

@@ -2,8 +2,8 @@ use Rattle.std.proofs.Common.{◌≡◌, ◌∙◌, ◌==◌, true, List, Some, 
 use Rattle.std.specs.List.{find}
 use Rattle.std.proofs.lemmas.Result.{err_from_is_err_and}
 use Rattle.base.specs.declared.operation.Shape.{Shape}
-use Rattle.base.specs.Plans.{shape_of}
-use Rattle.base.specs.Refusals.{is_same_plan}
+use Rattle.base.specs.history.Plans.{shape_of}
+use Rattle.base.specs.steps.Refusals.{is_same_plan}
 use Rattle.object_maps.specs.Ops.{AreOpsAllowed}
 use Rattle.pool_core.specs.Shows.{admission_of, shown_of}
 use Rattle.pool_core.specs.declared.transactions.OpenTransaction.{OpenTransaction}

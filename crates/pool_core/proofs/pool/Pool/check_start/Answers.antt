@@ -1,7 +1,7 @@
 use Rattle.std.proofs.Common.{◌≡◌, ◌∙◌, ℕ, true, refl, sym, subst}
 use Rattle.std.specs.Prelude.{Option, Some, None, is_none, is_some, option_map}
 use Rattle.std.proofs.lemmas.Bool.{or_right, false≢true}
-use Rattle.base.specs.Refusals.{quiesced_group}
+use Rattle.base.specs.steps.Refusals.{quiesced_group}
 use Rattle.pool_core.specs.declared.pool.RunningSync.{RunningSync}
 use Rattle.pool_core.specs.Lines.{line_of}
 use Rattle.pool_core.proofs.pool.Pool.check_start.Goals as goal

@@ -5,12 +5,12 @@ use Rattle.std.proofs.lemmas.List.{map-append}
 use Rattle.std.proofs.lemmas.List.Elements.{All-filter, All-push}
 use Rattle.base.specs.declared.error.PoolError.TheVariants as error
 use Rattle.base.specs.declared.operation.Op.{Op}
-use Rattle.base.specs.Contents.{Contents}
-use Rattle.base.specs.Groups.{Admission}
-use Rattle.base.specs.History.{apply_all}
-use Rattle.base.specs.Records.{is_content_allowed}
-use Rattle.base.specs.Stage.{commit_refusal, Commit}
-use Rattle.base.specs.Syncs.{is_rename}
+use Rattle.base.specs.history.Contents.{Contents}
+use Rattle.base.specs.steps.Groups.{Admission}
+use Rattle.base.specs.history.History.{apply_all}
+use Rattle.base.specs.formats.Records.{is_content_allowed}
+use Rattle.base.specs.steps.Stage.{commit_refusal, Commit}
+use Rattle.base.specs.tree.Syncs.{is_rename}
 use Rattle.object_maps.specs.ContentsShown.{contents_of}
 use Rattle.object_maps.specs.Ops.{AreOpsAllowed}
 use Rattle.tree_plans.specs.declared.planner.Committed.{Committed}

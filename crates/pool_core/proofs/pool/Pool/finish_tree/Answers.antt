@@ -2,9 +2,9 @@ use Rattle.std.proofs.Common.{ℕ, ◌≡◌, ◌∙◌, ap, sym, false, map, na
 use Rattle.std.specs.FinSet as set
 use Rattle.std.specs.List.{list_any}
 use Rattle.std.proofs.lemmas.List.Elements.{All-filter}
-use Rattle.base.specs.Geometry.{block_count}
-use Rattle.base.specs.Records.{Record}
-use Rattle.base.specs.Syncs.{is_rename}
+use Rattle.base.specs.formats.Geometry.{block_count}
+use Rattle.base.specs.formats.Records.{Record}
+use Rattle.base.specs.tree.Syncs.{is_rename}
 use Rattle.tree_plans.specs.declared.planner.Committed.{Committed}
 use Rattle.pool_core.specs.Shows.{record_of, shown_of}
 use Rattle.pool_core.proofs.Mapped.{filter-map}

@@ -1,7 +1,7 @@
 use Rattle.std.proofs.Common.{◌∙◌, ◌&&◌, not, List, ap}
 use Rattle.std.specs.List.{list_any}
-use Rattle.base.specs.Plans.{lies_in}
-use Rattle.base.specs.Locks.{is_reader}
+use Rattle.base.specs.history.Plans.{lies_in}
+use Rattle.base.specs.steps.Locks.{is_reader}
 use Rattle.pool_core.specs.Targets.{kept_range_of, target_of}
 use Rattle.pool_core.specs.declared.transactions.OpenTransaction.{OpenTransaction}
 use Rattle.pool_core.proofs.KeptRanges.{in_use_same}

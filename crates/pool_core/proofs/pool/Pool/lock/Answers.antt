@@ -1,6 +1,6 @@
 use Rattle.std.proofs.Common.{map}
 use Rattle.std.proofs.lemmas.Result.{err_from_is_err_and}
-use Rattle.base.specs.Refusals.{object_range}
+use Rattle.base.specs.steps.Refusals.{object_range}
 use Rattle.pool_core.proofs.Flags.{from_not_false, from_not_true}
 use Rattle.pool_core.proofs.LockSteps.{lock_suspended, lock_bad, lock_ends}
 use Rattle.pool_core.specs.Shows.{grant_of, shown_of}

@@ -3,7 +3,7 @@ use Rattle.std.specs.List.{list_any}
 use Rattle.std.proofs.lemmas.Result.{err_from_is_err_and}
 use Rattle.pool_core.proofs.Closes.{quiesce_suspended, quiesce_none, quiesce_held, quiesce_done}
 use Rattle.pool_core.proofs.Mapped.{list_any-map}
-use Rattle.base.specs.Groups.{Admission}
+use Rattle.base.specs.steps.Groups.{Admission}
 use Rattle.pool_core.specs.Shows.{shown_of, admission_of}
 use Rattle.pool_core.specs.declared.transactions.OpenTransaction.{OpenTransaction}
 use Rattle.pool_core.proofs.pool.Pool.mark_quiesced.Goals as goal

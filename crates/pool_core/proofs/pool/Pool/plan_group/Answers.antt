@@ -2,10 +2,10 @@ use Rattle.std.proofs.Common.{List, map, inl, subst, ◌∙◌}
 use Rattle.std.proofs.lemmas.Result.{IfErr-weaker, err_from_is_err_and}
 use Rattle.base.specs.declared.names.ObjectId.{ObjectId}
 use Rattle.base.specs.declared.pointer.Pointer.{Pointer}
-use Rattle.base.specs.Geometry.{block_count}
-use Rattle.base.specs.Places.{Place}
-use Rattle.base.specs.PlannedTrees.{AreFreed}
-use Rattle.base.specs.Stored.{AreUsed, frame_at}
+use Rattle.base.specs.formats.Geometry.{block_count}
+use Rattle.base.specs.tree.Places.{Place}
+use Rattle.base.specs.tree.PlannedTrees.{AreFreed}
+use Rattle.base.specs.stored.Stored.{AreUsed, frame_at}
 use Rattle.object_maps.specs.ContentsShown.{contents_of}
 use Rattle.tree_plans.specs.declared.planner.Committed.{Committed}
 use Rattle.tree_plans.specs.declared.planner.DirtyRecords.{DirtyRecords}

@@ -1,6 +1,6 @@
 use Rattle.std.proofs.Common.{◌∙◌, sym}
 use Rattle.std.proofs.lemmas.Result.{err_from_is_err_and}
-use Rattle.base.specs.Refusals.{object_range}
+use Rattle.base.specs.steps.Refusals.{object_range}
 use Rattle.pool_core.specs.Shows.{shown_of}
 use Rattle.pool_core.proofs.Flags.{from_not_false, from_not_true}
 use Rattle.pool_core.proofs.ReadSteps.{read_suspended, read_bad, read_open, read_none, read_passes, read_wants, read_done}

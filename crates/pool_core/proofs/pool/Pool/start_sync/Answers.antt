@@ -1,9 +1,9 @@
 use Rattle.std.proofs.Common.{◌<◌, ◌∙◌, ap, sym, subst, refl, map, List, [], Some, None}
 use Rattle.std.specs.FinSet as set
 use Rattle.std.proofs.lemmas.Result.{err_from_is_err_and}
-use Rattle.base.specs.Geometry.{block_count}
-use Rattle.base.specs.Groups.{Line}
-use Rattle.base.specs.PlacedTrees.{ArePlaced}
+use Rattle.base.specs.formats.Geometry.{block_count}
+use Rattle.base.specs.steps.Groups.{Line}
+use Rattle.base.specs.tree.PlacedTrees.{ArePlaced}
 use Rattle.sync.specs.Runs.{call_count}
 use Rattle.tree_plans.specs.declared.planner.PlannedBlock.{PlannedBlock}
 use Rattle.pool_core.specs.declared.pool.RunningSync.{RunningSync}
@@ -14,8 +14,8 @@ use Rattle.pool_core.specs.Shows.{new_plan, shown_of}
 use Rattle.std.specs.Prelude.{Result}
 use Rattle.base.specs.declared.error.PoolError.{PoolError}
 use Rattle.base.specs.declared.names.Group.{Group}
-use Rattle.base.specs.Shown.{SyncPlan}
-use Rattle.base.specs.Stored.{NewTree}
+use Rattle.base.specs.steps.Shown.{SyncPlan}
+use Rattle.base.specs.stored.Stored.{NewTree}
 use Rattle.tree_plans.specs.Plans.{new_block}
 use Rattle.pool_core.specs.Holds.{start_reply}
 use Rattle.pool_core.proofs.StartLeads.{group_lacks, group_planned, group_takes, group_takes_each, nothing_made}

@@ -2,17 +2,17 @@ use Rattle.std.proofs.Common.{◌≡◌, ◌∙◌, ◌<◌, ◌-◌, ap, map, s
 use Rattle.std.specs.Prelude.{Option, Result, option_map}
 use Rattle.std.proofs.lemmas.Bool.{true≢false}
 use Rattle.std.proofs.lemmas.Result.{err_from_is_err_and}
-use Rattle.base.specs.Geometry.{block_address, block_count}
+use Rattle.base.specs.formats.Geometry.{block_address, block_count}
 use Rattle.tree_plans.specs.declared.planner.PlannedBlock.{PlannedBlock}
-use Rattle.base.specs.PlacedTrees.{ArePlaced}
-use Rattle.base.specs.Shown.{SyncPlan}
+use Rattle.base.specs.tree.PlacedTrees.{ArePlaced}
+use Rattle.base.specs.steps.Shown.{SyncPlan}
 use Rattle.sync.specs.Runs.{call_count}
 use Rattle.pool_core.specs.declared.pool.RunningSync.{RunningSync}
 use Rattle.pool_core.specs.Pointers.{pointers_after}
 use Rattle.pool_core.specs.RunningUberblocks.{WritesUberblock, uberblock_with}
 use Rattle.pool_core.specs.Shows.{plan_of, shown_of}
 use Rattle.pool_core.proofs.SameSyncs.{as_many, kept_sync, left_as_before, more_left, one_left, one_less, refused_as, same_taken, same_uberblock}
-use Rattle.base.specs.Disk.{bytes_of}
+use Rattle.base.specs.disk.Disk.{bytes_of}
 use Rattle.base.specs.declared.error.PoolError.{PoolError}
 use Rattle.pool_core.specs.declared.state.Progress.{Progress}
 use Rattle.pool_core.specs.Holds.{made_by, new_tree_of, sync_reply}

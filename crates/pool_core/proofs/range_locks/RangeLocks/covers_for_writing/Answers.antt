@@ -1,7 +1,7 @@
 use Rattle.std.proofs.Common.{◌==◌, ◌&&◌, Bool, not, List, ap, sym, ◌∙◌}
 use Rattle.std.specs.List.{list_any}
-use Rattle.base.specs.Plans.{lies_in}
-use Rattle.base.specs.Locks.{Grant, is_reader}
+use Rattle.base.specs.history.Plans.{lies_in}
+use Rattle.base.specs.steps.Locks.{Grant, is_reader}
 use Rattle.pool_core.specs.declared.range_locks.HeldLock.{HeldLock}
 use Rattle.pool_core.specs.Shows.{grant_of}
 use Rattle.pool_core.specs.Targets.{target_of}

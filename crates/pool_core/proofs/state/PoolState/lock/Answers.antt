@@ -1,5 +1,5 @@
 use Rattle.base.specs.declared.names.LockId.{LockId}
-use Rattle.base.specs.Refusals.{object_range}
+use Rattle.base.specs.steps.Refusals.{object_range}
 use Rattle.pool_core.specs.Shows.{shown_of}
 use Rattle.pool_core.specs.Tables.{result_map}
 use Rattle.pool_core.proofs.OfNoDevice.{lock_own, map_counts}

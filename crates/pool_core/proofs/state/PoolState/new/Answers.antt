@@ -1,7 +1,7 @@
 use Rattle.std.proofs.Common.{◌∙◌, ℕ, List, ap, sym}
 use Rattle.std.proofs.Math.Logic.{∥∥₁_elim, ∥∥₁_map, ∥∥₁_prop}
-use Rattle.base.specs.Disk.{bytes_of}
-use Rattle.base.specs.Geometry.{block_count}
+use Rattle.base.specs.disk.Disk.{bytes_of}
+use Rattle.base.specs.formats.Geometry.{block_count}
 use Rattle.pool_core.proofs.NewStates.{explained_as, held_as}
 use Rattle.pool_core.proofs.state.PoolState.new.Goals as goal
 

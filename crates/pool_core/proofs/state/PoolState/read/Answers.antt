@@ -1,4 +1,4 @@
-use Rattle.base.specs.Refusals.{object_range}
+use Rattle.base.specs.steps.Refusals.{object_range}
 use Rattle.pool_core.specs.Shows.{shown_of}
 use Rattle.pool_core.proofs.OfNoDevice.{own_counts, read_own}
 use Rattle.pool_core.proofs.state.PoolState.read.Goals as goal

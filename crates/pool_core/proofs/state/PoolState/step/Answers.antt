@@ -5,10 +5,10 @@ use Rattle.base.specs.declared.names.LockId.{LockId}
 use Rattle.base.specs.declared.names.Receipt.{Receipt}
 use Rattle.base.specs.declared.names.TxId.{TxId}
 use Rattle.base.specs.declared.step.Reply.TheVariants as reply
-use Rattle.base.specs.Refusals.{object_range}
-use Rattle.base.specs.Runs.{progress_reply, receipt_reply}
-use Rattle.base.specs.Stage as stage
-use Rattle.base.specs.Steps as steps
+use Rattle.base.specs.steps.Refusals.{object_range}
+use Rattle.base.specs.steps.Runs.{progress_reply, receipt_reply}
+use Rattle.base.specs.steps.Stage as stage
+use Rattle.base.specs.steps.Steps as steps
 use Rattle.pool_core.specs.declared.state.Progress.{Progress}
 use Rattle.pool_core.specs.Progresses.{progress_of}
 use Rattle.pool_core.specs.Shows.{shown_of}

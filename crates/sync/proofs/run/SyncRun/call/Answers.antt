@@ -1,6 +1,6 @@
 use Rattle.std.proofs.Common.{◌-◌, vec_len, Option, ◌∙◌, ap, arith}
 use Rattle.std.specs.Prelude.{slice_get, is_some}
-use Rattle.base.specs.SyncOrder.{calls_in_order}
+use Rattle.base.specs.disk.SyncOrder.{calls_in_order}
 use Rattle.sync.specs.declared.run.LabelStages.{LabelStages}
 use Rattle.sync.specs.Calls.{first_labels, last_labels}
 use Rattle.sync.proofs.CallPlaces.{block_stands, others_stand}

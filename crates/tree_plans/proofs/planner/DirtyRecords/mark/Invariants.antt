@@ -1,6 +1,6 @@
 use Rattle.std.proofs.Common.{◌≡◌, ℕ, ◌<◌, ◌≤◌, ◌||◌, false, length}
 use Rattle.std.specs.Prelude.{slice_index_or}
-use Rattle.base.specs.Syncs.{is_record_touched}
+use Rattle.base.specs.tree.Syncs.{is_record_touched}
 use Rattle.tree_plans.proofs.planner.DirtyRecords.mark.Given as goal
 
 abbrev pub invariant-loop-index : goal.invariant-loop-index

@@ -1,7 +1,7 @@
 use Rattle.std.proofs.Common.{ℕ, List, Bool, false, arith, ap, ◌∙◌}
 use Rattle.std.specs.Prelude.{slice_index_or}
 use Rattle.base.specs.declared.pointer.Pointer.{Pointer}
-use Rattle.base.specs.Fields.{no_pointer}
+use Rattle.base.specs.formats.Fields.{no_pointer}
 use Rattle.tree_plans.specs.Order.{addresses_where}
 use Rattle.tree_plans.specs.Plans.{progress_of}
 use Rattle.tree_plans.proofs.Progress.{goes_twice, object_planned, object_frees}

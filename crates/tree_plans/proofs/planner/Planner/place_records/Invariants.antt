@@ -1,5 +1,5 @@
 use Rattle.std.proofs.Common.{◌≡◌, ◌≤◌, false, slice_index_or, vec_len, vec_capacity}
-use Rattle.base.specs.Fields.{no_pointer}
+use Rattle.base.specs.formats.Fields.{no_pointer}
 use Rattle.tree_plans.specs.Order.{Adds, addresses_where}
 use Rattle.tree_plans.specs.Plans.{AreRecordsPlanned, Goes, RecordsFree, progress_of}
 use Rattle.tree_plans.specs.Uses.{PointersUse}

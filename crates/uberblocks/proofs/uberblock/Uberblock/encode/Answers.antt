@@ -1,6 +1,6 @@
 use Rattle.std.proofs.Common.{sym, subst, List, ℕ}
-use Rattle.base.specs.Uberblocks.{IsUberblock}
-use Rattle.base.proofs.Versions.{number_of-known}
+use Rattle.base.specs.formats.Uberblocks.{IsUberblock}
+use Rattle.base.proofs.formats.Versions.{number_of-known}
 use Rattle.uberblocks.specs.Slots.{IsWithinLimits, fields_of}
 use Rattle.uberblocks.proofs.SlotWrites.{IsUberblock-slot_bytes, slot_bytes_made}
 use Rattle.uberblocks.proofs.uberblock.Uberblock.encode.Goals as goal

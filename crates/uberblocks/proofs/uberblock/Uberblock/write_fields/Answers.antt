@@ -1,8 +1,8 @@
 use Rattle.std.proofs.Common.{ℕ, ◌≡◌, ◌∙◌, List, ◌++◌, length, ap, arith, rules}
-use Rattle.base.specs.Disk.{put}
-use Rattle.base.specs.Fields.{number_bytes, pointer_bytes}
-use Rattle.base.specs.Versions.{number_of}
-use Rattle.base.proofs.FieldsRead.{length-number_bytes}
+use Rattle.base.specs.disk.Disk.{put}
+use Rattle.base.specs.formats.Fields.{number_bytes, pointer_bytes}
+use Rattle.base.specs.formats.Versions.{number_of}
+use Rattle.base.proofs.formats.FieldsRead.{length-number_bytes}
 use Rattle.uberblocks.specs.Slots.{field_bytes}
 use Rattle.uberblocks.proofs.SlotParts.{length-pointer_bytes}
 use Rattle.uberblocks.proofs.SlotWrites.{put_next, length-two}

@@ -1,0 +1,3 @@
+pub mod Sequences
+pub mod Sieves
+pub mod KeptLists

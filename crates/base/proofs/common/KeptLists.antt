@@ -1,0 +1,158 @@
+-- Elements of lists by their places: one more at the end, and what a filter keeps.
+use Rattle.std.proofs.Common.{◌≡◌, ℕ, zero, suc, ◌<◌, Bool, true, false, ◌||◌, List, [], ◌∷◌, ◌++◌, length, map, refl, ap, sym, ◌∙◌, arith}
+use Rattle.std.specs.Prelude.{Some, None, slice_get, filter, cond, find}
+use Rattle.std.specs.List.{list_any, list_all}
+use Rattle.std.proofs.lemmas.Bool.{or_right, or_from, and_parts, and_from}
+use Rattle.std.proofs.lemmas.List.Folds.{list_any-append}
+use Rattle.base.proofs.steps.BusyLocks.{Some-injective, or-false}
+
+pub none_at : {A : Type 0} (i : ℕ) (x : A) → slice_get [] i ≡ Some x → ⊥
+none_at i x at = let no_way : None ≡ Some x = at in cc
+
+-- what is at a place stays there
+pub at_old : {A : Type 0} (xs : List A) (x y : A) (i : ℕ) → slice_get xs i ≡ Some y → slice_get (xs ++ x ∷ []) i ≡ Some y
+at_old [] x y i at = absurd (none_at i y at)
+at_old (z ∷ xs) x y zero at = at
+at_old (z ∷ xs) x y (suc i) at = at_old xs x y i at
+
+pub at_front : {A : Type 0} (xs ys : List A) (i : ℕ) (x : A) → slice_get xs i ≡ Some x → slice_get (xs ++ ys) i ≡ Some x
+at_front [] ys i x at = absurd (none_at i x at)
+at_front (z ∷ xs) ys zero x at = at
+at_front (z ∷ xs) ys (suc i) x at = at_front xs ys i x at
+
+pub at_last : {A : Type 0} (xs : List A) (x : A) → slice_get (xs ++ x ∷ []) (length xs) ≡ Some x
+at_last [] x = refl
+at_last (z ∷ xs) x = at_last xs x
+
+-- each place below the length has an element
+pub at_within : {A : Type 0} (xs : List A) (i : ℕ) → i < length xs → (x : A) × (slice_get xs i ≡ Some x)
+at_within [] i below = absurd (omega arith)
+at_within (z ∷ xs) zero below = (z, refl)
+at_within (z ∷ xs) (suc i) below = at_within xs i (omega arith)
+
+-- an element that a filter keeps passes it, and is one of the list
+pub at_filter : {A : Type 0} (p : A → Bool) (xs : List A) (i : ℕ) (x : A) → slice_get (filter p xs) i ≡ Some x → (j : ℕ) × (slice_get xs j ≡ Some x) × (p x ≡ true)
+at_filter p [] i x at = absurd (none_at i x at)
+at_filter {A} p (y ∷ ys) i x at = go (p y) refl i (λ k at_k. at_filter p ys k x at_k) at
+  where
+    go : (b : Bool) → p y ≡ b → (k : ℕ) → ((l : ℕ) → slice_get (filter p ys) l ≡ Some x → (j : ℕ) × (slice_get ys j ≡ Some x) × (p x ≡ true))
+        → slice_get (cond b (y ∷ filter p ys) (filter p ys)) k ≡ Some x → (j : ℕ) × (slice_get (y ∷ ys) j ≡ Some x) × (p x ≡ true)
+    go true is zero rest at_k = (zero, at_k, ap p (sym (Some-injective at_k)) ∙ is)
+    go true is (suc k) rest at_k = let found : (j : ℕ) × (slice_get ys j ≡ Some x) × (p x ≡ true) = rest k at_k in (suc found.0, found.1, found.2)
+    go false is k rest at_k = let found : (j : ℕ) × (slice_get ys j ≡ Some x) × (p x ≡ true) = rest k at_k in (suc found.0, found.1, found.2)
+
+-- two that a filter keeps stand in the list in the same order
+pub pair_filter : {A : Type 0} (p : A → Bool) (xs : List A) (i j : ℕ) (x y : A) → i < j → slice_get (filter p xs) i ≡ Some x → slice_get (filter p xs) j ≡ Some y
+    → (k l : ℕ) × (k < l) × (slice_get xs k ≡ Some x) × (slice_get xs l ≡ Some y)
+pair_filter p [] i j x y below at_i at_j = absurd (none_at i x at_i)
+pair_filter {A} p (z ∷ zs) i j x y below at_i at_j = go (p z) i j (λ m n less at_m at_n. pair_filter p zs m n x y less at_m at_n) below at_i at_j
+  where
+    go : (b : Bool) (m n : ℕ) → ((m n : ℕ) → m < n → slice_get (filter p zs) m ≡ Some x → slice_get (filter p zs) n ≡ Some y → (k l : ℕ) × (k < l) × (slice_get zs k ≡ Some x) × (slice_get zs l ≡ Some y))
+        → m < n → slice_get (cond b (z ∷ filter p zs) (filter p zs)) m ≡ Some x → slice_get (cond b (z ∷ filter p zs) (filter p zs)) n ≡ Some y
+        → (k l : ℕ) × (k < l) × (slice_get (z ∷ zs) k ≡ Some x) × (slice_get (z ∷ zs) l ≡ Some y)
+    go true m zero rest less at_m at_n = absurd (omega arith)
+    go true zero (suc n) rest less at_m at_n = let found : (l : ℕ) × (slice_get zs l ≡ Some y) × (p y ≡ true) = at_filter p zs n y at_n in (zero, suc found.0, omega arith, at_m, found.1)
+    go true (suc m) (suc n) rest less at_m at_n =
+        let found : (k l : ℕ) × (k < l) × (slice_get zs k ≡ Some x) × (slice_get zs l ≡ Some y) = rest m n (omega arith) at_m at_n in
+        (suc found.0, suc found.1, let h : found.0 < found.1 = found.2 in omega arith, found.3, found.4)
+    go false m n rest less at_m at_n =
+        let found : (k l : ℕ) × (k < l) × (slice_get zs k ≡ Some x) × (slice_get zs l ≡ Some y) = rest m n less at_m at_n in
+        (suc found.0, suc found.1, let h : found.0 < found.1 = found.2 in omega arith, found.3, found.4)
+
+-- an element that passes a test settles it
+pub any_at : {A : Type 0} (p : A → Bool) (xs : List A) (i : ℕ) (x : A) → slice_get xs i ≡ Some x → p x ≡ true → list_any p xs ≡ true
+any_at p [] i x at passes = absurd (none_at i x at)
+any_at p (y ∷ ys) zero x at passes = ap (λ b. b || list_any p ys) (ap p (Some-injective at) ∙ passes)
+any_at p (y ∷ ys) (suc i) x at passes = or_right (p y) (list_any p ys) (any_at p ys i x at passes)
+
+-- where none passes a test, each fails it
+pub none_any : {A : Type 0} (p : A → Bool) (xs : List A) (i : ℕ) (x : A) → list_any p xs ≡ false → slice_get xs i ≡ Some x → p x ≡ false
+none_any p [] i x none at = absurd (none_at i x at)
+none_any p (y ∷ ys) zero x none at = ap p (sym (Some-injective at)) ∙ (or-false (p y) (list_any p ys) none).0
+none_any p (y ∷ ys) (suc i) x none at = none_any p ys i x (or-false (p y) (list_any p ys) none).1 at
+
+-- where each fails a test, none passes it
+pub any_none : {A : Type 0} (p : A → Bool) (xs : List A) → ((i : ℕ) (x : A) → slice_get xs i ≡ Some x → p x ≡ false) → list_any p xs ≡ false
+any_none p [] each = refl
+any_none p (y ∷ ys) each = or_from (p y) (list_any p ys) (each zero y refl) (any_none p ys (λ i x at. each (suc i) x at))
+
+-- where one passes a test, it is found
+pub any_found : {A : Type 0} (p : A → Bool) (xs : List A) → list_any p xs ≡ true → (i : ℕ) × (x : A) × (slice_get xs i ≡ Some x) × (p x ≡ true)
+any_found p [] is = absurd (let no_way : false ≡ true = is in cc)
+any_found {A} p (y ∷ ys) is = go (p y) refl is (λ h. any_found p ys h)
+  where
+    go : (b : Bool) → p y ≡ b → (b || list_any p ys) ≡ true → (list_any p ys ≡ true → (i : ℕ) × (x : A) × (slice_get ys i ≡ Some x) × (p x ≡ true)) → (i : ℕ) × (x : A) × (slice_get (y ∷ ys) i ≡ Some x) × (p x ≡ true)
+    go true passes h rest = (zero, y, refl, passes)
+    go false fails h rest = let found : (i : ℕ) × (x : A) × (slice_get ys i ≡ Some x) × (p x ≡ true) = rest h in (suc found.0, found.1, found.2, found.3)
+
+-- a test of what is made of each element
+pub any_map : {A B : Type 0} (p : B → Bool) (f : A → B) (xs : List A) → list_any p (map f xs) ≡ list_any (λ x. p (f x)) xs
+any_map p f [] = refl
+any_map p f (x ∷ xs) = ap (λ b. p (f x) || b) (any_map p f xs)
+
+-- two tests that agree on a list's elements keep the same
+pub filter_same : {A : Type 0} (p q : A → Bool) (xs : List A) → ((i : ℕ) (x : A) → slice_get xs i ≡ Some x → p x ≡ q x) → filter p xs ≡ filter q xs
+filter_same p q [] agree = refl
+filter_same {A} p q (x ∷ xs) agree = (λ k. cond (agree zero x refl k) (x ∷ filter_same p q xs (λ i y at. agree (suc i) y at) k) (filter_same p q xs (λ i y at. agree (suc i) y at) k))
+
+-- a test of which one element more is asked
+pub any_push : {A : Type 0} (p : A → Bool) (xs : List A) (x : A) → list_any p (xs ++ x ∷ []) ≡ (list_any p xs || p x)
+any_push p xs x = list_any-append p xs (x ∷ []) ∙ ap (λ b. list_any p xs || b) (or_false (p x))
+  where
+    or_false : (b : Bool) → (b || false) ≡ b
+    or_false true = refl
+    or_false false = refl
+
+-- an element that passes a test in a list is one of what is found
+pub found_at : {A : Type 0} (p : A → Bool) (xs : List A) (x : A) → find p xs ≡ Some x → (i : ℕ) × (slice_get xs i ≡ Some x) × (p x ≡ true) × ((j : ℕ) (y : A) → j < i → slice_get xs j ≡ Some y → p y ≡ false)
+found_at p [] x at = absurd (none_at zero x at)
+found_at {A} p (y ∷ ys) x at = go (p y) refl (λ h. found_at p ys x h) at
+  where
+    go : (b : Bool) → p y ≡ b → (find p ys ≡ Some x → (i : ℕ) × (slice_get ys i ≡ Some x) × (p x ≡ true) × ((j : ℕ) (z : A) → j < i → slice_get ys j ≡ Some z → p z ≡ false))
+        → cond b (Some y) (find p ys) ≡ Some x → (i : ℕ) × (slice_get (y ∷ ys) i ≡ Some x) × (p x ≡ true) × ((j : ℕ) (z : A) → j < i → slice_get (y ∷ ys) j ≡ Some z → p z ≡ false)
+    go true is rest h = (zero, h, ap p (sym (Some-injective h)) ∙ is, λ j z below at_j. absurd (omega arith))
+    go false is rest h =
+        let found : (i : ℕ) × (slice_get ys i ≡ Some x) × (p x ≡ true) × ((j : ℕ) (z : A) → j < i → slice_get ys j ≡ Some z → p z ≡ false) = rest h in
+        (suc found.0, found.1, found.2, before found.0 found.3)
+      where
+        before : (i : ℕ) → ((j : ℕ) (z : A) → j < i → slice_get ys j ≡ Some z → p z ≡ false) → (j : ℕ) (z : A) → j < suc i → slice_get (y ∷ ys) j ≡ Some z → p z ≡ false
+        before i each zero z below at_j = ap p (sym (Some-injective at_j)) ∙ is
+        before i each (suc j) z below at_j = each j z (omega arith) at_j
+
+-- where none is found, each fails
+pub not_found : {A : Type 0} (p : A → Bool) (xs : List A) → find p xs ≡ None → (i : ℕ) (x : A) → slice_get xs i ≡ Some x → p x ≡ false
+not_found p [] none i x at = absurd (none_at i x at)
+not_found {A} p (y ∷ ys) none i x at = go (p y) refl (λ h k at_k. not_found p ys h k x at_k) none i at
+  where
+    go : (b : Bool) → p y ≡ b → (find p ys ≡ None → (k : ℕ) → slice_get ys k ≡ Some x → p x ≡ false) → cond b (Some y) (find p ys) ≡ None → (k : ℕ) → slice_get (y ∷ ys) k ≡ Some x → p x ≡ false
+    go true is rest h k at_k = absurd (let no_way : Some y ≡ None = h in cc)
+    go false is rest h zero at_k = ap p (sym (Some-injective at_k)) ∙ is
+    go false is rest h (suc k) at_k = rest h k at_k
+
+-- an element that passes is kept
+pub filter_at : {A : Type 0} (p : A → Bool) (xs : List A) (i : ℕ) (x : A) → slice_get xs i ≡ Some x → p x ≡ true → (j : ℕ) × (slice_get (filter p xs) j ≡ Some x)
+filter_at p [] i x at passes = absurd (none_at i x at)
+filter_at {A} p (y ∷ ys) i x at passes = go (p y) refl (λ k at_k. filter_at p ys k x at_k passes) i at
+  where
+    go : (b : Bool) → p y ≡ b → ((k : ℕ) → slice_get ys k ≡ Some x → (j : ℕ) × (slice_get (filter p ys) j ≡ Some x)) → (k : ℕ) → slice_get (y ∷ ys) k ≡ Some x
+        → (j : ℕ) × (slice_get (cond b (y ∷ filter p ys) (filter p ys)) j ≡ Some x)
+    go true is rest zero at_k = (zero, at_k)
+    go true is rest (suc k) at_k = let found : (j : ℕ) × (slice_get (filter p ys) j ≡ Some x) = rest k at_k in (suc found.0, found.1)
+    go false is rest zero at_k = absurd (let no_way : false ≡ true = sym is ∙ ap p (Some-injective at_k) ∙ passes in cc)
+    go false is rest (suc k) at_k = rest k at_k
+
+-- a filter that drops none that passes a test changes nothing of whether one passes it
+pub any_filter : {A : Type 0} (keep p : A → Bool) (xs : List A) → ((i : ℕ) (x : A) → slice_get xs i ≡ Some x → keep x ≡ false → p x ≡ false) → list_any p (filter keep xs) ≡ list_any p xs
+any_filter keep p [] drops = refl
+any_filter {A} keep p (x ∷ xs) drops = go (keep x) refl (any_filter keep p xs (λ i y at. drops (suc i) y at))
+  where
+    go : (b : Bool) → keep x ≡ b → list_any p (filter keep xs) ≡ list_any p xs → list_any p (cond b (x ∷ filter keep xs) (filter keep xs)) ≡ (p x || list_any p xs)
+    go true is rest = ap (λ b. p x || b) rest
+    go false is rest = rest ∙ ap (λ b. b || list_any p xs) (sym (drops zero x refl is))
+
+-- where each element passes a test, and so a weaker one
+pub all_weaker : {A : Type 0} (p q : A → Bool) (xs : List A) → ((i : ℕ) (x : A) → slice_get xs i ≡ Some x → p x ≡ true → q x ≡ true) → list_all p xs ≡ true → list_all q xs ≡ true
+all_weaker p q [] weaker all = refl
+all_weaker p q (x ∷ xs) weaker all =
+    let both : (p x ≡ true) × (list_all p xs ≡ true) = and_parts (p x) (list_all p xs) all in
+    and_from (q x) (list_all q xs) (weaker zero x refl both.0) (all_weaker p q xs (λ i y at. weaker (suc i) y at) both.1)

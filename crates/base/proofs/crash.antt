@@ -1,0 +1,14 @@
+pub mod EmptyPools
+pub mod LaidOut
+pub mod LaidOutMounts
+pub mod OneMount
+pub mod FoundViews
+pub mod KeptViews
+pub mod PoolViews
+pub mod CallStages
+pub mod CrashRule
+pub mod LogViews
+pub mod SyncPaths
+pub mod OwnDisks
+pub mod NewViews
+pub mod NewDisks

@@ -1,0 +1,18 @@
+-- A pool with no root has no objects, and one with no log an empty chain, whatever the image.
+use Rattle.std.proofs.Common.{◌≡◌, ℕ, List, [], refl, arith, inl}
+use Rattle.std.specs.Ordering.{nat_cmp}
+use Rattle.std.specs.FinMap as map
+use Rattle.base.specs.formats.Fields.{no_pointer}
+use Rattle.base.specs.formats.Geometry.{block_address}
+use Rattle.base.specs.formats.Blocks.{Frame}
+use Rattle.base.specs.tree.Tree.{IsTree}
+use Rattle.base.specs.formats.Chain.{IsChain}
+
+empty_tree : (image : List ℕ) (frame : Frame) → IsTree image frame no_pointer map.empty
+empty_tree image frame = record {
+  no_others = λ n _. map.get-empty {X = List ℕ} nat_cmp n;
+  directories = inl (refl, λ n. map.get-empty {X = List ℕ} nat_cmp n);
+}
+
+empty_chain : (image : List ℕ) (guid blocks chain number : ℕ) → IsChain image guid blocks chain (record { address = 0; number = number }) []
+empty_chain image guid blocks chain number block is = let at : 0 ≡ block_address is.in_area.0 = is.in_area.2 in absurd (omega arith)

@@ -1,0 +1,167 @@
+-- Where a disk in one of the phases ends, it is the pool's own: an import ends on what it mounted, and a run on a cut of its entries. No contract
+-- cites these lemmas yet.
+use Rattle.std.proofs.Common.{◌≡◌, ◌⊎◌, inl, inr, ⊎_elim, ℕ, ◌+◌, ◌≤◌, List, [], ◌∷◌, length, map, take, Ok, refl, sym, ◌∙◌, ap, subst, arith}
+use Rattle.std.specs.Prelude.{IfSome}
+use Rattle.base.specs.declared.pointer.Pointer.{Pointer}
+use Rattle.base.specs.history.Contents.{Contents}
+use Rattle.base.specs.history.History.{IsHistory}
+use Rattle.base.specs.disk.Disk.{Write, Moment, Disk, MayLeave, bytes_of, handed, settled, moments, certain, certain_with, disk_size}
+use Rattle.base.specs.disk.Fairness.{IsFair, HasFairBytes, passes_check}
+use Rattle.base.specs.formats.Chain.{Header}
+use Rattle.base.specs.crash.Mount.{apply_records, records_above}
+use Rattle.base.specs.steps.Groups.{IsLine}
+use Rattle.base.specs.history.Past.{Past}
+use Rattle.base.specs.steps.Logs.{KeptBlock}
+use Rattle.base.specs.steps.Shown.{Shown}
+use Rattle.base.specs.steps.Exact.{IsLogExact, IsSyncExact}
+use Rattle.base.specs.steps.Explains.{IsLeftBy}
+use Rattle.base.specs.crash.Layout.{LiesAs, kept_from, header_now}
+use Rattle.base.specs.crash.Views.{View, Logged, IsFoundAs, AreConfigsUpTo, config_content}
+use Rattle.base.specs.crash.Own.{IsAtRest, AreConfigsBelowImport, IsOwnImage, IsOwnWith}
+use Rattle.base.specs.crash.PoolViews.{IsViewOf, IsPoolLaid, IsPoolDisk, IsSyncConfig}
+use Rattle.base.specs.crash.CrashRule.{MountsAs, AreImportViews, IsImportMoment, HasSteadyPhases, IsImportKept, IsRunLeft}
+use Rattle.base.proofs.disk.Moments.{bytes_may_be_left, latest, moments_grow}
+use Rattle.base.proofs.disk.Fairness.{fair_settled}
+use Rattle.base.proofs.crash.KeptViews.{rest_settled}
+use Rattle.base.proofs.crash.FoundViews.{rest_found}
+use Rattle.base.proofs.crash.PoolViews.{found_lies}
+use Rattle.base.proofs.crash.SyncPaths.{configs_settled}
+use Rattle.base.proofs.crash.CrashRule.{take_whole, phase_certain}
+use Rattle.base.proofs.crash.LaidOutMounts.{synced_applies, syncing_applies}
+
+no_length : {A : Type 0} (xs : List A) → length xs ≡ 0 → xs ≡ []
+no_length [] none = refl
+no_length (x ∷ xs) some = absurd (omega (arith, some))
+
+-- what counts of configs, at a weaker bound
+pub configs_weaker : (size t : ℕ) (ws : List Write) (guid top up : ℕ) (IsOther IsNew : ℕ → List ℕ → Type 0) → top ≤ up → ((group : ℕ) (content : List ℕ) → IsOther group content → (group ≤ up) ⊎ IsNew group content)
+    → AreConfigsUpTo size t ws guid top IsOther → AreConfigsUpTo size t ws guid up IsNew
+configs_weaker size t ws guid top up IsOther IsNew higher weaker known label group name c below some is =
+    ⊎_elim (λ low. inl (omega (arith, low, higher))) (λ other. weaker group c other) (known label group name c below some is)
+
+-- what holds of an import's old view holds of its new one
+pub import_configs : (size t : ℕ) (ws : List Write) (old new : View) → new.u.guid ≡ old.u.guid → new.u.group ≡ old.u.group + 4 → AreConfigsBelowImport size t ws old → AreConfigsBelowImport size t ws new
+import_configs size t ws old new same higher known =
+    subst (λ (guid : ℕ). AreConfigsUpTo size t ws guid (new.u.group + 3) (λ group content. (group ≡ new.u.group + 4) × (content ≡ config_content size guid group new.name))) (sym same)
+    (configs_weaker size t ws old.u.guid (old.u.group + 3) (new.u.group + 3) (λ group content. (group ≡ old.u.group + 4) × (content ≡ config_content size old.u.guid group old.name))
+    (λ group content. (group ≡ new.u.group + 4) × (content ≡ config_content size old.u.guid group new.name)) (omega (arith, higher)) (λ group content other. inl (omega (arith, higher, other.0))) known)
+
+module _ (size t : ℕ) (m : Moment) (image : List ℕ) (left : MayLeave m image) where
+  -- an image that is certain and at rest on a view is the pool's own
+  pub rest_own : (flushed : ℕ) (v : View) (guid : ℕ) (contents : Contents) → v.u.guid ≡ guid → v.logged ≡ [] → MountsAs v contents → AreConfigsBelowImport size t (handed m) v
+      → IsAtRest size t flushed (settled image m) v → IsOwnImage size t image m guid contents
+  rest_own flushed v guid contents of_guid no_log mounts configs rest =
+      let none : length v.logged ≡ 0 = ap (λ (l : List Logged). length l) no_log in
+      let all : flushed ≡ length v.logged = omega (arith, none, rest.laid.firm.log.0) in
+      record {
+        v = v;
+        guid_is = of_guid;
+        rest = subst (λ (n : ℕ). IsAtRest size t n (settled image m) v) all rest;
+        configs = configs_settled size t v.u.guid (v.u.group + 3) (λ group content. (group ≡ v.u.group + 4) × (content ≡ config_content size v.u.guid group v.name)) image m configs;
+        no_log = no_log;
+        applied = mounts;
+      }
+
+  -- and so is each that a crash leaves at a moment of an import
+  pub import_image : (old new : View) (guid : ℕ) (contents : Contents) → AreImportViews old new guid contents → IsImportMoment size t old new m → IsOwnImage size t image m guid contents
+  import_image old new guid contents views here = elim (phase_certain size t (length old.logged) (length new.logged) m image left old new here.phase) as (λ _. IsOwnImage size t image m guid contents) [
+    | inl rest ↦ rest_own (length old.logged) old guid contents views.old_guid views.old_log views.old_mounts here.configs rest
+    | inr rest ↦
+        rest_own (length new.logged) new guid contents views.new_guid views.new_log views.new_mounts
+        (import_configs size t (handed m) old new (views.new_guid ∙ sym views.old_guid) views.next_group here.configs) rest
+  ]
+
+-- so an import, wherever it ends, leaves a disk that is the pool's own with what it mounted
+pub steady_own : (size created : ℕ) (before after : Disk) (guid : ℕ) (contents : Contents) → created ≤ moments after → HasSteadyPhases size created before after guid contents → IsOwnWith after created guid contents
+steady_own size created before after guid contents began steady =
+    let here = latest (IsImportMoment size created steady.old steady.new) before after steady.each in
+    record {
+      began = began;
+      left = record {
+        bytes = subst (λ (n : ℕ). HasFairBytes n created after.now) (sym here.bytes.size_is) here.bytes;
+        each = λ image left fair.
+            subst (λ (n : ℕ). IsOwnImage n created image after.now guid contents) (sym here.bytes.size_is)
+            (import_image size created after.now image left steady.old steady.new guid contents steady.views here);
+      };
+    }
+
+-- an import of a disk that is the pool's own keeps it so
+pub import_kept : (old new : Disk) (created guid : ℕ) (contents : Contents) → IsOwnWith old created guid contents
+    → (new ≡ old) ⊎ HasSteadyPhases (disk_size old) created (certain (bytes_of old.now) old) new guid contents → IsImportKept old new created guid contents
+import_kept old new created guid contents own (inl same) = record { steady = inl same; own = subst (λ (d : Disk). IsOwnWith d created guid contents) (sym same) own }
+import_kept old new created guid contents own (inr steady) =
+    let flushed : Disk = certain (bytes_of old.now) old in
+    let later : moments flushed ≤ moments new = moments_grow (IsImportMoment (disk_size old) created steady.old steady.new) flushed new steady.each in
+    let began : created ≤ moments old = own.began in
+    record { steady = inr steady; own = steady_own (disk_size old) created flushed new guid contents (omega (arith, began, later, more old.now.unflushed)) steady }
+  where
+    more : (ws : List Write) → moments old ≤ moments (certain_with (bytes_of old.now) old ws)
+    more [] = omega arith
+    more (w ∷ ws) = omega arith
+
+-- A run, wherever it ends, leaves a disk that is the pool's own, with a cut of its entries.
+module _ (size : ℕ) (m : Moment) (s : Shown) (past : Past) (now : Contents) (image : List ℕ) (left : MayLeave m image) (kept : IsPoolDisk size m s past)
+    (fair : IsFair (passes_check size) past.created (handed m) image) (log : IsLogExact s past) (sync : IsSyncExact s) (line : IsLine s.line) (history : IsHistory past.entries past.base now)
+    (none : s.log.kept ≡ []) where
+  abbrev pub Left : Type 0
+  Left = (c : Contents) × IsLeftBy past c × IsOwnImage size past.created image m s.guid c
+
+  size_is : length image ≡ size
+  size_is = left.size ∙ kept.bytes.size_is
+
+  found : (flushed : ℕ) (v : View) → IsAtRest size past.created flushed (settled image m) v → IsFoundAs image flushed v
+  found flushed v rest =
+      let certain_fair = subst (λ (n : ℕ). IsFair (passes_check n) past.created (handed (settled image m)) image) (sym size_is) (fair_settled (passes_check size) past.created image m fair) in
+      rest_found past.created (settled image m) image (bytes_may_be_left (settled image m)) certain_fair flushed v
+      (subst (λ (n : ℕ). IsAtRest n past.created flushed (settled image m) v) (sym size_is) rest)
+
+  no_log : (flushed : ℕ) (v : View) (group : ℕ) (root : Pointer) (header : Header) → IsViewOf flushed v s past group root header → v.logged ≡ []
+  no_log flushed v group root header is = no_length v.logged (is.as_many ∙ ap (λ (l : List KeptBlock). length (kept_from header (record s.log { kept = l }))) none)
+
+  configs : (v : View) → v.u.guid ≡ s.guid → s.line.synced ≤ v.u.group → AreConfigsBelowImport size past.created (handed m) v
+  configs v of_guid no_lower =
+      subst (λ (guid : ℕ). AreConfigsUpTo size past.created (handed m) guid (v.u.group + 3) (λ group content. (group ≡ v.u.group + 4) × (content ≡ config_content size guid group v.name))) (sym of_guid)
+      (configs_weaker size past.created (handed m) s.guid s.line.synced (v.u.group + 3) (IsSyncConfig size s past) (λ group content. (group ≡ v.u.group + 4) × (content ≡ config_content size s.guid group v.name)) (omega (arith, no_lower))
+      (λ group content other.
+      let next : group ≡ s.line.synced + 1 = subst (λ o. IfSome o (λ g. g ≡ s.line.synced + 1)) other.syncing line.syncing in
+      inl (omega (arith, next, no_lower))) kept.configs)
+
+  -- the contents of a view without log blocks
+  view_left : (flushed : ℕ) (v : View) (group : ℕ) (root : Pointer) (header : Header) → IsViewOf flushed v s past group root header → IsAtRest size past.created flushed (settled image m) v → s.line.synced ≤ group
+      → ((l : LiesAs image s past group root header) → (c : Contents) × IsLeftBy past c × (apply_records (records_above l.u.group l.chain) l.synced ≡ Ok c)) → Left
+  view_left flushed v group root header is rest no_lower applies =
+      let f = found flushed v rest in
+      let a = applies (found_lies image flushed v s past group root header f is) in
+      let empty : v.logged ≡ [] = no_log flushed v group root header is in
+      let short : length v.logged ≡ 0 = ap (λ (l : List Logged). length l) empty in
+      let whole : take f.count v.logged ≡ v.logged = take_whole f.count v.logged (omega (arith, short)) in
+      let mounts : MountsAs v a.0 = ap (λ (ls : List Logged). apply_records (records_above v.u.group (map (λ (l : Logged). l.block) ls)) v.synced) (sym whole) ∙ a.2 in
+      let not_below : s.line.synced ≤ v.u.group = let g : v.u.group ≡ group = is.group_is in omega (arith, g, no_lower) in
+      (a.0, a.1, rest_own size past.created m image left flushed v s.guid a.0 is.guid empty mounts (configs v is.guid not_below) rest)
+
+  by_phase : IsPoolLaid size m s past → Left
+  by_phase (inl pool) =
+      view_left pool.flushed pool.v s.line.synced s.root (header_now s.log) pool.is (rest_settled m image left size past.created pool.flushed pool.v pool.rest) (omega arith)
+      (synced_applies image s past now log sync line history)
+  by_phase (inr pool) = elim (phase_certain size past.created pool.flushed pool.new_flushed m image left pool.old pool.new (inr (inl pool.between))) as (λ _. Left) [
+    | inl rest ↦ view_left pool.flushed pool.old s.line.synced s.root (header_now s.log) pool.old_is rest (omega arith) (synced_applies image s past now log sync line history)
+    | inr rest ↦
+        let next : pool.group ≡ s.line.synced + 1 = subst (λ o. IfSome o (λ g. g ≡ s.line.synced + 1)) pool.syncing line.syncing in
+        view_left pool.new_flushed pool.new pool.group pool.plan.root pool.plan.header pool.new_is rest (omega (arith, next))
+        (syncing_applies image s past now log sync line history pool.group pool.plan pool.syncing pool.running)
+  ]
+
+  pub image_left : Left
+  image_left = by_phase kept.laid
+
+pub run_own : (size : ℕ) (disk : Disk) (s : Shown) (past : Past) (now : Contents) → past.created ≤ moments disk → IsPoolDisk size disk.now s past → IsLogExact s past → IsSyncExact s → IsLine s.line
+    → IsHistory past.entries past.base now → s.log.kept ≡ [] → IsRunLeft disk past s.guid
+run_own size disk s past now began kept log sync line history none = record {
+  began = began;
+  left = record {
+    bytes = subst (λ (n : ℕ). HasFairBytes n past.created disk.now) (sym kept.bytes.size_is) kept.bytes;
+    each = λ image left fair.
+        let here = image_left size disk.now s past now image left kept (subst (λ (n : ℕ). IsFair (passes_check n) past.created (handed disk.now) image) kept.bytes.size_is fair) log sync line history none in
+        (here.0, here.1, subst (λ (n : ℕ). IsOwnImage n past.created image disk.now s.guid here.0) (sym kept.bytes.size_is) here.2);
+  };
+}

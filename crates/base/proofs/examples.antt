@@ -1,0 +1,4 @@
+pub mod Rows
+pub mod RowsOfHistory
+pub mod RowsOfSteps
+pub mod RowsOfSyncs

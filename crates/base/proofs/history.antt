@@ -1,0 +1,11 @@
+pub mod Writes
+pub mod Objects
+pub mod Conflicts
+pub mod Cuts
+pub mod Projections
+pub mod Admissions
+pub mod CommitOrder
+pub mod Acknowledged
+pub mod LogOrder
+pub mod KeptContents
+pub mod BuiltNames

@@ -1,0 +1,160 @@
+-- A commit makes the history longer by its entry.
+use Rattle.std.proofs.Common.{◌≡◌, ℕ, zero, suc, ◌+◌, ◌<◌, ◌≤◌, Bool, true, false, not, ◌&&◌, List, [], ◌∷◌, ◌++◌, length, map, refl, ap, sym, subst, ◌∙◌, arith, ◌⊎◌, inl, inr}
+use Rattle.std.specs.Prelude.{Option, Some, None, Ok, Err, slice_get, filter, option_map, All, nat_lt, nat_le, ◌==◌}
+use Rattle.std.proofs.lemmas.Bool.{eqb-true, ltb-true, leb-true}
+use Rattle.std.proofs.lemmas.List.Folds.{find_at}
+use Rattle.std.specs.List.{position_or_len, list_all}
+use Rattle.std.specs.Option.{option_map_or}
+use Rattle.std.proofs.lemmas.Option.{slice_get-map}
+use Rattle.base.specs.declared.error.PoolError.{PoolError}
+use Rattle.base.specs.declared.names.ObjectId.{ObjectId}
+use Rattle.base.specs.declared.operation.Op.{Op}
+use Rattle.base.specs.declared.operation.Shape.{Shape}
+use Rattle.base.specs.declared.operation.Shape.TheVariants as shape
+use Rattle.base.specs.formats.Limits.{object_count, max_length, max_log_record}
+use Rattle.base.specs.history.Plans.{shape_of, range_of, ranges, plan_ranges, IsRange, is_shape_allowed, is_plan_allowed, log_record_size}
+use Rattle.base.specs.history.History.{Entry, Admitted, MayFollow, IsHistory}
+use Rattle.base.specs.steps.Groups.{Admission, admitted_of}
+use Rattle.base.specs.steps.Exact.{IsExact}
+use Rattle.base.specs.steps.Refusals.{Test, first_refusal, is_same_shape, is_same_plan, transaction_of, commit_tests, commit_refusal}
+use Rattle.base.specs.steps.Steps.{State, Answers, Commit}
+use Rattle.std.proofs.lemmas.List.Elements.{All-head, All-tail, All-nil, All-cons}
+use Rattle.base.proofs.common.Sieves.{All-of_kept, kept-map}
+use Rattle.base.proofs.history.Projections.{plans_touch}
+use Rattle.base.proofs.history.Cuts.{histories_grow}
+
+-- where no refusal applies, each test gives false
+pub no_refusal : (ts : List Test) → first_refusal ts ≡ None → (i : ℕ) (t : Test) → slice_get ts i ≡ Some t → t.applies ≡ false
+no_refusal [] none i t at = absurd (let no_way : None ≡ Some t = at in cc)
+no_refusal (x ∷ xs) none i t at = cases (λ h. no_refusal xs h) x.applies refl none i at
+  where
+    cases : (first_refusal xs ≡ None → (i : ℕ) (t : Test) → slice_get xs i ≡ Some t → t.applies ≡ false) → (b : Bool) → x.applies ≡ b
+        → first_refusal (record { applies = b; error = x.error } ∷ xs) ≡ None → (i : ℕ) → slice_get (x ∷ xs) i ≡ Some t → t.applies ≡ false
+    cases rest true is h i at = absurd (let no_way : Some x.error ≡ None = h in cc)
+    cases rest false is h zero at = let same : x ≡ t = ap (λ o. elim o as (λ _. Test) [ None ↦ x | Some y ↦ y ]) at in ap (λ (y : Test). y.applies) (sym same) ∙ is
+    cases rest false is h (suc i) at = rest h i t at
+
+-- what is answered Ok was refused by nothing
+pub ok-none : {A : Type 0} (r : Option PoolError) (a : A) (old new : State) (does : A → Type 0) (own : PoolError → Type 0) → Answers r (Ok a) old new does own → (r ≡ None) × does a
+ok-none None a old new does own h = (refl, h)
+ok-none (Some e) a old new does own h = absurd (let no_way : Ok a ≡ Err e = h.0 in cc)
+
+pub and-true : (a b : Bool) → (a && b) ≡ true → (a ≡ true) × (b ≡ true)
+and-true true b h = (refl, h)
+and-true false b h = absurd (let no_way : false ≡ true = h in cc)
+
+same_object : (m n : ObjectId) → (m.0 == n.0) ≡ true → m ≡ n
+same_object m n h = let same : m.0 ≡ n.0 = eqb-true m.0 n.0 h in ap (λ (k : ℕ). let o : ObjectId = record { 0 = k } in o) same
+
+-- the test of two shapes tells them equal
+same_shape : (x y : Shape) → is_same_shape x y ≡ true → x ≡ y
+same_shape (shape.Create m) (shape.Create n) h = ap (λ o. shape.Create o) (same_object m n h)
+same_shape (shape.Remove m) (shape.Remove n) h = ap (λ o. shape.Remove o) (same_object m n h)
+same_shape (shape.Write m o c) (shape.Write n p d) h =
+    let both : ((m.0 == n.0) ≡ true) × (((o == p) && (c == d)) ≡ true) = and-true (m.0 == n.0) ((o == p) && (c == d)) h in
+    let rest : ((o == p) ≡ true) × ((c == d) ≡ true) = and-true (o == p) (c == d) both.1 in
+    λ i. shape.Write (same_object m n both.0 i) (eqb-true o p rest.0 i) (eqb-true c d rest.1 i)
+same_shape (shape.SetLength m k) (shape.SetLength n l) h =
+    let both : ((m.0 == n.0) ≡ true) × ((k == l) ≡ true) = and-true (m.0 == n.0) (k == l) h in
+    λ i. shape.SetLength (same_object m n both.0 i) (eqb-true k l both.1 i)
+same_shape (shape.SetName c) (shape.SetName d) h = ap (λ k. shape.SetName k) (eqb-true c d h)
+same_shape (shape.Create m) (shape.Remove n) h = absurd (let no_way : false ≡ true = h in cc)
+same_shape (shape.Create m) (shape.Write n p d) h = absurd (let no_way : false ≡ true = h in cc)
+same_shape (shape.Create m) (shape.SetLength n l) h = absurd (let no_way : false ≡ true = h in cc)
+same_shape (shape.Create m) (shape.SetName d) h = absurd (let no_way : false ≡ true = h in cc)
+same_shape (shape.Remove m) (shape.Create n) h = absurd (let no_way : false ≡ true = h in cc)
+same_shape (shape.Remove m) (shape.Write n p d) h = absurd (let no_way : false ≡ true = h in cc)
+same_shape (shape.Remove m) (shape.SetLength n l) h = absurd (let no_way : false ≡ true = h in cc)
+same_shape (shape.Remove m) (shape.SetName d) h = absurd (let no_way : false ≡ true = h in cc)
+same_shape (shape.Write m o c) (shape.Create n) h = absurd (let no_way : false ≡ true = h in cc)
+same_shape (shape.Write m o c) (shape.Remove n) h = absurd (let no_way : false ≡ true = h in cc)
+same_shape (shape.Write m o c) (shape.SetLength n l) h = absurd (let no_way : false ≡ true = h in cc)
+same_shape (shape.Write m o c) (shape.SetName d) h = absurd (let no_way : false ≡ true = h in cc)
+same_shape (shape.SetLength m k) (shape.Create n) h = absurd (let no_way : false ≡ true = h in cc)
+same_shape (shape.SetLength m k) (shape.Remove n) h = absurd (let no_way : false ≡ true = h in cc)
+same_shape (shape.SetLength m k) (shape.Write n p d) h = absurd (let no_way : false ≡ true = h in cc)
+same_shape (shape.SetLength m k) (shape.SetName d) h = absurd (let no_way : false ≡ true = h in cc)
+same_shape (shape.SetName c) (shape.Create n) h = absurd (let no_way : false ≡ true = h in cc)
+same_shape (shape.SetName c) (shape.Remove n) h = absurd (let no_way : false ≡ true = h in cc)
+same_shape (shape.SetName c) (shape.Write n p d) h = absurd (let no_way : false ≡ true = h in cc)
+same_shape (shape.SetName c) (shape.SetLength n l) h = absurd (let no_way : false ≡ true = h in cc)
+
+-- and that of two plans
+pub same_plan : (p q : List Shape) → is_same_plan p q ≡ true → p ≡ q
+same_plan [] [] h = refl
+same_plan [] (y ∷ ys) h = absurd (let no_way : false ≡ true = h in cc)
+same_plan (x ∷ xs) [] h = absurd (let no_way : false ≡ true = h in cc)
+same_plan (x ∷ xs) (y ∷ ys) h =
+    let both : (is_same_shape x y ≡ true) × (is_same_plan xs ys ≡ true) = and-true (is_same_shape x y) (is_same_plan xs ys) h in
+    λ i. same_shape x y both.0 i ∷ same_plan xs ys both.1 i
+
+-- an element of a list with one more at its end
+pub push-cases : {A : Type 0} (xs : List A) (x y : A) (i : ℕ) → slice_get (xs ++ x ∷ []) i ≡ Some y → (slice_get xs i ≡ Some y) ⊎ ((i ≡ length xs) × (x ≡ y))
+push-cases {A} [] x y zero h = inr (refl, ap (λ o. elim o as (λ _. A) [ None ↦ x | Some z ↦ z ]) h)
+push-cases [] x y (suc i) h = absurd (let no_way : None ≡ Some y = h in cc)
+push-cases (z ∷ xs) x y zero h = inl h
+push-cases (z ∷ xs) x y (suc i) h = elim (push-cases xs x y i h) [ inl is ↦ inl is | inr is ↦ inr (ap suc is.0, is.1) ]
+
+-- the transaction that a commit finds, and that its operations have its plan's shapes
+pub found-plan : (tx : ℕ) (ops : List Op) (s : State) (a : Admission) → commit_refusal tx ops s.shown ≡ None → transaction_of tx s.shown ≡ Some a → map shape_of ops ≡ a.plan
+found-plan tx ops s a none found =
+    let in_plan : option_map_or (λ (x : Admission). not (is_same_plan (map shape_of ops) x.plan)) (transaction_of tx s.shown) false ≡ false = no_refusal (commit_tests tx ops s.shown) none 2 _ refl in
+    same_plan (map shape_of ops) a.plan (flip _ (sym (ap (λ o. option_map_or (λ (x : Admission). not (is_same_plan (map shape_of ops) x.plan)) o false) found) ∙ in_plan))
+  where
+    flip : (b : Bool) → not b ≡ false → b ≡ true
+    flip true h = refl
+    flip false h = absurd (let no_way : true ≡ false = h in cc)
+
+-- a range that an allowed shape touches
+shape_range : (x : Shape) → is_shape_allowed x ≡ true → IsRange (range_of x)
+shape_range (shape.Create n) h = record { some = omega arith; within = omega arith }
+shape_range (shape.Remove n) h = record { some = omega arith; within = omega arith }
+shape_range (shape.Write n offset count) h =
+    let p = and-true (nat_lt n.0 object_count && nat_lt 0 count) (nat_le (offset + count) max_length) h in
+    let some : 0 < count = ltb-true 0 count (and-true (nat_lt n.0 object_count) (nat_lt 0 count) p.0).1 in
+    record { some = omega arith; within = leb-true (offset + count) max_length p.1 }
+shape_range (shape.SetLength n new) h = record { some = omega arith; within = omega arith }
+shape_range (shape.SetName count) h = record { some = omega arith; within = omega arith }
+
+plan_range : (plan : List Shape) → list_all is_shape_allowed plan ≡ true → All IsRange (plan_ranges plan)
+plan_range [] h = All-nil IsRange
+plan_range (x ∷ xs) h =
+    let p = and-true (is_shape_allowed x) (list_all is_shape_allowed xs) h in
+    All-cons IsRange (range_of x) (plan_ranges xs) (shape_range x p.0) (plan_range xs p.1)
+
+module _ {A : Type 0} (P : A → Type 0) where
+  pub All-at : (xs : List A) (i : ℕ) (x : A) → All P xs → slice_get xs i ≡ Some x → P x
+  All-at [] i x all at = absurd (let no_way : None ≡ Some x = at in cc)
+  All-at (y ∷ ys) zero x all at = subst P (ap (λ o. elim o as (λ _. A) [ None ↦ y | Some z ↦ z ]) at) (All-head P y ys all)
+  All-at (y ∷ ys) (suc i) x all at = All-at ys i x (All-tail P y ys all) at
+
+  pub All-each : (xs : List A) → ((i : ℕ) (x : A) → slice_get xs i ≡ Some x → P x) → All P xs
+  All-each [] each = All-nil P
+  All-each (y ∷ ys) each = All-cons P y ys (each zero y refl) (All-each ys (λ i x at. each (suc i) x at))
+
+  All-filter : (p : A → Bool) (xs : List A) → All P xs → All P (filter p xs)
+  All-filter p xs all = subst (λ ys. All P ys) (kept-map p xs) (All-of_kept P (map p xs) xs all)
+
+abbrev HasAllowedPlan : Admission → Type 0
+HasAllowedPlan a = (is_plan_allowed a.plan ≡ true) × (log_record_size a.plan ≤ max_log_record)
+
+-- a commit makes the history longer by its entry
+pub commit-history : (tx : ℕ) (ops : List Op) (receipt : ℕ × ℕ) (old new : State) → IsExact old.shown old.past → IsHistory old.past.entries old.past.base old.shown.contents
+    → Commit tx ops (Ok receipt) old new → IsHistory new.past.entries new.past.base new.shown.contents
+commit-history tx ops receipt old new exact history h =
+    let done = ok-none (commit_refusal tx ops old.shown) receipt old new _ _ h in
+    let a : Admission = done.1.0 in
+    let place : ℕ = position_or_len (λ (x : Admission). x.tx == tx) old.shown.transactions in
+    let at_a : slice_get old.shown.transactions place ≡ Some a = sym (find_at (λ (x : Admission). x.tx == tx) old.shown.transactions) ∙ done.1.2 in
+    let at_admitted : slice_get (map admitted_of old.shown.transactions) place ≡ Some (admitted_of a) = slice_get-map admitted_of old.shown.transactions place ∙ ap (λ o. option_map admitted_of o) at_a in
+    let touches : ranges ops ≡ plan_ranges a.plan = plans_touch ops ∙ ap (λ p. plan_ranges p) (found-plan tx ops old a done.0 done.1.2) in
+    let follows : MayFollow old.past.entries a.group (plan_ranges a.plan) =
+    All-at (λ (x : Admitted). MayFollow old.past.entries x.group x.touches) (map admitted_of old.shown.transactions) place (admitted_of a) exact.isolated.admitted.may_follow at_admitted in
+    let all_allowed : All HasAllowedPlan old.shown.transactions = subst (λ ts. All HasAllowedPlan ts) (sym exact.groups.transactions)
+    (All-filter HasAllowedPlan _ old.past.admissions (All-each HasAllowedPlan old.past.admissions exact.groups.members.allowed)) in
+    let allowed : HasAllowedPlan a = All-at HasAllowedPlan old.shown.transactions place a all_allowed at_a in
+    let within : All IsRange (plan_ranges a.plan) = plan_range a.plan (and-true (nat_lt 0 (length a.plan)) (list_all is_shape_allowed a.plan) allowed.0).1 in
+    let next : Entry = record { group = a.group; tx = tx; ops = ops } in
+    subst (λ (x : State). IsHistory x.past.entries x.past.base x.shown.contents) (sym done.1.6)
+    (histories_grow old.past.entries next old.past.base old.shown.contents done.1.1 history
+    (subst (λ ts. All IsRange ts) (sym touches) within) (subst (λ ts. MayFollow old.past.entries a.group ts) (sym touches) follows) done.1.3)

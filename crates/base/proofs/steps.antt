@@ -1,0 +1,17 @@
+pub mod NewPools
+pub mod Additions
+pub mod BusyLocks
+pub mod OpenTransactions
+pub mod KeptLocks
+pub mod KeptGroups
+pub mod KeptIsolation
+pub mod KeptSyncs
+pub mod KeptLog
+pub mod KeptWrites
+pub mod KeptFlushes
+pub mod KeptTables
+pub mod AnySteps
+pub mod SyncEnds
+pub mod SeenStates
+pub mod SeenGroups
+pub mod SeenRefusals

@@ -1,0 +1,76 @@
+-- A lock is refused as busy exactly where granting it would leave the held locks unsound.
+use Rattle.std.proofs.Common.{◌≡◌, ℕ, zero, suc, ◌<◌, Bool, true, false, not, ◌&&◌, ◌||◌, List, [], ◌∷◌, ◌++◌, length, refl, ap, sym, ◌∙◌, arith, inl, inr}
+use Rattle.std.specs.Prelude.{Some, None, slice_get}
+use Rattle.std.specs.List.{list_any}
+use Rattle.std.proofs.lemmas.Option.{slice_get_within}
+use Rattle.base.specs.declared.range.Mode.{Mode}
+use Rattle.base.specs.declared.range.Mode.TheVariants.{Reader, Writer}
+use Rattle.base.specs.history.Plans.{overlaps}
+use Rattle.base.specs.steps.Locks.{Grant, is_reader, is_blocked, IsSound}
+use Rattle.base.proofs.history.CommitOrder.{and-true, push-cases}
+
+pub or-false : (a b : Bool) → (a || b) ≡ false → (a ≡ false) × (b ≡ false)
+or-false true b h = absurd (let no_way : true ≡ false = h in cc)
+or-false false b h = (refl, h)
+
+pub Some-injective : {A : Type 0} {x y : A} → Some x ≡ Some y → x ≡ y
+Some-injective {A} {x} {y} e = ap (λ o. elim o as (λ _. A) [ None ↦ x | Some z ↦ z ]) e
+
+-- where no element passes a test, each fails it
+none-passes : {A : Type 0} (p : A → Bool) (xs : List A) (i : ℕ) (x : A) → list_any p xs ≡ false → slice_get xs i ≡ Some x → p x ≡ false
+none-passes p [] i x none at = absurd (let no_way : None ≡ Some x = at in cc)
+none-passes p (y ∷ ys) zero x none at = ap p (sym (Some-injective at)) ∙ (or-false (p y) (list_any p ys) none).0
+none-passes p (y ∷ ys) (suc i) x none at = none-passes p ys i x (or-false (p y) (list_any p ys) none).1 at
+
+-- where one passes it, there is its place
+pub some-passes : {A : Type 0} (p : A → Bool) (xs : List A) → list_any p xs ≡ true → (i : ℕ) × (x : A) × (slice_get xs i ≡ Some x) × (p x ≡ true)
+some-passes p [] any = absurd (let no_way : false ≡ true = any in cc)
+some-passes {A} p (y ∷ ys) any =
+    elim (p y) as (λ b. p y ≡ b → (b || list_any p ys) ≡ true → (i : ℕ) × (x : A) × (slice_get (y ∷ ys) i ≡ Some x) × (p x ≡ true)) [
+      | true ↦ λ is _. (zero, y, refl, is)
+      | false ↦ λ is rest. let found : (i : ℕ) × (x : A) × (slice_get ys i ≡ Some x) × (p x ≡ true) = some-passes p ys rest in (suc found.0, found.1, found.2, found.3)
+    ] refl any
+
+slice_get-push-old : {A : Type 0} (xs : List A) (x y : A) (i : ℕ) → slice_get xs i ≡ Some y → slice_get (xs ++ x ∷ []) i ≡ Some y
+slice_get-push-old [] x y i at = absurd (let no_way : None ≡ Some y = at in cc)
+slice_get-push-old (z ∷ xs) x y zero at = at
+slice_get-push-old (z ∷ xs) x y (suc i) at = slice_get-push-old xs x y i at
+
+slice_get-push-last : {A : Type 0} (xs : List A) (x : A) → slice_get (xs ++ x ∷ []) (length xs) ≡ Some x
+slice_get-push-last [] x = refl
+slice_get-push-last (z ∷ xs) x = slice_get-push-last xs x
+
+reader-is : (m : Mode) → is_reader m ≡ true → m ≡ Reader
+reader-is Reader h = refl
+reader-is Writer h = absurd (let no_way : false ≡ true = h in cc)
+
+not-false : (b : Bool) → not b ≡ false → b ≡ true
+not-false true h = refl
+not-false false h = absurd (let no_way : true ≡ false = h in cc)
+
+-- one that is not blocked may be granted
+pub granted-sound : (locks : List Grant) (g : Grant) → IsSound locks → is_blocked g.range g.mode locks ≡ false → IsSound (locks ++ g ∷ [])
+granted-sound locks g sound free i j x y below at_i at_j overlap =
+    elim (push-cases locks g x i at_i) as (λ _. (x.mode ≡ Reader) × (y.mode ≡ Reader)) [
+      | inl at_i_old ↦ elim (push-cases locks g y j at_j) as (λ _. (x.mode ≡ Reader) × (y.mode ≡ Reader)) [
+        | inl at_j_old ↦ sound i j x y below at_i_old at_j_old overlap
+        | inr is_g ↦
+            let fails : (overlaps x.range g.range && not (is_reader x.mode && is_reader g.mode)) ≡ false = none-passes (λ (h : Grant). overlaps h.range g.range && not (is_reader h.mode && is_reader g.mode)) locks i x free at_i_old in
+            let with_g : overlaps x.range g.range ≡ true = ap (λ (h : Grant). overlaps x.range h.range) is_g.1 ∙ overlap in
+            let readers : (is_reader x.mode && is_reader g.mode) ≡ true = not-false (is_reader x.mode && is_reader g.mode) (ap (λ b. b && not (is_reader x.mode && is_reader g.mode)) (sym with_g) ∙ fails) in
+            let both : (is_reader x.mode ≡ true) × (is_reader g.mode ≡ true) = and-true (is_reader x.mode) (is_reader g.mode) readers in
+            (reader-is x.mode both.0, ap (λ (h : Grant). h.mode) (sym is_g.1) ∙ reader-is g.mode both.1)
+      ]
+      | inr is_last ↦ elim (push-cases locks g y j at_j) as (λ _. (x.mode ≡ Reader) × (y.mode ≡ Reader)) [
+        | inl at_j_old ↦ absurd (let within : j < length locks = slice_get_within locks j y at_j_old in omega (arith, is_last.0))
+        | inr is_g ↦ absurd (omega (arith, is_last.0, is_g.0))
+      ]
+    ]
+
+-- one that is blocked may not
+pub blocked-unsound : (locks : List Grant) (g : Grant) → is_blocked g.range g.mode locks ≡ true → IsSound (locks ++ g ∷ []) → ⊥
+blocked-unsound locks g blocked sound =
+    let found : (i : ℕ) × (x : Grant) × (slice_get locks i ≡ Some x) × ((overlaps x.range g.range && not (is_reader x.mode && is_reader g.mode)) ≡ true) = some-passes (λ (h : Grant). overlaps h.range g.range && not (is_reader h.mode && is_reader g.mode)) locks blocked in
+    let parts : (overlaps found.1.range g.range ≡ true) × (not (is_reader found.1.mode && is_reader g.mode) ≡ true) = and-true (overlaps found.1.range g.range) (not (is_reader found.1.mode && is_reader g.mode)) found.3 in
+    let readers : (found.1.mode ≡ Reader) × (g.mode ≡ Reader) = sound found.0 (length locks) found.1 g (slice_get_within locks found.0 found.1 found.2) (slice_get-push-old locks g found.1 found.0 found.2) (slice_get-push-last locks g) parts.0 in
+    let no_way : false ≡ true = (λ k. not (is_reader (sym readers.0 k) && is_reader (sym readers.1 k))) ∙ parts.1 in cc

@@ -1,0 +1,185 @@
+-- Each write of a log block, answered or refused, keeps what is shown of the log exact.
+use Rattle.std.proofs.Common.{◌≡◌, ℕ, zero, suc, ◌+◌, ◌-◌, ◌<◌, ◌≤◌, Bool, true, false, not, ◌&&◌, ◌||◌, List, [], ◌∷◌, ◌++◌, length, map, refl, ap, sym, subst, ◌∙◌, arith, inl, inr}
+use Rattle.std.specs.Prelude.{Option, Some, None, IfSome, slice_get, filter, nat_lt, nat_le, ◌==◌, option_map, All}
+use Rattle.std.specs.List.{enumerate_from}
+use Rattle.std.proofs.lemmas.Bool.{and_parts, and_left, eqb-true, eq-eqb, ne_eqb}
+use Rattle.std.proofs.lemmas.List.{length_push}
+use Rattle.std.proofs.lemmas.List.Elements.{filter-append}
+use Rattle.std.proofs.lemmas.Option.{slice_get-map, slice_get_within}
+use Rattle.base.specs.history.History.{Entry}
+use Rattle.base.specs.formats.Records.{Record}
+use Rattle.base.specs.history.Past.{Past}
+use Rattle.base.specs.steps.Logs.{Log, KeptBlock, Committed, committed_of, has_record, is_same, is_written_in, is_flushed_in, reaches_above, pending_records, log_after_write}
+use Rattle.base.specs.steps.Shown.{Shown, SyncPlan}
+use Rattle.base.specs.steps.Exact.{IsLogExact, IsSyncExact}
+use Rattle.base.proofs.steps.BusyLocks.{Some-injective}
+use Rattle.base.proofs.common.Sieves.{filter-filter, filter_all, filter_nothing}
+use Rattle.base.proofs.history.CommitOrder.{push-cases, All-each}
+use Rattle.base.proofs.history.LogOrder.{order-write}
+use Rattle.base.proofs.steps.KeptLog.{record_of}
+use Rattle.base.proofs.common.KeptLists.{none_at, at_front, at_filter, pair_filter, any_at, any_found, any_none, any_push, filter_same}
+
+enumerated_at : {A : Type 0} (n : ℕ) (xs : List A) (k : ℕ) (p : ℕ × A) → slice_get (enumerate_from n xs) k ≡ Some p → (p.0 ≡ n + k) × (slice_get xs k ≡ Some p.1)
+enumerated_at n [] k p at = absurd (none_at k p at)
+enumerated_at n (x ∷ xs) zero p at = let same = Some-injective at in (ap (λ q. q.0) (sym same) ∙ omega arith, ap (λ q. Some q.1) same)
+enumerated_at n (x ∷ xs) (suc k) p at = let later = enumerated_at (n + 1) xs k p at in (let is : p.0 ≡ n + 1 + k = later.0 in omega arith, later.1)
+
+-- a record of the entries at a place is the one of the entry there
+recorded_at : (entries : List Entry) (k : ℕ) (r : Record) → slice_get (map record_of (enumerate_from 0 entries)) k ≡ Some r
+    → (e : Entry) × (slice_get entries k ≡ Some e) × (r.ordinal ≡ k) × (e.group ≡ r.group)
+recorded_at entries k r at = go (slice_get (enumerate_from 0 entries) k) refl (sym (slice_get-map record_of (enumerate_from 0 entries) k) ∙ at)
+  where
+    go : (o : Option (ℕ × Entry)) → slice_get (enumerate_from 0 entries) k ≡ o → option_map record_of o ≡ Some r → (e : Entry) × (slice_get entries k ≡ Some e) × (r.ordinal ≡ k) × (e.group ≡ r.group)
+    go None is h = absurd (let no_way : None ≡ Some r = h in cc)
+    go (Some p) is h =
+        let place = enumerated_at 0 entries k p is in
+        let same : record_of p ≡ r = Some-injective h in
+        (p.1, place.1, (let first : p.0 ≡ 0 + k = place.0 in ap (λ (x : Record). x.ordinal) (sym same) ∙ omega arith), ap (λ (x : Record). x.group) same)
+
+module _ (s t : Shown) (p q : Past) (x : IsLogExact s p) (taken rest : List Record) (address : ℕ) (split : s.log.pending ≡ taken ++ rest) where
+  abbrev block : KeptBlock
+  block = record { address = s.log.next.address; number = s.log.next.number; committed = map committed_of taken; flushed = false }
+
+  abbrev written : Log
+  written = log_after_write taken rest address s.log
+
+  abbrev is_pending : Record → Bool
+  is_pending r = nat_lt s.line.synced r.group && not (is_written_in s.log (committed_of r))
+
+  abbrev records : List Record
+  records = map record_of (enumerate_from 0 p.entries)
+
+  abbrev is_left : Record → Bool
+  is_left r = not (has_record block (committed_of r))
+
+  all_pending : taken ++ rest ≡ filter is_pending records
+  all_pending = sym split ∙ x.pending
+
+  -- what is taken is of the entries, and above the synced group
+  taken_of_entries : (i : ℕ) (r : Record) → slice_get taken i ≡ Some r → (k : ℕ) × (slice_get records k ≡ Some r) × (is_pending r ≡ true)
+  taken_of_entries i r at = at_filter is_pending records i r (subst (λ rs. slice_get rs i ≡ Some r) all_pending (at_front taken rest i r at))
+
+  taken_above : All (λ (r : Record). nat_lt s.line.synced r.group ≡ true) taken
+  taken_above = All-each (λ (r : Record). nat_lt s.line.synced r.group ≡ true) taken
+      (λ i r at. let found = taken_of_entries i r at in (and_parts (nat_lt s.line.synced r.group) (not (is_written_in s.log (committed_of r))) found.2).0)
+
+  at_rest : (j : ℕ) (r : Record) → slice_get rest j ≡ Some r → slice_get (taken ++ rest) (length taken + j) ≡ Some r
+  at_rest j r at = behind taken
+    where
+      behind : (front : List Record) → slice_get (front ++ rest) (length front + j) ≡ Some r
+      behind [] = let same : 0 + j ≡ j = omega arith in subst (λ k. slice_get rest k ≡ Some r) (sym same) at
+      behind (f ∷ front) = let same : suc (length front) + j ≡ suc (length front + j) = omega arith in subst (λ k. slice_get (f ∷ front ++ rest) k ≡ Some r) (sym same) (behind front)
+
+  -- none of the rest is one that is taken
+  apart : (i j : ℕ) (r u : Record) → slice_get taken i ≡ Some r → slice_get rest j ≡ Some u → is_same (committed_of u) (committed_of r) ≡ false
+  apart i j r u at_i at_j =
+      let within : i < length taken = slice_get_within taken i r at_i in
+      let places = pair_filter is_pending records i (length taken + j) r u (omega arith)
+      (subst (λ rs. slice_get rs i ≡ Some r) all_pending (at_front taken rest i r at_i)) (subst (λ rs. slice_get rs (length taken + j) ≡ Some u) all_pending (at_rest j u at_j)) in
+      let low : places.0 < places.1 = places.2 in
+      let one : r.ordinal ≡ places.0 = (recorded_at p.entries places.0 r places.3).2 in
+      let other : u.ordinal ≡ places.1 = (recorded_at p.entries places.1 u places.4).2 in
+      and_left (u.ordinal == r.ordinal) (u.group == r.group) (ne_eqb u.ordinal r.ordinal (λ same. absurd (omega arith)))
+
+  none_left : filter is_left taken ≡ []
+  none_left = filter_same is_left (λ r. false) taken (λ i r at. ap not (any_at (is_same (committed_of r)) (map committed_of taken) i (committed_of r)
+      (slice_get-map committed_of taken i ∙ ap (λ o. option_map committed_of o) at) (itself (committed_of r)))) ∙ filter_nothing taken
+    where
+      itself : (c : Committed) → is_same c c ≡ true
+      itself c = rw (eq-eqb c.ordinal c.ordinal refl, eq-eqb c.group c.group refl) refl
+
+  all_left : filter is_left rest ≡ rest
+  all_left = filter_all is_left rest (All-each (λ (u : Record). is_left u ≡ true) rest (λ j u at_j. ap not (any_none (is_same (committed_of u)) (map committed_of taken)
+      (λ i c at_i. none i c u j at_j (slice_get taken i) refl (sym (slice_get-map committed_of taken i) ∙ at_i)))))
+    where
+      none : (i : ℕ) (c : Committed) (u : Record) (j : ℕ) → slice_get rest j ≡ Some u → (o : Option Record) → slice_get taken i ≡ o → option_map committed_of o ≡ Some c → is_same (committed_of u) c ≡ false
+      none i c u j at_j None is h = absurd (let no_way : None ≡ Some c = h in cc)
+      none i c u j at_j (Some r) is h = ap (λ d. is_same (committed_of u) d) (sym (Some-injective h)) ∙ apart i j r u is at_j
+
+  pending_after : rest ≡ pending_records s.line.synced written p.entries
+  pending_after =
+      sym (filter-append is_left taken rest ∙ (λ k. none_left k ++ all_left k))
+      ∙ ap (λ rs. filter is_left rs) all_pending
+      ∙ filter-filter is_left is_pending (λ (r : Record). nat_lt s.line.synced r.group && not (is_written_in written (committed_of r))) same records
+    where
+      turn : (a b c : Bool) → (a && not (b || c)) ≡ (not c && (a && not b))
+      turn true true true = refl
+      turn true true false = refl
+      turn true false true = refl
+      turn true false false = refl
+      turn false b true = refl
+      turn false b false = refl
+
+      same : (r : Record) → (nat_lt s.line.synced r.group && not (is_written_in written (committed_of r))) ≡ (is_left r && is_pending r)
+      same r = ap (λ b. nat_lt s.line.synced r.group && not b) (any_push (λ b. has_record b (committed_of r)) s.log.kept block)
+          ∙ turn (nat_lt s.line.synced r.group) (is_written_in s.log (committed_of r)) (has_record block (committed_of r))
+
+  -- a record of the new block is of an entry
+  known_after : (r : Committed) → has_record block r ≡ true → (e : Entry) × (slice_get p.entries r.ordinal ≡ Some e) × (e.group ≡ r.group)
+  known_after r has = go (any_found (is_same r) (map committed_of taken) has)
+    where
+      of_entry : (i : ℕ) (c : Committed) → is_same r c ≡ true → (o : Option Record) → slice_get taken i ≡ o → option_map committed_of o ≡ Some c → (e : Entry) × (slice_get p.entries r.ordinal ≡ Some e) × (e.group ≡ r.group)
+      of_entry i c same None is h = absurd (let no_way : None ≡ Some c = h in cc)
+      of_entry i c same (Some u) is h =
+          let place = taken_of_entries i u is in
+          let entry = recorded_at p.entries place.0 u place.1 in
+          let both = and_parts (r.ordinal == c.ordinal) (r.group == c.group) same in
+          let to_c : committed_of u ≡ c = Some-injective h in
+          let ordinal : r.ordinal ≡ place.0 = eqb-true r.ordinal c.ordinal both.0 ∙ sym (ap (λ (d : Committed). d.ordinal) to_c) ∙ entry.2 in
+          let group : entry.0.group ≡ r.group = entry.3 ∙ ap (λ (d : Committed). d.group) to_c ∙ sym (eqb-true r.group c.group both.1) in
+          (entry.0, subst (λ k. slice_get p.entries k ≡ Some entry.0) (sym ordinal) entry.1, group)
+
+      go : (i : ℕ) × (c : Committed) × (slice_get (map committed_of taken) i ≡ Some c) × (is_same r c ≡ true) → (e : Entry) × (slice_get p.entries r.ordinal ≡ Some e) × (e.group ≡ r.group)
+      go (i, c, at, same) = of_entry i c same (slice_get taken i) refl (sym (slice_get-map committed_of taken i) ∙ at)
+
+  flushed_after : (r : Committed) → is_flushed_in written r ≡ is_flushed_in s.log r
+  flushed_after r = any_push (λ (b : KeptBlock). b.flushed && has_record b r) s.log.kept block ∙ or_none (is_flushed_in s.log r)
+    where
+      or_none : (b : Bool) → (b || false) ≡ b
+      or_none true = refl
+      or_none false = refl
+
+  -- the front of what is pending is written to a new block
+  pub write_log : IsLogExact (record t { log = written; line = record t.line { synced = s.line.synced }; next_ordinal = s.next_ordinal }) (record q { entries = p.entries; acknowledged = p.acknowledged })
+  write_log = record {
+    next = x.next;
+    allowed = x.allowed;
+    pending = pending_after;
+    in_order = order-write s.line.synced s.log p.entries taken rest address split taken_above x.in_order;
+    known = λ i b r at has. elim (push-cases s.log.kept block b i at) as (λ _. (e : Entry) × (slice_get p.entries r.ordinal ≡ Some e) × (e.group ≡ r.group)) [
+      | inl old ↦ x.known i b r old has
+      | inr new ↦ known_after r (ap (λ (c : KeptBlock). has_record c r) new.1 ∙ has)
+    ];
+    numbered = λ i b at. elim (push-cases s.log.kept block b i at) as (λ _. b.number + (length (s.log.kept ++ block ∷ []) - i) ≡ s.log.next.number + 1) [
+      | inl old ↦
+          let number : b.number + (length s.log.kept - i) ≡ s.log.next.number = x.numbered i b old in
+          let within : i < length s.log.kept = slice_get_within s.log.kept i b old in
+          let longer : length (s.log.kept ++ block ∷ []) ≡ length s.log.kept + 1 = length_push s.log.kept block in
+          omega arith
+      | inr new ↦
+          let number : s.log.next.number ≡ b.number = ap (λ (c : KeptBlock). c.number) new.1 in
+          let place : i ≡ length s.log.kept = new.0 in
+          let longer : length (s.log.kept ++ block ∷ []) ≡ length s.log.kept + 1 = length_push s.log.kept block in
+          omega arith
+    ];
+    acknowledged = λ o e at. x.acknowledged o e at ∙ ap (λ b. nat_le e.group s.line.synced || b) (sym (flushed_after (record { ordinal = o; group = e.group })));
+    no_others = x.no_others;
+  }
+
+  pub write_sync : IsSyncExact s → IsSyncExact (record t { log = written; sync = s.sync; line = record t.line { syncing = s.line.syncing } })
+  write_sync y = record {
+    running = y.running;
+    steps = y.steps;
+    not_past_next = further s.sync y.not_past_next;
+    header = λ i group b plan syncing is at below. elim (push-cases s.log.kept block b i at) as (λ _. reaches_above group b ≡ false) [
+      | inl old ↦ y.header i group b plan syncing is old below
+      | inr new ↦
+          let low : plan.header.number ≤ s.log.next.number = subst (λ o. IfSome o (λ (z : SyncPlan). z.header.number ≤ s.log.next.number)) is y.not_past_next in
+          let number : s.log.next.number ≡ b.number = ap (λ (c : KeptBlock). c.number) new.1 in
+          absurd (omega arith)
+    ];
+  }
+    where
+      further : (o : Option SyncPlan) → IfSome o (λ (z : SyncPlan). z.header.number ≤ s.log.next.number) → IfSome o (λ (z : SyncPlan). z.header.number ≤ s.log.next.number + 1)
+      further None h = tt
+      further (Some z) h = omega arith

@@ -1,0 +1,101 @@
+-- A pool that was just imported is exact with the empty past: the definitions are not vacuous.
+use Rattle.std.proofs.Common.{◌≡◌, ℕ, ◌+◌, ◌^◌, ◌<◌, ◌≤◌, List, [], ◌∷◌, ◌++◌, refl, ap, sym, subst, ◌∙◌, arith}
+use Rattle.std.specs.Prelude.{Option, Some, None, slice_get, unwrap_or, IfSome, is_some, sum_by, fold, map}
+use Rattle.std.specs.List.{flat_map}
+use Rattle.base.specs.history.Contents.{Contents}
+use Rattle.base.specs.history.History.{AreAdmitted}
+use Rattle.base.specs.steps.Groups.{Line, IsLine, Admission, admitted_of}
+use Rattle.base.specs.steps.Locks.{IsSound}
+use Rattle.base.specs.formats.Uberblocks.{Uberblock}
+use Rattle.base.specs.history.Past.{Past, new_past}
+use Rattle.base.specs.steps.Logs.{KeptBlock, committed_of, committed_above}
+use Rattle.base.specs.steps.Shown.{Shown, SyncPlan, dirty_of, reserved_of, dirty_total, unsynced_groups}
+use Rattle.base.specs.steps.Exact.{IsExact, AreLocksExact, AreGroupsExact, AreIsolated, AreChargesExact, IsLogExact, IsSyncExact, IsBounded}
+use Rattle.base.specs.crash.Imports.{IsImported}
+
+-- a sum of zeros
+no_sum : (f : ℕ → ℕ) → ((n : ℕ) → f n ≡ 0) → (ns : List ℕ) → sum_by f ns ≡ 0
+no_sum f zeros [] = refl
+no_sum f zeros (n ∷ ns) = let first : 0 + f n ≡ 0 = omega (arith, zeros n) in ap (λ a. fold (λ b x. b + f x) a ns) first ∙ no_sum f zeros ns
+
+module _ (u : Uberblock) (blocks : ℕ) (contents : Contents) (created dirty_max : ℕ) (s : Shown) (i : IsImported u blocks contents dirty_max s) (bounded : IsBounded contents)
+    (first : 4 ≤ u.group) (last : u.group + 5 ≤ 2 ^ 60) where
+  abbrev the_past : Past
+  the_past = new_past contents created dirty_max
+
+  no_dirt : (g : ℕ) → dirty_of s g ≡ 0
+  no_dirt g = ap (λ o. unwrap_or o 0) (i.dirty g)
+
+  no_reserve : (g : ℕ) → reserved_of s g ≡ 0
+  no_reserve g = ap (λ o. unwrap_or o 0) (i.reserved g)
+
+  the_locks : AreLocksExact s the_past
+  the_locks = record { held = i.locks; sound = subst (λ locks. IsSound locks) (sym i.locks) (λ j k g h below at_j. cc); numbered = λ j g at. cc; next = i.next_lock; granted = λ j id at. cc }
+
+  the_line : IsLine s.line
+  the_line = subst (λ l. IsLine l) (sym i.line) (record { first = omega arith; syncing = tt; middle = tt; open_group = omega arith; last = last })
+
+  the_groups : AreGroupsExact s the_past
+  the_groups = record {
+    line = the_line;
+    members = record { numbered = λ j a at. cc; known = λ j a at. cc; allowed = λ j a at. cc; committed = λ j e at. cc; once = λ j k e f below at. cc; never_committed = λ j t at. cc; holding = λ j a at. cc };
+    transactions = i.transactions;
+    next = i.next_tx;
+  }
+
+  the_isolation : AreIsolated s the_past
+  the_isolation = record {
+    admitted = subst (λ ts. AreAdmitted [] s.line.open_group (map admitted_of ts)) (sym i.transactions) (record {
+      committed = λ k d l. absurd (omega (arith, l));
+      below = λ k d l. absurd (omega (arith, l));
+      may_follow = λ k d l. absurd (omega (arith, l));
+      apart = λ j k d l m. absurd (omega (arith, l, m));
+    });
+    covered = λ j a at. absurd (none-at j a at);
+  }
+    where
+      none-at : (j : ℕ) (a : Admission) → slice_get s.transactions j ≡ Some a → ⊥
+      none-at j a at = let none : slice_get [] j ≡ Some a = ap (λ ts. slice_get ts j) (sym i.transactions) ∙ at in cc
+
+  the_charges : AreChargesExact s the_past
+  the_charges = record {
+    limit = i.limit;
+    dirty = λ g above. no_dirt g;
+    reserved = λ g above. no_reserve g;
+    within = let none : dirty_total s ≡ 0 = no_sum (dirty_of s) no_dirt (unsynced_groups s.line) in omega arith;
+  }
+
+  the_log : IsLogExact s the_past
+  the_log = record {
+    next = i.next_ordinal;
+    allowed = λ o e at. cc;
+    pending = i.pending;
+    in_order = (λ k. committed_above s.line.synced (flat_map (λ (b : KeptBlock). b.committed) (i.kept k)) ++ map committed_of (i.pending k));
+    known = λ j b r at has. absurd (none-kept j b at);
+    numbered = λ j b at. absurd (none-kept j b at);
+    acknowledged = λ o e at. cc;
+    no_others = λ o is. cc;
+  }
+    where
+      none-kept : (j : ℕ) (b : KeptBlock) → slice_get s.log.kept j ≡ Some b → ⊥
+      none-kept j b at = let none : slice_get [] j ≡ Some b = ap (λ bs. slice_get bs j) (sym i.kept) ∙ at in cc
+
+  the_sync : IsSyncExact s
+  the_sync = record {
+    running = ap (λ (o : Option SyncPlan). is_some o) i.sync ∙ sym (ap (λ (l : Line). is_some l.syncing) i.line);
+    steps = subst (λ (o : Option SyncPlan). IfSome o (λ plan. 0 < plan.steps_left)) (sym i.sync) tt;
+    not_past_next = subst (λ (o : Option SyncPlan). IfSome o (λ plan. plan.header.number ≤ s.log.next.number)) (sym i.sync) tt;
+    header = λ j group b plan syncing is at below. absurd (let none : None ≡ Some plan = sym i.sync ∙ is in cc);
+  }
+
+  pub new_pool_is_exact : IsExact s the_past
+  new_pool_is_exact = record {
+    locks = the_locks;
+    groups = the_groups;
+    order = λ j k d l m. absurd (omega (arith, m));
+    isolated = the_isolation;
+    charges = the_charges;
+    log = the_log;
+    sync = the_sync;
+    bounded = subst (λ c. IsBounded c) (sym i.contents_are) bounded;
+  }

@@ -1,0 +1,134 @@
+-- A started sync ends with the last of its steps, and a suspended pool refuses each step.
+use Rattle.std.proofs.Common.{◌≡◌, ℕ, zero, suc, ◌-◌, ◌<◌, ◌≤◌, true, false, List, [], ◌∷◌, length, take, replicate, refl, ap, sym, subst, ◌∙◌, arith, ◌⊎◌}
+use Rattle.std.specs.Prelude.{Option, Some, None, Result, Ok, Err, All}
+use Rattle.std.proofs.lemmas.Bool.{true≢false}
+use Rattle.std.proofs.lemmas.List.Elements.{All-head, All-tail}
+use Rattle.base.specs.declared.error.PoolError.{PoolError}
+use Rattle.base.specs.declared.error.PoolError.TheVariants as error
+use Rattle.base.specs.declared.step.Step as declared_step
+use Rattle.base.specs.declared.step.Step.TheVariants as step
+use Rattle.base.specs.declared.step.Reply.{Reply}
+use Rattle.base.specs.declared.step.Reply.TheVariants as reply
+use Rattle.base.specs.steps.Refusals as refusal
+use Rattle.base.specs.steps.Runs.{Step, progress_reply, reply_of}
+use Rattle.base.specs.steps.Shown.{SyncPlan}
+use Rattle.base.specs.steps.Stage as stage
+use Rattle.base.specs.steps.Steps as steps
+use Rattle.base.specs.steps.Steps.{State, Answers, Progress}
+use Rattle.base.specs.steps.Steps.Progress.{More, Synced}
+use Rattle.base.specs.steps.ExactNow.{IsRun, GoesOn}
+use Rattle.base.specs.steps.SyncEnds.{IsAnswer, is_refusal, sync_replies, sync_reply}
+
+-- where the first refusal is that the pool is suspended, that is the answer, and nothing changes
+suspended_answer : {A : Type 0} (r : Option PoolError) (answer : Result A PoolError) (old new : State) (does : A → Type 0) (own : PoolError → Type 0) → r ≡ Some error.Suspended
+    → Answers r answer old new does own → (answer ≡ Err error.Suspended) × (new ≡ old)
+suspended_answer None answer old new does own is h = absurd (let none : None ≡ Some error.Suspended = is in cc)
+suspended_answer (Some e) answer old new does own is h = let same : e ≡ error.Suspended = cc in (h.0 ∙ ap (λ (x : PoolError). Err x) same, h.1)
+
+-- and so is the reply
+suspended_reply : {A : Type 0} (make : A → Reply) (r : Option PoolError) (given : Reply) (answer : Result A PoolError) (old new : State) (does : A → Type 0) (own : PoolError → Type 0) → r ≡ Some error.Suspended
+    → given ≡ reply_of make answer → Answers r answer old new does own → (new ≡ old) × (given ≡ reply.Refused error.Suspended)
+suspended_reply make r given answer old new does own is told h =
+    let both = suspended_answer r answer old new does own is h in
+    (both.1, told ∙ ap (λ a. reply_of make a) both.0)
+
+suspended_step : (now : List ℕ) (s : declared_step.Step) (r : Reply) (old new : State) → old.shown.suspended ≡ true → Step ⊥ now s r old new
+    → (new ≡ old) × (r ≡ reply.Refused error.Suspended)
+suspended_step now (step.Lock owner n range mode) r old new is (answer, told, h) =
+    suspended_reply _ (refusal.lock_refusal owner.0 (refusal.object_range n.0 range.low range.high) mode old.shown) r answer old new _ _ (rw is refl) told h
+suspended_step now (step.Unlock owner id) r old new is (answer, told, h) = suspended_reply _ (refusal.unlock_refusal owner.0 id.0 old.shown) r answer old new _ _ (rw is refl) told h
+suspended_step now (step.Begin owner plan) r old new is (answer, told, h) = suspended_reply _ (stage.begin_refusal owner.0 plan old.shown) r answer old new _ _ (rw is refl) told h
+suspended_step now (step.Commit tx ops) r old new is (answer, told, h) = suspended_reply _ (stage.commit_refusal tx.0 ops old.shown) r answer old new _ _ (rw is refl) told h
+suspended_step now (step.Read owner n range) r old new is (answer, told, h) =
+    suspended_reply _ (refusal.read_refusal owner.0 (refusal.object_range n.0 range.low range.high) old.shown) r answer old new _ _ (rw is refl) told h
+suspended_step now step.CloseGroup r old new is (answer, told, h) = suspended_reply _ (stage.close_refusal old.shown) r answer old new _ _ (rw is refl) told h
+suspended_step now step.MarkQuiesced r old new is (answer, told, h) = suspended_reply _ (refusal.quiesce_refusal old.shown) r answer old new _ _ (rw is refl) told h
+suspended_step now (step.StartSync moment) r old new is (answer, told, h) = suspended_reply _ (refusal.start_refusal old.shown) r answer old new _ _ (rw is refl) told h
+suspended_step now step.SyncStep r old new is (answer, told, h) = suspended_reply _ (refusal.sync_step_refusal old.shown) r answer old new _ _ (rw is refl) told h
+
+suspended_run : (ss : List declared_step.Step) (rs : List Reply) (s new : State) → s.shown.suspended ≡ true → IsRun ⊥ ss rs s new
+    → (new ≡ s) × (rs ≡ replicate (length ss) (reply.Refused error.Suspended))
+suspended_run [] [] s new is h = (h, refl)
+suspended_run (x ∷ ss) (r ∷ rs) s new is (middle, (now, one), rest) =
+    let first = suspended_step now x r s middle is one in
+    let still : middle.shown.suspended ≡ true = ap (λ (t : State). t.shown.suspended) first.0 ∙ is in
+    let others = suspended_run ss rs middle new still rest in
+    (others.0 ∙ first.0, ap (λ (y : Reply). y ∷ rs) first.1 ∙ ap (λ (l : List Reply). reply.Refused error.Suspended ∷ l) others.1)
+suspended_run [] (r ∷ rs) s new is h = absurd h
+suspended_run (x ∷ ss) [] s new is h = absurd h
+
+pub suspended_pools_stay : (s new : State) → s.shown.suspended ≡ true → GoesOn s new → new ≡ s
+suspended_pools_stay s new is (ss, rs, run) = (suspended_run ss rs s new is run).0
+
+pub suspended_pools_refuse : (ss : List declared_step.Step) (rs : List Reply) (s new : State) → s.shown.suspended ≡ true → IsRun ⊥ ss rs s new
+    → rs ≡ replicate (length ss) (reply.Refused error.Suspended)
+suspended_pools_refuse ss rs s new is run = (suspended_run ss rs s new is run).1
+
+-- a sync that runs in a pool that is not suspended, with so many steps left
+abbrev Runs : State → ℕ → ℕ → Type 0
+Runs s group left = (plan : SyncPlan) × (s.shown.suspended ≡ false) × (s.shown.line.syncing ≡ Some group) × (s.shown.sync ≡ Some plan) × (plan.steps_left ≡ left)
+
+some_is : {A : Type 0} (o : Option A) (a b : A) → o ≡ Some a → o ≡ Some b → a ≡ b
+some_is o a b p q = let e : Some a ≡ Some b = sym p ∙ q in cc
+
+more_reply : (group left : ℕ) → 0 < left → sync_reply group left ≡ reply.More
+more_reply group zero low = absurd (omega (arith, low))
+more_reply group (suc left) low = refl
+
+last_reply : (group left : ℕ) → left ≡ 0 → sync_reply group left ≡ reply.Synced (record { 0 = group })
+last_reply group zero none = refl
+last_reply group (suc left) none = absurd (omega (arith, none))
+
+-- one step of it that is not refused
+module _ (group left : ℕ) (r : Reply) (old new : State) (runs : Runs old group (suc left)) where
+  abbrev Goes : Progress → Type 0
+  Goes progress = (g : ℕ) × (p : SyncPlan) × (old.shown.line.syncing ≡ Some g) × (old.shown.sync ≡ Some p) × steps.IsProgress g progress p old new
+
+  abbrev Fails : PoolError → Type 0
+  Fails e = ((e ≡ error.Write) ⊎ (e ≡ error.Flush)) × (new ≡ steps.suspended_state old)
+
+  by_answer : (a : Result Progress PoolError) → IsAnswer r → r ≡ reply_of progress_reply a
+      → Answers None a old new Goes Fails
+      → (r ≡ sync_reply group left) × (0 < left → Runs new group left)
+  by_answer (Ok More) answered told (g, p, is_group, is_plan, (low, same)) =
+      let count : p.steps_left ≡ suc left = ap (λ (x : SyncPlan). x.steps_left) (some_is old.shown.sync p runs.0 is_plan runs.3) ∙ runs.4 in (
+        told ∙ sym (more_reply group left (omega (arith, low, count))),
+        λ _. (
+          record p { steps_left = p.steps_left - 1 },
+          ap (λ (s : State). s.shown.suspended) same ∙ runs.1,
+          ap (λ (s : State). s.shown.line.syncing) same ∙ runs.2,
+          ap (λ (s : State). s.shown.sync) same,
+          omega (arith, count),
+        ),
+      )
+  by_answer (Ok (Synced x)) answered told (g, p, is_group, is_plan, (last, is, same)) =
+      let count : p.steps_left ≡ suc left = ap (λ (y : SyncPlan). y.steps_left) (some_is old.shown.sync p runs.0 is_plan runs.3) ∙ runs.4 in
+      let none : left ≡ 0 = omega (arith, last, count) in
+      let at : x ≡ group = is ∙ some_is old.shown.line.syncing g group is_group runs.2 in
+      (told ∙ ap (λ (n : ℕ). reply.Synced (record { 0 = n })) at ∙ sym (last_reply group left none), λ some. absurd (omega (arith, none, some)))
+  by_answer (Err e) answered told own = absurd (true≢false (ap (λ (y : Reply). is_refusal y) (sym told) ∙ answered))
+
+  one_step : (now : List ℕ) → IsAnswer r → Step ⊥ now step.SyncStep r old new → (r ≡ sync_reply group left) × (0 < left → Runs new group left)
+  one_step now answered (answer, told, h) =
+      let none : refusal.sync_step_refusal old.shown ≡ None = rw (runs.1, runs.2) refl in
+      by_answer answer answered told (subst (λ (o : Option PoolError). Answers o answer old new Goes Fails) none h)
+
+-- the replies behind the first are none, or there are steps left
+behind : (rs : List Reply) (middle : State) (group left : ℕ) → length rs ≤ left → (0 < left → Runs middle group left) → (Runs middle group left → rs ≡ take (length rs) (sync_replies group left))
+    → rs ≡ take (length rs) (sync_replies group left)
+behind [] middle group left low runs others = refl
+behind (r ∷ rs) middle group left low runs others = others (runs (omega (arith, low)))
+
+steps_end : (rs : List Reply) (s new : State) (group left : ℕ) → Runs s group left → IsRun ⊥ (replicate (length rs) step.SyncStep) rs s new → All IsAnswer rs → length rs ≤ left
+    → rs ≡ take (length rs) (sync_replies group left)
+steps_end [] s new group left runs h answers low = refl
+steps_end (r ∷ rs) s new group zero runs h answers low = absurd (omega (arith, low))
+steps_end (r ∷ rs) s new group (suc left) runs (middle, (now, one), rest) answers low =
+    let first = one_step group left r s middle runs now (All-head IsAnswer r rs answers) one in
+    let fits : length rs ≤ left = omega (arith, low) in
+    let others = behind rs middle group left fits first.1 (λ onward. steps_end rs middle new group left onward rest (All-tail IsAnswer r rs answers) fits) in
+    ap (λ (x : Reply). x ∷ rs) first.0 ∙ ap (λ (l : List Reply). sync_reply group left ∷ l) others
+
+pub syncs_end_on_time : (s new : State) (group : ℕ) (plan : SyncPlan) (rs : List Reply) → s.shown.suspended ≡ false → s.shown.line.syncing ≡ Some group → s.shown.sync ≡ Some plan
+    → IsRun ⊥ (replicate (length rs) step.SyncStep) rs s new → All IsAnswer rs → length rs ≤ plan.steps_left → rs ≡ take (length rs) (sync_replies group plan.steps_left)
+syncs_end_on_time s new group plan rs up line runs h answers low = steps_end rs s new group plan.steps_left (plan, up, line, runs, refl) h answers low

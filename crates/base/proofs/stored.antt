@@ -1,0 +1,13 @@
+pub mod StoredSets
+pub mod StoredLabels
+pub mod StoredTrees
+pub mod StoredSteps
+pub mod StoredStarts
+pub mod StoredSyncs
+pub mod StoredCalls
+pub mod StoredCover
+pub mod StoredWrites
+pub mod StoredImports
+pub mod StoredRuns
+pub mod HeldMounts
+pub mod StoredPlaces

@@ -1,0 +1,9 @@
+pub mod SoundTrees
+pub mod PlacedTrees
+pub mod PlannedTrees
+pub mod UntouchedRecords
+pub mod FreedBlocks
+pub mod WrittenRecords
+pub mod BuiltPlaces
+pub mod ReadTrees
+pub mod OneTree

@@ -1,0 +1,10 @@
+pub mod Mount
+pub mod Imports
+pub mod Layout
+pub mod SyncCalls
+pub mod Views
+pub mod Own
+pub mod Spares
+pub mod PoolViews
+pub mod CallStages
+pub mod CrashRule

@@ -1,0 +1,93 @@
+-- The crash rule for a pool's disk from its create on: what an import keeps, what a step keeps, what a run leaves, and what a client finds
+-- after any number of rounds, each an import with its run and then a crash. `created` is never free: it is the moment with which the disk is
+-- the pool's own. No contract cites them yet.
+use Rattle.std.specs.Prelude.{ℕ, ◌≡◌, ◌≤◌, ◌+◌, ◌⊎◌, List, [], ◌∷◌, length, map, Ok}
+use Rattle.base.specs.history.Contents.{Contents}
+use Rattle.base.specs.disk.Disk.{Moment, Disk, moments, EachMoment, MayLeave, bytes_of, handed, certain, disk_size}
+use Rattle.base.specs.disk.Fairness.{IsFairOn, HasFairBytes, LeavesFairNow, LeavesFairSince}
+use Rattle.base.specs.crash.Mount.{MountsTo, apply_records, records_above}
+use Rattle.base.specs.history.Past.{Past}
+use Rattle.base.specs.steps.Shown.{Shown}
+use Rattle.base.specs.crash.Views.{View, Logged}
+use Rattle.base.specs.steps.Explains.{IsLeftBy}
+use Rattle.base.specs.crash.Own.{IsPhase, AreConfigsBelowImport, IsOwnImage, IsOwnWith}
+use Rattle.base.specs.crash.PoolViews.{IsPoolDisk}
+
+-- a view mounts these contents where its chain is all of its log blocks
+abbrev pub MountsAs : View → Contents → Type 0
+MountsAs v contents = apply_records (records_above v.u.group (map (λ (l : Logged). l.block) v.logged)) v.synced ≡ Ok contents
+
+-- at each moment from the one disk to the other what a read gives is fair, and every fair image mounts these contents
+abbrev pub AllMountTo : Disk → Disk → ℕ → Contents → Type 0
+AllMountTo old new created contents = LeavesFairSince old new created (λ image. MountsTo image contents)
+
+-- the two views of an import: of one pool, four groups apart, and both mount these contents
+pub record AreImportViews (old new : View) (guid : ℕ) (contents : Contents) : Type 0 where
+  pub old_guid : old.u.guid ≡ guid
+  pub new_guid : new.u.guid ≡ guid
+  pub next_group : new.u.group ≡ old.u.group + 4
+  pub old_mounts : MountsAs old contents
+  pub new_mounts : MountsAs new contents
+  -- no log block is written at this stage
+  pub old_log : old.logged ≡ []
+  pub new_log : new.logged ≡ []
+
+-- a moment of an import: what a read gives is fair, no config counts that an import of the old view does not write, and it is one of the phases
+pub record IsImportMoment (size t : ℕ) (old new : View) (m : Moment) : Type 0 where
+  pub bytes : HasFairBytes size t m
+  pub configs : AreConfigsBelowImport size t (handed m) old
+  pub phase : IsPhase size t (length old.logged) (length new.logged) m old new
+
+-- each moment from the one disk to the other is one of an import that mounts these contents
+pub record HasSteadyPhases (size t : ℕ) (before after : Disk) (guid : ℕ) (contents : Contents) : Type 0 where
+  pub old : View
+  pub new : View
+  pub views : AreImportViews old new guid contents
+  pub each : EachMoment (IsImportMoment size t old new) before after
+
+-- An import, wherever it stops and whatever it answers, of a disk that this pool alone wrote: no flush answered Ok and nothing is written, or
+-- from the first good flush on each moment mounts what the disk mounted; and a crash, or another import, finds a disk that this pool alone wrote.
+pub record IsImportKept (old new : Disk) (created guid : ℕ) (contents : Contents) : Type 0 where
+  pub steady : (new ≡ old) ⊎ HasSteadyPhases (disk_size old) created (certain (bytes_of old.now) old) new guid contents
+  pub own : IsOwnWith new created guid contents
+
+-- it is asked of an import of each disk that is the pool's own, with the moment of the create and the contents with which it is
+abbrev pub KeepsOwn : Disk → Disk → Type 0
+KeepsOwn old new = (created guid : ℕ) (contents : Contents) → IsOwnWith old created guid contents → IsImportKept old new created guid contents
+
+-- a step of a run: at each of its moments the disk is kept for what was shown before, or for what is shown after
+abbrev pub IsStepKept : Disk → Disk → Shown → Shown → Past → Past → Type 0
+IsStepKept before after s t old new =
+    EachMoment (λ m. IsPoolDisk (disk_size before) m s old ⊎ IsPoolDisk (disk_size before) m t new) before after
+
+-- What a run leaves, suspended or not: every fair image is one that this pool alone wrote, and mounts the replay of a cut of the run's
+-- entries with every acknowledged one.
+pub record IsRunLeft (disk : Disk) (past : Past) (guid : ℕ) : Type 0 where
+  pub began : past.created ≤ moments disk
+  pub left : LeavesFairNow disk past.created (λ image. (c : Contents) × IsLeftBy past c × IsOwnImage (disk_size disk) past.created image disk.now guid c)
+
+-- Runs one upon the other: each begins with what the one before left, and the last leaves these contents.
+abbrev pub LeadsTo : Contents → List Past → Contents → Type 0
+LeadsTo first [] last = last ≡ first
+LeadsTo first (past ∷ pasts) last = (past.base ≡ first) × ((left : Contents) × IsLeftBy past left × LeadsTo left pasts last)
+
+-- One round: a disk of this pool is imported and run, with this past, until it ends on a disk, in a step or between two; a stopped
+-- import is a round whose past has no entry. Then a crash makes some fair image certain; for a device that is given back it is the
+-- first flush of the next import, and the image is what a read gives.
+pub record IsRound (guid : ℕ) (first : Contents) (past : Past) (before ended : Disk) (image : List ℕ) : Type 0 where
+  pub base : past.base ≡ first
+  pub run_left : IsOwnWith before past.created guid first → IsRunLeft ended past guid
+  pub left : MayLeave ended.now image
+  pub fair : IsFairOn ended past.created image
+
+-- rounds one upon the other, each of what the one before left
+abbrev pub AreRounds : ℕ → ℕ → Contents → List Past → Disk → Disk → Type 0
+AreRounds created guid first [] before after = after ≡ before
+AreRounds created guid first (past ∷ pasts) before after = (past.created ≡ created) × ((ended : Disk) × ((image : List ℕ) × IsRound guid first past before ended image
+    × ((next : Contents) → IsOwnWith (certain image ended) created guid next → AreRounds created guid next pasts (certain image ended) after)))
+
+-- The client's theorem: what stands at last mounts the replay of a cut of each round's entries, one round upon the other, with every
+-- acknowledged entry, and this pool alone has written it.
+abbrev pub ClientsFindCuts : Type 0
+ClientsFindCuts = (created guid : ℕ) (first : Contents) (pasts : List Past) (before after : Disk) → IsOwnWith before created guid first → AreRounds created guid first pasts before after
+    → (last : Contents) × LeadsTo first pasts last × (IsOwnWith after created guid last × MountsTo (bytes_of after.now) last)

@@ -1,0 +1,58 @@
+-- How a running pool lies in an image: a form of "mounts to a cut" that the steps can keep.
+use Rattle.std.specs.Prelude.{ℕ, ◌≡◌, ◌≤◌, ◌<◌, ◌⊎◌, true, List, map, filter, length, slice_get, Some, Ok, unwrap_or, option_map, nat_le}
+use Rattle.base.specs.declared.pointer.Pointer.{Pointer}
+use Rattle.base.specs.history.Contents.{Contents}
+use Rattle.base.specs.history.History.{Entry, replay, entries_up_to}
+use Rattle.base.specs.disk.Disk.{Disk}
+use Rattle.base.specs.disk.Fairness.{LeavesFairNow}
+use Rattle.base.specs.formats.Uberblocks.{Uberblock}
+use Rattle.base.specs.formats.Records.{Record}
+use Rattle.base.specs.formats.Chain.{Header, LogBlock}
+use Rattle.base.specs.crash.Mount.{IsFound, header_of}
+use Rattle.base.specs.history.Past.{Past}
+use Rattle.base.specs.steps.Logs.{Log, KeptBlock, Committed, committed_of, header_at}
+use Rattle.base.specs.steps.Shown.{Shown, SyncPlan}
+
+-- the header of the kept log
+abbrev pub header_now : Log → Header
+header_now log = unwrap_or (option_map header_at (slice_get log.kept 0)) log.next
+
+-- the kept blocks from a header on
+abbrev pub kept_from : Header → Log → List KeptBlock
+kept_from header log = filter (λ (b : KeptBlock). nat_le header.number b.number) log.kept
+
+-- the record of an entry, by what is noted of it
+abbrev pub IsRecordOf : List Entry → Committed → Record → Type 0
+IsRecordOf entries c r = (committed_of r ≡ c) × ((e : Entry) × (slice_get entries c.ordinal ≡ Some e) × (e.group ≡ c.group) × (e.ops ≡ r.ops))
+
+-- a log block of the image has what is noted of a kept one
+pub record IsBlockOf (entries : List Entry) (kept : KeptBlock) (block : LogBlock) : Type 0 where
+  pub address : block.address ≡ kept.address
+  pub noted : map committed_of block.records ≡ kept.committed
+  pub records : (i : ℕ) (c : Committed) (r : Record) → slice_get kept.committed i ≡ Some c → slice_get block.records i ≡ Some r → IsRecordOf entries c r
+
+-- The image mounts the synced tree of this group, and of the kept log from this header on a front that has all that was flushed. A block
+-- whose write was refused is a kept one too: it may stand after a crash.
+pub record LiesAs (image : List ℕ) (s : Shown) (past : Past) (group : ℕ) (root : Pointer) (header : Header) : Type 0 where
+  pub u : Uberblock
+  pub synced : Contents
+  pub chain : List LogBlock
+  pub found : IsFound image u synced chain
+  pub guid : u.guid ≡ s.guid
+  pub group_is : u.group ≡ group
+  pub root_is : u.root ≡ root
+  pub import_is : u.import_number ≡ s.import_number
+  pub header_is : header_of u ≡ header
+  pub replayed : replay (entries_up_to group past.entries) past.base ≡ Ok synced
+  pub no_longer : length chain ≤ length (kept_from header s.log)
+  pub blocks : (i : ℕ) (k : KeptBlock) (b : LogBlock) → slice_get (kept_from header s.log) i ≡ Some k → slice_get chain i ≡ Some b → IsBlockOf past.entries k b
+  pub flushed : (i : ℕ) (k : KeptBlock) → slice_get (kept_from header s.log) i ≡ Some k → k.flushed ≡ true → i < length chain
+
+-- as the synced group, or, while a sync runs, as its group
+abbrev pub IsLaidOut : List ℕ → Shown → Past → Type 0
+IsLaidOut image s past = LiesAs image s past s.line.synced s.root (header_now s.log)
+    ⊎ ((group : ℕ) × (plan : SyncPlan) × (s.line.syncing ≡ Some group) × (s.sync ≡ Some plan) × LiesAs image s past group plan.root plan.header)
+
+-- what a read gives is fair, and every fair image that a crash now may leave is laid out so
+abbrev pub AreLaidOut : Disk → Shown → Past → Type 0
+AreLaidOut disk s past = LeavesFairNow disk past.created (λ image. IsLaidOut image s past)

@@ -1,0 +1,71 @@
+-- The views that a running pool keeps on its disk: the one of its synced group, and, while a sync runs, also the one of that sync's group.
+-- No contract cites them yet.
+use Rattle.std.specs.Prelude.{ℕ, ◌≡◌, ◌<◌, ◌⊎◌, true, List, length, slice_get, Some, Ok}
+use Rattle.std.specs.List.{list_any}
+use Rattle.base.specs.declared.pointer.Pointer.{Pointer}
+use Rattle.base.specs.history.History.{replay, entries_up_to}
+use Rattle.base.specs.history.Contents.{Contents}
+use Rattle.base.specs.disk.Disk.{Moment, handed}
+use Rattle.base.specs.disk.Fairness.{HasFairBytes}
+use Rattle.base.specs.tree.Syncs.{is_rename}
+use Rattle.base.specs.steps.Steps.{ops_of_group}
+use Rattle.base.specs.formats.Chain.{Header}
+use Rattle.base.specs.crash.Mount.{header_of}
+use Rattle.base.specs.history.Past.{Past}
+use Rattle.base.specs.steps.Logs.{KeptBlock}
+use Rattle.base.specs.steps.Shown.{Shown, SyncPlan}
+use Rattle.base.specs.crash.Layout.{IsBlockOf, kept_from, header_now}
+use Rattle.base.specs.crash.Views.{View, Logged, AreConfigsUpTo, config_content}
+use Rattle.base.specs.crash.Own.{IsAtRest, IsBetween}
+
+-- the view is that of a group of the pool, with this root and the kept log from this header on; so many of its log blocks are fixed
+pub record IsViewOf (flushed : ℕ) (v : View) (s : Shown) (past : Past) (group : ℕ) (root : Pointer) (header : Header) : Type 0 where
+  pub guid : v.u.guid ≡ s.guid
+  pub group_is : v.u.group ≡ group
+  pub root_is : v.u.root ≡ root
+  pub import_is : v.u.import_number ≡ s.import_number
+  pub header_is : header_of v.u ≡ header
+  pub replayed : replay (entries_up_to group past.entries) past.base ≡ Ok v.synced
+  pub as_many : length v.logged ≡ length (kept_from header s.log)
+  pub blocks : (i : ℕ) (k : KeptBlock) (l : Logged) → slice_get (kept_from header s.log) i ≡ Some k → slice_get v.logged i ≡ Some l → IsBlockOf past.entries k l.block
+  pub flushed_are : (i : ℕ) (k : KeptBlock) → slice_get (kept_from header s.log) i ≡ Some k → k.flushed ≡ true → i < flushed
+
+-- at rest on the synced group's view
+pub record IsPoolAtRest (size : ℕ) (m : Moment) (s : Shown) (past : Past) : Type 0 where
+  pub v : View
+  pub flushed : ℕ
+  pub rest : IsAtRest size past.created flushed m v
+  pub is : IsViewOf flushed v s past s.line.synced s.root (header_now s.log)
+
+-- between it and the view of the sync that runs
+pub record IsPoolBetween (size : ℕ) (m : Moment) (s : Shown) (past : Past) : Type 0 where
+  pub group : ℕ
+  pub plan : SyncPlan
+  pub syncing : s.line.syncing ≡ Some group
+  pub running : s.sync ≡ Some plan
+  pub old : View
+  pub new : View
+  pub flushed : ℕ
+  pub new_flushed : ℕ
+  pub between : IsBetween size past.created flushed new_flushed m old new
+  pub old_is : IsViewOf flushed old s past s.line.synced s.root (header_now s.log)
+  pub new_is : IsViewOf new_flushed new s past group plan.root plan.header
+
+-- the one or the other, suspended or not
+abbrev pub IsPoolLaid : ℕ → Moment → Shown → Past → Type 0
+IsPoolLaid size m s past = IsPoolAtRest size m s past ⊎ IsPoolBetween size m s past
+
+-- the config that a running sync writes, where its group has a new name
+pub record IsSyncConfig (size : ℕ) (s : Shown) (past : Past) (group : ℕ) (content : List ℕ) : Type 0 where
+  pub syncing : s.line.syncing ≡ Some group
+  pub renamed : list_any is_rename (ops_of_group group past.entries) ≡ true
+  pub contents : Contents
+  pub replayed : replay (entries_up_to group past.entries) past.base ≡ Ok contents
+  pub content_is : content ≡ config_content size s.guid group contents.name
+
+-- all that a running pool keeps of its disk: what a read gives is fair, no config of the pool that counts is above the synced group but for
+-- that of a running sync, and its views are laid
+pub record IsPoolDisk (size : ℕ) (m : Moment) (s : Shown) (past : Past) : Type 0 where
+  pub bytes : HasFairBytes size past.created m
+  pub configs : AreConfigsUpTo size past.created (handed m) s.guid s.line.synced (IsSyncConfig size s past)
+  pub laid : IsPoolLaid size m s past

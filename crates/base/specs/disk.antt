@@ -1,0 +1,5 @@
+pub mod Disk
+pub mod Calls
+pub mod Fairness
+pub mod Crashes
+pub mod SyncOrder

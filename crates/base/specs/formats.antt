@@ -1,0 +1,13 @@
+pub mod Limits
+pub mod Versions
+pub mod Names
+pub mod FieldLaws
+pub mod Fields
+pub mod Geometry
+pub mod Blocks
+pub mod Uberblocks
+pub mod Labels
+pub mod Records
+pub mod Chain
+pub mod Digest
+pub mod Errors

@@ -1,0 +1,17 @@
+pub mod Locks
+pub mod Groups
+pub mod Charges
+pub mod Logs
+pub mod Shown
+pub mod Refusals
+pub mod Steps
+pub mod Stage
+pub mod Runs
+pub mod Exact
+pub mod Explains
+pub mod Readers
+pub mod Additions
+pub mod Seen
+pub mod SeenLaws
+pub mod ExactNow
+pub mod SyncEnds

@@ -1,0 +1,62 @@
+-- What the built steps keep exact: all but charges and reservations, which no step keeps yet.
+use Rattle.std.specs.Prelude.{ℕ, ◌≡◌, ◌≤◌, ◌+◌, ◌⊎◌, List, Result}
+use Rattle.base.specs.declared.error.PoolError.{PoolError}
+use Rattle.base.specs.declared.step.Step as declared_step
+use Rattle.base.specs.declared.step.Reply as declared_reply
+use Rattle.base.specs.formats.Limits.{last_number}
+use Rattle.base.specs.history.Contents.{Contents}
+use Rattle.base.specs.history.History.{IsHistory, IsInGroupOrder}
+use Rattle.base.specs.formats.Uberblocks.{Uberblock}
+use Rattle.base.specs.history.Past.{Past, new_past}
+use Rattle.base.specs.steps.Shown.{Shown}
+use Rattle.base.specs.steps.Steps.{State, LogWrite, LogFlush}
+use Rattle.base.specs.steps.Runs.{Step, Run}
+use Rattle.base.specs.steps.Exact.{AreLocksExact, AreGroupsExact, AreIsolated, IsLogExact, IsSyncExact, IsBounded}
+use Rattle.base.specs.crash.Imports.{IsImported}
+
+-- what is shown is exactly what the past of the run says
+pub record IsExactNow (s : Shown) (past : Past) : Type 0 where
+  pub locks : AreLocksExact s past
+  pub groups : AreGroupsExact s past
+  pub order : IsInGroupOrder past.entries
+  pub isolated : AreIsolated s past
+  pub log : IsLogExact s past
+  pub bounded : IsBounded s.contents
+  pub sync : IsSyncExact s
+  pub limit : s.dirty_max ≡ past.dirty_max
+
+-- and the entries are a history that leads to the contents
+pub record IsExplainedNow (s : Shown) (past : Past) : Type 0 where
+  pub exact : IsExactNow s past
+  pub history : IsHistory past.entries past.base s.contents
+
+-- steps one after another, each over some bytes of a device
+abbrev pub IsRun : Type 0 → List declared_step.Step → List declared_reply.Reply → State → State → Type 0
+IsRun keeps = Run (λ step reply old new. (now : List ℕ) × Step keeps now step reply old new)
+
+-- some steps with some replies lead from the one state to the other, over devices of which nothing is known
+abbrev pub GoesOn : State → State → Type 0
+GoesOn before after = (steps : List declared_step.Step) × (replies : List declared_reply.Reply) × IsRun ⊥ steps replies before after
+
+-- a write or a flush of the log, whatever it answers
+abbrev pub IsLogStep : State → State → Type 0
+IsLogStep old new = ((answer : Result ℕ PoolError) × LogWrite answer old new) ⊎ ((answer : Result (Unit {0}) PoolError) × LogFlush answer old new)
+
+-- each step keeps this, over a device of which nothing is known: the steps over a device that keeps the disk model are among these
+abbrev pub StepsKeepTables : Type 0
+StepsKeepTables = (now : List ℕ) (step : declared_step.Step) (reply : declared_reply.Reply) (old new : State) → Step ⊥ now step reply old new
+    → IsExplainedNow old.shown old.past → IsExplainedNow new.shown new.past
+
+-- and so do steps one after another
+abbrev pub RunsKeepTables : Type 0
+RunsKeepTables = (steps : List declared_step.Step) (replies : List declared_reply.Reply) (old new : State) → IsRun ⊥ steps replies old new
+    → IsExplainedNow old.shown old.past → IsExplainedNow new.shown new.past
+
+-- and so do the steps of the log, which are not built yet: a write, answered or refused, and a flush
+abbrev pub LogStepsKeepTables : Type 0
+LogStepsKeepTables = (old new : State) → IsLogStep old new → IsExplainedNow old.shown old.past → IsExplainedNow new.shown new.past
+
+-- a pool that was just imported is so, with the empty past
+abbrev pub NewPoolsAreExplained : Type 0
+NewPoolsAreExplained = (u : Uberblock) (blocks : ℕ) (contents : Contents) (created dirty_max : ℕ) (s : Shown) → IsImported u blocks contents dirty_max s → IsBounded contents
+    → u.group + 5 ≤ last_number → IsExplainedNow s (new_past contents created dirty_max)

@@ -1,0 +1,76 @@
+-- Steps and their replies, one after another.
+use Rattle.std.specs.Prelude.{ℕ, ◌≡◌, List, [], ◌∷◌, Option, Result, Ok, Err}
+use Rattle.base.specs.declared.error.PoolError.{PoolError}
+use Rattle.base.specs.declared.step.Step as declared_step
+use Rattle.base.specs.declared.step.Step.TheVariants as step
+use Rattle.base.specs.declared.step.Reply as declared_reply
+use Rattle.base.specs.declared.step.Reply.TheVariants as reply
+use Rattle.base.specs.steps.Shown.{Shown}
+use Rattle.base.specs.steps.Refusals as refusal
+use Rattle.base.specs.steps.Refusals.{object_range}
+use Rattle.base.specs.steps.Steps as steps
+use Rattle.base.specs.steps.Stage as stage
+use Rattle.base.specs.steps.Steps.{State, Progress}
+use Rattle.base.specs.steps.Steps.Progress.{More, Synced}
+
+-- the reply with an answer: the refusal, or what is made of the value
+abbrev pub reply_of : {A : Type 0} → (A → declared_reply.Reply) → Result A PoolError → declared_reply.Reply
+reply_of make (Ok a) = make a
+reply_of make (Err e) = reply.Refused e
+
+-- a reply is made of an answer of which this holds
+abbrev pub Replies : {A : Type 0} → (A → declared_reply.Reply) → declared_reply.Reply → (Result A PoolError → Type 0) → Type 0
+Replies {A} make given holds = (answer : Result A PoolError) × (given ≡ reply_of make answer) × holds answer
+
+abbrev pub progress_reply : Progress → declared_reply.Reply
+progress_reply More = reply.More
+progress_reply (Synced group) = reply.Synced (record { 0 = group })
+
+abbrev pub receipt_reply : ℕ × ℕ → declared_reply.Reply
+receipt_reply r = reply.Committed (record { ordinal = record { 0 = r.0 }; group = record { 0 = r.1 } })
+
+-- from the old state a step may be answered this over a device with these bytes, and leave the new state
+abbrev pub Step : Type 0 → List ℕ → declared_step.Step → declared_reply.Reply → State → State → Type 0
+Step keeps now (step.Lock owner n range mode) given old new =
+    Replies (λ id. reply.Locked (record { 0 = id })) given
+    (λ answer. steps.Lock owner.0 (object_range n.0 range.low range.high) mode answer old new)
+Step keeps now (step.Unlock owner id) given old new =
+    Replies (λ _. reply.Done) given (λ answer. steps.Unlock owner.0 id.0 answer old new)
+Step keeps now (step.Begin owner plan) given old new =
+    Replies (λ (a : ℕ × ℕ). reply.Began (record { 0 = a.0 }) (record { 0 = a.1 })) given
+    (λ answer. stage.Begin owner.0 plan answer old new)
+Step keeps now (step.Commit tx ops) given old new =
+    Replies receipt_reply given (λ answer. stage.Commit tx.0 ops answer old new)
+Step keeps now (step.Read owner n range) given old new =
+    Replies (λ bytes. reply.Bytes bytes) given
+    (λ answer. stage.Read owner.0 (object_range n.0 range.low range.high) answer old new)
+Step keeps now step.CloseGroup given old new =
+    Replies (λ group. reply.Opened (record { 0 = group })) given
+    (λ answer. stage.CloseGroup answer old new)
+Step keeps now step.MarkQuiesced given old new =
+    Replies (λ group. reply.Quiesced (record { 0 = group })) given
+    (λ answer. steps.MarkQuiesced answer old new)
+Step keeps now (step.StartSync moment) given old new =
+    Replies (λ group. reply.Syncing (record { 0 = group })) given
+    (λ answer. stage.StartSync keeps now moment answer old new)
+Step keeps now step.SyncStep given old new =
+    Replies progress_reply given (λ answer. steps.SyncStep answer old new)
+
+-- why each step is refused first, if its tests refuse it
+abbrev pub refusal_of : declared_step.Step → Shown → Option PoolError
+refusal_of (step.Lock owner n range mode) s = refusal.lock_refusal owner.0 (object_range n.0 range.low range.high) mode s
+refusal_of (step.Unlock owner id) s = refusal.unlock_refusal owner.0 id.0 s
+refusal_of (step.Begin owner plan) s = stage.begin_refusal owner.0 plan s
+refusal_of (step.Commit tx ops) s = stage.commit_refusal tx.0 ops s
+refusal_of (step.Read owner n range) s = refusal.read_refusal owner.0 (object_range n.0 range.low range.high) s
+refusal_of step.CloseGroup s = stage.close_refusal s
+refusal_of step.MarkQuiesced s = refusal.quiesce_refusal s
+refusal_of (step.StartSync moment) s = refusal.start_refusal s
+refusal_of step.SyncStep s = refusal.sync_step_refusal s
+
+-- steps one after another, each with its reply, over states of any type
+abbrev pub Run : {S : Type 0} → (declared_step.Step → declared_reply.Reply → S → S → Type 0) → List declared_step.Step → List declared_reply.Reply → S → S → Type 0
+Run one [] [] old new = new ≡ old
+Run {S} one (s ∷ ss) (r ∷ rs) old new = (middle : S) × one s r old middle × Run one ss rs middle new
+Run one [] (r ∷ rs) old new = ⊥
+Run one (s ∷ ss) [] old new = ⊥

@@ -1,0 +1,43 @@
+-- When a started sync ends, and what a suspended pool replies.
+use Rattle.std.specs.Prelude.{ℕ, zero, suc, ◌≡◌, ◌≤◌, Bool, true, false, List, [], ◌∷◌, length, replicate, take, All, Some}
+use Rattle.base.specs.declared.error.PoolError.TheVariants as error
+use Rattle.base.specs.declared.step.Step as declared_step
+use Rattle.base.specs.declared.step.Step.TheVariants as step
+use Rattle.base.specs.declared.step.Reply.{Reply}
+use Rattle.base.specs.declared.step.Reply.TheVariants as reply
+use Rattle.base.specs.steps.Shown.{SyncPlan}
+use Rattle.base.specs.steps.Steps.{State}
+use Rattle.base.specs.steps.ExactNow.{IsRun, GoesOn}
+
+abbrev pub is_refusal : Reply → Bool
+is_refusal (reply.Refused e) = true
+is_refusal _ = false
+
+abbrev pub IsAnswer : Reply → Type 0
+IsAnswer r = is_refusal r ≡ false
+
+-- the reply to a step of a group's sync behind which so many are left
+abbrev pub sync_reply : ℕ → ℕ → Reply
+sync_reply group zero = reply.Synced (record { 0 = group })
+sync_reply group (suc left) = reply.More
+
+-- the replies to all steps of a sync that has so many left
+abbrev pub sync_replies : ℕ → ℕ → List Reply
+sync_replies group zero = []
+sync_replies group (suc left) = sync_reply group left ∷ sync_replies group left
+
+-- Steps of a started sync that are not refused answer that there is more, and the last of those that the sync has, and no other, that
+-- its group is synced.
+abbrev pub SyncsEndOnTime : Type 0
+SyncsEndOnTime = (s new : State) (group : ℕ) (plan : SyncPlan) (replies : List Reply) → s.shown.suspended ≡ false → s.shown.line.syncing ≡ Some group → s.shown.sync ≡ Some plan
+    → IsRun ⊥ (replicate (length replies) step.SyncStep) replies s new → All IsAnswer replies → length replies ≤ plan.steps_left
+    → replies ≡ take (length replies) (sync_replies group plan.steps_left)
+
+-- a suspended pool stays as it is, whatever the steps
+abbrev pub SuspendedPoolsStay : Type 0
+SuspendedPoolsStay = (s new : State) → s.shown.suspended ≡ true → GoesOn s new → new ≡ s
+
+-- It refuses each step that is built: all but the three that only tell something of the pool, which are not among them yet.
+abbrev pub SuspendedPoolsRefuse : Type 0
+SuspendedPoolsRefuse = (steps : List declared_step.Step) (replies : List Reply) (s new : State) → s.shown.suspended ≡ true → IsRun ⊥ steps replies s new
+    → replies ≡ replicate (length steps) (reply.Refused error.Suspended)

@@ -1,0 +1,3 @@
+pub mod ShownLabels
+pub mod Stored
+pub mod HeldMounts

@@ -1,0 +1,7 @@
+pub mod Places
+pub mod Tree
+pub mod PlacedTrees
+pub mod PlannedTrees
+pub mod Faults
+pub mod Syncs
+pub mod PlannedPlaces

@@ -1,0 +1,51 @@
+-- A tree told by the pointer at each of its places, as a pool keeps it in memory.
+use Rattle.std.specs.Prelude.{ℕ, ◌≡◌, ◌≤◌, ◌<◌, ◌+◌, ◌*◌, ◌-◌, ◌⊎◌, ◌++◌, List, replicate, length, Option, Some, None, IfSome}
+use Rattle.std.specs.Ordering.{nat_cmp}
+use Rattle.std.specs.FinMap as map
+use Rattle.std.specs.FinMap.{FinMap}
+use Rattle.base.specs.declared.pointer.Pointer.{Pointer}
+use Rattle.base.specs.formats.Limits.{object_count, max_length, record_size, pointer_count, entry_count}
+use Rattle.base.specs.formats.Fields.{pointer_in, entry_in, entry_present, entry_length, entry_pointer, no_pointer}
+use Rattle.base.specs.formats.Geometry.{IsBlockAddress}
+use Rattle.base.specs.formats.Blocks.{Frame}
+use Rattle.base.specs.tree.Places.{Place, IsPlace}
+use Rattle.base.specs.tree.Places.Place.{Root, Directory, Indirect, Data}
+use Rattle.base.specs.tree.Tree.{OpensAt, IsRecord, record_bytes}
+
+-- what the entry of an object says: nothing, or its length and the pointer to its indirect block
+abbrev pub IsEntryFor : List ℕ → Pointer → Option (List ℕ) → Type 0
+IsEntryFor entry indirect None = (entry ≡ replicate 64 0) × (indirect ≡ no_pointer)
+IsEntryFor entry indirect (Some bytes) =
+    (entry_present entry ≡ 1) × (entry_length entry ≡ length bytes) × (length bytes ≤ max_length) × (entry_pointer entry ≡ indirect)
+
+-- the bytes of an object in its record r, with zeros behind its end
+abbrev pub padded_record : ℕ → List ℕ → List ℕ
+padded_record r bytes = record_bytes r bytes ++ replicate (record_size - length (record_bytes r bytes)) 0
+
+-- no block and none below, or a block whose payload has the pointers below
+abbrev pub StandsAt : List ℕ → Frame → (Place → Pointer) → FinMap nat_cmp (List ℕ) → Place → Type 0
+StandsAt image frame pointers objects Root =
+    ((pointers Root ≡ no_pointer) × ((d : ℕ) → d < pointer_count → pointers (Directory d) ≡ no_pointer))
+    ⊎ ((payload : List ℕ) × OpensAt image frame Root (pointers Root) payload × ((d : ℕ) → d < pointer_count → pointer_in payload d ≡ pointers (Directory d)))
+StandsAt image frame pointers objects (Directory d) =
+    ((pointers (Directory d) ≡ no_pointer) × ((k : ℕ) → k < entry_count
+    → (map.get objects (entry_count * d + k) ≡ None) × (pointers (Indirect (entry_count * d + k)) ≡ no_pointer)))
+    ⊎ ((payload : List ℕ) × OpensAt image frame (Directory d) (pointers (Directory d)) payload
+    × ((k : ℕ) → k < entry_count → IsEntryFor (entry_in payload k) (pointers (Indirect (entry_count * d + k))) (map.get objects (entry_count * d + k))))
+StandsAt image frame pointers objects (Indirect n) =
+    ((pointers (Indirect n) ≡ no_pointer) × ((r : ℕ) → r < pointer_count → pointers (Data n r) ≡ no_pointer))
+    ⊎ ((payload : List ℕ) × OpensAt image frame (Indirect n) (pointers (Indirect n)) payload × ((r : ℕ) → r < pointer_count → pointer_in payload r ≡ pointers (Data n r)))
+StandsAt image frame pointers objects (Data n r) = IfSome (map.get objects n) (λ bytes. IsRecord image frame n r (pointers (Data n r)) bytes)
+
+-- the image holds a tree of these objects, with these pointers at its places
+pub record HoldsTree (image : List ℕ) (frame : Frame) (pointers : Place → Pointer) (objects : FinMap nat_cmp (List ℕ)) : Type 0 where
+  pub no_others : (n : ℕ) → object_count ≤ n → map.get objects n ≡ None
+  pub each : (place : Place) → IsPlace place → StandsAt image frame pointers objects place
+
+-- a pointer is none, or one to a block of the area
+abbrev pub IsPlaced : ℕ → Pointer → Type 0
+IsPlaced blocks pointer = (pointer ≡ no_pointer) ⊎ IsBlockAddress blocks pointer.address
+
+-- the pointer at each place is
+abbrev pub ArePlaced : ℕ → (Place → Pointer) → Type 0
+ArePlaced blocks pointers = (place : Place) → IsPlace place → IsPlaced blocks (pointers place)

@@ -1,0 +1,72 @@
+-- What a sync makes of a tree, place by place: each place keeps what it has, or gets a new block. That is all at this stage, on which
+-- transactions create and write: with a remove and a cut a place may also have none any more, and an object may get shorter.
+use Rattle.std.specs.Prelude.{ℕ, ◌≡◌, ◌≢◌, ◌≤◌, ◌<◌, ◌+◌, ◌*◌, ◌⊎◌, List, [], length, slice_get, Option, Some, IfSome, unwrap_or, option_map}
+use Rattle.std.specs.Ordering.{nat_cmp}
+use Rattle.std.specs.FinMap as map
+use Rattle.std.specs.FinMap.{FinMap}
+use Rattle.base.specs.declared.pointer.Pointer.{Pointer}
+use Rattle.base.specs.formats.Limits.{record_size, pointer_count, entry_count}
+use Rattle.base.specs.formats.Fields.{part, pointer_in, entry_in, no_pointer}
+use Rattle.base.specs.formats.Geometry.{block_size, IsBlockAddress}
+use Rattle.base.specs.formats.Blocks.{Frame, IsBlock}
+use Rattle.base.specs.tree.Places.{Place, IsPlace, kind_of, number_of}
+use Rattle.base.specs.tree.Places.Place.{Root, Directory, Indirect, Data}
+use Rattle.base.specs.tree.PlacedTrees.{IsEntryFor, padded_record}
+
+-- a block that a sync writes: its address, and its bytes
+pub record NewBlock : Type 0 where
+  pub address : ℕ
+  pub content : List ℕ
+
+-- the pointer of a place names one of the new blocks, of the synced group, with this payload
+pub record IsNewAt (blocks : List NewBlock) (frame : Frame) (place : Place) (pointer : Pointer) (payload : List ℕ) : Type 0 where
+  pub index : ℕ
+  pub block : NewBlock
+  pub found : slice_get blocks index ≡ Some block
+  pub address : pointer.address ≡ block.address
+  pub birth : pointer.birth ≡ frame.group
+  pub check : part block.content 32 32 ≡ pointer.check
+  pub sealed : IsBlock block.content (kind_of place) frame.guid frame.group (number_of place) payload
+
+-- an object is there as before, with as many bytes
+abbrev pub SameEntry : Option (List ℕ) → Option (List ℕ) → Type 0
+SameEntry before after = option_map length before ≡ option_map length after
+
+-- record r of an object that is there has the same bytes as before, where no object has none, and, at this stage, the object is no shorter
+abbrev pub SameRecord : ℕ → Option (List ℕ) → Option (List ℕ) → Type 0
+SameRecord r before after = IfSome after (λ bytes. (padded_record r (unwrap_or before []) ≡ padded_record r bytes) × (length (unwrap_or before []) ≤ length bytes))
+
+-- of new blocks, old and new pointers, and objects before and after: what becomes of a place, where operations create and write
+abbrev pub IsPlannedAt : List NewBlock → Frame → (Place → Pointer) → (Place → Pointer) → FinMap nat_cmp (List ℕ) → FinMap nat_cmp (List ℕ) → Place → Type 0
+IsPlannedAt blocks frame old new before after Root =
+    ((new Root ≡ old Root) × ((d : ℕ) → d < pointer_count → new (Directory d) ≡ old (Directory d)))
+    ⊎ ((payload : List ℕ) × IsNewAt blocks frame Root (new Root) payload × ((d : ℕ) → d < pointer_count → pointer_in payload d ≡ new (Directory d)))
+IsPlannedAt blocks frame old new before after (Directory d) =
+    ((new (Directory d) ≡ old (Directory d)) × ((k : ℕ) → k < entry_count
+    → (new (Indirect (entry_count * d + k)) ≡ old (Indirect (entry_count * d + k))) × SameEntry (map.get before (entry_count * d + k)) (map.get after (entry_count * d + k))))
+    ⊎ ((payload : List ℕ) × IsNewAt blocks frame (Directory d) (new (Directory d)) payload
+    × ((k : ℕ) → k < entry_count → IsEntryFor (entry_in payload k) (new (Indirect (entry_count * d + k))) (map.get after (entry_count * d + k))))
+IsPlannedAt blocks frame old new before after (Indirect n) =
+    ((new (Indirect n) ≡ old (Indirect n)) × ((r : ℕ) → r < pointer_count → new (Data n r) ≡ old (Data n r)))
+    ⊎ ((payload : List ℕ) × IsNewAt blocks frame (Indirect n) (new (Indirect n)) payload × ((r : ℕ) → r < pointer_count → pointer_in payload r ≡ new (Data n r)))
+IsPlannedAt blocks frame old new before after (Data n r) =
+    ((new (Data n r) ≡ old (Data n r)) × SameRecord r (map.get before n) (map.get after n))
+    ⊎ IfSome (map.get after n) (λ bytes. (record_size * r < length bytes) × IsNewAt blocks frame (Data n r) (new (Data n r)) (padded_record r bytes))
+
+-- and of all places
+abbrev pub IsTreePlan : List NewBlock → Frame → (Place → Pointer) → (Place → Pointer) → FinMap nat_cmp (List ℕ) → FinMap nat_cmp (List ℕ) → Type 0
+IsTreePlan blocks frame old new before after = (place : Place) → IsPlace place → IsPlannedAt blocks frame old new before after place
+
+-- the block of a place is the same in both images
+abbrev pub SameBlock : List ℕ → List ℕ → Pointer → Type 0
+SameBlock before after pointer = pointer ≢ no_pointer → part after pointer.address block_size ≡ part before pointer.address block_size
+
+-- a new block stands in an image
+pub record StandsIn (image : List ℕ) (blocks : ℕ) (block : NewBlock) : Type 0 where
+  pub in_area : IsBlockAddress blocks block.address
+  pub stands : part image block.address block_size ≡ block.content
+
+-- the addresses that come back: those of the old blocks that the new tree does not have at their places
+pub record AreFreed (old new : Place → Pointer) (freed : List ℕ) : Type 0 where
+  pub all : (place : Place) → IsPlace place → new place ≢ old place → old place ≢ no_pointer → (i : ℕ) × (slice_get freed i ≡ Some ((old place).address))
+  pub no_others : (i address : ℕ) → slice_get freed i ≡ Some address → (place : Place) × IsPlace place × (new place ≢ old place) × ((old place).address ≡ address) × (old place ≢ no_pointer)
