@@ -5,7 +5,6 @@ pub mod Cuts
 pub mod Projections
 pub mod Admissions
 pub mod CommitOrder
-pub mod Acknowledged
 pub mod LogOrder
 pub mod KeptContents
 pub mod BuiltNames

@@ -7,6 +7,7 @@ use Rattle.base.specs.formats.Uberblocks.{Uberblock as Fields, IsUberblock, IsSe
 use Rattle.base.specs.formats.Versions.{version_of}
 use Rattle.base.specs.declared.version.Version.{Version}
 use Rattle.base.proofs.formats.Versions.{version_of-number_of}
+use Rattle.base.proofs.crash.OneMount.{one-reading}
 use Rattle.uberblocks.specs.declared.uberblock.Uberblock.{Uberblock}
 use Rattle.uberblocks.specs.Slots.{fields_of, fields_at, zeros, HasMagic, HasZeros, IsWithinLimits}
 
@@ -62,7 +63,7 @@ IsFormed-read {bytes} {u} is =
 
 -- bytes are an uberblock of one list of fields at most
 pub readings_agree : (bytes : List ℕ) (u v : Fields) → IsUberblock bytes u → IsUberblock bytes v → u ≡ v
-readings_agree bytes u v is_u is_v = sym (fields_at-read is_u) ∙ fields_at-read is_v
+readings_agree = one-reading
 
 -- the value with these fields
 abbrev made_of : Version → Fields → Uberblock

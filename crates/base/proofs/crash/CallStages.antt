@@ -9,8 +9,9 @@ use Rattle.base.specs.disk.Disk.{Write, certain_with, Moment, Disk, EachMoment, 
 use Rattle.base.specs.crash.Views.{View, IsFixed}
 use Rattle.base.specs.crash.Own.{IsAtRest, IsPhase}
 use Rattle.base.specs.crash.Spares.{Spares, SparesSlot}
-use Rattle.base.specs.crash.CallStages.{PoolCall, Makes, AreMade, AreBegun, KeepsCall, KeepCalls, FixedLabels, IsAtRestAt, SparesAt, IsQuiet, AreQuiet, IsSlotCall, IsBetweenAt, IsSwitching, AreSlotCalls, AreAllMade, IsLastPath, IsSyncPath}
-use Rattle.base.specs.crash.CallStages.PoolCall.{Put, Settle}
+use Rattle.base.specs.crash.SyncCalls.{PoolCall}
+use Rattle.base.specs.crash.CallStages.{Makes, AreMade, AreBegun, KeepsCall, KeepCalls, FixedLabels, IsAtRestAt, SparesAt, IsQuiet, AreQuiet, IsSlotCall, IsBetweenAt, IsSwitching, AreSlotCalls, AreAllMade, IsLastPath, IsSyncPath}
+use Rattle.base.specs.crash.SyncCalls.PoolCall.{Put, Settle}
 use Rattle.base.proofs.disk.Put.{part-put_same}
 use Rattle.base.proofs.disk.Moments.{starts, goes_on, joins, weaker, latest, each_write, each_flush, bytes_may_be_left}
 use Rattle.base.proofs.crash.KeptViews.{fixed_wrote, tree_block_rest, config_rest, first_slot, later_slot, fixed_settled, rest_settled, between_new}

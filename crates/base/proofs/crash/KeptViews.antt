@@ -8,10 +8,10 @@ use Rattle.base.specs.formats.Geometry.{block_size, block_address, config_place,
 use Rattle.base.specs.formats.Blocks.{IsBlock}
 use Rattle.base.specs.formats.Uberblocks.{Uberblock, IsUberblock, slot_size}
 use Rattle.base.specs.formats.Chain.{LogBlock}
-use Rattle.base.specs.disk.Disk.{Write, Moment, MayLeave, HandedSince, bytes_of, handed, holds, wrote, settled}
+use Rattle.base.specs.disk.Disk.{Write, Moment, MayLeave, HandedSince, bytes_of, handed, holds, wrote, settled, Apart}
 use Rattle.base.specs.crash.Views.{View, IsConfigContent, IsLogContent, IsSettled, IsFixed, HasFixedSlot, IsFirm, AreConfigsKnown, AreLogBlocksKnown, AreSlotsKnown, IsLaid, view_frame}
 use Rattle.base.specs.crash.Own.{IsAtRest, IsBetween}
-use Rattle.base.specs.crash.Spares.{AreApart, Spares, SparesSlot, IsTreeContent, IsOtherConfig}
+use Rattle.base.specs.crash.Spares.{Spares, SparesSlot, IsTreeContent, IsOtherConfig}
 use Rattle.base.proofs.disk.Put.{part-put_apart, length-put}
 use Rattle.base.proofs.disk.Moments.{part_stands}
 use Rattle.base.proofs.disk.Fairness.{handed_left, handed_right, handed_cases, handed_filter, handed_settled}
@@ -29,19 +29,19 @@ module _ (moment place : ℕ) (content : List ℕ) (done : Bool) (m : Moment) (f
       go true = length-put place content (bytes_of m) fits
       go false = refl
 
-  pub settled_wrote : (other n : ℕ) → AreApart place (length content) other n → IsSettled m other n → IsSettled after other n
+  pub settled_wrote : (other n : ℕ) → Apart place (length content) other n → IsSettled m other n → IsSettled after other n
   settled_wrote other n (inl before) so_far i from to (inl here) = absurd (omega (arith, before, from, here.1))
   settled_wrote other n (inr behind) so_far i from to (inl here) = absurd (omega (arith, behind, to, here.0))
   settled_wrote other n apart so_far i from to (inr there) = so_far i from to there
 
-  pub part_wrote : (other n : ℕ) → AreApart place (length content) other n → part (bytes_of after) other n ≡ part (bytes_of m) other n
+  pub part_wrote : (other n : ℕ) → Apart place (length content) other n → part (bytes_of after) other n ≡ part (bytes_of m) other n
   part_wrote other n apart = go done
     where
       go : (d : Bool) → part (bytes_of (wrote moment place content d m)) other n ≡ part (bytes_of m) other n
       go true = part-put_apart place content (bytes_of m) other n fits apart
       go false = refl
 
-  pub fixed_wrote : (other : ℕ) (bytes : List ℕ) → AreApart place (length content) other (length bytes) → IsFixed m other bytes → IsFixed after other bytes
+  pub fixed_wrote : (other : ℕ) (bytes : List ℕ) → Apart place (length content) other (length bytes) → IsFixed m other bytes → IsFixed after other bytes
   fixed_wrote other bytes apart fixed = record {
     settled = settled_wrote other (length bytes) apart fixed.settled;
     stands = part_wrote other (length bytes) apart ∙ fixed.stands;

@@ -17,7 +17,7 @@ use Rattle.base.proofs.tree.OneTree.{one-tree}
 use Rattle.base.proofs.formats.RecordSpelling.{split, one-spelling}
 
 -- bytes are an uberblock of one list of fields at most
-one-reading : (bytes : List ℕ) (u v : Uberblock) → IsUberblock bytes u → IsUberblock bytes v → u ≡ v
+pub one-reading : (bytes : List ℕ) (u v : Uberblock) → IsUberblock bytes u → IsUberblock bytes v → u ≡ v
 one-reading bytes u v x y =
     let versions : u.version ≡ v.version = sym x.version ∙ y.version in
     let groups : u.group ≡ v.group = sym x.group ∙ y.group in
@@ -30,7 +30,7 @@ one-reading bytes u v x y =
     λ i. record { version = versions i; group = groups i; guid = guids i; moment = moments i; root = roots i; import_number = imports i; log_address = addresses i; log_number = numbers i }
 
 -- and one of an image at most is active
-one-active : (image : List ℕ) (u v : Uberblock) → IsActive image u → IsActive image v → u ≡ v
+pub one-active : (image : List ℕ) (u v : Uberblock) → IsActive image u → IsActive image v → u ≡ v
 one-active image u v x y = by_label (cases_order x.label y.label)
   where
     groups : u.group ≡ v.group

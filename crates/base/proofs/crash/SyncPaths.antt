@@ -6,8 +6,9 @@ use Rattle.base.specs.formats.Uberblocks.{IsUberblock, slot_size}
 use Rattle.base.specs.disk.Disk.{Moment, Disk, EachMoment, bytes_of, handed, settled, wrote, written, next, moments}
 use Rattle.base.specs.disk.Fairness.{HasFairBytes}
 use Rattle.base.specs.crash.Views.{View, IsConfigContent, AreConfigsUpTo}
-use Rattle.base.specs.crash.CallStages.{PoolCall, KeepsCall, KeepCalls, AreWholeCalls, WriteConfigsUpTo, FixedLabels, AreQuiet, IsSlotCall, AreSlotCalls, AreBegun, IsLastPath, IsSyncPath}
-use Rattle.base.specs.crash.CallStages.PoolCall.{Put, Settle}
+use Rattle.base.specs.crash.SyncCalls.{PoolCall}
+use Rattle.base.specs.crash.CallStages.{KeepsCall, KeepCalls, AreWholeCalls, WriteConfigsUpTo, FixedLabels, AreQuiet, IsSlotCall, AreSlotCalls, AreBegun, IsLastPath, IsSyncPath}
+use Rattle.base.specs.crash.SyncCalls.PoolCall.{Put, Settle}
 use Rattle.base.proofs.disk.Moments.{starts, goes_on, latest}
 use Rattle.base.proofs.disk.Fairness.{handed_settled}
 use Rattle.base.proofs.disk.FairBytes.{fair_bytes_wrote, fair_bytes_settled}

@@ -8,9 +8,8 @@ use Rattle.base.specs.formats.Fields.{part, number_at}
 use Rattle.base.specs.formats.Geometry.{IsGeometry, IsBlockAddress, block_size, block_count, block_address, label_place, config_place, slot_place}
 use Rattle.base.specs.formats.Blocks.{is_sealed}
 use Rattle.base.specs.formats.Uberblocks.{slot_size, is_sealed_slot}
-use Rattle.base.specs.disk.Disk.{Moment, HandedSince, bytes_of, handed, wrote, settled}
+use Rattle.base.specs.disk.Disk.{Moment, HandedSince, bytes_of, handed, wrote, settled, Apart}
 use Rattle.base.specs.disk.Fairness.{HasFairBytes, IsCheckedPlace, passes_check, block_at, is_block_place, is_config_place, slot_at, is_slot_place, is_marked, label_numbers}
-use Rattle.base.specs.crash.Spares.{AreApart}
 use Rattle.base.proofs.disk.Put.{length-put, part-put_same, part-put_apart}
 use Rattle.base.proofs.disk.Fairness.{fair_settled}
 use Rattle.base.proofs.formats.Geometry.{IsSize, IsGeometry-IsSize, labels-apart, blocks-end}
@@ -83,16 +82,16 @@ module _ (size : ℕ) (g : IsGeometry size) where
     within : offset + n ≤ 262144
     at : place ≡ label_place size label + offset
 
-  block_and_label : (k label offset a b n : ℕ) → k < block_count size → a ≡ block_address k → IsInLabel label offset b n → AreApart a block_size b n
+  block_and_label : (k label offset a b n : ℕ) → k < block_count size → a ≡ block_address k → IsInLabel label offset b n → Apart a block_size b n
   block_and_label k label offset a b n below at l = go label l.below l.at (IsGeometry-IsSize size g)
     where
-      go : (j : ℕ) → j < 4 → b ≡ label_place size j + offset → IsSize size → AreApart a block_size b n
+      go : (j : ℕ) → j < 4 → b ≡ label_place size j + offset → IsSize size → Apart a block_size b n
       go zero j_below there s = inr (omega (arith, at, there, l.within))
       go (suc zero) j_below there s = inr (omega (arith, at, there, l.within))
       go (suc (suc zero)) j_below there s = inl (omega (arith, at, there, below, blocks-end size g))
       go (suc (suc (suc j))) j_below there s = inl (omega (arith, at, there, below, blocks-end size g, s.least))
 
-  turned : (a m b n : ℕ) → AreApart a m b n → AreApart b n a m
+  turned : (a m b n : ℕ) → Apart a m b n → Apart b n a m
   turned a m b n (inl before) = inr before
   turned a m b n (inr behind) = inl behind
 
@@ -100,7 +99,7 @@ module _ (size : ℕ) (g : IsGeometry size) where
   two_labels j k o p a m b n less x y = omega (arith, labels-apart size j k g less y.below, x.at, x.within, y.at)
 
   -- two parts of labels whose offsets are equal or apart
-  in_labels : (j k o p a m b n : ℕ) → IsInLabel j o a m → IsInLabel k p b n → ((o ≡ p) × (m ≡ n)) ⊎ AreApart o m p n → ((a ≡ b) × (m ≡ n)) ⊎ AreApart a m b n
+  in_labels : (j k o p a m b n : ℕ) → IsInLabel j o a m → IsInLabel k p b n → ((o ≡ p) × (m ≡ n)) ⊎ Apart o m p n → ((a ≡ b) × (m ≡ n)) ⊎ Apart a m b n
   in_labels j k o p a m b n x y offsets = elim (cases_lt j k) [
     | inl before ↦ inr (inl (two_labels j k o p a m b n before x y))
     | inr from ↦ elim (cases_lt k j) [
@@ -108,7 +107,7 @@ module _ (size : ℕ) (g : IsGeometry size) where
       | inr to ↦
           let same : j ≡ k = omega (arith, from, to) in
           let places : label_place size j ≡ label_place size k = ap (λ (i : ℕ). label_place size i) same in
-          elim offsets as (λ _. ((a ≡ b) × (m ≡ n)) ⊎ AreApart a m b n) [
+          elim offsets as (λ _. ((a ≡ b) × (m ≡ n)) ⊎ Apart a m b n) [
             | inl equal ↦ inl (omega (arith, x.at, y.at, places, equal.0), equal.1)
             | inr (inl before) ↦ inr (inl (omega (arith, x.at, y.at, places, before)))
             | inr (inr behind) ↦ inr (inr (omega (arith, x.at, y.at, places, behind)))
@@ -122,7 +121,7 @@ module _ (size : ℕ) (g : IsGeometry size) where
   slot_in : (label slot a m : ℕ) → label < 4 → slot < 128 → m ≡ slot_size → a ≡ slot_place size label slot → IsInLabel label (131072 + 1024 * slot) a m
   slot_in label slot a m below in_array long at = record { below = below; within = omega (arith, long, in_array); at = omega (arith, at) }
 
-  two_blocks : (i j a b m n : ℕ) → m ≡ block_size → n ≡ block_size → a ≡ block_address i → b ≡ block_address j → ((a ≡ b) × (m ≡ n)) ⊎ AreApart a m b n
+  two_blocks : (i j a b m n : ℕ) → m ≡ block_size → n ≡ block_size → a ≡ block_address i → b ≡ block_address j → ((a ≡ b) × (m ≡ n)) ⊎ Apart a m b n
   two_blocks i j a b m n long as_long at there = elim (cases_lt i j) [
     | inl before ↦ inr (inl (omega (arith, before, long, at, there)))
     | inr from ↦ elim (cases_lt j i) [
@@ -131,27 +130,27 @@ module _ (size : ℕ) (g : IsGeometry size) where
     ]
   ]
 
-  two_slots : (i j m n : ℕ) → m ≡ slot_size → n ≡ slot_size → ((131072 + 1024 * i ≡ 131072 + 1024 * j) × (m ≡ n)) ⊎ AreApart (131072 + 1024 * i) m (131072 + 1024 * j) n
+  two_slots : (i j m n : ℕ) → m ≡ slot_size → n ≡ slot_size → ((131072 + 1024 * i ≡ 131072 + 1024 * j) × (m ≡ n)) ⊎ Apart (131072 + 1024 * i) m (131072 + 1024 * j) n
   two_slots i j m n long as_long = elim (cases_lt i j) [
     | inl before ↦ inr (inl (omega (arith, before, long)))
     | inr from ↦ elim (cases_lt j i) [ inl behind ↦ inr (inr (omega (arith, behind, as_long))) | inr to ↦ inl (omega (arith, from, to), long ∙ sym as_long) ]
   ]
 
   -- two places that the format checks are one place or apart
-  pub same_or_apart : (a m b n : ℕ) → IsCheckedPlace size a m → IsCheckedPlace size b n → ((a ≡ b) × (m ≡ n)) ⊎ AreApart a m b n
+  pub same_or_apart : (a m b n : ℕ) → IsCheckedPlace size a m → IsCheckedPlace size b n → ((a ≡ b) × (m ≡ n)) ⊎ Apart a m b n
   same_or_apart a m b n (inl (long, inl block)) (inl (as_long, inl other)) = two_blocks block.0 other.0 a b m n long as_long block.2 other.2
   same_or_apart a m b n (inl (long, inl block)) (inl (as_long, inr config)) =
-      inr (subst (λ (k : ℕ). AreApart a k b n) (sym long) (block_and_label block.0 config.0 16384 a b n block.1 block.2 (config_in config.0 b n config.1 as_long config.2)))
+      inr (subst (λ (k : ℕ). Apart a k b n) (sym long) (block_and_label block.0 config.0 16384 a b n block.1 block.2 (config_in config.0 b n config.1 as_long config.2)))
   same_or_apart a m b n (inl (long, inl block)) (inr (as_long, slot)) =
-      inr (subst (λ (k : ℕ). AreApart a k b n) (sym long) (block_and_label block.0 slot.0 (131072 + 1024 * slot.1) a b n block.1 block.2 (slot_in slot.0 slot.1 b n slot.2 slot.3 as_long slot.4)))
+      inr (subst (λ (k : ℕ). Apart a k b n) (sym long) (block_and_label block.0 slot.0 (131072 + 1024 * slot.1) a b n block.1 block.2 (slot_in slot.0 slot.1 b n slot.2 slot.3 as_long slot.4)))
   same_or_apart a m b n (inl (long, inr config)) (inl (as_long, inl block)) =
-      inr (turned b n a m (subst (λ (k : ℕ). AreApart b k a m) (sym as_long) (block_and_label block.0 config.0 16384 b a m block.1 block.2 (config_in config.0 a m config.1 long config.2))))
+      inr (turned b n a m (subst (λ (k : ℕ). Apart b k a m) (sym as_long) (block_and_label block.0 config.0 16384 b a m block.1 block.2 (config_in config.0 a m config.1 long config.2))))
   same_or_apart a m b n (inl (long, inr config)) (inl (as_long, inr other)) =
       in_labels config.0 other.0 16384 16384 a m b n (config_in config.0 a m config.1 long config.2) (config_in other.0 b n other.1 as_long other.2) (inl (refl, long ∙ sym as_long))
   same_or_apart a m b n (inl (long, inr config)) (inr (as_long, slot)) =
       in_labels config.0 slot.0 16384 (131072 + 1024 * slot.1) a m b n (config_in config.0 a m config.1 long config.2) (slot_in slot.0 slot.1 b n slot.2 slot.3 as_long slot.4) (inr (inl (omega (arith, long))))
   same_or_apart a m b n (inr (long, slot)) (inl (as_long, inl block)) =
-      inr (turned b n a m (subst (λ (k : ℕ). AreApart b k a m) (sym as_long) (block_and_label block.0 slot.0 (131072 + 1024 * slot.1) b a m block.1 block.2 (slot_in slot.0 slot.1 a m slot.2 slot.3 long slot.4))))
+      inr (turned b n a m (subst (λ (k : ℕ). Apart b k a m) (sym as_long) (block_and_label block.0 slot.0 (131072 + 1024 * slot.1) b a m block.1 block.2 (slot_in slot.0 slot.1 a m slot.2 slot.3 long slot.4))))
   same_or_apart a m b n (inr (long, slot)) (inl (as_long, inr config)) =
       in_labels slot.0 config.0 (131072 + 1024 * slot.1) 16384 a m b n (slot_in slot.0 slot.1 a m slot.2 slot.3 long slot.4) (config_in config.0 b n config.1 as_long config.2) (inr (inr (omega (arith, as_long))))
   same_or_apart a m b n (inr (long, slot)) (inr (as_long, other)) =
@@ -169,7 +168,7 @@ module _ (size : ℕ) (g : IsGeometry size) where
       after : Bool → Moment
       after d = wrote moment place content d m
 
-      by_place : (p n : ℕ) → passes_check size p n (part (bytes_of (after true)) p n) ≡ true → ((place ≡ p) × (length content ≡ n)) ⊎ AreApart place (length content) p n
+      by_place : (p n : ℕ) → passes_check size p n (part (bytes_of (after true)) p n) ≡ true → ((place ≡ p) × (length content ≡ n)) ⊎ Apart place (length content) p n
           → HandedSince t (handed (after true)) p (part (bytes_of (after true)) p n)
       by_place p n passes (inl (here, long)) =
           let stands : part (bytes_of (after true)) place (length content) ≡ content = part-put_same place content (bytes_of m) fits in

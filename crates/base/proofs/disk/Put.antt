@@ -3,10 +3,7 @@ use Rattle.std.proofs.Common.{◌≡◌, ◌⊎◌, inl, inr, ℕ, ◌+◌, ◌-
 use Rattle.std.proofs.lemmas.List.{places, ext_get_or, take_at, drop_at, take-append-drop, length-take-le, get_or-take, get_or-drop, get_or_append_left, get_or-append_right, drop-drop}
 use Rattle.base.specs.formats.Fields.{part}
 use Rattle.base.specs.disk.Disk.{put}
-
--- two ranges with no place in common
-abbrev pub Apart : ℕ → ℕ → ℕ → ℕ → Type 0
-Apart a m b n = (a + m ≤ b) ⊎ (b + n ≤ a)
+pub use Rattle.base.specs.disk.Disk.{Apart}
 
 pub length-put : (place : ℕ) (content bytes : List ℕ) → place + length content ≤ length bytes → length (put place content bytes) ≡ length bytes
 length-put place content bytes fits = grind (arith, places)

@@ -10,13 +10,13 @@ use Rattle.base.specs.formats.Limits.{object_count}
 use Rattle.base.specs.formats.Fields.{part, no_pointer}
 use Rattle.base.specs.formats.Geometry.{block_area, block_size, block_address, IsBlockAddress}
 use Rattle.base.specs.formats.Blocks.{Frame}
-use Rattle.base.specs.disk.Disk.{put, SameOutside, IsInRange}
+use Rattle.base.specs.disk.Disk.{put, SameOutside, IsInRange, Apart}
 use Rattle.base.specs.tree.Places.{Place, IsPlace, IsInTree}
 use Rattle.base.specs.tree.Places.Place.{Root}
 use Rattle.base.specs.tree.PlacedTrees.{HoldsTree, ArePlaced}
 use Rattle.base.specs.tree.PlannedTrees.{NewBlock, IsTreePlan, SameBlock, StandsIn}
 pub use Rattle.base.specs.stored.Stored.{AreBlocks, IsUnwritten, LeavesTree}
-use Rattle.base.proofs.disk.Put.{Apart, length-put, part-put_same, part-put_apart, part_same}
+use Rattle.base.proofs.disk.Put.{length-put, part-put_same, part-put_apart, part_same}
 use Rattle.base.proofs.tree.PlacedTrees.{holds-placed, told-in_tree}
 use Rattle.base.proofs.tree.PlannedTrees.{holds-elsewhere, planned-holds}
 

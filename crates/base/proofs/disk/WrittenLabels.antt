@@ -6,12 +6,12 @@ use Rattle.std.proofs.lemmas.Bool.{cases_lt, cases_order}
 use Rattle.base.specs.formats.Fields.{part}
 use Rattle.base.specs.formats.Geometry.{block_size, block_count, label_place, config_place, slot_place, slot_of, IsGeometry, IsBlockAddress}
 use Rattle.base.specs.formats.Blocks.{IsBlock}
-use Rattle.base.specs.disk.Disk.{put}
+use Rattle.base.specs.disk.Disk.{put, Apart}
 use Rattle.base.specs.formats.Uberblocks.{Uberblock, IsUberblock, StandsIn, IsActive, slot_size}
 use Rattle.base.specs.formats.Labels.{IsConfig, IsConfigPayload, IsChosen}
 use Rattle.base.specs.stored.ShownLabels.{ShowsUberblock}
-use Rattle.base.proofs.disk.Put.{Apart, length-put, part-put_same, part-put_apart}
-use Rattle.base.proofs.formats.LabelPlaces.{geometry-large, label-apart, block-label_apart, slots-apart, slot-config_apart}
+use Rattle.base.proofs.disk.Put.{length-put, part-put_same, part-put_apart}
+use Rattle.base.proofs.formats.LabelPlaces.{label-apart, block-label_apart, slots-apart, slot-config_apart}
 
 -- each group has a slot
 pub slot-below : (group : ℕ) → slot_of group < 128
@@ -86,7 +86,7 @@ block-shows now address content u name geometry area long fits x = shows-along n
     x
   where
     side : (k place n : ℕ) → k < 4 → label_place (length now) k ≤ place → place + n ≤ label_place (length now) k + 262144 → Apart address (length content) place n
-    side k place n below from to = subst (λ (m : ℕ). Apart address m place n) (sym long) (block-label_apart (length now) k place n address (geometry-large (length now) geometry) below from to area)
+    side k place n below from to = subst (λ (m : ℕ). Apart address m place n) (sym long) (block-label_apart (length now) k place n address geometry below from to area)
 
 -- An uberblock that is written into its slot of a label.
 module _ (now slot : List ℕ) (v : Uberblock) (label : ℕ) (geometry : IsGeometry (length now)) (below : label < 4) (coded : IsUberblock slot v) where
@@ -100,7 +100,7 @@ module _ (now slot : List ℕ) (v : Uberblock) (label : ℕ) (geometry : IsGeome
   slot-fits =
       let long = coded.size in
       let in_array = slot-below v.group in
-      let l = label-apart (length now) label place slot_size (geometry-large (length now) geometry) below (omega arith) (omega (arith, in_array)) in
+      let l = label-apart (length now) label place slot_size geometry below (omega arith) (omega (arith, in_array)) in
       omega (arith, long, l.0)
 
   size : length later ≡ length now
@@ -115,13 +115,13 @@ module _ (now slot : List ℕ) (v : Uberblock) (label : ℕ) (geometry : IsGeome
   elsewhere : (k i : ℕ) → k < 4 → i < 128 → (label ≢ k) ⊎ (slot_of v.group ≢ i) → part later (slot_place (length now) k i) slot_size ≡ part now (slot_place (length now) k i) slot_size
   elsewhere k i k_in i_in other = part-put_apart place slot now (slot_place (length now) k i) slot_size slot-fits
       (subst (λ (n : ℕ). Apart place n (slot_place (length now) k i) slot_size) (sym coded.size)
-      (slots-apart (length now) label (slot_of v.group) k i (geometry-large (length now) geometry) below (slot-below v.group) k_in i_in other))
+      (slots-apart (length now) label (slot_of v.group) k i geometry below (slot-below v.group) k_in i_in other))
 
   -- and each config
   configs : SameConfigs now later
   configs k k_in = part-put_apart place slot now (config_place (length now) k) block_size slot-fits
       (subst (λ (n : ℕ). Apart place n (config_place (length now) k) block_size) (sym coded.size)
-      (slot-config_apart (length now) label (slot_of v.group) k (geometry-large (length now) geometry) below (slot-below v.group) k_in))
+      (slot-config_apart (length now) label (slot_of v.group) k geometry below (slot-below v.group) k_in))
 
   -- what stands in another label stood there before
   in-other : (k : ℕ) (other : Uberblock) → k < 4 → label ≢ k → StandsIn later k other → StandsIn now k other

@@ -4,10 +4,10 @@ use Rattle.std.proofs.lemmas.List.{take_rest, length-drop, drop_all, drop-drop, 
 use Rattle.std.proofs.lemmas.Nat.{from_le_bytes-to_le_bytes_8}
 use Rattle.std.specs.Int.{from_le_bytes, w64}
 use borrow.Rule.Slice.PartMut.{put_mid}
-use Rattle.base.specs.disk.Disk.{put}
+use Rattle.base.specs.disk.Disk.{put, Apart}
 use Rattle.base.specs.formats.Fields.{part, number_at, number_bytes, pointer_at, pointer_bytes}
 use Rattle.base.specs.declared.pointer.Pointer.{Pointer}
-use Rattle.base.proofs.disk.Put.{length-put, part-put_same, part-put_apart, Apart}
+use Rattle.base.proofs.disk.Put.{length-put, part-put_same, part-put_apart}
 
 -- what stood from a place on, with a field over its front, put back
 pub put_mid-put : (at : ℕ) (xs new field : List ℕ) → at + length field ≤ length xs

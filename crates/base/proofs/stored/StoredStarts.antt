@@ -39,7 +39,7 @@ use Rattle.base.proofs.tree.PlacedTrees.{in-tree, opens-at}
 use Rattle.base.proofs.disk.WrittenBlocks.{put_blocks, free-leaves_tree, new-stand, planned-written}
 use Rattle.base.proofs.tree.FreedBlocks.{new-in_tree}
 use Rattle.base.proofs.tree.WrittenRecords.{bounded-no_others}
-use Rattle.base.proofs.formats.LabelPlaces.{geometry-large}
+use Rattle.base.proofs.formats.Geometry.{IsGeometry-IsSize}
 use Rattle.base.proofs.stored.StoredLabels.{synced-state}
 use Rattle.base.proofs.stored.StoredSets.{in-at, at-in, set-at, at-set, rising-in, rising-rises, at-take, map-at}
 
@@ -220,7 +220,7 @@ start-state now moment group plan s pointers new bs slot explained x idle_is mid
 
     room : block_area + block_size * s.shown.blocks ≤ length now
     room =
-        let large = geometry-large (length now) idle_is.geometry in
+        let large = (IsGeometry-IsSize (length now) idle_is.geometry).least in
         let count : s.shown.blocks ≡ (length now - 524288 - 4194304) / 4096 = x.blocks in
         omega (arith, large, count)
 

@@ -9,7 +9,7 @@ use Rattle.base.specs.declared.pointer.Pointer.{Pointer}
 use Rattle.base.specs.formats.Fields.{part, number_at}
 use Rattle.base.specs.formats.Geometry.{block_area, block_size, block_address, block_count, label_place, IsGeometry, IsBlockAddress}
 use Rattle.base.specs.formats.Blocks.{Frame}
-use Rattle.base.specs.disk.Disk.{put, SameOutside, IsInRange}
+use Rattle.base.specs.disk.Disk.{put, SameOutside, IsInRange, Apart}
 use Rattle.base.specs.steps.Locks.{is_in}
 use Rattle.base.specs.tree.Places.{Place, IsPlace, IsInTree}
 use Rattle.base.specs.tree.Places.Place.{Root}
@@ -22,8 +22,8 @@ use Rattle.base.specs.steps.Exact.{AreFree, IsInLog}
 use Rattle.base.specs.steps.Explains.{IsSyncedTree}
 use Rattle.base.specs.stored.ShownLabels.{HasNoLogBlock}
 use Rattle.base.specs.stored.Stored.{NewTree, IsStored, IsSyncing, SameBlocks, total_calls, frame_at}
-use Rattle.base.proofs.disk.Put.{Apart, length-put, part-put_same, part-put_apart}
-use Rattle.base.proofs.formats.LabelPlaces.{geometry-large, label-apart}
+use Rattle.base.proofs.disk.Put.{length-put, part-put_same, part-put_apart}
+use Rattle.base.proofs.formats.LabelPlaces.{label-apart}
 use Rattle.base.proofs.steps.BusyLocks.{Some-injective}
 use Rattle.base.proofs.tree.PlacedTrees.{holds-tree, holds-placed, none_or_opens, in-tree, told-in_tree}
 use Rattle.base.proofs.tree.PlannedTrees.{holds-elsewhere}
@@ -260,5 +260,5 @@ outside-put blocks now place content fits out = record {
 pub label-put : (now : List ℕ) (label place : ℕ) (content : List ℕ) → IsGeometry (length now) → label < 4 → label_place (length now) label ≤ place
     → place + length content ≤ label_place (length now) label + 262144 → SameBlocks (block_count (length now)) now (put place content now)
 label-put now label place content geometry below from to =
-    let apart = label-apart (length now) label place (length content) (geometry-large (length now) geometry) below from to in
+    let apart = label-apart (length now) label place (length content) geometry below from to in
     outside-put (block_count (length now)) now place content apart.0 apart.1

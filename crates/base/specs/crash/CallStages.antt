@@ -6,17 +6,14 @@ use Rattle.base.specs.declared.error.PoolError.{PoolError}
 use Rattle.base.specs.formats.Fields.{no_pointer}
 use Rattle.base.specs.formats.Geometry.{block_size, config_place, slot_place, slot_of}
 use Rattle.base.specs.tree.Places.{Place, IsPlace}
-use Rattle.base.specs.disk.Disk.{Moment, Disk, bytes_of, wrote, settled, written, certain}
+use Rattle.base.specs.disk.Disk.{Moment, Disk, bytes_of, wrote, settled, written, certain, Apart}
 use Rattle.base.specs.disk.Fairness.{IsCheckedPlace}
 use Rattle.base.specs.disk.Calls.{Writes, Flushes}
 use Rattle.base.specs.crash.Views.{View, Logged, IsConfigContent, IsFixed, IsLaid}
 use Rattle.base.specs.crash.Own.{IsAtRest, IsBetween}
-use Rattle.base.specs.crash.Spares.{AreApart, IsTreeContent, IsOtherConfig}
-
--- a device call: a write, or a flush
-pub data PoolCall : Type 0 where
-  Put : ℕ → List ℕ → PoolCall
-  Settle : PoolCall
+use Rattle.base.specs.crash.Spares.{IsTreeContent, IsOtherConfig}
+use Rattle.base.specs.crash.SyncCalls.{PoolCall}
+use Rattle.base.specs.crash.SyncCalls.PoolCall.{Put, Settle}
 
 -- what a call with its answer makes of a disk
 abbrev pub Makes : PoolCall → Disk → Result (Unit {0}) PoolError → Disk → Type 0
@@ -72,10 +69,10 @@ pub record IsAtRestAt (size t flushed : ℕ) (at : FixedLabels) (v : View) (m : 
 pub record SparesAt (size flushed : ℕ) (at : FixedLabels) (v : View) (place n : ℕ) : Type 0 where
   pub whole : IsCheckedPlace size place n
   pub fits : place + n ≤ size
-  pub not_config : AreApart place n (config_place size at.config) (length v.config)
-  pub not_slot : AreApart place n (slot_place size at.slot (slot_of v.u.group)) (length v.slot)
-  pub not_tree : (p : Place) → IsPlace p → v.pointers p ≢ no_pointer → AreApart place n (v.pointers p).address block_size
-  pub not_log : (i : ℕ) (l : Logged) → i < flushed → slice_get v.logged i ≡ Some l → AreApart place n l.block.address (length l.content)
+  pub not_config : Apart place n (config_place size at.config) (length v.config)
+  pub not_slot : Apart place n (slot_place size at.slot (slot_of v.u.group)) (length v.slot)
+  pub not_tree : (p : Place) → IsPlace p → v.pointers p ≢ no_pointer → Apart place n (v.pointers p).address block_size
+  pub not_log : (i : ℕ) (l : Logged) → i < flushed → slice_get v.logged i ≡ Some l → Apart place n l.block.address (length l.content)
 
 -- a call that leaves a view as it lies: a flush, or a write of a block of a tree or of another config, apart from what is fixed
 abbrev pub IsQuiet : ℕ → ℕ → FixedLabels → View → PoolCall → Type 0
@@ -96,9 +93,9 @@ pub record IsLaidAt (size t flushed config : ℕ) (v : View) (m : Moment) : Type
 pub record IsSlotCall (size flushed new_flushed new_config : ℕ) (at : FixedLabels) (old new : View) (place : ℕ) (content : List ℕ) : Type 0 where
   pub content_is : content ≡ new.slot
   pub old_spared : SparesAt size flushed at old place (length content)
-  pub new_config_spared : AreApart place (length content) (config_place size new_config) (length new.config)
-  pub new_tree_spared : (p : Place) → IsPlace p → new.pointers p ≢ no_pointer → AreApart place (length content) (new.pointers p).address block_size
-  pub new_log_spared : (i : ℕ) (l : Logged) → i < new_flushed → slice_get new.logged i ≡ Some l → AreApart place (length content) l.block.address (length l.content)
+  pub new_config_spared : Apart place (length content) (config_place size new_config) (length new.config)
+  pub new_tree_spared : (p : Place) → IsPlace p → new.pointers p ≢ no_pointer → Apart place (length content) (new.pointers p).address block_size
+  pub new_log_spared : (i : ℕ) (l : Logged) → i < new_flushed → slice_get new.logged i ≡ Some l → Apart place (length content) l.block.address (length l.content)
 
 -- before the first write of the new uberblock, and from then on
 pub record IsBetweenAt (size t flushed new_flushed new_config : ℕ) (at : FixedLabels) (old new : View) (m : Moment) : Type 0 where

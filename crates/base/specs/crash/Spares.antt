@@ -4,24 +4,20 @@ use Rattle.std.specs.Prelude.{ℕ, ◌≡◌, ◌≢◌, ◌≤◌, ◌<◌, ◌
 use Rattle.base.specs.formats.Fields.{no_pointer, number_at}
 use Rattle.base.specs.formats.Geometry.{block_size, config_place, slot_place, slot_of}
 use Rattle.base.specs.tree.Places.{Place, IsPlace}
-use Rattle.base.specs.disk.Disk.{Moment}
+use Rattle.base.specs.disk.Disk.{Moment, Apart}
 use Rattle.base.specs.crash.Views.{View, Logged, HasFixedConfig, HasFixedSlot}
-
--- two ranges of bytes have no byte in common
-abbrev pub AreApart : ℕ → ℕ → ℕ → ℕ → Type 0
-AreApart a m b n = (a + m ≤ b) ⊎ (b + n ≤ a)
 
 -- so many bytes at a place have none of a fixed config, of the tree and of the flushed log of a view
 pub record Spares (size flushed : ℕ) (m : Moment) (v : View) (place n : ℕ) : Type 0 where
   pub config : HasFixedConfig size m v
-  pub not_config : AreApart place n (config_place size config.label) (length v.config)
-  pub not_tree : (p : Place) → IsPlace p → v.pointers p ≢ no_pointer → AreApart place n (v.pointers p).address block_size
-  pub not_log : (i : ℕ) (l : Logged) → i < flushed → slice_get v.logged i ≡ Some l → AreApart place n l.block.address (length l.content)
+  pub not_config : Apart place n (config_place size config.label) (length v.config)
+  pub not_tree : (p : Place) → IsPlace p → v.pointers p ≢ no_pointer → Apart place n (v.pointers p).address block_size
+  pub not_log : (i : ℕ) (l : Logged) → i < flushed → slice_get v.logged i ≡ Some l → Apart place n l.block.address (length l.content)
 
 -- and none of a fixed uberblock
 pub record SparesSlot (size : ℕ) (m : Moment) (v : View) (place n : ℕ) : Type 0 where
   pub slot : HasFixedSlot size m v
-  pub apart : AreApart place n (slot_place size slot.label (slot_of v.u.group)) (length v.slot)
+  pub apart : Apart place n (slot_place size slot.label (slot_of v.u.group)) (length v.slot)
 
 -- a block of a tree: neither a config nor a log block
 pub record IsTreeContent (content : List ℕ) : Type 0 where

@@ -33,6 +33,10 @@ moments disk = length disk.past
 abbrev pub put : ℕ → List ℕ → List ℕ → List ℕ
 put place content bytes = take place bytes ++ (content ++ drop (place + length content) bytes)
 
+-- two ranges of bytes have no byte in common
+abbrev pub Apart : ℕ → ℕ → ℕ → ℕ → Type 0
+Apart a m b n = (a + m ≤ b) ⊎ (b + n ≤ a)
+
 -- these bytes after the writes
 abbrev pub bytes_after : List ℕ → List Write → List ℕ
 bytes_after bytes [] = bytes
