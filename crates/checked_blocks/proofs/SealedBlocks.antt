@@ -8,13 +8,13 @@ use Rattle.sha2.specs.Sha256.{sha256}
 use Rattle.sha2.proofs.Facts256.{length-sha256}
 use Rattle.base.specs.declared.names.Group.{Group}
 use Rattle.base.specs.formats.Fields.{part, number_at, number_bytes}
-use Rattle.base.specs.formats.Blocks.{IsSealed, IsBlock, head_bytes, sealed_block}
+use Rattle.base.specs.formats.Blocks.{IsSealed, IsBlock, block_head_bytes, sealed_block}
 use Rattle.base.proofs.formats.FieldsRead.{length-number_bytes}
 use Rattle.checked_blocks.specs.declared.expected.Expected.{Expected}
 use Rattle.checked_blocks.specs.Opening.{IsExpected}
 use Rattle.checked_blocks.proofs.Placed.{number_at-between, number_bytes-number_at}
 
-pub length-head_bytes : (kind guid group number : ℕ) → length (head_bytes kind guid group number) ≡ 32
+pub length-head_bytes : (kind guid group number : ℕ) → length (block_head_bytes kind guid group number) ≡ 32
 length-head_bytes kind guid group number =
     let a : List ℕ = number_bytes kind in
     let b : List ℕ = number_bytes guid in
@@ -60,7 +60,7 @@ flat a b c d check payload = simp append_assoc
 pub sealed_block-is : (kind guid group number : ℕ) (payload : List ℕ) → kind < 2 ^ 64 → guid < 2 ^ 64 → group < 2 ^ 64 → number < 2 ^ 64 → length payload ≡ 4032
     → IsBlock (sealed_block kind guid group number payload) kind guid group number payload
 sealed_block-is kind guid group number payload k u g n long =
-    let head : List ℕ = head_bytes kind guid group number in
+    let head : List ℕ = block_head_bytes kind guid group number in
     let check : List ℕ = sha256 (head ++ replicate 32 0 ++ payload) in
     let a : List ℕ = number_bytes kind in
     let b : List ℕ = number_bytes guid in
@@ -94,7 +94,7 @@ three_parts bytes =
 
 -- the first 32 bytes, as four numbers
 head-of : (bytes : List ℕ) → length bytes ≡ 4096 → All (λ b. b < 256) bytes
-    → take 32 bytes ≡ head_bytes (number_at bytes 0) (number_at bytes 8) (number_at bytes 16) (number_at bytes 24)
+    → take 32 bytes ≡ block_head_bytes (number_at bytes 0) (number_at bytes 8) (number_at bytes 16) (number_at bytes 24)
 head-of bytes long each =
     take-add 24 8 bytes ∙ ap (λ (l : List ℕ). l ++ part bytes 24 8) (take-add 16 8 bytes ∙ ap (λ (l : List ℕ). l ++ part bytes 16 8) (take-add 8 8 bytes))
     ∙ sym (four (number_bytes-number_at bytes 0 (omega (arith, long)) each) (number_bytes-number_at bytes 8 (omega (arith, long)) each)
@@ -107,14 +107,14 @@ head-of bytes long each =
 pub IsBlock-sealed_block : (bytes : List ℕ) (kind guid group number : ℕ) (payload : List ℕ) → All (λ b. b < 256) bytes → IsBlock bytes kind guid group number payload
     → bytes ≡ sealed_block kind guid group number payload
 IsBlock-sealed_block bytes kind guid group number payload each block =
-    let head : List ℕ = head_bytes kind guid group number in
+    let head : List ℕ = block_head_bytes kind guid group number in
     let headed : take 32 bytes ≡ head = head-of bytes block.size each ∙ fields block.kind_is block.guid_is block.group_is block.number_is in
     three_parts bytes
     ∙ ap (λ (l : List ℕ). take 32 bytes ++ l ++ drop 64 bytes) block.agrees
     ∙ ap (λ (l : List ℕ). l ++ sha256 (l ++ replicate 32 0 ++ drop 64 bytes) ++ drop 64 bytes) headed
     ∙ ap (λ (l : List ℕ). head ++ sha256 (head ++ replicate 32 0 ++ l) ++ l) block.payload_is
   where
-    fields : {a b c d : ℕ} → a ≡ kind → b ≡ guid → c ≡ group → d ≡ number → head_bytes a b c d ≡ head_bytes kind guid group number
+    fields : {a b c d : ℕ} → a ≡ kind → b ≡ guid → c ≡ group → d ≡ number → block_head_bytes a b c d ≡ block_head_bytes kind guid group number
     fields p q r s = cc
 
 -- bytes that are expected are a block of the expected kind, pool and number

@@ -1,5 +1,5 @@
 ghost use Rattle.std.specs.Prelude.{◌≡◌, ◌<◌, ◌≤◌, ◌^◌, ◌↔◌, IsOk, IfOk, IfErr, length};
-ghost use Rattle.base.specs.formats.Blocks.{IsBlock, head_bytes, sealed_block};
+ghost use Rattle.base.specs.formats.Blocks.{IsBlock, block_head_bytes, sealed_block};
 ghost use Rattle.base.specs.disk.Disk.{put};
 ghost use Rattle.checked_blocks.specs.Sealing.{IsKind, padded, zeros};
 
@@ -92,7 +92,7 @@ fn zero_block() -> [u8; BLOCK_SIZE]
 
 fn write_head(bytes: &mut [u8], kind: u64, guid: u64, group: u64, number: u64)
     requires { 64 ≤ length bytes.old }
-    ensures head { bytes.new ≡ put 0 (head_bytes kind guid group number) bytes.old }
+    ensures head { bytes.new ≡ put 0 (block_head_bytes kind guid group number) bytes.old }
     ensures group_fits { group < 2 ^ 64 }
 {
     write_u64(bytes, 0, kind);

@@ -17,13 +17,13 @@ pub struct Frame {
 
 impl Model for Frame {
     ghost use Rattle.base.specs.formats.Blocks as blocks_of;
-    ghost use Rattle.base.specs.formats.Versions.{number_of, version_of};
-    ghost use Rattle.base.proofs.formats.Versions.{version_of-number_of};
+    ghost use Rattle.base.specs.formats.Versions.{number_of_version, version_of};
+    ghost use Rattle.base.proofs.formats.Versions.{version_of-number_of_version};
 
     ghost Value = { blocks_of.Frame };
 
     ghost view = { λ f. record {
-      version = number_of f.version;
+      version = number_of_version f.version;
       guid = f.guid;
       blocks = f.blocks;
       group = f.group.0;
@@ -36,18 +36,18 @@ impl Model for Frame {
       group = record { 0 = f.group };
     } };
 
-    ghost inverse_ok = { λ f h i. record { version = version_of-number_of f.version i; guid = f.guid; blocks = f.blocks; group = f.group } };
+    ghost inverse_ok = { λ f h i. record { version = version_of-number_of_version f.version i; guid = f.guid; blocks = f.blocks; group = f.group } };
 }
 
 impl Frame {
     ghost use Rattle.std.specs.Prelude.{◌≡◌, ◌↔◌, IsTrue};
     ghost use Rattle.base.specs.formats.Geometry.{IsBlockAddress};
-    ghost use Rattle.base.specs.formats.Versions.{number_of};
+    ghost use Rattle.base.specs.formats.Versions.{number_of_version};
 
     /// The frame of this version, guid, number of blocks and greatest group.
     pub fn new(version: Version, guid: u64, blocks: u64, group: Group) -> Self
         ensures { result
-            ≡ record { version = number_of version; guid = guid; blocks = blocks; group = group.0 } }
+            ≡ record { version = number_of_version version; guid = guid; blocks = blocks; group = group.0 } }
     {
         Frame {
             version,
@@ -59,7 +59,7 @@ impl Frame {
 
     /// The version by whose rules the pool's tree is read.
     pub fn version(&self) -> Version
-        ensures { number_of result ≡ self.now.version }
+        ensures { number_of_version result ≡ self.now.version }
     {
         self.version
     }

@@ -15,7 +15,7 @@ use Rattle.base.specs.steps.Refusals.{sync_step_refusal}
 use Rattle.base.specs.steps.Shown.{Shown, SyncPlan}
 use Rattle.base.specs.history.Past.{Past, ordinals_of}
 use Rattle.base.specs.steps.Steps.{State, SyncStep, returned_addresses, state_after_sync}
-use Rattle.base.specs.steps.Steps.Progress.{More, Synced}
+use Rattle.base.specs.steps.Steps.SyncProgress.{More, Synced}
 use Rattle.pool_core.specs.Meets.{Meets}
 
 pub step_suspended : (s : Shown) → s.suspended ≡ true → Meets SyncStep (Err error.Suspended) s s

@@ -1,9 +1,9 @@
 -- What a step of a sync answers, as definitions speak of it.
 use Rattle.base.specs.steps.Steps as steps
-use Rattle.base.specs.steps.Steps.Progress.{More as more, Synced as synced}
+use Rattle.base.specs.steps.Steps.SyncProgress.{More as more, Synced as synced}
 use Rattle.pool_core.specs.declared.state.Progress.{Progress}
 use Rattle.pool_core.specs.declared.state.Progress.TheVariants.{More, Synced}
 
-abbrev pub progress_of : Progress → steps.Progress
+abbrev pub progress_of : Progress → steps.SyncProgress
 progress_of More = more
 progress_of (Synced group) = synced group.0

@@ -5,7 +5,7 @@ use Rattle.base.specs.declared.pointer.Pointer.{Pointer}
 use Rattle.base.specs.formats.Fields.{no_pointer, part, pointer_in}
 use Rattle.base.specs.formats.Geometry.{block_address}
 use Rattle.base.specs.formats.Blocks.{Frame, IsBlock}
-use Rattle.base.specs.tree.Places.{Place, kind_of, number_of}
+use Rattle.base.specs.tree.Places.{Place, kind_of, number_of_place}
 use Rattle.base.specs.tree.Places.Place.{Indirect}
 use Rattle.base.specs.tree.PlannedTrees.{NewBlock, IsNewAt}
 use Rattle.space.specs.FreeSets.{free_from}
@@ -64,7 +64,7 @@ goes_on flags next index blocks after block freed released frame pushed here low
 -- and it stands at its place
 pub written_at : (s : Progress) (blocks : List NewBlock) (block : NewBlock) (index kind number : ℕ) (place : Place) (old new : Pointer) (payload : List ℕ)
     → s.blocks ≡ blocks ++ block ∷ [] → block.address ≡ block_address index → index < s.frame.blocks → new.address ≡ block_address index → new.birth ≡ s.frame.group
-    → new.check ≡ part block.content 32 32 → kind ≡ kind_of place → number ≡ number_of place → IsBlock block.content kind s.frame.guid s.frame.group number payload
+    → new.check ≡ part block.content 32 32 → kind ≡ kind_of place → number ≡ number_of_place place → IsBlock block.content kind s.frame.guid s.frame.group number payload
     → (old ≢ no_pointer → IsAmong s.freed old.address) → IsWritten s place old new payload
 written_at s blocks block index kind number place old new payload pushed here low address birth check kind_is number_is sealed freed = record {
   block = record {

@@ -45,5 +45,5 @@ abbrev pub AreBornBefore : ℕ → (Place → Pointer) → Type 0
 AreBornBefore group pointers = (place : Place) → IsPlace place → (pointers place).birth < group
 
 -- whose blocks a plan makes: of the version that is written, of this pool, on a device of so many bytes, of this group
-abbrev pub frame_of : ℕ → ℕ → ℕ → Frame
-frame_of guid size group = record { version = written_version; guid = guid; blocks = block_count size; group = group }
+abbrev pub written_frame : ℕ → ℕ → ℕ → Frame
+written_frame guid size group = record { version = written_version; guid = guid; blocks = block_count size; group = group }

@@ -1,7 +1,7 @@
 //! The places of a tree that blocks are planned for.
 
 ghost use Rattle.std.specs.Prelude.{◌≡◌};
-ghost use Rattle.base.specs.tree.Places.{IsPlace, kind_of, number_of};
+ghost use Rattle.base.specs.tree.Places.{IsPlace, kind_of, number_of_place};
 ghost use Rattle.tree_plans.specs.Plans.{place_of};
 
 use base::{ObjectId, POINTER_COUNT};
@@ -39,7 +39,7 @@ impl BlockPlace {
     /// The number field of its block.
     pub fn number(self) -> u64
         requires { IsPlace (place_of self) }
-        ensures { result ≡ number_of (place_of self) }
+        ensures { result ≡ number_of_place (place_of self) }
     {
         match self {
             BlockPlace::Root => 0,

@@ -15,7 +15,7 @@ ghost use Rattle.base.specs.stored.Stored.{AreUsed};
 ghost use Rattle.object_maps.specs.ContentsShown.{contents_of};
 ghost use Rattle.object_maps.specs.Pointers.{pointer_of_list};
 ghost use Rattle.space.specs.FreeSets.{addresses_from};
-ghost use Rattle.tree_plans.specs.Changes.{AreBornBefore, AreChanges, AreInRange, HasNoOthers, IsCoveredBy, frame_of, is_marked};
+ghost use Rattle.tree_plans.specs.Changes.{AreBornBefore, AreChanges, AreInRange, HasNoOthers, IsCoveredBy, written_frame, is_marked};
 ghost use Rattle.tree_plans.specs.declared.planner.DirtyRecords.{DirtyRecords};
 ghost use Rattle.tree_plans.specs.declared.planner.PlannedBlock.{PlannedBlock};
 ghost use Rattle.tree_plans.specs.Order.{Adds, AreInOrder, address_if, addresses_of, addresses_where, all_addresses, object_addresses};
@@ -80,7 +80,7 @@ pub fn plan(
     ensures taken { IfOk result (λ p. map address_of p.blocks.items ≡ take (length p.blocks.items) (addresses_from 0 source.now.free.now.flags.items)) }
     ensures planned { IfOk result (λ p. (before : FinMap nat_cmp (List ℕ)) → IsCoveredBy objects.now.entries before (contents_of source.now.contents.now).objects
         → AreChanges objects.now.entries (contents_of source.now.contents.now).objects → HasNoOthers (pointers_of source.now.tree.now) (contents_of source.now.contents.now).objects
-        → IsTreePlan (map new_block p.blocks.items) (frame_of source.now.guid source.now.geometry source.now.group.0) (pointers_of source.now.tree.now) (planned_pointers source.now.tree.now p) before (contents_of source.now.contents.now).objects) }
+        → IsTreePlan (map new_block p.blocks.items) (written_frame source.now.guid source.now.geometry source.now.group.0) (pointers_of source.now.tree.now) (planned_pointers source.now.tree.now p) before (contents_of source.now.contents.now).objects) }
     ensures placed { IfOk result (λ p. ArePlaced (block_count source.now.geometry) (pointers_of source.now.tree.now) → ArePlaced (block_count source.now.geometry) (planned_pointers source.now.tree.now p)) }
     ensures returned { IfOk result (λ p. ArePlaced (block_count source.now.geometry) (pointers_of source.now.tree.now) → All (λ address. IsBlockAddress (block_count source.now.geometry) address) p.freed.items) }
     ensures freed { IfOk result (λ p. AreBornBefore source.now.group.0 (pointers_of source.now.tree.now) → AreFreed (pointers_of source.now.tree.now) (planned_pointers source.now.tree.now p) p.freed.items) }

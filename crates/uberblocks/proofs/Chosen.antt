@@ -5,13 +5,13 @@ use Rattle.base.specs.formats.Geometry.{slot_of}
 use Rattle.base.specs.formats.Uberblocks.{Uberblock as Fields}
 use Rattle.uberblocks.specs.declared.uberblock.Uberblock.{Uberblock}
 use Rattle.uberblocks.specs.Slots.{fields_of}
-use Rattle.uberblocks.specs.Rings.{StandsAt, StandsInRing, IsBetterAt, IsActiveInRing, HasNoneInRing, is_above, position_of}
+use Rattle.uberblocks.specs.Rings.{StandsAtPosition, StandsInRing, IsBetterAt, IsActiveInRing, HasNoneInRing, is_above, position_of}
 use Rattle.uberblocks.proofs.SlotReads.{readings_agree}
 use Rattle.uberblocks.proofs.Places.{StandsInRing-at, StandsAt-count, count_of, label-position_of, slot_below}
 
 -- an uberblock stands at the position that is looked at after so many others
 abbrev StandsAfter : List ℕ → ℕ → Fields → Type 0
-StandsAfter ring count u = StandsAt ring (position_of count) u
+StandsAfter ring count u = StandsAtPosition ring (position_of count) u
 
 -- of those that stand at the first n positions that are looked at the one of the highest group, and the first that has that group
 pub record IsFirstHighest (ring : List ℕ) (n : ℕ) (u : Fields) : Type 0 where

@@ -6,7 +6,7 @@ use Rattle.base.specs.declared.pointer.Pointer.{Pointer}
 use Rattle.base.specs.formats.Uberblocks.{Uberblock as Fields, IsUberblock, IsSealedSlot}
 use Rattle.base.specs.formats.Versions.{version_of}
 use Rattle.base.specs.declared.version.Version.{Version}
-use Rattle.base.proofs.formats.Versions.{version_of-number_of}
+use Rattle.base.proofs.formats.Versions.{version_of-number_of_version}
 use Rattle.base.proofs.crash.OneMount.{one-reading}
 use Rattle.uberblocks.specs.declared.uberblock.Uberblock.{Uberblock}
 use Rattle.uberblocks.specs.Slots.{fields_of, fields_at, zeros, HasMagic, HasZeros, IsWithinLimits}
@@ -73,7 +73,7 @@ made_of version f =
 -- values with the same fields are the same
 pub fields_of-same : (u v : Uberblock) → fields_of u ≡ fields_of v → u ≡ v
 fields_of-same u v e =
-    let version : u.version ≡ v.version = sym (version_of-number_of u.version) ∙ ap (λ (f : Fields). version_of f.version) e ∙ version_of-number_of v.version in
+    let version : u.version ≡ v.version = sym (version_of-number_of_version u.version) ∙ ap (λ (f : Fields). version_of f.version) e ∙ version_of-number_of_version v.version in
     λ i. made_of (version i) (e i)
 
 -- bytes of which each is zero are so many zeros, and the other way round

@@ -2,7 +2,7 @@
 use Rattle.std.specs.Prelude.{ℕ, ◌≡◌, ◌≤◌, ◌<◌, ◌^◌, true, List, ◌++◌, length, replicate}
 use Rattle.sha2.specs.Sha256.{sha256}
 use Rattle.base.specs.formats.Limits.{first_group, last_number}
-use Rattle.base.specs.formats.Versions.{is_version_known, number_of}
+use Rattle.base.specs.formats.Versions.{is_version_known, number_of_version}
 use Rattle.base.specs.formats.Fields.{part, number_at, number_bytes, pointer_at, pointer_bytes}
 use Rattle.base.specs.formats.Uberblocks.{Uberblock as Fields, IsUberblock}
 use Rattle.uberblocks.specs.declared.uberblock.Uberblock.{Uberblock}
@@ -10,7 +10,7 @@ use Rattle.uberblocks.specs.declared.uberblock.Uberblock.{Uberblock}
 -- the fields that definitions of images speak of
 abbrev pub fields_of : Uberblock → Fields
 fields_of u =
-    record { version = number_of u.version; group = u.group.0; guid = u.guid; moment = u.moment; root = u.root; import_number = u.import_number; log_address = u.log_address; log_number = u.log_number }
+    record { version = number_of_version u.version; group = u.group.0; guid = u.guid; moment = u.moment; root = u.root; import_number = u.import_number; log_address = u.log_address; log_number = u.log_number }
 
 -- what stands in the places of the fields, whatever the bytes hold
 unfoldable pub fields_at : List ℕ → Fields

@@ -6,7 +6,7 @@ ghost use Rattle.sha2.specs.Sha256.{sha256};
 ghost use Rattle.base.specs.disk.Disk.{put};
 ghost use Rattle.base.specs.formats.Limits.{first_group, last_number};
 ghost use Rattle.base.specs.formats.Fields.{number_at};
-ghost use Rattle.base.specs.formats.Versions.{number_of};
+ghost use Rattle.base.specs.formats.Versions.{number_of_version};
 ghost use Rattle.base.specs.formats.Uberblocks.{IsSealedSlot, IsUberblock};
 ghost use Rattle.uberblocks.specs.Slots.{FieldsFit, HasMagic, HasZeros, HoldsNoUberblock, IsWithinLimits, field_bytes, fields_at, fields_of, slot_bytes, zeros};
 
@@ -102,7 +102,7 @@ impl Uberblock {
     /// The fields of a slot of this version, whatever it holds.
     fn read_fields(bytes: &[u8], version: Version) -> Uberblock
         requires size { length bytes.now ≡ 1024 }
-        requires version { number_of version ≡ number_at bytes.now 8 }
+        requires version { number_of_version version ≡ number_at bytes.now 8 }
         ensures { fields_of result ≡ fields_at bytes.now }
     {
         Uberblock {

@@ -65,7 +65,7 @@ IfPool (Device device) P = ⊥
 IfPool (Pool pool) P = P pool
 
 -- the import of a device with this limit and moment left this device and mounted this
-pub record IsImported (dirty_max moment : ℕ) (old device : MemState) (mounted : Mounted) : Type 0 where
+pub record IsDeviceImported (dirty_max moment : ℕ) (old device : MemState) (mounted : Mounted) : Type 0 where
   pub limit : mounted.dirty_max ≡ dirty_max
   pub synced : IsImportSynced old.disk device.disk moment mounted
 
@@ -73,7 +73,7 @@ pub record IsImported (dirty_max moment : ℕ) (old device : MemState) (mounted 
 pub record IsImportOn (dirty_max moment : ℕ) (old : MemState) (told : Answer) (new : Place) : Type 0 where
   pub device : MemState
   pub mounted : Mounted
-  pub imported : IsImported dirty_max moment old device mounted
+  pub imported : IsDeviceImported dirty_max moment old device mounted
   pub told_is : told ≡ answer_of mounted
   pub pool : IfPool new (IsPoolOf device mounted moment)
 

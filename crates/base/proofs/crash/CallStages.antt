@@ -10,7 +10,7 @@ use Rattle.base.specs.crash.Views.{View, IsFixed}
 use Rattle.base.specs.crash.Own.{IsAtRest, IsPhase}
 use Rattle.base.specs.crash.Spares.{Spares, SparesSlot}
 use Rattle.base.specs.crash.SyncCalls.{PoolCall}
-use Rattle.base.specs.crash.CallStages.{Makes, AreMade, AreBegun, KeepsCall, KeepCalls, FixedLabels, IsAtRestAt, SparesAt, IsQuiet, AreQuiet, IsSlotCall, IsBetweenAt, IsSwitching, AreSlotCalls, AreAllMade, IsLastPath, IsSyncPath}
+use Rattle.base.specs.crash.CallStages.{MakesPoolCall, AreMade, AreBegun, KeepsCall, KeepCalls, FixedLabels, IsAtRestAt, SparesAt, IsQuiet, AreQuiet, IsSlotCall, IsBetweenAt, IsSwitching, AreSlotCalls, AreAllMade, IsLastPath, IsSyncPath}
 use Rattle.base.specs.crash.SyncCalls.PoolCall.{Put, Settle}
 use Rattle.base.proofs.disk.Put.{part-put_same}
 use Rattle.base.proofs.disk.Moments.{starts, goes_on, joins, weaker, latest, each_write, each_flush, bytes_may_be_left}
@@ -23,11 +23,11 @@ made_of_all (c ∷ cs) disk new (mid, makes, rest) = inr (inl (mid, makes, made_
 
 -- what each call keeps, each moment of the calls keeps, whatever they answer and wherever they stop
 module _ (t : ℕ) (P : Moment → Type 0) where
-  pub each_call : (c : PoolCall) (old disk new : Disk) (r : Result (Unit {0}) PoolError) → t ≤ moments disk → KeepsCall t P c → EachMoment P old disk → Makes c disk r new → EachMoment P old new
+  pub each_call : (c : PoolCall) (old disk new : Disk) (r : Result (Unit {0}) PoolError) → t ≤ moments disk → KeepsCall t P c → EachMoment P old disk → MakesPoolCall c disk r new → EachMoment P old new
   each_call (Put place content) old disk new r began keeps so_far makes = each_write P old disk new place content r so_far makes (λ done p. keeps (moments disk) done disk.now began p)
   each_call Settle old disk new r began keeps so_far makes = each_flush P old disk new r so_far makes (keeps disk.now)
 
-  later : (c : PoolCall) (disk new : Disk) → t ≤ moments disk → Makes c disk (Ok tt) new → t ≤ moments new
+  later : (c : PoolCall) (disk new : Disk) → t ≤ moments disk → MakesPoolCall c disk (Ok tt) new → t ≤ moments new
   later (Put place content) disk new began makes = let more : moments new ≡ suc (moments disk) = ap (λ (d : Disk). moments d) makes in omega (arith, began, more)
   later Settle disk new began makes = subst (λ (d : Disk). t ≤ moments d) (sym makes) (go disk.now.unflushed)
     where

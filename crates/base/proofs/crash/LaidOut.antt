@@ -10,8 +10,8 @@ use Rattle.base.specs.declared.operation.Op.{Op}
 use Rattle.base.specs.history.Contents.{Contents}
 use Rattle.base.specs.history.History.{Entry, replay, entries_above}
 use Rattle.base.specs.formats.Records.{Record}
-use Rattle.base.specs.formats.Chain.{LogBlock, records_of}
-use Rattle.base.specs.crash.Mount.{Placed, placed_records, records_above, apply_records, entry_of}
+use Rattle.base.specs.formats.Chain.{LogBlock, records_of_chain}
+use Rattle.base.specs.crash.Mount.{Placed, placed_records, records_above, apply_records, entry_of_record}
 use Rattle.base.specs.steps.Logs.{KeptBlock, Committed, committed_of, committed_above, committed_entries}
 use Rattle.base.specs.crash.Layout.{IsBlockOf}
 use Rattle.base.proofs.history.CommitOrder.{All-each}
@@ -68,19 +68,19 @@ module _ (entries : List Entry) where
   abbrev AreBlocksOf : List KeptBlock → List LogBlock → Type 0
   AreBlocksOf ks chain = (i : ℕ) (k : KeptBlock) (b : LogBlock) → slice_get ks i ≡ Some k → slice_get chain i ≡ Some b → IsBlockOf entries k b
 
-  chain-ops : (ks : List KeptBlock) (chain : List LogBlock) → AreBlocksOf ks chain → length chain ≤ length ks → All HasItsOps (records_of chain)
+  chain-ops : (ks : List KeptBlock) (chain : List LogBlock) → AreBlocksOf ks chain → length chain ≤ length ks → All HasItsOps (records_of_chain chain)
   chain-ops ks [] are short = All-nil HasItsOps
   chain-ops [] (b ∷ bs) are short = absurd (omega (arith, short))
-  chain-ops (k ∷ ks) (b ∷ bs) are short = All-append HasItsOps b.records (records_of bs) (block-ops k b (are zero k b refl refl)) (chain-ops ks bs (λ i. are (suc i)) (omega (arith, short)))
+  chain-ops (k ∷ ks) (b ∷ bs) are short = All-append HasItsOps b.records (records_of_chain bs) (block-ops k b (are zero k b refl refl)) (chain-ops ks bs (λ i. are (suc i)) (omega (arith, short)))
 
   chain-noted : (ks : List KeptBlock) (chain : List LogBlock) → AreBlocksOf ks chain → length chain ≤ length ks
-      → map committed_of (records_of chain) ≡ flat_map (λ (b : KeptBlock). b.committed) (take (length chain) ks)
+      → map committed_of (records_of_chain chain) ≡ flat_map (λ (b : KeptBlock). b.committed) (take (length chain) ks)
   chain-noted ks [] are short = refl
   chain-noted [] (b ∷ bs) are short = absurd (omega (arith, short))
   chain-noted (k ∷ ks) (b ∷ bs) are short =
       let first : map committed_of b.records ≡ k.committed = (are zero k b refl refl).noted in
-      let rest : map committed_of (records_of bs) ≡ flat_map (λ (b : KeptBlock). b.committed) (take (length bs) ks) = chain-noted ks bs (λ i. are (suc i)) (omega (arith, short)) in
-      map-append committed_of b.records (records_of bs) ∙ (λ i. first i ++ rest i)
+      let rest : map committed_of (records_of_chain bs) ≡ flat_map (λ (b : KeptBlock). b.committed) (take (length bs) ks) = chain-noted ks bs (λ i. are (suc i)) (omega (arith, short)) in
+      map-append committed_of b.records (records_of_chain bs) ∙ (λ i. first i ++ rest i)
 
   ops-noted : (rs : List Record) → All HasItsOps rs → map (λ (r : Record). r.ops) rs ≡ map (λ (c : Committed). ops_at c.ordinal) (map committed_of rs)
   ops-noted [] all = refl
@@ -103,7 +103,7 @@ module _ (entries : List Entry) where
       go first false rest = rest
 
 -- placed records, without their places
-placed-ops : (group : ℕ) (ps : List Placed) → map (λ (e : Entry). e.ops) (map (λ (p : Placed). entry_of p.logged) (filter (λ (p : Placed). nat_lt group p.logged.group) ps))
+placed-ops : (group : ℕ) (ps : List Placed) → map (λ (e : Entry). e.ops) (map (λ (p : Placed). entry_of_record p.logged) (filter (λ (p : Placed). nat_lt group p.logged.group) ps))
     ≡ map (λ (r : Record). r.ops) (filter (λ (r : Record). nat_lt group r.group) (map (λ (p : Placed). p.logged) ps))
 placed-ops group [] = refl
 placed-ops group (p ∷ ps) = go (nat_lt group p.logged.group) (placed-ops group ps)
@@ -114,8 +114,8 @@ placed-ops group (p ∷ ps) = go (nat_lt group p.logged.group) (placed-ops group
     plain : List Record
     plain = filter (λ (r : Record). nat_lt group r.group) (map (λ (q : Placed). q.logged) ps)
 
-    go : (b : Bool) → map (λ (e : Entry). e.ops) (map (λ (q : Placed). entry_of q.logged) placed) ≡ map (λ (r : Record). r.ops) plain
-        → map (λ (e : Entry). e.ops) (map (λ (q : Placed). entry_of q.logged) (cond b (p ∷ placed) placed)) ≡ map (λ (r : Record). r.ops) (cond b (p.logged ∷ plain) plain)
+    go : (b : Bool) → map (λ (e : Entry). e.ops) (map (λ (q : Placed). entry_of_record q.logged) placed) ≡ map (λ (r : Record). r.ops) plain
+        → map (λ (e : Entry). e.ops) (map (λ (q : Placed). entry_of_record q.logged) (cond b (p ∷ placed) placed)) ≡ map (λ (r : Record). r.ops) (cond b (p.logged ∷ plain) plain)
     go true rest = ap (λ os. p.logged.ops ∷ os) rest
     go false rest = rest
 
@@ -123,7 +123,7 @@ unplaced : (address : ℕ) (rs : List Record) → map (λ (p : Placed). p.logged
 unplaced address [] = refl
 unplaced address (r ∷ rs) = ap (λ xs. r ∷ xs) (unplaced address rs)
 
-chain-unplaced : (chain : List LogBlock) → map (λ (p : Placed). p.logged) (placed_records chain) ≡ records_of chain
+chain-unplaced : (chain : List LogBlock) → map (λ (p : Placed). p.logged) (placed_records chain) ≡ records_of_chain chain
 chain-unplaced [] = refl
 chain-unplaced (b ∷ bs) = map-append (λ (p : Placed). p.logged) _ (placed_records bs) ∙ (λ i. unplaced b.address b.records i ++ chain-unplaced bs i)
 
@@ -143,12 +143,12 @@ chain_replays entries group ks chain zs base are short order =
     sym (append_assoc (committed_above group (noted front)) (committed_above group (noted back)) zs) ∙ ap (λ cs. cs ++ zs) (sym split) ∙ order in
     let f = front-filter (λ (r : Committed). nat_lt group r.group) (committed_entries entries) (committed_above group (noted front)) (committed_above group (noted back) ++ zs) joined in
     let same : committed_above group (noted front) ≡ committed_above group (committed_entries (take f.0 entries)) = sym f.1 ∙ ap (committed_above group) (take-noted 0 f.0 entries) in
-    let rs : List Record = filter (λ (r : Record). nat_lt group r.group) (records_of chain) in
-    let all : All (HasItsOps entries) rs = All-filter (λ (r : Record). nat_lt group r.group) (HasItsOps entries) (records_of chain) (chain-ops entries ks chain are short) in
-    let by_notes : map committed_of rs ≡ committed_above group (committed_entries (take f.0 entries)) = filter-noted group (records_of chain) ∙ ap (committed_above group) (chain-noted entries ks chain are short) ∙ same in
+    let rs : List Record = filter (λ (r : Record). nat_lt group r.group) (records_of_chain chain) in
+    let all : All (HasItsOps entries) rs = All-filter (λ (r : Record). nat_lt group r.group) (HasItsOps entries) (records_of_chain chain) (chain-ops entries ks chain are short) in
+    let by_notes : map committed_of rs ≡ committed_above group (committed_entries (take f.0 entries)) = filter-noted group (records_of_chain chain) ∙ ap (committed_above group) (chain-noted entries ks chain are short) ∙ same in
     let each : (i : ℕ) (x : Entry) → slice_get (take f.0 entries) i ≡ Some x → ops_at entries (0 + i) ≡ x.ops = λ i x at.
     let there : 0 + i ≡ i = omega arith in
     ap (ops_at entries) there ∙ ap (λ o. unwrap_or (option_map (λ (e : Entry). e.ops) o) []) (slice_get-of_take f.0 entries i x at) in
     let same_ops = placed-ops group (placed_records chain) ∙ ap (λ xs. map (λ (r : Record). r.ops) (filter (λ (r : Record). nat_lt group r.group) xs)) (chain-unplaced chain)
     ∙ ops-noted entries rs all ∙ ap (λ cs. map (λ (c : Committed). ops_at entries c.ordinal) cs) by_notes ∙ entries-noted entries group 0 (take f.0 entries) each in
-    (f.0, same, ops_count (map (λ (p : Placed). entry_of p.logged) (records_above group chain)) (entries_above group (take f.0 entries)) base same_ops)
+    (f.0, same, ops_count (map (λ (p : Placed). entry_of_record p.logged) (records_above group chain)) (entries_above group (take f.0 entries)) base same_ops)

@@ -9,7 +9,7 @@ use Rattle.base.specs.formats.Geometry.{block_size, block_count, block_address, 
 use Rattle.base.specs.formats.Blocks.{IsSealed}
 use Rattle.base.specs.formats.Uberblocks.{IsSealedSlot, slot_size}
 use Rattle.base.specs.disk.Disk.{Write, HandedSince}
-use Rattle.base.specs.disk.Fairness.{IsFair, passes_check, block_at, is_block_place, is_config_place, slot_at, is_slot_place, is_marked, label_numbers}
+use Rattle.base.specs.disk.Fairness.{IsFair, passes_check, block_at, is_block_place, is_config_place, slot_at, is_slot_place, begins_with_mark, label_numbers}
 
 or_first : (a b : Bool) → a ≡ true → (a || b) ≡ true
 or_first true b h = refl
@@ -46,7 +46,7 @@ slot_place_of size label slot labelled below =
     ∙ and_from _ _ (lt-ltb slot 128 below) (eq-eqb (slot_place size label slot) (slot_place size label slot) refl))
 
 -- bytes that begin with a number that is not 0
-pub marked : (bytes : List ℕ) (n : ℕ) → number_at bytes 0 ≡ suc n → is_marked bytes ≡ true
+pub marked : (bytes : List ℕ) (n : ℕ) → number_at bytes 0 ≡ suc n → begins_with_mark bytes ≡ true
 marked bytes n is = go (number_at bytes 0 == 0) refl
   where
     go : (b : Bool) → (number_at bytes 0 == 0) ≡ b → not b ≡ true
@@ -54,19 +54,19 @@ marked bytes n is = go (number_at bytes 0 == 0) refl
     go false same = refl
 
 module _ (size t : ℕ) (writes : List Write) (image : List ℕ) (fair : IsFair (passes_check size) t writes image) where
-  pub fair_block : (k : ℕ) → k < block_count size → IsSealed (part image (block_address k) block_size) → is_marked (part image (block_address k) block_size) ≡ true
+  pub fair_block : (k : ℕ) → k < block_count size → IsSealed (part image (block_address k) block_size) → begins_with_mark (part image (block_address k) block_size) ≡ true
       → HandedSince t writes (block_address k) (part image (block_address k) block_size)
-  fair_block k below sealed is_marked = fair (block_address k) block_size
-      (or_first _ _ (and_from _ _ (or_first (is_block_place size (block_address k)) (is_config_place size (block_address k)) (block_place size k below)) (and_from _ _ ((bytes_eq-Decides _ _).1 sealed) is_marked)))
+  fair_block k below sealed begins_with_mark = fair (block_address k) block_size
+      (or_first _ _ (and_from _ _ (or_first (is_block_place size (block_address k)) (is_config_place size (block_address k)) (block_place size k below)) (and_from _ _ ((bytes_eq-Decides _ _).1 sealed) begins_with_mark)))
 
-  pub fair_config : (label : ℕ) → label < 4 → IsSealed (part image (config_place size label) block_size) → is_marked (part image (config_place size label) block_size) ≡ true
+  pub fair_config : (label : ℕ) → label < 4 → IsSealed (part image (config_place size label) block_size) → begins_with_mark (part image (config_place size label) block_size) ≡ true
       → HandedSince t writes (config_place size label) (part image (config_place size label) block_size)
-  fair_config label labelled sealed is_marked = fair (config_place size label) block_size
+  fair_config label labelled sealed begins_with_mark = fair (config_place size label) block_size
       (or_first _ _ (and_from _ _ (or_second (is_block_place size (config_place size label)) (is_config_place size (config_place size label))
       (a_label (λ l. config_place size label == config_place size l) label labelled (eq-eqb (config_place size label) (config_place size label) refl)))
-      (and_from _ _ ((bytes_eq-Decides _ _).1 sealed) is_marked)))
+      (and_from _ _ ((bytes_eq-Decides _ _).1 sealed) begins_with_mark)))
 
-  pub fair_slot : (label slot : ℕ) → label < 4 → slot < 128 → IsSealedSlot (part image (slot_place size label slot) slot_size) → is_marked (part image (slot_place size label slot) slot_size) ≡ true
+  pub fair_slot : (label slot : ℕ) → label < 4 → slot < 128 → IsSealedSlot (part image (slot_place size label slot) slot_size) → begins_with_mark (part image (slot_place size label slot) slot_size) ≡ true
       → HandedSince t writes (slot_place size label slot) (part image (slot_place size label slot) slot_size)
-  fair_slot label slot labelled below sealed is_marked = fair (slot_place size label slot) slot_size
-      (and_from _ _ (slot_place_of size label slot labelled below) (and_from _ _ ((bytes_eq-Decides _ _).1 sealed) is_marked))
+  fair_slot label slot labelled below sealed begins_with_mark = fair (slot_place size label slot) slot_size
+      (and_from _ _ (slot_place_of size label slot labelled below) (and_from _ _ ((bytes_eq-Decides _ _).1 sealed) begins_with_mark))

@@ -9,7 +9,7 @@ use Rattle.base.specs.formats.Geometry.{IsGeometry, IsBlockAddress, block_size, 
 use Rattle.base.specs.formats.Blocks.{is_sealed}
 use Rattle.base.specs.formats.Uberblocks.{slot_size, is_sealed_slot}
 use Rattle.base.specs.disk.Disk.{Moment, HandedSince, bytes_of, handed, wrote, settled, Apart}
-use Rattle.base.specs.disk.Fairness.{HasFairBytes, IsCheckedPlace, passes_check, block_at, is_block_place, is_config_place, slot_at, is_slot_place, is_marked, label_numbers}
+use Rattle.base.specs.disk.Fairness.{HasFairBytes, IsCheckedPlace, passes_check, block_at, is_block_place, is_config_place, slot_at, is_slot_place, begins_with_mark, label_numbers}
 use Rattle.base.proofs.disk.Put.{length-put, part-put_same, part-put_apart}
 use Rattle.base.proofs.disk.Fairness.{fair_settled}
 use Rattle.base.proofs.formats.Geometry.{IsSize, IsGeometry-IsSize, labels-apart, blocks-end}
@@ -37,14 +37,14 @@ is_slot_of size place l = nat_lt (slot_at size l place) 128 && (place == slot_pl
 -- what passes the test is a place that the format checks
 pub passes-checked : (size place n : ℕ) (bytes : List ℕ) → passes_check size place n bytes ≡ true → IsCheckedPlace size place n
 passes-checked size place n bytes passes =
-    elim (or_cases ((n == block_size) && ((is_block_place size place || is_config_place size place) && (is_sealed bytes && is_marked bytes))) ((n == slot_size) && (is_slot_place size place && (is_sealed_slot bytes && is_marked bytes))) passes) [
+    elim (or_cases ((n == block_size) && ((is_block_place size place || is_config_place size place) && (is_sealed bytes && begins_with_mark bytes))) ((n == slot_size) && (is_slot_place size place && (is_sealed_slot bytes && begins_with_mark bytes))) passes) [
       | inl whole ↦
-          let parts = and_parts (n == block_size) ((is_block_place size place || is_config_place size place) && (is_sealed bytes && is_marked bytes)) whole in
-          let of = and_parts (is_block_place size place || is_config_place size place) (is_sealed bytes && is_marked bytes) parts.1 in
+          let parts = and_parts (n == block_size) ((is_block_place size place || is_config_place size place) && (is_sealed bytes && begins_with_mark bytes)) whole in
+          let of = and_parts (is_block_place size place || is_config_place size place) (is_sealed bytes && begins_with_mark bytes) parts.1 in
           inl (eqb-true n block_size parts.0, of_block (or_cases (is_block_place size place) (is_config_place size place) of.0))
       | inr slot ↦
-          let parts = and_parts (n == slot_size) (is_slot_place size place && (is_sealed_slot bytes && is_marked bytes)) slot in
-          let of = and_parts (is_slot_place size place) (is_sealed_slot bytes && is_marked bytes) parts.1 in
+          let parts = and_parts (n == slot_size) (is_slot_place size place && (is_sealed_slot bytes && begins_with_mark bytes)) slot in
+          let of = and_parts (is_slot_place size place) (is_sealed_slot bytes && begins_with_mark bytes) parts.1 in
           let label = some_label (is_slot_of size place) of.0 in
           let at = and_parts (nat_lt (slot_at size label.0 place) 128) (place == slot_place size label.0 (slot_at size label.0 place)) label.2 in
           inr (eqb-true n slot_size parts.0, (label.0, slot_at size label.0 place, label.1, ltb-true (slot_at size label.0 place) 128 at.0, eqb-true place (slot_place size label.0 (slot_at size label.0 place)) at.1))
@@ -61,18 +61,18 @@ passes-checked size place n bytes passes =
 -- and begins with a number that is not 0
 pub passes-marked : (size place n : ℕ) (bytes : List ℕ) → passes_check size place n bytes ≡ true → number_at bytes 0 ≡ 0 → ⊥
 passes-marked size place n bytes passes zeros =
-    elim (or_cases ((n == block_size) && ((is_block_place size place || is_config_place size place) && (is_sealed bytes && is_marked bytes))) ((n == slot_size) && (is_slot_place size place && (is_sealed_slot bytes && is_marked bytes))) passes) as (λ _. ⊥) [
+    elim (or_cases ((n == block_size) && ((is_block_place size place || is_config_place size place) && (is_sealed bytes && begins_with_mark bytes))) ((n == slot_size) && (is_slot_place size place && (is_sealed_slot bytes && begins_with_mark bytes))) passes) as (λ _. ⊥) [
       | inl whole ↦
-          let parts = and_parts (n == block_size) ((is_block_place size place || is_config_place size place) && (is_sealed bytes && is_marked bytes)) whole in
-          let of = and_parts (is_block_place size place || is_config_place size place) (is_sealed bytes && is_marked bytes) parts.1 in
-          not_zero (and_parts (is_sealed bytes) (is_marked bytes) of.1).1
+          let parts = and_parts (n == block_size) ((is_block_place size place || is_config_place size place) && (is_sealed bytes && begins_with_mark bytes)) whole in
+          let of = and_parts (is_block_place size place || is_config_place size place) (is_sealed bytes && begins_with_mark bytes) parts.1 in
+          not_zero (and_parts (is_sealed bytes) (begins_with_mark bytes) of.1).1
       | inr slot ↦
-          let parts = and_parts (n == slot_size) (is_slot_place size place && (is_sealed_slot bytes && is_marked bytes)) slot in
-          let of = and_parts (is_slot_place size place) (is_sealed_slot bytes && is_marked bytes) parts.1 in
-          not_zero (and_parts (is_sealed_slot bytes) (is_marked bytes) of.1).1
+          let parts = and_parts (n == slot_size) (is_slot_place size place && (is_sealed_slot bytes && begins_with_mark bytes)) slot in
+          let of = and_parts (is_slot_place size place) (is_sealed_slot bytes && begins_with_mark bytes) parts.1 in
+          not_zero (and_parts (is_sealed_slot bytes) (begins_with_mark bytes) of.1).1
     ]
   where
-    not_zero : is_marked bytes ≡ true → ⊥
+    not_zero : begins_with_mark bytes ≡ true → ⊥
     not_zero is = false≢true (ap (λ (b : Bool). not b) (sym (eq-eqb (number_at bytes 0) 0 zeros)) ∙ is)
 
 module _ (size : ℕ) (g : IsGeometry size) where

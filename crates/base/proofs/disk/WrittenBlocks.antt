@@ -14,7 +14,7 @@ use Rattle.base.specs.disk.Disk.{put, SameOutside, IsInRange, Apart}
 use Rattle.base.specs.tree.Places.{Place, IsPlace, IsInTree}
 use Rattle.base.specs.tree.Places.Place.{Root}
 use Rattle.base.specs.tree.PlacedTrees.{HoldsTree, ArePlaced}
-use Rattle.base.specs.tree.PlannedTrees.{NewBlock, IsTreePlan, SameBlock, StandsIn}
+use Rattle.base.specs.tree.PlannedTrees.{NewBlock, IsTreePlan, SameBlock, IsBlockWritten}
 pub use Rattle.base.specs.stored.Stored.{AreBlocks, IsUnwritten, LeavesTree}
 use Rattle.base.proofs.disk.Put.{length-put, part-put_same, part-put_apart, part_same}
 use Rattle.base.proofs.tree.PlacedTrees.{holds-placed, told-in_tree}
@@ -128,7 +128,7 @@ module _ (blocks : ℕ) where
       stands-in bs (put c.address c.content image) i b (rest-are c bs are) (omega (arith, long, room)) at
 
   pub new-stand : (bs : List NewBlock) (image : List ℕ) → AreBlocks blocks bs → block_area + block_size * blocks ≤ length image
-      → (i : ℕ) (b : NewBlock) → slice_get bs i ≡ Some b → StandsIn (put_blocks bs image) blocks b
+      → (i : ℕ) (b : NewBlock) → slice_get bs i ≡ Some b → IsBlockWritten (put_blocks bs image) blocks b
   new-stand bs image are room i b at = record { in_area = are.in_area i b at; stands = stands-in bs image i b are room at }
 
   -- the blocks of a tree that has none of these addresses are as before

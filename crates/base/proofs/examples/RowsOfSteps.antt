@@ -63,10 +63,10 @@ abbrev busy : Shown
 busy = record fresh { locks = writer 0 100 ∷ []; transactions = open_write ∷ [] }
 
 -- its begin of a write of [2, 6) is busy, one outside its lock is not locked, and its lock is in use
-row_busy : refusal.begin_refusal 1 (shape.Write (object 1) 2 4 ∷ []) busy ≡ Some error.Busy
+row_busy : refusal.whole_begin_refusal 1 (shape.Write (object 1) 2 4 ∷ []) busy ≡ Some error.Busy
 row_busy = refl
 
-row_not_locked : refusal.begin_refusal 1 (shape.Write (object 1) 98 4 ∷ []) busy ≡ Some error.NotLocked
+row_not_locked : refusal.whole_begin_refusal 1 (shape.Write (object 1) 98 4 ∷ []) busy ≡ Some error.NotLocked
 row_not_locked = refl
 
 row_in_use : refusal.unlock_refusal 1 0 busy ≡ Some error.LockInUse
@@ -79,20 +79,20 @@ row_unlocked : refusal.unlock_refusal 1 0 (record busy { transactions = [] }) �
 row_unlocked = refl
 
 -- a plan of no shape, and one that is too large
-row_bad_range : refusal.begin_refusal 1 [] busy ≡ Some error.BadRange
+row_bad_range : refusal.whole_begin_refusal 1 [] busy ≡ Some error.BadRange
 row_bad_range = refl
 
-row_too_large : refusal.begin_refusal 1 (shape.Write (object 1) 0 3970 ∷ []) busy ≡ Some error.TooLarge
+row_too_large : refusal.whole_begin_refusal 1 (shape.Write (object 1) 0 3970 ∷ []) busy ≡ Some error.TooLarge
 row_too_large = refl
 
 -- a commit of a transaction that is not open, and one with other operations than its plan
-row_no_transaction : refusal.commit_refusal 1 (op.Create (object 1) ∷ []) busy ≡ Some error.NoSuchTransaction
+row_no_transaction : refusal.whole_commit_refusal 1 (op.Create (object 1) ∷ []) busy ≡ Some error.NoSuchTransaction
 row_no_transaction = refl
 
-row_out_of_plan : refusal.commit_refusal 0 (op.Write (object 1) 0 (codes "abc") ∷ []) busy ≡ Some error.OutOfPlan
+row_out_of_plan : refusal.whole_commit_refusal 0 (op.Write (object 1) 0 (codes "abc") ∷ []) busy ≡ Some error.OutOfPlan
 row_out_of_plan = refl
 
-row_no_object : refusal.commit_refusal 0 (op.Write (object 1) 0 (codes "abcd") ∷ []) busy ≡ Some error.NoObject
+row_no_object : refusal.whole_commit_refusal 0 (op.Write (object 1) 0 (codes "abcd") ∷ []) busy ≡ Some error.NoObject
 row_no_object = simp (finite.get-empty {X = List ℕ} nat_cmp) refl
 
 -- a read without a lock, and one under a lock of an absent object
@@ -106,10 +106,10 @@ row_read_no_object = simp (finite.get-empty {X = List ℕ} nat_cmp) refl
 abbrev closing : Shown
 closing = record busy { line = record { synced = 8; syncing = None; middle = Some (record { group = 9; quiesced = false }); open_group = 10 } }
 
-row_close : refusal.close_refusal fresh ≡ None
+row_close : refusal.whole_close_refusal fresh ≡ None
 row_close = refl
 
-row_close_again : refusal.close_refusal closing ≡ Some error.NotReady
+row_close_again : refusal.whole_close_refusal closing ≡ Some error.NotReady
 row_close_again = refl
 
 row_hold_left : refusal.quiesce_refusal closing ≡ Some error.NotReady
@@ -131,10 +131,10 @@ row_suspended = refl
 abbrev dirtied : Shown
 dirtied = record fresh { locks = writer 0 338688 ∷ []; dirty = finite.insert finite.empty 9 32768 }
 
-row_throttled : refusal.begin_refusal 1 (shape.Write (object 1) 0 4 ∷ []) dirtied ≡ Some error.Throttled
+row_throttled : refusal.whole_begin_refusal 1 (shape.Write (object 1) 0 4 ∷ []) dirtied ≡ Some error.Throttled
 row_throttled = simp (finite.get-empty {X = ℕ} nat_cmp, finite.get-insert {X = ℕ} nat_cmp_total) refl
 
-row_no_space : refusal.begin_refusal 1 (shape.Create (object 1) ∷ []) dirtied ≡ Some error.NoSpace
+row_no_space : refusal.whole_begin_refusal 1 (shape.Create (object 1) ∷ []) dirtied ≡ Some error.NoSpace
 row_no_space = simp (finite.get-empty {X = ℕ} nat_cmp, finite.get-insert {X = ℕ} nat_cmp_total, set.len-empty nat_cmp) refl
 
 -- an append of an absent object

@@ -16,8 +16,8 @@ use Rattle.base.specs.history.Plans.{shape_of, range_of, ranges, plan_ranges, Is
 use Rattle.base.specs.history.History.{Entry, Admitted, MayFollow, IsHistory}
 use Rattle.base.specs.steps.Groups.{Admission, admitted_of}
 use Rattle.base.specs.steps.Exact.{IsExact}
-use Rattle.base.specs.steps.Refusals.{Test, first_refusal, is_same_shape, is_same_plan, transaction_of, commit_tests, commit_refusal}
-use Rattle.base.specs.steps.Steps.{State, Answers, Commit}
+use Rattle.base.specs.steps.Refusals.{Test, first_refusal, is_same_shape, is_same_plan, transaction_of, commit_tests, whole_commit_refusal}
+use Rattle.base.specs.steps.Steps.{State, Answers, WholeCommit}
 use Rattle.std.proofs.lemmas.List.Elements.{All-head, All-tail, All-nil, All-cons}
 use Rattle.base.proofs.common.Sieves.{All-of_kept, kept-map}
 use Rattle.base.proofs.history.Projections.{plans_touch}
@@ -96,7 +96,7 @@ push-cases (z ∷ xs) x y zero h = inl h
 push-cases (z ∷ xs) x y (suc i) h = elim (push-cases xs x y i h) [ inl is ↦ inl is | inr is ↦ inr (ap suc is.0, is.1) ]
 
 -- the transaction that a commit finds, and that its operations have its plan's shapes
-pub found-plan : (tx : ℕ) (ops : List Op) (s : State) (a : Admission) → commit_refusal tx ops s.shown ≡ None → transaction_of tx s.shown ≡ Some a → map shape_of ops ≡ a.plan
+pub found-plan : (tx : ℕ) (ops : List Op) (s : State) (a : Admission) → whole_commit_refusal tx ops s.shown ≡ None → transaction_of tx s.shown ≡ Some a → map shape_of ops ≡ a.plan
 found-plan tx ops s a none found =
     let in_plan : option_map_or (λ (x : Admission). not (is_same_plan (map shape_of ops) x.plan)) (transaction_of tx s.shown) false ≡ false = no_refusal (commit_tests tx ops s.shown) none 2 _ refl in
     same_plan (map shape_of ops) a.plan (flip _ (sym (ap (λ o. option_map_or (λ (x : Admission). not (is_same_plan (map shape_of ops) x.plan)) o false) found) ∙ in_plan))
@@ -140,9 +140,9 @@ HasAllowedPlan a = (is_plan_allowed a.plan ≡ true) × (log_record_size a.plan 
 
 -- a commit makes the history longer by its entry
 pub commit-history : (tx : ℕ) (ops : List Op) (receipt : ℕ × ℕ) (old new : State) → IsExact old.shown old.past → IsHistory old.past.entries old.past.base old.shown.contents
-    → Commit tx ops (Ok receipt) old new → IsHistory new.past.entries new.past.base new.shown.contents
+    → WholeCommit tx ops (Ok receipt) old new → IsHistory new.past.entries new.past.base new.shown.contents
 commit-history tx ops receipt old new exact history h =
-    let done = ok-none (commit_refusal tx ops old.shown) receipt old new _ _ h in
+    let done = ok-none (whole_commit_refusal tx ops old.shown) receipt old new _ _ h in
     let a : Admission = done.1.0 in
     let place : ℕ = position_or_len (λ (x : Admission). x.tx == tx) old.shown.transactions in
     let at_a : slice_get old.shown.transactions place ≡ Some a = sym (find_at (λ (x : Admission). x.tx == tx) old.shown.transactions) ∙ done.1.2 in

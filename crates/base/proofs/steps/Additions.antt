@@ -13,8 +13,8 @@ use Rattle.base.specs.steps.Locks.{is_in}
 use Rattle.base.specs.history.Past.{Past, Grows, IsPrefixOf}
 use Rattle.base.specs.steps.Shown.{SyncPlan}
 use Rattle.base.specs.steps.Additions.{past_after}
-use Rattle.base.specs.steps.Steps.{State, Answers, Progress, IsProgress}
-use Rattle.base.specs.steps.Steps.Progress.{More, Synced}
+use Rattle.base.specs.steps.Steps.{State, Answers, SyncProgress, IsProgress}
+use Rattle.base.specs.steps.Steps.SyncProgress.{More, Synced}
 use Rattle.base.specs.steps.Runs.{Step, reply_of, progress_reply}
 use Rattle.base.specs.steps.ExactNow.{IsRun}
 use Rattle.base.proofs.history.CommitOrder.{ok-none}
@@ -38,7 +38,7 @@ by-answer s make given (Err e) r old new does own quiet same done is h =
       | inr owned ↦ same e owned ∙ sym (quiet e)
     ])
 
-progressed : (old new : State) (p : Progress) → ((group : ℕ) × (plan : SyncPlan) × (old.shown.line.syncing ≡ Some group) × (old.shown.sync ≡ Some plan) × IsProgress group p plan old new)
+progressed : (old new : State) (p : SyncProgress) → ((group : ℕ) × (plan : SyncPlan) × (old.shown.line.syncing ≡ Some group) × (old.shown.sync ≡ Some plan) × IsProgress group p plan old new)
     → new.past ≡ past_after step.SyncStep (progress_reply p) old
 progressed old new More d = ap (λ (x : State). x.past) d.4.1
 progressed old new (Synced g) d = rw d.4.1 (ap (λ (x : State). x.past) d.4.2)

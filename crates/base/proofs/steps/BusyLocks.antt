@@ -6,7 +6,7 @@ use Rattle.std.proofs.lemmas.Option.{slice_get_within}
 use Rattle.base.specs.declared.range.Mode.{Mode}
 use Rattle.base.specs.declared.range.Mode.TheVariants.{Reader, Writer}
 use Rattle.base.specs.history.Plans.{overlaps}
-use Rattle.base.specs.steps.Locks.{Grant, is_reader, is_blocked, IsSound}
+use Rattle.base.specs.steps.Locks.{Grant, is_reader, is_blocked, AreLocksSound}
 use Rattle.base.proofs.history.CommitOrder.{and-true, push-cases}
 
 pub or-false : (a b : Bool) → (a || b) ≡ false → (a ≡ false) × (b ≡ false)
@@ -49,7 +49,7 @@ not-false true h = refl
 not-false false h = absurd (let no_way : true ≡ false = h in cc)
 
 -- one that is not blocked may be granted
-pub granted-sound : (locks : List Grant) (g : Grant) → IsSound locks → is_blocked g.range g.mode locks ≡ false → IsSound (locks ++ g ∷ [])
+pub granted-sound : (locks : List Grant) (g : Grant) → AreLocksSound locks → is_blocked g.range g.mode locks ≡ false → AreLocksSound (locks ++ g ∷ [])
 granted-sound locks g sound free i j x y below at_i at_j overlap =
     elim (push-cases locks g x i at_i) as (λ _. (x.mode ≡ Reader) × (y.mode ≡ Reader)) [
       | inl at_i_old ↦ elim (push-cases locks g y j at_j) as (λ _. (x.mode ≡ Reader) × (y.mode ≡ Reader)) [
@@ -68,7 +68,7 @@ granted-sound locks g sound free i j x y below at_i at_j overlap =
     ]
 
 -- one that is blocked may not
-pub blocked-unsound : (locks : List Grant) (g : Grant) → is_blocked g.range g.mode locks ≡ true → IsSound (locks ++ g ∷ []) → ⊥
+pub blocked-unsound : (locks : List Grant) (g : Grant) → is_blocked g.range g.mode locks ≡ true → AreLocksSound (locks ++ g ∷ []) → ⊥
 blocked-unsound locks g blocked sound =
     let found : (i : ℕ) × (x : Grant) × (slice_get locks i ≡ Some x) × ((overlaps x.range g.range && not (is_reader x.mode && is_reader g.mode)) ≡ true) = some-passes (λ (h : Grant). overlaps h.range g.range && not (is_reader h.mode && is_reader g.mode)) locks blocked in
     let parts : (overlaps found.1.range g.range ≡ true) × (not (is_reader found.1.mode && is_reader g.mode) ≡ true) = and-true (overlaps found.1.range g.range) (not (is_reader found.1.mode && is_reader g.mode)) found.3 in

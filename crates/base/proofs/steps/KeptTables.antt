@@ -30,8 +30,8 @@ use Rattle.base.specs.crash.Imports.{IsImported}
 use Rattle.base.specs.steps.Refusals as refusal
 use Rattle.base.specs.steps.Refusals.{Test, refused_if, first_refusal}
 use Rattle.base.specs.steps.Steps as steps
-use Rattle.base.specs.steps.Steps.{State, Answers, Progress}
-use Rattle.base.specs.steps.Steps.Progress.{More, Synced}
+use Rattle.base.specs.steps.Steps.{State, Answers, SyncProgress}
+use Rattle.base.specs.steps.Steps.SyncProgress.{More, Synced}
 use Rattle.base.specs.steps.Stage as stage
 use Rattle.base.specs.steps.Runs.{Step}
 use Rattle.base.specs.steps.ExactNow.{IsExplainedNow, IsRun, IsLogStep}
@@ -159,16 +159,16 @@ later_none t ts none = go t.applies none
 ok_answer : {A : Type 0} (r : Option PoolError) (a : A) (old new : State) (does : A → Type 0) (own : PoolError → Type 0) → r ≡ None → does a → Answers r (Ok a) old new does own
 ok_answer {A} r a old new does own none d = subst (λ o. Answers o (Ok a) old new does own) (sym none) d
 
-commit_none : (tx : ℕ) (ops : List Op) (s : Shown) → stage.commit_refusal tx ops s ≡ None → refusal.commit_refusal tx ops s ≡ None
+commit_none : (tx : ℕ) (ops : List Op) (s : Shown) → stage.commit_refusal tx ops s ≡ None → refusal.whole_commit_refusal tx ops s ≡ None
 commit_none tx ops s none =
     let older : Test = refused_if (stage.has_older_group s.line) error.NotReady in
     later_none older (refusal.commit_tests tx ops s) (later_none (refused_if s.suspended error.Suspended) (older ∷ refusal.commit_tests tx ops s) none)
 
 -- a commit that is answered Ok is so where older groups count for nothing
-full_commit : (tx : ℕ) (ops : List Op) (receipt : ℕ × ℕ) (old new : State) → stage.Commit tx ops (Ok receipt) old new → steps.Commit tx ops (Ok receipt) old new
+full_commit : (tx : ℕ) (ops : List Op) (receipt : ℕ × ℕ) (old new : State) → stage.Commit tx ops (Ok receipt) old new → steps.WholeCommit tx ops (Ok receipt) old new
 full_commit tx ops receipt old new h =
     let done = ok-none (stage.commit_refusal tx ops old.shown) receipt old new _ _ h in
-    ok_answer (refusal.commit_refusal tx ops old.shown) receipt old new _ _ (commit_none tx ops old.shown done.0) done.1
+    ok_answer (refusal.whole_commit_refusal tx ops old.shown) receipt old new _ _ (commit_none tx ops old.shown done.0) done.1
 
 shape_range : (x : Shape) → is_shape_allowed x ≡ true → IsRange (range_of x)
 shape_range (shape.Create n) h = record { some = omega arith; within = omega arith }
@@ -186,7 +186,7 @@ plan_range (x ∷ xs) h =
     let p = and_parts (is_shape_allowed x) (list_all is_shape_allowed xs) h in
     All-cons IsRange (range_of x) (plan_ranges xs) (shape_range x p.0) (plan_range xs p.1)
 
-module _ (tx : ℕ) (ops : List Op) (receipt : ℕ × ℕ) (old new : State) (x : IsExplainedState old) (none : refusal.commit_refusal tx ops old.shown ≡ None) (a : Admission) (contents : Contents)
+module _ (tx : ℕ) (ops : List Op) (receipt : ℕ × ℕ) (old new : State) (x : IsExplainedState old) (none : refusal.whole_commit_refusal tx ops old.shown ≡ None) (a : Admission) (contents : Contents)
     (there : refusal.transaction_of tx old.shown ≡ Some a) (applied : apply_all ops old.shown.contents ≡ Ok contents) (allowed : list_all is_content_allowed ops ≡ true)
     (admitted : AreAdmitted (steps.state_after_commit tx a.group ops contents old).past.entries (steps.state_after_commit tx a.group ops contents old).shown.line.open_group (map admitted_of (steps.state_after_commit tx a.group ops contents old).shown.transactions)) where
   abbrev s : Shown
@@ -411,12 +411,12 @@ suspended_state s x =
       history = x.history;
     }
 
-progress_step : (progress : Progress) (group : ℕ) (plan : SyncPlan) (old new : State) → IsExplainedState old → old.shown.line.syncing ≡ Some group → old.shown.sync ≡ Some plan
+progress_step : (progress : SyncProgress) (group : ℕ) (plan : SyncPlan) (old new : State) → IsExplainedState old → old.shown.line.syncing ≡ Some group → old.shown.sync ≡ Some plan
     → steps.IsProgress group progress plan old new → IsExplainedState new
 progress_step More group plan old new x syncing running h = subst IsExplainedState (sym h.1) (step_state plan old x running h.0)
 progress_step (Synced g) group plan old new x syncing running h = subst IsExplainedState (sym h.2) (sync_state group plan old x syncing running)
 
-sync_step : (answer : Result Progress PoolError) (old new : State) → IsExplainedState old → steps.SyncStep answer old new → IsExplainedState new
+sync_step : (answer : Result SyncProgress PoolError) (old new : State) → IsExplainedState old → steps.SyncStep answer old new → IsExplainedState new
 sync_step answer old new x h = by_answer answer (refusal.sync_step_refusal old.shown) old new _ _
     (λ progress none d. progress_step progress d.0 d.1 old new x d.2 d.3 d.4) (λ e own. subst IsExplainedState (sym own.1) (suspended_state old x)) x h
 

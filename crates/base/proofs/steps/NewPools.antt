@@ -5,7 +5,7 @@ use Rattle.std.specs.List.{flat_map}
 use Rattle.base.specs.history.Contents.{Contents}
 use Rattle.base.specs.history.History.{AreAdmitted}
 use Rattle.base.specs.steps.Groups.{Line, IsLine, Admission, admitted_of}
-use Rattle.base.specs.steps.Locks.{IsSound}
+use Rattle.base.specs.steps.Locks.{AreLocksSound}
 use Rattle.base.specs.formats.Uberblocks.{Uberblock}
 use Rattle.base.specs.history.Past.{Past, new_past}
 use Rattle.base.specs.steps.Logs.{KeptBlock, committed_of, committed_above}
@@ -30,7 +30,7 @@ module _ (u : Uberblock) (blocks : ℕ) (contents : Contents) (created dirty_max
   no_reserve g = ap (λ o. unwrap_or o 0) (i.reserved g)
 
   the_locks : AreLocksExact s the_past
-  the_locks = record { held = i.locks; sound = subst (λ locks. IsSound locks) (sym i.locks) (λ j k g h below at_j. cc); numbered = λ j g at. cc; next = i.next_lock; granted = λ j id at. cc }
+  the_locks = record { held = i.locks; sound = subst (λ locks. AreLocksSound locks) (sym i.locks) (λ j k g h below at_j. cc); numbered = λ j g at. cc; next = i.next_lock; granted = λ j id at. cc }
 
   the_line : IsLine s.line
   the_line = subst (λ l. IsLine l) (sym i.line) (record { first = omega arith; syncing = tt; middle = tt; open_group = omega arith; last = last })

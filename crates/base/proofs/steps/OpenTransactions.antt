@@ -12,8 +12,8 @@ use Rattle.base.specs.declared.operation.Shape.{Shape}
 use Rattle.base.specs.history.Plans.{ranges, plan_ranges, clash}
 use Rattle.base.specs.history.History.{Entry, Admitted, MayFollow, AreAdmitted}
 use Rattle.base.specs.steps.Groups.{Admission, admitted_of}
-use Rattle.base.specs.steps.Refusals.{is_plan_blocked, begin_tests, begin_refusal, commit_refusal, abort_refusal, close_refusal}
-use Rattle.base.specs.steps.Steps.{State, Begin, Commit, Abort, CloseGroup, transactions_without}
+use Rattle.base.specs.steps.Refusals.{is_plan_blocked, whole_begin_tests, whole_begin_refusal, whole_commit_refusal, abort_refusal, whole_close_refusal}
+use Rattle.base.specs.steps.Steps.{State, WholeBegin, WholeCommit, Abort, WholeCloseGroup, transactions_without}
 use Rattle.base.proofs.common.Sieves.{AllPairs-cons, AllPairs-head, AllPairs-tail}
 use Rattle.base.proofs.history.Conflicts.{clashes_turn}
 use Rattle.base.proofs.history.Projections.{plans_touch}
@@ -92,10 +92,10 @@ free_of_all plan (t ∷ ts) none =
     let p = or_parts (clash (plan_ranges plan) (plan_ranges t.plan)) (is_plan_blocked plan ts) none in
     All-cons (λ (a : Admitted). clash a.touches (plan_ranges plan) ≡ false) (admitted_of t) (map admitted_of ts) (clashes_turn (plan_ranges t.plan) (plan_ranges plan) ∙ p.0) (free_of_all plan ts p.1)
 
-pub begin-admitted : (owner : ℕ) (plan : List Shape) (a : ℕ × ℕ) (old new : State) → AreStillAdmitted old → Begin owner plan (Ok a) old new → AreStillAdmitted new
+pub begin-admitted : (owner : ℕ) (plan : List Shape) (a : ℕ × ℕ) (old new : State) → AreStillAdmitted old → WholeBegin owner plan (Ok a) old new → AreStillAdmitted new
 begin-admitted owner plan a old new are h =
-    let done = ok-none (begin_refusal owner plan old.shown) a old new _ _ h in
-    let none : is_plan_blocked plan old.shown.transactions ≡ false = no_refusal (begin_tests owner plan old.shown) done.0 4 _ refl in
+    let done = ok-none (whole_begin_refusal owner plan old.shown) a old new _ _ h in
+    let none : is_plan_blocked plan old.shown.transactions ≡ false = no_refusal (whole_begin_tests owner plan old.shown) done.0 4 _ refl in
     let group : ℕ = old.shown.line.open_group in
     let more : AreAdmitted old.past.entries group (map admitted_of old.shown.transactions ++ record { group = group; touches = plan_ranges plan } ∷ []) =
     begins_admit old.past.entries group (map admitted_of old.shown.transactions) (plan_ranges plan) are (free_of_all plan old.shown.transactions none) in
@@ -106,14 +106,14 @@ abort-admitted tx old new are h =
     let done = ok-none (abort_refusal tx old.shown) tt old new _ _ h in
     subst AreStillAdmitted (sym done.1.2) (filtered old.past.entries old.shown.line.open_group (λ (a : Admission). not (a.tx == tx)) old.shown.transactions are)
 
-pub close-admitted : (group : ℕ) (old new : State) → AreStillAdmitted old → CloseGroup (Ok group) old new → AreStillAdmitted new
+pub close-admitted : (group : ℕ) (old new : State) → AreStillAdmitted old → WholeCloseGroup (Ok group) old new → AreStillAdmitted new
 close-admitted group old new are h =
-    let done = ok-none (close_refusal old.shown) group old new _ _ h in
+    let done = ok-none (whole_close_refusal old.shown) group old new _ _ h in
     subst AreStillAdmitted (sym done.1.1) (closes_leave old.past.entries old.shown.line.open_group (map admitted_of old.shown.transactions) are)
 
-pub commit-admitted : (tx : ℕ) (ops : List Op) (receipt : ℕ × ℕ) (old new : State) → AreStillAdmitted old → Commit tx ops (Ok receipt) old new → AreStillAdmitted new
+pub commit-admitted : (tx : ℕ) (ops : List Op) (receipt : ℕ × ℕ) (old new : State) → AreStillAdmitted old → WholeCommit tx ops (Ok receipt) old new → AreStillAdmitted new
 commit-admitted tx ops receipt old new are h =
-    let done = ok-none (commit_refusal tx ops old.shown) receipt old new _ _ h in
+    let done = ok-none (whole_commit_refusal tx ops old.shown) receipt old new _ _ h in
     let a : Admission = done.1.0 in
     let ts : List Admission = old.shown.transactions in
     let place : ℕ = position_or_len (λ (x : Admission). x.tx == tx) ts in

@@ -12,8 +12,8 @@ use Rattle.base.specs.steps.Groups.{Line}
 use Rattle.base.specs.history.Past.{Grows}
 use Rattle.base.specs.steps.Logs.{KeptBlock, Committed, has_record, is_flushed_in}
 use Rattle.base.specs.steps.Shown.{SyncPlan, is_durable}
-use Rattle.base.specs.steps.Steps.{State, Answers, Progress, IsProgress}
-use Rattle.base.specs.steps.Steps.Progress.{More, Synced}
+use Rattle.base.specs.steps.Steps.{State, Answers, SyncProgress, IsProgress}
+use Rattle.base.specs.steps.Steps.SyncProgress.{More, Synced}
 use Rattle.base.specs.steps.Runs.{Step}
 use Rattle.base.specs.steps.ExactNow.{IsExplainedNow, IsRun, GoesOn}
 use Rattle.base.specs.steps.Seen.{IsKnownDurable, IsPoolSynced}
@@ -39,7 +39,7 @@ answered (Ok a) r old new does own done refused h = done a (ok-none r a old new 
 answered (Err e) None old new does own done refused h = stay old new (refused e h)
 answered (Err e) (Some f) old new does own done refused h = stay old new (line-of old new h.1)
 
-progress : (p : Progress) (group : ℕ) (plan : SyncPlan) (old new : State) → IsExplainedNow old.shown old.past → old.shown.line.syncing ≡ Some group → IsProgress group p plan old new
+progress : (p : SyncProgress) (group : ℕ) (plan : SyncPlan) (old new : State) → IsExplainedNow old.shown old.past → old.shown.line.syncing ≡ Some group → IsProgress group p plan old new
     → GoUp old.shown.line new.shown.line
 progress More group plan old new x syncing h = stay old new (ap (λ (s : State). s.shown.line) h.1)
 progress (Synced g) group plan old new x syncing h =

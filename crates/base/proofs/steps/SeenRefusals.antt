@@ -19,10 +19,10 @@ use Rattle.base.specs.steps.Shown.{Shown}
 use Rattle.base.specs.steps.Refusals as refusal
 use Rattle.base.specs.steps.Refusals.{Test, first_refusal, ops_tests, object_range}
 use Rattle.base.specs.steps.Stage as stage
-use Rattle.base.specs.steps.Steps.{State, Answers, Progress}
-use Rattle.base.specs.steps.Steps.Progress.{More, Synced}
+use Rattle.base.specs.steps.Steps.{State, Answers, SyncProgress}
+use Rattle.base.specs.steps.Steps.SyncProgress.{More, Synced}
 use Rattle.base.specs.steps.SyncEnds.{is_refusal}
-use Rattle.base.specs.steps.Runs.{Step, refusal_of, reply_of, progress_reply}
+use Rattle.base.specs.steps.Runs.{Step, refusal_of_step, reply_of, progress_reply}
 use Rattle.base.specs.steps.ExactNow.{GoesOn}
 use Rattle.base.specs.steps.Seen.{IsMadeBetween, IsRefusedBetween}
 use Rattle.base.specs.steps.SeenLaws.{is_suspending, is_untested}
@@ -95,7 +95,7 @@ refused make (Err f) (Some g) e old new does own answers owned tested is h suspe
     let found : f ≡ g = let told : Err f ≡ Err g = h.0 in cc in
     ap (λ (s : State). s.shown.suspended) h.1 ∙ tested g refl (ap is_suspending (sym (same ∙ found)) ∙ suspends)
 
-progress-answers : (p : Progress) → is_refusal (progress_reply p) ≡ false
+progress-answers : (p : SyncProgress) → is_refusal (progress_reply p) ≡ false
 progress-answers More = refl
 progress-answers (Synced group) = refl
 
@@ -151,7 +151,7 @@ tested s make (Err f) (Some g) e old new does own answers owned is h seen =
     let found : f ≡ g = let told : Err f ≡ Err g = h.0 in cc in
     (ap (λ (x : PoolError). Some x) (sym (same ∙ found)), h.1)
 
-step-tested : (now : List ℕ) (s : declared_step.Step) (e : PoolError) (old new : State) → Step ⊥ now s (reply.Refused e) old new → is_untested s e ≡ false → (refusal_of s old.shown ≡ Some e) × (new ≡ old)
+step-tested : (now : List ℕ) (s : declared_step.Step) (e : PoolError) (old new : State) → Step ⊥ now s (reply.Refused e) old new → is_untested s e ≡ false → (refusal_of_step s old.shown ≡ Some e) × (new ≡ old)
 step-tested now (step.Lock owner n range mode) e old new (answer, is, h) seen =
     tested (step.Lock owner n range mode) _ answer _ e old new _ _ (λ a. refl) (λ f own. ap (is_untested (step.Lock owner n range mode)) own.0) is h seen
 step-tested now (step.Unlock owner id) e old new (answer, is, h) seen = tested (step.Unlock owner id) _ answer _ e old new _ _ (λ a. refl) (λ f own. absurd own) is h seen
@@ -175,7 +175,7 @@ step-tested now step.SyncStep e old new (answer, is, h) seen = tested step.SyncS
     by_device f (inr flush) = ap (is_untested step.SyncStep) flush
 
 pub refusals_are_seen : (s : declared_step.Step) (e : PoolError) (before after : State) → IsMadeBetween ⊥ s (reply.Refused e) before after → is_untested s e ≡ false
-    → IsRefusedBetween (refusal_of s) e before after
+    → IsRefusedBetween (refusal_of_step s) e before after
 refusals_are_seen s e before after m seen =
     let h = step-tested m.now s e m.old m.new m.made seen in
     record {

@@ -13,7 +13,7 @@ use Rattle.base.specs.crash.Mount.{IsChainOf, frame_of}
 use Rattle.base.specs.history.Past.{Past}
 use Rattle.base.specs.steps.Shown.{Shown, SyncPlan, uberblock_of}
 use Rattle.base.specs.stored.ShownLabels.{ShowsUberblock, ShowsSynced, ShowsSyncing, AreLabelsShown, HasNoLogBlock}
-use Rattle.base.specs.stored.Stored.{IsKept, NewTree, IsSyncing, RunsAs, Held, IsHeld, Calls, frame_at}
+use Rattle.base.specs.stored.Stored.{IsKept, NewTree, IsSyncing, RunsAs, Held, IsHeld, IsCallMade, frame_at}
 use Rattle.base.specs.stored.HeldMounts.{MountsUpTo, HeldMounts, IdleMounts, StepsWriteNoLog}
 use Rattle.base.specs.declared.step.Reply.TheVariants as reply
 use Rattle.base.proofs.steps.BusyLocks.{Some-injective}
@@ -106,7 +106,7 @@ pub idle_mounts : IdleMounts
 idle_mounts h x none idle = synced h x none (subst (λ (o : Option NewTree). AreLabelsShown h.now h.state.shown o h.state.past) idle x.kept.labels)
 
 -- what a call of a sync leaves has no log block
-call-no_log : (old new : Held) (after : NewTree) → IsHeld old → Calls old new after → HasNoLogBlock old.now → HasNoLogBlock new.now
+call-no_log : (old new : Held) (after : NewTree) → IsHeld old → IsCallMade old new after → HasNoLogBlock old.now → HasNoLogBlock new.now
 call-no_log old new after x c = advance-no_log old.now old.state.shown old.pointers old.state.past x.explained c.before
     (subst (λ (o : Option NewTree). IsKept old.now old.state.shown old.pointers o old.state.past) c.running x.kept) c.group new.now after c.syncing c.advances
 

@@ -10,11 +10,11 @@ use Rattle.base.specs.declared.step.Reply as declared_reply
 use Rattle.base.specs.declared.step.Reply.TheVariants as reply
 use Rattle.base.specs.tree.Places.{Place}
 use Rattle.base.specs.steps.Steps as steps
-use Rattle.base.specs.steps.Steps.{State, Progress}
-use Rattle.base.specs.steps.Steps.Progress.{More, Synced}
+use Rattle.base.specs.steps.Steps.{State, SyncProgress}
+use Rattle.base.specs.steps.Steps.SyncProgress.{More, Synced}
 use Rattle.base.specs.steps.Stage as stage
 use Rattle.base.specs.steps.Runs.{Step, Run, reply_of, progress_reply}
-use Rattle.base.specs.stored.Stored.{NewTree, IsKept, Held, IsHeld, Starts, Calls, Moves, is_turn, total_calls}
+use Rattle.base.specs.stored.Stored.{NewTree, IsKept, Held, IsHeld, Starts, IsCallMade, Moves, is_turn, total_calls}
 use Rattle.base.proofs.steps.KeptTables.{steps_keep_tables}
 use Rattle.base.proofs.stored.StoredCalls.{advance-keeps}
 use Rattle.base.proofs.stored.StoredSteps.{steps_keep_kept}
@@ -40,7 +40,7 @@ started : (keeps : Type 0) (bytes : List ℕ) (moment : ℕ) (answer : Result �
 started keeps bytes moment (Ok group) r old new is h = inr (inl (moment, group, is, h))
 started keeps bytes moment (Err e) r old new is h = inl (ap is_turn is)
 
-stepped : (keeps : Type 0) (bytes : List ℕ) (answer : Result Progress PoolError) (r : declared_reply.Reply) (old new : State) → r ≡ reply_of progress_reply answer → steps.SyncStep answer old new → Turn keeps bytes r old new
+stepped : (keeps : Type 0) (bytes : List ℕ) (answer : Result SyncProgress PoolError) (r : declared_reply.Reply) (old new : State) → r ≡ reply_of progress_reply answer → steps.SyncStep answer old new → Turn keeps bytes r old new
 stepped keeps bytes (Ok More) r old new is h = inl (ap is_turn is)
 stepped keeps bytes (Ok (Synced group)) r old new is h = inr (inr (group, is, h))
 stepped keeps bytes (Err e) r old new is h = inl (ap is_turn is)
@@ -58,7 +58,7 @@ turn-of keeps bytes step.SyncStep r old new (answer, is, h) = stepped keeps byte
 
 module _ (old new : Held) (x : IsHeld old) where
   -- what is kept after a call, while all that is shown is as before
-  called : (after : NewTree) → Calls old new after → IsKept new.now old.state.shown old.pointers (Some after) old.state.past
+  called : (after : NewTree) → IsCallMade old new after → IsKept new.now old.state.shown old.pointers (Some after) old.state.past
   called after c = advance-keeps old.now old.state.shown old.pointers old.state.past x.explained c.before
       (subst (λ (o : Option NewTree). IsKept old.now old.state.shown old.pointers o old.state.past) c.running x.kept) c.group new.now after c.syncing c.advances
 
@@ -81,7 +81,7 @@ module _ (old new : Held) (x : IsHeld old) where
 
     -- a call of a sync that has more to make
     more : (r : declared_reply.Reply) → Step keeps bytes s r old.state new.state → is_turn r ≡ false
-        → (after : NewTree) × Calls old new after × (new.pointers ≡ old.pointers) × (new.running ≡ Some after) → Kept
+        → (after : NewTree) × IsCallMade old new after × (new.pointers ≡ old.pointers) × (new.running ≡ Some after) → Kept
     more r h off (after, call, pointers_are, running_is) = told old.pointers (Some after) pointers_are running_is
         (steps_keep_kept new.now old.pointers (Some after) keeps bytes s r old.state new.state h off x.explained (called after call))
 
@@ -107,7 +107,7 @@ module _ (old new : Held) (x : IsHeld old) where
 
     -- its end
     end : (group : ℕ) → steps.SyncStep (Ok (Synced group)) old.state new.state
-        → (after : NewTree) × Calls old new after × (after.done ≡ total_calls after) × (new.pointers ≡ after.pointers) × (new.running ≡ None) → Kept
+        → (after : NewTree) × IsCallMade old new after × (after.done ≡ total_calls after) × (new.pointers ≡ after.pointers) × (new.running ≡ None) → Kept
     end group h (after, call, all, pointers_are, running_is) = told after.pointers None pointers_are running_is
         (finish-keeps new.now group old.state new.state old.pointers after x.explained (called after call) all h)
 

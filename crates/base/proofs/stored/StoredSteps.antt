@@ -22,8 +22,8 @@ use Rattle.base.specs.steps.Shown.{Shown, SyncPlan, taken_of}
 use Rattle.base.specs.steps.Exact.{AreFree, IsInLog}
 use Rattle.base.specs.steps.Refusals as refusal
 use Rattle.base.specs.steps.Steps as steps
-use Rattle.base.specs.steps.Steps.{State, Answers, Progress}
-use Rattle.base.specs.steps.Steps.Progress.{More, Synced}
+use Rattle.base.specs.steps.Steps.{State, Answers, SyncProgress}
+use Rattle.base.specs.steps.Steps.SyncProgress.{More, Synced}
 use Rattle.base.specs.steps.Stage as stage
 use Rattle.base.specs.declared.step.Reply.TheVariants as reply
 use Rattle.base.specs.steps.Runs.{Step, reply_of, progress_reply}
@@ -288,7 +288,7 @@ module _ (now : List ℕ) (pointers : Place → Pointer) (running : Option NewTr
           let same : plan ≡ y.plan = Some-injective (sym is ∙ y.running) in
           syncing-state now old.shown t.shown pointers old.past t.past new y (plan.steps_left - 1) (ap (λ (q : SyncPlan). Some (record q { steps_left = plan.steps_left - 1 })) same)
 
-  progress : (made : Progress) (group : ℕ) (plan : SyncPlan) (old new : State) → made ≡ More → IsKeptState old → old.shown.sync ≡ Some plan → steps.IsProgress group made plan old new → IsKeptState new
+  progress : (made : SyncProgress) (group : ℕ) (plan : SyncPlan) (old new : State) → made ≡ More → IsKeptState old → old.shown.sync ≡ Some plan → steps.IsProgress group made plan old new → IsKeptState new
   progress More group plan old new is x running_is h = subst IsKeptState (sym h.1) (more plan old x running_is)
   progress (Synced g) group plan old new is x running_is h = absurd (cc)
 
@@ -303,13 +303,13 @@ module _ (now : List ℕ) (pointers : Place → Pointer) (running : Option NewTr
       (λ group is none d. absurd (off group is)) (λ e own. subst IsKeptState (sym own.1) x) x h
 
   -- nor of one that is done
-  no_end : (answer : Result Progress PoolError) (made : Progress) (r : declared_reply.Reply) → r ≡ reply_of progress_reply answer → is_turn r ≡ false → answer ≡ Ok made → made ≡ More
+  no_end : (answer : Result SyncProgress PoolError) (made : SyncProgress) (r : declared_reply.Reply) → r ≡ reply_of progress_reply answer → is_turn r ≡ false → answer ≡ Ok made → made ≡ More
   no_end answer More r given off is = refl
   no_end answer (Synced g) r given off is =
-      let same : is_turn r ≡ true = ap is_turn given ∙ ap (λ (a : Result Progress PoolError). is_turn (reply_of progress_reply a)) is in
+      let same : is_turn r ≡ true = ap is_turn given ∙ ap (λ (a : Result SyncProgress PoolError). is_turn (reply_of progress_reply a)) is in
       absurd (false≢true (sym off ∙ same))
 
-  sync_step : (answer : Result Progress PoolError) (old new : State) → ((made : Progress) → answer ≡ Ok made → made ≡ More) → IsKeptState old → steps.SyncStep answer old new → IsKeptState new
+  sync_step : (answer : Result SyncProgress PoolError) (old new : State) → ((made : SyncProgress) → answer ≡ Ok made → made ≡ More) → IsKeptState old → steps.SyncStep answer old new → IsKeptState new
   sync_step answer old new off x h = by_answer answer (refusal.sync_step_refusal old.shown) old new _ _
       (λ made is none d. progress made d.0 d.1 old new (off made is) x d.3 d.4)
       (λ e own. subst IsKeptState (sym own.1) (let t : State = steps.suspended_state old in stays old.shown t.shown old.past t.past x)) x h

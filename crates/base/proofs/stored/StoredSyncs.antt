@@ -15,7 +15,7 @@ use Rattle.base.specs.steps.Locks.{is_in}
 use Rattle.base.specs.tree.Places.{Place, IsInTree}
 use Rattle.base.specs.tree.Places.Place.{Root}
 use Rattle.base.specs.tree.PlacedTrees.{HoldsTree}
-use Rattle.base.specs.tree.PlannedTrees.{NewBlock, StandsIn}
+use Rattle.base.specs.tree.PlannedTrees.{NewBlock, IsBlockWritten}
 use Rattle.base.specs.history.Past.{Past}
 use Rattle.base.specs.steps.Logs.{Log, KeptBlock, blocks_before, header_at, log_after_sync}
 use Rattle.base.specs.steps.Shown.{Shown, SyncPlan, taken_of, uberblock_of}
@@ -24,7 +24,7 @@ use Rattle.base.specs.steps.ExactNow.{IsExplainedNow}
 use Rattle.base.specs.steps.Refusals as refusal
 use Rattle.base.specs.steps.Steps as steps
 use Rattle.base.specs.steps.Steps.{State, returned_addresses}
-use Rattle.base.specs.steps.Steps.Progress.{Synced}
+use Rattle.base.specs.steps.Steps.SyncProgress.{Synced}
 use Rattle.base.specs.stored.ShownLabels.{ShowsUberblock, ShowsSynced, AreLabelsShown}
 use Rattle.base.specs.stored.Stored.{NewTree, IsStored, IsSyncing, IsKept, AreUpTo, total_calls, frame_at}
 use Rattle.base.proofs.steps.BusyLocks.{Some-injective}
@@ -68,7 +68,7 @@ module _ (now : List ℕ) (s : Shown) (p : Past) (pointers : Place → Pointer) 
   olds : HoldsTree now (frame_at s s.line.synced) pointers y.synced.objects
   olds = subst (λ (c : Contents). HoldsTree now (frame_at s s.line.synced) pointers c.objects) same-synced x.tree
 
-  stands : (i : ℕ) (b : NewBlock) → slice_get new.blocks i ≡ Some b → StandsIn now s.blocks b
+  stands : (i : ℕ) (b : NewBlock) → slice_get new.blocks i ≡ Some b → IsBlockWritten now s.blocks b
   stands i b at = y.written i b (let below = slice_get_within new.blocks i b at in omega (arith, below, done)) at
 
   -- the new tree is held

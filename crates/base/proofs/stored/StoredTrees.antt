@@ -15,7 +15,7 @@ use Rattle.base.specs.tree.Places.{Place, IsPlace, IsInTree}
 use Rattle.base.specs.tree.Places.Place.{Root}
 use Rattle.base.specs.tree.Tree.{IsTree}
 use Rattle.base.specs.tree.PlacedTrees.{HoldsTree, ArePlaced}
-use Rattle.base.specs.tree.PlannedTrees.{NewBlock, SameBlock, StandsIn}
+use Rattle.base.specs.tree.PlannedTrees.{NewBlock, SameBlock, IsBlockWritten}
 use Rattle.base.specs.history.Past.{Past}
 use Rattle.base.specs.steps.Shown.{Shown, taken_of}
 use Rattle.base.specs.steps.Exact.{AreFree, IsInLog}
@@ -147,7 +147,7 @@ module _ (now later : List ℕ) (s : Shown) (pointers : Place → Pointer) (past
 
   -- a running sync goes on where what it has written stands
   pub syncing-along : (new : NewTree) (more : ℕ) → (x : IsSyncing now s pointers new past) → more ≤ total_calls new
-      → ((i : ℕ) (b : NewBlock) → i < more → slice_get new.blocks i ≡ Some b → StandsIn later s.blocks b) → IsSyncing later s pointers (record new { done = more }) past
+      → ((i : ℕ) (b : NewBlock) → i < more → slice_get new.blocks i ≡ Some b → IsBlockWritten later s.blocks b) → IsSyncing later s pointers (record new { done = more }) past
   syncing-along new more x bound stands = record {
     group = x.group;
     plan = x.plan;
@@ -203,15 +203,15 @@ module _ (now later : List ℕ) (s : Shown) (pointers : Place → Pointer) (past
     pub written-syncing : IsSyncing later s pointers (record new { done = new.done + 1 }) past
     written-syncing = syncing-along new (new.done + 1) y (let below = slice_get_within new.blocks new.done b at in omega (arith, below)) stands
       where
-        stands : (i : ℕ) (c : NewBlock) → i < new.done + 1 → slice_get new.blocks i ≡ Some c → StandsIn later s.blocks c
-        stands i c below at_c = elim (cases_lt i new.done) as (λ _. StandsIn later s.blocks c) [
+        stands : (i : ℕ) (c : NewBlock) → i < new.done + 1 → slice_get new.blocks i ≡ Some c → IsBlockWritten later s.blocks c
+        stands i c below at_c = elim (cases_lt i new.done) as (λ _. IsBlockWritten later s.blocks c) [
           | inl before ↦
               let differ : b.address ≢ c.address = λ same. (let one = y.are.apart new.done i b c at at_c same in omega (arith, one, before)) in
               record { in_area = y.are.in_area i c at_c; stands = other c.address (y.are.in_area i c at_c) differ ∙ (y.written i c before at_c).stands }
           | inr from ↦
               let one : new.done ≡ i = omega (arith, from, below) in
               let same : b ≡ c = Some-injective (sym at ∙ ap (λ (j : ℕ). slice_get new.blocks j) one ∙ at_c) in
-              subst (λ (d : NewBlock). StandsIn later s.blocks d) same (record { in_area = area; stands = here })
+              subst (λ (d : NewBlock). IsBlockWritten later s.blocks d) same (record { in_area = area; stands = here })
         ]
 
     -- which is no log block

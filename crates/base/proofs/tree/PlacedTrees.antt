@@ -12,7 +12,7 @@ use Rattle.base.specs.formats.Limits.{object_count, max_length, record_size, poi
 use Rattle.base.specs.formats.Fields.{part, number_at, pointer_in, entry_in, entry_pointer, no_pointer}
 use Rattle.base.specs.formats.Geometry.{block_size}
 use Rattle.base.specs.formats.Blocks.{Frame, Opens}
-use Rattle.base.specs.tree.Places.{Place, IsPlace, kind_of, number_of, pointer_below, pointer_of, directory_pointer, indirect_pointer, data_pointer, IsInTree}
+use Rattle.base.specs.tree.Places.{Place, IsPlace, kind_of, number_of_place, pointer_below, pointer_of, directory_pointer, indirect_pointer, data_pointer, IsInTree}
 use Rattle.base.specs.tree.Places.Place.{Root, Directory, Indirect, Data}
 use Rattle.base.specs.tree.Tree.{OpensAt, IsTree, IsDirectory, IsEntry, IsObject, IsRecord, record_bytes}
 use Rattle.base.specs.tree.PlacedTrees.{IsEntryFor, HoldsTree, IsPlaced, ArePlaced}
@@ -41,7 +41,7 @@ zeros-from_records bytes short each = ext_get_or 0 bytes (replicate (length byte
         ∙ get_or-zeros (length (record_bytes (k / record_size) bytes)) (k % record_size) ∙ sym (get_or-zeros (length bytes) k)
 
 -- a place is known by the kind and the number of its block
-pub place-by_number : (p q : Place) → IsPlace p → IsPlace q → kind_of p ≡ kind_of q → number_of p ≡ number_of q → p ≡ q
+pub place-by_number : (p q : Place) → IsPlace p → IsPlace q → kind_of p ≡ kind_of q → number_of_place p ≡ number_of_place q → p ≡ q
 place-by_number Root Root a b kinds numbers = refl
 place-by_number Root (Directory d) a b kinds numbers = absurd (omega (arith, kinds))
 place-by_number Root (Indirect n) a b kinds numbers = absurd (omega (arith, kinds))
@@ -236,7 +236,7 @@ module _ (image : List ℕ) (frame : Frame) (pointers : Place → Pointer) (obje
   pub holds-address : (place : Place) → IsPlace place → pointers place ≢ no_pointer → (pointers place).address ≢ 0
   holds-address place in_range some =
       let o = opens-at place in_range some in
-      opens-address image frame (kind_of place) (number_of place) (pointers place) o.0 o.1
+      opens-address image frame (kind_of place) (number_of_place place) (pointers place) o.0 o.1
 
   -- the addresses in the tree are those of the pointers told
   pub in-tree : (address : ℕ) → IsInTree image (pointers Root) address → (place : Place) × IsPlace place × ((pointers place).address ≡ address) × (pointers place ≢ no_pointer)
@@ -258,5 +258,5 @@ module _ (image : List ℕ) (frame : Frame) (pointers : Place → Pointer) (obje
       let a = opens-at p p_in some in
       let b = opens-at q q_in (some-by_address (pointers q) (λ zero_is. holds-address p p_in some (same ∙ zero_is))) in
       let kinds : kind_of p ≡ kind_of q = sym a.1.block.kind_is ∙ ap (λ (x : ℕ). number_at (part image x block_size) 0) same ∙ b.1.block.kind_is in
-      let numbers : number_of p ≡ number_of q = sym a.1.block.number_is ∙ ap (λ (x : ℕ). number_at (part image x block_size) 24) same ∙ b.1.block.number_is in
+      let numbers : number_of_place p ≡ number_of_place q = sym a.1.block.number_is ∙ ap (λ (x : ℕ). number_at (part image x block_size) 24) same ∙ b.1.block.number_is in
       place-by_number p q p_in q_in kinds numbers

@@ -11,11 +11,11 @@ use Rattle.base.specs.formats.Limits.{object_count, max_length, record_size, poi
 use Rattle.base.specs.formats.Fields.{part, entry_in}
 use Rattle.base.specs.formats.Geometry.{block_size, IsBlockAddress}
 use Rattle.base.specs.formats.Blocks.{Frame, IsBlock, Opens}
-use Rattle.base.specs.tree.Places.{Place, IsPlace, kind_of, number_of}
+use Rattle.base.specs.tree.Places.{Place, IsPlace, kind_of, number_of_place}
 use Rattle.base.specs.tree.Places.Place.{Root, Directory, Indirect, Data}
 use Rattle.base.specs.tree.Tree.{OpensAt, IsRecord, record_bytes}
 use Rattle.base.specs.tree.PlacedTrees.{IsEntryFor, padded_record, StandsAt, HoldsTree}
-use Rattle.base.specs.tree.PlannedTrees.{NewBlock, IsNewAt, SameEntry, SameRecord, IsPlannedAt, IsTreePlan, SameBlock, StandsIn}
+use Rattle.base.specs.tree.PlannedTrees.{NewBlock, IsNewAt, SameEntry, SameRecord, IsPlannedAt, IsTreePlan, SameBlock, IsBlockWritten}
 use Rattle.base.proofs.tree.PlacedTrees.{get_or-zeros, opens-some, absent-data}
 
 -- a part of a part
@@ -102,7 +102,7 @@ module _ (image other : List ℕ) (frame grown : Frame) (guid_same : grown.guid 
     each = λ place in_range. stands-elsewhere pointers objects place (holds.each place in_range) (same place in_range);
   }
 
-  module _ (blocks : List NewBlock) (written : (i : ℕ) (b : NewBlock) → slice_get blocks i ≡ Some b → StandsIn other grown.blocks b) where
+  module _ (blocks : List NewBlock) (written : (i : ℕ) (b : NewBlock) → slice_get blocks i ≡ Some b → IsBlockWritten other grown.blocks b) where
     -- a new block that stands opens at its place
     pub opens-new : (place : Place) (p : Pointer) (payload : List ℕ) → IsNewAt blocks grown place p payload → OpensAt other grown place p payload
     opens-new place p payload is =
@@ -111,8 +111,8 @@ module _ (image other : List ℕ) (frame grown : Frame) (guid_same : grown.guid 
         record {
           in_area = subst (λ (a : ℕ). IsBlockAddress grown.blocks a) (sym is.address) s.in_area;
           born = let b = is.birth in omega (arith, b);
-          block = subst (λ (bytes : List ℕ). IsBlock bytes (kind_of place) grown.guid p.birth (number_of place) payload) (sym there)
-              (subst (λ (group : ℕ). IsBlock is.block.content (kind_of place) grown.guid group (number_of place) payload) (sym is.birth) is.sealed);
+          block = subst (λ (bytes : List ℕ). IsBlock bytes (kind_of place) grown.guid p.birth (number_of_place place) payload) (sym there)
+              (subst (λ (group : ℕ). IsBlock is.block.content (kind_of place) grown.guid group (number_of_place place) payload) (sym is.birth) is.sealed);
           check = sym (check-in_block other p.address) ∙ ap (λ (bytes : List ℕ). part bytes 32 32) there ∙ is.check;
         }
 

@@ -16,19 +16,19 @@ use Rattle.base.specs.crash.SyncCalls.{PoolCall}
 use Rattle.base.specs.crash.SyncCalls.PoolCall.{Put, Settle}
 
 -- what a call with its answer makes of a disk
-abbrev pub Makes : PoolCall → Disk → Result (Unit {0}) PoolError → Disk → Type 0
-Makes (Put place content) old answer new = Writes old place content answer new
-Makes Settle old answer new = Flushes old answer new
+abbrev pub MakesPoolCall : PoolCall → Disk → Result (Unit {0}) PoolError → Disk → Type 0
+MakesPoolCall (Put place content) old answer new = Writes old place content answer new
+MakesPoolCall Settle old answer new = Flushes old answer new
 
 -- calls one after another, up to the first that is refused
 abbrev pub AreMade : List PoolCall → Disk → Disk → Type 0
 AreMade [] old new = new ≡ old
-AreMade (c ∷ cs) old new = ((mid : Disk) × Makes c old (Ok tt) mid × AreMade cs mid new) ⊎ ((e : PoolError) × Makes c old (Err e) new)
+AreMade (c ∷ cs) old new = ((mid : Disk) × MakesPoolCall c old (Ok tt) mid × AreMade cs mid new) ⊎ ((e : PoolError) × MakesPoolCall c old (Err e) new)
 
 -- and the same, stopped before any of them by a crash or by who makes them
 abbrev pub AreBegun : List PoolCall → Disk → Disk → Type 0
 AreBegun [] old new = new ≡ old
-AreBegun (c ∷ cs) old new = (new ≡ old) ⊎ (((mid : Disk) × Makes c old (Ok tt) mid × AreBegun cs mid new) ⊎ ((e : PoolError) × Makes c old (Err e) new))
+AreBegun (c ∷ cs) old new = (new ≡ old) ⊎ (((mid : Disk) × MakesPoolCall c old (Ok tt) mid × AreBegun cs mid new) ⊎ ((e : PoolError) × MakesPoolCall c old (Err e) new))
 
 -- a call keeps P, whatever it answers, at each moment from this one on
 abbrev pub KeepsCall : ℕ → (Moment → Type 0) → PoolCall → Type 0
@@ -119,7 +119,7 @@ AreSlotCalls size flushed new_flushed new_config at old new (Settle ∷ cs) = �
 -- calls one after another, each answered Ok
 abbrev pub AreAllMade : List PoolCall → Disk → Disk → Type 0
 AreAllMade [] old new = new ≡ old
-AreAllMade (c ∷ cs) old new = (mid : Disk) × Makes c old (Ok tt) mid × AreAllMade cs mid new
+AreAllMade (c ∷ cs) old new = (mid : Disk) × MakesPoolCall c old (Ok tt) mid × AreAllMade cs mid new
 
 -- All but the last write of the new uberblock are made, and so is this one; then the flush is refused, or answers Ok and the quiet
 -- calls behind it are begun.

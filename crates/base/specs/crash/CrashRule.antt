@@ -74,7 +74,7 @@ LeadsTo first (past ∷ pasts) last = (past.base ≡ first) × ((left : Contents
 -- One round: a disk of this pool is imported and run, with this past, until it ends on a disk, in a step or between two; a stopped
 -- import is a round whose past has no entry. Then a crash makes some fair image certain; for a device that is given back it is the
 -- first flush of the next import, and the image is what a read gives.
-pub record IsRound (guid : ℕ) (first : Contents) (past : Past) (before ended : Disk) (image : List ℕ) : Type 0 where
+pub record IsCrashRound (guid : ℕ) (first : Contents) (past : Past) (before ended : Disk) (image : List ℕ) : Type 0 where
   pub base : past.base ≡ first
   pub run_left : IsOwnWith before past.created guid first → IsRunLeft ended past guid
   pub left : MayLeave ended.now image
@@ -83,7 +83,7 @@ pub record IsRound (guid : ℕ) (first : Contents) (past : Past) (before ended :
 -- rounds one upon the other, each of what the one before left
 abbrev pub AreRounds : ℕ → ℕ → Contents → List Past → Disk → Disk → Type 0
 AreRounds created guid first [] before after = after ≡ before
-AreRounds created guid first (past ∷ pasts) before after = (past.created ≡ created) × ((ended : Disk) × ((image : List ℕ) × IsRound guid first past before ended image
+AreRounds created guid first (past ∷ pasts) before after = (past.created ≡ created) × ((ended : Disk) × ((image : List ℕ) × IsCrashRound guid first past before ended image
     × ((next : Contents) → IsOwnWith (certain image ended) created guid next → AreRounds created guid next pasts (certain image ended) after)))
 
 -- The client's theorem: what stands at last mounts the replay of a cut of each round's entries, one round upon the other, with every

@@ -28,12 +28,12 @@ abbrev pub records_above : ℕ → List LogBlock → List Placed
 records_above group chain = filter (λ (p : Placed). nat_lt group p.logged.group) (placed_records chain)
 
 -- a record as an entry of a history
-abbrev pub entry_of : Record → Entry
-entry_of r = record { group = r.group; tx = r.ordinal; ops = r.ops }
+abbrev pub entry_of_record : Record → Entry
+entry_of_record r = record { group = r.group; tx = r.ordinal; ops = r.ops }
 
 -- the contents after these records
 abbrev pub apply_records : List Placed → Contents → Result Contents PoolError
-apply_records records c = replay (map (λ (p : Placed). entry_of p.logged) records) c
+apply_records records c = replay (map (λ (p : Placed). entry_of_record p.logged) records) c
 
 abbrev pub frame_of : List ℕ → Uberblock → Frame
 frame_of image u = record { version = u.version; guid = u.guid; blocks = block_count (length image); group = u.group }

@@ -36,14 +36,14 @@ abbrev pub is_slot_place : ℕ → ℕ → Bool
 is_slot_place size place = list_any (λ label. nat_lt (slot_at size label place) 128 && (place == slot_place size label (slot_at size label place))) label_numbers
 
 -- whether bytes begin with a number other than 0, as those of each block and of each uberblock do: with its kind, or its magic
-abbrev pub is_marked : List ℕ → Bool
-is_marked bytes = not (number_at bytes 0 == 0)
+abbrev pub begins_with_mark : List ℕ → Bool
+begins_with_mark bytes = not (number_at bytes 0 == 0)
 
 -- whether the format checks so many bytes at a place, and these bytes pass: a block, a config or a slot whose check agrees
 abbrev pub passes_check : ℕ → ℕ → ℕ → List ℕ → Bool
 passes_check size place n bytes =
-    ((n == block_size) && ((is_block_place size place || is_config_place size place) && (is_sealed bytes && is_marked bytes)))
-    || ((n == slot_size) && (is_slot_place size place && (is_sealed_slot bytes && is_marked bytes)))
+    ((n == block_size) && ((is_block_place size place || is_config_place size place) && (is_sealed bytes && begins_with_mark bytes)))
+    || ((n == slot_size) && (is_slot_place size place && (is_sealed_slot bytes && begins_with_mark bytes)))
 
 -- so many bytes at a place are a block, a label's config, or a slot of a label: a place that the format checks
 abbrev pub IsCheckedPlace : ℕ → ℕ → ℕ → Type 0

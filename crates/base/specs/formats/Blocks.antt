@@ -29,13 +29,13 @@ abbrev pub payload_at : List ℕ → ℕ → List ℕ
 payload_at image address = drop 64 (part image address block_size)
 
 -- the fields of a block before its check
-abbrev pub head_bytes : ℕ → ℕ → ℕ → ℕ → List ℕ
-head_bytes kind guid group number = number_bytes kind ++ number_bytes guid ++ number_bytes group ++ number_bytes number
+abbrev pub block_head_bytes : ℕ → ℕ → ℕ → ℕ → List ℕ
+block_head_bytes kind guid group number = number_bytes kind ++ number_bytes guid ++ number_bytes group ++ number_bytes number
 
 -- a block as it is sealed
 abbrev pub sealed_block : ℕ → ℕ → ℕ → ℕ → List ℕ → List ℕ
 sealed_block kind guid group number payload =
-    head_bytes kind guid group number ++ sha256 (head_bytes kind guid group number ++ replicate 32 0 ++ payload) ++ payload
+    block_head_bytes kind guid group number ++ sha256 (block_head_bytes kind guid group number ++ replicate 32 0 ++ payload) ++ payload
 
 -- the version by whose rules a tree is read or written, the pool's guid, the number of blocks of its area, and the group that no birth may pass
 pub record Frame : Type 0 where

@@ -48,5 +48,5 @@ IsChain image guid blocks chain header (b ∷ bs) =
     IsLogBlock image guid blocks chain header b × IsChain image guid blocks chain (next_header header b) bs
 
 -- the records of a chain in order
-abbrev pub records_of : List LogBlock → List Record
-records_of chain = flat_map (λ (b : LogBlock). b.records) chain
+abbrev pub records_of_chain : List LogBlock → List Record
+records_of_chain chain = flat_map (λ (b : LogBlock). b.records) chain

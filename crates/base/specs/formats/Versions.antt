@@ -12,8 +12,8 @@ abbrev pub is_version_known : ℕ → Bool
 is_version_known version = nat_eq version 1
 
 -- the number of a version, and the version of a number that is known
-abbrev pub number_of : Version → ℕ
-number_of One = 1
+abbrev pub number_of_version : Version → ℕ
+number_of_version One = 1
 
 abbrev pub version_of : ℕ → Version
 version_of number = One

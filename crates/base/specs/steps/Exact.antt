@@ -7,7 +7,7 @@ use Rattle.base.specs.formats.Limits.{object_count, max_length}
 use Rattle.base.specs.formats.Names.{IsName}
 use Rattle.base.specs.history.Contents.{Contents}
 use Rattle.base.specs.history.History.{Entry, AreAdmitted, IsInGroupOrder}
-use Rattle.base.specs.steps.Locks.{held_locks, is_in, IsSound, AreNumberedGrants, AreGranted}
+use Rattle.base.specs.steps.Locks.{held_locks, is_in, AreLocksSound, AreNumberedGrants, AreGranted}
 use Rattle.base.specs.steps.Groups.{IsLine, Admission, AreMembers, open_transactions, admitted_of}
 use Rattle.base.specs.steps.Charges.{transactions_of, charge_sum, estimate_sum}
 use Rattle.base.specs.formats.Geometry.{IsBlockAddress}
@@ -21,7 +21,7 @@ use Rattle.base.specs.steps.Refusals.{is_plan_covered}
 -- the held locks are the grants that were not let go, and are sound
 pub record AreLocksExact (s : Shown) (past : Past) : Type 0 where
   pub held : s.locks ≡ held_locks past.grants past.let_go
-  pub sound : IsSound s.locks
+  pub sound : AreLocksSound s.locks
   pub numbered : AreNumberedGrants past.grants
   pub next : s.next_lock ≡ length past.grants
   pub granted : AreGranted past.let_go past.grants
@@ -46,7 +46,7 @@ pub record AreChargesExact (s : Shown) (past : Past) : Type 0 where
   pub within : dirty_total s ≤ s.dirty_max
 
 -- a sync takes no more than its group has reserved, and the free blocks suffice for all that is reserved
-pub record HasRoom (s : Shown) : Type 0 where
+pub record HasReservedBlocks (s : Shown) : Type 0 where
   pub taken : IfSome s.line.syncing (λ g. length (taken_of s.sync) ≤ reserved_of s g)
   pub room : reserved_total s ≤ free_count s + length (taken_of s.sync)
 

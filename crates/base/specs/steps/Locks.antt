@@ -29,8 +29,8 @@ abbrev pub AreNumberedGrants : List Grant → Type 0
 AreNumberedGrants grants = (i : ℕ) (g : Grant) → slice_get grants i ≡ Some g → g.id ≡ i
 
 -- of two locks whose ranges overlap, both are of readers
-abbrev pub IsSound : List Grant → Type 0
-IsSound locks = (i j : ℕ) (g h : Grant) → i < j → slice_get locks i ≡ Some g → slice_get locks j ≡ Some h
+abbrev pub AreLocksSound : List Grant → Type 0
+AreLocksSound locks = (i j : ℕ) (g h : Grant) → i < j → slice_get locks i ≡ Some g → slice_get locks j ≡ Some h
     → overlaps g.range h.range ≡ true → (g.mode ≡ Reader) × (h.mode ≡ Reader)
 
 -- whether a range may be locked or read: low is below high, and high is no more than the greatest length

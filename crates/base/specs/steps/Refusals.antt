@@ -1,4 +1,5 @@
--- When each step is refused, and why first. Want of memory and what a device refuses come after these.
+-- When each step is refused, and why first. Want of memory and what a device refuses come after these. The words with whole_ are of the steps
+-- that Stage has less of.
 use Rattle.std.specs.Prelude.{ℕ, ◌+◌, ◌==◌, ◌&&◌, ◌||◌, Bool, true, false, not, List, [], ◌∷◌, ◌++◌, map, length, nat_lt, nat_le, Option, Some, None, is_some, is_none, option_map, find, Result, Ok, Err, if◌then◌else◌}
 use Rattle.std.specs.List.{list_any, list_all}
 use Rattle.std.specs.Option.{option_map_or}
@@ -96,8 +97,8 @@ is_plan_blocked plan transactions = list_any (λ (a : Admission). plans_overlap 
 abbrev pub blocks_wanted : Contents → List Shape → ℕ
 blocks_wanted c plan = estimate_of plan + (if is_shrinking c plan then 0 else kept_back)
 
-abbrev pub begin_tests : ℕ → List Shape → Shown → List Test
-begin_tests owner plan s =
+abbrev pub whole_begin_tests : ℕ → List Shape → Shown → List Test
+whole_begin_tests owner plan s =
     refused_if s.suspended Suspended
     ∷ refused_if (not (is_plan_allowed plan)) BadRange
     ∷ refused_if (nat_lt max_log_record (log_record_size plan)) TooLarge
@@ -107,8 +108,8 @@ begin_tests owner plan s =
     ∷ refused_if (nat_lt s.dirty_max (dirty_total s + charge_of plan)) Throttled
     ∷ refused_if (nat_lt (available s) (blocks_wanted s.contents plan)) NoSpace ∷ []
 
-abbrev pub begin_refusal : ℕ → List Shape → Shown → Option PoolError
-begin_refusal owner plan s = first_refusal (begin_tests owner plan s)
+abbrev pub whole_begin_refusal : ℕ → List Shape → Shown → Option PoolError
+whole_begin_refusal owner plan s = first_refusal (whole_begin_tests owner plan s)
 
 -- the open transaction of this name
 abbrev pub transaction_of : ℕ → Shown → Option Admission
@@ -154,8 +155,8 @@ commit_tests tx ops s =
     ∷ refused_if (list_any gives_bad_name ops) BadRange
     ∷ ops_tests (apply_all ops s.contents) ++ refused_if (nat_lt last_number s.next_ordinal) TooMany ∷ []
 
-abbrev pub commit_refusal : ℕ → List Op → Shown → Option PoolError
-commit_refusal tx ops s = first_refusal (commit_tests tx ops s)
+abbrev pub whole_commit_refusal : ℕ → List Op → Shown → Option PoolError
+whole_commit_refusal tx ops s = first_refusal (commit_tests tx ops s)
 
 abbrev pub abort_tests : ℕ → Shown → List Test
 abort_tests tx s =
@@ -195,8 +196,8 @@ close_tests s =
     refused_if s.suspended Suspended
     ∷ refused_if (is_some s.line.middle || nat_le last_number s.line.open_group) NotReady ∷ []
 
-abbrev pub close_refusal : Shown → Option PoolError
-close_refusal s = first_refusal (close_tests s)
+abbrev pub whole_close_refusal : Shown → Option PoolError
+whole_close_refusal s = first_refusal (close_tests s)
 
 -- the quiescing group, and the quiesced one that waits
 abbrev pub quiescing_group : Line → Option ℕ

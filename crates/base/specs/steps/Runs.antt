@@ -10,8 +10,8 @@ use Rattle.base.specs.steps.Refusals as refusal
 use Rattle.base.specs.steps.Refusals.{object_range}
 use Rattle.base.specs.steps.Steps as steps
 use Rattle.base.specs.steps.Stage as stage
-use Rattle.base.specs.steps.Steps.{State, Progress}
-use Rattle.base.specs.steps.Steps.Progress.{More, Synced}
+use Rattle.base.specs.steps.Steps.{State, SyncProgress}
+use Rattle.base.specs.steps.Steps.SyncProgress.{More, Synced}
 
 -- the reply with an answer: the refusal, or what is made of the value
 abbrev pub reply_of : {A : Type 0} → (A → declared_reply.Reply) → Result A PoolError → declared_reply.Reply
@@ -22,7 +22,7 @@ reply_of make (Err e) = reply.Refused e
 abbrev pub Replies : {A : Type 0} → (A → declared_reply.Reply) → declared_reply.Reply → (Result A PoolError → Type 0) → Type 0
 Replies {A} make given holds = (answer : Result A PoolError) × (given ≡ reply_of make answer) × holds answer
 
-abbrev pub progress_reply : Progress → declared_reply.Reply
+abbrev pub progress_reply : SyncProgress → declared_reply.Reply
 progress_reply More = reply.More
 progress_reply (Synced group) = reply.Synced (record { 0 = group })
 
@@ -57,16 +57,16 @@ Step keeps now step.SyncStep given old new =
     Replies progress_reply given (λ answer. steps.SyncStep answer old new)
 
 -- why each step is refused first, if its tests refuse it
-abbrev pub refusal_of : declared_step.Step → Shown → Option PoolError
-refusal_of (step.Lock owner n range mode) s = refusal.lock_refusal owner.0 (object_range n.0 range.low range.high) mode s
-refusal_of (step.Unlock owner id) s = refusal.unlock_refusal owner.0 id.0 s
-refusal_of (step.Begin owner plan) s = stage.begin_refusal owner.0 plan s
-refusal_of (step.Commit tx ops) s = stage.commit_refusal tx.0 ops s
-refusal_of (step.Read owner n range) s = refusal.read_refusal owner.0 (object_range n.0 range.low range.high) s
-refusal_of step.CloseGroup s = stage.close_refusal s
-refusal_of step.MarkQuiesced s = refusal.quiesce_refusal s
-refusal_of (step.StartSync moment) s = refusal.start_refusal s
-refusal_of step.SyncStep s = refusal.sync_step_refusal s
+abbrev pub refusal_of_step : declared_step.Step → Shown → Option PoolError
+refusal_of_step (step.Lock owner n range mode) s = refusal.lock_refusal owner.0 (object_range n.0 range.low range.high) mode s
+refusal_of_step (step.Unlock owner id) s = refusal.unlock_refusal owner.0 id.0 s
+refusal_of_step (step.Begin owner plan) s = stage.begin_refusal owner.0 plan s
+refusal_of_step (step.Commit tx ops) s = stage.commit_refusal tx.0 ops s
+refusal_of_step (step.Read owner n range) s = refusal.read_refusal owner.0 (object_range n.0 range.low range.high) s
+refusal_of_step step.CloseGroup s = stage.close_refusal s
+refusal_of_step step.MarkQuiesced s = refusal.quiesce_refusal s
+refusal_of_step (step.StartSync moment) s = refusal.start_refusal s
+refusal_of_step step.SyncStep s = refusal.sync_step_refusal s
 
 -- steps one after another, each with its reply, over states of any type
 abbrev pub Run : {S : Type 0} → (declared_step.Step → declared_reply.Reply → S → S → Type 0) → List declared_step.Step → List declared_reply.Reply → S → S → Type 0

@@ -18,7 +18,7 @@ use Rattle.base.specs.declared.step.Reply.TheVariants as reply
 use Rattle.base.specs.steps.Refusals.{object_range}
 use Rattle.base.specs.steps.Shown.{Shown, is_durable}
 use Rattle.base.specs.steps.Steps.{State}
-use Rattle.base.specs.steps.Runs.{refusal_of}
+use Rattle.base.specs.steps.Runs.{refusal_of_step}
 use Rattle.base.specs.steps.ExactNow.{IsExplainedNow, GoesOn}
 use Rattle.base.specs.steps.Seen.{IsMadeBetween, IsContentsBetween, IsCommitted, IsAdmitted, IsGranted, IsLetGo, IsReadBetween, IsKnownDurable, IsPoolSynced, IsRefusedBetween}
 
@@ -88,4 +88,4 @@ is_untested _ _ = false
 -- every other refusal of a step is that of its tests in some state between
 abbrev pub RefusalsAreSeen : Type 0
 RefusalsAreSeen = (s : declared_step.Step) (e : PoolError) (before after : State) → IsMadeBetween ⊥ s (reply.Refused e) before after → is_untested s e ≡ false
-    → IsRefusedBetween (refusal_of s) e before after
+    → IsRefusedBetween (refusal_of_step s) e before after

@@ -1,4 +1,4 @@
--- What each step answers, and what it makes of a pool and of the past of its run.
+-- What each step answers, and what it makes of a pool and of the past of its run. The words with Whole are the steps that Stage has less of.
 use Rattle.std.specs.Prelude.{ℕ, ◌≡◌, ◌<◌, ◌-◌, ◌+◌, ◌==◌, ◌⊎◌, ◌++◌, Bool, true, false, not, List, [], ◌∷◌, map, filter, length, take, Option, Some, None, Result, Ok, Err, IfSome}
 use Rattle.std.specs.List.{flat_map, list_all}
 use Rattle.std.specs.FinMap as finite
@@ -87,8 +87,8 @@ Unlock owner id answer old new = Answers (refusal.unlock_refusal owner id old.sh
 abbrev pub next_admission : ℕ → List Shape → Shown → Admission
 next_admission owner plan s = record { tx = s.next_tx; group = s.line.open_group; owner = owner; plan = plan }
 
-abbrev pub state_after_admission : Admission → State → State
-state_after_admission a s = record {
+abbrev pub state_after_charged_admission : Admission → State → State
+state_after_charged_admission a s = record {
   shown = record s.shown {
     transactions = s.shown.transactions ++ a ∷ [];
     next_tx = s.shown.next_tx + 1;
@@ -99,9 +99,9 @@ state_after_admission a s = record {
 }
 
 -- a transaction is admitted to the open group, charged and reserved for
-abbrev pub Begin : ℕ → List Shape → Result (ℕ × ℕ) PoolError → State → State → Type 0
-Begin owner plan answer old new = Answers (refusal.begin_refusal owner plan old.shown) answer old new
-    (λ a. (a ≡ (old.shown.next_tx, old.shown.line.open_group)) × (new ≡ state_after_admission (next_admission owner plan old.shown) old)) (WantsMemory old new)
+abbrev pub WholeBegin : ℕ → List Shape → Result (ℕ × ℕ) PoolError → State → State → Type 0
+WholeBegin owner plan answer old new = Answers (refusal.whole_begin_refusal owner plan old.shown) answer old new
+    (λ a. (a ≡ (old.shown.next_tx, old.shown.line.open_group)) × (new ≡ state_after_charged_admission (next_admission owner plan old.shown) old)) (WantsMemory old new)
 
 abbrev pub transactions_without : ℕ → List Admission → List Admission
 transactions_without tx transactions = filter (λ (a : Admission). not (a.tx == tx)) transactions
@@ -118,8 +118,8 @@ state_after_commit tx group ops contents s = record {
 }
 
 -- a transaction takes place whole, as the next entry of the history, in its own group, and is pending for the log
-abbrev pub Commit : ℕ → List Op → Result (ℕ × ℕ) PoolError → State → State → Type 0
-Commit tx ops answer old new = Answers (refusal.commit_refusal tx ops old.shown) answer old new
+abbrev pub WholeCommit : ℕ → List Op → Result (ℕ × ℕ) PoolError → State → State → Type 0
+WholeCommit tx ops answer old new = Answers (refusal.whole_commit_refusal tx ops old.shown) answer old new
     (λ receipt. (a : Admission) × (contents : Contents)
     × (refusal.transaction_of tx old.shown ≡ Some a) × (apply_all ops old.shown.contents ≡ Ok contents)
     × (list_all is_content_allowed ops ≡ true) × (receipt ≡ (old.shown.next_ordinal, a.group)) × (new ≡ state_after_commit tx a.group ops contents old)) (WantsMemory old new)
@@ -144,8 +144,8 @@ abbrev pub bytes_in : NumberRange → List ℕ → List ℕ
 bytes_in range bytes = part bytes range.low (range.high - range.low)
 
 -- the bytes of a range are read, over a device that keeps the disk model
-abbrev pub Read : Type 0 → ℕ → NumberRange → Result (List ℕ) PoolError → State → State → Type 0
-Read keeps owner range answer old new = Answers (refusal.read_refusal owner range old.shown) answer old new
+abbrev pub WholeRead : Type 0 → ℕ → NumberRange → Result (List ℕ) PoolError → State → State → Type 0
+WholeRead keeps owner range answer old new = Answers (refusal.read_refusal owner range old.shown) answer old new
     (λ bytes. (keeps → IfSome (finite.get old.shown.contents.objects range.number) (λ all. bytes ≡ bytes_in range all)) × (new ≡ old)) (WantsMemoryOrRead keeps old new)
 
 abbrev pub Length : ℕ → Result ℕ PoolError → State → State → Type 0
@@ -163,8 +163,8 @@ with_line line s = record s { shown = record s.shown { line = line } }
 abbrev pub line_after_close : Line → Line
 line_after_close l = record l { middle = Some (record { group = l.open_group; quiesced = false }); open_group = l.open_group + 1 }
 
-abbrev pub CloseGroup : Result ℕ PoolError → State → State → Type 0
-CloseGroup answer old new = Answers (refusal.close_refusal old.shown) answer old new
+abbrev pub WholeCloseGroup : Result ℕ PoolError → State → State → Type 0
+WholeCloseGroup answer old new = Answers (refusal.whole_close_refusal old.shown) answer old new
     (λ group. (group ≡ old.shown.line.open_group + 1) × (new ≡ with_line (line_after_close old.shown.line) old)) Never
 
 -- the middle group has no hold left, and waits for its sync
@@ -206,15 +206,15 @@ state_after_start group plan s = record s {
 }
 
 -- the sync of the quiesced group starts, planned over what the device holds
-abbrev pub StartSync : Type 0 → List ℕ → ℕ → Result ℕ PoolError → State → State → Type 0
-StartSync keeps now moment answer old new = Answers (refusal.start_refusal old.shown) answer old new
+abbrev pub WholeStartSync : Type 0 → List ℕ → ℕ → Result ℕ PoolError → State → State → Type 0
+WholeStartSync keeps now moment answer old new = Answers (refusal.start_refusal old.shown) answer old new
     (λ group. (plan : SyncPlan) × (refusal.quiesced_group old.shown.line ≡ Some group)
     × IsPlanned old moment group plan × (keeps → TakesForEach now old group plan) × (new ≡ state_after_start group plan old)) (WantsMemoryOrRead keeps old new)
 
 -- what a step of a sync answers
-pub data Progress : Type 0 where
-  More : Progress
-  Synced : ℕ → Progress
+pub data SyncProgress : Type 0 where
+  More : SyncProgress
+  Synced : ℕ → SyncProgress
 
 abbrev pub state_after_step : SyncPlan → State → State
 state_after_step plan s = record s { shown = record s.shown { sync = Some (record plan { steps_left = plan.steps_left - 1 }) } }
@@ -238,11 +238,11 @@ state_after_sync group plan s = record {
 }
 
 -- one device call of a sync; with the last the group is synced
-abbrev pub IsProgress : ℕ → Progress → SyncPlan → State → State → Type 0
+abbrev pub IsProgress : ℕ → SyncProgress → SyncPlan → State → State → Type 0
 IsProgress group More plan old new = (1 < plan.steps_left) × (new ≡ state_after_step plan old)
 IsProgress group (Synced g) plan old new = (plan.steps_left ≡ 1) × (g ≡ group) × (new ≡ state_after_sync group plan old)
 
-abbrev pub SyncStep : Result Progress PoolError → State → State → Type 0
+abbrev pub SyncStep : Result SyncProgress PoolError → State → State → Type 0
 SyncStep answer old new = Answers (refusal.sync_step_refusal old.shown) answer old new
     (λ progress. (group : ℕ) × (plan : SyncPlan) × (old.shown.line.syncing ≡ Some group) × (old.shown.sync ≡ Some plan)
     × IsProgress group progress plan old new) (λ e. ((e ≡ error.Write) ⊎ (e ≡ error.Flush)) × (new ≡ suspended_state old))

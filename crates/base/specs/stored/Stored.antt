@@ -17,7 +17,7 @@ use Rattle.base.specs.formats.Blocks.{Frame}
 use Rattle.base.specs.tree.Places.{Place, IsPlace, IsInTree}
 use Rattle.base.specs.tree.Places.Place.{Root}
 use Rattle.base.specs.tree.PlacedTrees.{HoldsTree}
-use Rattle.base.specs.tree.PlannedTrees.{NewBlock, IsTreePlan, StandsIn, AreFreed}
+use Rattle.base.specs.tree.PlannedTrees.{NewBlock, IsTreePlan, IsBlockWritten, AreFreed}
 use Rattle.base.specs.history.Past.{Past}
 use Rattle.base.specs.formats.Uberblocks.{IsUberblock}
 use Rattle.base.specs.steps.Shown.{Shown, SyncPlan, uberblock_of}
@@ -100,7 +100,7 @@ pub record IsSyncing (now : List ℕ) (s : Shown) (old : Place → Pointer) (new
   pub header : plan.header ≡ s.log.next
   pub slot : IsUberblock new.slot (uberblock_of s group plan)
   pub done : new.done ≤ total_calls new
-  pub written : (i : ℕ) (b : NewBlock) → i < new.done → slice_get new.blocks i ≡ Some b → StandsIn now s.blocks b
+  pub written : (i : ℕ) (b : NewBlock) → i < new.done → slice_get new.blocks i ≡ Some b → IsBlockWritten now s.blocks b
 
 -- the sync that runs, or that none does
 abbrev pub RunsAs : List ℕ → Shown → (Place → Pointer) → Option NewTree → Past → Type 0
@@ -151,7 +151,7 @@ pub record Starts (group : ℕ) (old new : Held) : Type 0 where
   pub planned : (x : IsHeld old) → IsPlannedSync (frame_at old.state.shown group) old.pointers tree bs x.kept.stored.synced.objects old.state.shown.contents.objects plan
 
 -- the next device call of a running sync was made
-pub record Calls (old new : Held) (after : NewTree) : Type 0 where
+pub record IsCallMade (old new : Held) (after : NewTree) : Type 0 where
   pub before : NewTree
   pub running : old.running ≡ Some before
   pub group : ℕ
@@ -161,6 +161,6 @@ pub record Calls (old new : Held) (after : NewTree) : Type 0 where
 -- how a step moves the bytes, the pointers and the running sync, by its reply
 abbrev pub Moves : Reply → Held → Held → Type 0
 Moves (reply.Syncing group) old new = Starts group.0 old new
-Moves reply.More old new = (after : NewTree) × Calls old new after × (new.pointers ≡ old.pointers) × (new.running ≡ Some after)
-Moves (reply.Synced group) old new = (after : NewTree) × Calls old new after × (after.done ≡ total_calls after) × (new.pointers ≡ after.pointers) × (new.running ≡ None)
+Moves reply.More old new = (after : NewTree) × IsCallMade old new after × (new.pointers ≡ old.pointers) × (new.running ≡ Some after)
+Moves (reply.Synced group) old new = (after : NewTree) × IsCallMade old new after × (after.done ≡ total_calls after) × (new.pointers ≡ after.pointers) × (new.running ≡ None)
 Moves _ old new = (new.now ≡ old.now) × (new.pointers ≡ old.pointers) × (new.running ≡ old.running)

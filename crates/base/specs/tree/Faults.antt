@@ -4,7 +4,7 @@ use Rattle.base.specs.declared.pointer.Pointer.{Pointer}
 use Rattle.base.specs.formats.Limits.{max_length, record_size, pointer_count, entry_count}
 use Rattle.base.specs.formats.Fields.{pointer_in, entry_in, entry_present, entry_length, entry_pointer, no_pointer}
 use Rattle.base.specs.formats.Blocks.{Frame, Opens, payload_at}
-use Rattle.base.specs.tree.Places.{Place, IsPlace, kind_of, number_of, walk_index_of, pointer_of, directory_pointer}
+use Rattle.base.specs.tree.Places.{Place, IsPlace, kind_of, number_of_place, walk_index_of, pointer_of, directory_pointer}
 use Rattle.base.specs.tree.Places.Place.{Root, Directory, Indirect, Data}
 
 -- a pointer has an address, or is 48 zero bytes
@@ -35,7 +35,7 @@ IsWellFormed image root (Data n r) payload =
 -- nothing stands at a place, or a block that opens there and is well formed
 abbrev pub IsSoundAt : List ℕ → Frame → Pointer → Place → Type 0
 IsSoundAt image frame root place = (pointer_of image root place ≡ no_pointer)
-    ⊎ ((payload : List ℕ) × Opens image frame (kind_of place) (number_of place) (pointer_of image root place) payload × IsWellFormed image root place payload)
+    ⊎ ((payload : List ℕ) × Opens image frame (kind_of place) (number_of_place place) (pointer_of image root place) payload × IsWellFormed image root place payload)
 
 -- the first fault in the order of the walk, by the kind of its place and the address of the pointer there
 pub record IsFirstFault (image : List ℕ) (frame : Frame) (root : Pointer) (kind address : ℕ) : Type 0 where

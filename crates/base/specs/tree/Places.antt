@@ -25,11 +25,11 @@ kind_of (Directory d) = 3
 kind_of (Indirect n) = 4
 kind_of (Data n r) = 5
 
-abbrev pub number_of : Place → ℕ
-number_of Root = 0
-number_of (Directory d) = d
-number_of (Indirect n) = n
-number_of (Data n r) = pointer_count * n + r
+abbrev pub number_of_place : Place → ℕ
+number_of_place Root = 0
+number_of_place (Directory d) = d
+number_of_place (Indirect n) = n
+number_of_place (Data n r) = pointer_count * n + r
 
 -- the index of a place in the walk: each directory before its objects, each indirect block before its records
 abbrev pub walk_index_of_indirect : ℕ → ℕ

@@ -9,7 +9,7 @@ use Rattle.base.specs.formats.Limits.{record_size, pointer_count, entry_count}
 use Rattle.base.specs.formats.Fields.{part, pointer_in, entry_in, no_pointer}
 use Rattle.base.specs.formats.Geometry.{block_size, IsBlockAddress}
 use Rattle.base.specs.formats.Blocks.{Frame, IsBlock}
-use Rattle.base.specs.tree.Places.{Place, IsPlace, kind_of, number_of}
+use Rattle.base.specs.tree.Places.{Place, IsPlace, kind_of, number_of_place}
 use Rattle.base.specs.tree.Places.Place.{Root, Directory, Indirect, Data}
 use Rattle.base.specs.tree.PlacedTrees.{IsEntryFor, padded_record}
 
@@ -26,7 +26,7 @@ pub record IsNewAt (blocks : List NewBlock) (frame : Frame) (place : Place) (poi
   pub address : pointer.address ≡ block.address
   pub birth : pointer.birth ≡ frame.group
   pub check : part block.content 32 32 ≡ pointer.check
-  pub sealed : IsBlock block.content (kind_of place) frame.guid frame.group (number_of place) payload
+  pub sealed : IsBlock block.content (kind_of place) frame.guid frame.group (number_of_place place) payload
 
 -- an object is there as before, with as many bytes
 abbrev pub SameEntry : Option (List ℕ) → Option (List ℕ) → Type 0
@@ -62,7 +62,7 @@ abbrev pub SameBlock : List ℕ → List ℕ → Pointer → Type 0
 SameBlock before after pointer = pointer ≢ no_pointer → part after pointer.address block_size ≡ part before pointer.address block_size
 
 -- a new block stands in an image
-pub record StandsIn (image : List ℕ) (blocks : ℕ) (block : NewBlock) : Type 0 where
+pub record IsBlockWritten (image : List ℕ) (blocks : ℕ) (block : NewBlock) : Type 0 where
   pub in_area : IsBlockAddress blocks block.address
   pub stands : part image block.address block_size ≡ block.content
 

@@ -7,12 +7,12 @@ use Rattle.base.specs.declared.pointer.Pointer.{Pointer}
 use Rattle.base.specs.formats.Limits.{object_count, max_length, record_size, pointer_count, entry_count}
 use Rattle.base.specs.formats.Fields.{part, pointer_in, entry_in, entry_present, entry_length, entry_pointer, no_pointer}
 use Rattle.base.specs.formats.Blocks.{Frame, Opens}
-use Rattle.base.specs.tree.Places.{Place, kind_of, number_of}
+use Rattle.base.specs.tree.Places.{Place, kind_of, number_of_place}
 use Rattle.base.specs.tree.Places.Place.{Root, Directory, Indirect, Data}
 
 -- the block at a place
 abbrev pub OpensAt : List ℕ → Frame → Place → Pointer → List ℕ → Type 0
-OpensAt image frame place pointer payload = Opens image frame (kind_of place) (number_of place) pointer payload
+OpensAt image frame place pointer payload = Opens image frame (kind_of place) (number_of_place place) pointer payload
 
 -- the bytes of an object that lie in its record r
 abbrev pub record_bytes : ℕ → List ℕ → List ℕ

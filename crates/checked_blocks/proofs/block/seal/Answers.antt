@@ -2,7 +2,7 @@ use Rattle.std.proofs.Common.{◌≡◌, ◌+◌, ◌-◌, List, ℕ, ◌++◌, 
 use Rattle.std.proofs.lemmas.List.{length-append, length-replicate}
 use Rattle.sha2.specs.Sha256.{sha256}
 use Rattle.sha2.proofs.Facts256.{length-sha256}
-use Rattle.base.specs.formats.Blocks.{IsBlock, IsSealed, head_bytes, sealed_block}
+use Rattle.base.specs.formats.Blocks.{IsBlock, IsSealed, block_head_bytes, sealed_block}
 use Rattle.base.specs.disk.Disk.{put}
 use Rattle.checked_blocks.specs.Sealing.{zeros, padded}
 use Rattle.checked_blocks.proofs.SealedBlocks.{length-head_bytes, sealed-by_digest, sealed_block-is}
@@ -26,15 +26,15 @@ sealed head payload first second whole check rest lh fits e1 e2 e3 e4 =
 whole : (c : goal.After-bytes-7-1) → c.write_bytes-2.new.bytes ≡ sealed_block c.args.kind c.args.guid c.args.group.0 c.args.number (padded c.args.payload.now)
 whole c =
     let a = c.args in
-    sealed (head_bytes a.kind a.guid a.group.0 a.number) a.payload.now c.write_head.new.bytes c.write_bytes.new.bytes c.write_bytes-2.new.bytes
+    sealed (block_head_bytes a.kind a.guid a.group.0 a.number) a.payload.now c.write_head.new.bytes c.write_bytes.new.bytes c.write_bytes-2.new.bytes
     c.digest-check.result (4032 - length a.payload.now) (length-head_bytes a.kind a.guid a.group.0 a.number) (omega arith)
-    (c.write_head.ensures.head ∙ ap (λ (l : List ℕ). put 0 (head_bytes a.kind a.guid a.group.0 a.number) l) c.zero_block-bytes.ensures)
+    (c.write_head.ensures.head ∙ ap (λ (l : List ℕ). put 0 (block_head_bytes a.kind a.guid a.group.0 a.number) l) c.zero_block-bytes.ensures)
     c.write_bytes.ensures c.digest-check.ensures c.write_bytes-2.ensures
 
 pub invariant_of-result : goal.invariant_of-result
 invariant_of-result c =
     let a = c.args in
-    subst IsSealed (sym (whole c)) (sealed-by_digest (head_bytes a.kind a.guid a.group.0 a.number) (padded a.payload.now) (length-head_bytes a.kind a.guid a.group.0 a.number))
+    subst IsSealed (sym (whole c)) (sealed-by_digest (block_head_bytes a.kind a.guid a.group.0 a.number) (padded a.payload.now) (length-head_bytes a.kind a.guid a.group.0 a.number))
 
 pub returns-clause-sealed : goal.returns-clause-sealed
 returns-clause-sealed c = whole c

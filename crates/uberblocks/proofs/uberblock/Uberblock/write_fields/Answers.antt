@@ -1,7 +1,7 @@
 use Rattle.std.proofs.Common.{ℕ, ◌≡◌, ◌∙◌, List, ◌++◌, length, ap, arith, rules}
 use Rattle.base.specs.disk.Disk.{put}
 use Rattle.base.specs.formats.Fields.{number_bytes, pointer_bytes}
-use Rattle.base.specs.formats.Versions.{number_of}
+use Rattle.base.specs.formats.Versions.{number_of_version}
 use Rattle.base.proofs.formats.FieldsRead.{length-number_bytes}
 use Rattle.uberblocks.specs.Slots.{field_bytes}
 use Rattle.uberblocks.proofs.SlotParts.{length-pointer_bytes}
@@ -35,7 +35,7 @@ unfolding field_bytes
 returns-clause-written c =
     let u = c.args.self in
     let h : length u.root.check ≡ 32 = search rules in
-    nine (number_bytes 0x00bab10c) (number_bytes (number_of u.version)) (number_bytes u.group.0) (number_bytes u.guid) (number_bytes u.moment) (pointer_bytes u.root) (number_bytes u.import_number) (number_bytes u.log_address) (number_bytes u.log_number)
+    nine (number_bytes 0x00bab10c) (number_bytes (number_of_version u.version)) (number_bytes u.group.0) (number_bytes u.guid) (number_bytes u.moment) (pointer_bytes u.root) (number_bytes u.import_number) (number_bytes u.log_address) (number_bytes u.log_number)
     c.args.bytes.now c.write_u64.new.bytes c.write_u64-2.new.bytes c.write_u64-3.new.bytes c.write_u64-4.new.bytes c.write_u64-5.new.bytes c.write_pointer.new.bytes c.write_u64-6.new.bytes c.write_u64-7.new.bytes c.write_u64-8.new.bytes
     (length-number_bytes _) (length-number_bytes _) (length-number_bytes _) (length-number_bytes _) (length-number_bytes _) (length-pointer_bytes u.root h) (length-number_bytes _) (length-number_bytes _) (length-number_bytes _) c.requires
     c.write_u64.ensures (c.write_u64-2.ensures ∙ ap (λ (n : ℕ). put 8 (number_bytes n) c.write_u64.new.bytes) c.number.ensures.number) c.write_u64-3.ensures c.write_u64-4.ensures c.write_u64-5.ensures c.write_pointer.ensures c.write_u64-6.ensures c.write_u64-7.ensures c.write_u64-8.ensures
