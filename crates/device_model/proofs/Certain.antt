@@ -1,5 +1,5 @@
 -- Bytes that each crash leaves: how they become certain, and that they stay so until they are written.
-use Rattle.std.proofs.Common.{◌≡◌, inl, inr, ⊎_elim, ℕ, ◌+◌, ◌≤◌, Bool, true, false, List, [], ◌∷◌, length, Result, Ok, refl, ◌∙◌, ap, subst, arith, sym, ◌<◌}
+use Rattle.std.proofs.Common.{◌≡◌, inl, inr, ⊎_elim, ℕ, ◌+◌, ◌≤◌, Bool, true, false, List, [], ◌∷◌, length, Result, Ok, refl, ◌∙◌, ap, subst, arith}
 use Rattle.base.specs.declared.error.PoolError.{PoolError}
 use Rattle.base.specs.formats.Fields.{part}
 use Rattle.base.specs.disk.Disk.{Write, Moment, Disk, moments, bytes_of, disk_size, IsTouched, IsInRange, MayLeave, wrote, settled, certain, certain_with, written, EachMoment, CrashLeaves, LeavesOnly}
@@ -12,10 +12,6 @@ use Rattle.device_model.specs.Certain.{IsCertain}
 -- what a good write wrote, a read gives
 pub written_reads : (place : ℕ) (content : List ℕ) (disk : Disk) → place + length content ≤ disk_size disk → part (bytes_of (written place content true disk).now) place (length content) ≡ content
 written_reads place content disk fits = part-put_same place content (bytes_of disk.now) fits
-
--- what no unflushed write touches is the same in any two images that a crash may leave
-pub images_agree : (m : Moment) (one other : List ℕ) (place n : ℕ) → MayLeave m one → MayLeave m other → ((i : ℕ) → place ≤ i → i < place + n → IsTouched m.unflushed i → ⊥) → part one place n ≡ part other place n
-images_agree m one other place n left_one left_other untouched = part_stands m one place n left_one untouched ∙ sym (part_stands m other place n left_other untouched)
 
 module _ (place : ℕ) (content : List ℕ) where
   abbrev Stands : Moment → Type 0

@@ -1,5 +1,5 @@
 -- How the notes of a device in memory tell its disk.
-use Rattle.std.specs.Prelude.{◌≡◌, ℕ, ◌+◌, ◌-◌, ◌*◌, ◌<◌, ◌≤◌, ◌++◌, Bool, true, false, List, [], ◌∷◌, length, take, fold}
+use Rattle.std.specs.Prelude.{◌≡◌, ℕ, ◌+◌, ◌-◌, ◌*◌, ◌<◌, ◌≤◌, ◌++◌, Bool, true, false, List, [], ◌∷◌, length, take, fold, All}
 use Rattle.std.specs.List.{AllByRecursion}
 use Rattle.base.specs.declared.piece.Piece.TheVariants.{Keep}
 use Rattle.base.specs.declared.piece.Piece.{Piece}
@@ -50,6 +50,14 @@ undone (n ∷ ns) bytes = put n.place n.old (undone ns bytes)
 pub record IsOpen (n : Note) : Type 0 where
   pub kept : n.piece ≡ Keep
   pub goes_on : n.last ≡ false
+
+-- what stood before these notes' writes lies within so many bytes
+abbrev pub OldsFit : ℕ → List Note → Type 0
+OldsFit size notes = All (λ n. n.place + length n.old ≤ size) notes
+
+-- these notes' writes lie within so many bytes
+abbrev pub WritesFit : ℕ → List Note → Type 0
+WritesFit size notes = All (λ n. n.place + length n.content ≤ size) notes
 
 -- the notes remember what stood before their writes, from these bytes on
 abbrev pub Recall : List ℕ → List Note → Type 0

@@ -1,3 +1,9 @@
+//! What the engine asks of a disk, and what each call does to it over time.
+//!
+//! ZFS asks no more of a disk than this: whole sectors are read and written, a write may be torn by a crash until the
+//! write cache is flushed, and a good flush makes certain what was written before it (`zio_flush` in OpenZFS's `zio.c`).
+//! The disk itself, its moments and what a crash may leave are defined in `base`, in `specs/disk`.
+
 ghost use Rattle.std.specs.Prelude.{◌≡◌, ℕ, ◌*◌, Bool, IfErr, IsTrue, length, OnOk};
 ghost use Rattle.base.specs.formats.Fields.{part};
 ghost use Rattle.base.specs.disk.Disk.{Disk, bytes_of, disk_size};

@@ -1,3 +1,24 @@
+//! A device in memory: the disk of tests and scripts, which fails where a plan says so and crashes on demand.
+//!
+//! It keeps the bytes that a read gives, and a note of each write since it was made. The notes are its history: the disk
+//! over time, with each moment and all that a crash may leave at it, is read from them (`specs/Notes`). No call looks at
+//! older notes, so a call costs what it copies.
+//!
+//! A write first notes the bytes that stand at its place and the bytes that it was handed, and then writes these. What
+//! fails by plan is noted too, as not done: a read gives what it gave, but a crash may leave any bytes there. Where there
+//! is no memory for the note nothing is written, and the write is refused and counted apart, since a write of which
+//! nothing is known must not have happened.
+//!
+//! A good flush settles the notes behind the last good flush or crash: the newest of them becomes the last before it,
+//! and what stood before them is let go, since nothing takes them back any more.
+//!
+//! A crash takes the notes behind the last flush back, the newest first, so that the bytes are those of that flush. Then
+//! it writes the piece of each that it leaves, the oldest first, and settles them as a flush does.
+//!
+//! What holds between two calls (`IsSound` in `specs/Memory`): there are 512 bytes for each sector; the settled notes tell
+//! a disk on which nothing is unflushed; and from its image the other notes, each with what stood before it, lead to the
+//! bytes.
+
 ghost use Rattle.std.specs.Prelude.{◌≡◌, ◌+◌, ◌*◌, ◌-◌, ◌<◌, ◌≤◌, ◌↔◌, ◌⊎◌, ◌++◌, [], ◌∷◌, length, take, drop, true, refl, IsTrue, IfOk, IfErr, OnOk, OnErr, Ok, Err, All, IsErr};
 ghost use Rattle.base.specs.formats.Fields.{part};
 ghost use Rattle.base.specs.disk.Disk.{bytes_of, disk_size, MayLeave};

@@ -1,8 +1,12 @@
-ghost use Rattle.std.specs.Prelude.{◌≡◌, ◌+◌, ◌-◌, ◌<◌, ◌≤◌, ◌↔◌, ◌++◌, length, take, drop, All, IsTrue, OnOk, OnErr};
+//! The writes that a device in memory has had, and how a crash takes them back.
+//!
+//! `specs/Notes` reads the disk over time from these notes.
+
+ghost use Rattle.std.specs.Prelude.{◌≡◌, ◌+◌, ◌-◌, ◌<◌, ◌≤◌, ◌↔◌, ◌++◌, length, take, drop, IsTrue, OnOk, OnErr};
 ghost use Rattle.base.specs.formats.Fields.{part};
 ghost use Rattle.base.specs.disk.Disk.{put};
 ghost use Rattle.base.specs.disk.Crashes.{piece_at};
-ghost use Rattle.device_model.specs.Notes.{AddsNote, Settles, TellSame, Closes, left_of, replayed, undone, with_pieces};
+ghost use Rattle.device_model.specs.Notes.{AddsNote, Closes, OldsFit, Settles, TellSame, WritesFit, left_of, replayed, undone, with_pieces};
 
 use crate::noted_bytes::{NotedBytes, fill};
 use base::Piece;
@@ -61,7 +65,8 @@ pub fn make_note(
     done: bool,
 ) -> Result<(), AllocError>
     requires { place + length content.now ≤ length bytes.now }
-    ensures ok { OnOk result (AddsNote notes.old.items notes.new.items place content.now done bytes.now) }
+    ensures ok { OnOk result
+        (AddsNote notes.old.items notes.new.items place content.now done bytes.now) }
     ensures err { OnErr result (notes.new.items ≡ notes.old.items) }
 {
     let start = place as usize;
@@ -80,7 +85,7 @@ pub fn make_note(
 
 // Puts back what was there before the writes, the newest first.
 fn undo(bytes: &mut [u8], notes: &[Note])
-    requires { All (λ n. n.place + length n.old ≤ length bytes.old) notes.now }
+    requires { OldsFit (length bytes.old) notes.now }
     ensures { bytes.new ≡ undone notes.now bytes.old }
 {
     for i in (0..notes.len()).rev() {
@@ -129,7 +134,7 @@ fn leave(bytes: &mut [u8], note: &Note)
 }
 
 fn replay(bytes: &mut [u8], notes: &[Note])
-    requires { All (λ n. n.place + length n.content ≤ length bytes.old) notes.now }
+    requires { WritesFit (length bytes.old) notes.now }
     ensures { bytes.new ≡ replayed notes.now bytes.old }
 {
     for note in notes {
@@ -166,7 +171,7 @@ pub fn settle(notes: &mut [Note], settled: usize)
 
 fn undo_from(bytes: &mut [u8], notes: &[Note], first: usize)
     requires within { first ≤ length notes.now }
-    requires fits { All (λ n. n.place + length n.old ≤ length bytes.old) (drop first notes.now) }
+    requires fits { OldsFit (length bytes.old) (drop first notes.now) }
     ensures { bytes.new ≡ undone (drop first notes.now) bytes.old }
 {
     undo(bytes, &notes[first..]);
@@ -174,7 +179,7 @@ fn undo_from(bytes: &mut [u8], notes: &[Note], first: usize)
 
 fn replay_from(bytes: &mut [u8], notes: &[Note], first: usize)
     requires within { first ≤ length notes.now }
-    requires fits { All (λ n. n.place + length n.content ≤ length bytes.old) (drop first notes.now) }
+    requires fits { WritesFit (length bytes.old) (drop first notes.now) }
     ensures { bytes.new ≡ replayed (drop first notes.now) bytes.old }
 {
     replay(bytes, &notes[first..]);
@@ -183,10 +188,8 @@ fn replay_from(bytes: &mut [u8], notes: &[Note], first: usize)
 /// Takes the writes behind so many back, leaves these pieces of them, and settles them. It takes no memory.
 pub fn leave_pieces(bytes: &mut [u8], notes: &mut [Note], settled: usize, pieces: &[Piece])
     requires within { settled ≤ length notes.old }
-    requires old_fits { All (λ n. n.place + length n.old ≤ length bytes.old)
-        (drop settled notes.old) }
-    requires fits { All (λ n. n.place + length n.content ≤ length bytes.old)
-        (drop settled notes.old) }
+    requires old_fits { OldsFit (length bytes.old) (drop settled notes.old) }
+    requires fits { WritesFit (length bytes.old) (drop settled notes.old) }
     ensures bytes { bytes.new ≡ replayed (with_pieces pieces.now 0 (drop settled notes.old))
         (undone (drop settled notes.old) bytes.old) }
     ensures notes { Settles settled

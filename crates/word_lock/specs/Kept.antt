@@ -24,6 +24,10 @@ module _ {V : Type 0} where
   abbrev pub spent : V → Sight V
   spent v = record { stage = Spent; seen = v; turns = [] }
 
+  -- what a holder knows once it has gone on to a view, which is one more turn of its own
+  abbrev pub with_turn : Sight V → V → Sight V
+  with_turn d next = holding next (d.turns ++ turn d.seen next ∷ [])
+
   module _ (grows : V → V → Type 0) (truth : V) (word holder seat : ℕ) (seen : V) where
     -- what a seat knows of the truth, by its stage
     abbrev pub Knows : Stage V → Type 0

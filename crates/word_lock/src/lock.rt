@@ -1,4 +1,25 @@
 //! The lock, and its value before and after.
+//!
+//! Its state is one word and one slot of an `atomic_table`. Bit 0 of the word says that the lock is held, bit 1 that a
+//! seat waits for it, and the bits above count the releases, which makes each wake a change of the word. The value lies
+//! in the slot while bit 0 is clear. While it is set the slot is empty, and the value is out with the one seat that set
+//! the bit.
+//!
+//! A seat takes the lock by a `fetch_or` of bit 0: where that bit was clear, the value in the slot is its own. It frees
+//! the lock in three steps, whose order is the rule of this crate:
+//!
+//! 1. a `fetch_or` of nothing, by which it goes on to the view that explains the new value, while the value is still out;
+//! 2. the value goes into the slot;
+//! 3. a `swap` clears both bits and counts one release more.
+//!
+//! With 2 before 1 the slot would have a value that no view explains, and with 3 before 2 another seat would find the
+//! slot empty. A seat that has to wait sets bit 1 and sleeps while the word stays as it is. The release that wakes one
+//! clears bit 1 for all that sleep, so the one that wakes sets it again before it tries.
+//!
+//! `specs/Kept` is what holds between any two steps: the turns of all seats are one line from the view that the lock
+//! opened with to the view that explains the value; each idle seat has seen a view that this one goes on from; one seat
+//! at most has the lock; and a seat's own turns are all that the line has of it. Nothing is promised of who gets the lock
+//! next. The crate's root says how this lock stands to those of OpenZFS.
 ghost use Rattle.std.specs.Prelude.{◌≡◌, [], ◌∷◌, Some, IfOk, IfErr};
 
 use crate::plays::Sit;
@@ -40,8 +61,7 @@ fn slot_of<T, A: Allocator>(alloc: A, value: T) -> Result<Vec<Option<T>, A>, T>
 impl<T, R: LockRule<T>, A: Allocator> WordLock<T, R, A> {
     ghost use Rattle.std.specs.Prelude.{IfSome};
     ghost use Rattle.base.specs.declared.error.PoolError.TheVariants.{NoMemory};
-    ghost use Rattle.word_lock.specs.Seats.{seen, turns, seat_table, seat_number, lock_table, opening, IsIdle};
-    ghost use Rattle.word_lock.specs.Turns.{IsHistory};
+    ghost use Rattle.word_lock.specs.Seats.{seen, seat_table, lock_table, opening, IsIdle, IsLastValue, IsNewSeat};
 
     /// A free lock over the value, which the view `first` explains, and its first seat, which has seen that view.
     ///
@@ -54,7 +74,9 @@ impl<T, R: LockRule<T>, A: Allocator> WordLock<T, R, A> {
     where
         A: Clone,
         requires { R.explains first.now.value value }
-        ensures ok { IfOk result (λ p. (seat_table p.1 ≡ lock_table p.0) × (opening p.0 ≡ first.now.value) × IsIdle p.1 × (seen p.1 ≡ first.now.value) × (turns p.1 ≡ [])) }
+        ensures opening { IfOk result (λ p. opening p.0 ≡ first.now.value) }
+        ensures seat { IfOk result (λ p. IsNewSeat p.0 p.1) }
+        ensures seen { IfOk result (λ p. seen p.1 ≡ first.now.value) }
         ensures err { IfErr result (λ e. (e.0 ≡ NoMemory) × (e.1 ≡ value)) }
     {
         let Ok(heap) = alloc.clone() else {
@@ -79,7 +101,8 @@ impl<T, R: LockRule<T>, A: Allocator> WordLock<T, R, A> {
 
     /// One more seat, at any time. It has seen a view that goes on from the one that the lock opened with, and has had no turn.
     pub fn seat(&self) -> Seat<T, R>
-        ensures { (seat_table result ≡ lock_table self.now) × IsIdle result × R.grows (opening self.now) (seen result) × (turns result ≡ []) }
+        ensures seat { IsNewSeat self.now result }
+        ensures seen { R.grows (opening self.now) (seen result) }
     {
         let (_, inside) = self.table.shared.load_new_seat::<Sit<R>>(0);
         Seat { inside }
@@ -101,7 +124,7 @@ impl<T, R: LockRule<T>, A: Allocator> WordLock<T, R, A> {
         T: Drop,
         requires own { seat_table seat ≡ lock_table self }
         requires idle { IsIdle seat }
-        ensures { IfSome result (λ x. (v : R.View) × R.explains v x × R.grows (seen seat) v × IsHistory R.grows (opening self) (seat_number seat) (turns seat) v) }
+        ensures { IfSome result (λ x. IsLastValue R.grows R.explains self seat x) }
     {
         let Seat { inside } = seat;
         let mut closed = self.table.close_with(inside);

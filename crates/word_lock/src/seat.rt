@@ -1,10 +1,9 @@
 //! A thread's seat at a lock, and what takes the lock.
-ghost use Rattle.std.specs.Prelude.{◌≡◌, [], ◌∷◌, ◌++◌, IfSome, MatchOption, None};
+ghost use Rattle.std.specs.Prelude.{◌≡◌, [], ◌∷◌, IfNone, IfSome, None};
 ghost use Rattle.std.specs.Borrow.{sem, RestsIfNone};
 ghost use Rattle.word_lock.specs.contracts.seat.Seat.{the_row};
-ghost use Rattle.word_lock.specs.Kept.{holding};
-ghost use Rattle.word_lock.specs.Turns.{turn};
-ghost use Rattle.word_lock.specs.Seats.{seen, turns, seat_table, lock_table, IsIdle, IsHolding, IsSameSeat, IsAsBefore};
+ghost use Rattle.word_lock.specs.Kept.{holding, with_turn};
+ghost use Rattle.word_lock.specs.Seats.{seen, turns, seat_table, lock_table, HasJoined, HasTaken, HasTurned, IsAsBefore, IsHolding, IsIdle, IsNewSeat, IsSameSeat};
 
 use crate::guard::{Guard, Held, seen_view};
 use crate::lock::WordLock;
@@ -36,10 +35,14 @@ impl<T, R: LockRule<T>> Seat<T, R> {
     ) -> Option<Guard<'s, 'l, T, R, A>>
         requires own { seat_table self.old ≡ lock_table lock.now }
         requires idle { IsIdle self.old }
-        ensures* unchanged { sem 𝓛 (RestsIfNone (the_row T.row R.row R.View.row) self.entry (λ h. h.seat.ghost_name) result (IsAsBefore self.old)) }
+        ensures* unchanged { sem 𝓛 (RestsIfNone (the_row T.row R.row R.View.row) self.entry
+            (λ h. h.seat.ghost_name) result (IsAsBefore self.old)) }
         ensures same_reference { IfSome result (λ h. h.seat.ghost_name ≡ self.entry.ghost_name) }
-        ensures same { IfSome result (λ h. IsSameSeat self.old h.seat.now × (h.lock ≡ lock.entry) × (turns h.seat.now ≡ turns self.old)) }
-        ensures held { IfSome result (λ h. IsHolding h.seat.now × R.grows (seen self.old) (seen h.seat.now) × R.explains (seen h.seat.now) h.held.value × (h.held.view.value ≡ seen h.seat.now)) }
+        ensures same { IfSome result (λ h. IsSameSeat self.old h.seat.now) }
+        ensures lock { IfSome result (λ h. h.lock ≡ lock.entry) }
+        ensures held { IfSome result
+            (λ h. HasTaken R.grows R.explains self.old h.seat.now h.held.value) }
+        ensures view { IfSome result (λ h. h.held.view.value ≡ seen h.seat.now) }
     {
         match self.try_take(lock) {
             Some(value) => {
@@ -65,8 +68,10 @@ impl<T, R: LockRule<T>> Seat<T, R> {
         requires own { seat_table self.old ≡ lock_table lock.now }
         requires idle { IsIdle self.old }
         ensures same_reference { result.seat.ghost_name ≡ self.entry.ghost_name }
-        ensures same { IsSameSeat self.old result.seat.now × (result.lock ≡ lock.entry) × (turns result.seat.now ≡ turns self.old) }
-        ensures held { IsHolding result.seat.now × R.grows (seen self.old) (seen result.seat.now) × R.explains (seen result.seat.now) result.held.value × (result.held.view.value ≡ seen result.seat.now) }
+        ensures same { IsSameSeat self.old result.seat.now }
+        ensures lock { result.lock ≡ lock.entry }
+        ensures held { HasTaken R.grows R.explains self.old result.seat.now result.held.value }
+        ensures view { result.held.view.value ≡ seen result.seat.now }
     {
         let value = self.take(rt, lock);
         let view = seen_view(self);
@@ -82,7 +87,8 @@ impl<T, R: LockRule<T>> Seat<T, R> {
         requires own { seat_table self.old ≡ lock_table lock.now }
         requires idle { IsIdle self.old }
         ensures same { IsSameSeat self.old self.new }
-        ensures got { MatchOption result (self.new.inside.me ≡ self.old.inside.me) (λ x. IsHolding self.new × (turns self.new ≡ turns self.old) × R.grows (seen self.old) (seen self.new) × R.explains (seen self.new) x) }
+        ensures unchanged { IfNone result (IsAsBefore self.old self.new) }
+        ensures got { IfSome result (λ x. HasTaken R.grows R.explains self.old self.new x) }
     {
         let shared = &lock.table.shared;
         let found = shared.fetch_or::<Try<R>>(&mut self.inside, 0, HELD);
@@ -100,7 +106,7 @@ impl<T, R: LockRule<T>> Seat<T, R> {
         requires own { seat_table self.old ≡ lock_table lock.now }
         requires idle { IsIdle self.old }
         ensures same { IsSameSeat self.old self.new }
-        ensures got { IsHolding self.new × (turns self.new ≡ turns self.old) × R.grows (seen self.old) (seen self.new) × R.explains (seen self.new) result }
+        ensures got { HasTaken R.grows R.explains self.old self.new result }
     {
         let backoff = Backoff::new();
         for _ in 0..TRIES {
@@ -148,7 +154,7 @@ impl<T, R: LockRule<T>> Seat<T, R> {
         requires explains { R.explains next.now.value value }
         ensures same { IsSameSeat self.old self.new }
         ensures freed { IsIdle self.new × (seen self.new ≡ next.now.value) }
-        ensures turn { turns self.new ≡ turns self.old ++ turn (seen self.old) next.now.value ∷ [] }
+        ensures turn { HasTurned self.old self.new next.now.value }
     {
         let shared = &lock.table.shared;
         let found = note::<T, R, Brand, A>(lock, &mut self.inside, next);
@@ -165,7 +171,8 @@ impl<T, R: LockRule<T>> Seat<T, R> {
         requires own { seat_table self.old ≡ lock_table lock.now }
         requires idle { IsIdle self.old }
         ensures same { IsAsBefore self.old self.new }
-        ensures other { (seat_table result ≡ seat_table self.old) × IsIdle result × (seen result ≡ seen self.old) × (turns result ≡ []) }
+        ensures other { IsNewSeat lock.now result }
+        ensures seen { seen result ≡ seen self.old }
     {
         Seat {
             inside: lock.table.shared.split_seat::<Copy>(&mut self.inside),
@@ -174,10 +181,11 @@ impl<T, R: LockRule<T>> Seat<T, R> {
 
     /// Takes in what another seat has seen, and uses that seat up. Afterwards this one has seen a view that goes on from both. Its turns are still its own alone. It never waits.
     pub fn join<A: Allocator>(&mut self, lock: &WordLock<T, R, A>, other: Seat<T, R>)
-        requires own { (seat_table self.old ≡ lock_table lock.now) × (seat_table other ≡ lock_table lock.now) }
+        requires own { seat_table self.old ≡ lock_table lock.now }
+        requires same_lock { seat_table other ≡ lock_table lock.now }
         requires idle { IsIdle self.old × IsIdle other }
         ensures same { IsSameSeat self.old self.new × (turns self.new ≡ turns self.old) }
-        ensures both { IsIdle self.new × R.grows (seen self.old) (seen self.new) × R.grows (seen other) (seen self.new) }
+        ensures both { HasJoined R.grows self.old other self.new }
     {
         let Seat { inside } = other;
         let shared = &lock.table.shared;
@@ -197,7 +205,7 @@ fn note<T, R: LockRule<T>, J: Next, A: Allocator>(
     requires held { seat.old.me ≡ (holding seat.old.me.0.seen seat.old.me.0.turns, (0, None) ∷ []) }
     requires grows { R.grows seat.old.me.0.seen next.now.value }
     ensures same { (seat.new.table_id ≡ seat.old.table_id) × (seat.new.id ≡ seat.old.id) }
-    ensures noted { seat.new.me ≡ (holding next.now.value (seat.old.me.0.turns ++ turn seat.old.me.0.seen next.now.value ∷ []), seat.old.me.1) }
+    ensures noted { seat.new.me ≡ (with_turn seat.old.me.0 next.now.value, seat.old.me.1) }
 {
     let _ = next;
     lock.table.shared.fetch_or::<Note<J>>(seat, 0, 0)

@@ -2,4 +2,4 @@ use Rattle.word_lock.proofs.Keeps.{closes_onward}
 use Rattle.word_lock.proofs.lock.WordLock.close.Goals as goal
 
 pub returns : goal.returns
-returns g c = closes_onward _ _ _ g.R.LockRule.onward _ _ _ _ c.seat-seat.ensures.2 c.close_with.ensures
+returns g c = closes_onward _ _ _ g.R.LockRule.onward _ _ _ _ c.seat-seat.ensures.seen c.close_with.ensures
