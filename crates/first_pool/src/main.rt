@@ -1,0 +1,67 @@
+//! Makes a pool in memory, writes five bytes to it, loses the power, and reads what was synced.
+#![tactic(auto)]
+
+use anyhow::Result;
+use base::{Bytes, MAX_LENGTH, Mode, ObjectId, Op, Ops, Owner, Plan, PoolError, Range, Shape};
+use device_model::MemDevice;
+use import_replay::{create, import};
+use pool_core::{PoolState, Progress};
+use std::alloc::Global;
+
+const OWNER: Owner = Owner(1);
+
+const NOTES: ObjectId = ObjectId(1);
+
+const FRONT: Range = Range { low: 0, high: 5 };
+
+fn main(rt: HostRuntime) -> Result<()> {
+    let alloc = rt.alloc();
+    let disk = MemDevice::new(alloc, 16_384)?;
+    let disk = create(disk, b"tank", 77, 0).map_err(|(error, _)| error)?;
+    let mut pool = mount(alloc, disk)?;
+
+    write_hello(alloc, &mut pool)?;
+    sync(&mut pool)?;
+
+    let disk = pool.into_device().crash(&[]);
+    let mut pool = mount(alloc, disk)?;
+    pool.lock(OWNER, NOTES, FRONT, Mode::Reader)?;
+    let bytes = pool.read(OWNER, NOTES, FRONT)?;
+    println!(rt; "{}", str::from_utf8(bytes.as_slice())?)?;
+    Ok(())
+}
+
+// The pool that the disk mounts. The limit of dirty bytes is a megabyte.
+fn mount(alloc: Global, disk: MemDevice) -> Result<PoolState<MemDevice>, PoolError> {
+    let imported = import(alloc, disk, 1_048_576, 0).map_err(|(error, _)| error)?;
+    Ok(PoolState::new(imported))
+}
+
+// One transaction: object 1 is created and has five bytes. A create needs a lock of the whole object.
+fn write_hello(alloc: Global, pool: &mut PoolState<MemDevice>) -> Result<(), PoolError> {
+    let whole = Range {
+        low: 0,
+        high: MAX_LENGTH,
+    };
+    let lock = pool.lock(OWNER, NOTES, whole, Mode::Writer)?;
+    let plan = Plan::new(vec![in alloc; Shape::Create(NOTES), Shape::Write(NOTES, 0, 5)]?);
+    let (tx, _) = pool.begin(OWNER, plan)?;
+    let mut ops = Vec::new(alloc);
+    ops.push(Op::Create(NOTES))?;
+    ops.push(Op::Write(NOTES, 0, Bytes::from_slice(alloc, b"hello")?))?;
+    pool.commit(tx, Ops::new(ops))?;
+    pool.unlock(OWNER, lock)
+}
+
+// Closes the open group and syncs it. Each step makes one device call, and the last answers the group.
+fn sync(pool: &mut PoolState<MemDevice>) -> Result<(), PoolError> {
+    pool.close_group()?;
+    pool.mark_quiesced()?;
+    pool.start_sync(0)?;
+    for _ in 0..u64::MAX {
+        if let Progress::Synced(_) = pool.sync_step()? {
+            break;
+        }
+    }
+    Ok(())
+}
