@@ -10,7 +10,6 @@ pub mod KeptLog
 pub mod KeptWrites
 pub mod KeptFlushes
 pub mod KeptTables
-pub mod AnySteps
 pub mod SyncEnds
 pub mod SeenStates
 pub mod SeenGroups

@@ -6,7 +6,6 @@ pub mod StoredStarts
 pub mod StoredSyncs
 pub mod StoredCalls
 pub mod StoredCover
-pub mod StoredWrites
 pub mod StoredImports
 pub mod StoredRuns
 pub mod HeldMounts

@@ -5,5 +5,4 @@ pub mod UntouchedRecords
 pub mod FreedBlocks
 pub mod WrittenRecords
 pub mod BuiltPlaces
-pub mod ReadTrees
 pub mod OneTree

@@ -1,3 +1,5 @@
+//! Bytes that operations and replies carry, in one allocation that is taken and given back whole.
+
 use std::alloc::{AllocError, Global};
 use std::marker::Model;
 

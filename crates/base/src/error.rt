@@ -1,3 +1,8 @@
+//! Why a call of a pool is refused: one enum for all crates, with its numbers and its texts.
+//!
+//! Each step has its tests in a fixed order, and the first that applies is its refusal (`specs/steps/Refusals`). Want of memory
+//! and what the device refuses come after them.
+
 use std::alloc::{AllocError, AllocFailed};
 use thiserror::Error;
 

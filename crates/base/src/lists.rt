@@ -1,3 +1,5 @@
+//! What a transaction means to do and what it does, as lists in one allocation: `Plan` of shapes, `Ops` of operations.
+
 use crate::operation::{Op, Shape};
 use std::marker::Model;
 

@@ -1,3 +1,5 @@
+//! The grammar of a pool's name (`zpool create`'s, without the colon and the space), and a name that is kept in place.
+
 ghost use Rattle.std.specs.Prelude.{◌≡◌};
 ghost use Rattle.std.specs.List.{list_all};
 ghost use Rattle.base.specs.formats.Names as names;

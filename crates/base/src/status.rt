@@ -1,3 +1,5 @@
+//! What a pool tells of its groups and its sums. No call gives it yet.
+
 use crate::names::Group;
 
 /// The groups of a pool, and its sums.

@@ -1,3 +1,17 @@
+//! The events of a pool, and what each answers.
+//!
+//! A run of a pool is a list of these steps, made one at a time. What a step does, and the first of its tests that refuses it,
+//! stands in `specs/steps` (`Refusals`, `Steps`, and `Stage` where less is built); `Runs` says it of these two enums.
+//!
+//! - Locks (`zfs_rlock.c`): `Lock`, `Unlock`.
+//! - Transactions (`dmu_tx.c`): `Begin` with a plan whose ranges lie in writer locks of the owner, `Commit` with operations of
+//!   just these shapes, `Read` under a lock of the owner.
+//! - Groups (`txg.c`): `CloseGroup` opens the next group, `MarkQuiesced` says that no transaction of the closed one is open,
+//!   `StartSync` plans what is written of it, and each `SyncStep` makes one device call, of which the last answers `Synced`.
+//!
+//! A refused step changes nothing, with one exception: where the device refuses a `SyncStep` its write or its flush the pool is
+//! suspended, and it refuses each step from then on.
+
 use crate::bytes::Bytes;
 use crate::error::PoolError;
 use crate::lists::{Ops, Plan};

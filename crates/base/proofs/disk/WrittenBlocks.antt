@@ -1,5 +1,5 @@
 -- Blocks of the area that are written one after another: each stands, and every other block is the same.
-use Rattle.std.proofs.Common.{◌≡◌, ℕ, zero, suc, Bool, true, ◌+◌, ◌*◌, ◌<◌, ◌≤◌, List, [], ◌∷◌, ◌++◌, length, take, refl, ap, sym, subst, ◌∙◌, arith, inl, inr}
+use Rattle.std.proofs.Common.{◌≡◌, ℕ, zero, suc, Bool, true, ◌+◌, ◌*◌, ◌<◌, ◌≤◌, List, [], ◌∷◌, length, refl, ap, sym, subst, ◌∙◌, arith, inl, inr}
 use Rattle.std.specs.Prelude.{Some, None, ◌≢◌, slice_get}
 use Rattle.std.proofs.lemmas.Bool.{cases_lt}
 use Rattle.std.specs.Ordering.{nat_cmp}
@@ -7,27 +7,23 @@ use Rattle.std.specs.FinMap as map
 use Rattle.std.specs.FinMap.{FinMap}
 use Rattle.base.specs.declared.pointer.Pointer.{Pointer}
 use Rattle.base.specs.formats.Limits.{object_count}
-use Rattle.base.specs.formats.Fields.{part, no_pointer}
+use Rattle.base.specs.formats.Fields.{part}
 use Rattle.base.specs.formats.Geometry.{block_area, block_size, block_address, IsBlockAddress}
 use Rattle.base.specs.formats.Blocks.{Frame}
-use Rattle.base.specs.disk.Disk.{put, SameOutside, IsInRange, Apart}
+use Rattle.base.specs.disk.Disk.{put, Apart}
 use Rattle.base.specs.tree.Places.{Place, IsPlace, IsInTree}
 use Rattle.base.specs.tree.Places.Place.{Root}
 use Rattle.base.specs.tree.PlacedTrees.{HoldsTree, ArePlaced}
 use Rattle.base.specs.tree.PlannedTrees.{NewBlock, IsTreePlan, SameBlock, IsBlockWritten}
 pub use Rattle.base.specs.stored.Stored.{AreBlocks, IsUnwritten, LeavesTree}
-use Rattle.base.proofs.disk.Put.{length-put, part-put_same, part-put_apart, part_same}
+use Rattle.base.proofs.disk.Put.{length-put, part-put_same, part-put_apart}
 use Rattle.base.proofs.tree.PlacedTrees.{holds-placed, told-in_tree}
-use Rattle.base.proofs.tree.PlannedTrees.{holds-elsewhere, planned-holds}
+use Rattle.base.proofs.tree.PlannedTrees.{planned-holds}
 
 -- the bytes with these blocks written over them, the first one first
 abbrev pub put_blocks : List NewBlock → List ℕ → List ℕ
 put_blocks [] image = image
 put_blocks (b ∷ bs) image = put_blocks bs (put b.address b.content image)
-
--- a byte of one of the blocks
-abbrev pub IsInBlocks : List NewBlock → ℕ → Type 0
-IsInBlocks bs i = (j : ℕ) × (b : NewBlock) × (slice_get bs j ≡ Some b) × IsInRange b.address block_size i
 
 -- two blocks at different addresses have no byte in common
 pub blocks-apart : (blocks a b : ℕ) → IsBlockAddress blocks a → IsBlockAddress blocks b → a ≢ b → Apart a block_size b block_size
@@ -38,33 +34,6 @@ blocks-apart blocks a b a_in b_in differ =
       | inl below ↦ inl (omega (arith, below, a_at, b_at))
       | inr above ↦ inr (omega (arith, above, differ, a_at, b_at))
     ]
-
--- rising addresses differ
-pub rising-apart : (bs : List NewBlock) → ((i j : ℕ) (b c : NewBlock) → i < j → slice_get bs i ≡ Some b → slice_get bs j ≡ Some c → b.address < c.address)
-    → (i j : ℕ) (b c : NewBlock) → slice_get bs i ≡ Some b → slice_get bs j ≡ Some c → b.address ≡ c.address → i ≡ j
-rising-apart bs rising i j b c at_i at_j same = elim (cases_lt i j) as (λ _. i ≡ j) [
-  | inl before ↦ absurd (let less = rising i j b c before at_i at_j in omega (arith, less, same))
-  | inr from ↦ elim (cases_lt j i) as (λ _. i ≡ j) [
-    | inl behind ↦ absurd (let less = rising j i c b behind at_j at_i in omega (arith, less, same))
-    | inr to ↦ omega (arith, from, to)
-  ]
-]
-
--- a block is the same in an image that differs elsewhere alone
-pub same-outside : (Region : ℕ → Type 0) (base image : List ℕ) (place n : ℕ) → SameOutside Region base image → ((i : ℕ) → IsInRange place n i → Region i → ⊥) → part image place n ≡ part base place n
-same-outside Region base image place n same out = part_same image base place n same.size (λ i from to. same.others i (out i (from, to)))
-
--- so is each block of a tree, and the tree with them, where the region has no byte of one
-pub blocks-same : (Region : ℕ → Type 0) (base image : List ℕ) (pointers : Place → Pointer) → SameOutside Region base image
-    → ((place : Place) → IsPlace place → pointers place ≢ no_pointer → (i : ℕ) → IsInRange (pointers place).address block_size i → Region i → ⊥)
-    → (place : Place) → IsPlace place → SameBlock base image (pointers place)
-blocks-same Region base image pointers same out place in_range some =
-    same-outside Region base image (pointers place).address block_size same (out place in_range some)
-
-pub holds-outside : (Region : ℕ → Type 0) (base image : List ℕ) (frame : Frame) (pointers : Place → Pointer) (objects : FinMap nat_cmp (List ℕ)) → HoldsTree base frame pointers objects → SameOutside Region base image
-    → ((place : Place) → IsPlace place → pointers place ≢ no_pointer → (i : ℕ) → IsInRange (pointers place).address block_size i → Region i → ⊥) → HoldsTree image frame pointers objects
-holds-outside Region base image frame pointers objects holds same out =
-    holds-elsewhere base image frame frame refl refl (omega arith) pointers objects holds (blocks-same Region base image pointers same out)
 
 -- free addresses, of which none is in the old tree, are apart from it
 pub free-leaves_tree : (image : List ℕ) (frame : Frame) (old : Place → Pointer) (before : FinMap nat_cmp (List ℕ)) (is_free : ℕ → Bool) (bs : List NewBlock) → HoldsTree image frame old before
@@ -92,12 +61,6 @@ module _ (blocks : ℕ) where
       let long = are.whole zero b refl in
       let fits = block-fits b.address (length image) (are.in_area zero b refl) room in
       omega (arith, long, fits)
-
-  pub length-put_blocks : (bs : List NewBlock) (image : List ℕ) → AreBlocks blocks bs → block_area + block_size * blocks ≤ length image → length (put_blocks bs image) ≡ length image
-  length-put_blocks [] image are room = refl
-  length-put_blocks (b ∷ bs) image are room =
-      let long = length-put b.address b.content image (first-fits b bs image are room) in
-      length-put_blocks bs (put b.address b.content image) (rest-are b bs are) (omega (arith, long, room)) ∙ long
 
   -- a block at another address is as before
   pub others-same : (bs : List NewBlock) (image : List ℕ) (address : ℕ) → AreBlocks blocks bs → block_area + block_size * blocks ≤ length image → IsBlockAddress blocks address
@@ -138,41 +101,6 @@ module _ (blocks : ℕ) where
     | inl none ↦ absurd (some none)
     | inr is ↦ others-same bs image (old place).address are room is (leaves place in_range some)
   ]
-
-  -- no byte of a block is in blocks that are at other addresses
-  unwritten-out : (bs : List NewBlock) (address : ℕ) → AreBlocks blocks bs → IsUnwritten bs address → IsBlockAddress blocks address → (i : ℕ) → IsInRange address block_size i → IsInBlocks bs i → ⊥
-  unwritten-out bs address are unwritten is i here (j, b, at, there) = elim (blocks-apart blocks b.address address (are.in_area j b at) is (unwritten j b at)) [
-    | inl before ↦ let from = here.0 in let to = there.1 in omega (arith, from, to, before)
-    | inr behind ↦ let to = here.1 in let from = there.0 in omega (arith, from, to, behind)
-  ]
-
-  -- no byte of a tree is in blocks that are at none of its addresses
-  pub tree-out : (old : Place → Pointer) (bs : List NewBlock) → ArePlaced blocks old → LeavesTree bs old → AreBlocks blocks bs
-      → (place : Place) → IsPlace place → old place ≢ no_pointer → (i : ℕ) → IsInRange (old place).address block_size i → IsInBlocks bs i → ⊥
-  tree-out old bs placed leaves are place in_range some i here written = elim (placed place in_range) [
-    | inl none ↦ some none
-    | inr is ↦ unwritten-out bs (old place).address are (leaves place in_range some) is i here written
-  ]
-
-  -- so it is also the same in an image that differs in bytes of these blocks alone, as a crash may leave it
-  pub tree-same_outside : (old : Place → Pointer) (bs : List NewBlock) (base image : List ℕ) → ArePlaced blocks old → LeavesTree bs old → AreBlocks blocks bs → SameOutside (IsInBlocks bs) base image
-      → (place : Place) → IsPlace place → SameBlock base image (old place)
-  tree-same_outside old bs base image placed leaves are same = blocks-same (IsInBlocks bs) base image old same (tree-out old bs placed leaves are)
-
--- one block more
-pub put_blocks-push : (bs : List NewBlock) (b : NewBlock) (image : List ℕ) → put_blocks (bs ++ b ∷ []) image ≡ put b.address b.content (put_blocks bs image)
-put_blocks-push [] b image = refl
-put_blocks-push (c ∷ bs) b image = put_blocks-push bs b (put c.address c.content image)
-
-pub put_blocks-more : (bs : List NewBlock) (i : ℕ) (b : NewBlock) (image : List ℕ) → slice_get bs i ≡ Some b → put_blocks (take (i + 1) bs) image ≡ put b.address b.content (put_blocks (take i bs) image)
-put_blocks-more [] i b image at = absurd (let no_way : None ≡ Some b = at in cc)
-put_blocks-more (c ∷ bs) zero b image at =
-    let is : c ≡ b = cc in
-    let on : zero + 1 ≡ suc zero = omega arith in
-    ap (λ (n : ℕ). put_blocks (take n (c ∷ bs)) image) on ∙ ap (λ (d : NewBlock). put d.address d.content image) is
-put_blocks-more (c ∷ bs) (suc i) b image at =
-    let on : suc i + 1 ≡ suc (i + 1) = omega arith in
-    ap (λ (n : ℕ). put_blocks (take n (c ∷ bs)) image) on ∙ put_blocks-more bs i b (put c.address c.content image) at
 
 -- a planned tree is held once its blocks are written, where none of them is at an address of the old tree
 pub planned-written : (image : List ℕ) (frame grown : Frame) (bs : List NewBlock) (old new : Place → Pointer) (before after : FinMap nat_cmp (List ℕ))

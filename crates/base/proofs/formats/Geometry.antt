@@ -2,7 +2,7 @@
 use Rattle.std.proofs.Common.{◌≡◌, ℕ, zero, suc, ◌+◌, ◌-◌, ◌*◌, ◌%◌, ◌<◌, ◌≤◌, inl, inr, arith}
 use Rattle.std.proofs.lemmas.Bool.Decides.{nat_tests}
 use Rattle.base.specs.disk.Calls.{IsOnDevice}
-use Rattle.base.specs.formats.Geometry.{IsGeometry, IsBlockAddress, IsWritable, block_area, block_count, block_address, block_size, label_place, config_place, slot_place}
+use Rattle.base.specs.formats.Geometry.{IsGeometry, IsWritable, block_area, block_count, block_address, block_size, label_place, config_place, slot_place}
 
 -- a device has at least 6 MiB and at most 1 GiB, and a multiple of 256 KiB
 pub record IsSize (size : ℕ) : Type 0 where
@@ -23,43 +23,15 @@ label-on_device size label g below = go label (IsGeometry-IsSize size g)
     go (suc (suc zero)) s = record { aligned = omega (arith, s.least, s.whole); whole = omega arith; within = omega (arith, s.least) }
     go (suc (suc (suc k))) s = record { aligned = omega (arith, s.least, s.whole); whole = omega arith; within = omega (arith, s.least) }
 
--- so does each part of it that is whole sectors
-pub part-on_device : (size label at n : ℕ) → IsGeometry size → label < 4 → at % 512 ≡ 0 → n % 512 ≡ 0 → at + n ≤ 262144 → IsOnDevice size (label_place size label + at) n
-part-on_device size label at n g below aligned whole fits =
-    let l = label-on_device size label g below in
-    record { aligned = omega (arith, l.aligned, aligned); whole = whole; within = omega (arith, l.within, fits) }
-
--- the config with all that lies behind it up to the end of the uberblock array
-pub config-to_end-on_device : (size label : ℕ) → IsGeometry size → label < 4 → IsOnDevice size (config_place size label) 245760
-config-to_end-on_device size label g below = part-on_device size label 16384 245760 g below (omega arith) (omega arith) (omega arith)
-
-pub config-on_device : (size label : ℕ) → IsGeometry size → label < 4 → IsOnDevice size (config_place size label) 4096
-config-on_device size label g below = part-on_device size label 16384 4096 g below (omega arith) (omega arith) (omega arith)
-
 -- a slot is two sectors
 pub slot-on_device : (size label slot : ℕ) → IsGeometry size → label < 4 → slot < 128 → IsOnDevice size (slot_place size label slot) 1024
 slot-on_device size label slot g below in_array =
     let l = label-on_device size label g below in
     record { aligned = omega (arith, l.aligned); whole = omega arith; within = omega (arith, l.within, in_array) }
 
--- the uberblock array
-pub array-on_device : (size label : ℕ) → IsGeometry size → label < 4 → IsOnDevice size (slot_place size label 0) 131072
-array-on_device size label g below =
-    let l = label-on_device size label g below in
-    record { aligned = omega (arith, l.aligned); whole = omega arith; within = omega (arith, l.within) }
-
 -- the blocks end where label 2 begins at the latest
 pub blocks-end : (size : ℕ) → IsGeometry size → block_area + block_size * block_count size ≤ size - 524288
 blocks-end size g = let s = IsGeometry-IsSize size g in omega (arith, s.least)
-
-pub block-on_device : (size k : ℕ) → IsGeometry size → k < block_count size → IsOnDevice size (block_address k) 4096
-block-on_device size k g below =
-    record { aligned = omega arith; whole = omega arith; within = omega (arith, blocks-end size g, below) }
-
-pub address-on_device : (size address : ℕ) → IsGeometry size → IsBlockAddress (block_count size) address → IsOnDevice size address 4096
-address-on_device size address g (k, below, is) =
-    let o = block-on_device size k g below in
-    record { aligned = omega (arith, o.aligned, is); whole = omega arith; within = omega (arith, o.within, is) }
 
 -- labels are apart, and the blocks lie between label 1 and label 2
 pub labels-apart : (size k l : ℕ) → IsGeometry size → k < l → l < 4 → label_place size k + 262144 ≤ label_place size l

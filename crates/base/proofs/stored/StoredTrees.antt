@@ -9,7 +9,7 @@ use Rattle.base.specs.declared.pointer.Pointer.{Pointer}
 use Rattle.base.specs.formats.Fields.{part, number_at}
 use Rattle.base.specs.formats.Geometry.{block_area, block_size, block_address, block_count, label_place, IsGeometry, IsBlockAddress}
 use Rattle.base.specs.formats.Blocks.{Frame}
-use Rattle.base.specs.disk.Disk.{put, SameOutside, IsInRange, Apart}
+use Rattle.base.specs.disk.Disk.{put, Apart}
 use Rattle.base.specs.steps.Locks.{is_in}
 use Rattle.base.specs.tree.Places.{Place, IsPlace, IsInTree}
 use Rattle.base.specs.tree.Places.Place.{Root}
@@ -27,7 +27,7 @@ use Rattle.base.proofs.formats.LabelPlaces.{label-apart}
 use Rattle.base.proofs.steps.BusyLocks.{Some-injective}
 use Rattle.base.proofs.tree.PlacedTrees.{holds-tree, holds-placed, none_or_opens, in-tree, told-in_tree}
 use Rattle.base.proofs.tree.PlannedTrees.{holds-elsewhere}
-use Rattle.base.proofs.disk.WrittenBlocks.{blocks-apart, same-outside}
+use Rattle.base.proofs.disk.WrittenBlocks.{blocks-apart}
 
 -- the device holds the tree of the objects that the entries up to the synced group leave
 pub stored-synced_tree : (now : List ℕ) (s : Shown) (pointers : Place → Pointer) (past : Past) → IsStored now s pointers past → IsSyncedTree now s past
@@ -77,25 +77,6 @@ blocks-along blocks image other pointers placed same place in_range some = elim 
   | inl none ↦ absurd (some none)
   | inr is ↦ same.each (pointers place).address is
 ]
-
--- a change outside the block area leaves each block as it was
-pub outside-blocks : (Region : ℕ → Type 0) (blocks : ℕ) (now later : List ℕ) → SameOutside Region now later
-    → ((i : ℕ) → Region i → (i < block_area) ⊎ (block_area + block_size * blocks ≤ i)) → SameBlocks blocks now later
-outside-blocks Region blocks now later same out = record {
-  size = same.size;
-  each = λ address is. same-outside Region now later address block_size same (λ i here there. away address is i here (out i there));
-}
-  where
-    away : (address : ℕ) → IsBlockAddress blocks address → (i : ℕ) → IsInRange address block_size i → (i < block_area) ⊎ (block_area + block_size * blocks ≤ i) → ⊥
-    away address is i here (inl before) =
-        let at : address ≡ block_address is.0 = is.2 in
-        let from : address ≤ i = here.0 in
-        omega (arith, at, from, before)
-    away address is i here (inr behind) =
-        let at : address ≡ block_address is.0 = is.2 in
-        let below : is.0 < blocks = is.1 in
-        let to : i < address + block_size = here.1 in
-        omega (arith, at, below, to, behind)
 
 -- no block becomes a log block then
 pub same-no_log : (now later : List ℕ) → HasNoLogBlock now → SameBlocks (block_count (length now)) now later → HasNoLogBlock later

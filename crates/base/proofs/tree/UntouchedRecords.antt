@@ -12,7 +12,7 @@ use Rattle.base.specs.formats.Limits.{record_size}
 use Rattle.base.specs.history.Sequences.{in_turn}
 use Rattle.base.specs.history.Contents.{Contents, at_object, with_object, stored, apply, created, removed, changed, resize, bytes_after_write}
 use Rattle.base.specs.history.Plans.{shape_of}
-use Rattle.base.specs.history.History.{Entry, apply_all, run, replay}
+use Rattle.base.specs.history.History.{apply_all}
 use Rattle.base.specs.tree.Syncs.{is_on, is_record_touched}
 use Rattle.base.specs.steps.Stage.{is_shape_built}
 use Rattle.base.specs.tree.Tree.{record_bytes}
@@ -174,27 +174,3 @@ module _ (n : ℕ) where
 
   pub untouched-entry : (ops : List Op) (before after : Contents) → All (LeavesObject n) ops → apply_all ops before ≡ Ok after → SameEntry (map.get before.objects n) (map.get after.objects n)
   untouched-entry ops before after all h = ap (λ (o : Option (List ℕ)). option_map length o) (untouched-object ops before after all h)
-
--- the same of transactions in order
-entry-stays : (n r : ℕ) (entries : List Entry) (before after : Contents) → All (λ (e : Entry). All (LeavesRecord n r) e.ops) entries → replay entries before ≡ Ok after
-    → RecordStays r (map.get before.objects n) (map.get after.objects n)
-entry-stays n r [] before after all h =
-    let e : before ≡ after = cc in
-    subst (λ (c : Contents). RecordStays r (map.get before.objects n) (map.get c.objects n)) e (stays-refl r (map.get before.objects n))
-entry-stays n r (e ∷ entries) before after all h =
-    let p = parted (run e before) (in_turn run entries) after h in
-    stays-then r (map.get before.objects n) (map.get p.0.objects n) (map.get after.objects n)
-    (all-stay n r e.ops before p.0 (All-head (λ (x : Entry). All (LeavesRecord n r) x.ops) e entries all) p.1)
-    (entry-stays n r entries p.0 after (All-tail (λ (x : Entry). All (LeavesRecord n r) x.ops) e entries all) p.2)
-
-pub untouched-stays_replay : (n r : ℕ) (entries : List Entry) (before after : Contents) → All (λ (e : Entry). All (LeavesRecord n r) e.ops) entries → replay entries before ≡ Ok after
-    → SameRecord r (map.get before.objects n) (map.get after.objects n)
-untouched-stays_replay n r entries before after all h = (entry-stays n r entries before after all h).0
-
-pub untouched-object_replay : (n : ℕ) (entries : List Entry) (before after : Contents) → All (λ (e : Entry). All (LeavesObject n) e.ops) entries → replay entries before ≡ Ok after
-    → map.get before.objects n ≡ map.get after.objects n
-untouched-object_replay n [] before after all h = let e : before ≡ after = cc in ap (λ (c : Contents). map.get c.objects n) e
-untouched-object_replay n (e ∷ entries) before after all h =
-    let p = parted (run e before) (in_turn run entries) after h in
-    untouched-object n e.ops before p.0 (All-head (λ (x : Entry). All (LeavesObject n) x.ops) e entries all) p.1
-    ∙ untouched-object_replay n entries p.0 after (All-tail (λ (x : Entry). All (LeavesObject n) x.ops) e entries all) p.2
