@@ -9,7 +9,8 @@ use object_maps::Slot;
 
 // The objects of these slots hold bytes.
 pub(crate) fn see_bytes(slots: &[Slot])
-    ensures { (n : ℕ) → IfSome (finite.get (objects_of slots.now) n) (λ bytes. list_all (λ b. nat_lt b 256) bytes ≡ true) }
+    ensures { (n : ℕ) → IfSome (finite.get (objects_of slots.now) n)
+        (λ bytes. list_all (λ b. nat_lt b 256) bytes ≡ true) }
 {
     for slot in slots {
         see_bytes_of(slot.bytes.as_slice());

@@ -47,7 +47,8 @@ pub fn create<D: SectorDevice>(
         (λ e. (e.0 ≡ PoolError.BadGeometry) ⊎ (e.0 ≡ PoolError.BadRange) → e.1 ≡ device) }
     ensures refused { IfErr result (λ e. IsCreateRefusal (D.size device) name.now e.0) }
     ensures counted { IfErr result (λ e. D.refused e.1 ≡ with_refusal e.0 (D.refused device)) }
-    ensures created { IfOk result (λ d. IsTrue D.keeps_model → IsCreatedOn (bytes_of (D.disk d).now) name.now guid) }
+    ensures created { IfOk result (λ d. IsTrue D.keeps_model
+        → IsCreatedOn (bytes_of (D.disk d).now) name.now guid) }
     ensures settled { IfOk result (λ d. IsTrue D.keeps_model
         → CrashLeaves (λ image. IsCreatedOn image name.now guid) (D.disk d).now) }
     ensures written { IfOk result (λ d. IsTrue D.keeps_model
@@ -82,7 +83,8 @@ fn initialize<D: SectorDevice>(
     ensures count { D.refused device.new ≡ counted result (D.refused device.old) }
     ensures named { IfErr result (λ e. (e ≡ PoolError.Write) ⊎ (e ≡ PoolError.Flush)) }
     ensures outside { IsTrue D.keeps_model → (start : Disk)
-        → WritesPoolBytes geometry start (D.disk device.old) → WritesPoolBytes geometry start (D.disk device.new) }
+        → WritesPoolBytes geometry start (D.disk device.old)
+        → WritesPoolBytes geometry start (D.disk device.new) }
     ensures labels { IsTrue D.keeps_model
         → OnOk result (IsLabelled geometry name guid moment (bytes_of (D.disk device.new).now)) }
     ensures settled { IsTrue D.keeps_model → OnOk result ((D.disk device.new).now.unflushed ≡ []) }
@@ -103,8 +105,10 @@ fn clear_labels<D: SectorDevice>(device: &mut D, geometry: Geometry) -> Result<(
     ensures count { D.refused device.new ≡ counted result (D.refused device.old) }
     ensures named { IfErr result (λ e. (e ≡ PoolError.Write) ⊎ (e ≡ PoolError.Flush)) }
     ensures outside { IsTrue D.keeps_model → (start : Disk)
-        → WritesPoolBytes geometry start (D.disk device.old) → WritesPoolBytes geometry start (D.disk device.new) }
-    ensures cleared { IsTrue D.keeps_model → OnOk result (AreTailsCleared geometry 4 (bytes_of (D.disk device.new).now)) }
+        → WritesPoolBytes geometry start (D.disk device.old)
+        → WritesPoolBytes geometry start (D.disk device.new) }
+    ensures cleared { IsTrue D.keeps_model
+        → OnOk result (AreTailsCleared geometry 4 (bytes_of (D.disk device.new).now)) }
 {
     let zeros = zero_tail();
     for label in 0..4 {
@@ -126,8 +130,10 @@ fn clear_blocks<D: SectorDevice>(device: &mut D, geometry: Geometry) -> Result<(
     ensures count { D.refused device.new ≡ counted result (D.refused device.old) }
     ensures named { IfErr result (λ e. (e ≡ PoolError.Write) ⊎ (e ≡ PoolError.Flush)) }
     ensures outside { IsTrue D.keeps_model → (start : Disk)
-        → WritesPoolBytes geometry start (D.disk device.old) → WritesPoolBytes geometry start (D.disk device.new) }
-    ensures cleared { IsTrue D.keeps_model → AreTailsCleared geometry 4 (bytes_of (D.disk device.old).now)
+        → WritesPoolBytes geometry start (D.disk device.old)
+        → WritesPoolBytes geometry start (D.disk device.new) }
+    ensures cleared { IsTrue D.keeps_model
+        → AreTailsCleared geometry 4 (bytes_of (D.disk device.old).now)
         → OnOk result (IsCleared geometry (bytes_of (D.disk device.new).now)) }
 {
     let zeros = [0; 4096];
@@ -149,11 +155,13 @@ fn write_configs<D: SectorDevice>(
     ensures count { D.refused device.new ≡ counted result (D.refused device.old) }
     ensures named { IfErr result (λ e. (e ≡ PoolError.Write) ⊎ (e ≡ PoolError.Flush)) }
     ensures outside { IsTrue D.keeps_model → (start : Disk)
-        → WritesPoolBytes geometry start (D.disk device.old) → WritesPoolBytes geometry start (D.disk device.new) }
+        → WritesPoolBytes geometry start (D.disk device.old)
+        → WritesPoolBytes geometry start (D.disk device.new) }
     ensures cleared { IsTrue D.keeps_model → IsCleared geometry (bytes_of (D.disk device.old).now)
         → OnOk result (IsCleared geometry (bytes_of (D.disk device.new).now)) }
     ensures configs { IsTrue D.keeps_model
-        → OnOk result (HoldConfig geometry 4 (first_config name guid geometry) (bytes_of (D.disk device.new).now)) }
+        → OnOk result (HoldConfig geometry 4 (first_config name guid geometry)
+        (bytes_of (D.disk device.new).now)) }
 {
     let config = LabelConfig::new(guid, Group(FIRST_GROUP), geometry.size(), name);
     let block = config.encode();
@@ -175,8 +183,10 @@ fn write_uberblocks<D: SectorDevice>(
     ensures count { D.refused device.new ≡ counted result (D.refused device.old) }
     ensures named { IfErr result (λ e. (e ≡ PoolError.Write) ⊎ (e ≡ PoolError.Flush)) }
     ensures outside { IsTrue D.keeps_model → (start : Disk)
-        → WritesPoolBytes geometry start (D.disk device.old) → WritesPoolBytes geometry start (D.disk device.new) }
-    ensures labels { IsTrue D.keeps_model → IsCleared geometry (bytes_of (D.disk device.old).now) → (name : List ℕ)
+        → WritesPoolBytes geometry start (D.disk device.old)
+        → WritesPoolBytes geometry start (D.disk device.new) }
+    ensures labels { IsTrue D.keeps_model → IsCleared geometry (bytes_of (D.disk device.old).now)
+        → (name : List ℕ)
         → HoldConfig geometry 4 (first_config name guid geometry) (bytes_of (D.disk device.old).now)
         → OnOk result (IsLabelled geometry name guid moment (bytes_of (D.disk device.new).now)) }
 {

@@ -48,8 +48,10 @@ pub(crate) fn find_pool<D: SectorDevice>(
     ensures pool { IsTrue D.keeps_model → IfOk result
         (λ f. HasPool (bytes_of (D.disk device.old).now) (fields_of f.uberblock) f.name) }
     ensures first { IsTrue D.keeps_model → IfOk result
-        (λ f. HasFirstStage (bytes_of (D.disk device.old).now) f.uberblock.guid f.uberblock.group.0 f.name (is_even f.first)) }
-    ensures reason { IsTrue D.keeps_model → IfErr result (IsReason (bytes_of (D.disk device.old).now)) }
+        (λ f. HasFirstStage (bytes_of (D.disk device.old).now) f.uberblock.guid
+        f.uberblock.group.0 f.name (is_even f.first)) }
+    ensures reason { IsTrue D.keeps_model
+        → IfErr result (IsReason (bytes_of (D.disk device.old).now)) }
 {
     let uberblock = read_uberblock(alloc, device, geometry)?;
     let (name, first) = read_name(device, geometry, &uberblock)?;
@@ -74,7 +76,8 @@ fn read_uberblock<D: SectorDevice>(
     ensures limits { IfOk result (λ u. IsWithinLimits (fields_of u)) }
     ensures active { IsTrue D.keeps_model → IfOk result
         (λ u. IsActive (bytes_of (D.disk device.old).now) (fields_of u)) }
-    ensures none { IsTrue D.keeps_model → IfErr result (LacksUberblock (bytes_of (D.disk device.old).now)) }
+    ensures none { IsTrue D.keeps_model → IfErr result
+        (LacksUberblock (bytes_of (D.disk device.old).now)) }
 {
     let mut ring = blank(alloc, LABEL_COUNT * ARRAY_SIZE)?;
     for label in 0..LABEL_COUNT {
@@ -107,7 +110,8 @@ fn read_array<D: SectorDevice>(
     ensures length { length ring.new ≡ 524288 }
     ensures within { slot_place geometry label 0 + 131072 ≤ geometry }
     ensures array { IsTrue D.keeps_model → OnOk result (ring.new
-        ≡ put (131072 * label) (part (bytes_of (D.disk device.old).now) (slot_place geometry label 0) 131072) ring.old) }
+        ≡ put (131072 * label) (part (bytes_of (D.disk device.old).now)
+        (slot_place geometry label 0) 131072) ring.old) }
 {
     let at = geometry.label_place(label) + ARRAY_AT;
     device.read(at, &mut ring[ARRAY_SIZE * label..ARRAY_SIZE * (label + 1)])
@@ -126,9 +130,11 @@ fn read_name<D: SectorDevice>(
     ensures count { D.refused device.new ≡ counted result (D.refused device.old) }
     ensures refused { IfErr result IsFindRefusal }
     ensures name { IsTrue D.keeps_model → IfOk result
-        (λ r. HasName (bytes_of (D.disk device.old).now) uberblock.now.guid uberblock.now.group.0 r.0) }
+        (λ r. HasName (bytes_of (D.disk device.old).now)
+        uberblock.now.guid uberblock.now.group.0 r.0) }
     ensures first { IsTrue D.keeps_model → IfOk result
-        (λ r. HasFirstStage (bytes_of (D.disk device.old).now) uberblock.now.guid uberblock.now.group.0 r.0 (is_even r.1)) }
+        (λ r. HasFirstStage (bytes_of (D.disk device.old).now)
+        uberblock.now.guid uberblock.now.group.0 r.0 (is_even r.1)) }
     ensures none { IsTrue D.keeps_model → IfErr result
         (LacksName (bytes_of (D.disk device.old).now) uberblock.now.guid uberblock.now.group.0) }
 {
@@ -141,9 +147,11 @@ fn choose_name(
     configs: &[Option<LabelConfig>; 4],
     uberblock: &Uberblock,
 ) -> Result<(PoolName, Stage), PoolError>
-    ensures name { IfOk result (λ r. HasChosen configs.now uberblock.now.guid uberblock.now.group.0 r.0) }
+    ensures name { IfOk result
+        (λ r. HasChosen configs.now uberblock.now.guid uberblock.now.group.0 r.0) }
     ensures first { IfOk result
-        (λ r. HasChosenFirst configs.now uberblock.now.guid uberblock.now.group.0 r.0 (is_even r.1)) }
+        (λ r. HasChosenFirst configs.now uberblock.now.guid uberblock.now.group.0 r.0
+        (is_even r.1)) }
     ensures none { IfErr result (λ e. e ≡ PoolError.NoPool
         → HasNoCandidate configs.now uberblock.now.guid uberblock.now.group.0) }
     ensures refused { IfErr result (λ e. (e ≡ PoolError.NoMemory) ⊎ (e ≡ PoolError.NoPool)) }
@@ -174,7 +182,8 @@ fn read_configs<D: SectorDevice>(
     ensures disk { IsTrue D.keeps_model → D.disk device.new ≡ D.disk device.old }
     ensures count { D.refused device.new ≡ counted result (D.refused device.old) }
     ensures refused { IfErr result (λ e. e ≡ PoolError.Read) }
-    ensures configs { IsTrue D.keeps_model → IfOk result (AreRead (bytes_of (D.disk device.old).now)) }
+    ensures configs { IsTrue D.keeps_model
+        → IfOk result (AreRead (bytes_of (D.disk device.old).now)) }
 {
     Ok([
         read_config(device, geometry, 0)?,
@@ -195,7 +204,8 @@ fn read_config<D: SectorDevice>(
     ensures disk { IsTrue D.keeps_model → D.disk device.new ≡ D.disk device.old }
     ensures count { D.refused device.new ≡ counted result (D.refused device.old) }
     ensures refused { IfErr result (λ e. e ≡ PoolError.Read) }
-    ensures config { IsTrue D.keeps_model → IfOk result (IsRead (bytes_of (D.disk device.old).now) label) }
+    ensures config { IsTrue D.keeps_model
+        → IfOk result (IsRead (bytes_of (D.disk device.old).now) label) }
 {
     let mut buffer = [0; 4096];
     device.read(geometry.config_place(label), &mut buffer[..])?;

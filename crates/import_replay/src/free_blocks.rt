@@ -19,7 +19,8 @@ use std::alloc::Global;
 pub(crate) fn free_set(alloc: Global, geometry: Geometry, tree: &Tree) -> Result<FreeSet, PoolError>
     ensures count { IfOk result (λ free. vec_len free.flags ≡ block_count geometry) }
     ensures free { IfOk result
-        (λ free. AreUnnamed (pointers_of tree.now) (block_count geometry) (free_of free.flags.items)) }
+        (λ free. AreUnnamed (pointers_of tree.now) (block_count geometry)
+        (free_of free.flags.items)) }
     ensures refused { IfErr result (λ e. e ≡ PoolError.NoMemory) }
 {
     let mut free = FreeSet::new(alloc, geometry.blocks() as usize)?;
@@ -32,7 +33,8 @@ pub(crate) fn free_set(alloc: Global, geometry: Geometry, tree: &Tree) -> Result
 fn take_maps(free: &mut FreeSet, geometry: Geometry, maps: &[ObjectMap])
     requires { vec_len free.old.flags ≡ block_count geometry }
     ensures count { vec_len free.new.flags ≡ block_count geometry }
-    ensures taken { FlagsTaken (λ k. list_any (map_names k) maps.now) free.old.flags.items free.new.flags.items }
+    ensures taken { FlagsTaken (λ k. list_any (map_names k) maps.now)
+        free.old.flags.items free.new.flags.items }
 {
     for map in maps {
         take_map(free, geometry, map);
@@ -42,7 +44,8 @@ fn take_maps(free: &mut FreeSet, geometry: Geometry, maps: &[ObjectMap])
 fn take_map(free: &mut FreeSet, geometry: Geometry, map: &ObjectMap)
     requires { vec_len free.old.flags ≡ block_count geometry }
     ensures count { vec_len free.new.flags ≡ block_count geometry }
-    ensures taken { FlagsTaken (λ k. map_names k map.now) free.old.flags.items free.new.flags.items }
+    ensures taken { FlagsTaken (λ k. map_names k map.now)
+        free.old.flags.items free.new.flags.items }
 {
     take_block(free, geometry, &map.indirect);
     let count = POINTER_COUNT.min(map.records.len());
@@ -52,7 +55,8 @@ fn take_map(free: &mut FreeSet, geometry: Geometry, map: &ObjectMap)
 fn take_blocks(free: &mut FreeSet, geometry: Geometry, pointers: &[Pointer])
     requires { vec_len free.old.flags ≡ block_count geometry }
     ensures count { vec_len free.new.flags ≡ block_count geometry }
-    ensures taken { FlagsTaken (λ k. list_any (names_block k) pointers.now) free.old.flags.items free.new.flags.items }
+    ensures taken { FlagsTaken (λ k. list_any (names_block k) pointers.now)
+        free.old.flags.items free.new.flags.items }
 {
     for pointer in pointers {
         take_block(free, geometry, pointer);
@@ -62,7 +66,8 @@ fn take_blocks(free: &mut FreeSet, geometry: Geometry, pointers: &[Pointer])
 fn take_block(free: &mut FreeSet, geometry: Geometry, pointer: &Pointer)
     requires { vec_len free.old.flags ≡ block_count geometry }
     ensures count { vec_len free.new.flags ≡ block_count geometry }
-    ensures taken { FlagsTaken (λ k. names_block k pointer.now) free.old.flags.items free.new.flags.items }
+    ensures taken { FlagsTaken (λ k. names_block k pointer.now)
+        free.old.flags.items free.new.flags.items }
 {
     if geometry.is_block_address(pointer.address) {
         free.take(geometry.block_index(pointer.address) as usize);
@@ -75,7 +80,8 @@ pub(crate) fn take_lowest(free: &mut FreeSet) -> Result<usize, PoolError>
     ensures within { IfOk result (λ block. block < vec_len free.old.flags) }
     ensures taken { IfOk result (λ block. (pointers : Place → Pointer)
         → AreUnnamed pointers (vec_len free.old.flags) (free_of free.old.flags.items)
-        → HasTakenLowest pointers (vec_len free.old.flags) (block_address block) (free_of free.new.flags.items)) }
+        → HasTakenLowest pointers (vec_len free.old.flags) (block_address block)
+        (free_of free.new.flags.items)) }
     ensures full { IfErr result (λ e. (pointers : Place → Pointer)
         → AreUnnamed pointers (vec_len free.old.flags) (free_of free.old.flags.items)
         → AreAllNamed pointers (vec_len free.old.flags)) }

@@ -65,25 +65,32 @@ pub fn import<D: SectorDevice>(
     moment: u64,
 ) -> Result<Imported<D>, (PoolError, D)>
     // The pool is that of the active uberblock, where it has no log chain, and the device holds its tree. All blocks stay.
-    ensures imported { IsTrue D.keeps_model → IfOk result (λ i. (u : image.Uberblock) → IsActive (bytes_of (D.disk device).now) u
+    ensures imported { IsTrue D.keeps_model
+        → IfOk result (λ i. (u : image.Uberblock) → IsActive (bytes_of (D.disk device).now) u
         → IsChainOf (bytes_of (D.disk device).now) u []
-        → IsImportOf (bytes_of (D.disk device).now) (bytes_of (D.disk i.device).now) dirty_max 0 (shown_of_import i.mounted)) }
+        → IsImportOf (bytes_of (D.disk device).now) (bytes_of (D.disk i.device).now) dirty_max 0
+        (shown_of_import i.mounted)) }
     ensures free { IsTrue D.keeps_model → IfOk result
         (λ i. AreFree (bytes_of (D.disk i.device).now) (shown_of_import i.mounted)) }
     ensures tree { IsTrue D.keeps_model → IfOk result
-        (λ i. HoldsTree (bytes_of (D.disk i.device).now) (frame_of_import i.mounted) (pointers_of i.mounted.tree)
+        (λ i. HoldsTree (bytes_of (D.disk i.device).now) (frame_of_import i.mounted)
+        (pointers_of i.mounted.tree)
         (contents_of i.mounted.contents).objects) }
-    ensures blocks { IsTrue D.keeps_model → IfOk result (λ i. SameBlocks (block_count (disk_size (D.disk device)))
+    ensures blocks { IsTrue D.keeps_model
+        → IfOk result (λ i. SameBlocks (block_count (disk_size (D.disk device)))
         (bytes_of (D.disk device).now) (bytes_of (D.disk i.device).now)) }
 
     // It makes just its calls, in their order. Then each label has its config and its uberblock, this is the active one, and
     // all is certain.
     ensures synced { IsTrue D.keeps_model
         → IfOk result (λ i. IsImportSynced (D.disk device) (D.disk i.device) moment i.mounted) }
-    ensures labelled { IsTrue D.keeps_model → IfOk result (λ i. IsImportLabelled (D.disk i.device) moment i.mounted) }
-    ensures settled { IsTrue D.keeps_model → IfOk result (λ i. (D.disk i.device).now.unflushed ≡ []) }
+    ensures labelled { IsTrue D.keeps_model
+        → IfOk result (λ i. IsImportLabelled (D.disk i.device) moment i.mounted) }
+    ensures settled { IsTrue D.keeps_model
+        → IfOk result (λ i. (D.disk i.device).now.unflushed ≡ []) }
     ensures active { IsTrue D.keeps_model
-        → IfOk result (λ i. IsActive (bytes_of (D.disk i.device).now) (uberblock_of_import moment i.mounted)) }
+        → IfOk result (λ i. IsActive (bytes_of (D.disk i.device).now)
+        (uberblock_of_import moment i.mounted)) }
 
     // On each device what is shown of it is exact, with a past in which nothing happened.
     ensures explained { IfOk result (λ i. (created : ℕ) → IsExplainedNow (shown_of_import i.mounted)
@@ -96,7 +103,8 @@ pub fn import<D: SectorDevice>(
 
     ensures refused { IfErr result (λ e. IsImportRefusal (D.size device) dirty_max e.0) }
     ensures counted { IfErr result (λ e. D.refused e.1 ≡ with_refusal e.0 (D.refused device)) }
-    ensures reason { IsTrue D.keeps_model → IfErr result (λ e. IsReason (bytes_of (D.disk device).now) e.0) }
+    ensures reason { IsTrue D.keeps_model
+        → IfErr result (λ e. IsReason (bytes_of (D.disk device).now) e.0) }
     ensures given_back { IfErr result (λ e. D.size e.1 ≡ D.size device) }
 
     // A refusal by size or limit leaves the device as it was, and one before the first write the disk as it was and flushed.
@@ -126,7 +134,8 @@ fn mount<D: SectorDevice>(
     ensures made { OnOk result (CanImport (D.size device.old) dirty_max) }
     ensures count { D.refused device.new ≡ counted result (D.refused device.old) }
     ensures refused { IfErr result (IsImportRefusal (D.size device.old) dirty_max) }
-    ensures reason { IsTrue D.keeps_model → IfErr result (IsReason (bytes_of (D.disk device.old).now)) }
+    ensures reason { IsTrue D.keeps_model
+        → IfErr result (IsReason (bytes_of (D.disk device.old).now)) }
     ensures untouched { IfErr result
         (λ e. (e ≡ PoolError.BadGeometry) ⊎ (e ≡ PoolError.BadRange) → device.new ≡ device.old) }
     ensures unchanged { IsTrue D.keeps_model → IfErr result (λ e. IsReadingRefusal e
@@ -164,7 +173,8 @@ fn mount_pool<D: SectorDevice>(
     ensures limit { IfOk result (λ m. m.dirty_max ≡ dirty_max) }
     ensures count { D.refused device.new ≡ counted result (D.refused device.old) }
     ensures refused { IfErr result IsMountRefusal }
-    ensures reason { IsTrue D.keeps_model → IfErr result (IsReason (bytes_of (D.disk device.old).now)) }
+    ensures reason { IsTrue D.keeps_model
+        → IfErr result (IsReason (bytes_of (D.disk device.old).now)) }
     ensures unchanged { IsTrue D.keeps_model → IfErr result (λ e. IsReadingRefusal e
         → D.disk device.new ≡ certain (bytes_of (D.disk device.old).now) (D.disk device.old)) }
     ensures stopped { IsTrue D.keeps_model → IfErr result (λ e. IsSyncRefusal e
@@ -217,7 +227,8 @@ fn open_pool<D: SectorDevice>(
     requires sized { D.size device.old ≡ geometry }
     requires geometry { IsGeometry geometry }
     requires limits { IsWithinLimits (fields_of found.uberblock) }
-    requires within { numbers.is_past_last found.uberblock.group.0 found.uberblock.import_number ≡ false }
+    requires within { numbers.is_past_last found.uberblock.group.0 found.uberblock.import_number
+        ≡ false }
     requires placed { ArePlaced (block_count geometry) (pointers_of loaded.tree) }
     requires root { loaded.tree.root ≡ found.uberblock.root }
     ensures size { D.size device.new ≡ D.size device.old }
@@ -227,18 +238,24 @@ fn open_pool<D: SectorDevice>(
     ensures mounted { IfOk result
         (IsMountedFrom (fields_of found.uberblock) found.name loaded.slots.items loaded.tree dirty_max) }
     ensures kept { IsTrue D.keeps_model
-        → OnOk result (HasSameBlocks geometry (bytes_of (D.disk device.old).now) (bytes_of (D.disk device.new).now)) }
+        → OnOk result (HasSameBlocks geometry (bytes_of (D.disk device.old).now)
+        (bytes_of (D.disk device.new).now)) }
     ensures full { IfErr result (λ e. e ≡ PoolError.NoSpace
         → AreAllNamed (pointers_of loaded.tree) (block_count geometry)) }
-    ensures synced { IsTrue D.keeps_model → IfOk result (λ m. D.disk device.new ≡ after_calls geometry
-        (config_of_import m) (uberblock_of_import moment m) (import_calls 0 (is_even found.first)) (D.disk device.old)) }
+    ensures synced { IsTrue D.keeps_model
+        → IfOk result (λ m. D.disk device.new ≡ after_calls geometry
+        (config_of_import m) (uberblock_of_import moment m) (import_calls 0 (is_even found.first))
+        (D.disk device.old)) }
     ensures unchanged { IsTrue D.keeps_model
         → IfErr result (λ e. IsReadingRefusal e → D.disk device.new ≡ D.disk device.old) }
     ensures stopped { IsTrue D.keeps_model → IfErr result (λ e. IsSyncRefusal e
-        → IsOpenStopped geometry (fields_of found.uberblock) found.name loaded.tree moment (is_even found.first)
+        → IsOpenStopped geometry (fields_of found.uberblock) found.name loaded.tree moment
+        (is_even found.first)
         e (D.disk device.old) (D.disk device.new)) }
-    ensures labelled { IsTrue D.keeps_model → IfOk result (IsImportLabelled (D.disk device.new) moment) }
-    ensures others { IsTrue D.keeps_model → OnOk result (HasOtherSlots geometry (found.uberblock.group.0 + 4)
+    ensures labelled { IsTrue D.keeps_model
+        → IfOk result (IsImportLabelled (D.disk device.new) moment) }
+    ensures others { IsTrue D.keeps_model
+        → OnOk result (HasOtherSlots geometry (found.uberblock.group.0 + 4)
         (bytes_of (D.disk device.old).now) (bytes_of (D.disk device.new).now)) }
     ensures settled { IsTrue D.keeps_model → OnOk result ((D.disk device.new).now.unflushed ≡ []) }
 {

@@ -35,14 +35,19 @@ pub(crate) fn sync_labels<D: SectorDevice>(
     ensures count { D.refused device.new ≡ counted result (D.refused device.old) }
     ensures refused { IfErr result IsSyncRefusal }
     ensures kept { IsTrue D.keeps_model
-        → OnOk result (HasSameBlocks geometry (bytes_of (D.disk device.old).now) (bytes_of (D.disk device.new).now)) }
+        → OnOk result (HasSameBlocks geometry (bytes_of (D.disk device.old).now)
+        (bytes_of (D.disk device.new).now)) }
     ensures synced { IsTrue D.keeps_model → OnOk result (D.disk device.new
-        ≡ after_calls geometry config.now (fields_of uberblock.now) (import_calls 0 (is_even first)) (D.disk device.old)) }
+        ≡ after_calls geometry config.now (fields_of uberblock.now)
+        (import_calls 0 (is_even first)) (D.disk device.old)) }
     ensures stopped { IsTrue D.keeps_model → IfErr result (λ e. IsStoppedSync geometry config.now
-        (fields_of uberblock.now) (import_calls 0 (is_even first)) e (D.disk device.old) (D.disk device.new)) }
+        (fields_of uberblock.now) (import_calls 0 (is_even first)) e (D.disk device.old)
+        (D.disk device.new)) }
     ensures labelled { IsTrue D.keeps_model
-        → OnOk result (HoldLabels geometry config.now (fields_of uberblock.now) (bytes_of (D.disk device.new).now)) }
-    ensures others { IsTrue D.keeps_model → OnOk result (HasOtherSlots geometry uberblock.now.group.0
+        → OnOk result (HoldLabels geometry config.now (fields_of uberblock.now)
+        (bytes_of (D.disk device.new).now)) }
+    ensures others { IsTrue D.keeps_model
+        → OnOk result (HasOtherSlots geometry uberblock.now.group.0
         (bytes_of (D.disk device.old).now) (bytes_of (D.disk device.new).now)) }
     ensures settled { IsTrue D.keeps_model → OnOk result ((D.disk device.new).now.unflushed ≡ []) }
 {
