@@ -16,8 +16,7 @@ use Rattle.base.specs.stored.Stored.{Advances, NewTree, total_calls}
 use Rattle.base.specs.crash.SyncCalls.PoolCall.{Put, Settle}
 use Rattle.base.specs.disk.SyncOrder.{DeviceCall, calls_in_order}
 use Rattle.base.specs.disk.SyncOrder.DeviceCall.{Block, Config, Uberblock, Flush}
-use Rattle.base.proofs.steps.BusyLocks.{Some-injective}
-use Rattle.base.proofs.common.KeptLists.{at_within}
+use Rattle.base.proofs.common.KeptLists.{at_within, Some-injective}
 use Rattle.base.proofs.disk.Regions.{flushed_clean}
 use Rattle.sync.specs.declared.run.LabelStages.{LabelStages}
 use Rattle.sync.specs.declared.run.SyncRun.{SyncRun}

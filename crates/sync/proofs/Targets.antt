@@ -8,7 +8,6 @@ use Rattle.std.proofs.lemmas.Option.{slice_get-map}
 use Rattle.base.specs.formats.Geometry.{IsGeometry, IsWritable, block_address, block_count, block_size, label_place, slot_place}
 use Rattle.base.specs.disk.SyncOrder.{DeviceCall, calls_in_order}
 use Rattle.base.specs.disk.SyncOrder.DeviceCall.{Block, Config, Uberblock, Flush}
-use Rattle.base.proofs.history.CommitOrder.{All-at}
 use Rattle.base.proofs.disk.Put.{Apart}
 use Rattle.labels.specs.declared.stage.Stage.{Stage}
 use Rattle.labels.specs.declared.stage.Stage.TheVariants.{Even, Odd}
@@ -20,6 +19,7 @@ use Rattle.sync.specs.CallOrder.{calls_behind_staged_blocks}
 use Rattle.sync.specs.Calls.{Target, block_target, config_target, target_of, calls_of, first_labels, last_labels}
 use Rattle.sync.specs.Made.{IsTarget, targets_of, HasDistinctBlocks}
 use Rattle.sync.proofs.CallPlaces.{block_stands, others_stand}
+use Rattle.base.proofs.common.KeptLists.{All-at}
 
 -- a call into a label is one into the labels 0 to 3
 abbrev pub InLabels : DeviceCall → Type 0

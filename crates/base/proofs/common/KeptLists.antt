@@ -1,10 +1,18 @@
--- Elements of lists by their places: one more at the end, and what a filter keeps.
-use Rattle.std.proofs.Common.{◌≡◌, ℕ, zero, suc, ◌<◌, Bool, true, false, ◌||◌, List, [], ◌∷◌, ◌++◌, length, map, refl, ap, sym, ◌∙◌, arith}
-use Rattle.std.specs.Prelude.{Some, None, slice_get, filter, cond, find}
+-- Elements of lists by their places: one more at the end, what a front has, what a filter keeps, and what holds of each.
+use Rattle.std.proofs.Common.{◌≡◌, ℕ, zero, suc, ◌<◌, Bool, true, false, ◌||◌, List, [], ◌∷◌, ◌++◌, length, map, refl, ap, sym, ◌∙◌, arith, subst, ◌⊎◌, inl, inr, take, replicate, get_or}
+use Rattle.std.specs.Prelude.{Some, None, slice_get, filter, cond, find, All}
 use Rattle.std.specs.List.{list_any, list_all}
 use Rattle.std.proofs.lemmas.Bool.{or_right, or_from, and_parts, and_from}
 use Rattle.std.proofs.lemmas.List.Folds.{list_any-append}
-use Rattle.base.proofs.steps.BusyLocks.{Some-injective, or-false}
+use Rattle.std.proofs.lemmas.List.Elements.{All-head, All-tail, All-nil, All-cons}
+
+-- what two options are of that are the same
+pub Some-injective : {A : Type 0} {x y : A} → Some x ≡ Some y → x ≡ y
+Some-injective {A} {x} {y} e = ap (λ o. elim o as (λ _. A) [ None ↦ x | Some z ↦ z ]) e
+
+or-false : (a b : Bool) → (a || b) ≡ false → (a ≡ false) × (b ≡ false)
+or-false true b h = absurd (let no_way : true ≡ false = h in cc)
+or-false false b h = (refl, h)
 
 pub none_at : {A : Type 0} (i : ℕ) (x : A) → slice_get [] i ≡ Some x → ⊥
 none_at i x at = let no_way : None ≡ Some x = at in cc
@@ -156,3 +164,34 @@ all_weaker p q [] weaker all = refl
 all_weaker p q (x ∷ xs) weaker all =
     let both : (p x ≡ true) × (list_all p xs ≡ true) = and_parts (p x) (list_all p xs) all in
     and_from (q x) (list_all q xs) (weaker zero x refl both.0) (all_weaker p q xs (λ i y at. weaker (suc i) y at) both.1)
+
+-- an element of a list with one more at its end
+pub push-cases : {A : Type 0} (xs : List A) (x y : A) (i : ℕ) → slice_get (xs ++ x ∷ []) i ≡ Some y → (slice_get xs i ≡ Some y) ⊎ ((i ≡ length xs) × (x ≡ y))
+push-cases {A} [] x y zero h = inr (refl, Some-injective h)
+push-cases [] x y (suc i) h = absurd (let no_way : None ≡ Some y = h in cc)
+push-cases (z ∷ xs) x y zero h = inl h
+push-cases (z ∷ xs) x y (suc i) h = elim (push-cases xs x y i h) [ inl is ↦ inl is | inr is ↦ inr (ap suc is.0, is.1) ]
+
+-- what holds of all elements holds of each, by its place, and back
+module _ {A : Type 0} (P : A → Type 0) where
+  pub All-at : (xs : List A) (i : ℕ) (x : A) → All P xs → slice_get xs i ≡ Some x → P x
+  All-at [] i x all at = absurd (let no_way : None ≡ Some x = at in cc)
+  All-at (y ∷ ys) zero x all at = subst P (Some-injective at) (All-head P y ys all)
+  All-at (y ∷ ys) (suc i) x all at = All-at ys i x (All-tail P y ys all) at
+
+  pub All-each : (xs : List A) → ((i : ℕ) (x : A) → slice_get xs i ≡ Some x → P x) → All P xs
+  All-each [] each = All-nil P
+  All-each (y ∷ ys) each = All-cons P y ys (each zero y refl) (All-each ys (λ i x at. each (suc i) x at))
+
+-- a front of a list has its elements, at their places
+pub at_take : {A : Type 0} (n : ℕ) (xs : List A) (i : ℕ) (x : A) → slice_get (take n xs) i ≡ Some x → slice_get xs i ≡ Some x
+at_take zero xs i x at = absurd (none_at i x at)
+at_take (suc n) [] i x at = at
+at_take (suc n) (y ∷ ys) zero x at = at
+at_take (suc n) (y ∷ ys) (suc i) x at = at_take n ys i x at
+
+-- each byte of zeros, and behind them, is read as zero
+pub get_or-zeros : (n k : ℕ) → get_or (replicate n 0) k 0 ≡ zero
+get_or-zeros zero k = refl
+get_or-zeros (suc n) zero = refl
+get_or-zeros (suc n) (suc k) = get_or-zeros n k

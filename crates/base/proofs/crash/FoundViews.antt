@@ -23,6 +23,7 @@ use Rattle.base.proofs.disk.Moments.{part_stands}
 use Rattle.base.proofs.disk.CheckedPlaces.{marked, fair_block, fair_config, fair_slot}
 use Rattle.base.proofs.tree.PlannedTrees.{holds-elsewhere}
 use Rattle.base.proofs.tree.PlacedTrees.{holds-tree}
+use Rattle.base.proofs.formats.Geometry.{slot-below}
 
 -- the least number that passes a test, or none below a bound does
 pub least_below : (p : ℕ → Bool) (n : ℕ) → ((k : ℕ) × (k < n) × (p k ≡ true) × ((j : ℕ) → j < k → p j ≡ false)) ⊎ ((k : ℕ) → k < n → p k ≡ false)
@@ -64,13 +65,10 @@ module _ (t : ℕ) (m : Moment) (image : List ℕ) (left : MayLeave m image) (fa
   abbrev slot_in : ℕ → ℕ → List ℕ
   slot_in label group = part image (slot_place (length image) label (slot_of group)) slot_size
 
-  slot_bound : (group : ℕ) → slot_of group < 128
-  slot_bound group = omega arith
-
   -- an uberblock that stands is one that counts
   pub slot_known : (group : ℕ) (IsTop : List ℕ → Type 0) → AreSlotsKnown (length image) t (handed m) group IsTop → (label : ℕ) (x : Uberblock) → label < 4 → StandsIn image label x → (x.group < group) ⊎ IsTop (slot_in label x.group)
   slot_known group IsTop known label x below stands =
-      known label (slot_in label x.group) x below (fair_slot (length image) t (handed m) image fair label (slot_of x.group) below (slot_bound x.group) stands.agrees (marked (slot_in label x.group) 0x00bab10b stands.magic)) stands
+      known label (slot_in label x.group) x below (fair_slot (length image) t (handed m) image fair label (slot_of x.group) below (slot-below x.group) stands.agrees (marked (slot_in label x.group) 0x00bab10b stands.magic)) stands
 
   -- an uberblock of a view that stands in a label is active where none of its group or above stands with other bytes
   pub active_at : (v : View) → IsUberblock v.slot v.u → (label : ℕ) → label < 4 → slot_in label v.u.group ≡ v.slot

@@ -1,6 +1,6 @@
 -- An image that lies as the pool does mounts to a cut of its history.
 use Rattle.std.proofs.Common.{◌≡◌, ℕ, zero, suc, ◌+◌, ◌≤◌, Bool, true, false, List, [], ◌∷◌, ◌++◌, map, length, take, drop, refl, ap, sym, ◌∙◌, arith, append_assoc}
-use Rattle.std.specs.Prelude.{Some, None, cond, slice_get, filter, nat_lt, unwrap_or, option_map, All}
+use Rattle.std.specs.Prelude.{Some, cond, slice_get, filter, nat_lt, unwrap_or, option_map, All}
 use Rattle.std.specs.List.{flat_map, enumerate_from}
 use Rattle.std.proofs.lemmas.Option.{slice_get-map}
 use Rattle.std.proofs.lemmas.List.{map-append, take-append-drop}
@@ -14,9 +14,9 @@ use Rattle.base.specs.formats.Chain.{LogBlock, records_of_chain}
 use Rattle.base.specs.crash.Mount.{Placed, placed_records, records_above, apply_records, entry_of_record}
 use Rattle.base.specs.steps.Logs.{KeptBlock, Committed, committed_of, committed_above, committed_entries}
 use Rattle.base.specs.crash.Layout.{IsBlockOf}
-use Rattle.base.proofs.history.CommitOrder.{All-each}
 use Rattle.base.proofs.history.LogOrder.{filter-noted}
 use Rattle.base.proofs.history.Cuts.{ops_count}
+use Rattle.base.proofs.common.KeptLists.{at_take, All-each}
 
 -- the front of what passes a test is what passes it of some front
 front-filter : {X : Type 0} (p : X → Bool) (xs ms zs : List X) → ms ++ zs ≡ filter p xs → (n : ℕ) × (filter p (take n xs) ≡ ms)
@@ -44,12 +44,6 @@ take-noted : (k n : ℕ) (xs : List Entry) → take n (map note (enumerate_from 
 take-noted k zero xs = refl
 take-noted k (suc n) [] = refl
 take-noted k (suc n) (x ∷ xs) = ap (λ cs. note (k, x) ∷ cs) (take-noted (k + 1) n xs)
-
-slice_get-of_take : {X : Type 0} (n : ℕ) (xs : List X) (i : ℕ) (x : X) → slice_get (take n xs) i ≡ Some x → slice_get xs i ≡ Some x
-slice_get-of_take zero xs i x at = absurd (let no_way : None ≡ Some x = at in cc)
-slice_get-of_take (suc n) [] i x at = at
-slice_get-of_take (suc n) (y ∷ ys) zero x at = at
-slice_get-of_take (suc n) (y ∷ ys) (suc i) x at = slice_get-of_take n ys i x at
 
 module _ (entries : List Entry) where
   -- the operations of the entry of an ordinal
@@ -148,7 +142,7 @@ chain_replays entries group ks chain zs base are short order =
     let by_notes : map committed_of rs ≡ committed_above group (committed_entries (take f.0 entries)) = filter-noted group (records_of_chain chain) ∙ ap (committed_above group) (chain-noted entries ks chain are short) ∙ same in
     let each : (i : ℕ) (x : Entry) → slice_get (take f.0 entries) i ≡ Some x → ops_at entries (0 + i) ≡ x.ops = λ i x at.
     let there : 0 + i ≡ i = omega arith in
-    ap (ops_at entries) there ∙ ap (λ o. unwrap_or (option_map (λ (e : Entry). e.ops) o) []) (slice_get-of_take f.0 entries i x at) in
+    ap (ops_at entries) there ∙ ap (λ o. unwrap_or (option_map (λ (e : Entry). e.ops) o) []) (at_take f.0 entries i x at) in
     let same_ops = placed-ops group (placed_records chain) ∙ ap (λ xs. map (λ (r : Record). r.ops) (filter (λ (r : Record). nat_lt group r.group) xs)) (chain-unplaced chain)
     ∙ ops-noted entries rs all ∙ ap (λ cs. map (λ (c : Committed). ops_at entries c.ordinal) cs) by_notes ∙ entries-noted entries group 0 (take f.0 entries) each in
     (f.0, same, ops_count (map (λ (p : Placed). entry_of_record p.logged) (records_above group chain)) (entries_above group (take f.0 entries)) base same_ops)

@@ -1,8 +1,8 @@
 -- Where the pool's lists are exact, an image that lies as the pool does mounts to a cut with all that was acknowledged.
 use Rattle.std.proofs.Common.{◌≡◌, ℕ, zero, suc, ◌+◌, ◌-◌, ◌<◌, ◌≤◌, Bool, true, false, ◌||◌, ◌&&◌, List, [], ◌∷◌, ◌++◌, map, length, take, refl, ap, sym, subst, ◌∙◌, arith, length-take, ◌⊎◌, inl, inr}
-use Rattle.std.specs.Prelude.{Some, None, Ok, cond, slice_get, get_or, filter, nat_lt, nat_le, unwrap_or, option_map, IfSome, ◌==◌, All}
+use Rattle.std.specs.Prelude.{Some, None, Ok, cond, slice_get, get_or, nat_lt, nat_le, unwrap_or, option_map, IfSome, ◌==◌, All}
 use Rattle.std.specs.List.{list_any, flat_map, enumerate_from}
-use Rattle.std.proofs.lemmas.Bool.{eq-eqb, eqb-true, lt-ltb, le-leb, leb-true, and_parts, cases_lt, false≢true}
+use Rattle.std.proofs.lemmas.Bool.{eq-eqb, eqb-true, lt-ltb, le-leb, leb-true, and_parts, cases_lt, false≢true, or_left, or_right, or_cases, true_from_ne_false}
 use Rattle.std.proofs.lemmas.Option.{unwrap_or-slice_get, slice_get_within}
 use Rattle.std.proofs.lemmas.List.Elements.{All-nil, filter-append}
 use Rattle.std.proofs.lemmas.List.Folds.{list_any-append}
@@ -20,57 +20,21 @@ use Rattle.base.specs.steps.Groups.{IsLine}
 use Rattle.base.specs.steps.Exact.{IsLogExact, IsSyncExact}
 use Rattle.base.specs.crash.Layout.{LiesAs, kept_from, header_now, IsLaidOut, AreLaidOut}
 use Rattle.base.specs.steps.Explains.{IsLeftBy, MountsToCut, AreSafe}
-use Rattle.base.proofs.history.CommitOrder.{All-each, All-at}
-use Rattle.base.proofs.steps.BusyLocks.{some-passes}
 use Rattle.base.proofs.history.LogOrder.{dropped, above_again}
 use Rattle.base.proofs.crash.LaidOut.{note, chain_replays}
 use Rattle.base.proofs.history.Cuts.{crashes_leave_cuts}
-
-or_first : (a b : Bool) → a ≡ true → (a || b) ≡ true
-or_first true b h = refl
-or_first false b h = absurd (false≢true h)
-
-or_second : (a b : Bool) → b ≡ true → (a || b) ≡ true
-or_second true b h = refl
-or_second false b h = h
-
-true_from_ne_false : (a : Bool) → (a ≡ false → ⊥) → a ≡ true
-true_from_ne_false true h = refl
-true_from_ne_false false h = absurd (h refl)
-
-or_cases : (a b : Bool) → (a || b) ≡ true → (a ≡ true) ⊎ (b ≡ true)
-or_cases true b h = inl refl
-or_cases false b h = inr h
-
-Some-same : {A : Type 0} (x y : A) → Some x ≡ Some y → x ≡ y
-Some-same {A} x y e = ap (λ o. elim o as (λ _. A) [ None ↦ x | Some z ↦ z ]) e
+use Rattle.base.proofs.common.KeptLists.{any_found, All-at, All-each, at_within, filter_at, Some-injective}
 
 is_in-at : (xs : List ℕ) (i o : ℕ) → slice_get xs i ≡ Some o → is_in o xs ≡ true
 is_in-at [] i o at = absurd (let no_way : None ≡ Some o = at in cc)
-is_in-at (x ∷ xs) zero o at = or_first (o == x) (is_in o xs) (eq-eqb o x (sym (Some-same x o at)))
-is_in-at (x ∷ xs) (suc i) o at = or_second (o == x) (is_in o xs) (is_in-at xs i o at)
-
-entry-at : {X : Type 0} (xs : List X) (i : ℕ) → i < length xs → (x : X) × (slice_get xs i ≡ Some x)
-entry-at [] i below = absurd (omega (arith, below))
-entry-at (x ∷ xs) zero below = (x, refl)
-entry-at (x ∷ xs) (suc i) below = entry-at xs i (omega (arith, below))
+is_in-at (x ∷ xs) zero o at = or_left (o == x) (is_in o xs) (eq-eqb o x (sym (Some-injective at)))
+is_in-at (x ∷ xs) (suc i) o at = or_right (o == x) (is_in o xs) (is_in-at xs i o at)
 
 take-at : {X : Type 0} (n : ℕ) (xs : List X) (i : ℕ) (x : X) → i < n → slice_get xs i ≡ Some x → slice_get (take n xs) i ≡ Some x
 take-at n [] i x below at = absurd (let no_way : None ≡ Some x = at in cc)
 take-at zero (y ∷ ys) i x below at = absurd (omega (arith, below))
 take-at (suc n) (y ∷ ys) zero x below at = at
 take-at (suc n) (y ∷ ys) (suc i) x below at = take-at n ys i x (omega (arith, below)) at
-
-filter-at : {X : Type 0} (p : X → Bool) (xs : List X) (i : ℕ) (x : X) → slice_get xs i ≡ Some x → p x ≡ true → (j : ℕ) × (slice_get (filter p xs) j ≡ Some x)
-filter-at p [] i x at passes = absurd (let no_way : None ≡ Some x = at in cc)
-filter-at {X} p (y ∷ ys) zero x at passes =
-    let is : p y ≡ true = ap p (Some-same y x at) ∙ passes in
-    (0, ap (λ b. slice_get (cond b (y ∷ filter p ys) (filter p ys)) 0) is ∙ at)
-filter-at {X} p (y ∷ ys) (suc i) x at passes = go (p y) (filter-at p ys i x at passes)
-  where
-    go : (b : Bool) → (j : ℕ) × (slice_get (filter p ys) j ≡ Some x) → (j : ℕ) × (slice_get (cond b (y ∷ filter p ys) (filter p ys)) j ≡ Some x)
-    go true r = (suc r.0, r.1)
-    go false r = r
 
 -- what is noted as the same is of the same ordinal and group
 same-parts : (c d : Committed) → is_same c d ≡ true → (c.ordinal ≡ d.ordinal) × (c.group ≡ d.group)
@@ -83,30 +47,30 @@ reaches : (group : ℕ) (c : Committed) (xs : List Committed) → group < c.grou
 reaches group c [] above h = absurd (false≢true h)
 reaches group c (x ∷ xs) above h =
     elim (or_cases (is_same c x) (list_any (is_same c) xs) h) [
-      | inl same ↦ or_first (nat_lt group x.group) (list_any (λ (r : Committed). nat_lt group r.group) xs) (above-same group c x above same)
-      | inr later ↦ or_second (nat_lt group x.group) (list_any (λ (r : Committed). nat_lt group r.group) xs) (reaches group c xs above later)
+      | inl same ↦ or_left (nat_lt group x.group) (list_any (λ (r : Committed). nat_lt group r.group) xs) (above-same group c x above same)
+      | inr later ↦ or_right (nat_lt group x.group) (list_any (λ (r : Committed). nat_lt group r.group) xs) (reaches group c xs above later)
     ]
 
 in-above : (group : ℕ) (c : Committed) (xs : List Committed) → group < c.group → list_any (is_same c) xs ≡ true → list_any (is_same c) (committed_above group xs) ≡ true
 in-above group c [] above h = h
 in-above group c (x ∷ xs) above h =
     elim (or_cases (is_same c x) (list_any (is_same c) xs) h) [
-      | inl same ↦ ap (λ b. list_any (is_same c) (cond b (x ∷ committed_above group xs) (committed_above group xs))) (above-same group c x above same) ∙ or_first (is_same c x) (list_any (is_same c) (committed_above group xs)) same
+      | inl same ↦ ap (λ b. list_any (is_same c) (cond b (x ∷ committed_above group xs) (committed_above group xs))) (above-same group c x above same) ∙ or_left (is_same c x) (list_any (is_same c) (committed_above group xs)) same
       | inr later ↦ go (nat_lt group x.group) (in-above group c xs above later)
     ]
   where
     go : (b : Bool) → list_any (is_same c) (committed_above group xs) ≡ true → list_any (is_same c) (cond b (x ∷ committed_above group xs) (committed_above group xs)) ≡ true
-    go true rest = or_second (is_same c x) (list_any (is_same c) (committed_above group xs)) rest
+    go true rest = or_right (is_same c x) (list_any (is_same c) (committed_above group xs)) rest
     go false rest = rest
 
 in-block : (ks : List KeptBlock) (j : ℕ) (b : KeptBlock) (c : Committed) → slice_get ks j ≡ Some b → has_record b c ≡ true → list_any (is_same c) (flat_map (λ (x : KeptBlock). x.committed) ks) ≡ true
 in-block [] j b c at h = absurd (let no_way : None ≡ Some b = at in cc)
 in-block (k ∷ ks) zero b c at h =
     list_any-append (is_same c) k.committed (flat_map (λ (x : KeptBlock). x.committed) ks)
-    ∙ or_first (list_any (is_same c) k.committed) (list_any (is_same c) (flat_map (λ (x : KeptBlock). x.committed) ks)) (ap (λ (x : KeptBlock). has_record x c) (Some-same k b at) ∙ h)
+    ∙ or_left (list_any (is_same c) k.committed) (list_any (is_same c) (flat_map (λ (x : KeptBlock). x.committed) ks)) (ap (λ (x : KeptBlock). has_record x c) (Some-injective at) ∙ h)
 in-block (k ∷ ks) (suc j) b c at h =
     list_any-append (is_same c) k.committed (flat_map (λ (x : KeptBlock). x.committed) ks)
-    ∙ or_second (list_any (is_same c) k.committed) (list_any (is_same c) (flat_map (λ (x : KeptBlock). x.committed) ks)) (in-block ks j b c at h)
+    ∙ or_right (list_any (is_same c) k.committed) (list_any (is_same c) (flat_map (λ (x : KeptBlock). x.committed) ks)) (in-block ks j b c at h)
 
 ordinal-below : (group k : ℕ) (xs : List Entry) (c : Committed) → list_any (is_same c) (committed_above group (map note (enumerate_from k xs))) ≡ true → c.ordinal < k + length xs
 ordinal-below group k [] c h = absurd (false≢true h)
@@ -145,11 +109,11 @@ module _ (image : List ℕ) (s : Shown) (past : Past) (group : ℕ) (root : Poin
       → group < g → is_flushed_in s.log (record { ordinal = o; group = g }) ≡ true → o < n
   flushed-below n o g same above flushed =
       let c : Committed = record { ordinal = o; group = g } in
-      let f = some-passes (λ (b : KeptBlock). b.flushed && has_record b c) s.log.kept flushed in
+      let f = any_found (λ (b : KeptBlock). b.flushed && has_record b c) s.log.kept flushed in
       let b : KeptBlock = f.1 in
       let p = and_parts b.flushed (has_record b c) f.3 in
       let from : is_from b ≡ true = true_from_ne_false (is_from b) (λ no_way. false≢true (sym (All-at (λ (x : KeptBlock). is_from x ≡ false → reaches_above group x ≡ false) s.log.kept f.0 b gone f.2 no_way) ∙ reaches group c b.committed above p.1)) in
-      let k = filter-at is_from s.log.kept f.0 b f.2 from in
+      let k = filter_at is_from s.log.kept f.0 b f.2 from in
       let within : k.0 < length lies.chain = lies.flushed k.0 b k.1 p.0 in
       let there = in-above group c (noted (take (length lies.chain) (kept_from header s.log))) above
       (in-block (take (length lies.chain) (kept_from header s.log)) k.0 b c (take-at (length lies.chain) (kept_from header s.log) k.0 b within k.1) p.1) in
@@ -161,7 +125,7 @@ module _ (image : List ℕ) (s : Shown) (past : Past) (group : ℕ) (root : Poin
   durable n same = All-each (IsDurable past.entries group n) past.acknowledged (λ i o at.
       let known : is_in o past.acknowledged ≡ true = is_in-at past.acknowledged i o at in
       let below : o < length past.entries = exact.no_others o known in
-      let e = entry-at past.entries o below in
+      let e = at_within past.entries o below in
       let is : (nat_le e.0.group s.line.synced || is_flushed_in s.log (record { ordinal = o; group = e.0.group })) ≡ true = sym (exact.acknowledged o e.0 e.1) ∙ known in
       let here : (d : Entry) → get_or past.entries o d ≡ e.0 = λ d. sym (unwrap_or-slice_get past.entries o d) ∙ ap (λ x. unwrap_or x d) e.1 in
       record {

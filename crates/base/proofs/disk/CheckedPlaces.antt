@@ -1,8 +1,8 @@
 -- What a fair image gives of each place that the format checks.
-use Rattle.std.proofs.Common.{◌≡◌, ℕ, zero, suc, ◌<◌, Bool, true, false, ◌&&◌, ◌||◌, List, [], ◌∷◌, refl, ap, ◌∙◌, arith}
+use Rattle.std.proofs.Common.{◌≡◌, ℕ, zero, suc, ◌<◌, Bool, true, false, ◌&&◌, List, [], ◌∷◌, refl, ap, ◌∙◌, arith}
 use Rattle.std.specs.Prelude.{◌==◌, nat_lt, not}
 use Rattle.std.specs.List.{list_any}
-use Rattle.std.proofs.lemmas.Bool.{eq-eqb, eqb-true, lt-ltb, and_from}
+use Rattle.std.proofs.lemmas.Bool.{eq-eqb, eqb-true, lt-ltb, and_from, or_left, or_right}
 use Rattle.std.proofs.lemmas.Slice.Eq.{bytes_eq-Decides}
 use Rattle.base.specs.formats.Fields.{part, number_at}
 use Rattle.base.specs.formats.Geometry.{block_size, block_count, block_address, config_place, slot_place}
@@ -11,21 +11,13 @@ use Rattle.base.specs.formats.Uberblocks.{IsSealedSlot, slot_size}
 use Rattle.base.specs.disk.Disk.{Write, HandedSince}
 use Rattle.base.specs.disk.Fairness.{IsFair, passes_check, block_at, is_block_place, is_config_place, slot_at, is_slot_place, begins_with_mark, label_numbers}
 
-or_first : (a b : Bool) → a ≡ true → (a || b) ≡ true
-or_first true b h = refl
-or_first false b h = absurd (let no_way : false ≡ true = h in cc)
-
-or_second : (a b : Bool) → b ≡ true → (a || b) ≡ true
-or_second true b h = refl
-or_second false b h = h
-
 -- each label is one of the four
 a_label : (p : ℕ → Bool) (label : ℕ) → label < 4 → p label ≡ true → list_any p label_numbers ≡ true
-a_label p zero below h = or_first (p 0) (list_any p (1 ∷ 2 ∷ 3 ∷ [])) h
-a_label p (suc zero) below h = or_second (p 0) (list_any p (1 ∷ 2 ∷ 3 ∷ [])) (or_first (p 1) (list_any p (2 ∷ 3 ∷ [])) h)
-a_label p (suc (suc zero)) below h = or_second (p 0) (list_any p (1 ∷ 2 ∷ 3 ∷ [])) (or_second (p 1) (list_any p (2 ∷ 3 ∷ [])) (or_first (p 2) (list_any p (3 ∷ [])) h))
+a_label p zero below h = or_left (p 0) (list_any p (1 ∷ 2 ∷ 3 ∷ [])) h
+a_label p (suc zero) below h = or_right (p 0) (list_any p (1 ∷ 2 ∷ 3 ∷ [])) (or_left (p 1) (list_any p (2 ∷ 3 ∷ [])) h)
+a_label p (suc (suc zero)) below h = or_right (p 0) (list_any p (1 ∷ 2 ∷ 3 ∷ [])) (or_right (p 1) (list_any p (2 ∷ 3 ∷ [])) (or_left (p 2) (list_any p (3 ∷ [])) h))
 a_label p (suc (suc (suc zero))) below h =
-    or_second (p 0) (list_any p (1 ∷ 2 ∷ 3 ∷ [])) (or_second (p 1) (list_any p (2 ∷ 3 ∷ [])) (or_second (p 2) (list_any p (3 ∷ [])) (or_first (p 3) false h)))
+    or_right (p 0) (list_any p (1 ∷ 2 ∷ 3 ∷ [])) (or_right (p 1) (list_any p (2 ∷ 3 ∷ [])) (or_right (p 2) (list_any p (3 ∷ [])) (or_left (p 3) false h)))
 a_label p (suc (suc (suc (suc k)))) below h = absurd (omega (arith, below))
 
 block_at-block_address : (k : ℕ) → block_at (block_address k) ≡ k
@@ -57,12 +49,12 @@ module _ (size t : ℕ) (writes : List Write) (image : List ℕ) (fair : IsFair 
   pub fair_block : (k : ℕ) → k < block_count size → IsSealed (part image (block_address k) block_size) → begins_with_mark (part image (block_address k) block_size) ≡ true
       → HandedSince t writes (block_address k) (part image (block_address k) block_size)
   fair_block k below sealed begins_with_mark = fair (block_address k) block_size
-      (or_first _ _ (and_from _ _ (or_first (is_block_place size (block_address k)) (is_config_place size (block_address k)) (block_place size k below)) (and_from _ _ ((bytes_eq-Decides _ _).1 sealed) begins_with_mark)))
+      (or_left _ _ (and_from _ _ (or_left (is_block_place size (block_address k)) (is_config_place size (block_address k)) (block_place size k below)) (and_from _ _ ((bytes_eq-Decides _ _).1 sealed) begins_with_mark)))
 
   pub fair_config : (label : ℕ) → label < 4 → IsSealed (part image (config_place size label) block_size) → begins_with_mark (part image (config_place size label) block_size) ≡ true
       → HandedSince t writes (config_place size label) (part image (config_place size label) block_size)
   fair_config label labelled sealed begins_with_mark = fair (config_place size label) block_size
-      (or_first _ _ (and_from _ _ (or_second (is_block_place size (config_place size label)) (is_config_place size (config_place size label))
+      (or_left _ _ (and_from _ _ (or_right (is_block_place size (config_place size label)) (is_config_place size (config_place size label))
       (a_label (λ l. config_place size label == config_place size l) label labelled (eq-eqb (config_place size label) (config_place size label) refl)))
       (and_from _ _ ((bytes_eq-Decides _ _).1 sealed) begins_with_mark)))
 

@@ -3,7 +3,7 @@
 use Rattle.std.proofs.Common.{◌≡◌, ◌⊎◌, inl, inr, ℕ, zero, suc, ◌+◌, ◌*◌, ◌<◌, ◌≤◌, Bool, true, false, ◌&&◌, ◌||◌, List, [], ◌∷◌, length, refl, sym, ◌∙◌, ap, subst, arith}
 use Rattle.std.specs.Prelude.{◌==◌, nat_lt, not}
 use Rattle.std.specs.List.{list_any}
-use Rattle.std.proofs.lemmas.Bool.{cases_lt, and_parts, eq-eqb, eqb-true, ltb-true, false≢true}
+use Rattle.std.proofs.lemmas.Bool.{cases_lt, and_parts, eq-eqb, eqb-true, ltb-true, false≢true, or_cases}
 use Rattle.base.specs.formats.Fields.{part, number_at}
 use Rattle.base.specs.formats.Geometry.{IsGeometry, IsBlockAddress, block_size, block_count, block_address, label_place, config_place, slot_place}
 use Rattle.base.specs.formats.Blocks.{is_sealed}
@@ -13,10 +13,6 @@ use Rattle.base.specs.disk.Fairness.{HasFairBytes, IsCheckedPlace, passes_check,
 use Rattle.base.proofs.disk.Put.{length-put, part-put_same, part-put_apart}
 use Rattle.base.proofs.disk.Fairness.{fair_settled}
 use Rattle.base.proofs.formats.Geometry.{IsSize, IsGeometry-IsSize, labels-apart, blocks-end}
-
-or_cases : (a b : Bool) → (a || b) ≡ true → (a ≡ true) ⊎ (b ≡ true)
-or_cases true b h = inl refl
-or_cases false b h = inr h
 
 -- a label of the four that passes a test
 some_label : (p : ℕ → Bool) → list_any p label_numbers ≡ true → (label : ℕ) × (label < 4) × (p label ≡ true)

@@ -12,10 +12,7 @@ use Rattle.base.specs.formats.Labels.{IsConfig, IsConfigPayload, IsChosen}
 use Rattle.base.specs.stored.ShownLabels.{ShowsUberblock}
 use Rattle.base.proofs.disk.Put.{length-put, part-put_same, part-put_apart}
 use Rattle.base.proofs.formats.LabelPlaces.{label-apart, block-label_apart, slots-apart, slot-config_apart}
-
--- each group has a slot
-pub slot-below : (group : ℕ) → slot_of group < 128
-slot-below group = omega arith
+use Rattle.base.proofs.formats.Geometry.{slot-below}
 
 -- an uberblock stands where the slot is the same
 stands-along : (now later : List ℕ) (k : ℕ) (u : Uberblock) → length later ≡ length now

@@ -2,7 +2,7 @@
 use Rattle.std.proofs.Common.{◌≡◌, ℕ, zero, suc, ◌+◌, ◌-◌, ◌*◌, ◌%◌, ◌<◌, ◌≤◌, inl, inr, arith}
 use Rattle.std.proofs.lemmas.Bool.Decides.{nat_tests}
 use Rattle.base.specs.disk.Calls.{IsOnDevice}
-use Rattle.base.specs.formats.Geometry.{IsGeometry, IsWritable, block_area, block_count, block_address, block_size, label_place, config_place, slot_place}
+use Rattle.base.specs.formats.Geometry.{IsGeometry, IsWritable, block_area, block_count, block_address, block_size, label_place, config_place, slot_place, slot_of}
 
 -- a device has at least 6 MiB and at most 1 GiB, and a multiple of 256 KiB
 pub record IsSize (size : ℕ) : Type 0 where
@@ -22,6 +22,10 @@ label-on_device size label g below = go label (IsGeometry-IsSize size g)
     go (suc zero) s = record { aligned = omega arith; whole = omega arith; within = omega (arith, s.least) }
     go (suc (suc zero)) s = record { aligned = omega (arith, s.least, s.whole); whole = omega arith; within = omega (arith, s.least) }
     go (suc (suc (suc k))) s = record { aligned = omega (arith, s.least, s.whole); whole = omega arith; within = omega (arith, s.least) }
+
+-- a group's slot is one of the 128 of an array
+pub slot-below : (group : ℕ) → slot_of group < 128
+slot-below group = omega arith
 
 -- a slot is two sectors
 pub slot-on_device : (size label slot : ℕ) → IsGeometry size → label < 4 → slot < 128 → IsOnDevice size (slot_place size label slot) 1024

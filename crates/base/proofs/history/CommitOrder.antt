@@ -1,6 +1,6 @@
 -- What a commit that nothing refuses has found: its transaction, whose plan its operations have.
-use Rattle.std.proofs.Common.{◌≡◌, ℕ, zero, suc, Bool, true, false, not, ◌&&◌, List, [], ◌∷◌, ◌++◌, length, map, refl, ap, sym, subst, ◌∙◌, ◌⊎◌, inl, inr}
-use Rattle.std.specs.Prelude.{Option, Some, None, Ok, Err, slice_get, All, ◌==◌}
+use Rattle.std.proofs.Common.{◌≡◌, ℕ, zero, suc, Bool, true, false, not, ◌&&◌, List, [], ◌∷◌, map, refl, ap, sym, ◌∙◌}
+use Rattle.std.specs.Prelude.{Option, Some, None, Ok, Err, slice_get, ◌==◌}
 use Rattle.std.proofs.lemmas.Bool.{eqb-true}
 use Rattle.std.specs.Option.{option_map_or}
 use Rattle.base.specs.declared.error.PoolError.{PoolError}
@@ -12,7 +12,6 @@ use Rattle.base.specs.history.Plans.{shape_of}
 use Rattle.base.specs.steps.Groups.{Admission}
 use Rattle.base.specs.steps.Refusals.{Test, first_refusal, is_same_shape, is_same_plan, transaction_of, commit_tests, whole_commit_refusal}
 use Rattle.base.specs.steps.Steps.{State, Answers}
-use Rattle.std.proofs.lemmas.List.Elements.{All-head, All-tail, All-nil, All-cons}
 
 -- where no refusal applies, each test gives false
 pub no_refusal : (ts : List Test) → first_refusal ts ≡ None → (i : ℕ) (t : Test) → slice_get ts i ≡ Some t → t.applies ≡ false
@@ -79,13 +78,6 @@ same_plan (x ∷ xs) (y ∷ ys) h =
     let both : (is_same_shape x y ≡ true) × (is_same_plan xs ys ≡ true) = and-true (is_same_shape x y) (is_same_plan xs ys) h in
     λ i. same_shape x y both.0 i ∷ same_plan xs ys both.1 i
 
--- an element of a list with one more at its end
-pub push-cases : {A : Type 0} (xs : List A) (x y : A) (i : ℕ) → slice_get (xs ++ x ∷ []) i ≡ Some y → (slice_get xs i ≡ Some y) ⊎ ((i ≡ length xs) × (x ≡ y))
-push-cases {A} [] x y zero h = inr (refl, ap (λ o. elim o as (λ _. A) [ None ↦ x | Some z ↦ z ]) h)
-push-cases [] x y (suc i) h = absurd (let no_way : None ≡ Some y = h in cc)
-push-cases (z ∷ xs) x y zero h = inl h
-push-cases (z ∷ xs) x y (suc i) h = elim (push-cases xs x y i h) [ inl is ↦ inl is | inr is ↦ inr (ap suc is.0, is.1) ]
-
 -- the transaction that a commit finds, and that its operations have its plan's shapes
 pub found-plan : (tx : ℕ) (ops : List Op) (s : State) (a : Admission) → whole_commit_refusal tx ops s.shown ≡ None → transaction_of tx s.shown ≡ Some a → map shape_of ops ≡ a.plan
 found-plan tx ops s a none found =
@@ -95,13 +87,3 @@ found-plan tx ops s a none found =
     flip : (b : Bool) → not b ≡ false → b ≡ true
     flip true h = refl
     flip false h = absurd (let no_way : true ≡ false = h in cc)
-
-module _ {A : Type 0} (P : A → Type 0) where
-  pub All-at : (xs : List A) (i : ℕ) (x : A) → All P xs → slice_get xs i ≡ Some x → P x
-  All-at [] i x all at = absurd (let no_way : None ≡ Some x = at in cc)
-  All-at (y ∷ ys) zero x all at = subst P (ap (λ o. elim o as (λ _. A) [ None ↦ y | Some z ↦ z ]) at) (All-head P y ys all)
-  All-at (y ∷ ys) (suc i) x all at = All-at ys i x (All-tail P y ys all) at
-
-  pub All-each : (xs : List A) → ((i : ℕ) (x : A) → slice_get xs i ≡ Some x → P x) → All P xs
-  All-each [] each = All-nil P
-  All-each (y ∷ ys) each = All-cons P y ys (each zero y refl) (All-each ys (λ i x at. each (suc i) x at))

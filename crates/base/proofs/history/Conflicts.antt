@@ -1,5 +1,5 @@
 -- Operations and transactions that don't conflict commute.
-use Rattle.std.proofs.Common.{◌≡◌, ◌<◌, true, ◌↔◌, max, ℕ, ◌≤◌, ◌≢◌, List, [], ◌∷◌, Option, Some, None, Result, Ok, refl, ap, sym, ◌∙◌, arith, inl, inr, ◌⊎◌, Bool, false}
+use Rattle.std.proofs.Common.{◌≡◌, ◌<◌, true, ◌↔◌, max, ℕ, ◌≤◌, ◌≢◌, List, [], ◌∷◌, Option, Some, None, Result, Ok, refl, ap, sym, ◌∙◌, arith, inl, inr, ◌⊎◌, false}
 use Rattle.std.specs.Prelude.{◌==◌, ◌&&◌, nat_lt, All, Any}
 use Rattle.std.specs.List.{list_any}
 use Rattle.std.proofs.lemmas.List.Folds.{Any-from_list_any, list_any-from_Any}
@@ -13,6 +13,7 @@ use Rattle.base.specs.history.Contents.{Contents, at_object, with_object, apply,
 use Rattle.base.specs.formats.Limits.{max_length}
 use Rattle.base.specs.history.Plans.{NumberRange, IsRange, touched, whole_range, overlaps, ranges, clash, HaveCommon}
 use Rattle.base.specs.history.History.{Entry, IsWithin, conflicts, run}
+use Rattle.std.specs.Cmp.Derive.{one_truth}
 use Rattle.base.proofs.common.Sequences.{parted, joined, past, before}
 use Rattle.base.proofs.history.Writes.{overwritten_both}
 use Rattle.base.proofs.history.Objects.{objects_commute, reached, reach}
@@ -145,10 +146,5 @@ clash_turned xs ys h =
     let b = a.4 in
     (clashes_are_overlaps ys xs).1 (b.0, b.1, b.2, b.3, (a.0, a.1, a.2, a.3, overlaps_turned a.1 b.1 b.4))
 
-same_tests : (b c : Bool) → (b ≡ true → c ≡ true) → (c ≡ true → b ≡ true) → b ≡ c
-same_tests true c to from = sym (to refl)
-same_tests false true to from = from refl
-same_tests false false to from = refl
-
 pub clashes_turn : (xs ys : List NumberRange) → clash xs ys ≡ clash ys xs
-clashes_turn xs ys = same_tests (clash xs ys) (clash ys xs) (clash_turned xs ys) (clash_turned ys xs)
+clashes_turn xs ys = one_truth (clash xs ys) (clash ys xs) (clash_turned xs ys) (clash_turned ys xs)

@@ -15,7 +15,7 @@ use Rattle.base.proofs.common.Sieves.{filter_all, filter-filter}
 abbrev pub IsInOrder : ℕ → Log → List Entry → Type 0
 IsInOrder synced log entries = committed_above synced (committed_in log) ++ map committed_of log.pending ≡ committed_above synced (committed_entries entries)
 
-enumerate_from-push : {X : Type 0} (n : ℕ) (xs : List X) (x : X) → enumerate_from n (xs ++ x ∷ []) ≡ enumerate_from n xs ++ (n + length xs, x) ∷ []
+pub enumerate_from-push : {X : Type 0} (n : ℕ) (xs : List X) (x : X) → enumerate_from n (xs ++ x ∷ []) ≡ enumerate_from n xs ++ (n + length xs, x) ∷ []
 enumerate_from-push {X} n [] x = let same : n ≡ n + 0 = omega arith in ap (λ (k : ℕ). let p : ℕ × X = (k, x) in p ∷ []) same
 enumerate_from-push {X} n (y ∷ ys) x =
     let same : n + 1 + length ys ≡ n + suc (length ys) = omega arith in

@@ -1,18 +1,12 @@
 -- How writes to one object act, byte by byte.
-use Rattle.std.proofs.Common.{◌≡◌, ℕ, zero, ◌+◌, ◌-◌, ◌<◌, ◌≤◌, max, List, ◌++◌, length, get_or, take, drop, replicate, ap, sym, ◌∙◌, arith, length-append, length-drop, length-take, get_or-drop, get_or-take, ◌⊎◌, inl, inr}
-use Rattle.std.proofs.lemmas.List.{ext_get_or, get_or-replicate, get_or_past, get_or-append_right, get_or_append_left, length-replicate}
+use Rattle.std.proofs.Common.{◌≡◌, ℕ, ◌+◌, ◌-◌, ◌<◌, ◌≤◌, max, List, ◌++◌, length, get_or, take, drop, replicate, ap, sym, ◌∙◌, arith, length-append, length-drop, length-take, get_or-drop, get_or-take, ◌⊎◌, inl, inr}
+use Rattle.std.proofs.lemmas.List.{ext_get_or, get_or_past, get_or-append_right, get_or_append_left, length-replicate}
 use Rattle.std.proofs.lemmas.Bool.{cases_lt}
 use Rattle.base.specs.history.Contents.{resize, bytes_after_write}
+use Rattle.base.proofs.common.KeptLists.{get_or-zeros}
 
 pub length-resize : (n : ℕ) (bytes : List ℕ) → length (resize n bytes) ≡ n
 length-resize n bytes = simp (length-append, length-take, length-replicate) (omega arith)
-
-get_or-zeros : (n k : ℕ) → get_or (replicate n 0) k 0 ≡ zero
-get_or-zeros n k = go (cases_lt k n)
-  where
-    go : (k < n) ⊎ (n ≤ k) → get_or (replicate n 0) k 0 ≡ zero
-    go (inl l) = get_or-replicate n k 0 0 l
-    go (inr g) = get_or_past (replicate n 0) k 0 (simp length-replicate g)
 
 pub get_or-resize : (n : ℕ) (bytes : List ℕ) (k : ℕ) → k < n → get_or (resize n bytes) k 0 ≡ get_or bytes k 0
 get_or-resize n bytes k h = go (cases_lt k (length bytes))

@@ -1,35 +1,12 @@
 -- A lock that is not refused as busy leaves the held locks sound.
-use Rattle.std.proofs.Common.{◌≡◌, ℕ, zero, suc, ◌<◌, Bool, true, false, not, ◌&&◌, ◌||◌, List, [], ◌∷◌, ◌++◌, length, refl, ap, sym, ◌∙◌, arith, inl, inr}
-use Rattle.std.specs.Prelude.{Some, None, slice_get}
-use Rattle.std.specs.List.{list_any}
+use Rattle.std.proofs.Common.{◌≡◌, ◌<◌, Bool, true, false, not, ◌&&◌, List, [], ◌∷◌, ◌++◌, length, refl, ap, sym, ◌∙◌, arith, inl, inr}
 use Rattle.std.proofs.lemmas.Option.{slice_get_within}
 use Rattle.base.specs.declared.range.Mode.{Mode}
 use Rattle.base.specs.declared.range.Mode.TheVariants.{Reader, Writer}
 use Rattle.base.specs.history.Plans.{overlaps}
 use Rattle.base.specs.steps.Locks.{Grant, is_reader, is_blocked, AreLocksSound}
-use Rattle.base.proofs.history.CommitOrder.{and-true, push-cases}
-
-pub or-false : (a b : Bool) → (a || b) ≡ false → (a ≡ false) × (b ≡ false)
-or-false true b h = absurd (let no_way : true ≡ false = h in cc)
-or-false false b h = (refl, h)
-
-pub Some-injective : {A : Type 0} {x y : A} → Some x ≡ Some y → x ≡ y
-Some-injective {A} {x} {y} e = ap (λ o. elim o as (λ _. A) [ None ↦ x | Some z ↦ z ]) e
-
--- where no element passes a test, each fails it
-none-passes : {A : Type 0} (p : A → Bool) (xs : List A) (i : ℕ) (x : A) → list_any p xs ≡ false → slice_get xs i ≡ Some x → p x ≡ false
-none-passes p [] i x none at = absurd (let no_way : None ≡ Some x = at in cc)
-none-passes p (y ∷ ys) zero x none at = ap p (sym (Some-injective at)) ∙ (or-false (p y) (list_any p ys) none).0
-none-passes p (y ∷ ys) (suc i) x none at = none-passes p ys i x (or-false (p y) (list_any p ys) none).1 at
-
--- where one passes it, there is its place
-pub some-passes : {A : Type 0} (p : A → Bool) (xs : List A) → list_any p xs ≡ true → (i : ℕ) × (x : A) × (slice_get xs i ≡ Some x) × (p x ≡ true)
-some-passes p [] any = absurd (let no_way : false ≡ true = any in cc)
-some-passes {A} p (y ∷ ys) any =
-    elim (p y) as (λ b. p y ≡ b → (b || list_any p ys) ≡ true → (i : ℕ) × (x : A) × (slice_get (y ∷ ys) i ≡ Some x) × (p x ≡ true)) [
-      | true ↦ λ is _. (zero, y, refl, is)
-      | false ↦ λ is rest. let found : (i : ℕ) × (x : A) × (slice_get ys i ≡ Some x) × (p x ≡ true) = some-passes p ys rest in (suc found.0, found.1, found.2, found.3)
-    ] refl any
+use Rattle.base.proofs.history.CommitOrder.{and-true}
+use Rattle.base.proofs.common.KeptLists.{push-cases, none_any}
 
 reader-is : (m : Mode) → is_reader m ≡ true → m ≡ Reader
 reader-is Reader h = refl
@@ -46,7 +23,7 @@ granted-sound locks g sound free i j x y below at_i at_j overlap =
       | inl at_i_old ↦ elim (push-cases locks g y j at_j) as (λ _. (x.mode ≡ Reader) × (y.mode ≡ Reader)) [
         | inl at_j_old ↦ sound i j x y below at_i_old at_j_old overlap
         | inr is_g ↦
-            let fails : (overlaps x.range g.range && not (is_reader x.mode && is_reader g.mode)) ≡ false = none-passes (λ (h : Grant). overlaps h.range g.range && not (is_reader h.mode && is_reader g.mode)) locks i x free at_i_old in
+            let fails : (overlaps x.range g.range && not (is_reader x.mode && is_reader g.mode)) ≡ false = none_any (λ (h : Grant). overlaps h.range g.range && not (is_reader h.mode && is_reader g.mode)) locks i x free at_i_old in
             let with_g : overlaps x.range g.range ≡ true = ap (λ (h : Grant). overlaps x.range h.range) is_g.1 ∙ overlap in
             let readers : (is_reader x.mode && is_reader g.mode) ≡ true = not-false (is_reader x.mode && is_reader g.mode) (ap (λ b. b && not (is_reader x.mode && is_reader g.mode)) (sym with_g) ∙ fails) in
             let both : (is_reader x.mode ≡ true) × (is_reader g.mode ≡ true) = and-true (is_reader x.mode) (is_reader g.mode) readers in

@@ -14,9 +14,8 @@ use Rattle.base.specs.steps.Logs.{Log, KeptBlock, Committed, committed_of, has_r
 use Rattle.base.specs.steps.Shown.{Shown}
 use Rattle.base.specs.steps.Steps.{ordinals_awaiting}
 use Rattle.base.specs.steps.Exact.{IsLogExact, IsSyncExact}
-use Rattle.base.proofs.steps.BusyLocks.{Some-injective}
 use Rattle.base.proofs.history.LogOrder.{order-flush}
-use Rattle.base.proofs.common.KeptLists.{any_at, any_map, filter_same}
+use Rattle.base.proofs.common.KeptLists.{any_at, any_map, filter_same, Some-injective}
 
 abbrev flushed_block : KeptBlock → KeptBlock
 flushed_block b = record b { flushed = true }

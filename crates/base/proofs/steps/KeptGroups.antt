@@ -16,9 +16,7 @@ use Rattle.base.specs.steps.Refusals.{quiescing_group, quiesced_group}
 use Rattle.base.specs.steps.Steps.{line_after_close, line_after_quiesce}
 use Rattle.base.specs.steps.Exact.{AreGroupsExact}
 use Rattle.base.proofs.common.Sieves.{filter-filter}
-use Rattle.base.proofs.history.CommitOrder.{push-cases}
-use Rattle.base.proofs.steps.BusyLocks.{Some-injective}
-use Rattle.base.proofs.common.KeptLists.{at_old, at_filter, any_at, none_any, any_none, any_push, none_at}
+use Rattle.base.proofs.common.KeptLists.{at_old, at_filter, any_at, none_any, any_none, any_push, none_at, Some-injective, push-cases}
 
 -- they stay exact where nothing of them changes
 pub same_groups : (s t : Shown) (p q : Past) → AreGroupsExact s p

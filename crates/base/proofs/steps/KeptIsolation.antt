@@ -17,9 +17,7 @@ use Rattle.base.specs.steps.Refusals.{is_plan_covered, is_plan_blocked, is_lock_
 use Rattle.base.specs.steps.Exact.{AreLocksExact, AreIsolated}
 use Rattle.base.proofs.history.Conflicts.{clashes_turn}
 use Rattle.base.proofs.history.Admissions.{begins_admit}
-use Rattle.base.proofs.history.CommitOrder.{push-cases, All-each}
-use Rattle.base.proofs.steps.BusyLocks.{some-passes}
-use Rattle.base.proofs.common.KeptLists.{at_filter, filter_at, any_at, none_any, all_weaker}
+use Rattle.base.proofs.common.KeptLists.{at_filter, filter_at, any_at, none_any, all_weaker, any_found, push-cases, All-each}
 use Rattle.base.proofs.steps.KeptLocks.{held_once}
 
 -- they stay so where nothing of them changes
@@ -46,7 +44,7 @@ pub unlock_isolated : (s : Shown) (p q : Past) (id k : ℕ) (g : Grant) → AreL
 unlock_isolated s p q id k g l x at_g named unused = record {
   admitted = x.admitted;
   covered = λ i a at. all_weaker (λ y. is_covered_for_writing a.owner (range_of y) s.locks) (λ y. is_covered_for_writing a.owner (range_of y) (filter (λ (h : Grant). not (h.id == id)) s.locks)) a.plan
-      (λ j y at_j covers. still i a at j y at_j (some-passes (covering a.owner (range_of y)) s.locks covers)) (x.covered i a at);
+      (λ j y at_j covers. still i a at j y at_j (any_found (covering a.owner (range_of y)) s.locks covers)) (x.covered i a at);
 }
   where
     in_use : (i : ℕ) (a : Admission) → slice_get s.transactions i ≡ Some a → (j : ℕ) (y : Shape) → slice_get a.plan j ≡ Some y → covering a.owner (range_of y) g ≡ true → ⊥

@@ -10,9 +10,8 @@ use Rattle.base.specs.history.Past.{Past}
 use Rattle.base.specs.steps.Shown.{Shown}
 use Rattle.base.specs.steps.Exact.{AreLocksExact}
 use Rattle.base.proofs.common.Sieves.{filter-filter}
-use Rattle.base.proofs.history.CommitOrder.{push-cases}
-use Rattle.base.proofs.steps.BusyLocks.{Some-injective, granted-sound}
-use Rattle.base.proofs.common.KeptLists.{at_filter, pair_filter, any_none, any_push}
+use Rattle.base.proofs.steps.BusyLocks.{granted-sound}
+use Rattle.base.proofs.common.KeptLists.{at_filter, pair_filter, any_none, any_push, Some-injective, push-cases}
 
 -- they stay exact where neither they nor the grants change
 pub same_locks : (s t : Shown) (p q : Past) → AreLocksExact s p → AreLocksExact (record t { locks = s.locks; next_lock = s.next_lock }) (record q { grants = p.grants; let_go = p.let_go })

@@ -15,10 +15,8 @@ use Rattle.base.specs.steps.Logs.{Log, KeptBlock, Committed, committed_of, commi
 use Rattle.base.specs.steps.Shown.{Shown, SyncPlan, is_durable}
 use Rattle.base.specs.steps.Exact.{IsLogExact, IsSyncExact}
 use Rattle.base.proofs.common.Sieves.{filter-filter, filter_all}
-use Rattle.base.proofs.history.CommitOrder.{push-cases, All-each}
-use Rattle.base.proofs.steps.BusyLocks.{Some-injective}
-use Rattle.base.proofs.history.LogOrder.{order-commit, order-sync}
-use Rattle.base.proofs.common.KeptLists.{none_at, at_old, at_filter, any_none, none_any, any_filter}
+use Rattle.base.proofs.history.LogOrder.{order-commit, order-sync, enumerate_from-push}
+use Rattle.base.proofs.common.KeptLists.{none_at, at_old, at_filter, any_none, none_any, any_filter, Some-injective, push-cases, All-each}
 
 -- it stays exact where nothing of it changes
 pub same_log : (s t : Shown) (p q : Past) → IsLogExact s p
@@ -28,12 +26,6 @@ same_log s t p q x = record { next = x.next; allowed = x.allowed; pending = x.pe
 -- the record of an entry, by its ordinal
 abbrev pub record_of : ℕ × Entry → Record
 record_of p = record { group = p.1.group; ordinal = p.0; ops = p.1.ops }
-
-enumerate_push : {X : Type 0} (n : ℕ) (xs : List X) (x : X) → enumerate_from n (xs ++ x ∷ []) ≡ enumerate_from n xs ++ (n + length xs, x) ∷ []
-enumerate_push {X} n [] x = let same : n ≡ n + 0 = omega arith in ap (λ (k : ℕ). let p : ℕ × X = (k, x) in p ∷ []) same
-enumerate_push {X} n (y ∷ ys) x =
-    let same : n + 1 + length ys ≡ n + suc (length ys) = omega arith in
-    ap (λ ps. let p : ℕ × X = (n, y) in p ∷ ps) (enumerate_push (n + 1) ys x ∙ ap (λ (k : ℕ). let p : ℕ × X = (k, x) in enumerate_from (n + 1) ys ++ p ∷ []) same)
 
 module _ (s t : Shown) (p q : Past) (x : IsLogExact s p) (e : Entry) (above : s.line.synced < e.group) (allowed : IsAllowed (record { group = e.group; ordinal = s.next_ordinal; ops = e.ops })) where
   -- no kept block has the record of an entry to come
@@ -56,7 +48,7 @@ module _ (s t : Shown) (p q : Past) (x : IsLogExact s p) (e : Entry) (above : s.
   pending_push =
       let place : 0 + length p.entries ≡ s.next_ordinal = let n : s.next_ordinal ≡ length p.entries = x.next in omega arith in
       ap (λ rs. rs ++ next_record ∷ []) x.pending
-      ∙ sym (ap (λ (ps : List (ℕ × Entry)). filter is_pending (map record_of ps)) (enumerate_push 0 p.entries e ∙ ap (λ (k : ℕ). let y : ℕ × Entry = (k, e) in enumerate_from 0 p.entries ++ y ∷ []) place)
+      ∙ sym (ap (λ (ps : List (ℕ × Entry)). filter is_pending (map record_of ps)) (enumerate_from-push 0 p.entries e ∙ ap (λ (k : ℕ). let y : ℕ × Entry = (k, e) in enumerate_from 0 p.entries ++ y ∷ []) place)
       ∙ ap (λ rs. filter is_pending rs) (map-append record_of (enumerate_from 0 p.entries) ((s.next_ordinal, e) ∷ []))
       ∙ filter-append is_pending (map record_of (enumerate_from 0 p.entries)) (next_record ∷ [])
       ∙ ap (λ b. filter is_pending (map record_of (enumerate_from 0 p.entries)) ++ cond b (next_record ∷ []) []) pending_next)

@@ -8,8 +8,7 @@ use Rattle.base.specs.steps.Logs.{Log, KeptBlock, header_at, header_for, reaches
 use Rattle.base.specs.steps.Shown.{Shown, SyncPlan}
 use Rattle.base.specs.steps.Steps.{State, IsPlanned, ops_of_group}
 use Rattle.base.specs.steps.Exact.{IsSyncExact}
-use Rattle.base.proofs.steps.BusyLocks.{Some-injective}
-use Rattle.base.proofs.common.KeptLists.{found_at, not_found}
+use Rattle.base.proofs.common.KeptLists.{found_at, not_found, Some-injective}
 
 -- it stays exact where nothing of it changes
 pub same_sync : (s t : Shown) → IsSyncExact s

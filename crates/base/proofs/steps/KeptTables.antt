@@ -37,10 +37,10 @@ use Rattle.base.specs.steps.Runs.{Step}
 use Rattle.base.specs.steps.ExactNow.{IsExplainedNow, IsRun, IsLogStep}
 use Rattle.base.proofs.history.Cuts.{histories_grow}
 use Rattle.base.proofs.history.Projections.{plans_touch}
-use Rattle.base.proofs.history.CommitOrder.{no_refusal, ok-none, found-plan, All-at}
+use Rattle.base.proofs.history.CommitOrder.{no_refusal, ok-none, found-plan}
 use Rattle.base.proofs.steps.OpenTransactions.{commit-admitted}
 use Rattle.base.proofs.history.Admissions.{closes_leave}
-use Rattle.base.proofs.common.KeptLists.{found_at}
+use Rattle.base.proofs.common.KeptLists.{found_at, All-at}
 use Rattle.base.proofs.steps.KeptLocks.{same_locks, lock_keeps, unlock_keeps}
 use Rattle.base.proofs.steps.KeptGroups.{same_groups, begin_keeps, commit_keeps, close_keeps, quiesce_keeps, start_keeps, sync_keeps, open_is, held_above, quiescing_is, quiesced_is, none_there}
 use Rattle.base.proofs.steps.KeptIsolation.{same_isolated, lock_isolated, unlock_isolated, begin_isolated, covered_without}

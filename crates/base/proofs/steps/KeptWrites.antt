@@ -12,12 +12,10 @@ use Rattle.base.specs.history.Past.{Past}
 use Rattle.base.specs.steps.Logs.{Log, KeptBlock, Committed, committed_of, has_record, is_same, is_written_in, is_flushed_in, reaches_above, pending_records, log_after_write}
 use Rattle.base.specs.steps.Shown.{Shown, SyncPlan}
 use Rattle.base.specs.steps.Exact.{IsLogExact, IsSyncExact}
-use Rattle.base.proofs.steps.BusyLocks.{Some-injective}
 use Rattle.base.proofs.common.Sieves.{filter-filter, filter_all, filter_nothing}
-use Rattle.base.proofs.history.CommitOrder.{push-cases, All-each}
 use Rattle.base.proofs.history.LogOrder.{order-write}
 use Rattle.base.proofs.steps.KeptLog.{record_of}
-use Rattle.base.proofs.common.KeptLists.{none_at, at_front, at_filter, pair_filter, any_at, any_found, any_none, any_push, filter_same}
+use Rattle.base.proofs.common.KeptLists.{none_at, at_front, at_filter, pair_filter, any_at, any_found, any_none, any_push, filter_same, Some-injective, push-cases, All-each}
 
 enumerated_at : {A : Type 0} (n : ℕ) (xs : List A) (k : ℕ) (p : ℕ × A) → slice_get (enumerate_from n xs) k ≡ Some p → (p.0 ≡ n + k) × (slice_get xs k ≡ Some p.1)
 enumerated_at n [] k p at = absurd (none_at k p at)

@@ -15,7 +15,8 @@ use Rattle.base.specs.steps.Steps.{State, WholeCommit, transactions_without}
 use Rattle.base.proofs.common.Sieves.{AllPairs-cons, AllPairs-head, AllPairs-tail}
 use Rattle.base.proofs.history.Conflicts.{clashes_turn}
 use Rattle.base.proofs.history.Projections.{plans_touch}
-use Rattle.base.proofs.history.CommitOrder.{ok-none, found-plan, All-at}
+use Rattle.base.proofs.history.CommitOrder.{ok-none, found-plan}
+use Rattle.base.proofs.common.KeptLists.{All-at}
 
 module _ {X Y : Type 0} (f : X → Y) where
   All-of_map : (P : Y → Type 0) (xs : List X) → All P (map f xs) → All (λ x. P (f x)) xs

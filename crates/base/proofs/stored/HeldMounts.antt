@@ -16,12 +16,12 @@ use Rattle.base.specs.stored.ShownLabels.{ShowsUberblock, ShowsSynced, ShowsSync
 use Rattle.base.specs.stored.Stored.{IsKept, NewTree, IsSyncing, RunsAs, Held, IsHeld, IsCallMade, frame_at}
 use Rattle.base.specs.stored.HeldMounts.{MountsUpTo, HeldMounts, IdleMounts, StepsWriteNoLog}
 use Rattle.base.specs.declared.step.Reply.TheVariants as reply
-use Rattle.base.proofs.steps.BusyLocks.{Some-injective}
 use Rattle.base.proofs.tree.PlacedTrees.{holds-tree}
 use Rattle.base.proofs.stored.StoredTrees.{stored-synced_tree}
 use Rattle.base.proofs.stored.StoredSyncs.{group-replayed, news}
 use Rattle.base.proofs.stored.StoredCalls.{advance-no_log}
 use Rattle.base.proofs.formats.Versions.{known-written}
+use Rattle.base.proofs.common.KeptLists.{Some-injective}
 
 -- an image without log blocks has no chain
 no_log-chain : (now : List ℕ) (u : Uberblock) → HasNoLogBlock now → IsChainOf now u []

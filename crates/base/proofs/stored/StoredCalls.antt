@@ -16,13 +16,14 @@ use Rattle.base.specs.crash.SyncCalls.{PoolCall, IsCallAt, bytes_made}
 use Rattle.base.specs.crash.SyncCalls.PoolCall.{Put, Settle}
 use Rattle.base.specs.stored.ShownLabels.{ShowsUberblock, ShowsSyncing, AreLabelsShown, HasNoLogBlock}
 use Rattle.base.specs.stored.Stored.{NewTree, IsKept, SameBlocks, AreUpTo, Advances}
-use Rattle.base.proofs.steps.BusyLocks.{Some-injective}
 use Rattle.base.proofs.disk.Put.{length-put}
 use Rattle.base.proofs.history.BuiltNames.{name-up_to}
-use Rattle.base.proofs.disk.WrittenLabels.{block-shows, slot-shows, slot-shows_again, slot-below, slot-fits}
+use Rattle.base.proofs.disk.WrittenLabels.{block-shows, slot-shows, slot-shows_again, slot-fits}
 use Rattle.base.proofs.stored.StoredLabels.{synced-later}
 use Rattle.base.proofs.stored.StoredTrees.{written-stored, written-syncing, written-no_log, same-stored, same-syncing, same-no_log, label-put, no-change, address-fits}
 use Rattle.base.proofs.stored.StoredSyncs.{up_to-all}
+use Rattle.base.proofs.common.KeptLists.{Some-injective}
+use Rattle.base.proofs.formats.Geometry.{slot-below}
 
 module _ (now : List ℕ) (s : Shown) (pointers : Place → Pointer) (past : Past) (explained : IsExplainedNow s past) (old : NewTree) (x : IsKept now s pointers (Some old) past) where
   abbrev more : NewTree

@@ -15,9 +15,9 @@ use Rattle.base.specs.history.Past.{new_past}
 use Rattle.base.specs.steps.Shown.{Shown}
 use Rattle.base.specs.stored.ShownLabels.{ShowsSynced, HasNoLogBlock}
 use Rattle.base.proofs.disk.Put.{length-part}
-use Rattle.base.proofs.tree.PlacedTrees.{get_or-zeros}
 use Rattle.base.proofs.tree.PlannedTrees.{part-part}
 use Rattle.base.proofs.stored.StoredTrees.{address-fits}
+use Rattle.base.proofs.common.KeptLists.{get_or-zeros}
 
 -- The labels show a new pool, where its uberblock is the active one and each label has its config.
 pub new-shows : (now : List ℕ) (s : Shown) (contents : Contents) (created dirty_max : ℕ) (v : Uberblock) → IsActive now v → ((label : ℕ) → label < 4 → IsConfig now label v.guid v.group contents.name) → v.guid ≡ s.guid

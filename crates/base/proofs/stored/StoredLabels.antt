@@ -9,7 +9,7 @@ use Rattle.base.specs.steps.Shown.{Shown, SyncPlan}
 use Rattle.base.specs.formats.Uberblocks.{Uberblock}
 use Rattle.base.specs.stored.ShownLabels.{ShowsUberblock, ShowsGroup, ShowsSynced, ShowsSyncing, AreLabelsShown}
 use Rattle.base.specs.crash.SyncCalls.{NewTree}
-use Rattle.base.proofs.steps.BusyLocks.{Some-injective}
+use Rattle.base.proofs.common.KeptLists.{Some-injective}
 
 -- over other bytes that show the same
 module _ (now later : List ℕ) (s : Shown) (p : Past) (stays : (u : Uberblock) (name : List ℕ) → ShowsUberblock now u name → ShowsUberblock later u name) where

@@ -1,5 +1,5 @@
 -- Sets of addresses and the lists that they are made of and told by.
-use Rattle.std.proofs.Common.{◌≡◌, ℕ, zero, suc, ◌<◌, Bool, true, false, cond, ◌&&◌, List, [], ◌∷◌, map, take, refl, ap, sym, ◌∙◌, subst, arith, inl, inr, Some, Less, Equal, Greater, nat_eq}
+use Rattle.std.proofs.Common.{◌≡◌, ℕ, zero, suc, ◌<◌, Bool, true, false, cond, ◌&&◌, List, [], ◌∷◌, map, refl, ap, sym, ◌∙◌, subst, arith, inl, inr, Some, Less, Equal, Greater, nat_eq}
 use Rattle.std.specs.Prelude.{T, slice_get, option_map, ◌==◌, is_some}
 use Rattle.std.specs.List.{list_any}
 use Rattle.std.specs.Ordering.{nat_cmp, eq_by_cmp, is_lt}
@@ -14,8 +14,7 @@ use Rattle.std.specs.FinSet as set
 use Rattle.std.specs.FinSet.{FinSet, contains-items, contains-from_list_nat}
 use Rattle.base.specs.steps.Locks.{is_in}
 use Rattle.base.specs.common.Rising.{as_keys, rising}
-use Rattle.base.proofs.steps.BusyLocks.{some-passes, Some-injective}
-use Rattle.base.proofs.common.KeptLists.{any_at, none_at}
+use Rattle.base.proofs.common.KeptLists.{any_at, none_at, Some-injective, any_found}
 
 -- an element of a list by its place
 abbrev pub IsAt : List ℕ → ℕ → Type 0
@@ -23,7 +22,7 @@ IsAt xs x = (i : ℕ) × (slice_get xs i ≡ Some x)
 
 pub in-at : (x : ℕ) (xs : List ℕ) → is_in x xs ≡ true → IsAt xs x
 in-at x xs is =
-    let found = some-passes (λ y. x == y) xs is in
+    let found = any_found (λ y. x == y) xs is in
     (found.0, found.2 ∙ ap (λ (y : ℕ). Some y) (sym (eqb-true x found.1 found.3)))
 
 pub at-in : (x : ℕ) (xs : List ℕ) → IsAt xs x → is_in x xs ≡ true
@@ -32,7 +31,7 @@ at-in x xs at = any_at (λ y. x == y) xs at.0 x at.1 (eq-eqb x x refl)
 -- the set of a list has its elements
 pub set-at : (xs : List ℕ) (x : ℕ) → set.contains (set.from_list {R = nat_cmp} xs) x ≡ true → IsAt xs x
 set-at xs x is =
-    let found = some-passes (λ y. nat_eq y x) xs (sym (contains-from_list_nat xs x) ∙ is) in
+    let found = any_found (λ y. nat_eq y x) xs (sym (contains-from_list_nat xs x) ∙ is) in
     (found.0, found.2 ∙ ap (λ (y : ℕ). Some y) (eqb-true found.1 x found.3))
 
 pub at-set : (xs : List ℕ) (x : ℕ) → IsAt xs x → set.contains (set.from_list {R = nat_cmp} xs) x ≡ true
@@ -82,13 +81,6 @@ pub rising-rises : (numbers : FinSet nat_cmp) (i j x y : ℕ) → i < j → slic
 rising-rises numbers i j x y before at_i at_j =
     let m = finite.from_entries {R = nat_cmp} (as_keys (set.items numbers)) in
     sorted-at (finite.entries m) i j x y (entries_sorted m) before at_i at_j
-
--- a front of a list has its elements, at their places
-pub at-take : {A : Type 0} (n : ℕ) (xs : List A) (i : ℕ) (x : A) → slice_get (take n xs) i ≡ Some x → slice_get xs i ≡ Some x
-at-take zero xs i x at = absurd (none_at i x at)
-at-take (suc n) [] i x at = at
-at-take (suc n) (y ∷ ys) zero x at = at
-at-take (suc n) (y ∷ ys) (suc i) x at = at-take n ys i x at
 
 -- what a list is made of by a function
 pub at-map : {A B : Type 0} (f : A → B) (xs : List A) (i : ℕ) (y : B) → slice_get (map f xs) i ≡ Some y → (x : A) × (slice_get xs i ≡ Some x) × (f x ≡ y)

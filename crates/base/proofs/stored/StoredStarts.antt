@@ -32,7 +32,6 @@ use Rattle.base.specs.steps.Steps.{State, IsPlanned}
 use Rattle.base.specs.steps.Stage as stage
 use Rattle.base.specs.stored.ShownLabels.{ShowsSynced, AreLabelsShown}
 use Rattle.base.specs.stored.Stored.{NewTree, IsStored, IsPlannedSync, IsSyncing, RunsAs, IsKept, AreBlocks, LeavesTree, IsUnwritten, AreUpTo, AreUsed, frame_at}
-use Rattle.base.proofs.steps.BusyLocks.{Some-injective}
 use Rattle.base.proofs.history.CommitOrder.{no_refusal, ok-none}
 use Rattle.base.proofs.steps.KeptGroups.{quiesced_is, none_there}
 use Rattle.base.proofs.tree.PlacedTrees.{in-tree, opens-at}
@@ -41,7 +40,8 @@ use Rattle.base.proofs.tree.FreedBlocks.{new-in_tree}
 use Rattle.base.proofs.tree.WrittenRecords.{bounded-no_others}
 use Rattle.base.proofs.formats.Geometry.{IsGeometry-IsSize}
 use Rattle.base.proofs.stored.StoredLabels.{synced-state}
-use Rattle.base.proofs.stored.StoredSets.{in-at, at-in, set-at, at-set, rising-in, rising-rises, at-take, map-at}
+use Rattle.base.proofs.stored.StoredSets.{in-at, at-in, set-at, at-set, rising-in, rising-rises, map-at}
+use Rattle.base.proofs.common.KeptLists.{at_take, Some-injective}
 
 -- where a sync may start, its group is the quiesced one and none runs
 pub start-line : (s : Shown) (group : ℕ) → refusal.start_refusal s ≡ None → refusal.quiesced_group s.line ≡ Some group
@@ -81,7 +81,7 @@ module _ (now : List ℕ) (s : Shown) (p : Past) (pointers : Place → Pointer) 
   -- the addresses that a sync takes
   module _ (plan : SyncPlan) (bs : List NewBlock) (taken : plan.taken ≡ steps.lowest_free (length plan.taken) s) (addresses : map (λ (b : NewBlock). b.address) bs ≡ plan.taken) where
     risen : (i : ℕ) (b : NewBlock) → slice_get bs i ≡ Some b → slice_get (rising s.free) i ≡ Some b.address
-    risen i b at = at-take (length plan.taken) (rising s.free) i b.address
+    risen i b at = at_take (length plan.taken) (rising s.free) i b.address
         (ap (λ (l : List ℕ). slice_get l i) (sym (addresses ∙ taken)) ∙ map-at (λ (c : NewBlock). c.address) bs i b at)
 
     -- each was free

@@ -30,9 +30,8 @@ use Rattle.base.specs.steps.Runs.{Step, reply_of, progress_reply}
 use Rattle.base.specs.steps.ExactNow.{IsExplainedNow}
 use Rattle.base.specs.stored.ShownLabels.{AreLabelsShown}
 use Rattle.base.specs.stored.Stored.{NewTree, IsStored, IsSyncing, RunsAs, IsKept, AreUpTo, AreBuilt, is_turn}
-use Rattle.base.proofs.steps.BusyLocks.{Some-injective}
-use Rattle.base.proofs.history.CommitOrder.{no_refusal, push-cases}
-use Rattle.base.proofs.common.KeptLists.{found_at}
+use Rattle.base.proofs.history.CommitOrder.{no_refusal}
+use Rattle.base.proofs.common.KeptLists.{found_at, Some-injective, push-cases}
 use Rattle.base.proofs.steps.KeptGroups.{held_above, quiescing_is, none_there}
 use Rattle.base.proofs.stored.StoredLabels.{synced-state, counted-state, labels-state}
 

@@ -1,10 +1,10 @@
 -- The end of a sync: its tree is the synced one, and the blocks that it has replaced are free.
-use Rattle.std.proofs.Common.{◌≡◌, ℕ, ◌+◌, ◌≤◌, Bool, true, false, ◌||◌, List, [], ◌∷◌, ◌++◌, length, map, filter, refl, ap, sym, subst, ◌∙◌, arith, ◌⊎◌, inl, inr}
+use Rattle.std.proofs.Common.{◌≡◌, ℕ, ◌+◌, ◌≤◌, true, false, List, [], ◌∷◌, ◌++◌, length, map, filter, refl, ap, sym, subst, ◌∙◌, arith, ◌⊎◌, inl, inr}
 use Rattle.std.specs.Prelude.{Option, Some, None, Ok, slice_get, IfSome, nat_le, unwrap_or, option_map}
 use Rattle.std.specs.Ordering.{nat_cmp}
 use Rattle.std.specs.FinSet as set
 use Rattle.std.specs.FinSet.{FinSet, contains-union}
-use Rattle.std.proofs.lemmas.Bool.{or_parts, false≢true, le-leb}
+use Rattle.std.proofs.lemmas.Bool.{or_parts, false≢true, le-leb, or_cases}
 use Rattle.std.proofs.lemmas.Cmp.{nat_cmp_total}
 use Rattle.std.proofs.lemmas.Option.{slice_get_within}
 use Rattle.base.specs.declared.pointer.Pointer.{Pointer}
@@ -27,10 +27,9 @@ use Rattle.base.specs.steps.Steps.{State, returned_addresses}
 use Rattle.base.specs.steps.Steps.SyncProgress.{Synced}
 use Rattle.base.specs.stored.ShownLabels.{ShowsUberblock, ShowsSynced, AreLabelsShown}
 use Rattle.base.specs.stored.Stored.{NewTree, IsStored, IsSyncing, IsKept, AreUpTo, total_calls, frame_at}
-use Rattle.base.proofs.steps.BusyLocks.{Some-injective}
 use Rattle.base.proofs.history.CommitOrder.{ok-none}
 use Rattle.base.proofs.common.Sieves.{filter_all}
-use Rattle.base.proofs.common.KeptLists.{none_at}
+use Rattle.base.proofs.common.KeptLists.{none_at, Some-injective}
 use Rattle.base.proofs.tree.PlacedTrees.{in-tree}
 use Rattle.base.proofs.tree.PlannedTrees.{planned-holds}
 use Rattle.base.proofs.tree.WrittenRecords.{bounded-no_others}
@@ -45,11 +44,6 @@ up_to-all group entries all = filter_all (λ (e : Entry). nat_le e.group group) 
 no_more : {A : Type 0} (xs : List A) → xs ++ [] ≡ xs
 no_more [] = refl
 no_more (x ∷ xs) = ap (λ l. x ∷ l) (no_more xs)
-
--- in one of two sets
-either : (a b : Bool) → (a || b) ≡ true → (a ≡ true) ⊎ (b ≡ true)
-either true b h = inl refl
-either false b h = inr h
 
 module _ (now : List ℕ) (s : Shown) (p : Past) (pointers : Place → Pointer) (new : NewTree) (x : IsStored now s pointers p) (y : IsSyncing now s pointers new p) (explained : IsExplainedNow s p) (done : length new.blocks ≤ new.done) where
   -- the contents are those of the entries up to its group
@@ -173,7 +167,7 @@ module _ (now : List ℕ) (s : Shown) (p : Past) (pointers : Place → Pointer) 
   free_after = set.union s.free returned
 
   free-from : (address : ℕ) → set.contains free_after address ≡ true → (set.contains s.free address ≡ true) ⊎ IsAt y.plan.freed address
-  free-from address is = elim (either (set.contains s.free address) (set.contains returned address) (sym (contains-union nat_cmp_total s.free returned address) ∙ is))
+  free-from address is = elim (or_cases (set.contains s.free address) (set.contains returned address) (sym (contains-union nat_cmp_total s.free returned address) ∙ is))
       as (λ _. (set.contains s.free address ≡ true) ⊎ IsAt y.plan.freed address) [ inl free ↦ inl free | inr is_freed ↦ inr (freed-at address is_freed) ]
 
   others : (address : ℕ) → set.contains returned address ≡ false → Old address ⊎ IsInLog s.log address ⊎ (is_in address (taken_of s.sync) ≡ true) → New address ⊎ IsInLog log_after address ⊎ (is_in address [] ≡ true)

@@ -24,10 +24,10 @@ use Rattle.base.specs.stored.ShownLabels.{HasNoLogBlock}
 use Rattle.base.specs.stored.Stored.{NewTree, IsStored, IsSyncing, SameBlocks, total_calls, frame_at}
 use Rattle.base.proofs.disk.Put.{length-put, part-put_same, part-put_apart}
 use Rattle.base.proofs.formats.LabelPlaces.{label-apart}
-use Rattle.base.proofs.steps.BusyLocks.{Some-injective}
 use Rattle.base.proofs.tree.PlacedTrees.{holds-tree, holds-placed, none_or_opens, in-tree, told-in_tree}
 use Rattle.base.proofs.tree.PlannedTrees.{holds-elsewhere}
 use Rattle.base.proofs.disk.WrittenBlocks.{blocks-apart}
+use Rattle.base.proofs.common.KeptLists.{Some-injective}
 
 -- the device holds the tree of the objects that the entries up to the synced group leave
 pub stored-synced_tree : (now : List ℕ) (s : Shown) (pointers : Place → Pointer) (past : Past) → IsStored now s pointers past → IsSyncedTree now s past

@@ -23,9 +23,8 @@ use Rattle.base.specs.history.Past.{Past}
 use Rattle.base.specs.steps.Shown.{Shown}
 use Rattle.base.specs.steps.Steps.{ops_of_group}
 use Rattle.base.specs.steps.ExactNow.{IsExplainedNow}
-use Rattle.base.proofs.steps.BusyLocks.{Some-injective, some-passes}
-use Rattle.base.proofs.history.CommitOrder.{All-at}
-use Rattle.base.proofs.common.KeptLists.{none_at, at_filter, any_at, filter_same}
+use Rattle.std.specs.Cmp.Derive.{one_truth}
+use Rattle.base.proofs.common.KeptLists.{none_at, at_filter, any_at, filter_same, Some-injective, any_found, All-at}
 use Rattle.base.proofs.history.Objects.{reached, get-stored_same}
 use Rattle.base.proofs.common.Sequences.{parted}
 use Rattle.base.proofs.tree.UntouchedRecords.{writes_record, at_object-leaves}
@@ -38,12 +37,6 @@ HasBytes (Remove m) = Unit {0}
 HasBytes (Write m offset bytes) = (0 < length bytes) × (offset + length bytes ≤ max_length)
 HasBytes (SetLength m new) = Unit {0}
 HasBytes (SetName bytes) = Unit {0}
-
--- tests that pass alike are equal
-same-test : (a b : Bool) → (a ≡ true → b ≡ true) → (b ≡ true → a ≡ true) → a ≡ b
-same-test true b to from = sym (to refl)
-same-test false true to from = from refl
-same-test false false to from = refl
 
 -- where one test follows from another, the other decides both
 and-decided : (a b : Bool) → (a ≡ true → b ≡ true) → (a && b) ≡ a
@@ -93,7 +86,7 @@ any-in_range p low (suc count) n from to passes = elim (cases_eq low n) [
 -- where an element passes a test, one passes a weaker test
 any-weaker : {A : Type 0} (p q : A → Bool) (xs : List A) → ((x : A) → p x ≡ true → q x ≡ true) → list_any p xs ≡ true → list_any q xs ≡ true
 any-weaker p q xs weaker any =
-    let one = some-passes p xs any in
+    let one = any_found p xs any in
     any_at q xs one.0 one.1 one.2 (weaker one.1 one.3)
 
 there-created : (o p : Option (List ℕ)) → created o ≡ Ok p → is_some p ≡ true
@@ -278,7 +271,7 @@ module _ (ops : List Op) (synced after : Contents) (had : Place → Bool) (takes
   -- an object that changes its records has a dirty one
   changed-dirty : (n : ℕ) → n < object_count → list_any (is_change_of n) ops ≡ true → list_any (is_dirty n) record_numbers ≡ true
   changed-dirty n low any =
-      let one = some-passes (is_change_of n) ops any in
+      let one = any_found (is_change_of n) ops any in
       let found = one-record n one.1 (All-at IsBuilt ops one.0 one.1 built one.2) (All-at HasBytes ops one.0 one.1 bytes one.2) one.3 in
       any-in_range (is_dirty n) 0 pointer_count found.0 (omega arith) (let below = found.1 in omega (arith, below))
       (dirty n found.0 low found.1 ∙ any_at (writes_record n found.0) ops one.0 one.1 one.2 found.2)
@@ -286,7 +279,7 @@ module _ (ops : List Op) (synced after : Contents) (had : Place → Bool) (takes
   -- and one with a dirty record changes them, and then has a block
   dirty-changed : (n : ℕ) → n < object_count → list_any (is_dirty n) record_numbers ≡ true → syncs.is_indirect_written ops synced had n ≡ true
   dirty-changed n low any =
-      let one = some-passes (is_dirty n) record_numbers any in
+      let one = any_found (is_dirty n) record_numbers any in
       let r = one.1 in
       let below : r < pointer_count = (let to = (in-range 0 pointer_count one.0 r one.2).1 in omega (arith, to)) in
       let written : list_any (writes_record n r) ops ≡ true = sym (dirty n r low below) ∙ one.3 in
@@ -297,7 +290,7 @@ module _ (ops : List Op) (synced after : Contents) (had : Place → Bool) (takes
 
   -- the indirect block is written just where a record is
   told-indirect : (n : ℕ) → n < object_count → syncs.is_indirect_written ops synced had n ≡ list_any (is_dirty n) record_numbers
-  told-indirect n low = same-test (syncs.is_indirect_written ops synced had n) (list_any (is_dirty n) record_numbers)
+  told-indirect n low = one_truth (syncs.is_indirect_written ops synced had n) (list_any (is_dirty n) record_numbers)
       (λ is. changed-dirty n low (and_parts (list_any (is_change_of n) ops) (list_any (syncs.has_record_after ops synced had n) record_numbers) is).0)
       (dirty-changed n low)
 
@@ -326,7 +319,7 @@ module _ (ops : List Op) (synced after : Contents) (had : Place → Bool) (takes
   -- where one is touched, an object of it is there
   touched-present : (d : ℕ) → syncs.is_directory_touched ops synced had d ≡ true → (i n : ℕ) × (slice_get (object_numbers d) i ≡ Some n) × (present n ≡ true)
   touched-present d is =
-      let one = some-passes (λ n. list_any (is_on n) ops) (object_numbers d) is in
+      let one = any_found (λ n. list_any (is_on n) ops) (object_numbers d) is in
       (one.0, one.1, one.2, on-present one.1 one.3)
 
   told-directory : (d : ℕ) → d < pointer_count → syncs.is_directory_written ops synced had d ≡ has_changed is_changed d
@@ -336,7 +329,7 @@ module _ (ops : List Op) (synced after : Contents) (had : Place → Bool) (takes
   told-root : syncs.is_root_written ops synced had ≡ list_any (has_changed is_changed) (range_with_len 0 pointer_count)
   told-root = and-decided (list_any (syncs.is_directory_touched ops synced had) (range_with_len 0 pointer_count)) (list_any present (range_with_len 0 object_count))
       (λ is.
-      let one = some-passes (syncs.is_directory_touched ops synced had) (range_with_len 0 pointer_count) is in
+      let one = any_found (syncs.is_directory_touched ops synced had) (range_with_len 0 pointer_count) is in
       let d = one.1 in
       let low : d < pointer_count = (let to = (in-range 0 pointer_count one.0 d one.2).1 in omega (arith, to)) in
       let object = touched-present d one.3 in

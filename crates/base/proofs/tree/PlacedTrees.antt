@@ -1,5 +1,5 @@
 -- Trees told by the pointer at each place: what stands where, and that such a tree holds its objects.
-use Rattle.std.proofs.Common.{◌≡◌, ℕ, zero, suc, ◌+◌, ◌*◌, ◌/◌, ◌%◌, ◌<◌, ◌≤◌, List, length, get_or, drop, replicate, refl, ap, sym, subst, ◌∙◌, arith, ◌⊎◌, inl, inr}
+use Rattle.std.proofs.Common.{◌≡◌, ℕ, ◌+◌, ◌*◌, ◌/◌, ◌%◌, ◌<◌, ◌≤◌, List, length, get_or, drop, replicate, refl, ap, sym, subst, ◌∙◌, arith, ◌⊎◌, inl, inr}
 use Rattle.std.specs.Prelude.{Option, Some, None, IfSome, ◌≢◌}
 use Rattle.std.proofs.Math.Nat.{div-add-mod}
 use Rattle.std.proofs.lemmas.Bool.{cases_lt}
@@ -17,12 +17,7 @@ use Rattle.base.specs.tree.Places.Place.{Root, Directory, Indirect, Data}
 use Rattle.base.specs.tree.Tree.{OpensAt, IsTree, IsDirectory, IsEntry, IsObject, IsRecord, record_bytes}
 use Rattle.base.specs.tree.PlacedTrees.{IsEntryFor, HoldsTree, IsPlaced, ArePlaced}
 use Rattle.base.proofs.tree.SoundTrees.{zero_entry, opens-address, pointer_below-opens, pointer_below-none}
-
--- each byte of zeros, and behind them, is read as zero
-pub get_or-zeros : (n k : ℕ) → get_or (replicate n 0) k 0 ≡ zero
-get_or-zeros zero k = refl
-get_or-zeros (suc n) zero = refl
-get_or-zeros (suc n) (suc k) = get_or-zeros n k
+use Rattle.base.proofs.common.KeptLists.{get_or-zeros}
 
 -- an object whose records are all zeros is zeros
 pub zeros-from_records : (bytes : List ℕ) → length bytes ≤ max_length

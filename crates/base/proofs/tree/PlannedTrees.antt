@@ -16,7 +16,8 @@ use Rattle.base.specs.tree.Places.Place.{Root, Directory, Indirect, Data}
 use Rattle.base.specs.tree.Tree.{OpensAt, IsRecord, record_bytes}
 use Rattle.base.specs.tree.PlacedTrees.{IsEntryFor, padded_record, StandsAt, HoldsTree}
 use Rattle.base.specs.tree.PlannedTrees.{NewBlock, IsNewAt, SameEntry, SameRecord, IsPlannedAt, IsTreePlan, SameBlock, IsBlockWritten}
-use Rattle.base.proofs.tree.PlacedTrees.{get_or-zeros, opens-some, absent-data}
+use Rattle.base.proofs.tree.PlacedTrees.{opens-some, absent-data}
+use Rattle.base.proofs.common.KeptLists.{get_or-zeros}
 
 -- a part of a part
 pub part-part : (bytes : List ℕ) (a n b m : ℕ) → b + m ≤ n → part (part bytes a n) b m ≡ part bytes (a + b) m

@@ -21,7 +21,7 @@ use Rattle.base.specs.tree.PlannedTrees.{SameEntry, SameRecord}
 use Rattle.base.proofs.common.Sequences.{parted}
 use Rattle.base.proofs.history.Objects.{reached, get-stored_same, get-stored_other}
 use Rattle.base.proofs.history.Writes.{length-bytes_after_write, overwritten_apart}
-use Rattle.base.proofs.tree.PlacedTrees.{get_or-zeros}
+use Rattle.base.proofs.common.KeptLists.{get_or-zeros}
 
 -- whether an operation writes a byte of record r of object n
 abbrev pub writes_record : ℕ → ℕ → Op → Bool
