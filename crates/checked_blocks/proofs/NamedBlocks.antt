@@ -56,14 +56,3 @@ Opens-IsExpected image frame kind number pointer e bytes payload named at o =
       group = rw named.group_is block.group_is;
       check = rw named.check_is (ap (λ (l : List ℕ). part l 32 32) at ∙ check-part_at image pointer.address ∙ o.check);
     }
-
--- a block that stands at an address is the one that a pointer with its group and check names
-pub IsBlock-Opens : (image : List ℕ) (frame : Frame) (kind number : ℕ) (pointer : Pointer) (bytes payload : List ℕ)
-    → IsBlockAddress frame.blocks pointer.address → pointer.birth ≤ frame.group → bytes ≡ part image pointer.address 4096 → pointer.check ≡ part bytes 32 32
-    → IsBlock bytes kind frame.guid pointer.birth number payload → Opens image frame kind number pointer payload
-IsBlock-Opens image frame kind number pointer bytes payload place born at check block = record {
-  in_area = place;
-  born = born;
-  block = subst (λ (l : List ℕ). IsBlock l kind frame.guid pointer.birth number payload) at block;
-  check = sym (check-part_at image pointer.address) ∙ ap (λ (l : List ℕ). part l 32 32) (sym at) ∙ sym check;
-}

@@ -1,3 +1,9 @@
+//! Sealing: the fields, the check and the payload of a block that is written.
+//!
+//! ZFS keeps the check of a block in the pointer that names it, or for a label, an uberblock and a log block within the
+//! block itself (On-Disk Specification, chapters 1, 2 and 7). Here each block carries its check, the SHA-256 digest
+//! (FIPS 180-4) of the block with zeros in its place, and a pointer has a copy of it.
+
 ghost use Rattle.std.specs.Prelude.{◌≡◌, ◌<◌, ◌≤◌, ◌^◌, ◌↔◌, IsOk, IfOk, IfErr, length};
 ghost use Rattle.base.specs.formats.Blocks.{IsBlock, block_head_bytes, sealed_block};
 ghost use Rattle.base.specs.disk.Disk.{put};
@@ -15,7 +21,7 @@ pub const PAYLOAD_SIZE: usize = 4032;
 
 /// A sealed block: its check field is the SHA-256 digest (FIPS 180-4) of the block with zeros there.
 /// Contracts see it as a list of 4,096 bytes.
-#[derive(Drop)]
+#[derive(Debug, Drop, PartialEq, Eq)]
 pub struct Block {
     bytes: [u8; BLOCK_SIZE],
 }
@@ -29,6 +35,8 @@ impl Model for Block {
     ghost view = { λ b. b.bytes };
 
     ghost invariant = { λ b. IsSealed b.bytes };
+
+    ghost inverse = { λ bytes. record { bytes = bytes } };
 }
 
 impl Block {

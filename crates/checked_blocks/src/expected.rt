@@ -1,7 +1,9 @@
+//! What a reader expects of a block: the fields that the pointer, the label or the log chain that leads to it says.
+
 use base::Group;
 
 /// What a reader knows of a block before it reads it.
-#[derive(Clone, Copy, Debug)]
+#[derive(Clone, Copy, Debug, PartialEq, Eq)]
 pub struct Expected {
     /// The byte address that a refusal names. No test looks at it.
     pub address: u64,

@@ -1,3 +1,8 @@
+//! What each reader of a pool's blocks knows: whose they are, where they may lie, and which births they may have.
+//!
+//! The block area begins behind two labels and the boot area (On-Disk Specification, chapter 1). No block is born behind
+//! the group of the uberblock that leads to it (chapter 2).
+
 use crate::block::BLOCK_SIZE;
 use base::{Group, Version};
 use std::marker::Model;
@@ -7,7 +12,7 @@ pub const BLOCK_AREA: u64 = 4_194_304;
 
 /// What a reader of blocks knows of the pool: the version by whose rules its tree is read, its guid, the number of blocks of its
 /// area, and the group that no birth may pass. Contracts see it as the record of these four numbers.
-#[derive(Clone, Copy, Debug)]
+#[derive(Clone, Copy, Debug, PartialEq, Eq)]
 pub struct Frame {
     version: Version,
     guid: u64,

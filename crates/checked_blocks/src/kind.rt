@@ -1,3 +1,5 @@
+//! The kinds of blocks, by the number of the kind field.
+
 /// What a block holds. The number is the block's kind field: `Kind::Data as u64` is 5.
 #[derive(Clone, Copy, Debug, PartialEq, Eq)]
 pub enum Kind {

@@ -1,9 +1,14 @@
+//! Opening: what a block that was read has to be, and the payload that it holds.
+//!
+//! A block is accepted exactly where its check agrees and each field is the one expected. The cheap fields are compared
+//! before the check is made.
+
 ghost use Rattle.std.specs.Prelude.{◌≡◌, ◌↔◌, IsTrue, IsOk, IfOk, IfErr, IfSome, drop};
 ghost use Rattle.base.specs.formats.Blocks.{IsBlock, IsSealed};
 ghost use Rattle.base.specs.formats.Fields.{number_at, part};
 ghost use Rattle.sha2.specs.Sha256.{sha256};
 ghost use Rattle.checked_blocks.specs.Sealing.{hashed_bytes};
-ghost use Rattle.checked_blocks.specs.Opening.{IsExpected};
+ghost use Rattle.checked_blocks.specs.Opening.{IsExpected, damage_of};
 
 use crate::block::BLOCK_SIZE;
 use crate::expected::Expected;
@@ -13,7 +18,7 @@ use std::marker::Model;
 
 /// What an opened block holds: its group and the 4,032 bytes of its payload, which stay where they were read.
 /// Contracts see it as the record of the two.
-#[derive(Drop)]
+#[derive(Debug, Drop)]
 pub struct Payload<'a> {
     block: &'a [u8; BLOCK_SIZE],
 }
@@ -61,7 +66,7 @@ pub fn open<'a>(block: &'a [u8; BLOCK_SIZE], expected: &Expected) -> Result<Payl
     ensures opened { IfOk result
         (λ payload. IsBlock block.now expected.now.kind expected.now.guid payload.group
         expected.now.number payload.bytes) }
-    ensures refused { IfErr result (λ e. e ≡ PoolError.Damaged expected.now.kind expected.now.address) }
+    ensures refused { IfErr result (λ e. e ≡ damage_of expected.now) }
 {
     if is_expected(block, expected) {
         Ok(Payload { block })

@@ -1,4 +1,3 @@
-pub mod Sizes
 pub mod Certain
 pub mod Runs
 pub mod NoteLists

@@ -1,7 +1,7 @@
--- Parts that a run of calls spares, and that a run leaves no fewer moments behind.
-use Rattle.std.proofs.Common.{◌≡◌, ℕ, ◌≤◌, List, ◌∷◌, length, ap, arith, length-append}
+-- Parts that a run of calls spares.
+use Rattle.std.proofs.Common.{◌≡◌, ℕ, List}
 use Rattle.base.specs.formats.Fields.{part}
-use Rattle.base.specs.disk.Disk.{Moment, Disk, moments, bytes_of, EachMoment, CrashLeaves, LeavesOnly, ChangesOnly, SameOutside, IsInRange}
+use Rattle.base.specs.disk.Disk.{Moment, Disk, bytes_of, EachMoment, CrashLeaves, LeavesOnly, ChangesOnly, SameOutside, IsInRange}
 use Rattle.base.proofs.disk.Put.{part_same}
 use Rattle.base.proofs.disk.Moments.{weaker}
 use Rattle.base.proofs.disk.Regions.{inside_leaves}
@@ -25,7 +25,3 @@ module _ (Region : ℕ → Type 0) (base : List ℕ) (place n : ℕ) (spared : I
 
   pub leaves_part : (old new : Disk) → EachMoment (ChangesOnly Region base) old new → LeavesOnly old new (λ image. part image place n ≡ part base place n)
   leaves_part old new run = weaker (ChangesOnly Region base) (CrashLeaves (λ image. part image place n ≡ part base place n)) old new part_left run
-
--- a run leaves no fewer moments behind
-pub moments_grow : (P : Moment → Type 0) (old new : Disk) → EachMoment P old new → moments old ≤ moments new
-moments_grow P old new run = omega (arith, ap (λ (ms : List Moment). length ms) run.joined, length-append run.later (old.now ∷ old.past))

@@ -1,3 +1,7 @@
+//! Which of the configs that were read belongs to the active uberblock, and whether it outlives the next change.
+//!
+//! A config of a later group than the uberblock's was written by a sync that did not end, and does not count.
+
 ghost use Rattle.std.specs.Prelude.{◌≡◌, ◌<◌, ◌↔◌, IsTrue, IfOk, IfErr, IfSome, OnErr};
 ghost use Rattle.base.specs.formats.Labels.{IsChoice, HasNoCandidate};
 ghost use Rattle.labels.specs.Choices.{IsKeptIn};

@@ -1,3 +1,25 @@
+//! The config of a label: which pool the device belongs to, and how large it is.
+//!
+//! In chapter 1 of the On-Disk Specification it is a list of names and values of 112 KiB, at 16 KiB of the label, behind
+//! blank space and boot header. Here it lies at the same place and is one checked block of kind 1, with the pool's guid,
+//! the group in which it was written and the number 0. Its payload is
+//!
+//! ```text
+//! 0   8    the version of this layout, 1
+//! 8   8    the bytes of the device
+//! 16  8    the length of the name, 1 to 64
+//! 24       the name, and zeros up to the end
+//! ```
+//!
+//! The numbers are little-endian. A block is a config exactly where it opens as such a block and each byte of its payload
+//! is what encoding would write, for the device's own size. So a config is spelled in one way, and one that was copied
+//! from a device of another size is none.
+//!
+//! What tells the pools apart is the guid, what tells the configs of a pool apart is the group: the config of an active
+//! uberblock is the one of the highest group not above the uberblock's (`choose` has the rule in full). No config is
+//! ever changed in place in all labels at once: two labels are written and flushed before the other two, so at each
+//! moment one pair at least is whole.
+
 ghost use Rattle.std.specs.Prelude.{◌≡◌, ◌+◌, ◌<◌, ◌≤◌, ◌^◌, ◌↔◌, ℕ, List, IsTrue, IfSome, IfNone, length, replicate, take};
 ghost use Rattle.base.specs.formats.Labels.{IsConfigPayload};
 ghost use Rattle.labels.specs.ConfigBytes.{config_bytes};

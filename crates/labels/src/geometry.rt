@@ -1,3 +1,7 @@
+//! Where everything lies on a device: labels at both ends, blocks between them (On-Disk Specification, chapter 1).
+//!
+//! A label is 256 KiB: blank space and a boot header of 8 KiB each, the config, and from 128 KiB on the uberblock array.
+
 ghost use Rattle.std.specs.Prelude.{◌≡◌};
 ghost use Rattle.base.specs.formats.Geometry.{is_geometry};
 

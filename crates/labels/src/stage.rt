@@ -1,3 +1,5 @@
+//! The order in which labels are written: the even ones, a flush, and then the odd ones, or the other way round.
+
 /// One of the two stages in which labels are written, so that a failure in one leaves the other pair as it was
 /// (On-Disk Specification, chapter 1).
 #[derive(Clone, Copy, Debug, PartialEq, Eq)]

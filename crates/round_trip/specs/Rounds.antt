@@ -1,8 +1,10 @@
 -- Rounds of a pool: an import, steps, and the device given up for the next import.
-use Rattle.std.specs.Prelude.{ℕ, ◌≡◌, ◌⊎◌, List, Ok, None, Some}
+use Rattle.std.specs.Prelude.{ℕ, ◌≡◌, ◌+◌, ◌⊎◌, List, Ok, None, Some}
 use Rattle.std.specs.FinMap as finite
+use Rattle.base.specs.declared.error.PoolError.{PoolError}
 use Rattle.base.specs.declared.step.Step as declared_step
 use Rattle.base.specs.declared.step.Reply as declared_reply
+use Rattle.base.specs.formats.Uberblocks.{Uberblock, IsActive}
 use Rattle.base.specs.history.Contents.{Contents}
 use Rattle.base.specs.history.History.{entries_up_to, replay}
 use Rattle.base.specs.crash.Mount.{MountsTo}
@@ -10,6 +12,9 @@ use Rattle.base.specs.history.Past.{new_past}
 use Rattle.base.specs.steps.Runs.{Run}
 use Rattle.base.specs.stored.ShownLabels.{HasNoLogBlock}
 use Rattle.base.specs.stored.Stored.{AreUpTo, Held, IsHeld}
+use Rattle.import_replay.specs.CreateRefusals.{CanCreate, IsCreateRefusal}
+use Rattle.import_replay.specs.Creations.{IsNewPool}
+use Rattle.import_replay.specs.ImportRefusals.{IsImportRefusal}
 use Rattle.pool_core.specs.Holds.{KeepsHeld}
 
 -- the bytes mount these contents, and no block is a log block
@@ -20,6 +25,20 @@ pub record HoldsContents (now : List ℕ) (contents : Contents) : Type 0 where
 -- an import of these bytes shows the contents that they hold
 abbrev pub Shows : List ℕ → Contents → Type 0
 Shows now shown = (contents : Contents) → HoldsContents now contents → shown ≡ contents
+
+-- where the one image has no log block, the other has none
+abbrev pub KeepsNoLog : List ℕ → List ℕ → Type 0
+KeepsNoLog old new = HasNoLogBlock old → HasNoLogBlock new
+
+-- an import of the image at this moment left these bytes: their active uberblock is of the image's pool, four groups later, and has the moment
+pub record IsOpened (image now : List ℕ) (moment : ℕ) : Type 0 where
+  pub before : Uberblock
+  pub was_active : IsActive image before
+  pub after : Uberblock
+  pub active : IsActive now after
+  pub guid : after.guid ≡ before.guid
+  pub group : after.group ≡ before.group + 4
+  pub moment_is : after.moment ≡ moment
 
 -- Contents that a pool leaves: the replay, over its base, of its entries up to a group. This is the synced one, or that of a sync
 -- which runs.
@@ -33,13 +52,13 @@ pub record IsAllSynced (h : Held) : Type 0 where
   pub idle : h.state.shown.line.syncing ≡ None
   pub none_above : AreUpTo h.state.shown.line.synced h.state.past.entries
 
--- A round over an image of the contents before: the pool shows these at first, with a past in which nothing happened; the steps with
--- these replies are a run of the definitions; and the bytes, which are given up, hold what the pool leaves. Where all is synced these are
+-- A round over an image of the contents before, at a moment and with a limit: the image's pool is opened at this moment and shows the
+-- contents at first, with this limit and a past in which nothing happened; the steps with these replies are a run of the definitions; and the bytes, which are given up, hold what the pool leaves. Where all is synced these are
 -- the contents that are shown at the end.
-pub record IsRound (before : Contents) (ss : List declared_step.Step) (rs : List declared_reply.Reply) (now : List ℕ) (after : Contents) : Type 0 where
+pub record IsRound (image : List ℕ) (before : Contents) (dirty_max moment : ℕ) (ss : List declared_step.Step) (rs : List declared_reply.Reply) (now : List ℕ) (after : Contents) : Type 0 where
   pub start : Held
+  pub opened : IsOpened image start.now moment
   pub shows : start.state.shown.contents ≡ before
-  pub dirty_max : ℕ
   pub anew : start.state.past ≡ new_past before 0 dirty_max
   pub end : Held
   pub ran : Run KeepsHeld ss rs start end
@@ -51,8 +70,8 @@ pub record IsRound (before : Contents) (ss : List declared_step.Step) (rs : List
   pub holds : HoldsContents now after
 
 -- so a round goes from an image of these contents to an image of some contents
-abbrev pub GoesRound : List ℕ → List declared_step.Step → List declared_reply.Reply → List ℕ → Type 0
-GoesRound old ss rs new = (before : Contents) → HoldsContents old before → ∥ ((after : Contents) × IsRound before ss rs new after) ∥₁
+abbrev pub GoesRound : List ℕ → (dirty_max moment : ℕ) → List declared_step.Step → List declared_reply.Reply → List ℕ → Type 0
+GoesRound old dirty_max moment ss rs new = (before : Contents) → HoldsContents old before → ∥ ((after : Contents) × IsRound old before dirty_max moment ss rs new after) ∥₁
 
 -- the contents of a new pool: this name and no object
 pub record AreNew (name : List ℕ) (contents : Contents) : Type 0 where
@@ -63,9 +82,22 @@ pub record AreNew (name : List ℕ) (contents : Contents) : Type 0 where
 abbrev pub HoldsNew : List ℕ → List ℕ → Type 0
 HoldsNew now name = (contents : Contents) × AreNew name contents × HoldsContents now contents
 
--- from a new pool of this name a round with these steps and replies leaves the contents that the next import found
-pub record IsFoundAfter (name : List ℕ) (ss : List declared_step.Step) (rs : List declared_reply.Reply) (found : Contents) : Type 0 where
+-- which pool is made, the moment at which all is done, and the limit of what may be dirty
+pub record Play : Type 0 where
+  pub name : List ℕ
+  pub guid : ℕ
+  pub dirty_max : ℕ
+  pub moment : ℕ
+
+-- from an image of a new pool a round with these steps and replies leaves the contents that the next import found
+pub record IsFoundAfter (p : Play) (ss : List declared_step.Step) (rs : List declared_reply.Reply) (found : Contents) : Type 0 where
+  pub image : List ℕ
+  pub made : IsNewPool image p.name p.guid p.moment
   pub before : Contents
-  pub new : AreNew name before
+  pub new : AreNew p.name before
   pub now : List ℕ
-  pub round : IsRound before ss rs now found
+  pub round : IsRound image before p.dirty_max p.moment ss rs now found
+
+-- a refusal of a play on a device of so many bytes: that of its create, or behind it of an import
+abbrev pub IsPlayRefusal : ℕ → List ℕ → ℕ → PoolError → Type 0
+IsPlayRefusal size name dirty_max e = IsCreateRefusal size name e ⊎ (CanCreate size name × ((found : ℕ) × IsImportRefusal found dirty_max e))

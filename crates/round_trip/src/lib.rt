@@ -1,11 +1,16 @@
 //! A client of the pool without any crash: what one run leaves on its device is what the next import finds.
+//!
+//! It shows that the contracts of `create`, `import`, `PoolState::new`, `run` and `into_device` fit together: each
+//! function here is a few of these calls, and its clauses follow from theirs.
 #![tactic(auto)]
 
-ghost use Rattle.std.specs.Prelude.{IfOk, IsTrue};
+ghost use Rattle.std.specs.Prelude.{◌≡◌, IfErr, IfOk, IsTrue, OnOk};
 ghost use Rattle.base.specs.disk.Disk.{bytes_of};
-ghost use Rattle.base.specs.stored.ShownLabels.{HasNoLogBlock};
+ghost use Rattle.import_replay.specs.CreateRefusals.{CanCreate, IsCreateRefusal};
+ghost use Rattle.import_replay.specs.Creations.{IsNewPool};
+ghost use Rattle.import_replay.specs.ImportRefusals.{CanImport, IsImportRefusal, IsReason};
 ghost use Rattle.object_maps.specs.ContentsShown.{contents_of};
-ghost use Rattle.round_trip.specs.Rounds.{GoesRound, HoldsNew, IsFoundAfter, Shows};
+ghost use Rattle.round_trip.specs.Rounds.{GoesRound, HoldsNew, IsFoundAfter, IsOpened, IsPlayRefusal, KeepsNoLog, Shows};
 
 use base::{PoolError, Reply, Step};
 use device_model::SectorDevice;
@@ -26,7 +31,13 @@ pub fn make<D: SectorDevice + Drop>(
     guid: u64,
     moment: u64,
 ) -> Result<D, PoolError>
-    ensures { IsTrue D.keeps_model → IfOk result (λ d. HoldsNew (bytes_of (D.disk d).now) name.now) }
+    ensures held { IsTrue D.keeps_model
+        → IfOk result (λ d. HoldsNew (bytes_of (D.disk d).now) name.now) }
+    ensures written { IsTrue D.keeps_model
+        → IfOk result (λ d. IsNewPool (bytes_of (D.disk d).now) name.now guid moment) }
+    ensures size { IfOk result (λ d. D.size d ≡ D.size device) }
+    ensures made { OnOk result (CanCreate (D.size device) name.now) }
+    ensures refusal { IfErr result (λ e. IsCreateRefusal (D.size device) name.now e) }
 {
     match create(device, name, guid, moment) {
         Ok(device) => Ok(device),
@@ -46,8 +57,15 @@ pub fn open<D: SectorDevice + Drop>(
 ) -> Result<Imported<D>, PoolError>
     ensures found { IsTrue D.keeps_model → IfOk result
         (λ i. Shows (bytes_of (D.disk device).now) (contents_of i.mounted.contents)) }
-    ensures no_log { IsTrue D.keeps_model → IfOk result (λ i. HasNoLogBlock (bytes_of (D.disk device).now)
-        → HasNoLogBlock (bytes_of (D.disk i.device).now)) }
+    ensures no_log { IsTrue D.keeps_model → IfOk result
+        (λ i. KeepsNoLog (bytes_of (D.disk device).now) (bytes_of (D.disk i.device).now)) }
+    ensures opened { IsTrue D.keeps_model → IfOk result
+        (λ i. IsOpened (bytes_of (D.disk device).now) (bytes_of (D.disk i.device).now) moment) }
+    ensures limit { IfOk result (λ i. i.mounted.dirty_max ≡ dirty_max) }
+    ensures made { OnOk result (CanImport (D.size device) dirty_max) }
+    ensures refusal { IfErr result (λ e. IsImportRefusal (D.size device) dirty_max e) }
+    ensures reason { IsTrue D.keeps_model
+        → IfErr result (λ e. IsReason (bytes_of (D.disk device).now) e) }
 {
     match import(alloc, device, dirty_max, moment) {
         Ok(imported) => Ok(imported),
@@ -66,8 +84,10 @@ pub fn round<D: SectorDevice + Drop>(
     moment: u64,
     steps: Vec<Step>,
 ) -> Result<(Vec<Reply>, D), PoolError>
-    ensures { IsTrue D.keeps_model → IfOk result (λ r.
-        GoesRound (bytes_of (D.disk device).now) steps.items r.0.items (bytes_of (D.disk r.1).now)) }
+    ensures went { IsTrue D.keeps_model → IfOk result (λ r.
+        GoesRound (bytes_of (D.disk device).now) dirty_max moment
+        steps.items r.0.items (bytes_of (D.disk r.1).now)) }
+    ensures refusal { IfErr result (λ e. IsImportRefusal (D.size device) dirty_max e) }
 {
     let imported = open(alloc, device, dirty_max, moment)?;
     let mut state = PoolState::new(imported);
@@ -88,8 +108,10 @@ pub fn play<D: SectorDevice + Drop>(
     moment: u64,
     steps: Vec<Step>,
 ) -> Result<(Vec<Reply>, Imported<D>), PoolError>
-    ensures { IsTrue D.keeps_model → IfOk result (λ r.
-        ∥ IsFoundAfter name.now steps.items r.0.items (contents_of r.1.mounted.contents) ∥₁) }
+    ensures found { IsTrue D.keeps_model → IfOk result (λ r. ∥ IsFoundAfter
+        (record { name = name.now; guid = guid; dirty_max = dirty_max; moment = moment })
+        steps.items r.0.items (contents_of r.1.mounted.contents) ∥₁) }
+    ensures refusal { IfErr result (λ e. IsPlayRefusal (D.size device) name.now dirty_max e) }
 {
     let made = make(device, name, guid, moment)?;
     let (replies, left) = round(alloc, made, dirty_max, moment, steps)?;

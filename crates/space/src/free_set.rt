@@ -8,7 +8,7 @@ ghost use Rattle.space.specs.FreeSets.{HasAllOf, free_from, free_of};
 use std::alloc::{AllocError, Global};
 
 /// Which blocks are free, by their index in the block area.
-#[derive(Drop)]
+#[derive(Debug, Drop, PartialEq, Eq)]
 pub struct FreeSet {
     /// Whether the block of each index is free.
     pub flags: Vec<bool>,
@@ -47,7 +47,8 @@ impl FreeSet {
     pub fn take(&mut self, block: usize)
         ensures flags { self.new.flags.items ≡ list_set self.old.flags.items block false }
         ensures count { vec_len self.new.flags ≡ vec_len self.old.flags }
-        ensures free { free_of self.new.flags.items ≡ finite.remove (free_of self.old.flags.items) (block_address block) }
+        ensures free { free_of self.new.flags.items
+            ≡ finite.remove (free_of self.old.flags.items) (block_address block) }
     {
         self.set(block, false);
     }

@@ -13,7 +13,7 @@ use labels::{Geometry, Stage};
 use tree_plans::PlannedBlock;
 
 /// The configs of a sync that changes the labels: their block, and which pair of labels comes first.
-#[derive(Drop)]
+#[derive(Debug, Drop, PartialEq, Eq)]
 pub struct LabelStages {
     pub config: Block,
     pub first: Stage,

@@ -1,11 +1,9 @@
 -- What is active in the arrays of an image is active in the image.
-use Rattle.std.proofs.Common.{ℕ, zero, suc, Option, Some, None, IfSome, IfNone, ◌≡◌, ◌+◌, ◌*◌, ◌<◌, List, length, sym, ap, ◌∙◌, subst, arith}
+use Rattle.std.proofs.Common.{ℕ, ◌≡◌, ◌+◌, ◌*◌, ◌<◌, List, length, sym, ap, ◌∙◌, subst, arith}
 use Rattle.base.specs.formats.Fields.{part}
 use Rattle.base.specs.formats.Geometry.{slot_of, slot_place, label_place}
-use Rattle.base.specs.formats.Uberblocks.{Uberblock as Fields, IsUberblock, StandsIn, IsActive, HasNoUberblock}
-use Rattle.uberblocks.specs.declared.uberblock.Uberblock.{Uberblock}
-use Rattle.uberblocks.specs.Slots.{fields_of}
-use Rattle.uberblocks.specs.Rings.{StandsInRing, IsActiveInRing, HasNoneInRing, IsRingOf}
+use Rattle.base.specs.formats.Uberblocks.{Uberblock as Fields, IsUberblock, StandsIn, IsActive}
+use Rattle.uberblocks.specs.Rings.{StandsInRing, IsActiveInRing, IsRingOf}
 use Rattle.uberblocks.specs.Laws.{RingsShowActives, RingsShowNone}
 use Rattle.uberblocks.proofs.Places.{part-part, slot_below}
 
@@ -54,25 +52,3 @@ rings_show_actives ring image u of = (forth, back)
 pub rings_show_none : RingsShowNone
 rings_show_none ring image of =
     (λ none k u below stands. none k u below (to_ring ring image of k u below stands), λ none k u below stands. none k u below (to_image ring image of k u below stands))
-
--- the same of an answer that may be none
-pub active_in_image : (ring image : List ℕ) (found : Option Uberblock) → IsRingOf ring image → IfSome found (λ u. IsActiveInRing ring (fields_of u)) → IfSome found (λ u. IsActive image (fields_of u))
-active_in_image ring image None of is = tt
-active_in_image ring image (Some u) of is = (rings_show_actives ring image (fields_of u) of).0 is
-
-pub none_in_image : (ring image : List ℕ) (found : Option Uberblock) → IsRingOf ring image → IfNone found (HasNoneInRing ring) → IfNone found (HasNoUberblock image)
-none_in_image ring image None of none = (rings_show_none ring image of).0 none
-none_in_image ring image (Some u) of none = tt
-
--- four arrays that were read, one after the other
-pub IsRingOf-arrays : (ring image : List ℕ)
-    → part ring 0 131072 ≡ part image (slot_place (length image) 0 0) 131072
-    → part ring 131072 131072 ≡ part image (slot_place (length image) 1 0) 131072
-    → part ring 262144 131072 ≡ part image (slot_place (length image) 2 0) 131072
-    → part ring 393216 131072 ≡ part image (slot_place (length image) 3 0) 131072
-    → IsRingOf ring image
-IsRingOf-arrays ring image a b c d zero below = a
-IsRingOf-arrays ring image a b c d (suc zero) below = b
-IsRingOf-arrays ring image a b c d (suc (suc zero)) below = c
-IsRingOf-arrays ring image a b c d (suc (suc (suc zero))) below = d
-IsRingOf-arrays ring image a b c d (suc (suc (suc (suc k)))) below = absurd (omega arith)

@@ -1,4 +1,21 @@
 //! The uberblock arrays of the four labels, and the active uberblock in them.
+//!
+//! The rule is that of chapter 1 of the On-Disk Specification, which `vdev_uberblock_load` in OpenZFS's `vdev_label.c`
+//! carries out: of all valid uberblocks of all labels the active one has the highest transaction group. An uberblock is
+//! written to each label, so up to four have that group. They are the same, unless a crash came between their writes.
+//! OpenZFS goes on to compare their times; here the lowest label wins, since the times come from the caller.
+//!
+//! An uberblock counts in the slot of its group alone, which is the group modulo 128. So 128 groups pass before a slot
+//! is written again, and the uberblock of the group before stands untouched while the next is written. A valid one
+//! elsewhere was never written there, and is passed over.
+//!
+//! The search keeps the best uberblock so far and looks at 512 slots, label by label. In a label the last slot comes
+//! first, as groups rise from slot to slot: then most others are below the best. Fields cost little and the check much,
+//! so a slot's check is made only where its fields say that it would be better. What is found does not depend on it:
+//!
+//! 1. after each slot the best is the active uberblock of the slots that were looked at (`IsBetterAt` says it of one);
+//! 2. a slot that is not above the best changes nothing, so of equal groups the first label's stays;
+//! 3. two slots of one label never count with the same group, so the order within a label decides nothing.
 
 ghost use Rattle.std.specs.Prelude.{◌≡◌, ◌+◌, ◌*◌, ◌%◌, ◌≤◌, ◌<◌, IfNone, IfSome, length};
 ghost use Rattle.base.specs.formats.Geometry.{slot_of};

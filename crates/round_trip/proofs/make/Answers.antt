@@ -3,8 +3,8 @@ use Rattle.base.specs.disk.Disk.{bytes_of}
 use Rattle.base.proofs.stored.StoredImports.{zeros-no_log}
 use Rattle.round_trip.proofs.make.Goals as goal
 
-pub returns-in-Ok : goal.returns-in-Ok
-returns-in-Ok g c = λ keeps.
+pub returns-in-Ok-clause-held : goal.returns-in-Ok-clause-held
+returns-in-Ok-clause-held g c = λ keeps.
     let now : List ℕ = bytes_of (g.D.SectorDevice.disk c.in-Ok.device).now in
     let made = c.in-Ok.ensures.created keeps in
     let new = c.in-Ok.ensures.written keeps now (record { size = refl; others = λ i still. refl }) in (
@@ -12,3 +12,6 @@ returns-in-Ok g c = λ keeps.
       record { name_is = made.2.name_is; empty = made.2.objects },
       record { mounts = (made.1.u, made.1.chain, made.1.mounts); no_log = zeros-no_log now new.cleared.1 },
     )
+
+pub returns-in-Ok-clause-written : goal.returns-in-Ok-clause-written
+returns-in-Ok-clause-written g c = λ keeps. c.in-Ok.ensures.written keeps _ (record { size = refl; others = λ i still. refl })

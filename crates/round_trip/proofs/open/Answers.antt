@@ -1,8 +1,9 @@
-use Rattle.std.proofs.Common.{ℕ, List, ◌∙◌}
+use Rattle.std.proofs.Common.{ℕ, List, ◌∙◌, refl}
 use Rattle.base.specs.disk.Disk.{bytes_of}
 use Rattle.base.specs.formats.Uberblocks.{Uberblock}
 use Rattle.base.proofs.crash.OneMount.{mounts_agree}
 use Rattle.base.proofs.stored.StoredTrees.{same-no_log}
+use Rattle.import_replay.specs.ImportSyncs.{uberblock_of_import}
 use Rattle.round_trip.proofs.Rounds.{no_chain}
 use Rattle.round_trip.proofs.open.Goals as goal
 
@@ -18,3 +19,19 @@ returns-in-Ok-clause-no_log g c = λ keeps none.
     let old : List ℕ = bytes_of (g.D.SectorDevice.disk c.args.device).now in
     let new : List ℕ = bytes_of (g.D.SectorDevice.disk c.in-Ok.imported.device).now in
     same-no_log old new none (c.in-Ok.ensures.blocks keeps)
+
+pub returns-in-Ok-clause-opened : goal.returns-in-Ok-clause-opened
+returns-in-Ok-clause-opened g c = λ keeps.
+    let synced = c.in-Ok.ensures.synced keeps in
+    record {
+      before = synced.u;
+      was_active = synced.active;
+      after = uberblock_of_import c.args.moment c.in-Ok.imported.mounted;
+      active = c.in-Ok.ensures.active keeps;
+      guid = synced.guid;
+      group = synced.group;
+      moment_is = refl;
+    }
+
+pub returns-in-Ok-clause-limit : goal.returns-in-Ok-clause-limit
+returns-in-Ok-clause-limit g c = (c.in-Ok.ensures.explained 0).exact.limit

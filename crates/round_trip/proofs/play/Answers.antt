@@ -5,15 +5,18 @@ use Rattle.base.specs.disk.Disk.{bytes_of}
 use Rattle.round_trip.specs.Rounds.{IsRound}
 use Rattle.round_trip.proofs.play.Goals as goal
 
-pub returns : goal.returns
-returns g c = λ keeps.
-    let new = c.in_ok-made.ensures keeps in
+pub returns-clause-found : goal.returns-clause-found
+returns-clause-found g c = λ keeps.
+    let new = c.in_ok-made.ensures.held keeps in
+    let image = bytes_of (g.D.SectorDevice.disk c.in_ok-made.made).now in
     let now = bytes_of (g.D.SectorDevice.disk c.in_ok-replies.left).now in
     let ss = c.args.steps.items in
     let rs = c.in_ok-replies.replies.items in
-    ∥∥₁_map (c.in_ok-replies.ensures keeps new.0 new.2) (λ left. record {
+    ∥∥₁_map (c.in_ok-replies.ensures.went keeps new.0 new.2) (λ left. record {
+      image = image;
+      made = c.in_ok-made.ensures.written keeps;
       before = new.0;
       new = new.1;
       now = now;
-      round = subst (λ (found : Contents). IsRound new.0 ss rs now found) (sym (c.in_ok-imported.ensures.found keeps left.0 left.1.holds)) left.1;
+      round = subst (λ (found : Contents). IsRound image new.0 c.args.dirty_max c.args.moment ss rs now found) (sym (c.in_ok-imported.ensures.found keeps left.0 left.1.holds)) left.1;
     })
