@@ -59,6 +59,3 @@ pub use step_laws::{
     steps_write_no_log, suspended_pools_refuse, suspended_pools_stay, syncs_end_on_time,
 };
 pub use version::Version;
-
-#[cfg(test)]
-mod tests;

@@ -13,6 +13,3 @@ mod notes;
 pub use device::SectorDevice;
 pub use fault::Fault;
 pub use memory::MemDevice;
-
-#[cfg(test)]
-mod tests;

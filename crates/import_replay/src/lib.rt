@@ -15,6 +15,3 @@ pub use creation::create;
 pub use imported::import;
 pub use imported_pool::Imported;
 pub use mounted::Mounted;
-
-#[cfg(test)]
-mod tests;

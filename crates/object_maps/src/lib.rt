@@ -8,6 +8,3 @@ mod walk;
 pub use contents::{Contents, Slot, empty_slots};
 pub use tree::{ObjectMap, Tree, empty_maps};
 pub use walk::{Loaded, load};
-
-#[cfg(test)]
-mod tests;

@@ -10,6 +10,3 @@ mod transactions;
 
 pub use runs::run;
 pub use state::{PoolState, Progress};
-
-#[cfg(test)]
-mod tests;

@@ -18,9 +18,6 @@ use import_replay::{Imported, create, import};
 use pool_core::{PoolState, run};
 use std::alloc::Global;
 
-#[cfg(test)]
-mod tests;
-
 /// Makes a pool on a device.
 ///
 /// # Errors

@@ -2,7 +2,5 @@
 #![tactic(auto)]
 
 mod free_set;
-#[cfg(test)]
-mod tests;
 
 pub use free_set::FreeSet;

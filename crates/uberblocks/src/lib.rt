@@ -16,6 +16,3 @@ pub use laws::{
 };
 pub use ring::{ARRAY_SIZE, LABEL_COUNT, SLOT_COUNT, active, slot};
 pub use uberblock::{MAGIC, SLOT_SIZE, Uberblock};
-
-#[cfg(test)]
-mod tests;

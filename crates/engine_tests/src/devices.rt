@@ -1,9 +1,11 @@
+//! A memory device: what is stored outlives a crash, planned refusals, counts and pieces of a crash.
+
 ghost use Rattle.std.specs.Prelude.{◌≡◌, length, IsTrue, OnOk};
 ghost use Rattle.base.specs.disk.Calls.{IsOnDevice};
 ghost use Rattle.device_model.specs.Certain.{IsCertain};
 
-use crate::{Fault, MemDevice, SectorDevice};
 use base::{Piece, PoolError};
+use device_model::{Fault, MemDevice, SectorDevice};
 use std::test::Fail;
 
 // Writes whole sectors and makes them certain.

@@ -1,6 +1,6 @@
 //! Each public call once, and what no clause says: texts, and that calls find ample memory.
 
-use crate::{
+use base::{
     Bytes, ObjectId, Op, Ops, Plan, Pointer, PoolError, PoolName, Shape, is_name, read_pointer,
     read_u64, write_bytes, write_pointer, write_u64,
 };

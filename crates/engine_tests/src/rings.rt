@@ -1,9 +1,11 @@
+//! Uberblocks: their bytes, as another program makes them, and which one of a ring is active.
+
 ghost use Rattle.std.specs.Prelude.{◌≡◌, ◌*◌, ◌≤◌, ◌<◌, length};
 
-use crate::{ARRAY_SIZE, LABEL_COUNT, SLOT_SIZE, Uberblock, active, slot};
 use base::{Group, Pointer, Version};
 use sha2::{Digest, Sha256};
 use std::test::Fail;
+use uberblocks::{ARRAY_SIZE, LABEL_COUNT, SLOT_SIZE, Uberblock, active, slot};
 
 /// An uberblock of this group.
 fn of_group(group: u64) -> Uberblock

@@ -1,12 +1,12 @@
 //! The first path on a memory device: places, counts of steps and refusals that no clause gives.
 
-use crate::{PoolState, Progress, run};
 use base::{
     Bytes, Group, LockId, Mode, ObjectId, Op, Ops, Owner, Plan, PoolError, Range, Reply, Shape,
     Step, TxId, read_u64,
 };
 use device_model::{Fault, MemDevice, SectorDevice};
 use import_replay::{create, import};
+use pool_core::{PoolState, Progress, run};
 use std::alloc::Global;
 use std::test::Fail;
 

@@ -1,8 +1,8 @@
 //! A pool that is made on a memory device: the places of its parts, and each call that is refused.
 
-use crate::{Imported, create, import};
 use base::{PoolError, read_u64};
 use device_model::{Fault, MemDevice, SectorDevice};
+use import_replay::{Imported, create, import};
 use std::alloc::Global;
 use std::test::Fail;
 

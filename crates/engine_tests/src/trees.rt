@@ -1,7 +1,9 @@
-use crate::{Loaded, load};
+//! Trees on a device: each fault with its kind and address, a refused read, and the greatest object.
+
 use base::{Group, Pointer, PoolError, Version, write_pointer, write_u64};
 use checked_blocks::{Frame, Kind, PAYLOAD_SIZE, seal};
 use device_model::{Fault, MemDevice, SectorDevice};
+use object_maps::{Loaded, load};
 use std::alloc::Global;
 use std::test::Fail;
 

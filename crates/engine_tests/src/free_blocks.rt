@@ -1,4 +1,6 @@
-use crate::FreeSet;
+//! Free blocks: the lowest first, and the most that a device has.
+
+use space::FreeSet;
 use std::test::Fail;
 
 /// The blocks of a device of 1 GiB: all of it but 4 MiB in front and 512 KiB behind, in blocks of 4,096 bytes.

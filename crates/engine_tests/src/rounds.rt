@@ -1,11 +1,11 @@
 //! One round on a memory device.
 
-use crate::play;
 use base::{
     Bytes, Group, LockId, Mode, ObjectId, Op, Ops, Owner, Plan, Range, Reply, Shape, Step, TxId,
 };
 use device_model::MemDevice;
 use pool_core::PoolState;
+use round_trip::play;
 use std::test::Fail;
 
 const OWNER: Owner = Owner(1);

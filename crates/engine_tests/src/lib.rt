@@ -1,0 +1,27 @@
+//! The calls of the engine's crates, run: outside vectors, worked examples, each public call once with ample memory, and
+//! each device call that is refused in turn. What a clause says has no test here.
+//!
+//! The tests of all crates below the program stand in this one crate, so that a gate proves each crate once and not once
+//! more beside its tests. `word_lock` has its own, which know its inside, and the program's are script rows.
+#![tactic(auto)]
+
+#[cfg(test)]
+mod blocks;
+#[cfg(test)]
+mod codec;
+#[cfg(test)]
+mod devices;
+#[cfg(test)]
+mod free_blocks;
+#[cfg(test)]
+mod imports;
+#[cfg(test)]
+mod label_configs;
+#[cfg(test)]
+mod rings;
+#[cfg(test)]
+mod rounds;
+#[cfg(test)]
+mod steps;
+#[cfg(test)]
+mod trees;
