@@ -50,9 +50,6 @@ are_marks ops first objects none m = record {
   marked = λ n r low. m.marked n r low ∙ ap (λ l. list_any (touches n r) ops || is_marked l n r) none ∙ or_false (list_any (touches n r) ops);
 }
 
-flag_of : ℕ → Option DirtyRecords → Bool
-flag_of r o = option_map_or (λ (dirty : DirtyRecords). slice_index_or dirty.flags r false) o false
-
 there_put : (b : Bool) (dirty : DirtyRecords) (o : Option DirtyRecords) → is_some (cond b (Some dirty) o) ≡ ((b || false) || is_some o)
 there_put true dirty o = refl
 there_put false dirty o = refl
