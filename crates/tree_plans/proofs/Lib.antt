@@ -7,3 +7,4 @@ pub mod Marked
 pub mod Uses
 pub mod Order
 pub mod Room
+mod Parts

@@ -43,6 +43,9 @@ adds_twice r s t xs ys one two = two ∙ ap (λ (l : List ℕ). l ++ ys) one ∙
 pub adds_if : (s t : List NewBlock) (b : Bool) (p : Pointer) → b ≡ true → Adds s t (p.address ∷ []) → Adds s t (address_if b p)
 adds_if s t b p e one = rw e one
 
+pub adds_not : (s : List NewBlock) (b : Bool) (p : Pointer) → b ≡ false → Adds s s (address_if b p)
+adds_not s b p e = rw e (adds_none s)
+
 -- pointers one after another: those below a number, and then the next
 range_more : (n : ℕ) → range_with_len 0 (n + 1) ≡ range_with_len 0 n ++ n ∷ []
 range_more n = sym (map-id _) ∙ map-range_with_len_more (λ (k : ℕ). k) 0 n n (omega arith) ∙ ap (λ (l : List ℕ). l ++ n ∷ []) (map-id _)

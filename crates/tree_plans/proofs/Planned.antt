@@ -83,9 +83,6 @@ entry_for : (entry : List ℕ) (indirect : Pointer) (o : Option (List ℕ)) → 
 entry_for entry indirect None written absent size = (written, absent refl)
 entry_for entry indirect (Some bytes) written absent size = (written.0, written.1, size, written.2)
 
-not_some : {A : Type 0} (o : Option A) (a : A) → o ≡ Some a → is_some o ≡ false → ⊥
-not_some o a e none = let h : is_some (Some a) ≡ false = rw e at none in absurd (cc)
-
 some_touched : (n : ℕ) → not (n == 0) ≡ false → 0 < n → ⊥
 some_touched n e positive = elim (n == 0) as (λ t. (n == 0) ≡ t → not t ≡ false → ⊥) [ true ↦ λ is _. let zero_is : n ≡ 0 = eqb-true n 0 is in omega arith | false ↦ λ _ no_one. absurd (cc) ] refl e
 

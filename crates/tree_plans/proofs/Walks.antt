@@ -220,6 +220,11 @@ any_touched n b iff none = elim (n == 0) as (λ t. (n == 0) ≡ t → not t ≡ 
   | false ↦ λ e. refl
 ] refl
 
+pub none_touched : (n : ℕ) (b : Bool) → (IsTrue b → n ≡ 0) × (n ≡ 0 → IsTrue b) → b ≡ true → not (n == 0) ≡ false
+none_touched n b iff all =
+    let none : n ≡ 0 = iff.0 (cc) in
+    rw none refl
+
 pub unwrapped : (o : Option (Bor (List ℕ))) (d : Bor (List ℕ)) (after : Option (List ℕ)) → option_map (λ (b : Bor (List ℕ)). b.now) o ≡ after → d.now ≡ [] → (unwrap_or o d).now ≡ unwrap_or after []
 unwrapped None d after e none = none ∙ ap (λ (a : Option (List ℕ)). unwrap_or a []) e
 unwrapped (Some b) d after e none = ap (λ (a : Option (List ℕ)). unwrap_or a []) e

@@ -6,3 +6,5 @@ pub mod Marks
 pub mod Uses
 pub mod Order
 pub mod Room
+pub mod Parts
+pub mod TreePlans

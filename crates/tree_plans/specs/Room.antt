@@ -2,12 +2,14 @@
 use Rattle.std.specs.Prelude.{ℕ, ◌<◌, ◌+◌, Bool, List, length, filter, is_some, if◌then◌else◌}
 use Rattle.std.specs.List.{flat_map, range_with_len}
 use Rattle.base.specs.declared.names.ObjectId.{ObjectId}
+use Rattle.base.specs.formats.Limits.{object_count, pointer_count}
 use Rattle.base.specs.tree.PlannedPlaces.{object_places, written_by}
 use Rattle.space.specs.FreeSets.{addresses_from}
 use Rattle.tree_plans.specs.declared.planner.DirtyRecords.{DirtyRecords}
 use Rattle.tree_plans.specs.Pointers.{entry_of}
 use Rattle.tree_plans.specs.Changes.{is_marked}
 use Rattle.tree_plans.specs.Plans.{HasTaken, Progress}
+use Rattle.tree_plans.specs.Walks.{is_any_touched, is_directory_touched}
 
 -- the blocks of a plan so far and so many more are more than are free
 abbrev pub Lacks : List Bool → Progress → ℕ → Type 0
@@ -32,3 +34,13 @@ all_blocks is_dirty count = length (flat_map (object_places is_dirty) (range_wit
 -- and a whole plan: one for each place that changes
 unfoldable pub tree_blocks : List (ObjectId × DirtyRecords) → ℕ
 tree_blocks objects = length (written_by (is_marked objects) (λ n. is_some (entry_of objects n)))
+
+-- how many blocks the parts of a walk take: the objects that change, the directories with one of them, the root
+abbrev pub changed_blocks : List (ObjectId × DirtyRecords) → ℕ
+changed_blocks objects = all_blocks (is_marked objects) object_count
+
+abbrev pub directory_blocks : List (ObjectId × DirtyRecords) → ℕ
+directory_blocks objects = count_where (is_directory_touched objects) pointer_count
+
+abbrev pub root_blocks : List (ObjectId × DirtyRecords) → ℕ
+root_blocks objects = count_if (is_any_touched objects)

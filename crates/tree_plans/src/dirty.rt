@@ -21,7 +21,8 @@ pub fn dirty_objects(
     pending: &[Committed],
     group: Group,
 ) -> Result<BTreeMap<ObjectId, DirtyRecords>, PoolError>
-    ensures marks { IfOk result (λ objects. AreMarks (pending_ops group.0 pending.now) objects.entries) }
+    ensures marks { IfOk result (λ objects.
+        AreMarks (pending_ops group.0 pending.now) objects.entries) }
     ensures refused { IfErr result (λ e. e ≡ error.NoMemory) }
 {
     let mut objects = BTreeMap::new(alloc);
@@ -36,7 +37,8 @@ fn note_committed(
     committed: &Committed,
     group: Group,
 ) -> Result<(), PoolError>
-    ensures marks { OnOk result (Marks (pending_ops group.0 (committed.now ∷ [])) objects.old.entries objects.new.entries) }
+    ensures marks { OnOk result (Marks
+        (pending_ops group.0 (committed.now ∷ [])) objects.old.entries objects.new.entries) }
     ensures refused { IfErr result (λ e. e ≡ error.NoMemory) }
 {
     if committed.group != group {

@@ -29,7 +29,8 @@ pub fn record_of(bytes: &[u8], index: usize) -> &[u8]
 pub fn payload_of(pointers: &[Pointer]) -> [u8; 4032]
     requires { length pointers.now ≡ 84 }
     ensures size { length result ≡ 4032 }
-    ensures pointers { (r : ℕ) → r < 84 → pointer_in result r ≡ slice_index_or pointers.now r no_pointer }
+    ensures pointers { (r : ℕ) → r < 84
+        → pointer_in result r ≡ slice_index_or pointers.now r no_pointer }
 {
     let mut payload = [0; PAYLOAD_SIZE];
     for (index, pointer) in pointers.iter().enumerate() {
@@ -61,7 +62,8 @@ pub fn directory_payload(
 ) -> [u8; 4032]
     requires { directory < 84 }
     ensures size { length result ≡ 4032 }
-    ensures entries { AreEntriesWritten tree.now.maps.items maps.now.entries (contents_of contents.now).objects directory 63 result }
+    ensures entries { AreEntriesWritten tree.now.maps.items maps.now.entries
+        (contents_of contents.now).objects directory 63 result }
 {
     let mut payload = empty_payload();
     for index in 0..ENTRY_COUNT {
@@ -78,8 +80,10 @@ fn put_object(payload: &mut [u8], index: usize, object: Option<&[u8]>, indirect:
     requires in_range { index < 63 }
     requires empty { entry_in payload.old index ≡ replicate 64 0 }
     ensures size { length payload.new ≡ 4032 }
-    ensures here { IsEntryWritten (entry_in payload.new index) indirect.now (option_map (λ bytes. bytes.now) object.entry) }
-    ensures others { (k : ℕ) → k < 63 → k ≢ index → entry_in payload.new k ≡ entry_in payload.old k }
+    ensures here { IsEntryWritten (entry_in payload.new index) indirect.now
+        (option_map (λ bytes. bytes.now) object.entry) }
+    ensures others { (k : ℕ) → k < 63 → k ≢ index
+        → entry_in payload.new k ≡ entry_in payload.old k }
 {
     if let Some(bytes) = object {
         write_entry(payload, index, bytes.len(), indirect);
@@ -111,7 +115,8 @@ fn write_entry(payload: &mut [u8], index: usize, size: usize, indirect: &Pointer
     ensures present { entry_present (entry_in payload.new index) ≡ 1 }
     ensures length { entry_length (entry_in payload.new index) ≡ size }
     ensures pointer { entry_pointer (entry_in payload.new index) ≡ indirect.now }
-    ensures others { (k : ℕ) → k < 63 → k ≢ index → entry_in payload.new k ≡ entry_in payload.old k }
+    ensures others { (k : ℕ) → k < 63 → k ≢ index
+        → entry_in payload.new k ≡ entry_in payload.old k }
 {
     // Their types bound its numbers.
     let _address = indirect.address;

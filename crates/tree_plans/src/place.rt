@@ -8,14 +8,14 @@ use base::{ObjectId, POINTER_COUNT};
 use checked_blocks::Kind;
 
 /// A record of an object.
-#[derive(Clone, Copy)]
+#[derive(Clone, Copy, Debug, PartialEq, Eq)]
 pub struct RecordPlace {
     pub id: ObjectId,
     pub index: usize,
 }
 
 /// A place of the tree that a block is planned for.
-#[derive(Clone, Copy)]
+#[derive(Clone, Copy, Debug, PartialEq, Eq)]
 pub enum BlockPlace {
     Root,
     Directory(usize),

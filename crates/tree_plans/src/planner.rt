@@ -35,7 +35,7 @@ pub struct PlannedBlock {
 }
 
 /// The records of an object that a sync writes.
-#[derive(Clone, Copy, Drop)]
+#[derive(Clone, Copy, Debug, PartialEq, Eq, Drop)]
 pub struct DirtyRecords {
     pub flags: [bool; 84],
 }
@@ -55,7 +55,8 @@ impl DirtyRecords {
 
     /// Marks each record that has a byte of a write.
     pub fn mark(&mut self, offset: u64, count: usize)
-        ensures { (r : ℕ) → r < 84 → slice_index_or self.new.flags r false ≡ (is_record_touched r offset count || slice_index_or self.old.flags r false) }
+        ensures { (r : ℕ) → r < 84 → slice_index_or self.new.flags r false
+            ≡ (is_record_touched r offset count || slice_index_or self.old.flags r false) }
     {
         for index in 0..POINTER_COUNT {
             if is_touched(index, offset, count) {
@@ -104,17 +105,13 @@ pub struct Planner {
 }
 
 impl Planner {
-    ghost use Rattle.std.specs.Prelude.{◌≤◌, ◌<◌, ◌+◌, ◌++◌, ◌∷◌, [], false, length, slice_index_or, IfOk, IfErr, OnOk};
+    ghost use Rattle.std.specs.Prelude.{◌≤◌, ◌<◌, ◌+◌, [], length, IfOk, IfErr};
     ghost use Rattle.base.specs.declared.error.PoolError.TheVariants as error;
     ghost use Rattle.base.specs.tree.Places.{IsPlace};
-    ghost use Rattle.checked_blocks.specs.Sealing.{padded};
-    ghost use Rattle.object_maps.specs.Pointers.{pointer_of_list};
     ghost use Rattle.space.specs.FreeSets.{free_from};
-    ghost use Rattle.tree_plans.specs.Plans.{AreRecordsPlanned, FreesOnly, Goes, IsObjectPlanned, IsRecordPlanned, IsWant, IsWritten, ObjectFrees, RecordFrees, RecordsFree, place_of, progress_of};
-    ghost use Rattle.tree_plans.specs.Order.{Adds, address_if, addresses_where};
-    ghost use Rattle.tree_plans.specs.Pointers.{record_in};
-    ghost use Rattle.tree_plans.specs.Room.{Lacks, count_if, count_where};
-    ghost use Rattle.tree_plans.specs.Uses.{ObjectUses, PointersUse, UsesOnly};
+    ghost use Rattle.tree_plans.specs.Parts.{PlansObject, PlansRecord, PlansRecords, TakesBlock, TellsLack, is_dirty_in};
+    ghost use Rattle.tree_plans.specs.Plans.{IsWant, place_of};
+    ghost use Rattle.tree_plans.specs.Room.{count_if, count_where};
 
     /// Takes the lowest free block for this payload. What it replaces comes back.
     pub fn place(
@@ -128,12 +125,10 @@ impl Planner {
         requires payload { length payload.now ≤ 4032 }
         requires free { vec_len free.now.flags ≡ block_count self.old.geometry }
         ensures geometry { self.new.geometry ≡ self.old.geometry }
-        ensures goes { OnOk result (Goes free.now.flags.items (progress_of self.old) (progress_of self.new)) }
-        ensures written { IfOk result (λ pointer. IsWritten (progress_of self.new) (place_of place) replaced.now pointer (padded payload.now)) }
-        ensures frees { OnOk result (FreesOnly self.old.freed.items self.new.freed.items replaced.now) }
-        ensures uses { IfOk result (λ pointer. UsesOnly (progress_of self.old).blocks (progress_of self.new).blocks pointer.address) }
-        ensures adds { IfOk result (λ pointer. Adds (progress_of self.old).blocks (progress_of self.new).blocks (pointer.address ∷ [])) }
-        ensures full { IfErr result (λ e. e ≡ error.NoSpace → free_from self.old.next free.now.flags.items ≡ []) }
+        ensures taken { IfOk result
+            (TakesBlock free.now place payload.now replaced.now self.old self.new) }
+        ensures full { IfErr result (λ e. e ≡ error.NoSpace
+            → free_from self.old.next free.now.flags.items ≡ []) }
         ensures refused { IfErr result IsWant }
     {
         let Some(index) = free.next_from(self.next) else {
@@ -166,12 +161,9 @@ impl Planner {
         requires index { place.index < 84 }
         requires free { vec_len free.now.flags ≡ block_count self.old.geometry }
         ensures geometry { self.new.geometry ≡ self.old.geometry }
-        ensures goes { OnOk result (Goes free.now.flags.items (progress_of self.old) (progress_of self.new)) }
-        ensures planned { IfOk result (λ pointer. IsRecordPlanned (progress_of self.new) place.id.0 place.index bytes.now dirty old.now pointer) }
-        ensures frees { OnOk result (RecordFrees self.old.freed.items self.new.freed.items dirty old.now) }
-        ensures uses { IfOk result (λ pointer. UsesOnly (progress_of self.old).blocks (progress_of self.new).blocks pointer.address) }
-        ensures adds { IfOk result (λ pointer. Adds (progress_of self.old).blocks (progress_of self.new).blocks (address_if dirty pointer)) }
-        ensures full { IfErr result (λ e. e ≡ error.NoSpace → Lacks free.now.flags.items (progress_of self.old) (count_if dirty)) }
+        ensures planned { IfOk result
+            (PlansRecord free.now place bytes.now old.now dirty self.old self.new) }
+        ensures full { IfErr result (TellsLack free.now self.old (count_if dirty)) }
         ensures refused { IfErr result IsWant }
     {
         if !dirty {
@@ -198,12 +190,10 @@ impl Planner {
         requires free { vec_len free.now.flags ≡ block_count self.old.geometry }
         ensures geometry { self.new.geometry ≡ self.old.geometry }
         ensures count { IfOk result (λ records. vec_len records ≡ 84) }
-        ensures goes { OnOk result (Goes free.now.flags.items (progress_of self.old) (progress_of self.new)) }
-        ensures planned { IfOk result (λ records. AreRecordsPlanned (progress_of self.new) id.0 bytes.now dirty.now.flags old.now 84 records.items) }
-        ensures frees { OnOk result (RecordsFree self.old.freed.items self.new.freed.items dirty.now.flags old.now 84) }
-        ensures uses { IfOk result (λ records. PointersUse (progress_of self.old).blocks (progress_of self.new).blocks records.items 84) }
-        ensures adds { IfOk result (λ records. Adds (progress_of self.old).blocks (progress_of self.new).blocks (addresses_where (λ r. slice_index_or dirty.now.flags r false) (pointer_of_list records.items) 84)) }
-        ensures full { IfErr result (λ e. e ≡ error.NoSpace → Lacks free.now.flags.items (progress_of self.old) (count_where (λ r. slice_index_or dirty.now.flags r false) 84)) }
+        ensures planned { IfOk result (λ records.
+            PlansRecords free.now id bytes.now old.now dirty.now self.old self.new records.items) }
+        ensures full { IfErr result
+            (TellsLack free.now self.old (count_where (is_dirty_in dirty.now) 84)) }
         ensures refused { IfErr result IsWant }
     {
         let mut records = Vec::with_capacity(self.alloc, POINTER_COUNT)?;
@@ -228,12 +218,10 @@ impl Planner {
         requires number { id.0 < 5292 }
         requires free { vec_len free.now.flags ≡ block_count self.old.geometry }
         ensures geometry { self.new.geometry ≡ self.old.geometry }
-        ensures goes { OnOk result (Goes free.now.flags.items (progress_of self.old) (progress_of self.new)) }
-        ensures planned { IfOk result (λ map. IsObjectPlanned (progress_of self.new) id.0 bytes.now dirty.now.flags old.now map) }
-        ensures frees { OnOk result (ObjectFrees self.old.freed.items self.new.freed.items dirty.now.flags old.now) }
-        ensures uses { IfOk result (λ map. ObjectUses (progress_of self.old).blocks (progress_of self.new).blocks map) }
-        ensures adds { IfOk result (λ map. Adds (progress_of self.old).blocks (progress_of self.new).blocks (addresses_where (λ r. slice_index_or dirty.now.flags r false) (record_in map) 84 ++ map.indirect.address ∷ [])) }
-        ensures full { IfErr result (λ e. e ≡ error.NoSpace → Lacks free.now.flags.items (progress_of self.old) (count_where (λ r. slice_index_or dirty.now.flags r false) 84 + 1)) }
+        ensures planned { IfOk result
+            (PlansObject free.now id bytes.now old.now dirty.now self.old self.new) }
+        ensures full { IfErr result
+            (TellsLack free.now self.old (count_where (is_dirty_in dirty.now) 84 + 1)) }
         ensures refused { IfErr result IsWant }
     {
         let records = self.place_records(free, id, bytes, old, dirty)?;

@@ -28,27 +28,23 @@ loop-index-preserved c =
       count = omega (arith, c.push_reserved.ensures.len, c.loop-index.invariant.count);
       room = omega (arith, c.push_reserved.ensures.capacity, c.loop-index.invariant.room);
       kept = λ none. c.in_ok-pointer.ensures.kept (c.is_touched-touched.ensures ∙ ap (λ l. is_directory_touched l c.loop-index.index) none) ∙ c.loop-index.invariant.kept none;
-      goes = goes_twice c.loop-index.invariant.goes c.in_ok-pointer.ensures.goes;
-      planned = rw c.push_reserved.ensures.items (directories_push _ _ _ c.args.objects.now.entries c.args.source.now.tree.now.directories.items _ _ _ _ c.in_ok-pointer.ensures.goes long c.is_touched-touched.ensures c.loop-index.invariant.planned c.in_ok-pointer.ensures.planned);
-      frees = directories_free_push _ _ _ c.args.objects.now.entries c.args.source.now.tree.now.directories.items _ _ c.is_touched-touched.ensures c.loop-index.invariant.frees c.in_ok-pointer.ensures.frees;
-      uses = rw c.push_reserved.ensures.items (pointers_use_push _ _ _ _ _ _ long c.loop-index.invariant.uses c.in_ok-pointer.ensures.uses);
-      adds = rw c.push_reserved.ensures.items (adds_push (is_directory_touched c.args.objects.now.entries) _ _ _ _ _ _ _ long c.is_touched-touched.ensures c.loop-index.invariant.adds c.in_ok-pointer.ensures.adds);
+      goes = goes_twice c.loop-index.invariant.goes c.in_ok-pointer.ensures.planned.goes;
+      planned = rw c.push_reserved.ensures.items (directories_push _ _ _ c.args.objects.now.entries c.args.source.now.tree.now.directories.items _ _ _ _ c.in_ok-pointer.ensures.planned.goes long c.is_touched-touched.ensures c.loop-index.invariant.planned c.in_ok-pointer.ensures.planned.planned);
+      frees = directories_free_push _ _ _ c.args.objects.now.entries c.args.source.now.tree.now.directories.items _ _ c.is_touched-touched.ensures c.loop-index.invariant.frees c.in_ok-pointer.ensures.planned.frees;
+      uses = rw c.push_reserved.ensures.items (pointers_use_push _ _ _ _ _ _ long c.loop-index.invariant.uses c.in_ok-pointer.ensures.planned.uses);
+      adds = rw c.push_reserved.ensures.items (adds_push (is_directory_touched c.args.objects.now.entries) _ _ _ _ _ _ _ long c.is_touched-touched.ensures c.loop-index.invariant.adds c.in_ok-pointer.ensures.planned.adds);
     }
 
-pub returns-clause-frees : goal.returns-clause-frees
-returns-clause-frees c =
+pub returns-clause-planned : goal.returns-clause-planned
+returns-clause-planned c =
     let done : c.loop-index.index ≡ 84 = omega arith in
-    rw done at c.loop-index.invariant.frees
-
-pub returns-clause-uses : goal.returns-clause-uses
-returns-clause-uses c =
-    let done : c.loop-index.index ≡ 84 = omega arith in
-    rw done at c.loop-index.invariant.uses
-
-pub returns-clause-adds : goal.returns-clause-adds
-returns-clause-adds c =
-    let done : c.loop-index.index ≡ 84 = omega arith in
-    rw done at c.loop-index.invariant.adds
+    record {
+      goes = c.loop-index.invariant.goes;
+      planned = rw done at c.loop-index.invariant.planned;
+      frees = rw done at c.loop-index.invariant.frees;
+      uses = rw done at c.loop-index.invariant.uses;
+      adds = rw done at c.loop-index.invariant.adds;
+    }
 
 pub returns-in_err-pointer-clause-full : goal.returns-in_err-pointer-clause-full
 returns-in_err-pointer-clause-full c =

@@ -27,23 +27,29 @@ loop-id-preserved c =
       ends = tt;
       geometry = c.in_ok-place_changed.ensures.geometry ∙ c.loop-id.invariant.geometry;
       kept = λ none. absurd (not_empty done e rest (sym split ∙ none));
-      goes = goes_twice c.loop-id.invariant.goes c.in_ok-place_changed.ensures.goes;
+      goes = goes_twice c.loop-id.invariant.goes c.in_ok-place_changed.ensures.planned.goes;
       done = done ++ (e ∷ []);
       split = split ∙ sym (append_assoc done (e ∷ []) rest);
-      planned = c.in_ok-place_changed.ensures.planned all done found c.loop-id.invariant.planned;
-      frees = c.in_ok-place_changed.ensures.frees all _ found c.loop-id.invariant.frees;
-      are_of = are_of_more done e _ _ c.loop-id.invariant.are_of c.in_ok-place_changed.ensures.others;
-      uses = c.in_ok-place_changed.ensures.uses _ unplanned c.loop-id.invariant.uses;
-      adds = λ within. objects_added (is_marked all) _ _ _ _ _ _ done e new c.in_ok-place_changed.ensures.others (c.loop-id.invariant.adds within)
-          (c.in_ok-place_changed.ensures.adds all found (within e.0.0 (ap is_some found)));
+      planned = c.in_ok-place_changed.ensures.planned.planned all done found c.loop-id.invariant.planned;
+      frees = c.in_ok-place_changed.ensures.planned.frees all _ found c.loop-id.invariant.frees;
+      are_of = are_of_more done e _ _ c.loop-id.invariant.are_of c.in_ok-place_changed.ensures.planned.others;
+      uses = c.in_ok-place_changed.ensures.planned.uses _ unplanned c.loop-id.invariant.uses;
+      adds = λ within. objects_added (is_marked all) _ _ _ _ _ _ done e new c.in_ok-place_changed.ensures.planned.others (c.loop-id.invariant.adds within)
+          (c.in_ok-place_changed.ensures.planned.adds all found (within e.0.0 (ap is_some found)));
     }
 
-pub returns-clause-adds : goal.returns-clause-adds
-returns-clause-adds c = λ within.
+pub returns-clause-planned : goal.returns-clause-planned
+returns-clause-planned c =
     let all : List (ObjectId × DirtyRecords) = c.args.objects.now.entries in
     let done : List (ObjectId × DirtyRecords) = c.loop-id.invariant.done in
     let whole : done ≡ all = sym (append-nil done) ∙ ap (λ (l : List (ObjectId × DirtyRecords)). done ++ l) (sym c.in-None.ensures.steps.0) ∙ sym c.loop-id.invariant.split in
-    all_added _ (λ a b. less_below a.0 b.0) 5292 c.args.source.now.tree.now.maps.items c.loop-id.maps.entries all done _ _ whole c.iter-id-items.ensures.ordered within (c.loop-id.invariant.adds within)
+    record {
+      goes = c.loop-id.invariant.goes;
+      planned = rw whole at c.loop-id.invariant.planned;
+      frees = c.loop-id.invariant.frees;
+      uses = c.loop-id.invariant.uses;
+      adds = λ within. all_added _ (λ a b. less_below a.0 b.0) 5292 c.args.source.now.tree.now.maps.items c.loop-id.maps.entries all done _ _ whole c.iter-id-items.ensures.ordered within (c.loop-id.invariant.adds within);
+    }
 
 pub returns-in_err-place_changed-clause-full : goal.returns-in_err-place_changed-clause-full
 returns-in_err-place_changed-clause-full c =
@@ -53,5 +59,5 @@ returns-in_err-place_changed-clause-full c =
     let rest : List (ObjectId × DirtyRecords) = c.next.new.self in
     let split : all ≡ done ++ (e ∷ rest) = c.loop-id.invariant.split ∙ ap (λ (l : List (ObjectId × DirtyRecords)). done ++ l) c.in-Some.ensures.steps in
     let found : entry_of all e.0.0 ≡ Some e.1 = next_of (λ (x : ObjectId × DirtyRecords). entry_of all x.0.0 ≡ Some x.1) all done rest e split (found_of _ (λ a b. unsigned_tied a.0 b.0) c.args.objects.now c.iter-id-items.ensures.found) in
-    handed_on c.from_residual.result _ _ c.from_residual.ensures.1 (λ no_space within. lacks_object _ (λ a b. less_below a.0 b.0) _ _ _ c.args.source.now.tree.now.maps.items c.loop-id.maps.entries 5292 all done rest e split c.iter-id-items.ensures.ordered within
-    c.loop-id.invariant.goes (c.loop-id.invariant.adds within) (c.in_err-place_changed.ensures.full no_space all found))
+    handed_on c.from_residual.result _ _ c.from_residual.ensures.1 (λ within no_space. lacks_object _ (λ a b. less_below a.0 b.0) _ _ _ c.args.source.now.tree.now.maps.items c.loop-id.maps.entries 5292 all done rest e split c.iter-id-items.ensures.ordered within
+    c.loop-id.invariant.goes (c.loop-id.invariant.adds within) (c.in_err-place_changed.ensures.full all found no_space))

@@ -26,30 +26,39 @@ returns-in_err-objects-clause-refused c =
     let p = err_from_is_err_and c.from_residual.result c.from_residual.ensures.1 in
     rw (p.1, p.2) (inl c.in_err-objects.ensures.refused)
 
+pub returns-clause-within : goal.returns-clause-within
+returns-clause-within c = IfOk_map c.plan.result (λ (p : TreePlan) told. told.within) c.plan.ensures.taken
+
+pub returns-clause-taken : goal.returns-clause-taken
+returns-clause-taken c = IfOk_map c.plan.result (λ (p : TreePlan) told. told.taken) c.plan.ensures.taken
+
+pub returns-clause-whole : goal.returns-clause-whole
+returns-clause-whole c = IfOk_map c.plan.result (λ (p : TreePlan) told. told.whole) c.plan.ensures.taken
+
 pub returns-clause-freed : goal.returns-clause-freed
-returns-clause-freed c = IfOk_map c.plan.result (λ (p : TreePlan) returned. are_blocks (block_count c.args.self.now.geometry) c.args.self.now.tree p.freed.items c.args.self.now.tree_placed returned) c.plan.ensures.returned
+returns-clause-freed c = IfOk_map c.plan.result (λ (p : TreePlan) told. are_blocks (block_count c.args.self.now.geometry) c.args.self.now.tree p.freed.items c.args.self.now.tree_placed told.returned) c.plan.ensures.freed
 
 pub returns-clause-placed : goal.returns-clause-placed
-returns-clause-placed c = IfOk_map c.plan.result (λ (p : TreePlan) placed. plan_placed c.args.self.now.tree p.root p.directories.items p.maps (block_count c.args.self.now.geometry) c.args.self.now.tree_placed placed) c.plan.ensures.placed
+returns-clause-placed c = IfOk_map c.plan.result (λ (p : TreePlan) told. plan_placed c.args.self.now.tree p.root p.directories.items p.maps (block_count c.args.self.now.geometry) c.args.self.now.tree_placed told.placed) c.plan.ensures.tree
 
 pub returns-clause-planned : goal.returns-clause-planned
 returns-clause-planned c =
     let pool = c.args.self.now in
     let objects : List (ObjectId × DirtyRecords) = c.in_ok-objects.objects.entries in
     let marks : AreMarks (pending_ops c.args.group.0 pool.pending.items) objects = subst (λ (l : List Committed). AreMarks (pending_ops c.args.group.0 l) objects) c.deref.ensures.value c.in_ok-objects.ensures.marks in
-    IfOk_both c.plan.result (λ (p : TreePlan) told order. retold pool.tree p.root p.directories.items p.maps
+    IfOk_both c.plan.result (λ (p : TreePlan) told taken. retold pool.tree p.root p.directories.items p.maps
     (λ (old new : Place → Pointer). IsPlannedFrom c.args.group.0 pool.pending.items (frame_at (shown_of pool) c.args.group.0) old new (map new_block p.blocks.items) (contents_of pool.contents).objects)
-    (record { objects = objects; marks = marks; planned = told; order = λ in_range. addresses_are p.blocks.items ∙ order in_range })) c.plan.ensures.planned c.plan.ensures.order
+    (record { objects = objects; marks = marks; planned = told.planned; order = λ in_range. addresses_are p.blocks.items ∙ taken.order in_range })) c.plan.ensures.tree c.plan.ensures.taken
 
 pub returns-clause-freed_are : goal.returns-clause-freed_are
 returns-clause-freed_are c =
-    IfOk_map c.plan.result (λ (p : TreePlan) freed. retold c.args.self.now.tree p.root p.directories.items p.maps
-    (λ (old new : Place → Pointer). AreBornBefore c.args.group.0 old → AreFreed old new p.freed.items) freed) c.plan.ensures.freed
+    IfOk_map c.plan.result (λ (p : TreePlan) told. retold c.args.self.now.tree p.root p.directories.items p.maps
+    (λ (old new : Place → Pointer). AreBornBefore c.args.group.0 old → AreFreed old new p.freed.items) told.freed) c.plan.ensures.freed
 
 pub returns-clause-used : goal.returns-clause-used
 returns-clause-used c =
-    IfOk_map c.plan.result (λ (p : TreePlan) used. retold c.args.self.now.tree p.root p.directories.items p.maps
-    (λ (old new : Place → Pointer). AreUsed (map new_block p.blocks.items) new) used) c.plan.ensures.used
+    IfOk_map c.plan.result (λ (p : TreePlan) told. retold c.args.self.now.tree p.root p.directories.items p.maps
+    (λ (old new : Place → Pointer). AreUsed (map new_block p.blocks.items) new) told.used) c.plan.ensures.tree
 
 pub returns-clause-refused : goal.returns-clause-refused
 returns-clause-refused c = turn_want c.plan.result c.plan.ensures.refused

@@ -18,34 +18,16 @@ invariant_of-self-2 c =
       whole = rw (c.push_reserved.ensures.items, c.reserve.ensures.items) (All-push W c.args.self.now.blocks.items _ c.args.self.now.whole c.in_ok-block.ensures.block.size);
     }
 
-pub returns-clause-goes : goal.returns-clause-goes
-returns-clause-goes c =
+pub returns-clause-taken : goal.returns-clause-taken
+returns-clause-taken c =
     let b : PlannedBlock = record { index = c.in-Some.index; block = c.in_ok-block.block } in
     let pushed : map new_block c.push_reserved.new.self.items ≡ map new_block c.args.self.now.blocks.items ++ new_block b ∷ [] =
     ap (λ (l : List PlannedBlock). map new_block l) (c.push_reserved.ensures.items ∙ ap (λ (l : List PlannedBlock). l ++ b ∷ []) c.reserve.ensures.items) ∙ new_blocks-push c.args.self.now.blocks.items b in
-    goes_on _ _ _ _ _ (new_block b) _ _ _ pushed refl c.in-Some.ensures.lowest (rw (← c.reserve-2.ensures.items) c.give_back.ensures.kept)
-
-pub returns-clause-written : goal.returns-clause-written
-returns-clause-written c =
-    let b : PlannedBlock = record { index = c.in-Some.index; block = c.in_ok-block.block } in
-    let pushed : map new_block c.push_reserved.new.self.items ≡ map new_block c.args.self.now.blocks.items ++ new_block b ∷ [] =
-    ap (λ (l : List PlannedBlock). map new_block l) (c.push_reserved.ensures.items ∙ ap (λ (l : List PlannedBlock). l ++ b ∷ []) c.reserve.ensures.items) ∙ new_blocks-push c.args.self.now.blocks.items b in
-    written_at _ _ (new_block b) c.in-Some.index _ _ _ _ _ _ pushed refl (omega (arith, c.in-Some.ensures.within, c.requires.free)) c.block_address.ensures.address refl c.check.ensures
-    c.kind.ensures c.number.ensures c.in_ok-block.ensures.block c.give_back.ensures.added
-
-pub returns-clause-frees : goal.returns-clause-frees
-returns-clause-frees c = rw (← c.reserve-2.ensures.items) c.give_back.ensures.only
-
-pub returns-clause-uses : goal.returns-clause-uses
-returns-clause-uses c =
-    let b : PlannedBlock = record { index = c.in-Some.index; block = c.in_ok-block.block } in
-    let pushed : map new_block c.push_reserved.new.self.items ≡ map new_block c.args.self.now.blocks.items ++ new_block b ∷ [] =
-    ap (λ (l : List PlannedBlock). map new_block l) (c.push_reserved.ensures.items ∙ ap (λ (l : List PlannedBlock). l ++ b ∷ []) c.reserve.ensures.items) ∙ new_blocks-push c.args.self.now.blocks.items b in
-    uses_one _ _ (new_block b) _ pushed c.block_address.ensures.address
-
-pub returns-clause-adds : goal.returns-clause-adds
-returns-clause-adds c =
-    let b : PlannedBlock = record { index = c.in-Some.index; block = c.in_ok-block.block } in
-    let pushed : map new_block c.push_reserved.new.self.items ≡ map new_block c.args.self.now.blocks.items ++ new_block b ∷ [] =
-    ap (λ (l : List PlannedBlock). map new_block l) (c.push_reserved.ensures.items ∙ ap (λ (l : List PlannedBlock). l ++ b ∷ []) c.reserve.ensures.items) ∙ new_blocks-push c.args.self.now.blocks.items b in
-    adds_one _ _ (new_block b) _ pushed c.block_address.ensures.address
+    record {
+      goes = goes_on _ _ _ _ _ (new_block b) _ _ _ pushed refl c.in-Some.ensures.lowest (rw (← c.reserve-2.ensures.items) c.give_back.ensures.kept);
+      written = written_at _ _ (new_block b) c.in-Some.index _ _ _ _ _ _ pushed refl (omega (arith, c.in-Some.ensures.within, c.requires.free)) c.block_address.ensures.address refl c.check.ensures
+          c.kind.ensures c.number.ensures c.in_ok-block.ensures.block c.give_back.ensures.added;
+      frees = rw (← c.reserve-2.ensures.items) c.give_back.ensures.only;
+      uses = uses_one _ _ (new_block b) _ pushed c.block_address.ensures.address;
+      adds = adds_one _ _ (new_block b) _ pushed c.block_address.ensures.address;
+    }

@@ -1,11 +1,14 @@
-use Rattle.std.proofs.Common.{◌≡◌, inl, inr, true, ℕ, List, Bool, rules}
-use Rattle.std.proofs.lemmas.Result.{on_ok_weaker}
-use Rattle.base.specs.declared.pointer.Pointer.{Pointer}
-use Rattle.tree_plans.specs.Plans.{FreesOnly, RecordFrees}
+use Rattle.std.proofs.Common.{◌≡◌, true, false, rules}
+use Rattle.std.proofs.lemmas.Result.{IfOk-weaker}
+use Rattle.tree_plans.proofs.Parts.{record_kept, record_taken}
 use Rattle.tree_plans.proofs.planner.Planner.place_record.Goals as goal
 
-weaker : (old new : List ℕ) (was : Pointer) (dirty : Bool) → dirty ≡ true → FreesOnly old new was → RecordFrees old new dirty was
-weaker old new was dirty is only address among = elim (only address among) [ inl before ↦ inl before | inr of ↦ inr (is, of) ]
+pub returns-then-not-dirty-clause-planned : goal.returns-then-not-dirty-clause-planned
+returns-then-not-dirty-clause-planned c =
+    let clean : c.args.dirty ≡ false = search rules in
+    record_kept _ _ _ _ _ clean _
 
-pub returns-clause-frees : goal.returns-clause-frees
-returns-clause-frees c = on_ok_weaker c.place.result (weaker _ _ _ _ (search rules)) c.place.ensures.frees
+pub returns-clause-planned : goal.returns-clause-planned
+returns-clause-planned c =
+    let dirty : c.args.dirty ≡ true = search rules in
+    IfOk-weaker c.place.result _ _ (λ pointer taken. record_taken _ _ _ _ _ _ dirty c.record_of.ensures.bytes _ _ _ taken) c.place.ensures.taken

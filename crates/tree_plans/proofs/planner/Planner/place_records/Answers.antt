@@ -24,27 +24,23 @@ loop-index-preserved c =
       geometry = c.in_ok-pointer.ensures.geometry ∙ c.loop-index.invariant.geometry;
       count = omega (arith, c.push_reserved.ensures.len, c.loop-index.invariant.count);
       room = omega (arith, c.push_reserved.ensures.capacity, c.loop-index.invariant.room);
-      goes = goes_twice c.loop-index.invariant.goes c.in_ok-pointer.ensures.goes;
-      planned = rw c.push_reserved.ensures.items (records_push _ _ _ c.args.old.now _ _ _ _ c.in_ok-pointer.ensures.goes long c.record-was.ensures c.loop-index.invariant.planned c.in_ok-pointer.ensures.planned);
-      frees = frees_push _ _ _ _ c.args.old.now _ _ c.record-was.ensures c.loop-index.invariant.frees c.in_ok-pointer.ensures.frees;
-      uses = rw c.push_reserved.ensures.items (pointers_use_push _ _ _ _ _ _ long c.loop-index.invariant.uses c.in_ok-pointer.ensures.uses);
-      adds = rw c.push_reserved.ensures.items (adds_push (λ r. slice_index_or c.args.dirty.now.flags r false) _ _ _ _ _ _ _ long refl c.loop-index.invariant.adds c.in_ok-pointer.ensures.adds);
+      goes = goes_twice c.loop-index.invariant.goes c.in_ok-pointer.ensures.planned.goes;
+      planned = rw c.push_reserved.ensures.items (records_push _ _ _ c.args.old.now _ _ _ _ c.in_ok-pointer.ensures.planned.goes long c.record-was.ensures c.loop-index.invariant.planned c.in_ok-pointer.ensures.planned.planned);
+      frees = frees_push _ _ _ _ c.args.old.now _ _ c.record-was.ensures c.loop-index.invariant.frees c.in_ok-pointer.ensures.planned.frees;
+      uses = rw c.push_reserved.ensures.items (pointers_use_push _ _ _ _ _ _ long c.loop-index.invariant.uses c.in_ok-pointer.ensures.planned.uses);
+      adds = rw c.push_reserved.ensures.items (adds_push (λ r. slice_index_or c.args.dirty.now.flags r false) _ _ _ _ _ _ _ long refl c.loop-index.invariant.adds c.in_ok-pointer.ensures.planned.adds);
     }
 
-pub returns-clause-frees : goal.returns-clause-frees
-returns-clause-frees c =
+pub returns-clause-planned : goal.returns-clause-planned
+returns-clause-planned c =
     let done : c.loop-index.index ≡ 84 = omega arith in
-    rw done at c.loop-index.invariant.frees
-
-pub returns-clause-uses : goal.returns-clause-uses
-returns-clause-uses c =
-    let done : c.loop-index.index ≡ 84 = omega arith in
-    rw done at c.loop-index.invariant.uses
-
-pub returns-clause-adds : goal.returns-clause-adds
-returns-clause-adds c =
-    let done : c.loop-index.index ≡ 84 = omega arith in
-    rw done at c.loop-index.invariant.adds
+    record {
+      goes = c.loop-index.invariant.goes;
+      planned = rw done at c.loop-index.invariant.planned;
+      frees = rw done at c.loop-index.invariant.frees;
+      uses = rw done at c.loop-index.invariant.uses;
+      adds = rw done at c.loop-index.invariant.adds;
+    }
 
 pub returns-in_err-pointer-clause-full : goal.returns-in_err-pointer-clause-full
 returns-in_err-pointer-clause-full c =

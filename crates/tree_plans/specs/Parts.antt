@@ -1,0 +1,143 @@
+-- What each part of a walk has done, from the plan before it (old) to the plan after it (new).
+use Rattle.std.specs.Prelude.{ℕ, ◌≡◌, ◌<◌, ◌==◌, ◌++◌, ◌∷◌, [], Bool, false, List, map, slice_index_or, Some, None}
+use Rattle.std.specs.BTreeMap.{BTreeMap}
+use Rattle.std.specs.Ordering.{nat_cmp}
+use Rattle.std.specs.FinMap.{FinMap}
+use Rattle.base.specs.declared.error.PoolError.{PoolError}
+use Rattle.base.specs.declared.error.PoolError.TheVariants as error
+use Rattle.base.specs.declared.pointer.Pointer.{Pointer}
+use Rattle.base.specs.declared.names.ObjectId.{ObjectId}
+use Rattle.base.specs.formats.Limits.{object_count, pointer_count}
+use Rattle.base.specs.formats.Fields.{no_pointer}
+use Rattle.base.specs.stored.Stored.{AreUsed}
+use Rattle.base.specs.tree.PlannedTrees.{NewBlock}
+use Rattle.checked_blocks.specs.Sealing.{padded}
+use Rattle.object_maps.specs.declared.tree.ObjectMap.{ObjectMap}
+use Rattle.object_maps.specs.ContentsShown.{contents_of}
+use Rattle.object_maps.specs.Pointers.{pointer_of_list}
+use Rattle.space.specs.declared.free_set.FreeSet.{FreeSet}
+use Rattle.tree_plans.specs.declared.place.BlockPlace.{BlockPlace}
+use Rattle.tree_plans.specs.declared.place.RecordPlace.{RecordPlace}
+use Rattle.tree_plans.specs.declared.planner.DirtyRecords.{DirtyRecords}
+use Rattle.tree_plans.specs.declared.planner.Planner.{Planner}
+use Rattle.tree_plans.specs.declared.walk.NewTree.{NewTree}
+use Rattle.tree_plans.specs.declared.walk.PlanSource.{PlanSource}
+use Rattle.tree_plans.specs.Pointers.{entry_of, planned_map, pointers_from, record_in}
+use Rattle.tree_plans.specs.Changes.{AreInRange, is_marked}
+use Rattle.tree_plans.specs.Plans.{AreRecordsPlanned, FreesOnly, Goes, IsObjectPlanned, IsRecordPlanned, IsWritten, ObjectFrees, RecordFrees, RecordsFree, new_block, place_of, progress_of}
+use Rattle.tree_plans.specs.Walks.{AreDirectoriesPlanned, AreObjectsPlanned, DirectoriesFree, IsDirectoryPlanned, IsRootPlanned, IsWalked, ObjectsFree, is_any_touched, is_directory_touched}
+use Rattle.tree_plans.specs.Uses.{ObjectUses, ObjectsUse, PointersUse, UsesOnly}
+use Rattle.tree_plans.specs.Order.{Adds, AreInOrder, address_if, addresses_of, addresses_where, all_addresses, object_addresses}
+use Rattle.tree_plans.specs.Room.{Lacks}
+
+-- the new blocks of a plan so far
+abbrev pub blocks_of : Planner → List NewBlock
+blocks_of p = map new_block p.blocks.items
+
+-- what every part keeps: it takes the lowest free blocks, and what the plan has stays
+abbrev pub GoesOn : FreeSet → Planner → Planner → Type 0
+GoesOn free old new = Goes free.flags.items (progress_of old) (progress_of new)
+
+-- an error tells that the plan so far and so many blocks more are more than are free
+abbrev pub TellsLack : FreeSet → Planner → ℕ → PoolError → Type 0
+TellsLack free planner count e = e ≡ error.NoSpace → Lacks free.flags.items (progress_of planner) count
+
+-- whether record r is dirty
+abbrev pub is_dirty_in : DirtyRecords → ℕ → Bool
+is_dirty_in dirty r = slice_index_or dirty.flags r false
+
+-- the objects that a source has after its group
+abbrev pub objects_after : PlanSource → FinMap nat_cmp (List ℕ)
+objects_after source = (contents_of source.contents.now).objects
+
+-- the pointers that the tree of a source has to its objects, and to a directory
+abbrev pub maps_before : PlanSource → List ObjectMap
+maps_before source = source.tree.now.maps.items
+
+abbrev pub directory_before : PlanSource → ℕ → Pointer
+directory_before source d = slice_index_or source.tree.now.directories.items d no_pointer
+
+-- one block is taken: it stands at its place, and the one that it replaces comes back
+pub record TakesBlock (free : FreeSet) (place : BlockPlace) (payload : List ℕ) (replaced : Pointer) (old new : Planner) (pointer : Pointer) : Type 0 where
+  pub goes : GoesOn free old new
+  pub written : IsWritten (progress_of new) (place_of place) replaced pointer (padded payload)
+  pub frees : FreesOnly old.freed.items new.freed.items replaced
+  pub uses : UsesOnly (blocks_of old) (blocks_of new) pointer.address
+  pub adds : Adds (blocks_of old) (blocks_of new) (pointer.address ∷ [])
+
+-- a record of an object: it takes a block where it is dirty, and stays otherwise
+pub record PlansRecord (free : FreeSet) (place : RecordPlace) (bytes : List ℕ) (was : Pointer) (dirty : Bool) (old new : Planner) (pointer : Pointer) : Type 0 where
+  pub goes : GoesOn free old new
+  pub planned : IsRecordPlanned (progress_of new) place.id.0 place.index bytes dirty was pointer
+  pub frees : RecordFrees old.freed.items new.freed.items dirty was
+  pub uses : UsesOnly (blocks_of old) (blocks_of new) pointer.address
+  pub adds : Adds (blocks_of old) (blocks_of new) (address_if dirty pointer)
+
+-- the records of an object, rising
+pub record PlansRecords (free : FreeSet) (id : ObjectId) (bytes : List ℕ) (was : ObjectMap) (dirty : DirtyRecords) (old new : Planner) (records : List Pointer) : Type 0 where
+  pub goes : GoesOn free old new
+  pub planned : AreRecordsPlanned (progress_of new) id.0 bytes dirty.flags was pointer_count records
+  pub frees : RecordsFree old.freed.items new.freed.items dirty.flags was pointer_count
+  pub uses : PointersUse (blocks_of old) (blocks_of new) records pointer_count
+  pub adds : Adds (blocks_of old) (blocks_of new) (addresses_where (is_dirty_in dirty) (pointer_of_list records) pointer_count)
+
+-- an object: its records, and then its indirect block
+pub record PlansObject (free : FreeSet) (id : ObjectId) (bytes : List ℕ) (was : ObjectMap) (dirty : DirtyRecords) (old new : Planner) (map : ObjectMap) : Type 0 where
+  pub goes : GoesOn free old new
+  pub planned : IsObjectPlanned (progress_of new) id.0 bytes dirty.flags was map
+  pub frees : ObjectFrees old.freed.items new.freed.items dirty.flags was
+  pub uses : ObjectUses (blocks_of old) (blocks_of new) map
+  pub adds : Adds (blocks_of old) (blocks_of new) (addresses_where (is_dirty_in dirty) (record_in map) pointer_count ++ map.indirect.address ∷ [])
+
+-- one object of a walk goes over to those that are done, where the objects of the walk have these dirty records for it
+pub record GoesOver (source : PlanSource) (id : ObjectId) (dirty : DirtyRecords) (maps : List (ObjectId × ObjectMap)) (old new : Planner) (planned_maps : List (ObjectId × ObjectMap)) : Type 0 where
+  pub goes : GoesOn source.free.now old new
+  pub planned : (objects done : List (ObjectId × DirtyRecords)) → entry_of objects id.0 ≡ Some dirty
+      → AreObjectsPlanned (progress_of old) (maps_before source) (objects_after source) objects done maps
+      → AreObjectsPlanned (progress_of new) (maps_before source) (objects_after source) objects (done ++ ((id, dirty) ∷ [])) planned_maps
+  pub frees : (objects : List (ObjectId × DirtyRecords)) (first : List ℕ) → entry_of objects id.0 ≡ Some dirty
+      → ObjectsFree first old.freed.items (maps_before source) objects maps
+      → ObjectsFree first new.freed.items (maps_before source) objects planned_maps
+  pub uses : (first : List NewBlock) → entry_of maps id.0 ≡ None → ObjectsUse first (blocks_of old) maps → ObjectsUse first (blocks_of new) planned_maps
+  pub others : (n : ℕ) → (id.0 == n) ≡ false → entry_of planned_maps n ≡ entry_of maps n
+  pub adds : (objects : List (ObjectId × DirtyRecords)) → entry_of objects id.0 ≡ Some dirty → id.0 < object_count
+      → Adds (blocks_of old) (blocks_of new) (object_addresses (is_marked objects id.0) (planned_map (maps_before source) planned_maps id.0))
+
+-- the objects that change, rising
+pub record PlansObjects (source : PlanSource) (objects : BTreeMap ObjectId DirtyRecords) (old new : Planner) (maps : BTreeMap ObjectId ObjectMap) : Type 0 where
+  pub goes : GoesOn source.free.now old new
+  pub planned : AreObjectsPlanned (progress_of new) (maps_before source) (objects_after source) objects.entries objects.entries maps.entries
+  pub frees : ObjectsFree old.freed.items new.freed.items (maps_before source) objects.entries maps.entries
+  pub uses : ObjectsUse (blocks_of old) (blocks_of new) maps.entries
+  pub adds : AreInRange objects.entries → Adds (blocks_of old) (blocks_of new) (all_addresses (is_marked objects.entries) (planned_map (maps_before source) maps.entries) object_count)
+
+-- a directory: it takes a block where an object of it changes, and stays otherwise
+pub record PlansDirectory (source : PlanSource) (maps : BTreeMap ObjectId ObjectMap) (index : ℕ) (touched : Bool) (old new : Planner) (pointer : Pointer) : Type 0 where
+  pub goes : GoesOn source.free.now old new
+  pub planned : IsDirectoryPlanned (progress_of new) (maps_before source) maps.entries (objects_after source) index touched (directory_before source index) pointer
+  pub frees : RecordFrees old.freed.items new.freed.items touched (directory_before source index)
+  pub uses : UsesOnly (blocks_of old) (blocks_of new) pointer.address
+  pub adds : Adds (blocks_of old) (blocks_of new) (address_if touched pointer)
+
+-- all directories, rising
+pub record PlansDirectories (source : PlanSource) (objects : BTreeMap ObjectId DirtyRecords) (maps : BTreeMap ObjectId ObjectMap) (old new : Planner) (directories : List Pointer) : Type 0 where
+  pub goes : GoesOn source.free.now old new
+  pub planned : AreDirectoriesPlanned (progress_of new) (maps_before source) maps.entries (objects_after source) objects.entries source.tree.now.directories.items pointer_count directories
+  pub frees : DirectoriesFree old.freed.items new.freed.items objects.entries source.tree.now.directories.items pointer_count
+  pub uses : PointersUse (blocks_of old) (blocks_of new) directories pointer_count
+  pub adds : Adds (blocks_of old) (blocks_of new) (addresses_where (is_directory_touched objects.entries) (pointer_of_list directories) pointer_count)
+
+-- the root: it takes a block where an object changes, and stays otherwise
+pub record PlansRoot (source : PlanSource) (objects : BTreeMap ObjectId DirtyRecords) (directories : List Pointer) (old new : Planner) (root : Pointer) : Type 0 where
+  pub goes : GoesOn source.free.now old new
+  pub planned : IsRootPlanned (progress_of new) directories (is_any_touched objects.entries) source.tree.now.root root
+  pub frees : RecordFrees old.freed.items new.freed.items (is_any_touched objects.entries) source.tree.now.root
+  pub uses : UsesOnly (blocks_of old) (blocks_of new) root.address
+  pub adds : Adds (blocks_of old) (blocks_of new) (address_if (is_any_touched objects.entries) root)
+
+-- the whole walk, from a plan that has nothing yet
+pub record PlansTree (source : PlanSource) (objects : BTreeMap ObjectId DirtyRecords) (old new : Planner) (tree : NewTree) : Type 0 where
+  pub goes : GoesOn source.free.now old new
+  pub walked : IsWalked (progress_of new) source.tree.now (objects_after source) objects.entries tree.maps.entries tree.directories.items tree.root
+  pub used : AreUsed (blocks_of new) (pointers_from tree.root tree.directories.items (planned_map (maps_before source) tree.maps.entries))
+  pub order : AreInRange objects.entries → AreInOrder (addresses_of (blocks_of new)) (pointers_from tree.root tree.directories.items (planned_map (maps_before source) tree.maps.entries)) objects.entries
