@@ -23,7 +23,8 @@ use Rattle.tree_plans.specs.Plans.{address_of, new_block}
 use Rattle.pool_core.specs.declared.pool.Pool.{Pool}
 use Rattle.pool_core.specs.declared.pool.RunningSync.{RunningSync}
 use Rattle.pool_core.specs.GroupPlans.{IsPlannedFrom, IsShortOfBlocks}
-use Rattle.pool_core.specs.Holds.{LacksBlocks, held_with, new_tree_of, told_of}
+use Rattle.pool_core.specs.Holds.{held_with, new_tree_of, told_of}
+use Rattle.pool_core.specs.SyncStarts.{LacksBlocks}
 use Rattle.pool_core.specs.Lines.{MayStart, line_of}
 use Rattle.pool_core.specs.Pointers.{pointers_after}
 use Rattle.pool_core.specs.Shows.{new_plan, shown_of}
@@ -47,7 +48,7 @@ pub group_planned : (now : List ℕ) (past : Past) (pool : Pool) (group moment :
     → IsPlannedFrom group pool.pending.items (frame_at (shown_of pool) group) (pointers_of pool.tree) (pointers_after root directories maps pool.tree) (map new_block blocks) (contents_of pool.contents).objects
     → (AreBornBefore group (pointers_of pool.tree) → AreFreed (pointers_of pool.tree) (pointers_after root directories maps pool.tree) freed)
     → AreUsed (map new_block blocks) (pointers_after root directories maps pool.tree) → ((i : ℕ) (b : NewBlock) → slice_get (map new_block blocks) i ≡ Some b → length b.content ≡ 4096)
-    → (x : IsHeld (held_with (told_of now pool) past))
+    → (x : IsHeld (held_with (told_of pool now) past))
     → IsPlannedSync (frame_at (shown_of pool) group) (pointers_of pool.tree) (pointers_after root directories maps pool.tree) (map new_block blocks) x.kept.stored.synced.objects (contents_of pool.contents).objects
     (new_plan moment pool.log_address (map address_of blocks) freed root)
 group_planned now past pool group moment blocks freed root directories maps may planned freed_are used whole x =
@@ -59,7 +60,7 @@ group_planned now past pool group moment blocks freed root directories maps may 
 module _ (now : List ℕ) (past : Past) (pool : Pool) (group moment : ℕ) (blocks : List PlannedBlock) (freed : List ℕ) (root : Pointer) (directories : List Pointer) (maps : BTreeMap ObjectId ObjectMap)
     (may : MayStart group (line_of pool.groups))
     (planned : IsPlannedFrom group pool.pending.items (frame_at (shown_of pool) group) (pointers_of pool.tree) (pointers_after root directories maps pool.tree) (map new_block blocks) (contents_of pool.contents).objects)
-    (x : IsHeld (held_with (told_of now pool) past)) where
+    (x : IsHeld (held_with (told_of pool now) past)) where
   abbrev pub plan : SyncPlan
   plan = new_plan moment pool.log_address (map address_of blocks) freed root
 
@@ -75,7 +76,7 @@ module _ (now : List ℕ) (past : Past) (pool : Pool) (group moment : ℕ) (bloc
 
 -- where its plan is short of blocks, the pool lacks them
 pub group_lacks : (now : List ℕ) (past : Past) (pool : Pool) (group : ℕ) → MayStart group (line_of pool.groups) → IsShortOfBlocks group pool.pending.items pool.free.flags.items
-    → IsHeld (held_with (told_of now pool) past) → LacksBlocks past (told_of now pool)
+    → IsHeld (held_with (told_of pool now) past) → LacksBlocks past (told_of pool now)
 group_lacks now past pool group may short x = record {
   group = group;
   quiesced = may.0;

@@ -6,9 +6,8 @@ use Rattle.base.specs.history.Past.{new_past}
 use Rattle.base.specs.steps.Shown.{Shown}
 use Rattle.base.specs.stored.ShownLabels.{HasNoLogBlock}
 use Rattle.base.specs.stored.Stored.{IsHeld}
-use Rattle.object_maps.specs.ContentsShown.{contents_of}
 use Rattle.pool_core.specs.Holds.{held_with}
-use Rattle.pool_core.specs.Turns.{told_on}
+use Rattle.pool_core.specs.States.{shown, told}
 use Rattle.round_trip.specs.Rounds.{IsRound}
 use Rattle.round_trip.proofs.Rounds.{round}
 use Rattle.round_trip.proofs.round.Goals as goal
@@ -16,15 +15,13 @@ use Rattle.round_trip.proofs.round.Goals as goal
 pub returns : goal.returns
 returns g c = λ keeps before holds.
     let disk = g.D.SectorDevice.disk in
-    let pool = c.new-state.result.pool in
-    let device = c.new-state.result.device in
+    let state = c.new-state.result in
     let ss = c.args.steps.items in
     let rs = c.in_ok-replies.replies.items in
-    let shows : contents_of pool.contents ≡ before = ap (λ (s : Shown). s.contents) c.new-state.ensures.shown ∙ c.in_ok-imported.ensures.found keeps before holds in
-    let none : HasNoLogBlock (bytes_of (disk device).now) =
-    subst (λ d. HasNoLogBlock (bytes_of (disk d).now)) (sym c.new-state.ensures.device) (c.in_ok-imported.ensures.no_log keeps holds.no_log) in
+    let shows : (shown state).contents ≡ before = ap (λ (s : Shown). s.contents) c.new-state.ensures.shown ∙ c.in_ok-imported.ensures.found keeps before holds in
+    let none : HasNoLogBlock (told state).now = subst (λ d. HasNoLogBlock (bytes_of (disk d).now)) (sym c.new-state.ensures.device) (c.in_ok-imported.ensures.no_log keeps holds.no_log) in
     ∥∥₁_map c.new-state.ensures.held (λ anew.
-    let held : IsHeld (held_with (told_on disk (pool, device)) (new_past before 0 pool.dirty_max)) =
-    subst (λ (base : Contents). IsHeld (held_with (told_on disk (pool, device)) (new_past base 0 pool.dirty_max))) shows (anew keeps 0) in
+    let held : IsHeld (held_with (told state) (new_past before 0 (shown state).dirty_max)) =
+    subst (λ (base : Contents). IsHeld (held_with (told state) (new_past base 0 (shown state).dirty_max))) shows (anew keeps 0) in
     subst (λ d. (after : Contents) × IsRound before ss rs (bytes_of (disk d).now) after) (sym c.into_device.ensures)
-    (round _ _ _ disk keeps ss rs (pool, device) (c.run.new.state.pool, c.run.new.state.device) c.in_ok-replies.ensures.ran before pool.dirty_max shows held none))
+    (round keeps ss rs state c.run.new.state c.in_ok-replies.ensures.ran before (shown state).dirty_max shows held none))

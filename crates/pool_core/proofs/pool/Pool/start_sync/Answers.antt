@@ -189,17 +189,17 @@ returns-in_err-planned-clause-no_space c =
     let p = err_from_is_err_and c.from_residual-in_err-planned.result c.from_residual-in_err-planned.ensures.1 in
     rw (p.1, p.2) (λ now past x no_space. group_lacks now past c.args.self.now c.in_ok-group.group.0 c.in_ok-group.ensures.may (c.in_err-planned.ensures.no_space no_space) x)
 
-pub returns-in_err-check_running-clause-refusal : goal.returns-in_err-check_running-clause-refusal
-returns-in_err-check_running-clause-refusal c =
+pub returns-in_err-check_running-clause-own : goal.returns-in_err-check_running-clause-own
+returns-in_err-check_running-clause-own c =
     let p = err_from_is_err_and c.from_residual.result c.from_residual.ensures.1 in
     rw (p.1, p.2, c.in_err-check_running.ensures.0) (λ calls. refl)
 
-pub returns-in_err-group-clause-refusal : goal.returns-in_err-group-clause-refusal
-returns-in_err-group-clause-refusal c =
+pub returns-in_err-group-clause-own : goal.returns-in_err-group-clause-own
+returns-in_err-group-clause-own c =
     let p = err_from_is_err_and c.from_residual-in_err-group.result c.from_residual-in_err-group.ensures.1 in
     rw (p.1, p.2, c.in_err-group.ensures.may.0) (λ calls. refl)
 
-pub returns-in_err-planned-clause-refusal : goal.returns-in_err-planned-clause-refusal
-returns-in_err-planned-clause-refusal c =
+pub returns-in_err-planned-clause-own : goal.returns-in_err-planned-clause-own
+returns-in_err-planned-clause-own c =
     let p = err_from_is_err_and c.from_residual-in_err-planned.result c.from_residual-in_err-planned.ensures.1 in
     rw (p.1, p.2) (plan_own c.in_err-planned.field-0.0 c.in_err-planned.ensures.refused)
