@@ -1,5 +1,7 @@
 -- What a pool keeps of its device, step by step.
 use Rattle.std.specs.Prelude.{ℕ, ◌≡◌, List, map, Option, option_map, Result}
+use Rattle.std.specs.FinMap.{FinMap}
+use Rattle.std.specs.Ordering.{nat_cmp}
 use Rattle.base.specs.declared.error.PoolError.{PoolError}
 use Rattle.base.specs.declared.names.Group.{Group}
 use Rattle.base.specs.declared.pointer.Pointer.{Pointer}
@@ -22,7 +24,7 @@ use Rattle.pool_core.specs.declared.pool.RunningSync.{RunningSync}
 use Rattle.pool_core.specs.declared.state.Progress.{Progress}
 use Rattle.pool_core.specs.Pointers.{pointers_after}
 use Rattle.pool_core.specs.Progresses.{progress_of}
-use Rattle.pool_core.specs.Shows.{shown_of}
+use Rattle.pool_core.specs.Shows.{objects_of, shown_of}
 
 -- what is shown of a pool, the bytes of its device, the pointers of its tree, and what its running sync makes
 pub record Told : Type 0 where
@@ -39,15 +41,18 @@ made_by pointers run = record { pointers = pointers; blocks = map new_block run.
 abbrev pub new_tree_of : Tree → RunningSync → NewTree
 new_tree_of tree r = made_by (pointers_after r.root r.directories.items r.maps tree) r.run
 
--- a pool over a device with these bytes
-abbrev pub told_of : Pool → List ℕ → Told
-told_of p now = record { shown = shown_of p; now = now; pointers = pointers_of p.tree; running = option_map (new_tree_of p.tree) p.sync }
+-- a pool that has these objects, over a device with these bytes
+abbrev pub told_of : FinMap nat_cmp (List ℕ) → Pool → List ℕ → Told
+told_of objects p now = record { shown = shown_of objects p; now = now; pointers = pointers_of p.tree; running = option_map (new_tree_of p.tree) p.sync }
 
--- the same with a past
+-- with the objects that it shows
+abbrev pub told_of_pool : Pool → List ℕ → Told
+told_of_pool p = told_of (objects_of p) p
+
+-- what is told, with a past
 abbrev pub held_with : Told → Past → Held
 held_with t past = record { state = record { shown = t.shown; past = past }; now = t.now; pointers = t.pointers; running = t.running }
 
--- what is shown of it, with a past
 abbrev pub state_with : Told → Past → State
 state_with t past = record { shown = t.shown; past = past }
 

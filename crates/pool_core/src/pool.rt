@@ -120,10 +120,10 @@ impl Pool {
     ghost use Rattle.base.specs.disk.Calls.{counted};
     ghost use Rattle.sync.specs.Calls.{plain_answer};
     ghost use Rattle.pool_core.specs.Calls.{MakesNextOf};
-    ghost use Rattle.pool_core.specs.Holds.{Leads, sync_reply, told_of};
+    ghost use Rattle.pool_core.specs.Holds.{Leads, sync_reply, told_of_pool};
     ghost use Rattle.pool_core.specs.Lines.{MayNotStart, MayStart, line_of};
     ghost use Rattle.pool_core.specs.Meets.{MayCommit};
-    ghost use Rattle.pool_core.specs.Shows.{grant_of, new_plan, plan_of, shown_after_tree, shown_of};
+    ghost use Rattle.pool_core.specs.Shows.{grant_of, new_plan, plan_of, shown_after_tree, shown_of_pool};
     ghost use Rattle.pool_core.specs.States.{IsOfNoDevice, KeepsTree};
     ghost use Rattle.pool_core.specs.StepAnswers.{Begins, ClosesGroup, Commits, Locks, MarksQuiesced, Reads, StartsSync, StepsSync, Unlocks};
     ghost use Rattle.pool_core.specs.SyncStarts.{IsRefusedForLack, StartLeads, StartsHeld, StartsInOrder};
@@ -131,7 +131,7 @@ impl Pool {
 
     pub(crate) fn new(mounted: Mounted) -> Self
         ensures geometry { result.geometry ≡ mounted.geometry }
-        ensures shown { shown_of result ≡ shown_of_import mounted }
+        ensures shown { shown_of_pool result ≡ shown_of_import mounted }
         ensures tree { result.tree ≡ mounted.tree }
         ensures idle { result.sync ≡ None }
     {
@@ -198,7 +198,7 @@ impl Pool {
         range: Range,
         mode: Mode,
     ) -> Result<LockId, PoolError>
-        ensures step { Locks owner object range mode result (shown_of self.old) (shown_of self.new) }
+        ensures step { Locks owner object range mode result (shown_of_pool self.old) (shown_of_pool self.new) }
         ensures kept { KeepsTree self.old self.new }
     {
         self.check_running()?;
@@ -209,7 +209,7 @@ impl Pool {
     }
 
     pub(crate) fn unlock(&mut self, owner: Owner, id: LockId) -> Result<(), PoolError>
-        ensures step { Unlocks owner id result (shown_of self.old) (shown_of self.new) }
+        ensures step { Unlocks owner id result (shown_of_pool self.old) (shown_of_pool self.new) }
         ensures kept { KeepsTree self.old self.new }
     {
         self.check_running()?;
@@ -224,13 +224,13 @@ impl Pool {
     }
 
     fn is_in_use(&self, held: &HeldLock) -> bool
-        ensures { result ≡ is_lock_in_use (grant_of held.now) (shown_of self.now) }
+        ensures { result ≡ is_lock_in_use (grant_of held.now) (shown_of_pool self.now) }
     {
         is_held_in_use(held, &self.transactions)
     }
 
     pub(crate) fn begin(&mut self, owner: Owner, plan: Plan) -> Result<(TxId, Group), PoolError>
-        ensures step { Begins owner plan result (shown_of self.old) (shown_of self.new) }
+        ensures step { Begins owner plan result (shown_of_pool self.old) (shown_of_pool self.new) }
         ensures kept { KeepsTree self.old self.new }
     {
         self.check_begin(owner, plan.as_slice())?;
@@ -248,7 +248,7 @@ impl Pool {
 
     // Refused where a begin is, but for want of memory.
     fn check_begin(&self, owner: Owner, plan: &[Shape]) -> Result<(), PoolError>
-        ensures refusal { MatchResult result (λ _. stage.begin_refusal owner.0 plan.now (shown_of self.now) ≡ None) (λ e. stage.begin_refusal owner.0 plan.now (shown_of self.now) ≡ Some e) }
+        ensures refusal { MatchResult result (λ _. stage.begin_refusal owner.0 plan.now (shown_of_pool self.now) ≡ None) (λ e. stage.begin_refusal owner.0 plan.now (shown_of_pool self.now) ≡ Some e) }
         ensures built { OnOk result (is_plan_built plan.now ≡ true) }
         ensures named { OnOk result (self.now.next_tx ≤ 2 ^ 60) }
     {
@@ -287,7 +287,7 @@ impl Pool {
 
     // The group of a transaction that may commit. Refused where a commit is, but for want of memory.
     fn check_commit(&self, tx: TxId, ops: &[Op]) -> Result<Group, PoolError>
-        ensures refusal { MatchResult result (λ group. MayCommit tx.0 ops.now group.0 (shown_of self.now)) (λ e. stage.commit_refusal tx.0 ops.now (shown_of self.now) ≡ Some e) }
+        ensures refusal { MatchResult result (λ group. MayCommit tx.0 ops.now group.0 (shown_of_pool self.now)) (λ e. stage.commit_refusal tx.0 ops.now (shown_of_pool self.now) ≡ Some e) }
         ensures allowed { OnOk result (AreOpsAllowed ops.now) }
         ensures named { OnOk result (self.now.next_ordinal ≤ 2 ^ 60) }
     {
@@ -307,7 +307,7 @@ impl Pool {
     }
 
     pub(crate) fn commit(&mut self, tx: TxId, ops: Ops) -> Result<Receipt, PoolError>
-        ensures step { Commits tx ops result (shown_of self.old) (shown_of self.new) }
+        ensures step { Commits tx ops result (shown_of_pool self.old) (shown_of_pool self.new) }
         ensures kept { KeepsTree self.old self.new }
     {
         let group = self.check_commit(tx, ops.as_slice())?;
@@ -334,7 +334,7 @@ impl Pool {
         object: ObjectId,
         range: Range,
     ) -> Result<Bytes, PoolError>
-        ensures { Reads owner object range result (shown_of self.now) }
+        ensures { Reads owner object range result (shown_of_pool self.now) }
     {
         self.check_running()?;
         if !is_readable(object, range) {
@@ -350,7 +350,7 @@ impl Pool {
     }
 
     pub(crate) fn close_group(&mut self) -> Result<Group, PoolError>
-        ensures step { ClosesGroup result (shown_of self.old) (shown_of self.new) }
+        ensures step { ClosesGroup result (shown_of_pool self.old) (shown_of_pool self.new) }
         ensures kept { KeepsTree self.old self.new }
     {
         self.check_running()?;
@@ -359,7 +359,7 @@ impl Pool {
     }
 
     pub(crate) fn mark_quiesced(&mut self) -> Result<Group, PoolError>
-        ensures step { MarksQuiesced result (shown_of self.old) (shown_of self.new) }
+        ensures step { MarksQuiesced result (shown_of_pool self.old) (shown_of_pool self.new) }
         ensures kept { KeepsTree self.old self.new }
     {
         self.check_running()?;
@@ -375,11 +375,11 @@ impl Pool {
 
     pub(crate) fn start_sync(&mut self, moment: u64) -> Result<Group, PoolError>
         ensures geometry { self.new.geometry ≡ self.old.geometry }
-        ensures step { StartsSync moment result (shown_of self.old) (shown_of self.new) }
-        ensures held { StartsHeld moment result (told_of self.old) (told_of self.new) }
-        ensures order { StartsInOrder result (told_of self.old) (told_of self.new) }
-        ensures no_space { IsRefusedForLack result (told_of self.old) }
-        ensures leads { StartLeads result (told_of self.old) (told_of self.new) }
+        ensures step { StartsSync moment result (shown_of_pool self.old) (shown_of_pool self.new) }
+        ensures held { StartsHeld moment result (told_of_pool self.old) (told_of_pool self.new) }
+        ensures order { StartsInOrder result (told_of_pool self.old) (told_of_pool self.new) }
+        ensures no_space { IsRefusedForLack result (told_of_pool self.old) }
+        ensures leads { StartLeads result (told_of_pool self.old) (told_of_pool self.new) }
         ensures own { IsOfNoDevice result }
     {
         self.check_running()?;
@@ -407,7 +407,7 @@ impl Pool {
         ensures taken { IfOk result (λ p. map address_of p.blocks.items ≡ take (length p.blocks.items) (addresses_from 0 self.now.free.flags.items)) }
         ensures freed { IfOk result (λ p. All (λ address. is_block_of (block_count self.now.geometry) address ≡ true) p.freed.items) }
         ensures placed { IfOk result (λ p. ∥ ArePlaced (block_count self.now.geometry) (pointers_after p.root p.directories.items p.maps self.now.tree) ∥₁) }
-        ensures planned { IfOk result (λ p. IsPlannedFrom group.0 self.now.pending.items (frame_at (shown_of self.now) group.0) (pointers_of self.now.tree)
+        ensures planned { IfOk result (λ p. IsPlannedFrom group.0 self.now.pending.items (frame_at (shown_of_pool self.now) group.0) (pointers_of self.now.tree)
             (pointers_after p.root p.directories.items p.maps self.now.tree) (map new_block p.blocks.items) (contents_of self.now.contents).objects) }
         ensures freed_are { IfOk result (λ p. AreBornBefore group.0 (pointers_of self.now.tree)
             → AreFreed (pointers_of self.now.tree) (pointers_after p.root p.directories.items p.maps self.now.tree) p.freed.items) }
@@ -490,13 +490,13 @@ impl Pool {
         requires { D.size device.old ≡ self.old.geometry }
         ensures size { D.size device.new ≡ D.size device.old }
         ensures geometry { self.new.geometry ≡ self.old.geometry }
-        ensures step { StepsSync result (shown_of self.old) (shown_of self.new) }
+        ensures step { StepsSync result (shown_of_pool self.old) (shown_of_pool self.new) }
         ensures called { MakesNextOf (IsTrue D.keeps_model) D.disk self.old (plain_answer result)
             device.old device.new }
         ensures count { D.refused device.new ≡ counted result (D.refused device.old) }
         ensures leads { IsTrue D.keeps_model → Leads (sync_reply result)
-            (told_of self.old (bytes_of (D.disk device.old).now))
-            (told_of self.new (bytes_of (D.disk device.new).now)) }
+            (told_of_pool self.old (bytes_of (D.disk device.old).now))
+            (told_of_pool self.new (bytes_of (D.disk device.new).now)) }
     {
         self.check_running()?;
         let Some(mut running) = self.sync.take() else {
@@ -528,7 +528,7 @@ impl Pool {
         requires placed { ∥ ArePlaced (block_count self.old.geometry) (pointers_after running.root running.directories.items running.maps self.old.tree) ∥₁ }
         ensures geometry { self.new.geometry ≡ self.old.geometry }
         ensures sync { self.new.sync ≡ self.old.sync }
-        ensures shown { shown_of self.new ≡ shown_after_tree running.group.0 running.freed.items running.root (shown_of self.old) }
+        ensures shown { shown_of_pool self.new ≡ shown_after_tree running.group.0 running.freed.items running.root (shown_of_pool self.old) }
         ensures pointers { (place : Place) → IsPlace place → pointers_of self.new.tree place ≡ pointers_after running.root running.directories.items running.maps self.old.tree place }
     {
         let RunningSync {
