@@ -468,14 +468,7 @@ impl Pool {
         RunningSync {
             group,
             moment,
-            run: SyncRun {
-                geometry: self.geometry,
-                blocks,
-                uberblock: uberblock.encode(),
-                slot: slot(group),
-                stages: None,
-                done: 0,
-            },
+            run: SyncRun::new(self.geometry, blocks, uberblock.encode(), slot(group), None),
             maps,
             directories,
             root,
