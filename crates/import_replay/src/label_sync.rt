@@ -69,15 +69,15 @@ fn label_run(
     ensures left { result.done < call_count result }
     ensures none { result.done ≡ 0 }
 {
-    SyncRun {
+    let stages = LabelStages {
+        config: config.encode(),
+        first,
+    };
+    SyncRun::new(
         geometry,
-        blocks: Vec::new(alloc),
-        uberblock: uberblock.encode(),
-        slot: slot(uberblock.group),
-        stages: Some(LabelStages {
-            config: config.encode(),
-            first,
-        }),
-        done: 0,
-    }
+        Vec::new(alloc),
+        uberblock.encode(),
+        slot(uberblock.group),
+        Some(stages),
+    )
 }

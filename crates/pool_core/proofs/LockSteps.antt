@@ -13,7 +13,7 @@ use Rattle.base.specs.steps.Shown.{Shown}
 use Rattle.base.specs.steps.Stage.{has_older_group, is_plan_built, begin_refusal, Begin}
 use Rattle.base.specs.steps.Steps.{Lock, Unlock, next_grant, next_admission}
 use Rattle.pool_core.specs.Meets.{Meets}
-use Rattle.pool_core.specs.Tables.{Locks, LocksBy, lock_refusal_of}
+use Rattle.pool_core.specs.Tables.{Grants, GrantsBy, lock_refusal_of}
 
 abbrev is_bad_range : NumberRange → Bool
 is_bad_range t = nat_lt name_number t.number || not (is_range_allowed t.low t.high)
@@ -25,7 +25,7 @@ pub lock_bad : (owner : ℕ) (t : NumberRange) (mode : Mode) (s : Shown) → s.s
 lock_bad owner t mode s h bad = λ past. (past, let e : lock_refusal owner t mode s ≡ Some error.BadRange = rw (h, bad) refl in rw e (refl, refl))
 
 lock_by : (r : Option PoolError) (owner : ℕ) (t : NumberRange) (mode : Mode) (answer : Result ℕ PoolError) (s : Shown) (locks : List Grant) (next : ℕ)
-    → lock_refusal owner t mode s ≡ r → LocksBy r owner t mode answer s.locks s.next_lock locks next → Meets (Lock owner t mode) answer s (record s { locks = locks; next_lock = next })
+    → lock_refusal owner t mode s ≡ r → GrantsBy r owner t mode answer s.locks s.next_lock locks next → Meets (Lock owner t mode) answer s (record s { locks = locks; next_lock = next })
 lock_by (Some e) owner t mode answer s locks next r told = λ past. (past, rw r (told.0, rw (told.1, told.2) refl))
 lock_by None owner t mode (Ok id) s locks next r told =
     λ past. (record past { grants = past.grants ++ next_grant owner t mode s ∷ [] }, rw r (told.0, rw (told.1, told.2) refl))
@@ -33,7 +33,7 @@ lock_by None owner t mode (Err e) s locks next r told = λ past. (past, rw r (to
 
 -- what is told of the locks, told of the pool
 pub lock_ends : (owner : ℕ) (t : NumberRange) (mode : Mode) (answer : Result ℕ PoolError) (s : Shown) (locks : List Grant) (next : ℕ)
-    → s.suspended ≡ false → is_bad_range t ≡ false → Locks owner t mode answer s.locks s.next_lock locks next → Meets (Lock owner t mode) answer s (record s { locks = locks; next_lock = next })
+    → s.suspended ≡ false → is_bad_range t ≡ false → Grants owner t mode answer s.locks s.next_lock locks next → Meets (Lock owner t mode) answer s (record s { locks = locks; next_lock = next })
 lock_ends owner t mode answer s locks next h bad told =
     lock_by (lock_refusal_of t mode s.locks s.next_lock) owner t mode answer s locks next (rw (h, bad) refl) told
 

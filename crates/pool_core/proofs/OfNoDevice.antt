@@ -11,7 +11,7 @@ use Rattle.base.specs.declared.operation.Op.TheVariants as op
 use Rattle.base.specs.declared.operation.Shape.{Shape}
 use Rattle.base.specs.declared.range.Mode.{Mode}
 use Rattle.base.specs.declared.refused.RefusedCalls.{RefusedCalls}
-use Rattle.base.specs.disk.Calls.{counted, with_refusal}
+use Rattle.base.specs.disk.Calls.{with_refusal}
 use Rattle.base.specs.history.Contents.{Contents, apply, created, removed, changed, with_object, bytes_after_write, resize}
 use Rattle.base.specs.history.History.{apply_all}
 use Rattle.base.specs.history.Past.{Past, new_past}
@@ -23,6 +23,7 @@ use Rattle.base.specs.steps.Stage as stage
 use Rattle.base.specs.steps.Steps as steps
 use Rattle.base.specs.steps.Steps.{State, Answers}
 use Rattle.pool_core.specs.Meets.{Meets}
+use Rattle.pool_core.specs.States.{IsOfNoDevice}
 use Rattle.pool_core.specs.Tables.{result_map}
 
 -- whether this is no refusal of a device
@@ -113,13 +114,13 @@ module _ (old new : Shown) where
   quiesce_own answer meets = own_answer (quiesce_tests old) _ answer _ _ _ _ refl refl (λ e own. absurd own) (meets (some_past old)).1
 
 -- So it counts nothing.
-pub own_counts : {A : Type 0} (answer : Result A PoolError) (calls : RefusedCalls) → is_own_answer answer ≡ true → calls ≡ counted answer calls
-own_counts (Ok x) calls own = refl
-own_counts (Err e) calls own = sym (counts_none e calls own)
+pub own_counts : {A : Type 0} (answer : Result A PoolError) → is_own_answer answer ≡ true → IsOfNoDevice answer
+own_counts (Ok x) own calls = refl
+own_counts (Err e) own calls = counts_none e calls own
 
-pub map_counts : {A B : Type 0} (f : A → B) (answer : Result A PoolError) (calls : RefusedCalls) → is_own_answer (result_map f answer) ≡ true → calls ≡ counted answer calls
-map_counts f (Ok x) calls own = refl
-map_counts f (Err e) calls own = sym (counts_none e calls own)
+pub map_counts : {A B : Type 0} (f : A → B) (answer : Result A PoolError) → is_own_answer (result_map f answer) ≡ true → IsOfNoDevice answer
+map_counts f (Ok x) own calls = refl
+map_counts f (Err e) own calls = counts_none e calls own
 
 -- A plan of a group is refused for want of memory or of blocks.
 pub plan_own : (e : PoolError) → (e ≡ error.NoMemory) ⊎ (e ≡ error.NoSpace) → (calls : RefusedCalls) → with_refusal e calls ≡ calls

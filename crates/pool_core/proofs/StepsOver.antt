@@ -8,14 +8,13 @@ use Rattle.base.specs.declared.step.Step as declared_step
 use Rattle.base.specs.declared.step.Step.TheVariants as step
 use Rattle.base.specs.declared.step.Reply as declared_reply
 use Rattle.base.specs.declared.step.Reply.TheVariants as reply
-use Rattle.base.specs.disk.Disk.{Disk, bytes_of}
 use Rattle.base.specs.steps.Stage as stage
-use Rattle.pool_core.specs.declared.pool.Pool.{Pool}
-use Rattle.pool_core.specs.Holds.{MeetsHeld, StepsOver, Told}
-use Rattle.pool_core.specs.Shows.{shown_of}
+use Rattle.device_model.specs.declared.device.SectorDevice.{Ghosts}
+use Rattle.pool_core.specs.declared.state.PoolState.{PoolState}
+use Rattle.pool_core.specs.Holds.{StepsOver, Told, state_with}
+use Rattle.pool_core.specs.States.{told, told_over}
 use Rattle.pool_core.specs.StepReplies.{StepReplies}
-use Rattle.pool_core.specs.Tables.{result_map}
-use Rattle.pool_core.specs.Turns.{told_on}
+use Rattle.pool_core.specs.SyncStarts.{StartsHeld}
 use Rattle.pool_core.proofs.RepliedSteps.{replied_with}
 
 -- whether a step says something of the blocks of the device
@@ -35,12 +34,11 @@ any_bytes step.MarkQuiesced r old new off h past x = h past
 any_bytes (step.StartSync moment) r old new off h past x = absurd (true≢false off)
 any_bytes step.SyncStep r old new off h past x = h past
 
-module _ {Dev : Type 0} (disk : Dev → Disk) (given : declared_reply.Reply) (a b : Dev) (old new : Pool) where
-  -- the start of a sync, over the bytes with which a past holds the pool
-  pub start_over : (moment : ℕ) (answer : Result Group PoolError) → MeetsHeld (λ now. stage.StartSync (Unit {0}) now moment) (result_map (λ (g : Group). g.0) answer) old new
-      → MatchResult answer (λ group. given ≡ reply.Syncing group) (λ e. given ≡ reply.Refused e)
-      → StepsOver (step.StartSync moment) given (told_on disk (old, a)) (told_on disk (new, b))
-  start_over moment answer held told past x =
-      let now : List ℕ = bytes_of (disk a).now in
-      replied_with (λ answer later. stage.StartSync (Unit {0}) now moment answer (record { shown = shown_of old; past = past }) (record { shown = shown_of new; past = later }))
-      (λ (g : Group). g.0) (λ (g : ℕ). reply.Syncing (record { 0 = g })) answer given (held now past x) told
+-- the start of a sync, over the bytes with which a past holds the pool
+pub start_over : {Dev : Type 0} {G : Ghosts Dev} (old new : PoolState Dev G) (given : declared_reply.Reply) (moment : ℕ) (answer : Result Group PoolError)
+    → StartsHeld moment answer (told_over old) (told_over new) → MatchResult answer (λ group. given ≡ reply.Syncing group) (λ e. given ≡ reply.Refused e)
+    → StepsOver (step.StartSync moment) given (told old) (told new)
+start_over old new given moment answer held is past x =
+    let now : List ℕ = (told old).now in
+    replied_with (λ answer later. stage.StartSync (Unit {0}) now moment answer (state_with (told old) past) (state_with (told new) later))
+    (λ (g : Group). g.0) (λ (g : ℕ). reply.Syncing (record { 0 = g })) answer given (held now past x) is

@@ -8,9 +8,9 @@ use Rattle.base.specs.history.Past.{Past}
 use Rattle.base.specs.stored.Stored.{IsHeld}
 use Rattle.base.proofs.steps.Additions.{told_past}
 use Rattle.base.proofs.steps.KeptTables.{steps_keep_tables}
-use Rattle.pool_core.specs.Holds.{IsStepOver, Leads, StepsOver, Told, held_with}
+use Rattle.pool_core.specs.Holds.{IsStepOver, Leads, StepsOver, Told, held_with, state_with}
 use Rattle.pool_core.specs.StepReplies.{IsStep, StepReplies}
-use Rattle.pool_core.specs.Turns.{Turns, held_after, state_after, state_with}
+use Rattle.pool_core.specs.Turns.{TurnsTo, held_after, state_after}
 use Rattle.pool_core.proofs.HeldSteps.{leads_keep}
 use Rattle.pool_core.proofs.StepsOver.{any_bytes, is_start}
 
@@ -29,7 +29,7 @@ one_step step.SyncStep r old new h past explained = h past
 
 -- and that past is the one after the step
 module _ (keeps : Type 0) (s : declared_step.Step) (r : declared_reply.Reply) (old new : Told) where
-  pub turns : StepReplies s r old.shown new.shown → StepsOver s r old new → (keeps → Leads r old new) → Turns keeps s r old new
+  pub turns : StepReplies s r old.shown new.shown → StepsOver s r old new → (keeps → Leads r old new) → (past : Past) → TurnsTo keeps s r old new past
   turns replies over leads past = record {
     step = stepped;
     explained = λ x. steps_keep_tables ⊥ [] s r (state_with old past) (state_after s r old new past) (stepped x) x;
@@ -50,5 +50,5 @@ module _ (keeps : Type 0) (s : declared_step.Step) (r : declared_reply.Reply) (o
           subst (λ (later : Past). IsStepOver s r (held_with old past) (held_with new later)) is one.1
 
   -- so does each step but the start of a sync, over whichever bytes
-  pub any_turns : is_start s ≡ false → StepReplies s r old.shown new.shown → (keeps → Leads r old new) → Turns keeps s r old new
+  pub any_turns : is_start s ≡ false → StepReplies s r old.shown new.shown → (keeps → Leads r old new) → (past : Past) → TurnsTo keeps s r old new past
   any_turns off replies leads = turns replies (any_bytes s r old new off replies) leads

@@ -1,23 +1,20 @@
 -- What a pool keeps of its device, step by step.
-use Rattle.std.specs.Prelude.{ℕ, ◌≡◌, ◌<◌, List, map, length, Option, Some, option_map, Result, Ok}
+use Rattle.std.specs.Prelude.{ℕ, ◌≡◌, List, map, Option, option_map, Result}
+use Rattle.std.specs.FinMap.{FinMap}
+use Rattle.std.specs.Ordering.{nat_cmp}
 use Rattle.base.specs.declared.error.PoolError.{PoolError}
 use Rattle.base.specs.declared.names.Group.{Group}
 use Rattle.base.specs.declared.pointer.Pointer.{Pointer}
 use Rattle.base.specs.declared.step.Step as declared_step
 use Rattle.base.specs.declared.step.Reply as declared_reply
 use Rattle.base.specs.declared.step.Reply.TheVariants as reply
-use Rattle.base.specs.history.Contents.{Contents}
-use Rattle.base.specs.history.History.{entries_up_to, replay}
 use Rattle.base.specs.history.Past.{Past}
-use Rattle.base.specs.tree.Places.{Place, IsPlace, has_block}
-use Rattle.base.specs.steps.Refusals.{quiesced_group}
-use Rattle.base.specs.common.Rising.{rising}
+use Rattle.base.specs.tree.Places.{Place, IsPlace}
 use Rattle.base.specs.steps.Runs as runs
 use Rattle.base.specs.steps.Runs.{Run, progress_reply, reply_of}
-use Rattle.base.specs.steps.Shown.{Shown, SyncPlan}
-use Rattle.base.specs.steps.Steps.{State, ops_of_group}
+use Rattle.base.specs.steps.Shown.{Shown}
+use Rattle.base.specs.steps.Steps.{State}
 use Rattle.base.specs.stored.Stored.{Held, IsHeld, Moves, NewTree}
-use Rattle.base.specs.tree.Syncs.{written_places}
 use Rattle.object_maps.specs.declared.tree.Tree.{Tree}
 use Rattle.object_maps.specs.Pointers.{pointers_of}
 use Rattle.sync.specs.declared.run.SyncRun.{SyncRun}
@@ -27,7 +24,7 @@ use Rattle.pool_core.specs.declared.pool.RunningSync.{RunningSync}
 use Rattle.pool_core.specs.declared.state.Progress.{Progress}
 use Rattle.pool_core.specs.Pointers.{pointers_after}
 use Rattle.pool_core.specs.Progresses.{progress_of}
-use Rattle.pool_core.specs.Shows.{shown_of}
+use Rattle.pool_core.specs.Shows.{objects_of, shown_of}
 
 -- what is shown of a pool, the bytes of its device, the pointers of its tree, and what its running sync makes
 pub record Told : Type 0 where
@@ -44,13 +41,20 @@ made_by pointers run = record { pointers = pointers; blocks = map new_block run.
 abbrev pub new_tree_of : Tree → RunningSync → NewTree
 new_tree_of tree r = made_by (pointers_after r.root r.directories.items r.maps tree) r.run
 
--- a pool over a device with these bytes
-abbrev pub told_of : List ℕ → Pool → Told
-told_of now p = record { shown = shown_of p; now = now; pointers = pointers_of p.tree; running = option_map (new_tree_of p.tree) p.sync }
+-- a pool that has these objects, over a device with these bytes
+abbrev pub told_of : FinMap nat_cmp (List ℕ) → Pool → List ℕ → Told
+told_of objects p now = record { shown = shown_of objects p; now = now; pointers = pointers_of p.tree; running = option_map (new_tree_of p.tree) p.sync }
 
--- the same with a past
+-- with the objects that it shows
+abbrev pub told_of_pool : Pool → List ℕ → Told
+told_of_pool p = told_of (objects_of p) p
+
+-- what is told, with a past
 abbrev pub held_with : Told → Past → Held
 held_with t past = record { state = record { shown = t.shown; past = past }; now = t.now; pointers = t.pointers; running = t.running }
+
+abbrev pub state_with : Told → Past → State
+state_with t past = record { shown = t.shown; past = past }
 
 -- the replies with the answers of a start and of a step of a sync
 abbrev pub start_reply : Result Group PoolError → declared_reply.Reply
@@ -69,29 +73,6 @@ abbrev pub Leads : declared_reply.Reply → Told → Told → Type 0
 Leads (reply.Synced group) old new = (pointers : Place → Pointer) × SamePlaces new.pointers pointers
     × ((past later : Past) → Moves (reply.Synced group) (held_with old past) (held_with (record new { pointers = pointers }) later))
 Leads r old new = (past later : Past) → Moves r (held_with old past) (held_with new later)
-
--- a step from each past that explains what is shown and with which the device, of these bytes, holds what it should
-abbrev pub MeetsHeld : {A : Type 0} → (List ℕ → Result A PoolError → State → State → Type 0) → Result A PoolError → Pool → Pool → Type 0
-MeetsHeld Step answer old new = (now : List ℕ) (past : Past) → IsHeld (held_with (told_of now old) past)
-    → (later : Past) × Step now answer (record { shown = shown_of old; past = past }) (record { shown = shown_of new; past = later })
-
--- The blocks that a started sync of a group takes are those that its tree has at the places that it writes, one for each, in their order.
-pub record TakesInOrder (group : ℕ) (past : Past) (old new : Told) : Type 0 where
-  pub synced : Contents
-  pub replayed : replay (entries_up_to old.shown.line.synced past.entries) past.base ≡ Ok synced
-  pub tree : NewTree
-  pub running : new.running ≡ Some tree
-  pub plan : SyncPlan
-  pub plan_is : new.shown.sync ≡ Some plan
-  pub each : map (λ (place : Place). (tree.pointers place).address) (written_places (ops_of_group group past.entries) synced (has_block old.now old.shown.root)) ≡ plan.taken
-
--- Fewer blocks are free than there are places that the sync of the quiesced group writes.
-pub record LacksBlocks (past : Past) (old : Told) : Type 0 where
-  pub group : ℕ
-  pub quiesced : quiesced_group old.shown.line ≡ Some group
-  pub synced : Contents
-  pub replayed : replay (entries_up_to old.shown.line.synced past.entries) past.base ≡ Ok synced
-  pub fewer : length (rising old.shown.free) < length (written_places (ops_of_group group past.entries) synced (has_block old.now old.shown.root))
 
 -- a step with its reply, over a device with the bytes of the old state
 abbrev pub IsStepOver : declared_step.Step → declared_reply.Reply → Held → Held → Type 0

@@ -3,6 +3,7 @@ pub mod Shows
 pub mod Tables
 pub mod Targets
 pub mod Meets
+pub mod StepAnswers
 pub mod Lines
 pub mod StepReplies
 pub mod ExplainedRuns
@@ -15,3 +16,5 @@ pub mod RunningUberblocks
 pub mod Calls
 pub mod Turns
 pub mod NewStates
+pub mod SyncStarts
+pub mod States

@@ -1,6 +1,8 @@
 -- What contracts show of a pool, read off its fields.
 use Rattle.std.specs.Prelude.{ℕ, ◌-◌, ◌+◌, List, [], filter, length, map, nat_lt, option_map}
 use Rattle.std.specs.FinMap as finite
+use Rattle.std.specs.FinMap.{FinMap}
+use Rattle.std.specs.Ordering.{nat_cmp}
 use Rattle.std.specs.FinSet as set
 use Rattle.base.specs.declared.pointer.Pointer.{Pointer}
 use Rattle.base.specs.steps.Locks.{Grant}
@@ -54,8 +56,9 @@ new_plan moment address taken freed root = record {
   header = record { address = address; number = 0 };
 }
 
-abbrev pub shown_of : Pool → Shown
-shown_of p = record {
+-- what is shown of a pool that has these objects
+abbrev pub shown_of : FinMap nat_cmp (List ℕ) → Pool → Shown
+shown_of objects p = record {
   suspended = p.suspended;
   guid = p.guid;
   blocks = block_count p.geometry;
@@ -66,7 +69,7 @@ shown_of p = record {
   line = line_of p.groups;
   transactions = map admission_of p.transactions.items;
   next_tx = p.next_tx;
-  contents = contents_of p.contents;
+  contents = record { name = p.contents.name; objects = objects };
   next_ordinal = p.next_ordinal;
   dirty = finite.empty;
   reserved = finite.empty;
@@ -75,6 +78,14 @@ shown_of p = record {
   root = p.tree.root;
   sync = option_map (plan_of p.log_address) p.sync;
 }
+
+-- The objects that a pool shows are those of its synced tree with the changes of its unsynced groups laid over; memory holds the result.
+-- Where they stand on the device alone, this word says how they are read, and no clause changes.
+abbrev pub objects_of : Pool → FinMap nat_cmp (List ℕ)
+objects_of p = (contents_of p.contents).objects
+
+abbrev pub shown_of_pool : Pool → Shown
+shown_of_pool p = shown_of (objects_of p) p
 
 -- what is shown once the tree of a synced group is the pool's
 abbrev pub shown_after_tree : ℕ → List ℕ → Pointer → Shown → Shown

@@ -18,10 +18,10 @@ lock_refusal_of range mode held next =
     first_refusal (refused_if (is_blocked range mode held) error.Busy ∷ refused_if (nat_le max_locks (length held) || nat_lt last_number next) error.TooMany ∷ [])
 
 -- the held locks and the next name after a lock, by its answer
-abbrev pub LocksBy : Option PoolError → ℕ → NumberRange → Mode → Result ℕ PoolError → List Grant → ℕ → List Grant → ℕ → Type 0
-LocksBy (Some e) owner range mode answer old next new later = (answer ≡ Err e) × (new ≡ old) × (later ≡ next)
-LocksBy None owner range mode (Ok id) old next new later = (id ≡ next) × (new ≡ old ++ record { id = next; owner = owner; range = range; mode = mode } ∷ []) × (later ≡ next + 1)
-LocksBy None owner range mode (Err e) old next new later = (e ≡ error.NoMemory) × (new ≡ old) × (later ≡ next)
+abbrev pub GrantsBy : Option PoolError → ℕ → NumberRange → Mode → Result ℕ PoolError → List Grant → ℕ → List Grant → ℕ → Type 0
+GrantsBy (Some e) owner range mode answer old next new later = (answer ≡ Err e) × (new ≡ old) × (later ≡ next)
+GrantsBy None owner range mode (Ok id) old next new later = (id ≡ next) × (new ≡ old ++ record { id = next; owner = owner; range = range; mode = mode } ∷ []) × (later ≡ next + 1)
+GrantsBy None owner range mode (Err e) old next new later = (e ≡ error.NoMemory) × (new ≡ old) × (later ≡ next)
 
-abbrev pub Locks : ℕ → NumberRange → Mode → Result ℕ PoolError → List Grant → ℕ → List Grant → ℕ → Type 0
-Locks owner range mode answer old next new later = LocksBy (lock_refusal_of range mode old next) owner range mode answer old next new later
+abbrev pub Grants : ℕ → NumberRange → Mode → Result ℕ PoolError → List Grant → ℕ → List Grant → ℕ → Type 0
+Grants owner range mode answer old next new later = GrantsBy (lock_refusal_of range mode old next) owner range mode answer old next new later

@@ -1,28 +1,18 @@
 -- A step of a pool on its device, from a past that explains it to the past after the step.
-use Rattle.std.specs.Prelude.{◌≡◌}
-use Rattle.base.specs.declared.refused.RefusedCalls.{RefusedCalls}
+use Rattle.std.specs.Prelude.{IsTrue}
 use Rattle.base.specs.declared.step.Step as declared_step
 use Rattle.base.specs.declared.step.Reply as declared_reply
 use Rattle.base.specs.steps.Additions.{past_after}
-use Rattle.base.specs.disk.Calls.{counted}
-use Rattle.base.specs.disk.Disk.{Disk, bytes_of}
 use Rattle.base.specs.steps.ExactNow.{IsExplainedNow}
 use Rattle.base.specs.history.Past.{Past}
 use Rattle.base.specs.steps.Steps.{State}
 use Rattle.base.specs.stored.Stored.{Held, IsHeld}
-use Rattle.pool_core.specs.declared.pool.Pool.{Pool}
-use Rattle.pool_core.specs.Calls.{Calls, answer_of}
-use Rattle.pool_core.specs.Holds.{IsStepOver, Leads, Told, held_with, told_of}
-use Rattle.pool_core.specs.Shows.{shown_of}
+use Rattle.device_model.specs.declared.device.SectorDevice.{Ghosts}
+use Rattle.pool_core.specs.declared.state.PoolState.{PoolState}
+use Rattle.pool_core.specs.Calls.{CallsDevice, answer_in}
+use Rattle.pool_core.specs.Holds.{IsStepOver, Leads, Told, held_with, state_with}
+use Rattle.pool_core.specs.States.{CountsRefused, shown, told}
 use Rattle.pool_core.specs.StepReplies.{IsStep, StepReplies}
-
--- a pool on this device
-abbrev pub told_on : {Dev : Type 0} → (Dev → Disk) → Pool × Dev → Told
-told_on disk p = told_of (bytes_of (disk p.1).now) p.0
-
--- what is shown of it, with a past
-abbrev pub state_with : Told → Past → State
-state_with t past = record { shown = t.shown; past = past }
 
 -- the state after a step with this reply: what is shown then, with the past after the step
 abbrev pub state_after : declared_step.Step → declared_reply.Reply → Told → Told → Past → State
@@ -41,14 +31,15 @@ pub record TurnsTo (keeps : Type 0) (s : declared_step.Step) (r : declared_reply
   pub over : IsHeld (held_with old past) → IsStepOver s r (held_with old past) (held_after s r old new past)
   pub held : keeps → IsHeld (held_with old past) → IsHeld (held_after s r old new past)
 
--- so from each past
-abbrev pub Turns : Type 0 → declared_step.Step → declared_reply.Reply → Told → Told → Type 0
-Turns keeps s r old new = (past : Past) → TurnsTo keeps s r old new past
+module _ {Dev : Type 0} {G : Ghosts Dev} where
+  -- so from each past
+  abbrev pub Turns : declared_step.Step → declared_reply.Reply → PoolState Dev G → PoolState Dev G → Type 0
+  Turns s r old new = (past : Past) → TurnsTo (IsTrue G.keeps_model) s r (told old) (told new) past
 
--- all that a step of a pool on its device, with its reply, does
-pub record MakesStep (Dev keeps : Type 0) (refused : Dev → RefusedCalls) (disk : Dev → Disk) (s : declared_step.Step) (r : declared_reply.Reply) (old new : Pool × Dev) : Type 0 where
-  pub replied : StepReplies s r (shown_of old.0) (shown_of new.0)
-  pub turns : Turns keeps s r (told_on disk old) (told_on disk new)
-  pub leads : keeps → Leads r (told_on disk old) (told_on disk new)
-  pub calls : Calls keeps disk s r old new
-  pub count : refused new.1 ≡ counted (answer_of r) (refused old.1)
+  -- all that a step of a pool on its device, with its reply, does
+  pub record MakesStep (s : declared_step.Step) (r : declared_reply.Reply) (old new : PoolState Dev G) : Type 0 where
+    pub replied : StepReplies s r (shown old) (shown new)
+    pub turns : Turns s r old new
+    pub leads : IsTrue G.keeps_model → Leads r (told old) (told new)
+    pub calls : CallsDevice s r old new
+    pub count : CountsRefused (answer_in r) old new

@@ -77,9 +77,10 @@ struct RunningSync {
     ghost freed_placed: { All (λ address. is_block_of (block_count run.geometry) address ≡ true) freed.items },
 }
 
-/// What a running pool keeps in memory: all but its device. Each step changes it, or leaves it as it was.
+// What a running pool keeps in memory: all but its device. Each step changes it, or leaves it as it was. `PoolState` says
+// what each answers, and why it is refused.
 #[derive(Drop)]
-pub struct Pool {
+pub(crate) struct Pool {
     alloc: Global,
     geometry: Geometry,
     guid: u64,
@@ -118,19 +119,19 @@ impl Pool {
     ghost use Rattle.base.specs.disk.Disk.{bytes_of};
     ghost use Rattle.base.specs.disk.Calls.{counted};
     ghost use Rattle.sync.specs.Calls.{plain_answer};
-    ghost use Rattle.pool_core.specs.Calls.{CallsNext, IsOfNoDevice};
-    ghost use Rattle.pool_core.specs.Holds.{LacksBlocks, Leads, MeetsHeld, TakesInOrder, held_with, start_reply, sync_reply, told_of};
+    ghost use Rattle.pool_core.specs.Calls.{MakesNextOf};
+    ghost use Rattle.pool_core.specs.Holds.{Leads, sync_reply, told_of_pool};
     ghost use Rattle.pool_core.specs.Lines.{MayNotStart, MayStart, line_of};
-    ghost use Rattle.pool_core.specs.Meets.{MayCommit, Meets, MeetsExplained};
-    ghost use Rattle.pool_core.specs.Progresses.{progress_of};
-    ghost use Rattle.pool_core.specs.Shows.{grant_of, new_plan, plan_of, shown_after_tree, shown_of};
-    ghost use Rattle.pool_core.specs.Tables.{result_map};
+    ghost use Rattle.pool_core.specs.Meets.{MayCommit};
+    ghost use Rattle.pool_core.specs.Shows.{grant_of, new_plan, plan_of, shown_after_tree, shown_of_pool};
+    ghost use Rattle.pool_core.specs.States.{IsOfNoDevice, KeepsTree};
+    ghost use Rattle.pool_core.specs.StepAnswers.{Begins, ClosesGroup, Commits, Locks, MarksQuiesced, Reads, StartsSync, StepsSync, Unlocks};
+    ghost use Rattle.pool_core.specs.SyncStarts.{IsRefusedForLack, StartLeads, StartsHeld, StartsInOrder};
     ghost use Rattle.pool_core.specs.Targets.{kept_range_of};
 
-    /// The pool that an import mounted. It takes no memory.
-    pub fn new(mounted: Mounted) -> Self
+    pub(crate) fn new(mounted: Mounted) -> Self
         ensures geometry { result.geometry ≡ mounted.geometry }
-        ensures shown { shown_of result ≡ shown_of_import mounted }
+        ensures shown { shown_of_pool result ≡ shown_of_import mounted }
         ensures tree { result.tree ≡ mounted.tree }
         ensures idle { result.sync ≡ None }
     {
@@ -167,8 +168,7 @@ impl Pool {
         }
     }
 
-    /// The allocator of its collections.
-    pub fn alloc(&self) -> Global {
+    pub(crate) fn alloc(&self) -> Global {
         self.alloc
     }
 
@@ -191,23 +191,15 @@ impl Pool {
         Ok(())
     }
 
-    /// Locks a range of an object, or of the number behind the last object, which stands for the pool's name
-    /// (`zfs_rlock.c`).
-    ///
-    /// # Errors
-    /// In this order: `Suspended`; `BadRange` where the number or the range is outside its limits; `Busy` exactly where the
-    /// range overlaps a held one and not both are readers; `TooMany` where 256 locks are held or the next name would pass
-    /// 2^60; `NoMemory`.
-    pub fn lock(
+    pub(crate) fn lock(
         &mut self,
         owner: Owner,
         object: ObjectId,
         range: Range,
         mode: Mode,
     ) -> Result<LockId, PoolError>
-        ensures rest { (self.new.tree ≡ self.old.tree) × (self.new.sync ≡ self.old.sync) }
-        ensures geometry { self.new.geometry ≡ self.old.geometry }
-        ensures step { Meets (steps.Lock owner.0 (object_range object.0 range.low range.high) mode) (result_map (λ id. id.0) result) (shown_of self.old) (shown_of self.new) }
+        ensures step { Locks owner object range mode result (shown_of_pool self.old) (shown_of_pool self.new) }
+        ensures kept { KeepsTree self.old self.new }
     {
         self.check_running()?;
         if !is_lockable(object, range) {
@@ -216,15 +208,9 @@ impl Pool {
         self.locks.lock(owner, ObjectRange { object, range }, mode)
     }
 
-    /// Lets a lock go. It takes no memory.
-    ///
-    /// # Errors
-    /// In this order: `Suspended`; `NoSuchLock` where the owner holds none of this name; `LockInUse` exactly where it is a
-    /// writer lock in which a range of an open transaction lies.
-    pub fn unlock(&mut self, owner: Owner, id: LockId) -> Result<(), PoolError>
-        ensures rest { (self.new.tree ≡ self.old.tree) × (self.new.sync ≡ self.old.sync) }
-        ensures geometry { self.new.geometry ≡ self.old.geometry }
-        ensures step { Meets (steps.Unlock owner.0 id.0) result (shown_of self.old) (shown_of self.new) }
+    pub(crate) fn unlock(&mut self, owner: Owner, id: LockId) -> Result<(), PoolError>
+        ensures step { Unlocks owner id result (shown_of_pool self.old) (shown_of_pool self.new) }
+        ensures kept { KeepsTree self.old self.new }
     {
         self.check_running()?;
         let Some(held) = self.locks.find(owner, id) else {
@@ -238,23 +224,14 @@ impl Pool {
     }
 
     fn is_in_use(&self, held: &HeldLock) -> bool
-        ensures { result ≡ is_lock_in_use (grant_of held.now) (shown_of self.now) }
+        ensures { result ≡ is_lock_in_use (grant_of held.now) (shown_of_pool self.now) }
     {
         is_held_in_use(held, &self.transactions)
     }
 
-    /// Opens a transaction of the open group that keeps to a plan.
-    ///
-    /// # Errors
-    /// In this order: `Suspended`; `NotReady` where an older group is unsynced; `BadRange` where the plan has no shape, or
-    /// one that neither creates nor writes or is outside its limits; `TooLarge` where its log record would have more than
-    /// 4,008 bytes; `NotLocked` where a range of it does not lie in one writer lock of the owner; `Busy` where one overlaps
-    /// a range of an open transaction; `TooMany` where 64 transactions are open or the next name would pass 2^60;
-    /// `NoMemory`.
-    pub fn begin(&mut self, owner: Owner, plan: Plan) -> Result<(TxId, Group), PoolError>
-        ensures rest { (self.new.tree ≡ self.old.tree) × (self.new.sync ≡ self.old.sync) }
-        ensures geometry { self.new.geometry ≡ self.old.geometry }
-        ensures step { Meets (stage.Begin owner.0 plan) (result_map (λ a. (a.0.0, a.1.0)) result) (shown_of self.old) (shown_of self.new) }
+    pub(crate) fn begin(&mut self, owner: Owner, plan: Plan) -> Result<(TxId, Group), PoolError>
+        ensures step { Begins owner plan result (shown_of_pool self.old) (shown_of_pool self.new) }
+        ensures kept { KeepsTree self.old self.new }
     {
         self.check_begin(owner, plan.as_slice())?;
         let tx = TxId(self.next_tx);
@@ -271,7 +248,7 @@ impl Pool {
 
     // Refused where a begin is, but for want of memory.
     fn check_begin(&self, owner: Owner, plan: &[Shape]) -> Result<(), PoolError>
-        ensures refusal { MatchResult result (λ _. stage.begin_refusal owner.0 plan.now (shown_of self.now) ≡ None) (λ e. stage.begin_refusal owner.0 plan.now (shown_of self.now) ≡ Some e) }
+        ensures refusal { MatchResult result (λ _. stage.begin_refusal owner.0 plan.now (shown_of_pool self.now) ≡ None) (λ e. stage.begin_refusal owner.0 plan.now (shown_of_pool self.now) ≡ Some e) }
         ensures built { OnOk result (is_plan_built plan.now ≡ true) }
         ensures named { OnOk result (self.now.next_tx ≤ 2 ^ 60) }
     {
@@ -310,7 +287,7 @@ impl Pool {
 
     // The group of a transaction that may commit. Refused where a commit is, but for want of memory.
     fn check_commit(&self, tx: TxId, ops: &[Op]) -> Result<Group, PoolError>
-        ensures refusal { MatchResult result (λ group. MayCommit tx.0 ops.now group.0 (shown_of self.now)) (λ e. stage.commit_refusal tx.0 ops.now (shown_of self.now) ≡ Some e) }
+        ensures refusal { MatchResult result (λ group. MayCommit tx.0 ops.now group.0 (shown_of_pool self.now)) (λ e. stage.commit_refusal tx.0 ops.now (shown_of_pool self.now) ≡ Some e) }
         ensures allowed { OnOk result (AreOpsAllowed ops.now) }
         ensures named { OnOk result (self.now.next_ordinal ≤ 2 ^ 60) }
     {
@@ -329,17 +306,9 @@ impl Pool {
         Ok(transaction.group)
     }
 
-    /// Commits a transaction whole, in its own group.
-    ///
-    /// # Errors
-    /// In this order: `Suspended`; `NotReady` where an older group is unsynced; `NoSuchTransaction` where none of this name
-    /// is open; `OutOfPlan` where the operations have not the plan's shapes, one for one; `NoObject` or `Exists`, that of
-    /// the first operation that can't take place on the contents after those before it; `TooMany` where the next ordinal
-    /// would pass 2^60; `NoMemory`. After each the transaction is still open.
-    pub fn commit(&mut self, tx: TxId, ops: Ops) -> Result<Receipt, PoolError>
-        ensures rest { (self.new.tree ≡ self.old.tree) × (self.new.sync ≡ self.old.sync) }
-        ensures geometry { self.new.geometry ≡ self.old.geometry }
-        ensures step { Meets (stage.Commit tx.0 ops) (result_map (λ (r : Receipt). (r.ordinal.0, r.group.0)) result) (shown_of self.old) (shown_of self.new) }
+    pub(crate) fn commit(&mut self, tx: TxId, ops: Ops) -> Result<Receipt, PoolError>
+        ensures step { Commits tx ops result (shown_of_pool self.old) (shown_of_pool self.new) }
+        ensures kept { KeepsTree self.old self.new }
     {
         let group = self.check_commit(tx, ops.as_slice())?;
         self.pending.reserve(1)?;
@@ -359,14 +328,13 @@ impl Pool {
         })
     }
 
-    /// The bytes of a range that lie below the object's length.
-    ///
-    /// # Errors
-    /// In this order: `Suspended`; `BadRange` where the number or the range is outside its limits; `NotLocked` where no one
-    /// lock of the owner covers the range; `NoObject`; `NoMemory`.
-    pub fn read(&self, owner: Owner, object: ObjectId, range: Range) -> Result<Bytes, PoolError>
-        ensures { Meets (stage.Read owner.0 (object_range object.0 range.low range.high)) result
-            (shown_of self.now) (shown_of self.now) }
+    pub(crate) fn read(
+        &self,
+        owner: Owner,
+        object: ObjectId,
+        range: Range,
+    ) -> Result<Bytes, PoolError>
+        ensures { Reads owner object range result (shown_of_pool self.now) }
     {
         self.check_running()?;
         if !is_readable(object, range) {
@@ -381,28 +349,18 @@ impl Pool {
         Ok(Bytes::from_slice(self.alloc, bytes_in(bytes, range))?)
     }
 
-    /// The open group quiesces, and the next one is open (`txg.c`). It takes no memory.
-    ///
-    /// # Errors
-    /// In this order: `Suspended`; `NotReady` where an older group is unsynced, or the open group is 2^60.
-    pub fn close_group(&mut self) -> Result<Group, PoolError>
-        ensures rest { (self.new.tree ≡ self.old.tree) × (self.new.sync ≡ self.old.sync) }
-        ensures geometry { self.new.geometry ≡ self.old.geometry }
-        ensures step { Meets stage.CloseGroup (result_map (λ group. group.0) result) (shown_of self.old) (shown_of self.new) }
+    pub(crate) fn close_group(&mut self) -> Result<Group, PoolError>
+        ensures step { ClosesGroup result (shown_of_pool self.old) (shown_of_pool self.new) }
+        ensures kept { KeepsTree self.old self.new }
     {
         self.check_running()?;
         self.check_no_older()?;
         self.groups.close_open()
     }
 
-    /// The closed group is quiesced: no transaction of it is open. It takes no memory.
-    ///
-    /// # Errors
-    /// In this order: `Suspended`; `NotReady` where no group quiesces, or a transaction of it is open.
-    pub fn mark_quiesced(&mut self) -> Result<Group, PoolError>
-        ensures rest { (self.new.tree ≡ self.old.tree) × (self.new.sync ≡ self.old.sync) }
-        ensures geometry { self.new.geometry ≡ self.old.geometry }
-        ensures step { Meets steps.MarkQuiesced (result_map (λ group. group.0) result) (shown_of self.old) (shown_of self.new) }
+    pub(crate) fn mark_quiesced(&mut self) -> Result<Group, PoolError>
+        ensures step { MarksQuiesced result (shown_of_pool self.old) (shown_of_pool self.new) }
+        ensures kept { KeepsTree self.old self.new }
     {
         self.check_running()?;
         let Some(group) = self.groups.quiescing() else {
@@ -415,20 +373,14 @@ impl Pool {
         Ok(group)
     }
 
-    /// Starts the sync of the quiesced group: plans its blocks, one for each place of the tree that it writes, and takes the
-    /// room for all its steps. The moment is stored in its uberblocks.
-    ///
-    /// # Errors
-    /// In this order: `Suspended`; `NotReady` where no group is quiesced or one is syncing; and while it plans, `NoMemory`, or
-    /// `NoSpace`, only where fewer blocks are free than there are places to write (`no_space`).
-    pub fn start_sync(&mut self, moment: u64) -> Result<Group, PoolError>
+    pub(crate) fn start_sync(&mut self, moment: u64) -> Result<Group, PoolError>
         ensures geometry { self.new.geometry ≡ self.old.geometry }
-        ensures step { MeetsExplained (stage.StartSync ⊥ [] moment) (result_map (λ group. group.0) result) (shown_of self.old) (shown_of self.new) }
-        ensures held { MeetsHeld (λ now. stage.StartSync (Unit {0}) now moment) (result_map (λ group. group.0) result) self.old self.new }
-        ensures order { (now : List ℕ) (past : Past) → IsHeld (held_with (told_of now self.old) past) → IfOk result (λ group. TakesInOrder group.0 past (told_of now self.old) (told_of now self.new)) }
-        ensures no_space { (now : List ℕ) (past : Past) → IsHeld (held_with (told_of now self.old) past) → IfErr result (λ e. e ≡ PoolError.NoSpace → LacksBlocks past (told_of now self.old)) }
-        ensures leads { (now : List ℕ) → Leads (start_reply result) (told_of now self.old) (told_of now self.new) }
-        ensures refusal { IsOfNoDevice result }
+        ensures step { StartsSync moment result (shown_of_pool self.old) (shown_of_pool self.new) }
+        ensures held { StartsHeld moment result (told_of_pool self.old) (told_of_pool self.new) }
+        ensures order { StartsInOrder result (told_of_pool self.old) (told_of_pool self.new) }
+        ensures no_space { IsRefusedForLack result (told_of_pool self.old) }
+        ensures leads { StartLeads result (told_of_pool self.old) (told_of_pool self.new) }
+        ensures own { IsOfNoDevice result }
     {
         self.check_running()?;
         let group = self.check_start()?;
@@ -455,7 +407,7 @@ impl Pool {
         ensures taken { IfOk result (λ p. map address_of p.blocks.items ≡ take (length p.blocks.items) (addresses_from 0 self.now.free.flags.items)) }
         ensures freed { IfOk result (λ p. All (λ address. is_block_of (block_count self.now.geometry) address ≡ true) p.freed.items) }
         ensures placed { IfOk result (λ p. ∥ ArePlaced (block_count self.now.geometry) (pointers_after p.root p.directories.items p.maps self.now.tree) ∥₁) }
-        ensures planned { IfOk result (λ p. IsPlannedFrom group.0 self.now.pending.items (frame_at (shown_of self.now) group.0) (pointers_of self.now.tree)
+        ensures planned { IfOk result (λ p. IsPlannedFrom group.0 self.now.pending.items (frame_at (shown_of_pool self.now) group.0) (pointers_of self.now.tree)
             (pointers_after p.root p.directories.items p.maps self.now.tree) (map new_block p.blocks.items) (contents_of self.now.contents).objects) }
         ensures freed_are { IfOk result (λ p. AreBornBefore group.0 (pointers_of self.now.tree)
             → AreFreed (pointers_of self.now.tree) (pointers_after p.root p.directories.items p.maps self.now.tree) p.freed.items) }
@@ -516,14 +468,7 @@ impl Pool {
         RunningSync {
             group,
             moment,
-            run: SyncRun {
-                geometry: self.geometry,
-                blocks,
-                uberblock: uberblock.encode(),
-                slot: slot(group),
-                stages: None,
-                done: 0,
-            },
+            run: SyncRun::new(self.geometry, blocks, uberblock.encode(), slot(group), None),
             maps,
             directories,
             root,
@@ -531,21 +476,20 @@ impl Pool {
         }
     }
 
-    /// Makes the next device call of the running sync. With the last one its group is synced, and the blocks that it
-    /// replaced come back. It takes no memory of its own.
-    ///
-    /// # Errors
-    /// In this order: `Suspended`; `NotReady` where no group is syncing; `Write` or `Flush` where the device refused, and then
-    /// the pool is suspended.
-    pub fn sync_step<D: SectorDevice>(&mut self, device: &mut D) -> Result<Progress, PoolError>
+    pub(crate) fn sync_step<D: SectorDevice>(
+        &mut self,
+        device: &mut D,
+    ) -> Result<Progress, PoolError>
         requires { D.size device.old ≡ self.old.geometry }
         ensures size { D.size device.new ≡ D.size device.old }
         ensures geometry { self.new.geometry ≡ self.old.geometry }
-        ensures step { Meets steps.SyncStep (result_map progress_of result) (shown_of self.old) (shown_of self.new) }
-        ensures called { CallsNext (IsTrue D.keeps_model) D.disk self.old (plain_answer result)
+        ensures step { StepsSync result (shown_of_pool self.old) (shown_of_pool self.new) }
+        ensures called { MakesNextOf (IsTrue D.keeps_model) D.disk self.old (plain_answer result)
             device.old device.new }
         ensures count { D.refused device.new ≡ counted result (D.refused device.old) }
-        ensures leads { IsTrue D.keeps_model → Leads (sync_reply result) (told_of (bytes_of (D.disk device.old).now) self.old) (told_of (bytes_of (D.disk device.new).now) self.new) }
+        ensures leads { IsTrue D.keeps_model → Leads (sync_reply result)
+            (told_of_pool self.old (bytes_of (D.disk device.old).now))
+            (told_of_pool self.new (bytes_of (D.disk device.new).now)) }
     {
         self.check_running()?;
         let Some(mut running) = self.sync.take() else {
@@ -577,7 +521,7 @@ impl Pool {
         requires placed { ∥ ArePlaced (block_count self.old.geometry) (pointers_after running.root running.directories.items running.maps self.old.tree) ∥₁ }
         ensures geometry { self.new.geometry ≡ self.old.geometry }
         ensures sync { self.new.sync ≡ self.old.sync }
-        ensures shown { shown_of self.new ≡ shown_after_tree running.group.0 running.freed.items running.root (shown_of self.old) }
+        ensures shown { shown_of_pool self.new ≡ shown_after_tree running.group.0 running.freed.items running.root (shown_of_pool self.old) }
         ensures pointers { (place : Place) → IsPlace place → pointers_of self.new.tree place ≡ pointers_after running.root running.directories.items running.maps self.old.tree place }
     {
         let RunningSync {

@@ -66,7 +66,7 @@ impl RangeLocks {
     ghost use Rattle.std.specs.List.{find};
     ghost use Rattle.base.specs.steps.Locks.{Grant, is_covered, is_covered_for_writing};
     ghost use Rattle.pool_core.specs.Shows.{grant_of};
-    ghost use Rattle.pool_core.specs.Tables.{Locks, result_map};
+    ghost use Rattle.pool_core.specs.Tables.{Grants, result_map};
 
     /// No locks. It takes no memory.
     pub fn new(alloc: Global) -> Self
@@ -87,7 +87,7 @@ impl RangeLocks {
         target: ObjectRange,
         mode: Mode,
     ) -> Result<LockId, PoolError>
-        ensures { Locks owner.0 (target_of target) mode (result_map (λ id. id.0) result) (map grant_of self.old.locks.items) self.old.next (map grant_of self.new.locks.items) self.new.next }
+        ensures { Grants owner.0 (target_of target) mode (result_map (λ id. id.0) result) (map grant_of self.old.locks.items) self.old.next (map grant_of self.new.locks.items) self.new.next }
     {
         if self.is_blocked(&target, mode) {
             return Err(PoolError::Busy);

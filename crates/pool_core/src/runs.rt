@@ -2,14 +2,13 @@
 
 ghost use Rattle.std.specs.Prelude.{◌≡◌, IfErr, IfOk, IsTrue, MatchResult, OnErr, vec_len};
 ghost use Rattle.std.specs.Result.{ForOk};
-ghost use Rattle.base.specs.disk.Calls.{counted};
 ghost use Rattle.base.specs.steps.Runs.{Run};
-ghost use Rattle.pool_core.specs.Calls.{Calls, answer_of, counted_in_turn};
+ghost use Rattle.pool_core.specs.Calls.{CallsDevice, answer_in, counted_in_turn};
 ghost use Rattle.pool_core.specs.ExplainedRuns.{RunsOn};
 ghost use Rattle.pool_core.specs.Holds.{HoldsOn, Leads};
-ghost use Rattle.pool_core.specs.Shows.{shown_of};
+ghost use Rattle.pool_core.specs.States.{CountsRefused, refused_calls, shown, told};
 ghost use Rattle.pool_core.specs.StepReplies.{StepReplies};
-ghost use Rattle.pool_core.specs.Turns.{MakesStep, Turns, told_on};
+ghost use Rattle.pool_core.specs.Turns.{MakesStep, Turns};
 
 use crate::state::{PoolState, Progress};
 use base::{PoolError, Reply, Step};
@@ -18,15 +17,11 @@ use device_model::SectorDevice;
 impl<D: SectorDevice> PoolState<D> {
     /// Makes one step. Of the steps only that of a sync calls the device: it makes the next call of its sync.
     pub fn step(&mut self, step: Step) -> Reply
-        ensures replied { StepReplies step result (shown_of self.old.pool) (shown_of self.new.pool) }
-        ensures turns { Turns (IsTrue D.keeps_model) step result
-            (told_on D.disk (self.old.pool, self.old.device)) (told_on D.disk (self.new.pool, self.new.device)) }
-        ensures leads { IsTrue D.keeps_model → Leads result
-            (told_on D.disk (self.old.pool, self.old.device)) (told_on D.disk (self.new.pool, self.new.device)) }
-        ensures calls { Calls (IsTrue D.keeps_model) D.disk step result
-            (self.old.pool, self.old.device) (self.new.pool, self.new.device) }
-        ensures count { D.refused self.new.device
-            ≡ counted (answer_of result) (D.refused self.old.device) }
+        ensures replied { StepReplies step result (shown self.old) (shown self.new) }
+        ensures turns { Turns step result self.old self.new }
+        ensures leads { IsTrue D.keeps_model → Leads result (told self.old) (told self.new) }
+        ensures calls { CallsDevice step result self.old self.new }
+        ensures count { CountsRefused (answer_in result) self.old self.new }
     {
         match step {
             Step::Lock(owner, object, range, mode) => reply(
@@ -79,14 +74,14 @@ pub fn run<D: SectorDevice>(
     steps: Vec<Step>,
 ) -> Result<Vec<Reply>, PoolError>
     ensures each { IfOk result (λ replies. vec_len replies ≡ vec_len steps) }
-    ensures ran { IfOk result (λ replies. Run (MakesStep D (IsTrue D.keeps_model) D.refused D.disk) steps.items replies.items
-        (state.old.pool, state.old.device) (state.new.pool, state.new.device)) }
-    ensures explained { IfOk result (λ replies. RunsOn steps.items replies.items
-        (shown_of state.old.pool) (shown_of state.new.pool)) }
-    ensures held { IsTrue D.keeps_model → IfOk result (λ replies. HoldsOn steps.items replies.items
-        (told_on D.disk (state.old.pool, state.old.device)) (told_on D.disk (state.new.pool, state.new.device))) }
+    ensures ran { IfOk result (λ replies.
+        Run MakesStep steps.items replies.items state.old state.new) }
+    ensures explained { IfOk result (λ replies.
+        RunsOn steps.items replies.items (shown state.old) (shown state.new)) }
+    ensures held { IsTrue D.keeps_model → IfOk result (λ replies.
+        HoldsOn steps.items replies.items (told state.old) (told state.new)) }
     ensures count { IfOk result (λ replies.
-        D.refused state.new.device ≡ counted_in_turn replies.items (D.refused state.old.device)) }
+        refused_calls state.new ≡ counted_in_turn replies.items (refused_calls state.old)) }
     ensures refused { IfErr result (λ e. e ≡ PoolError.NoMemory) }
     ensures kept { OnErr result (state.new ≡ state.old) }
 {

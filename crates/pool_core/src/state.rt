@@ -1,12 +1,6 @@
 //! A running pool on its device, and each of its steps.
 
-ghost use Rattle.std.specs.Prelude.{◌≡◌, [], IfErr, IfOk, IsTrue};
-ghost use Rattle.base.specs.history.Past.{Past};
-ghost use Rattle.base.specs.steps.Refusals.{object_range};
-ghost use Rattle.base.specs.steps.Stage as stage;
-ghost use Rattle.base.specs.steps.Steps as steps;
-ghost use Rattle.base.specs.stored.Stored.{IsHeld};
-ghost use Rattle.base.specs.declared.names.Receipt.{Receipt};
+ghost use Rattle.std.specs.Prelude.{◌≡◌, IsTrue};
 
 use crate::pool::Pool;
 use base::{
@@ -38,26 +32,20 @@ pub struct PoolState<D: SectorDevice> {
 
 impl<D: SectorDevice> PoolState<D> {
     ghost use Rattle.import_replay.specs.Mounts.{shown_of_import};
-    ghost use Rattle.std.specs.Prelude.{ℕ, List};
-    ghost use Rattle.base.specs.disk.Disk.{bytes_of};
-    ghost use Rattle.base.specs.disk.Calls.{counted};
     ghost use Rattle.sync.specs.Calls.{plain_answer};
     ghost use Rattle.pool_core.specs.Calls.{CallsNext};
-    ghost use Rattle.pool_core.specs.Holds.{LacksBlocks, Leads, MeetsHeld, TakesInOrder, held_with, start_reply, sync_reply, told_of};
-    ghost use Rattle.pool_core.specs.Meets.{Meets, MeetsExplained};
+    ghost use Rattle.pool_core.specs.Holds.{Leads, sync_reply};
     ghost use Rattle.pool_core.specs.NewStates.{IsExplainedAtFirst, IsHeldAtFirst};
-    ghost use Rattle.pool_core.specs.Progresses.{progress_of};
-    ghost use Rattle.pool_core.specs.Shows.{shown_of};
-    ghost use Rattle.pool_core.specs.Tables.{result_map};
-    ghost use Rattle.pool_core.specs.Turns.{told_on};
+    ghost use Rattle.pool_core.specs.States.{CountsRefused, MakesNoCall, MovesNothing, device_of, shown, told, told_over};
+    ghost use Rattle.pool_core.specs.StepAnswers.{Begins, ClosesGroup, Commits, Locks, MarksQuiesced, Reads, StartsSync, StepsSync, Unlocks};
+    ghost use Rattle.pool_core.specs.SyncStarts.{IsRefusedForLack, StartLeads, StartsHeld, StartsInOrder};
 
     /// The pool that an import gave. It takes no memory.
     pub fn new(imported: Imported<D>) -> Self
-        ensures shown { shown_of result.pool ≡ shown_of_import imported.mounted }
-        ensures device { result.device ≡ imported.device }
-        ensures explained { ∥ IsExplainedAtFirst result.pool ∥₁ }
-        ensures held { ∥ (IsTrue D.keeps_model
-            → IsHeldAtFirst result.pool (told_on D.disk (result.pool, result.device))) ∥₁ }
+        ensures shown { shown result ≡ shown_of_import imported.mounted }
+        ensures device { device_of result ≡ imported.device }
+        ensures explained { ∥ IsExplainedAtFirst (shown result) ∥₁ }
+        ensures held { ∥ (IsTrue D.keeps_model → IsHeldAtFirst (told result)) ∥₁ }
     {
         let Imported { device, mounted } = imported;
         PoolState {
@@ -68,7 +56,7 @@ impl<D: SectorDevice> PoolState<D> {
 
     /// The device as it is, with what is unflushed, also of a suspended pool. It takes no memory.
     pub fn into_device(self) -> D
-        ensures { result ≡ self.device }
+        ensures { result ≡ device_of self }
     {
         let PoolState { device, pool: _ } = self;
         device
@@ -93,10 +81,8 @@ impl<D: SectorDevice> PoolState<D> {
         range: Range,
         mode: Mode,
     ) -> Result<LockId, PoolError>
-        ensures step { Meets (steps.Lock owner.0 (object_range object.0 range.low range.high) mode) (result_map (λ id. id.0) result) (shown_of self.old.pool) (shown_of self.new.pool) }
-        ensures rest { (self.new.pool.tree ≡ self.old.pool.tree) × (self.new.pool.sync ≡ self.old.pool.sync) }
-        ensures device { self.new.device ≡ self.old.device }
-        ensures count { D.refused self.new.device ≡ counted result (D.refused self.old.device) }
+        ensures step { Locks owner object range mode result (shown self.old) (shown self.new) }
+        ensures unmoved { MovesNothing result self.old self.new }
     {
         self.pool.lock(owner, object, range, mode)
     }
@@ -107,10 +93,8 @@ impl<D: SectorDevice> PoolState<D> {
     /// In this order: `Suspended`; `NoSuchLock` where the owner holds none of this name; `LockInUse` exactly where it is a
     /// writer lock in which a range of an open transaction lies.
     pub fn unlock(&mut self, owner: Owner, id: LockId) -> Result<(), PoolError>
-        ensures step { Meets (steps.Unlock owner.0 id.0) result (shown_of self.old.pool) (shown_of self.new.pool) }
-        ensures rest { (self.new.pool.tree ≡ self.old.pool.tree) × (self.new.pool.sync ≡ self.old.pool.sync) }
-        ensures device { self.new.device ≡ self.old.device }
-        ensures count { D.refused self.new.device ≡ counted result (D.refused self.old.device) }
+        ensures step { Unlocks owner id result (shown self.old) (shown self.new) }
+        ensures unmoved { MovesNothing result self.old self.new }
     {
         self.pool.unlock(owner, id)
     }
@@ -124,10 +108,8 @@ impl<D: SectorDevice> PoolState<D> {
     /// a range of an open transaction; `TooMany` where 64 transactions are open or the next name would pass 2^60;
     /// `NoMemory`.
     pub fn begin(&mut self, owner: Owner, plan: Plan) -> Result<(TxId, Group), PoolError>
-        ensures step { Meets (stage.Begin owner.0 plan) (result_map (λ a. (a.0.0, a.1.0)) result) (shown_of self.old.pool) (shown_of self.new.pool) }
-        ensures rest { (self.new.pool.tree ≡ self.old.pool.tree) × (self.new.pool.sync ≡ self.old.pool.sync) }
-        ensures device { self.new.device ≡ self.old.device }
-        ensures count { D.refused self.new.device ≡ counted result (D.refused self.old.device) }
+        ensures step { Begins owner plan result (shown self.old) (shown self.new) }
+        ensures unmoved { MovesNothing result self.old self.new }
     {
         self.pool.begin(owner, plan)
     }
@@ -140,10 +122,8 @@ impl<D: SectorDevice> PoolState<D> {
     /// the first operation that can't take place on the contents after those before it; `TooMany` where the next ordinal
     /// would pass 2^60; `NoMemory`. After each the transaction is still open.
     pub fn commit(&mut self, tx: TxId, ops: Ops) -> Result<Receipt, PoolError>
-        ensures step { Meets (stage.Commit tx.0 ops) (result_map (λ (r : Receipt). (r.ordinal.0, r.group.0)) result) (shown_of self.old.pool) (shown_of self.new.pool) }
-        ensures rest { (self.new.pool.tree ≡ self.old.pool.tree) × (self.new.pool.sync ≡ self.old.pool.sync) }
-        ensures device { self.new.device ≡ self.old.device }
-        ensures count { D.refused self.new.device ≡ counted result (D.refused self.old.device) }
+        ensures step { Commits tx ops result (shown self.old) (shown self.new) }
+        ensures unmoved { MovesNothing result self.old self.new }
     {
         self.pool.commit(tx, ops)
     }
@@ -154,9 +134,8 @@ impl<D: SectorDevice> PoolState<D> {
     /// In this order: `Suspended`; `BadRange` where the number or the range is outside its limits; `NotLocked` where no one
     /// lock of the owner covers the range; `NoObject`; `NoMemory`.
     pub fn read(&self, owner: Owner, object: ObjectId, range: Range) -> Result<Bytes, PoolError>
-        ensures step { Meets (stage.Read owner.0 (object_range object.0 range.low range.high)) result
-            (shown_of self.now.pool) (shown_of self.now.pool) }
-        ensures count { D.refused self.now.device ≡ counted result (D.refused self.now.device) }
+        ensures step { Reads owner object range result (shown self.now) }
+        ensures no_call { MakesNoCall result self.now self.now }
     {
         self.pool.read(owner, object, range)
     }
@@ -166,10 +145,8 @@ impl<D: SectorDevice> PoolState<D> {
     /// # Errors
     /// In this order: `Suspended`; `NotReady` where an older group is unsynced, or the open group is 2^60.
     pub fn close_group(&mut self) -> Result<Group, PoolError>
-        ensures step { Meets stage.CloseGroup (result_map (λ group. group.0) result) (shown_of self.old.pool) (shown_of self.new.pool) }
-        ensures rest { (self.new.pool.tree ≡ self.old.pool.tree) × (self.new.pool.sync ≡ self.old.pool.sync) }
-        ensures device { self.new.device ≡ self.old.device }
-        ensures count { D.refused self.new.device ≡ counted result (D.refused self.old.device) }
+        ensures step { ClosesGroup result (shown self.old) (shown self.new) }
+        ensures unmoved { MovesNothing result self.old self.new }
     {
         self.pool.close_group()
     }
@@ -179,10 +156,8 @@ impl<D: SectorDevice> PoolState<D> {
     /// # Errors
     /// In this order: `Suspended`; `NotReady` where no group quiesces, or a transaction of it is open.
     pub fn mark_quiesced(&mut self) -> Result<Group, PoolError>
-        ensures step { Meets steps.MarkQuiesced (result_map (λ group. group.0) result) (shown_of self.old.pool) (shown_of self.new.pool) }
-        ensures rest { (self.new.pool.tree ≡ self.old.pool.tree) × (self.new.pool.sync ≡ self.old.pool.sync) }
-        ensures device { self.new.device ≡ self.old.device }
-        ensures count { D.refused self.new.device ≡ counted result (D.refused self.old.device) }
+        ensures step { MarksQuiesced result (shown self.old) (shown self.new) }
+        ensures unmoved { MovesNothing result self.old self.new }
     {
         self.pool.mark_quiesced()
     }
@@ -194,13 +169,12 @@ impl<D: SectorDevice> PoolState<D> {
     /// In this order: `Suspended`; `NotReady` where no group is quiesced or one is syncing; and while it plans, `NoMemory`, or
     /// `NoSpace`, only where fewer blocks are free than there are places to write (`no_space`).
     pub fn start_sync(&mut self, moment: u64) -> Result<Group, PoolError>
-        ensures step { MeetsExplained (stage.StartSync ⊥ [] moment) (result_map (λ group. group.0) result) (shown_of self.old.pool) (shown_of self.new.pool) }
-        ensures held { MeetsHeld (λ now. stage.StartSync (Unit {0}) now moment) (result_map (λ group. group.0) result) self.old.pool self.new.pool }
-        ensures order { (now : List ℕ) (past : Past) → IsHeld (held_with (told_of now self.old.pool) past) → IfOk result (λ group. TakesInOrder group.0 past (told_of now self.old.pool) (told_of now self.new.pool)) }
-        ensures no_space { (now : List ℕ) (past : Past) → IsHeld (held_with (told_of now self.old.pool) past) → IfErr result (λ e. e ≡ PoolError.NoSpace → LacksBlocks past (told_of now self.old.pool)) }
-        ensures leads { (now : List ℕ) → Leads (start_reply result) (told_of now self.old.pool) (told_of now self.new.pool) }
-        ensures device { self.new.device ≡ self.old.device }
-        ensures count { D.refused self.new.device ≡ counted result (D.refused self.old.device) }
+        ensures step { StartsSync moment result (shown self.old) (shown self.new) }
+        ensures held { StartsHeld moment result (told_over self.old) (told_over self.new) }
+        ensures order { StartsInOrder result (told_over self.old) (told_over self.new) }
+        ensures no_space { IsRefusedForLack result (told_over self.old) }
+        ensures leads { StartLeads result (told_over self.old) (told_over self.new) }
+        ensures no_call { MakesNoCall result self.old self.new }
     {
         self.pool.start_sync(moment)
     }
@@ -212,11 +186,10 @@ impl<D: SectorDevice> PoolState<D> {
     /// In this order: `Suspended`; `NotReady` where no group is syncing; `Write` or `Flush` where the device refused, and then
     /// the pool is suspended.
     pub fn sync_step(&mut self) -> Result<Progress, PoolError>
-        ensures step { Meets steps.SyncStep (result_map progress_of result) (shown_of self.old.pool) (shown_of self.new.pool) }
-        ensures leads { IsTrue D.keeps_model → Leads (sync_reply result) (told_of (bytes_of (D.disk self.old.device).now) self.old.pool) (told_of (bytes_of (D.disk self.new.device).now) self.new.pool) }
-        ensures called { CallsNext (IsTrue D.keeps_model) D.disk self.old.pool (plain_answer result)
-            self.old.device self.new.device }
-        ensures count { D.refused self.new.device ≡ counted result (D.refused self.old.device) }
+        ensures step { StepsSync result (shown self.old) (shown self.new) }
+        ensures leads { IsTrue D.keeps_model → Leads (sync_reply result) (told self.old) (told self.new) }
+        ensures called { CallsNext (plain_answer result) self.old self.new }
+        ensures count { CountsRefused result self.old self.new }
     {
         self.pool.sync_step(&mut self.device)
     }

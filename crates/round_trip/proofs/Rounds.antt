@@ -1,13 +1,11 @@
 -- A run of steps from an import on, and what the bytes mount then.
 use Rattle.std.proofs.Common.{◌≡◌, ℕ, List, [], ◌∷◌, refl, sym, ap, subst, ◌∙◌, ◌⊎◌, inl, inr}
-use Rattle.std.specs.Prelude.{None, Some, Ok}
-use Rattle.base.specs.declared.refused.RefusedCalls.{RefusedCalls}
+use Rattle.std.specs.Prelude.{IsTrue, None, Some, Ok}
 use Rattle.base.specs.declared.step.Step as declared_step
 use Rattle.base.specs.declared.step.Reply as declared_reply
 use Rattle.base.specs.declared.step.Reply.TheVariants as reply
 use Rattle.base.specs.steps.Additions.{past_after}
 use Rattle.base.specs.history.Contents.{Contents}
-use Rattle.base.specs.disk.Disk.{Disk, bytes_of}
 use Rattle.base.specs.history.History.{Entry, entries_up_to, replay}
 use Rattle.base.specs.stored.HeldMounts.{MountsUpTo}
 use Rattle.base.specs.crash.Mount.{IsChainOf}
@@ -19,9 +17,11 @@ use Rattle.base.specs.formats.Uberblocks.{Uberblock}
 use Rattle.base.proofs.steps.Additions.{runs_grow}
 use Rattle.base.proofs.stored.HeldMounts.{held_mounts, steps_write_no_log}
 use Rattle.base.proofs.stored.StoredSyncs.{up_to-all}
-use Rattle.pool_core.specs.declared.pool.Pool.{Pool}
-use Rattle.pool_core.specs.Holds.{KeepsHeld, Leads, Told, held_with}
-use Rattle.pool_core.specs.Turns.{MakesStep, state_after, state_with, told_on}
+use Rattle.device_model.specs.declared.device.SectorDevice.{Ghosts}
+use Rattle.pool_core.specs.declared.state.PoolState.{PoolState}
+use Rattle.pool_core.specs.Holds.{KeepsHeld, Leads, Told, held_with, state_with}
+use Rattle.pool_core.specs.States.{told}
+use Rattle.pool_core.specs.Turns.{MakesStep, state_after}
 use Rattle.round_trip.specs.Rounds.{AreLeft, HoldsContents, IsAllSynced, IsOpened, IsRound}
 
 -- an image without log blocks has no chain
@@ -51,19 +51,52 @@ record Led (ss : List declared_step.Step) (rs : List declared_reply.Reply) (old 
   pub no_log : HasNoLogBlock new.now
   pub base : later.base ≡ past.base
 
-module _ (Dev keeps : Type 0) (refused : Dev → RefusedCalls) (disk : Dev → Disk) (keep : keeps) where
-  led : (ss : List declared_step.Step) (rs : List declared_reply.Reply) (old new : Pool × Dev) → Run (MakesStep Dev keeps refused disk) ss rs old new → (past : Past)
-      → IsHeld (held_with (told_on disk old) past) → HasNoLogBlock (told_on disk old).now → Led ss rs (told_on disk old) (told_on disk new) past
+-- where all is synced, the entries up to a group that is the synced one or that of a sync leave what is shown
+all_shown : (h : Held) → IsHeld h → (after : Contents) → AreLeft h after → IsAllSynced h → after ≡ h.state.shown.contents
+all_shown h x after left all = by_group left.group_is
+  where
+    entries : List Entry
+    entries = h.state.past.entries
+
+    by_group : (left.group ≡ h.state.shown.line.synced) ⊎ (h.state.shown.line.syncing ≡ Some left.group) → after ≡ h.state.shown.contents
+    by_group (inr is) = let none : None ≡ Some left.group = sym all.idle ∙ is in cc
+    by_group (inl is) =
+        let whole : entries_up_to h.state.shown.line.synced entries ≡ entries = up_to-all h.state.shown.line.synced entries all.none_above in
+        let replayed : replay (entries_up_to h.state.shown.line.synced entries) h.state.past.base ≡ Ok after =
+        subst (λ (g : ℕ). replay (entries_up_to g entries) h.state.past.base ≡ Ok after) is left.replayed in
+        let same : Ok after ≡ Ok h.state.shown.contents = sym replayed ∙ ap (λ (l : List Entry). replay l h.state.past.base) whole ∙ x.explained.history.replays in
+        cc
+
+-- the bytes hold what the pool leaves
+left_by : (h : Held) → IsHeld h → HasNoLogBlock h.now → (after : Contents) × AreLeft h after × HoldsContents h.now after
+left_by h x none = by_sync (held_mounts h x none)
+  where
+    found : (group : ℕ) → (group ≡ h.state.shown.line.synced) ⊎ (h.state.shown.line.syncing ≡ Some group) → MountsUpTo group h.now h.state.shown h.state.past
+        → (after : Contents) × AreLeft h after × HoldsContents h.now after
+    found group is m = (
+      m.contents,
+      record { group = group; group_is = is; replayed = m.replayed },
+      record { mounts = (m.u, [], m.mounts); no_log = none },
+    )
+
+    by_sync : MountsUpTo h.state.shown.line.synced h.now h.state.shown h.state.past ⊎ ((group : ℕ) × (h.state.shown.line.syncing ≡ Some group) × MountsUpTo group h.now h.state.shown h.state.past)
+        → (after : Contents) × AreLeft h after × HoldsContents h.now after
+    by_sync (inl m) = found h.state.shown.line.synced (inl refl) m
+    by_sync (inr (group, is, m)) = found group (inr is) m
+
+module _ {Dev : Type 0} {G : Ghosts Dev} (keep : IsTrue G.keeps_model) where
+  led : (ss : List declared_step.Step) (rs : List declared_reply.Reply) (old new : PoolState Dev G) → Run MakesStep ss rs old new → (past : Past)
+      → IsHeld (held_with (told old) past) → HasNoLogBlock (told old).now → Led ss rs (told old) (told new) past
   led [] [] old new ran past held none = record {
     later = past;
-    ran = ap (λ (p : Pool × Dev). held_with (told_on disk p) past) ran;
-    held = subst (λ (p : Pool × Dev). IsHeld (held_with (told_on disk p) past)) (sym ran) held;
-    no_log = subst (λ (p : Pool × Dev). HasNoLogBlock (told_on disk p).now) (sym ran) none;
+    ran = ap (λ (p : PoolState Dev G). held_with (told p) past) ran;
+    held = subst (λ (p : PoolState Dev G). IsHeld (held_with (told p) past)) (sym ran) held;
+    no_log = subst (λ (p : PoolState Dev G). HasNoLogBlock (told p).now) (sym ran) none;
     base = refl;
   }
   led (s ∷ ss) (r ∷ rs) old new (middle, makes, rest) past held none =
-      let before : Told = told_on disk old in
-      let after : Told = told_on disk middle in
+      let before : Told = told old in
+      let after : Told = told middle in
       let t = makes.turns past in
       let later : Past = past_after s r (state_with before past) in
       let held_then : IsHeld (held_with after later) = t.held keep held in
@@ -79,51 +112,18 @@ module _ (Dev keeps : Type 0) (refused : Dev → RefusedCalls) (disk : Dev → D
   led [] (r ∷ rs) old new ran past held none = absurd ran
   led (s ∷ ss) [] old new ran past held none = absurd ran
 
-  -- where all is synced, the entries up to a group that is the synced one or that of a sync leave what is shown
-  all_shown : (h : Held) → IsHeld h → (after : Contents) → AreLeft h after → IsAllSynced h → after ≡ h.state.shown.contents
-  all_shown h x after left all = by_group left.group_is
-    where
-      entries : List Entry
-      entries = h.state.past.entries
-
-      by_group : (left.group ≡ h.state.shown.line.synced) ⊎ (h.state.shown.line.syncing ≡ Some left.group) → after ≡ h.state.shown.contents
-      by_group (inr is) = let none : None ≡ Some left.group = sym all.idle ∙ is in cc
-      by_group (inl is) =
-          let whole : entries_up_to h.state.shown.line.synced entries ≡ entries = up_to-all h.state.shown.line.synced entries all.none_above in
-          let replayed : replay (entries_up_to h.state.shown.line.synced entries) h.state.past.base ≡ Ok after =
-          subst (λ (g : ℕ). replay (entries_up_to g entries) h.state.past.base ≡ Ok after) is left.replayed in
-          let same : Ok after ≡ Ok h.state.shown.contents = sym replayed ∙ ap (λ (l : List Entry). replay l h.state.past.base) whole ∙ x.explained.history.replays in
-          cc
-
-  -- the bytes hold what the pool leaves
-  left_by : (h : Held) → IsHeld h → HasNoLogBlock h.now → (after : Contents) × AreLeft h after × HoldsContents h.now after
-  left_by h x none = by_sync (held_mounts h x none)
-    where
-      found : (group : ℕ) → (group ≡ h.state.shown.line.synced) ⊎ (h.state.shown.line.syncing ≡ Some group) → MountsUpTo group h.now h.state.shown h.state.past
-          → (after : Contents) × AreLeft h after × HoldsContents h.now after
-      found group is m = (
-        m.contents,
-        record { group = group; group_is = is; replayed = m.replayed },
-        record { mounts = (m.u, [], m.mounts); no_log = none },
-      )
-
-      by_sync : MountsUpTo h.state.shown.line.synced h.now h.state.shown h.state.past ⊎ ((group : ℕ) × (h.state.shown.line.syncing ≡ Some group) × MountsUpTo group h.now h.state.shown h.state.past)
-          → (after : Contents) × AreLeft h after × HoldsContents h.now after
-      by_sync (inl m) = found h.state.shown.line.synced (inl refl) m
-      by_sync (inr (group, is, m)) = found group (inr is) m
-
   -- a run from a pool that was just imported is a round
-  pub round : (image : List ℕ) (ss : List declared_step.Step) (rs : List declared_reply.Reply) (old new : Pool × Dev) → Run (MakesStep Dev keeps refused disk) ss rs old new → (before : Contents) (dirty_max moment : ℕ)
-      → IsOpened image (bytes_of (disk old.1).now) moment → (told_on disk old).shown.contents ≡ before → IsHeld (held_with (told_on disk old) (new_past before 0 dirty_max)) → HasNoLogBlock (bytes_of (disk old.1).now)
-      → (after : Contents) × IsRound image before dirty_max moment ss rs (bytes_of (disk new.1).now) after
+  pub round : (image : List ℕ) (ss : List declared_step.Step) (rs : List declared_reply.Reply) (old new : PoolState Dev G) → Run MakesStep ss rs old new → (before : Contents) (dirty_max moment : ℕ)
+      → IsOpened image (told old).now moment → (told old).shown.contents ≡ before → IsHeld (held_with (told old) (new_past before 0 dirty_max)) → HasNoLogBlock (told old).now
+      → (after : Contents) × IsRound image before dirty_max moment ss rs (told new).now after
   round image ss rs old new ran before dirty_max moment opened shows held none =
       let past : Past = new_past before 0 dirty_max in
       let l = led ss rs old new ran past held none in
-      let end : Held = held_with (told_on disk new) l.later in
+      let end : Held = held_with (told new) l.later in
       let left = left_by end l.held l.no_log in (
         left.0,
         record {
-          start = held_with (told_on disk old) past;
+          start = held_with (told old) past;
           opened = opened;
           shows = shows;
           anew = refl;

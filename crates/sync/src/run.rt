@@ -44,6 +44,34 @@ impl SyncRun {
     ghost use Rattle.sync.specs.Made.{HasDistinctBlocks, HasMade, HasPending};
     ghost use Rattle.sync.specs.Runs.{SameSync, call_count, other_calls};
 
+    /// A sync that has made no call yet: it writes these blocks, then this uberblock into this slot of each label, and with
+    /// label stages their configs.
+    pub fn new(
+        geometry: Geometry,
+        blocks: Vec<PlannedBlock>,
+        uberblock: [u8; 1024],
+        slot: usize,
+        stages: Option<LabelStages>,
+    ) -> Self
+        requires slot { slot < 128 }
+        requires placed { All (λ (b : PlannedBlock). b.index < block_count geometry) blocks.items }
+        ensures geometry { result.geometry ≡ geometry }
+        ensures blocks { result.blocks ≡ blocks }
+        ensures uberblock { result.uberblock ≡ uberblock }
+        ensures slot { result.slot ≡ slot }
+        ensures stages { result.stages ≡ stages }
+        ensures done { result.done ≡ 0 }
+    {
+        SyncRun {
+            geometry,
+            blocks,
+            uberblock,
+            slot,
+            stages,
+            done: 0,
+        }
+    }
+
     /// How many device calls the sync has in all.
     pub fn total(&self) -> usize
         ensures count { result ≡ call_count self.now }

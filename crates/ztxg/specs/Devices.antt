@@ -11,7 +11,7 @@ use Rattle.import_replay.specs.ImportStops.{IsImportStopped}
 use Rattle.import_replay.specs.ImportSyncs.{IsImportSynced}
 use Rattle.import_replay.specs.Mounts.{shown_of_import}
 use Rattle.import_replay.specs.declared.mounted.Mounted.{Mounted}
-use Rattle.pool_core.specs.Shows.{shown_of}
+use Rattle.pool_core.specs.States.{device_of, shown}
 use Rattle.ztxg.specs.declared.answer.Answer.{Answer}
 use Rattle.ztxg.specs.declared.answer.Answer.TheVariants as answer
 use Rattle.ztxg.specs.declared.command.Command.{Command}
@@ -54,8 +54,8 @@ answer_of m = answer.Imported m.group (record { 0 = m.group.0 + 1 }) 0
 
 -- a pool stands on this device, is shown as what was mounted, and its syncs get this moment
 pub record IsPoolOf (device : MemState) (mounted : Mounted) (moment : ℕ) (pool : ScriptPool) : Type 0 where
-  pub device_is : pool.state.device ≡ device
-  pub shown : shown_of pool.state.pool ≡ shown_of_import mounted
+  pub device_is : device_of pool.state ≡ device
+  pub shown_is : shown pool.state ≡ shown_of_import mounted
   pub moment_is : pool.moment ≡ moment
 
 -- there is a pool, and this holds of it

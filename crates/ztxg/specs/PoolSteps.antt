@@ -4,7 +4,7 @@ use Rattle.base.specs.declared.step.Step.TheVariants.{StartSync, SyncStep, Close
 use Rattle.base.specs.declared.step.Reply.{Reply}
 use Rattle.base.specs.declared.step.Reply.TheVariants.{More, Refused}
 use Rattle.base.specs.steps.Shown.{Shown}
-use Rattle.pool_core.specs.Shows.{shown_of}
+use Rattle.pool_core.specs.States as states
 use Rattle.pool_core.specs.StepReplies.{StepReplies}
 use Rattle.ztxg.specs.declared.command.PoolCommand.{PoolCommand}
 use Rattle.ztxg.specs.declared.command.PoolCommand.TheVariants as command
@@ -12,7 +12,7 @@ use Rattle.ztxg.specs.declared.session.ScriptPool.{ScriptPool}
 
 -- what is shown of the pool
 abbrev pub shown : ScriptPool → Shown
-shown p = shown_of p.state.pool
+shown p = states.shown p.state
 
 abbrev pub is_refused : Reply → Bool
 is_refused (Refused e) = true

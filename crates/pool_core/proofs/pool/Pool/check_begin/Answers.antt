@@ -7,7 +7,7 @@ use Rattle.base.specs.steps.Locks.{is_covered_for_writing}
 use Rattle.base.specs.history.Plans.{NumberRange, overlaps}
 use Rattle.base.specs.steps.Stage.{is_plan_built}
 use Rattle.pool_core.specs.Targets.{kept_range_of}
-use Rattle.pool_core.specs.Shows.{admission_of, grant_of, shown_of}
+use Rattle.pool_core.specs.Shows.{admission_of, grant_of, shown_of_pool}
 use Rattle.pool_core.specs.declared.transactions.OpenTransaction.{OpenTransaction}
 use Rattle.pool_core.proofs.KeptRanges.{blocked_same, covered_same}
 use Rattle.pool_core.proofs.LockSteps.{MayBegin, begin_suspended, begin_older, begin_bad, begin_large, begin_open, begin_busy, begin_many, begin_passes}
@@ -18,7 +18,7 @@ returns-in_err-check_running-clause-refusal c =
     let owner = c.args.owner.0 in
     let plan = c.args.plan.now in
     let pool = c.args.self.now in
-    let s = shown_of pool in
+    let s = shown_of_pool pool in
     let p = err_from_is_err_and c.from_residual.result c.from_residual.ensures.1 in
     let told = c.in_err-check_running.ensures in
     rw (p.1, p.2, told.0) (begin_suspended owner plan s told.1)
@@ -28,7 +28,7 @@ returns-in_err-check_no_older-clause-refusal c =
     let owner = c.args.owner.0 in
     let plan = c.args.plan.now in
     let pool = c.args.self.now in
-    let s = shown_of pool in
+    let s = shown_of_pool pool in
     let p = err_from_is_err_and c.from_residual-in_err-check_no_older.result c.from_residual-in_err-check_no_older.ensures.1 in
     let told = c.in_err-check_no_older.ensures in
     rw (p.1, p.2, told.0) (begin_older owner plan s c.in_ok-check_running.ensures told.1)
@@ -38,7 +38,7 @@ returns-then-not-is_plan_allowed-clause-refusal c =
     let owner = c.args.owner.0 in
     let plan = c.args.plan.now in
     let pool = c.args.self.now in
-    let s = shown_of pool in
+    let s = shown_of_pool pool in
     begin_bad owner plan s c.in_ok-check_running.ensures c.in_ok-check_no_older.ensures (sym c.is_plan_allowed.ensures ∙ c.if-not-is_plan_allowed.true)
 
 pub returns-then-is_too_large-clause-refusal : goal.returns-then-is_too_large-clause-refusal
@@ -46,7 +46,7 @@ returns-then-is_too_large-clause-refusal c =
     let owner = c.args.owner.0 in
     let plan = c.args.plan.now in
     let pool = c.args.self.now in
-    let s = shown_of pool in
+    let s = shown_of_pool pool in
     let built : is_plan_built plan ≡ true = sym c.is_plan_allowed.ensures ∙ c.if-not-is_plan_allowed.false in
     let may : MayBegin plan s = record { running = c.in_ok-check_running.ensures; no_older = c.in_ok-check_no_older.ensures; built = built } in
     begin_large owner plan s may (sym c.is_too_large.ensures ∙ c.if-is_too_large.true)
@@ -56,7 +56,7 @@ returns-then-not-is_covered-clause-refusal c =
     let owner = c.args.owner.0 in
     let plan = c.args.plan.now in
     let pool = c.args.self.now in
-    let s = shown_of pool in
+    let s = shown_of_pool pool in
     let built : is_plan_built plan ≡ true = sym c.is_plan_allowed.ensures ∙ c.if-not-is_plan_allowed.false in
     let may : MayBegin plan s = record { running = c.in_ok-check_running.ensures; no_older = c.in_ok-check_no_older.ensures; built = built } in
     let fits = sym c.is_too_large.ensures ∙ c.if-is_too_large.false in
@@ -69,7 +69,7 @@ returns-then-is_blocked-clause-refusal c =
     let owner = c.args.owner.0 in
     let plan = c.args.plan.now in
     let pool = c.args.self.now in
-    let s = shown_of pool in
+    let s = shown_of_pool pool in
     let built : is_plan_built plan ≡ true = sym c.is_plan_allowed.ensures ∙ c.if-not-is_plan_allowed.false in
     let may : MayBegin plan s = record { running = c.in_ok-check_running.ensures; no_older = c.in_ok-check_no_older.ensures; built = built } in
     let fits = sym c.is_too_large.ensures ∙ c.if-is_too_large.false in
@@ -85,7 +85,7 @@ returns-then-has_too_many-clause-refusal c =
     let owner = c.args.owner.0 in
     let plan = c.args.plan.now in
     let pool = c.args.self.now in
-    let s = shown_of pool in
+    let s = shown_of_pool pool in
     let built : is_plan_built plan ≡ true = sym c.is_plan_allowed.ensures ∙ c.if-not-is_plan_allowed.false in
     let may : MayBegin plan s = record { running = c.in_ok-check_running.ensures; no_older = c.in_ok-check_no_older.ensures; built = built } in
     let fits = sym c.is_too_large.ensures ∙ c.if-is_too_large.false in
@@ -102,7 +102,7 @@ returns-clause-refusal c =
     let owner = c.args.owner.0 in
     let plan = c.args.plan.now in
     let pool = c.args.self.now in
-    let s = shown_of pool in
+    let s = shown_of_pool pool in
     let built : is_plan_built plan ≡ true = sym c.is_plan_allowed.ensures ∙ c.if-not-is_plan_allowed.false in
     let may : MayBegin plan s = record { running = c.in_ok-check_running.ensures; no_older = c.in_ok-check_no_older.ensures; built = built } in
     let fits = sym c.is_too_large.ensures ∙ c.if-is_too_large.false in

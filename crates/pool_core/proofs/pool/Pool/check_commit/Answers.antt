@@ -5,7 +5,7 @@ use Rattle.base.specs.declared.operation.Shape.{Shape}
 use Rattle.base.specs.history.Plans.{shape_of}
 use Rattle.base.specs.steps.Refusals.{is_same_plan}
 use Rattle.object_maps.specs.Ops.{AreOpsAllowed}
-use Rattle.pool_core.specs.Shows.{admission_of, shown_of}
+use Rattle.pool_core.specs.Shows.{admission_of, shown_of_pool}
 use Rattle.pool_core.specs.declared.transactions.OpenTransaction.{OpenTransaction}
 use Rattle.pool_core.proofs.Opens.{found_built, found_open, none_open, above_last, up_to_last}
 use Rattle.pool_core.proofs.SamePlans.{allowed_ops}
@@ -17,7 +17,7 @@ returns-in_default-clause-refusal c =
     let tx = c.args.tx.0 in
     let ops = c.args.ops.now in
     let pool = c.args.self.now in
-    let s = shown_of pool in
+    let s = shown_of_pool pool in
     let none = ap (λ (l : List OpenTransaction). find (λ (o : OpenTransaction). o.tx.0 == tx) l) (sym c.deref.ensures.value) ∙ sym c.in_default.ensures in
     commit_none tx ops s c.in_ok-check_running.ensures c.in_ok-check_no_older.ensures (none_open tx pool.transactions.items none)
 
@@ -26,7 +26,7 @@ returns-then-not-is_in_plan-clause-refusal c =
     let tx = c.args.tx.0 in
     let ops = c.args.ops.now in
     let pool = c.args.self.now in
-    let s = shown_of pool in
+    let s = shown_of_pool pool in
     let t = c.in-Some.transaction.now in
     let found : find (λ (o : OpenTransaction). o.tx.0 == tx) pool.transactions.items ≡ Some t = ap (λ (l : List OpenTransaction). find (λ (o : OpenTransaction). o.tx.0 == tx) l) (sym c.deref.ensures.value) ∙ sym c.in-Some.ensures in
     let out = subst (λ (l : List Shape). c.is_in_plan.result ≡ is_same_plan (map shape_of ops) l) c.as_slice.ensures (plan_test c.is_in_plan.result (map shape_of ops) c.as_slice.result.now c.is_in_plan.ensures) in
@@ -37,7 +37,7 @@ judge-requires c =
     let tx = c.args.tx.0 in
     let ops = c.args.ops.now in
     let pool = c.args.self.now in
-    let s = shown_of pool in
+    let s = shown_of_pool pool in
     let t = c.in-Some.transaction.now in
     let found : find (λ (o : OpenTransaction). o.tx.0 == tx) pool.transactions.items ≡ Some t = ap (λ (l : List OpenTransaction). find (λ (o : OpenTransaction). o.tx.0 == tx) l) (sym c.deref.ensures.value) ∙ sym c.in-Some.ensures in
     let shapes : map shape_of ops ≡ t.plan = c.is_in_plan.ensures.0 c.if-not-is_in_plan.false ∙ c.as_slice.ensures in
@@ -49,7 +49,7 @@ returns-in_err-judge-clause-refusal c =
     let tx = c.args.tx.0 in
     let ops = c.args.ops.now in
     let pool = c.args.self.now in
-    let s = shown_of pool in
+    let s = shown_of_pool pool in
     let t = c.in-Some.transaction.now in
     let found : find (λ (o : OpenTransaction). o.tx.0 == tx) pool.transactions.items ≡ Some t = ap (λ (l : List OpenTransaction). find (λ (o : OpenTransaction). o.tx.0 == tx) l) (sym c.deref.ensures.value) ∙ sym c.in-Some.ensures in
     let shapes : map shape_of ops ≡ t.plan = c.is_in_plan.ensures.0 c.if-not-is_in_plan.false ∙ c.as_slice.ensures in
@@ -70,7 +70,7 @@ returns-then-self-gt-LAST_NUMBER-clause-refusal c =
     let tx = c.args.tx.0 in
     let ops = c.args.ops.now in
     let pool = c.args.self.now in
-    let s = shown_of pool in
+    let s = shown_of_pool pool in
     let t = c.in-Some.transaction.now in
     let found : find (λ (o : OpenTransaction). o.tx.0 == tx) pool.transactions.items ≡ Some t = ap (λ (l : List OpenTransaction). find (λ (o : OpenTransaction). o.tx.0 == tx) l) (sym c.deref.ensures.value) ∙ sym c.in-Some.ensures in
     let shapes : map shape_of ops ≡ t.plan = c.is_in_plan.ensures.0 c.if-not-is_in_plan.false ∙ c.as_slice.ensures in
@@ -91,7 +91,7 @@ returns-clause-refusal c =
     let tx = c.args.tx.0 in
     let ops = c.args.ops.now in
     let pool = c.args.self.now in
-    let s = shown_of pool in
+    let s = shown_of_pool pool in
     let t = c.in-Some.transaction.now in
     let found : find (λ (o : OpenTransaction). o.tx.0 == tx) pool.transactions.items ≡ Some t = ap (λ (l : List OpenTransaction). find (λ (o : OpenTransaction). o.tx.0 == tx) l) (sym c.deref.ensures.value) ∙ sym c.in-Some.ensures in
     let shapes : map shape_of ops ≡ t.plan = c.is_in_plan.ensures.0 c.if-not-is_in_plan.false ∙ c.as_slice.ensures in
@@ -112,7 +112,7 @@ returns-clause-allowed c =
     let tx = c.args.tx.0 in
     let ops = c.args.ops.now in
     let pool = c.args.self.now in
-    let s = shown_of pool in
+    let s = shown_of_pool pool in
     let t = c.in-Some.transaction.now in
     let found : find (λ (o : OpenTransaction). o.tx.0 == tx) pool.transactions.items ≡ Some t = ap (λ (l : List OpenTransaction). find (λ (o : OpenTransaction). o.tx.0 == tx) l) (sym c.deref.ensures.value) ∙ sym c.in-Some.ensures in
     let shapes : map shape_of ops ≡ t.plan = c.is_in_plan.ensures.0 c.if-not-is_in_plan.false ∙ c.as_slice.ensures in

@@ -14,7 +14,7 @@ use Rattle.tree_plans.specs.Changes.{AreBornBefore}
 use Rattle.tree_plans.specs.Marks.{AreMarks, pending_ops}
 use Rattle.tree_plans.specs.Plans.{new_block}
 use Rattle.pool_core.specs.GroupPlans.{IsPlannedFrom}
-use Rattle.pool_core.specs.Shows.{shown_of}
+use Rattle.pool_core.specs.Shows.{shown_of_pool}
 use Rattle.pool_core.proofs.FreeBlocks.{are_blocks}
 use Rattle.pool_core.proofs.PlannedPointers.{IfOk_both, IfOk_map, plan_placed, retold}
 use Rattle.pool_core.proofs.StartLeads.{addresses_are}
@@ -47,7 +47,7 @@ returns-clause-planned c =
     let objects : List (ObjectId × DirtyRecords) = c.in_ok-objects.objects.entries in
     let marks : AreMarks (pending_ops c.args.group.0 pool.pending.items) objects = subst (λ (l : List Committed). AreMarks (pending_ops c.args.group.0 l) objects) c.deref.ensures.value c.in_ok-objects.ensures.marks in
     IfOk_both c.plan.result (λ (p : TreePlan) told taken. retold pool.tree p.root p.directories.items p.maps
-    (λ (old new : Place → Pointer). IsPlannedFrom c.args.group.0 pool.pending.items (frame_at (shown_of pool) c.args.group.0) old new (map new_block p.blocks.items) (contents_of pool.contents).objects)
+    (λ (old new : Place → Pointer). IsPlannedFrom c.args.group.0 pool.pending.items (frame_at (shown_of_pool pool) c.args.group.0) old new (map new_block p.blocks.items) (contents_of pool.contents).objects)
     (record { objects = objects; marks = marks; planned = told.planned; order = λ in_range. addresses_are p.blocks.items ∙ taken.order in_range })) c.plan.ensures.tree c.plan.ensures.taken
 
 pub returns-clause-freed_are : goal.returns-clause-freed_are

@@ -1,12 +1,11 @@
-use Rattle.std.proofs.Common.{ℕ}
-use Rattle.base.specs.declared.names.Receipt.{Receipt}
-use Rattle.pool_core.specs.Shows.{shown_of}
+use Rattle.std.proofs.Common.{refl}
+use Rattle.pool_core.specs.Shows.{shown_of_pool}
+use Rattle.pool_core.specs.StepAnswers.{receipt_numbers}
 use Rattle.pool_core.specs.Tables.{result_map}
 use Rattle.pool_core.proofs.OfNoDevice.{commit_own, map_counts}
 use Rattle.pool_core.proofs.state.PoolState.commit.Goals as goal
 
-pub returns-clause-count : goal.returns-clause-count
-returns-clause-count g c =
-    let name : Receipt → ℕ × ℕ = λ (r : Receipt). (r.ordinal.0, r.group.0) in
-    map_counts name c.commit.result (g.D.SectorDevice.refused c.args.self.now.device)
-    (commit_own (shown_of c.args.self.now.pool) (shown_of c.commit.new.self) c.args.tx.0 c.args.ops (result_map name c.commit.result) c.commit.ensures.step)
+pub returns-clause-unmoved : goal.returns-clause-unmoved
+returns-clause-unmoved g c =
+    let own = commit_own (shown_of_pool c.args.self.now.pool) (shown_of_pool c.commit.new.self) c.args.tx.0 c.args.ops (result_map receipt_numbers c.commit.result) c.commit.ensures.step in
+    record { no_call = record { device = refl; own = map_counts receipt_numbers c.commit.result own }; kept = c.commit.ensures.kept }

@@ -1,0 +1,55 @@
+-- What contracts see of a running pool on its device.
+use Rattle.std.specs.Prelude.{ℕ, ◌≡◌, List, Result}
+use Rattle.base.specs.declared.error.PoolError.{PoolError}
+use Rattle.base.specs.declared.refused.RefusedCalls.{RefusedCalls}
+use Rattle.base.specs.disk.Calls.{counted}
+use Rattle.base.specs.disk.Disk.{bytes_of}
+use Rattle.base.specs.steps.Shown.{Shown}
+use Rattle.device_model.specs.declared.device.SectorDevice.{Ghosts}
+use Rattle.pool_core.specs.declared.pool.Pool.{Pool}
+use Rattle.pool_core.specs.declared.state.PoolState.{PoolState}
+use Rattle.pool_core.specs.Holds.{Told, told_of}
+use Rattle.pool_core.specs.Shows.{objects_of, shown_of}
+
+-- an answer that is no refusal of a device: none of its calls is counted
+abbrev pub IsOfNoDevice : {A : Type 0} → Result A PoolError → Type 0
+IsOfNoDevice answer = (calls : RefusedCalls) → counted answer calls ≡ calls
+
+-- a pool whose tree and running sync are as they were
+pub record KeepsTree (old new : Pool) : Type 0 where
+  pub geometry : new.geometry ≡ old.geometry
+  pub tree : new.tree ≡ old.tree
+  pub sync : new.sync ≡ old.sync
+
+module _ {Dev : Type 0} {G : Ghosts Dev} where
+  -- what is shown of it
+  abbrev pub shown : PoolState Dev G → Shown
+  shown state = shown_of (objects_of state.pool) state.pool
+
+  -- its device, and the calls that the device refused
+  abbrev pub device_of : PoolState Dev G → Dev
+  device_of state = state.device
+
+  abbrev pub refused_calls : PoolState Dev G → RefusedCalls
+  refused_calls state = G.refused state.device
+
+  -- what is told of it over these bytes, and over those of its device
+  abbrev pub told_over : PoolState Dev G → List ℕ → Told
+  told_over state = told_of (objects_of state.pool) state.pool
+
+  abbrev pub told : PoolState Dev G → Told
+  told state = told_over state (bytes_of (G.disk state.device).now)
+
+  -- what the device refused is counted, and nothing else
+  abbrev pub CountsRefused : {A : Type 0} → Result A PoolError → PoolState Dev G → PoolState Dev G → Type 0
+  CountsRefused answer old new = refused_calls new ≡ counted answer (refused_calls old)
+
+  -- no device call is made: the device is as it was, and the answer is no refusal of it
+  pub record MakesNoCall {A : Type 0} (answer : Result A PoolError) (old new : PoolState Dev G) : Type 0 where
+    pub device : device_of new ≡ device_of old
+    pub own : IsOfNoDevice answer
+
+  -- and the tree and the running sync are as they were
+  pub record MovesNothing {A : Type 0} (answer : Result A PoolError) (old new : PoolState Dev G) : Type 0 where
+    pub no_call : MakesNoCall answer old new
+    pub kept : KeepsTree old.pool new.pool
