@@ -16,6 +16,10 @@ use Rattle.base.proofs.disk.Put.{part-put_same}
 use Rattle.base.proofs.disk.Moments.{starts, goes_on, joins, weaker, latest, each_write, each_flush, bytes_may_be_left}
 use Rattle.base.proofs.crash.KeptViews.{fixed_wrote, tree_block_rest, config_rest, first_slot, later_slot, fixed_settled, rest_settled, between_new}
 
+-- a write within a device's size fits the bytes of each moment
+write_fits : (size place n : ℕ) (m : Moment) → length (bytes_of m) ≡ size → place + n ≤ size → place + n ≤ length (bytes_of m)
+write_fits size place n m long within = omega (arith, long, within)
+
 -- calls that are all made are begun
 pub made_of_all : (cs : List PoolCall) (disk new : Disk) → AreAllMade cs disk new → AreBegun cs disk new
 made_of_all [] disk new all = all
@@ -72,9 +76,7 @@ module _ (size t flushed : ℕ) (at : FixedLabels) (v : View) where
     slot = fixed_settled m (bytes_of m) (bytes_may_be_left m) (slot_place size at.slot (slot_of v.u.group)) v.slot rest.slot;
   }
   quiet_call (Put place content) is = λ moment done m since rest.
-      let long : length (bytes_of m) ≡ size = rest.rest.laid.firm.size_is in
-      let within : place + length content ≤ size = is.1.fits in
-      let fits : place + length content ≤ length (bytes_of m) = omega (arith, long, within) in
+      let fits = write_fits size place (length content) m rest.rest.laid.firm.size_is is.1.fits in
       record {
         rest = elim is.0 as (λ _. IsAtRest size t flushed (wrote moment place content done m) v) [
           | inl tree ↦ tree_block_rest moment place content done m fits size t flushed v tree (spares_of m place (length content) rest.config is.1) (slot_of_label m place (length content) rest.slot is.1) rest.rest
@@ -93,9 +95,7 @@ module _ (size t flushed new_flushed new_config : ℕ) (at : FixedLabels) (old n
   pub slot_call : (place : ℕ) (content : List ℕ) → IsSlotCall size flushed new_flushed new_config at old new place content
       → (moment : ℕ) (done : Bool) (m : Moment) → IsSwitching size t flushed new_flushed new_config at old new m → IsBetweenAt size t flushed new_flushed new_config at old new (wrote moment place content done m)
   slot_call place content is moment done m (inl (rest, laid)) =
-      let long : length (bytes_of m) ≡ size = rest.rest.laid.firm.size_is in
-      let within : place + length content ≤ size = is.old_spared.fits in
-      let fits : place + length content ≤ length (bytes_of m) = omega (arith, long, within) in
+      let fits = write_fits size place (length content) m rest.rest.laid.firm.size_is is.old_spared.fits in
       record {
         between = first_slot moment place content done m fits size t flushed new_flushed old new is.content_is above other_slot
             (spares_of size t flushed at old m place (length content) rest.config is.old_spared) (slot_of_label size t flushed at old m place (length content) rest.slot is.old_spared)
@@ -107,9 +107,7 @@ module _ (size t flushed new_flushed new_config : ℕ) (at : FixedLabels) (old n
         new_fixed = fixed_wrote moment place content done m fits (config_place size new_config) new.config is.new_config_spared laid.fixed;
       }
   slot_call place content is moment done m (inr b) =
-      let long : length (bytes_of m) ≡ size = b.between.old_laid.firm.size_is in
-      let within : place + length content ≤ size = is.old_spared.fits in
-      let fits : place + length content ≤ length (bytes_of m) = omega (arith, long, within) in
+      let fits = write_fits size place (length content) m b.between.old_laid.firm.size_is is.old_spared.fits in
       record {
         between = later_slot moment place content done m fits size t flushed new_flushed old new b.between is.content_is
             (spares_of size t flushed at old m place (length content) b.config is.old_spared) (slot_of_label size t flushed at old m place (length content) b.slot is.old_spared)

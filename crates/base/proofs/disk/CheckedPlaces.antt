@@ -48,17 +48,17 @@ marked bytes n is = go (number_at bytes 0 == 0) refl
 module _ (size t : ℕ) (writes : List Write) (image : List ℕ) (fair : IsFair (passes_check size) t writes image) where
   pub fair_block : (k : ℕ) → k < block_count size → IsSealed (part image (block_address k) block_size) → begins_with_mark (part image (block_address k) block_size) ≡ true
       → HandedSince t writes (block_address k) (part image (block_address k) block_size)
-  fair_block k below sealed begins_with_mark = fair (block_address k) block_size
-      (or_left _ _ (and_from _ _ (or_left (is_block_place size (block_address k)) (is_config_place size (block_address k)) (block_place size k below)) (and_from _ _ ((bytes_eq-Decides _ _).1 sealed) begins_with_mark)))
+  fair_block k below sealed mark = fair (block_address k) block_size
+      (or_left _ _ (and_from _ _ (or_left (is_block_place size (block_address k)) (is_config_place size (block_address k)) (block_place size k below)) (and_from _ _ ((bytes_eq-Decides _ _).1 sealed) mark)))
 
   pub fair_config : (label : ℕ) → label < 4 → IsSealed (part image (config_place size label) block_size) → begins_with_mark (part image (config_place size label) block_size) ≡ true
       → HandedSince t writes (config_place size label) (part image (config_place size label) block_size)
-  fair_config label labelled sealed begins_with_mark = fair (config_place size label) block_size
+  fair_config label labelled sealed mark = fair (config_place size label) block_size
       (or_left _ _ (and_from _ _ (or_right (is_block_place size (config_place size label)) (is_config_place size (config_place size label))
       (a_label (λ l. config_place size label == config_place size l) label labelled (eq-eqb (config_place size label) (config_place size label) refl)))
-      (and_from _ _ ((bytes_eq-Decides _ _).1 sealed) begins_with_mark)))
+      (and_from _ _ ((bytes_eq-Decides _ _).1 sealed) mark)))
 
   pub fair_slot : (label slot : ℕ) → label < 4 → slot < 128 → IsSealedSlot (part image (slot_place size label slot) slot_size) → begins_with_mark (part image (slot_place size label slot) slot_size) ≡ true
       → HandedSince t writes (slot_place size label slot) (part image (slot_place size label slot) slot_size)
-  fair_slot label slot labelled below sealed begins_with_mark = fair (slot_place size label slot) slot_size
-      (and_from _ _ (slot_place_of size label slot labelled below) (and_from _ _ ((bytes_eq-Decides _ _).1 sealed) begins_with_mark))
+  fair_slot label slot labelled below sealed mark = fair (slot_place size label slot) slot_size
+      (and_from _ _ (slot_place_of size label slot labelled below) (and_from _ _ ((bytes_eq-Decides _ _).1 sealed) mark))

@@ -30,20 +30,31 @@ some_label p h = elim (or_cases (p 0) (list_any p (1 ∷ 2 ∷ 3 ∷ [])) h) [
 abbrev is_slot_of : ℕ → ℕ → ℕ → Bool
 is_slot_of size place l = nat_lt (slot_at size l place) 128 && (place == slot_place size l (slot_at size l place))
 
--- what passes the test is a place that the format checks
-pub passes-checked : (size place n : ℕ) (bytes : List ℕ) → passes_check size place n bytes ≡ true → IsCheckedPlace size place n
-passes-checked size place n bytes passes =
+-- What passes the test is as long as a block, at the place of a block or a config, or as a slot, at the place of one; and it begins with its mark.
+passes-cases : (size place n : ℕ) (bytes : List ℕ) → passes_check size place n bytes ≡ true
+    → ((n ≡ block_size) × ((is_block_place size place || is_config_place size place) ≡ true) × (begins_with_mark bytes ≡ true))
+    ⊎ ((n ≡ slot_size) × (is_slot_place size place ≡ true) × (begins_with_mark bytes ≡ true))
+passes-cases size place n bytes passes =
     elim (or_cases ((n == block_size) && ((is_block_place size place || is_config_place size place) && (is_sealed bytes && begins_with_mark bytes))) ((n == slot_size) && (is_slot_place size place && (is_sealed_slot bytes && begins_with_mark bytes))) passes) [
       | inl whole ↦
           let parts = and_parts (n == block_size) ((is_block_place size place || is_config_place size place) && (is_sealed bytes && begins_with_mark bytes)) whole in
           let of = and_parts (is_block_place size place || is_config_place size place) (is_sealed bytes && begins_with_mark bytes) parts.1 in
-          inl (eqb-true n block_size parts.0, of_block (or_cases (is_block_place size place) (is_config_place size place) of.0))
+          inl (eqb-true n block_size parts.0, of.0, (and_parts (is_sealed bytes) (begins_with_mark bytes) of.1).1)
       | inr slot ↦
           let parts = and_parts (n == slot_size) (is_slot_place size place && (is_sealed_slot bytes && begins_with_mark bytes)) slot in
           let of = and_parts (is_slot_place size place) (is_sealed_slot bytes && begins_with_mark bytes) parts.1 in
-          let label = some_label (is_slot_of size place) of.0 in
+          inr (eqb-true n slot_size parts.0, of.0, (and_parts (is_sealed_slot bytes) (begins_with_mark bytes) of.1).1)
+    ]
+
+-- so it is a place that the format checks
+pub passes-checked : (size place n : ℕ) (bytes : List ℕ) → passes_check size place n bytes ≡ true → IsCheckedPlace size place n
+passes-checked size place n bytes passes =
+    elim (passes-cases size place n bytes passes) [
+      | inl whole ↦ inl (whole.0, of_block (or_cases (is_block_place size place) (is_config_place size place) whole.1))
+      | inr slot ↦
+          let label = some_label (is_slot_of size place) slot.1 in
           let at = and_parts (nat_lt (slot_at size label.0 place) 128) (place == slot_place size label.0 (slot_at size label.0 place)) label.2 in
-          inr (eqb-true n slot_size parts.0, (label.0, slot_at size label.0 place, label.1, ltb-true (slot_at size label.0 place) 128 at.0, eqb-true place (slot_place size label.0 (slot_at size label.0 place)) at.1))
+          inr (slot.0, (label.0, slot_at size label.0 place, label.1, ltb-true (slot_at size label.0 place) 128 at.0, eqb-true place (slot_place size label.0 (slot_at size label.0 place)) at.1))
     ]
   where
     of_block : (is_block_place size place ≡ true) ⊎ (is_config_place size place ≡ true) → IsBlockAddress (block_count size) place ⊎ ((label : ℕ) × (label < 4) × (place ≡ config_place size label))
@@ -56,17 +67,7 @@ passes-checked size place n bytes passes =
 
 -- and begins with a number that is not 0
 pub passes-marked : (size place n : ℕ) (bytes : List ℕ) → passes_check size place n bytes ≡ true → number_at bytes 0 ≡ 0 → ⊥
-passes-marked size place n bytes passes zeros =
-    elim (or_cases ((n == block_size) && ((is_block_place size place || is_config_place size place) && (is_sealed bytes && begins_with_mark bytes))) ((n == slot_size) && (is_slot_place size place && (is_sealed_slot bytes && begins_with_mark bytes))) passes) as (λ _. ⊥) [
-      | inl whole ↦
-          let parts = and_parts (n == block_size) ((is_block_place size place || is_config_place size place) && (is_sealed bytes && begins_with_mark bytes)) whole in
-          let of = and_parts (is_block_place size place || is_config_place size place) (is_sealed bytes && begins_with_mark bytes) parts.1 in
-          not_zero (and_parts (is_sealed bytes) (begins_with_mark bytes) of.1).1
-      | inr slot ↦
-          let parts = and_parts (n == slot_size) (is_slot_place size place && (is_sealed_slot bytes && begins_with_mark bytes)) slot in
-          let of = and_parts (is_slot_place size place) (is_sealed_slot bytes && begins_with_mark bytes) parts.1 in
-          not_zero (and_parts (is_sealed_slot bytes) (begins_with_mark bytes) of.1).1
-    ]
+passes-marked size place n bytes passes zeros = elim (passes-cases size place n bytes passes) [ inl whole ↦ not_zero whole.2 | inr slot ↦ not_zero slot.2 ]
   where
     not_zero : begins_with_mark bytes ≡ true → ⊥
     not_zero is = false≢true (ap (λ (b : Bool). not b) (sym (eq-eqb (number_at bytes 0) 0 zeros)) ∙ is)

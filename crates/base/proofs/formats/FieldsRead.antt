@@ -60,9 +60,9 @@ put-put_behind at first second bytes fits =
     ∙ ap (λ (l : List ℕ). take at bytes ++ l) (sym (append_assoc first second (drop (at + length (first ++ second)) bytes)))
 
 -- three fields, one behind the other
-parted : (at : ℕ) (a b c bytes : List ℕ) → at + length a + length b + length c ≤ length bytes
+pub put-three : (at : ℕ) (a b c bytes : List ℕ) → at + length a + length b + length c ≤ length bytes
     → put at (a ++ (b ++ c)) bytes ≡ put (at + length a + length b) c (put (at + length a) b (put at a bytes))
-parted at a b c bytes fits =
+put-three at a b c bytes fits =
     let lab = length-append a b in
     let one = put-put_behind at a b bytes (omega (arith, fits)) in
     ap (λ (l : List ℕ). put at l bytes) (sym (append_assoc a b c))
@@ -80,7 +80,7 @@ pointers_read_back at p bytes fits small low long =
     let three : List ℕ = put (at + 16) p.check two in
     let l1 : length one ≡ length bytes = length-put at (number_bytes p.address) bytes (omega (arith, la, fits)) in
     let l2 : length two ≡ length bytes = length-put (at + 8) (number_bytes p.birth) one (omega (arith, lb, l1, fits)) ∙ l1 in
-    let whole : put at (pointer_bytes p) bytes ≡ three = parted at (number_bytes p.address) (number_bytes p.birth) p.check bytes (omega (arith, la, lb, long, fits))
+    let whole : put at (pointer_bytes p) bytes ≡ three = put-three at (number_bytes p.address) (number_bytes p.birth) p.check bytes (omega (arith, la, lb, long, fits))
     ∙ ap (λ (k : ℕ). put (at + k + length (number_bytes p.birth)) p.check (put (at + k) (number_bytes p.birth) one)) la
     ∙ ap (λ (k : ℕ). put k p.check two) (omega (arith, lb)) in
     let address : number_at three at ≡ p.address = number_at-put_apart (at + 16) p.check two at (omega (arith, l2, long, fits)) (inr (omega arith))

@@ -4,11 +4,11 @@
 use Rattle.std.specs.Prelude.{ℕ, ◌≡◌, ◌≢◌, ◌≤◌, ◌<◌, ◌+◌, ◌-◌, ◌⊎◌, ⊤, List, [], ◌∷◌, ◌++◌, replicate, length, map, take, slice_get, Some}
 use Rattle.base.specs.declared.pointer.Pointer.{Pointer}
 use Rattle.base.specs.history.Contents.{Contents}
-use Rattle.base.specs.formats.Fields.{part, no_pointer, number_bytes}
+use Rattle.base.specs.formats.Fields.{part, no_pointer}
 use Rattle.base.specs.formats.Geometry.{IsGeometry, IsBlockAddress, block_size, block_count, block_address, config_place, slot_place, slot_of}
 use Rattle.base.specs.formats.Blocks.{Frame, IsBlock, sealed_block}
 use Rattle.base.specs.formats.Uberblocks.{Uberblock, IsUberblock}
-use Rattle.base.specs.formats.Labels.{IsConfigPayload}
+use Rattle.base.specs.formats.Labels.{IsConfigPayload, config_bytes}
 use Rattle.base.specs.tree.Places.{Place, IsPlace}
 use Rattle.base.specs.tree.Places.Place.{Root}
 use Rattle.base.specs.tree.PlacedTrees.{HoldsTree}
@@ -23,11 +23,8 @@ pub record IsConfigContent (content : List ℕ) (size guid group : ℕ) (name : 
   pub fields : IsConfigPayload payload size name
 
 -- a config as it is written, for a device of so many bytes
-abbrev pub config_fields : ℕ → List ℕ → List ℕ
-config_fields size name = number_bytes 1 ++ number_bytes size ++ number_bytes (length name) ++ name
-
 abbrev pub config_content : ℕ → ℕ → ℕ → List ℕ → List ℕ
-config_content size guid group name = sealed_block 1 guid group 0 (config_fields size name ++ replicate (4032 - length (config_fields size name)) 0)
+config_content size guid group name = sealed_block 1 guid group 0 (config_bytes size name ++ replicate (4032 - length (config_bytes size name)) 0)
 
 -- these bytes are a log block of this chain and number
 pub record IsLogContent (content : List ℕ) (guid chain number : ℕ) (block : LogBlock) : Type 0 where

@@ -1,7 +1,7 @@
 -- Label configs: which is chosen, and in which order the two pairs are written.
 use Rattle.std.specs.Prelude.{Option, Some, slice_get, ◌≢◌, ℕ, ◌≡◌, ◌≤◌, ◌<◌, ◌-◌, ◌⊎◌, List, [], ◌∷◌, ◌++◌, drop, replicate, length}
 use Rattle.base.specs.formats.Names.{IsName}
-use Rattle.base.specs.formats.Fields.{part, number_at}
+use Rattle.base.specs.formats.Fields.{part, number_at, number_bytes}
 use Rattle.base.specs.formats.Geometry.{block_size, config_place}
 use Rattle.base.specs.formats.Blocks.{IsBlock}
 
@@ -12,6 +12,10 @@ pub record IsConfigPayload (payload : List ℕ) (size : ℕ) (name : List ℕ) :
   pub name_length : number_at payload 16 ≡ length name
   pub is_name : IsName name
   pub rest : drop 24 payload ≡ name ++ replicate (4008 - length name) 0
+
+-- as it is written: version, size of the device, length of the name, and the name
+abbrev pub config_bytes : ℕ → List ℕ → List ℕ
+config_bytes size name = number_bytes 1 ++ number_bytes size ++ number_bytes (length name) ++ name
 
 -- the valid config of a label, of this pool and group and with this name
 pub record IsConfig (image : List ℕ) (label guid group : ℕ) (name : List ℕ) : Type 0 where
