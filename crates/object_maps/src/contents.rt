@@ -11,7 +11,7 @@ use base::{OBJECT_COUNT, ObjectId, Op, PoolError, PoolName};
 use std::alloc::{AllocError, Global};
 
 /// The place of one object: whether it is there, and its bytes. Where it is not there the bytes mean nothing: room may be taken for it before.
-#[derive(Drop)]
+#[derive(Debug, Drop)]
 pub struct Slot {
     pub present: bool,
     pub bytes: Vec<u8>,
