@@ -1,15 +1,11 @@
 -- Bytes that are written into an object, and the room that slots have.
 use Rattle.std.proofs.Common.{◌≡◌, ◌⊎◌, inl, inr, ℕ, ◌+◌, ◌-◌, ◌<◌, ◌≤◌, max, List, ◌++◌, length, take, drop, get_or, sym, ◌∙◌, arith}
-use Rattle.std.proofs.lemmas.List.{ext_get_or, get_or-append_right, get_or_append_left, get_or_past, length-take-le}
+use Rattle.std.proofs.lemmas.List.{ext_get_or, get_or-append_right, get_or_append_left, length-take-le}
 use Rattle.std.proofs.lemmas.Bool.{cases_lt}
 use Rattle.base.specs.disk.Disk.{put}
-use Rattle.base.specs.history.Contents.{resize, bytes_after_write}
-use Rattle.base.specs.declared.operation.Op.{Op}
-use Rattle.base.specs.declared.operation.Op.TheVariants.{Create, Remove, Write, SetLength, SetName}
+use Rattle.base.specs.history.Contents.{bytes_after_write}
 use Rattle.base.proofs.disk.Put.{length-put, get_or-put_other}
-use Rattle.base.proofs.history.Writes.{overwritten_below, overwritten_in, overwritten_above, length-bytes_after_write, length-resize, get_or-resize}
-use Rattle.object_maps.specs.declared.contents.Slot.{Slot}
-use Rattle.object_maps.specs.Ops.{HasRoom, RoomGrows}
+use Rattle.base.proofs.history.Writes.{overwritten_below, overwritten_in, overwritten_above, length-bytes_after_write}
 
 get_or-put_in : (place : ℕ) (content bytes : List ℕ) (k : ℕ) → place + length content ≤ length bytes → place ≤ k → k < place + length content → get_or (put place content bytes) k 0 ≡ get_or content (k - place) 0
 get_or-put_in place content bytes k fits low high =
@@ -35,19 +31,3 @@ put_is_write offset content old items long same =
     go : (k : ℕ) → (k < offset) ⊎ (offset ≤ k) → get_or (put offset content items) k 0 ≡ get_or (bytes_after_write offset content old) k 0
     go k (inl below) = get_or-put_other offset content items k fits (inl below) ∙ same k ∙ sym (overwritten_below offset content old k below)
     go k (inr low) = inner k low (cases_lt k (offset + length content))
-
--- bytes that go on with zeros read as before
-pub resized_reads : (n : ℕ) (bytes : List ℕ) (k : ℕ) → length bytes ≤ n → get_or (resize n bytes) k 0 ≡ get_or bytes k 0
-resized_reads n bytes k long = go (cases_lt k n)
-  where
-    go : (k < n) ⊎ (n ≤ k) → get_or (resize n bytes) k 0 ≡ get_or bytes k 0
-    go (inl h) = get_or-resize n bytes k h
-    go (inr h) = get_or_past (resize n bytes) k 0 (omega (arith, length-resize n bytes, h)) ∙ sym (get_or_past bytes k 0 (omega arith))
-
--- where no object has less room an operation that had its room still has it
-pub room_stays : (old new : List Slot) (op : Op) → RoomGrows old new → HasRoom old op → HasRoom new op
-room_stays old new (Create n) grows had = tt
-room_stays old new (Remove n) grows had = tt
-room_stays old new (Write n offset bytes) grows had = omega (arith, grows n.0, had)
-room_stays old new (SetLength n length) grows had = tt
-room_stays old new (SetName bytes) grows had = tt

@@ -177,24 +177,6 @@ judged_refused ops i op c e low is h =
     let whole : ops ≡ (take i ops ++ op ∷ []) ++ drop (i + 1) ops = sym (take-append-drop (i + 1) ops) ∙ ap (λ l. l ++ drop (i + 1) ops) front in
     ap (λ l. apply_all l c) whole ∙ err-append (take i ops ++ op ∷ []) (drop (i + 1) ops) c e h
 
--- an operation that takes place, and what it leaves
-pub create_applied : (id : ObjectId) (c d : Contents) → Applies (Create id) c → d ≡ with_object c id.0 (Some []) → apply (Create id) c ≡ Ok d
-create_applied id c d can is =
-    let q = reached id.0 created c can.0 can.1 in
-    let none : is_some (finite.get c.objects id.0) ≡ false = not_there (finite.get c.objects id.0) q.0 q.1 in
-    reach id.0 created c (Some []) (create_where (finite.get c.objects id.0) none) ∙ ap Ok (sym is)
-  where
-    not_there : (o p : Option (List ℕ)) → created o ≡ Ok p → is_some o ≡ false
-    not_there None p h = refl
-    not_there (Some bytes) p h = cc
-
-pub write_applied : (id : ObjectId) (offset : ℕ) (bytes : List ℕ) (c d : Contents) → Applies (Write id offset bytes) c
-    → d ≡ with_object c id.0 (option_map (bytes_after_write offset bytes) (finite.get c.objects id.0)) → apply (Write id offset bytes) c ≡ Ok d
-write_applied id offset bytes c d can is =
-    let f : List ℕ → List ℕ = bytes_after_write offset bytes in
-    let q = reached id.0 (changed f) c can.0 can.1 in
-    reach id.0 (changed f) c (option_map f (finite.get c.objects id.0)) (q.1 ∙ ap Ok (changed_gives f (finite.get c.objects id.0) q.0 q.1)) ∙ ap Ok (sym is)
-
 -- a loop that applies operations: what is left to apply, and where it ends
 pub next_applies : (ops : List Op) (i : ℕ) (op : Op) (b c : Contents) → i < length ops → op ≡ get_or ops i op → Apply ops b
     → apply_all (drop i ops) c ≡ apply_all ops b → Applies op c
@@ -202,13 +184,6 @@ next_applies ops i op b c low is can same =
     let left : drop i ops ≡ op ∷ drop (i + 1) ops = drop_more ops i op low ∙ ap (λ (x : Op). x ∷ drop (i + 1) ops) (sym is) in
     let p = parted (apply op c) (apply_all (drop (i + 1) ops)) (can.0) (ap (λ l. apply_all l c) (sym left) ∙ same ∙ can.1) in
     (p.0, p.1)
-
-pub applied_more : (ops : List Op) (i : ℕ) (op : Op) (b c d : Contents) → i < length ops → op ≡ get_or ops i op
-    → apply_all (drop i ops) c ≡ apply_all ops b → apply op c ≡ Ok d → apply_all (drop (i + 1) ops) d ≡ apply_all ops b
-applied_more ops i op b c d low is same one =
-    let left : drop i ops ≡ op ∷ drop (i + 1) ops = drop_more ops i op low ∙ ap (λ (x : Op). x ∷ drop (i + 1) ops) (sym is) in
-    let step : apply_all (op ∷ drop (i + 1) ops) c ≡ apply_all (drop (i + 1) ops) d = rw one refl in
-    sym step ∙ ap (λ l. apply_all l c) (sym left) ∙ same
 
 -- elements of bytes are bytes
 pub all_bytes : (xs : List ℕ) → ((i : ℕ) → Fits w8 (get_or xs i 0)) → list_all (λ b. nat_lt b 256) xs ≡ true

@@ -66,14 +66,6 @@ slot-set_other (t ∷ slots) zero s (suc k) ne = refl
 slot-set_other (t ∷ slots) (suc n) s zero ne = refl
 slot-set_other (t ∷ slots) (suc n) s (suc k) ne = slot-set_other slots n s k (λ e. ne (ap suc e))
 
-pub entries_start : (keeps : Bool) (image : List ℕ) (frame : Frame) (d : ℕ) (payload : List ℕ) (slots : List Slot) (maps : List ObjectMap)
-    → AreLoadedEntries keeps image frame d payload 0 slots slots maps maps
-entries_start keeps image frame d payload slots maps = record {
-  objects = λ k low. absurd (omega (arith, low));
-  entries = λ k low. absurd (omega (arith, low));
-  others = record { same_slots = λ n _. refl; same_maps = λ n _. refl };
-}
-
 -- the object of the entry that comes next is not there yet
 next_empty : (keeps : Bool) (image : List ℕ) (frame : Frame) (d : ℕ) (payload : List ℕ) (count : ℕ) (old_slots slots : List Slot) (old_maps maps : List ObjectMap)
     → AreLoadedEntries keeps image frame d payload count old_slots slots old_maps maps → IsEmptyAt old_slots old_maps (entry_count * d + count)
@@ -180,10 +172,6 @@ directory_loaded keeps image frame d pointer payload old_slots slots old_maps ma
   objects = all.objects;
   stands = λ k. inr (payload, opens k, all.entries);
 }
-
-pub directories_start : (keeps : Bool) (image : List ℕ) (frame : Frame) (directories : List Pointer) (slots : List Slot) (maps : List ObjectMap) → AreEmptyFrom 0 slots maps
-    → AreLoadedDirectories keeps image frame directories 0 slots maps
-directories_start keeps image frame directories slots maps empty = record { loaded = λ d low. absurd (omega (arith, low)); rest = empty }
 
 -- a directory that is not there
 pub no_directory : (keeps : Bool) (image : List ℕ) (frame : Frame) (d : ℕ) (pointer : Pointer) (slots : List Slot) (maps : List ObjectMap) → pointer ≡ no_pointer

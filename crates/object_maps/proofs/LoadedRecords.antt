@@ -103,10 +103,6 @@ carry image frame n r pointer bytes new same size (inl hole) = inl (hole.0, subs
 carry image frame n r pointer bytes new same size (inr block) =
     inr (omega (arith, size, block.0), subst (λ (l : List ℕ). OpensAt image frame (Data n r) pointer (l ++ replicate (record_size - length l) 0)) (sym same) block.1)
 
-pub records_start : (keeps : Bool) (image : List ℕ) (frame : Frame) (n : ℕ) (records : List Pointer) (bytes : List ℕ) → ((r : ℕ) → IsZeroRecord r bytes)
-    → AreLoadedRecords keeps image frame n records bytes 0
-records_start keeps image frame n records bytes zeros = record { loaded = λ r low. absurd (omega (arith, low)); rest = λ r _. zeros r }
-
 -- one record more, a hole
 pub records_skip : (keeps : Bool) (image : List ℕ) (frame : Frame) (n : ℕ) (records : List Pointer) (bytes : List ℕ) (count : ℕ)
     → AreLoadedRecords keeps image frame n records bytes count → (d : Pointer) → count < length records → get_or records count d ≡ no_pointer

@@ -121,18 +121,10 @@ all_empty slots maps absent empty = record {
 abbrev standing : {X : Type 0} → List X → ℕ → List X → List X
 standing new len items = take len (new ++ drop (length new) items)
 
--- the same tree, once its lists stand in their Vecs
-pub standing_tree : (keeps : Bool) (image : List ℕ) (frame : Frame) (root : Pointer) (directories old_directories : List Pointer) (slots old_slots : List Slot) (maps old_maps : List ObjectMap) (d s m : ℕ)
-    → length directories ≡ d → length slots ≡ s → length maps ≡ m → IsLoadedTree keeps image frame root directories slots maps
-    → IsLoadedTree keeps image frame root (standing directories d old_directories) (standing slots s old_slots) (standing maps m old_maps)
-standing_tree keeps image frame root directories old_directories slots old_slots maps old_maps d s m ld ls lm t =
-    let ed = take_at directories (drop (length directories) old_directories) d ld in
-    let es = take_at slots (drop (length slots) old_slots) s ls in
-    let em = take_at maps (drop (length maps) old_maps) m lm in
-    rw (ed, es, em) t
-
-pub length-standing : (slots old_slots : List Slot) (s : ℕ) → length slots ≡ s → length (standing slots s old_slots) ≡ s
-length-standing slots old_slots s long = ap length (take_at slots (drop (length slots) old_slots) s long) ∙ long
+-- the same tree, once its directories stand in their Vec
+pub standing_tree : (keeps : Bool) (image : List ℕ) (frame : Frame) (root : Pointer) (directories old_directories : List Pointer) (slots : List Slot) (maps : List ObjectMap) (d : ℕ)
+    → length directories ≡ d → IsLoadedTree keeps image frame root directories slots maps → IsLoadedTree keeps image frame root (standing directories d old_directories) slots maps
+standing_tree keeps image frame root directories old_directories slots maps d long t = rw (take_at directories (drop (length directories) old_directories) d long) t
 
 -- pointers to nothing
 pub no_pointers : (pointers : List Pointer) (count : ℕ) → pointers ≡ replicate count no_pointer → (d : ℕ) → pointer_of_list pointers d ≡ no_pointer

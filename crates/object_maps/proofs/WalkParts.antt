@@ -1,5 +1,5 @@
 -- Parts of the walk, one behind another.
-use Rattle.std.proofs.Common.{◌≡◌, ℕ, zero, suc, ◌+◌, ◌*◌, ◌/◌, ◌%◌, ◌<◌, ◌≤◌, List, length, replicate, get_or, refl, ap, sym, subst, ◌∙◌, arith, inl}
+use Rattle.std.proofs.Common.{◌≡◌, ℕ, zero, suc, ◌+◌, ◌*◌, ◌/◌, ◌%◌, ◌<◌, ◌≤◌, List, length, replicate, get_or, refl, ap, sym, subst, ◌∙◌, arith, inl, Result, Ok, Err, IfErr}
 use Rattle.std.proofs.lemmas.List.{get_or_default}
 use Rattle.base.specs.declared.error.PoolError.{PoolError}
 use Rattle.base.specs.declared.error.PoolError.TheVariants.{Damaged}
@@ -12,7 +12,7 @@ use Rattle.base.specs.tree.Places.Place.{Root, Directory, Indirect, Data}
 use Rattle.base.specs.tree.Tree.{OpensAt}
 use Rattle.base.specs.tree.Faults.{IsPointerForm, IsSoundAt, IsRecordPointerForm, IsFirstFault}
 use Rattle.object_maps.specs.Pointers.{pointer_of_list}
-use Rattle.object_maps.specs.Walking.{AreSound, IsFaultFrom, TellsFault, IsDataOf, AreDataOf, IsIndirectOf, IsPayloadOf, AreDirectoriesOf}
+use Rattle.object_maps.specs.Walking.{AreSound, IsFaultFrom, Walks, TellsFault, IsDataOf, AreDataOf, IsIndirectOf, IsPayloadOf, AreDirectoriesOf}
 use Rattle.object_maps.proofs.WalkOrder.{index_within, sound_none, sound_more, sound_one, fault_behind}
 use Rattle.object_maps.proofs.WalkFaults.{below_block, sound_at, formless_fault, fault_at, there, same-kind, same-address}
 
@@ -27,6 +27,11 @@ pub tells_behind : (image : List ℕ) (frame : Frame) (root : Pointer) (start mi
     → TellsFault image frame root begin e → TellsFault image frame root start e
 tells_behind image frame root start middle begin e low here sound tells = λ kind address d.
     fault_behind image frame root start middle kind address low sound (subst (λ (k : ℕ). IsFaultFrom image frame root k kind address) (sym here) (tells kind address d))
+
+-- a refusal of a walk tells its first fault
+pub told_by : {T : Type 0} (image : List ℕ) (frame : Frame) (root : Pointer) (start end : ℕ) (r : Result T PoolError) → Walks image frame root start end r → IfErr r (TellsFault image frame root start)
+told_by image frame root start end (Ok x) walks = tt
+told_by image frame root start end (Err e) walks = walks
 
 -- the pointer to a record, from those to all
 pub data_of : (image : List ℕ) (root : Pointer) (n r : ℕ) (records : List Pointer) (d : Pointer) (size long : ℕ) → AreDataOf image root n records size → size ≡ long → r < pointer_count → r < length records

@@ -7,3 +7,4 @@ pub mod SetMaps
 pub mod Loading
 pub mod Kinds
 pub mod Walking
+pub mod Loaders

@@ -1,5 +1,5 @@
 -- The soundness of parts of a tree, by the order of its walk.
-use Rattle.std.specs.Prelude.{ℕ, ◌≡◌, ◌≢◌, ◌≤◌, ◌<◌, List}
+use Rattle.std.specs.Prelude.{ℕ, ◌≡◌, ◌≢◌, ◌≤◌, ◌<◌, ◌+◌, ◌*◌, List, Result, MatchResult}
 use Rattle.base.specs.declared.error.PoolError.{PoolError}
 use Rattle.base.specs.declared.error.PoolError.TheVariants.{Damaged}
 use Rattle.base.specs.declared.pointer.Pointer.{Pointer}
@@ -29,6 +29,17 @@ pub record IsFaultFrom (image : List ℕ) (frame : Frame) (root : Pointer) (star
 -- a Damaged tells the first fault of the walk from an index on
 abbrev pub TellsFault : List ℕ → Frame → Pointer → ℕ → PoolError → Type 0
 TellsFault image frame root start e = (kind address : ℕ) → e ≡ Damaged kind address → IsFaultFrom image frame root start kind address
+
+-- an answer of a walk over the places from one index up to another: they are sound, or a Damaged tells their first fault
+abbrev pub Walks : {T : Type 0} → List ℕ → Frame → Pointer → ℕ → ℕ → Result T PoolError → Type 0
+Walks image frame root start end result = MatchResult result (λ x. AreSound image frame root start end) (λ e. TellsFault image frame root start e)
+
+-- where the walk comes to directory d, and to its objects
+abbrev pub directory_index : ℕ → ℕ
+directory_index d = 1 + 5356 * d
+
+abbrev pub objects_index : ℕ → ℕ
+objects_index d = 2 + 5356 * d
 
 -- a Damaged tells the block that a pointer names, and the image does not have it there
 abbrev pub TellsBlock : List ℕ → Frame → ℕ → ℕ → Pointer → PoolError → Type 0

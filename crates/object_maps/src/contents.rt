@@ -11,7 +11,7 @@ use base::{OBJECT_COUNT, ObjectId, Op, PoolError, PoolName};
 use std::alloc::{AllocError, Global};
 
 /// The place of one object: whether it is there, and its bytes. Where it is not there the bytes mean nothing: room may be taken for it before.
-#[derive(Drop)]
+#[derive(Debug, Drop)]
 pub struct Slot {
     pub present: bool,
     pub bytes: Vec<u8>,
@@ -27,7 +27,8 @@ pub struct Contents {
 
 /// A slot for each object number, each with no object. It is refused where there is no memory.
 pub fn empty_slots(alloc: Global) -> Result<Vec<Slot>, AllocError>
-    ensures { IfOk result (λ slots. (vec_len slots ≡ 5292) × All (λ s. s.present ≡ false) slots.items) }
+    ensures count { IfOk result (λ slots. vec_len slots ≡ 5292) }
+    ensures absent { IfOk result (λ slots. All (λ s. s.present ≡ false) slots.items) }
 {
     let mut slots = Vec::with_capacity(alloc, OBJECT_COUNT as usize)?;
     for _i in 0..OBJECT_COUNT {
@@ -101,7 +102,8 @@ impl Contents {
 
     /// The contents with this name and no objects. They are refused where there is no memory.
     pub fn new(alloc: Global, name: PoolName) -> Result<Self, AllocError>
-        ensures { IfOk result (λ c. contents_of c ≡ record { name = name; objects = finite.empty }) }
+        ensures { IfOk result (λ c.
+            contents_of c ≡ record { name = name; objects = finite.empty }) }
     {
         let slots = empty_slots(alloc)?;
         Ok(Contents { name, slots })
@@ -167,7 +169,8 @@ impl Contents {
     fn has_after(&self, before: &[Op], id: ObjectId) -> bool
         requires allowed { AreOpsAllowed before.now }
         requires before { Apply before.now (contents_of self.now) }
-        ensures { IfOk (apply_all before.now (contents_of self.now)) (λ c. result ≡ is_some (finite.get c.objects id.0)) }
+        ensures { IfOk (apply_all before.now (contents_of self.now))
+            (λ c. result ≡ is_some (finite.get c.objects id.0)) }
     {
         self.has(id) || is_created(before, id)
     }
@@ -211,7 +214,8 @@ impl Contents {
     ) -> Result<(), AllocError>
         requires number { id.0 < 5292 }
         requires end { offset + length content.now ≤ 338688 }
-        ensures room { OnOk result (offset + length content.now ≤ room_of self.new.slots.items id.0) }
+        ensures room { OnOk result
+            (offset + length content.now ≤ room_of self.new.slots.items id.0) }
         ensures bytes { list_all (λ b. nat_lt b 256) content.now ≡ true }
         ensures grows { RoomGrows self.old.slots.items self.new.slots.items }
         ensures kept { contents_of self.new ≡ contents_of self.old }
@@ -268,7 +272,9 @@ impl Contents {
         requires number { id.0 < 5292 }
         requires room { offset + length content.now ≤ room_of self.old.slots.items id.0 }
         ensures grows { RoomGrows self.old.slots.items self.new.slots.items }
-        ensures written { contents_of self.new ≡ with_object (contents_of self.old) id.0 (option_map (bytes_after_write offset content.now) (finite.get (contents_of self.old).objects id.0)) }
+        ensures written { contents_of self.new ≡ with_object (contents_of self.old) id.0
+            (option_map (bytes_after_write offset content.now)
+            (finite.get (contents_of self.old).objects id.0)) }
     {
         let slot = &mut self.slots[id.0 as usize];
         write_at(&mut slot.bytes, offset, content);

@@ -9,7 +9,7 @@ use std::alloc::{AllocError, Global};
 use std::collections::BTreeMap;
 
 /// The pointers of one object: to its indirect block, and to its records, of which none are kept where all are holes.
-#[derive(Drop)]
+#[derive(Debug, PartialEq, Eq, Drop)]
 pub struct ObjectMap {
     pub indirect: Pointer,
     pub records: Vec<Pointer>,
@@ -31,7 +31,7 @@ impl ObjectMap {
 }
 
 /// The pointers of a tree, by place.
-#[derive(Drop)]
+#[derive(Debug, PartialEq, Eq, Drop)]
 pub struct Tree {
     pub root: Pointer,
     pub directories: Vec<Pointer>,

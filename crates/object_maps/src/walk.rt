@@ -14,13 +14,15 @@ ghost use Rattle.base.specs.tree.PlacedTrees.{HoldsTree, ArePlaced};
 ghost use Rattle.checked_blocks.proofs.NamedBlocks.{IsNamed};
 ghost use Rattle.object_maps.specs.Pointers.{pointers_of, objects_of, pointer_of_list};
 ghost use Rattle.object_maps.specs.Kinds.{kind_number};
-ghost use Rattle.object_maps.specs.Loading.{Shows, IsLoadRefusal, IsLoadedRecord, AreLoadedRecords, IsZeroRecord, IsLoadedObject, AreEmptyFrom, SameBut, AreLoadedEntries, IsLoadedDirectory, AreLoadedDirectories, IsLoadedTree};
+ghost use Rattle.object_maps.specs.Loading.{IsLoadRefusal, IsLoadedRecord, AreLoadedRecords, IsZeroRecord, IsLoadedObject, IsLoadedDirectory, AreLoadedDirectories, IsLoadedTree};
 ghost use Rattle.base.specs.declared.pointer.Pointer.{Pointer};
 ghost use Rattle.base.specs.tree.Places.{walk_index_of, walk_index_of_indirect, pointer_of};
 ghost use Rattle.base.specs.tree.Places.Place.{Directory, Data};
-ghost use Rattle.object_maps.specs.Walking.{TellsBlock, TellsFault, AreSound, IsDataOf, AreDataOf, IsIndirectOf, IsPayloadOf, AreDirectoriesOf};
+ghost use Rattle.object_maps.specs.Loaders.{HasNoneFrom, IsObjectTold, KeepsOthers, LoadsEntries, OnImage, OnWalk};
+ghost use Rattle.object_maps.specs.Walking.{TellsBlock, TellsFault, Walks, IsDataOf, AreDataOf, IsIndirectOf, IsPayloadOf, AreDirectoriesOf, directory_index, objects_index};
 
 use crate::contents::{Slot, empty_slots};
+use crate::objects::Objects;
 use crate::tree::{ObjectMap, Tree, empty_maps};
 use base::{
     ENTRY_COUNT, ENTRY_SIZE, Group, MAX_LENGTH, POINTER_COUNT, POINTER_SIZE, Pointer, PoolError,
@@ -39,6 +41,13 @@ pub struct Loaded {
     pub slots: Vec<Slot>,
     pub tree: Tree,
     ghost all_slots: { vec_len slots ≡ 5292 },
+}
+
+// What a load is made with: memory, and the frame of the blocks that it reads.
+#[derive(Clone, Copy)]
+struct Loader<'a> {
+    alloc: Global,
+    frame: &'a Frame,
 }
 
 // The place of a block: its kind and its number.
@@ -74,33 +83,6 @@ fn expected(frame: &Frame, place: BlockPlace, pointer: &Pointer) -> Expected
         group: Some(Group(pointer.birth)),
         check: Some(pointer.check),
     }
-}
-
-// Reads the block that a pointer names into the buffer. Refused Damaged where it is none of this place.
-fn read_block<D: SectorDevice>(
-    device: &mut D,
-    frame: &Frame,
-    place: BlockPlace,
-    pointer: &Pointer,
-    buffer: &mut [u8; 4096],
-) -> Result<(), PoolError>
-    requires fits { block_address frame.now.blocks ≤ D.size device.old }
-    ensures size { D.size device.new ≡ D.size device.old }
-    ensures disk { IsTrue D.keeps_model → D.disk device.new ≡ D.disk device.old }
-    ensures count { D.refused device.new ≡ counted result (D.refused device.old) }
-    ensures cause { IfErr result IsLoadRefusal }
-    ensures placed { OnOk result (IsBlockAddress (frame.now.blocks) pointer.now.address) }
-    ensures opens { (image : List ℕ) → Shows D.keeps_model (D.disk device.old) image → OnOk result (IsTrue D.keeps_model
-        → Opens image frame.now (kind_number place.kind) place.number pointer.now (drop 64 buffer.new)) }
-    ensures refused { IsTrue D.keeps_model → (image : List ℕ) → bytes_of (D.disk device.old).now ≡ image → IfErr result
-        (TellsBlock image frame.now (kind_number place.kind) place.number pointer.now) }
-{
-    if !frame.is_block_address(pointer.address) || pointer.birth > frame.group().0 {
-        return Err(damaged(place.kind, pointer));
-    }
-    device.read(pointer.address, &mut buffer[..])?;
-    open(buffer, &expected(frame, place, pointer))?;
-    Ok(())
 }
 
 // Whether a pointer names a block or is all zeros.
@@ -193,7 +175,8 @@ fn is_record_pointer(pointer: &Pointer, index: usize, size: usize) -> bool
 
 fn are_records(payload: &[u8], size: usize) -> bool
     requires { length payload.now ≡ 4032 }
-    ensures { IsTrue result ↔ ((r : ℕ) → r < 84 → IsRecordPointerForm size r (pointer_in payload.now r)) }
+    ensures { IsTrue result ↔ ((r : ℕ) → r < 84
+        → IsRecordPointerForm size r (pointer_in payload.now r)) }
 {
     for index in 0..POINTER_COUNT {
         let pointer = read_pointer(payload, POINTER_SIZE * index);
@@ -243,348 +226,366 @@ pub fn load<D: SectorDevice>(
         (λ bytes. (n < object_count) × (length bytes ≤ max_length))) }
 
     // It is the one that the image holds.
-    ensures held { IsTrue D.keeps_model → IfOk result (λ l. HoldsTree (bytes_of (D.disk device.old).now)
+    ensures held { IsTrue D.keeps_model → IfOk result (λ l.
+        HoldsTree (bytes_of (D.disk device.old).now)
         frame.now (pointers_of l.tree) (objects_of l.slots.items)) }
 
     // And the block that is told damaged is the first fault of the walk.
-    ensures fault { IsTrue D.keeps_model → IfErr result (λ e. (kind address : ℕ) → e ≡ PoolError.Damaged kind address
+    ensures fault { IsTrue D.keeps_model → IfErr result (λ e.
+        (kind address : ℕ) → e ≡ PoolError.Damaged kind address
         → IsFirstFault (bytes_of (D.disk device.old).now) frame.now root kind address) }
 {
-    let mut slots = empty_slots(alloc)?;
-    let mut maps = empty_maps(alloc)?;
+    let loader = Loader { alloc, frame };
+    let slots = empty_slots(alloc)?;
+    let maps = empty_maps(alloc)?;
     let mut directories = vec![in alloc; Pointer::NONE; POINTER_COUNT]?;
-    load_tree(
-        alloc,
-        device,
-        frame,
-        &root,
-        &mut directories,
-        &mut slots,
-        &mut maps,
-    )?;
+    let mut objects = Objects { slots, maps };
+    loader.load_tree(device, &root, &mut directories, &mut objects)?;
     Ok(Loaded {
-        slots,
+        slots: objects.slots,
         tree: Tree {
             root,
             directories,
-            maps,
+            maps: objects.maps,
         },
     })
 }
 
-// Loads a tree into slots and pointers of which none is there.
-fn load_tree<D: SectorDevice>(
-    alloc: Global,
-    device: &mut D,
-    frame: &Frame,
-    root: &Pointer,
-    directories: &mut [Pointer],
-    slots: &mut [Slot],
-    maps: &mut [ObjectMap],
-) -> Result<(), PoolError>
-    requires fits { block_address frame.now.blocks ≤ D.size device.old }
-    requires directories { length directories.old ≡ 84 }
-    requires no_directories { (d : ℕ) → pointer_of_list directories.old d ≡ no_pointer }
-    requires slots { length slots.old ≡ 5292 }
-    requires maps { length maps.old ≡ 5292 }
-    requires empty { AreEmptyFrom 0 slots.old maps.old }
-    ensures size { D.size device.new ≡ D.size device.old }
-    ensures disk { IsTrue D.keeps_model → D.disk device.new ≡ D.disk device.old }
-    ensures count { D.refused device.new ≡ counted result (D.refused device.old) }
-    ensures cause { IfErr result IsLoadRefusal }
-    ensures loaded { (image : List ℕ) → Shows D.keeps_model (D.disk device.old) image → OnOk result
-        (IsLoadedTree D.keeps_model image frame.now root.now directories.new slots.new maps.new) }
-    ensures fault { IsTrue D.keeps_model → (image : List ℕ) → bytes_of (D.disk device.old).now ≡ image
-        → IfErr result (TellsFault image frame.now root.now 0) }
-{
-    if root.is_none() {
-        return Ok(());
-    }
-    if root.address == 0 {
-        return Err(damaged(Kind::Root, root));
-    }
-    let mut buffer = new_buffer();
-    let place = BlockPlace {
-        kind: Kind::Root,
-        number: 0,
-    };
-    read_block(device, frame, place, root, &mut buffer)?;
-    let payload = payload_of(&buffer);
-    if !have_form(payload) {
-        return Err(damaged(Kind::Root, root));
-    }
-    read_pointers(payload, directories);
-    load_directories(alloc, device, frame, directories, slots, maps)
-}
-
-// Loads the directories that these pointers name.
-fn load_directories<D: SectorDevice>(
-    alloc: Global,
-    device: &mut D,
-    frame: &Frame,
-    directories: &[Pointer],
-    slots: &mut [Slot],
-    maps: &mut [ObjectMap],
-) -> Result<(), PoolError>
-    requires fits { block_address frame.now.blocks ≤ D.size device.old }
-    requires directories { length directories.now ≡ 84 }
-    requires slots { length slots.old ≡ 5292 }
-    requires maps { length maps.old ≡ 5292 }
-    requires empty { AreEmptyFrom 0 slots.old maps.old }
-    ensures size { D.size device.new ≡ D.size device.old }
-    ensures disk { IsTrue D.keeps_model → D.disk device.new ≡ D.disk device.old }
-    ensures count { D.refused device.new ≡ counted result (D.refused device.old) }
-    ensures cause { IfErr result IsLoadRefusal }
-    ensures loaded { (image : List ℕ) → Shows D.keeps_model (D.disk device.old) image → OnOk result
-        (AreLoadedDirectories D.keeps_model image frame.now directories.now 84 slots.new maps.new) }
-    ensures sound { IsTrue D.keeps_model → (image : List ℕ) (top : Pointer) → bytes_of (D.disk device.old).now ≡ image
-        → AreDirectoriesOf image top directories.now → OnOk result (AreSound image frame.now top (1) (1 + 5356 * 84)) }
-    ensures fault { IsTrue D.keeps_model → (image : List ℕ) (top : Pointer) → bytes_of (D.disk device.old).now ≡ image
-        → AreDirectoriesOf image top directories.now → IfErr result (TellsFault image frame.now top (1)) }
-{
-    for index in 0..POINTER_COUNT {
-        let pointer = directories[index];
-        if pointer.is_none() {
-            continue;
+impl Loader<'_> {
+    // Reads the block that a pointer names into the buffer. Refused Damaged where it is none of this place.
+    fn read_block<D: SectorDevice>(
+        &self,
+        device: &mut D,
+        place: BlockPlace,
+        pointer: &Pointer,
+        buffer: &mut [u8; 4096],
+    ) -> Result<(), PoolError>
+        requires fits { block_address self.now.frame.now.blocks ≤ D.size device.old }
+        ensures size { D.size device.new ≡ D.size device.old }
+        ensures disk { IsTrue D.keeps_model → D.disk device.new ≡ D.disk device.old }
+        ensures count { D.refused device.new ≡ counted result (D.refused device.old) }
+        ensures cause { IfErr result IsLoadRefusal }
+        ensures placed { OnOk result
+            (IsBlockAddress self.now.frame.now.blocks pointer.now.address) }
+        ensures opens { OnImage D.keeps_model (D.disk device.old) (λ image. OnOk result
+            (IsTrue D.keeps_model → Opens image self.now.frame.now
+            (kind_number place.kind) place.number pointer.now (drop 64 buffer.new))) }
+        ensures refused { IsTrue D.keeps_model → (image : List ℕ)
+            → bytes_of (D.disk device.old).now ≡ image → IfErr result (TellsBlock image
+            self.now.frame.now (kind_number place.kind) place.number pointer.now) }
+    {
+        if !self.frame.is_block_address(pointer.address) || pointer.birth > self.frame.group().0 {
+            return Err(damaged(place.kind, pointer));
         }
-        load_directory(alloc, device, frame, index, &pointer, slots, maps)?;
+        device.read(pointer.address, &mut buffer[..])?;
+        open(buffer, &expected(self.frame, place, pointer))?;
+        Ok(())
     }
-    Ok(())
-}
 
-fn load_directory<D: SectorDevice>(
-    alloc: Global,
-    device: &mut D,
-    frame: &Frame,
-    directory: usize,
-    pointer: &Pointer,
-    slots: &mut [Slot],
-    maps: &mut [ObjectMap],
-) -> Result<(), PoolError>
-    requires fits { block_address frame.now.blocks ≤ D.size device.old }
-    requires in_range { directory < 84 }
-    requires slots { length slots.old ≡ 5292 }
-    requires maps { length maps.old ≡ 5292 }
-    requires empty { AreEmptyFrom (63 * directory) slots.old maps.old }
-    ensures size { D.size device.new ≡ D.size device.old }
-    ensures disk { IsTrue D.keeps_model → D.disk device.new ≡ D.disk device.old }
-    ensures count { D.refused device.new ≡ counted result (D.refused device.old) }
-    ensures cause { IfErr result IsLoadRefusal }
-    ensures loaded { (image : List ℕ) → Shows D.keeps_model (D.disk device.old) image → OnOk result
-        (IsLoadedDirectory D.keeps_model image frame.now directory pointer.now slots.new maps.new) }
-    ensures others { OnOk result (SameBut (63 * directory) 63 slots.old slots.new maps.old maps.new) }
-    ensures sound { IsTrue D.keeps_model → (image : List ℕ) (top : Pointer) → bytes_of (D.disk device.old).now ≡ image
-        → pointer_of image top (Directory directory) ≡ pointer.now → pointer.now ≢ no_pointer → OnOk result (AreSound image frame.now top (1 + 5356 * directory) (1 + 5356 * (directory + 1))) }
-    ensures fault { IsTrue D.keeps_model → (image : List ℕ) (top : Pointer) → bytes_of (D.disk device.old).now ≡ image
-        → pointer_of image top (Directory directory) ≡ pointer.now → pointer.now ≢ no_pointer → IfErr result (TellsFault image frame.now top (1 + 5356 * directory)) }
-{
-    let mut buffer = new_buffer();
-    let place = BlockPlace {
-        kind: Kind::Directory,
-        number: directory as u64,
-    };
-    read_block(device, frame, place, pointer, &mut buffer)?;
-    let payload = payload_of(&buffer);
-    if !are_entries(payload) {
-        return Err(damaged(Kind::Directory, pointer));
-    }
-    load_entries(alloc, device, frame, directory, payload, slots, maps)
-}
-
-// Loads the objects that the entries of a directory name.
-fn load_entries<D: SectorDevice>(
-    alloc: Global,
-    device: &mut D,
-    frame: &Frame,
-    directory: usize,
-    payload: &[u8],
-    slots: &mut [Slot],
-    maps: &mut [ObjectMap],
-) -> Result<(), PoolError>
-    requires fits { block_address frame.now.blocks ≤ D.size device.old }
-    requires in_range { directory < 84 }
-    requires payload { length payload.now ≡ 4032 }
-    requires entries { (k : ℕ) → k < 63 → IsEntryForm (entry_in payload.now k) }
-    requires slots { length slots.old ≡ 5292 }
-    requires maps { length maps.old ≡ 5292 }
-    requires empty { AreEmptyFrom (63 * directory) slots.old maps.old }
-    ensures size { D.size device.new ≡ D.size device.old }
-    ensures disk { IsTrue D.keeps_model → D.disk device.new ≡ D.disk device.old }
-    ensures count { D.refused device.new ≡ counted result (D.refused device.old) }
-    ensures cause { IfErr result IsLoadRefusal }
-    ensures loaded { (image : List ℕ) → Shows D.keeps_model (D.disk device.old) image → OnOk result
-        (AreLoadedEntries D.keeps_model image frame.now directory payload.now 63 slots.old slots.new maps.old maps.new) }
-    ensures sound { IsTrue D.keeps_model → (image : List ℕ) (top : Pointer) → bytes_of (D.disk device.old).now ≡ image
-        → IsPayloadOf image frame.now top directory payload.now → OnOk result (AreSound image frame.now top (2 + 5356 * directory) (1 + 5356 * (directory + 1))) }
-    ensures fault { IsTrue D.keeps_model → (image : List ℕ) (top : Pointer) → bytes_of (D.disk device.old).now ≡ image
-        → IsPayloadOf image frame.now top directory payload.now → IfErr result (TellsFault image frame.now top (2 + 5356 * directory)) }
-{
-    for index in 0..ENTRY_COUNT {
-        let entry = read_entry(payload, index);
-        if entry.present != 1 {
-            continue;
+    // Loads a tree into slots and pointers of which none is there.
+    fn load_tree<D: SectorDevice>(
+        &self,
+        device: &mut D,
+        root: &Pointer,
+        directories: &mut [Pointer],
+        objects: &mut Objects,
+    ) -> Result<(), PoolError>
+        requires fits { block_address self.now.frame.now.blocks ≤ D.size device.old }
+        requires directories { length directories.old ≡ 84 }
+        requires no_directories { (d : ℕ) → pointer_of_list directories.old d ≡ no_pointer }
+        requires empty { HasNoneFrom 0 objects.old }
+        ensures size { D.size device.new ≡ D.size device.old }
+        ensures disk { IsTrue D.keeps_model → D.disk device.new ≡ D.disk device.old }
+        ensures count { D.refused device.new ≡ counted result (D.refused device.old) }
+        ensures cause { IfErr result IsLoadRefusal }
+        ensures loaded { OnImage D.keeps_model (D.disk device.old) (λ image. OnOk result
+            (IsLoadedTree D.keeps_model image self.now.frame.now
+            root.now directories.new objects.new.slots.items objects.new.maps.items)) }
+        ensures fault { IsTrue D.keeps_model → (image : List ℕ)
+            → bytes_of (D.disk device.old).now ≡ image
+            → IfErr result (TellsFault image self.now.frame.now root.now 0) }
+    {
+        if root.is_none() {
+            return Ok(());
         }
-        let number = ENTRY_COUNT * directory + index;
-        let (slot, map) = load_object(alloc, device, frame, number, &entry)?;
-        slots[number] = slot;
-        maps[number] = map;
-    }
-    Ok(())
-}
-
-fn load_object<D: SectorDevice>(
-    alloc: Global,
-    device: &mut D,
-    frame: &Frame,
-    number: usize,
-    entry: &Entry,
-) -> Result<(Slot, ObjectMap), PoolError>
-    requires fits { block_address frame.now.blocks ≤ D.size device.old }
-    requires in_range { number < 5292 }
-    requires length { entry.now.length ≤ 338688 }
-    ensures size { D.size device.new ≡ D.size device.old }
-    ensures disk { IsTrue D.keeps_model → D.disk device.new ≡ D.disk device.old }
-    ensures count { D.refused device.new ≡ counted result (D.refused device.old) }
-    ensures cause { IfErr result IsLoadRefusal }
-    ensures present { IfOk result (λ o. o.0.present ≡ true) }
-    ensures length { IfOk result (λ o. length o.0.bytes.items ≡ entry.now.length) }
-    ensures indirect { IfOk result (λ o. o.1.indirect ≡ entry.now.pointer) }
-    ensures loaded { (image : List ℕ) → Shows D.keeps_model (D.disk device.old) image → IfOk result
-        (λ o. IsLoadedObject D.keeps_model image frame.now number (Some o.0.bytes.items) o.1.indirect o.1.records.items) }
-    ensures sound { IsTrue D.keeps_model → (image : List ℕ) (top : Pointer) → bytes_of (D.disk device.old).now ≡ image
-        → IsIndirectOf image top number entry.now.pointer entry.now.length → OnOk result (AreSound image frame.now top (walk_index_of_indirect number) (walk_index_of_indirect number + 85)) }
-    ensures fault { IsTrue D.keeps_model → (image : List ℕ) (top : Pointer) → bytes_of (D.disk device.old).now ≡ image
-        → IsIndirectOf image top number entry.now.pointer entry.now.length → IfErr result (TellsFault image frame.now top (walk_index_of_indirect number)) }
-{
-    let mut bytes = vec![in alloc; 0u8; entry.length as usize]?;
-    let records = load_bytes(alloc, device, frame, number, &entry.pointer, &mut bytes)?;
-    let slot = Slot {
-        present: true,
-        bytes,
-    };
-    let map = ObjectMap {
-        indirect: entry.pointer,
-        records,
-    };
-    Ok((slot, map))
-}
-
-// Loads the bytes of an object over zeros. The pointers to its records come back.
-fn load_bytes<D: SectorDevice>(
-    alloc: Global,
-    device: &mut D,
-    frame: &Frame,
-    number: usize,
-    indirect: &Pointer,
-    bytes: &mut [u8],
-) -> Result<Vec<Pointer>, PoolError>
-    requires fits { block_address frame.now.blocks ≤ D.size device.old }
-    requires in_range { number < 5292 }
-    requires bound { length bytes.old ≤ 338688 }
-    requires zeros { bytes.old ≡ replicate (length bytes.old) 0 }
-    ensures size { D.size device.new ≡ D.size device.old }
-    ensures disk { IsTrue D.keeps_model → D.disk device.new ≡ D.disk device.old }
-    ensures count { D.refused device.new ≡ counted result (D.refused device.old) }
-    ensures cause { IfErr result IsLoadRefusal }
-    ensures loaded { (image : List ℕ) → Shows D.keeps_model (D.disk device.old) image → IfOk result
-        (λ records. IsLoadedObject D.keeps_model image frame.now number (Some bytes.new) indirect.now records.items) }
-    ensures sound { IsTrue D.keeps_model → (image : List ℕ) (top : Pointer) → bytes_of (D.disk device.old).now ≡ image
-        → IsIndirectOf image top number indirect.now (length bytes.old) → OnOk result (AreSound image frame.now top (walk_index_of_indirect number) (walk_index_of_indirect number + 85)) }
-    ensures fault { IsTrue D.keeps_model → (image : List ℕ) (top : Pointer) → bytes_of (D.disk device.old).now ≡ image
-        → IsIndirectOf image top number indirect.now (length bytes.old) → IfErr result (TellsFault image frame.now top (walk_index_of_indirect number)) }
-{
-    if indirect.is_none() {
-        return Ok(Vec::new(alloc));
-    }
-    let mut records = vec![in alloc; Pointer::NONE; POINTER_COUNT]?;
-    let mut buffer = new_buffer();
-    let place = BlockPlace {
-        kind: Kind::Indirect,
-        number: number as u64,
-    };
-    read_block(device, frame, place, indirect, &mut buffer)?;
-    let payload = payload_of(&buffer);
-    if !are_records(payload, bytes.len()) {
-        return Err(damaged(Kind::Indirect, indirect));
-    }
-    read_pointers(payload, &mut records);
-    load_records(device, frame, number, &records, bytes)?;
-    Ok(records)
-}
-
-// Loads the records that these pointers name over zeros.
-fn load_records<D: SectorDevice>(
-    device: &mut D,
-    frame: &Frame,
-    number: usize,
-    records: &[Pointer],
-    bytes: &mut [u8],
-) -> Result<(), PoolError>
-    requires fits { block_address frame.now.blocks ≤ D.size device.old }
-    requires in_range { number < 5292 }
-    requires count { length records.now ≡ 84 }
-    requires forms { (r : ℕ) → r < 84 → IsRecordPointerForm (length bytes.old) r (pointer_of_list records.now r) }
-    requires zeros { (r : ℕ) → IsZeroRecord r bytes.old }
-    ensures size { D.size device.new ≡ D.size device.old }
-    ensures disk { IsTrue D.keeps_model → D.disk device.new ≡ D.disk device.old }
-    ensures count { D.refused device.new ≡ counted result (D.refused device.old) }
-    ensures cause { IfErr result IsLoadRefusal }
-    ensures loaded { (image : List ℕ) → Shows D.keeps_model (D.disk device.old) image → OnOk result
-        (AreLoadedRecords D.keeps_model image frame.now number records.now bytes.new 84) }
-    ensures sound { IsTrue D.keeps_model → (image : List ℕ) (top : Pointer) → bytes_of (D.disk device.old).now ≡ image
-        → AreDataOf image top number records.now (length bytes.old) → OnOk result (AreSound image frame.now top (walk_index_of_indirect number + 1) (walk_index_of_indirect number + 85)) }
-    ensures fault { IsTrue D.keeps_model → (image : List ℕ) (top : Pointer) → bytes_of (D.disk device.old).now ≡ image
-        → AreDataOf image top number records.now (length bytes.old) → IfErr result (TellsFault image frame.now top (walk_index_of_indirect number + 1)) }
-{
-    for index in 0..POINTER_COUNT {
-        let pointer = records[index];
-        if pointer.is_none() {
-            continue;
+        if root.address == 0 {
+            return Err(damaged(Kind::Root, root));
         }
-        load_record(device, frame, number, index, &pointer, bytes)?;
+        let mut buffer = new_buffer();
+        let place = BlockPlace {
+            kind: Kind::Root,
+            number: 0,
+        };
+        self.read_block(device, place, root, &mut buffer)?;
+        let payload = payload_of(&buffer);
+        if !have_form(payload) {
+            return Err(damaged(Kind::Root, root));
+        }
+        read_pointers(payload, directories);
+        self.load_directories(device, directories, objects)
     }
-    Ok(())
-}
 
-// Loads a record into its place among the bytes of an object.
-fn load_record<D: SectorDevice>(
-    device: &mut D,
-    frame: &Frame,
-    number: usize,
-    index: usize,
-    pointer: &Pointer,
-    bytes: &mut [u8],
-) -> Result<(), PoolError>
-    requires fits { block_address frame.now.blocks ≤ D.size device.old }
-    requires number { number < 5292 }
-    requires index { index < 84 }
-    requires within { 4032 * index < length bytes.old }
-    ensures size { D.size device.new ≡ D.size device.old }
-    ensures disk { IsTrue D.keeps_model → D.disk device.new ≡ D.disk device.old }
-    ensures count { D.refused device.new ≡ counted result (D.refused device.old) }
-    ensures cause { IfErr result IsLoadRefusal }
-    ensures loaded { (image : List ℕ) → Shows D.keeps_model (D.disk device.old) image → OnOk result
-        (IsLoadedRecord D.keeps_model image frame.now number index pointer.now bytes.new) }
-    ensures others { OnOk result ((r : ℕ) → r ≢ index → record_bytes r bytes.new ≡ record_bytes r bytes.old) }
-    ensures sound { IsTrue D.keeps_model → (image : List ℕ) (top : Pointer) → bytes_of (D.disk device.old).now ≡ image
-        → IsDataOf image top number index pointer.now (length bytes.old)
-        → OnOk result (AreSound image frame.now top (walk_index_of (Data number index)) (walk_index_of (Data number index) + 1)) }
-    ensures fault { IsTrue D.keeps_model → (image : List ℕ) (top : Pointer) → bytes_of (D.disk device.old).now ≡ image
-        → IsDataOf image top number index pointer.now (length bytes.old)
-        → IfErr result (TellsFault image frame.now top (walk_index_of (Data number index))) }
-{
-    let mut buffer = new_buffer();
-    let place = BlockPlace {
-        kind: Kind::Data,
-        number: (POINTER_COUNT * number + index) as u64,
-    };
-    read_block(device, frame, place, pointer, &mut buffer)?;
-    let payload = payload_of(&buffer);
-    let at = RECORD_SIZE * index;
-    let count = (bytes.len() - at).min(RECORD_SIZE);
-    if !are_zeros(&payload[count..]) {
-        return Err(damaged(Kind::Data, pointer));
+    // Loads the directories that these pointers name.
+    fn load_directories<D: SectorDevice>(
+        &self,
+        device: &mut D,
+        directories: &[Pointer],
+        objects: &mut Objects,
+    ) -> Result<(), PoolError>
+        requires fits { block_address self.now.frame.now.blocks ≤ D.size device.old }
+        requires directories { length directories.now ≡ 84 }
+        requires empty { HasNoneFrom 0 objects.old }
+        ensures size { D.size device.new ≡ D.size device.old }
+        ensures disk { IsTrue D.keeps_model → D.disk device.new ≡ D.disk device.old }
+        ensures count { D.refused device.new ≡ counted result (D.refused device.old) }
+        ensures cause { IfErr result IsLoadRefusal }
+        ensures loaded { OnImage D.keeps_model (D.disk device.old) (λ image. OnOk result
+            (AreLoadedDirectories D.keeps_model image self.now.frame.now
+            directories.now 84 objects.new.slots.items objects.new.maps.items)) }
+        ensures walked { OnWalk D.keeps_model (D.disk device.old) (λ image top.
+            AreDirectoriesOf image top directories.now
+            → Walks image self.now.frame.now top 1 (directory_index 84) result) }
+    {
+        for index in 0..POINTER_COUNT {
+            let pointer = directories[index];
+            if pointer.is_none() {
+                continue;
+            }
+            self.load_directory(device, index, &pointer, objects)?;
+        }
+        Ok(())
     }
-    write_bytes(bytes, at, &payload[..count]);
-    Ok(())
+
+    // Loads the directory of this number.
+    fn load_directory<D: SectorDevice>(
+        &self,
+        device: &mut D,
+        directory: usize,
+        pointer: &Pointer,
+        objects: &mut Objects,
+    ) -> Result<(), PoolError>
+        requires fits { block_address self.now.frame.now.blocks ≤ D.size device.old }
+        requires in_range { directory < 84 }
+        requires empty { HasNoneFrom (63 * directory) objects.old }
+        ensures size { D.size device.new ≡ D.size device.old }
+        ensures disk { IsTrue D.keeps_model → D.disk device.new ≡ D.disk device.old }
+        ensures count { D.refused device.new ≡ counted result (D.refused device.old) }
+        ensures cause { IfErr result IsLoadRefusal }
+        ensures loaded { OnImage D.keeps_model (D.disk device.old) (λ image. OnOk result
+            (IsLoadedDirectory D.keeps_model image self.now.frame.now
+            directory pointer.now objects.new.slots.items objects.new.maps.items)) }
+        ensures others { OnOk result (KeepsOthers (63 * directory) 63 objects.old objects.new) }
+        ensures walked { OnWalk D.keeps_model (D.disk device.old) (λ image top.
+            pointer_of image top (Directory directory) ≡ pointer.now → pointer.now ≢ no_pointer
+            → Walks image self.now.frame.now top
+            (directory_index directory) (directory_index (directory + 1)) result) }
+    {
+        let mut buffer = new_buffer();
+        let place = BlockPlace {
+            kind: Kind::Directory,
+            number: directory as u64,
+        };
+        self.read_block(device, place, pointer, &mut buffer)?;
+        let payload = payload_of(&buffer);
+        if !are_entries(payload) {
+            return Err(damaged(Kind::Directory, pointer));
+        }
+        self.load_entries(device, directory, payload, objects)
+    }
+
+    // Loads the objects that the entries of a directory name.
+    fn load_entries<D: SectorDevice>(
+        &self,
+        device: &mut D,
+        directory: usize,
+        payload: &[u8],
+        objects: &mut Objects,
+    ) -> Result<(), PoolError>
+        requires fits { block_address self.now.frame.now.blocks ≤ D.size device.old }
+        requires in_range { directory < 84 }
+        requires payload { length payload.now ≡ 4032 }
+        requires entries { (k : ℕ) → k < 63 → IsEntryForm (entry_in payload.now k) }
+        requires empty { HasNoneFrom (63 * directory) objects.old }
+        ensures size { D.size device.new ≡ D.size device.old }
+        ensures disk { IsTrue D.keeps_model → D.disk device.new ≡ D.disk device.old }
+        ensures count { D.refused device.new ≡ counted result (D.refused device.old) }
+        ensures cause { IfErr result IsLoadRefusal }
+        ensures loaded { OnImage D.keeps_model (D.disk device.old) (λ image. OnOk result
+            (LoadsEntries D.keeps_model image self.now.frame.now
+            directory payload.now 63 objects.old objects.new)) }
+        ensures walked { OnWalk D.keeps_model (D.disk device.old) (λ image top.
+            IsPayloadOf image self.now.frame.now top directory payload.now
+            → Walks image self.now.frame.now top
+            (objects_index directory) (directory_index (directory + 1)) result) }
+    {
+        for index in 0..ENTRY_COUNT {
+            let entry = read_entry(payload, index);
+            if entry.present != 1 {
+                continue;
+            }
+            let number = ENTRY_COUNT * directory + index;
+            let (slot, map) = self.load_object(device, number, &entry)?;
+            objects.slots[number] = slot;
+            objects.maps[number] = map;
+        }
+        Ok(())
+    }
+
+    // Loads the object that an entry names.
+    fn load_object<D: SectorDevice>(
+        &self,
+        device: &mut D,
+        number: usize,
+        entry: &Entry,
+    ) -> Result<(Slot, ObjectMap), PoolError>
+        requires fits { block_address self.now.frame.now.blocks ≤ D.size device.old }
+        requires in_range { number < 5292 }
+        requires length { entry.now.length ≤ 338688 }
+        ensures size { D.size device.new ≡ D.size device.old }
+        ensures disk { IsTrue D.keeps_model → D.disk device.new ≡ D.disk device.old }
+        ensures count { D.refused device.new ≡ counted result (D.refused device.old) }
+        ensures cause { IfErr result IsLoadRefusal }
+        ensures told { IfOk result (λ o. IsObjectTold entry.now o.0 o.1) }
+        ensures loaded { OnImage D.keeps_model (D.disk device.old) (λ image. IfOk result (λ o.
+            IsLoadedObject D.keeps_model image self.now.frame.now
+            number (Some o.0.bytes.items) o.1.indirect o.1.records.items)) }
+        ensures walked { OnWalk D.keeps_model (D.disk device.old) (λ image top.
+            IsIndirectOf image top number entry.now.pointer entry.now.length
+            → Walks image self.now.frame.now top
+            (walk_index_of_indirect number) (walk_index_of_indirect number + 85) result) }
+    {
+        let mut bytes = vec![in self.alloc; 0u8; entry.length as usize]?;
+        let records = self.load_bytes(device, number, &entry.pointer, &mut bytes)?;
+        let slot = Slot {
+            present: true,
+            bytes,
+        };
+        let map = ObjectMap {
+            indirect: entry.pointer,
+            records,
+        };
+        Ok((slot, map))
+    }
+
+    // Loads the bytes of an object over zeros. The pointers to its records come back.
+    fn load_bytes<D: SectorDevice>(
+        &self,
+        device: &mut D,
+        number: usize,
+        indirect: &Pointer,
+        bytes: &mut [u8],
+    ) -> Result<Vec<Pointer>, PoolError>
+        requires fits { block_address self.now.frame.now.blocks ≤ D.size device.old }
+        requires in_range { number < 5292 }
+        requires bound { length bytes.old ≤ 338688 }
+        requires zeros { bytes.old ≡ replicate (length bytes.old) 0 }
+        ensures size { D.size device.new ≡ D.size device.old }
+        ensures disk { IsTrue D.keeps_model → D.disk device.new ≡ D.disk device.old }
+        ensures count { D.refused device.new ≡ counted result (D.refused device.old) }
+        ensures cause { IfErr result IsLoadRefusal }
+        ensures loaded { OnImage D.keeps_model (D.disk device.old) (λ image. IfOk result (λ records.
+            IsLoadedObject D.keeps_model image self.now.frame.now
+            number (Some bytes.new) indirect.now records.items)) }
+        ensures walked { OnWalk D.keeps_model (D.disk device.old) (λ image top.
+            IsIndirectOf image top number indirect.now (length bytes.old)
+            → Walks image self.now.frame.now top
+            (walk_index_of_indirect number) (walk_index_of_indirect number + 85) result) }
+    {
+        if indirect.is_none() {
+            return Ok(Vec::new(self.alloc));
+        }
+        let mut records = vec![in self.alloc; Pointer::NONE; POINTER_COUNT]?;
+        let mut buffer = new_buffer();
+        let place = BlockPlace {
+            kind: Kind::Indirect,
+            number: number as u64,
+        };
+        self.read_block(device, place, indirect, &mut buffer)?;
+        let payload = payload_of(&buffer);
+        if !are_records(payload, bytes.len()) {
+            return Err(damaged(Kind::Indirect, indirect));
+        }
+        read_pointers(payload, &mut records);
+        self.load_records(device, number, &records, bytes)?;
+        Ok(records)
+    }
+
+    // Loads the records that these pointers name over zeros.
+    fn load_records<D: SectorDevice>(
+        &self,
+        device: &mut D,
+        number: usize,
+        records: &[Pointer],
+        bytes: &mut [u8],
+    ) -> Result<(), PoolError>
+        requires fits { block_address self.now.frame.now.blocks ≤ D.size device.old }
+        requires in_range { number < 5292 }
+        requires count { length records.now ≡ 84 }
+        requires forms { (r : ℕ) → r < 84
+            → IsRecordPointerForm (length bytes.old) r (pointer_of_list records.now r) }
+        requires zeros { (r : ℕ) → IsZeroRecord r bytes.old }
+        ensures size { D.size device.new ≡ D.size device.old }
+        ensures disk { IsTrue D.keeps_model → D.disk device.new ≡ D.disk device.old }
+        ensures count { D.refused device.new ≡ counted result (D.refused device.old) }
+        ensures cause { IfErr result IsLoadRefusal }
+        ensures loaded { OnImage D.keeps_model (D.disk device.old) (λ image. OnOk result
+            (AreLoadedRecords D.keeps_model image self.now.frame.now
+            number records.now bytes.new 84)) }
+        ensures walked { OnWalk D.keeps_model (D.disk device.old) (λ image top.
+            AreDataOf image top number records.now (length bytes.old)
+            → Walks image self.now.frame.now top
+            (walk_index_of_indirect number + 1) (walk_index_of_indirect number + 85) result) }
+    {
+        for index in 0..POINTER_COUNT {
+            let pointer = records[index];
+            if pointer.is_none() {
+                continue;
+            }
+            self.load_record(device, number, index, &pointer, bytes)?;
+        }
+        Ok(())
+    }
+
+    // Loads a record into its place among the bytes of an object.
+    fn load_record<D: SectorDevice>(
+        &self,
+        device: &mut D,
+        number: usize,
+        index: usize,
+        pointer: &Pointer,
+        bytes: &mut [u8],
+    ) -> Result<(), PoolError>
+        requires fits { block_address self.now.frame.now.blocks ≤ D.size device.old }
+        requires number { number < 5292 }
+        requires index { index < 84 }
+        requires within { 4032 * index < length bytes.old }
+        ensures size { D.size device.new ≡ D.size device.old }
+        ensures disk { IsTrue D.keeps_model → D.disk device.new ≡ D.disk device.old }
+        ensures count { D.refused device.new ≡ counted result (D.refused device.old) }
+        ensures cause { IfErr result IsLoadRefusal }
+        ensures loaded { OnImage D.keeps_model (D.disk device.old) (λ image. OnOk result
+            (IsLoadedRecord D.keeps_model image self.now.frame.now
+            number index pointer.now bytes.new)) }
+        ensures others { OnOk result ((r : ℕ) → r ≢ index
+            → record_bytes r bytes.new ≡ record_bytes r bytes.old) }
+        ensures walked { OnWalk D.keeps_model (D.disk device.old) (λ image top.
+            IsDataOf image top number index pointer.now (length bytes.old)
+            → Walks image self.now.frame.now top
+            (walk_index_of (Data number index)) (walk_index_of (Data number index) + 1) result) }
+    {
+        let mut buffer = new_buffer();
+        let place = BlockPlace {
+            kind: Kind::Data,
+            number: (POINTER_COUNT * number + index) as u64,
+        };
+        self.read_block(device, place, pointer, &mut buffer)?;
+        let payload = payload_of(&buffer);
+        let at = RECORD_SIZE * index;
+        let count = (bytes.len() - at).min(RECORD_SIZE);
+        if !are_zeros(&payload[count..]) {
+            return Err(damaged(Kind::Data, pointer));
+        }
+        write_bytes(bytes, at, &payload[..count]);
+        Ok(())
+    }
 }

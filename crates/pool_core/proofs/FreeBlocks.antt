@@ -119,6 +119,6 @@ block_passes blocks address (k, low, at) =
 
 -- the addresses that come back are those of blocks, where the pointers of the tree are placed
 pub are_blocks : (blocks : ℕ) (tree : Tree) (freed : List ℕ) → ∥ ArePlaced blocks (kept.pointers_of tree) ∥₁
-    → (ArePlaced blocks (plans.pointers_of tree) → All (λ address. IsBlockAddress blocks address) freed) → All (λ address. is_block_of blocks address ≡ true) freed
+    → (ArePlaced blocks (plans.pointers_before tree) → All (λ address. IsBlockAddress blocks address) freed) → All (λ address. is_block_of blocks address ≡ true) freed
 are_blocks blocks tree freed placed returned = λ k d low.
     ∥∥₁_elim placed (Bool-set _ _) (λ at. block_passes blocks (get_or freed k d) (returned (λ p i. subst (IsPlaced blocks) (same_tree tree p) (at p i)) k d low))

@@ -38,7 +38,7 @@ same_entry [] n = refl
 same_entry {X} (e ∷ es) n =
     ap (λ (rest : Option X). cond (is_eq (nat_cmp n e.0.0)) (Some e.1) rest) (same_entry es n) ∙ ap (λ (b : Bool). cond b (Some e.1) (entry_of es n)) (same_test n e.0.0)
 
-pub same_tree : (tree : Tree) (place : Place) → kept.pointers_of tree place ≡ plans.pointers_of tree place
+pub same_tree : (tree : Tree) (place : Place) → kept.pointers_of tree place ≡ plans.pointers_before tree place
 same_tree tree Root = refl
 same_tree tree (Directory d) = refl
 same_tree tree (Indirect n) = refl
@@ -73,12 +73,12 @@ module _ (tree : Tree) (root : Pointer) (directories : List Pointer) (maps : BTr
 
 module _ (tree : Tree) (root : Pointer) (directories : List Pointer) (maps : BTreeMap ObjectId ObjectMap) where
   -- what is told of the pointers of a plan is told of those of the pool
-  pub retold : (P : (Place → Pointer) → (Place → Pointer) → Type 0) → P (plans.pointers_of tree) (plans.pointers_from root directories (planned_map tree.maps.items maps.entries))
+  pub retold : (P : (Place → Pointer) → (Place → Pointer) → Type 0) → P (plans.pointers_before tree) (plans.pointers_from root directories (planned_map tree.maps.items maps.entries))
       → P (kept.pointers_of tree) (pointers_after root directories maps tree)
   retold P h =
-      let old : kept.pointers_of tree ≡ plans.pointers_of tree = λ k place. same_tree tree place k in
+      let old : kept.pointers_of tree ≡ plans.pointers_before tree = λ k place. same_tree tree place k in
       let new : pointers_after root directories maps tree ≡ plans.pointers_from root directories (planned_map tree.maps.items maps.entries) = λ k place. same_plan tree root directories maps place k in
-      subst (λ (f : Place → Pointer). P f (pointers_after root directories maps tree)) (sym old) (subst (λ (f : Place → Pointer). P (plans.pointers_of tree) f) (sym new) h)
+      subst (λ (f : Place → Pointer). P f (pointers_after root directories maps tree)) (sym old) (subst (λ (f : Place → Pointer). P (plans.pointers_before tree) f) (sym new) h)
 
 -- what holds of a result holds in another form
 pub IfOk_map : {A : Type 0} {P Q : A → Type 0} (r : Result A PoolError) → ((a : A) → P a → Q a) → IfOk r P → IfOk r Q
@@ -92,7 +92,7 @@ IfOk_both (Err e) f h k = tt
 
 -- where the pointers of a tree are placed, so are those of its plan
 pub plan_placed : (tree : Tree) (root : Pointer) (directories : List Pointer) (maps : BTreeMap ObjectId ObjectMap) (blocks : ℕ) → ∥ ArePlaced blocks (kept.pointers_of tree) ∥₁
-    → (ArePlaced blocks (plans.pointers_of tree) → ArePlaced blocks (plans.pointers_from root directories (planned_map tree.maps.items maps.entries)))
+    → (ArePlaced blocks (plans.pointers_before tree) → ArePlaced blocks (plans.pointers_from root directories (planned_map tree.maps.items maps.entries)))
     → ∥ ArePlaced blocks (pointers_after root directories maps tree) ∥₁
 plan_placed tree root directories maps blocks placed plan =
     ∥∥₁_map {A = ArePlaced blocks (kept.pointers_of tree)} {B = ArePlaced blocks (pointers_after root directories maps tree)} placed (λ at.

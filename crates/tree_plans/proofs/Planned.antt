@@ -24,7 +24,7 @@ use Rattle.object_maps.specs.declared.tree.ObjectMap.{ObjectMap}
 use Rattle.object_maps.specs.declared.tree.Tree.{Tree}
 use Rattle.tree_plans.specs.declared.planner.DirtyRecords.{DirtyRecords}
 use Rattle.tree_plans.specs.declared.planner.PlannedBlock.{PlannedBlock}
-use Rattle.tree_plans.specs.Pointers.{entry_of, record_in, planned_map, pointers_from, pointers_of}
+use Rattle.tree_plans.specs.Pointers.{entry_of, record_in, planned_map, pointers_from, pointers_before}
 use Rattle.tree_plans.specs.Plans.{Progress, IsRecordPlanned, Goes, HasTaken, IsAmong, IsOf, address_of, new_block}
 use Rattle.tree_plans.specs.Walks.{IsEntryWritten, IsPlannedFrom, IsOfObject, IsDirectoryPlanned, IsRootPlanned, IsWalked, is_any_touched, is_directory_touched}
 use Rattle.tree_plans.specs.Changes.{AreBornBefore, AreChanges, HasNoOthers, IsCoveredBy, is_marked}
@@ -115,10 +115,10 @@ module _ (s : Progress) (t : Tree) (after : FinMap nat_cmp (List ℕ)) (objects 
         | false ↦ λ flag. refl
       ] refl
 
-  data_kept : (n r : ℕ) → entry_of planned n ≡ None → new (Data n r) ≡ pointers_of t (Data n r)
+  data_kept : (n r : ℕ) → entry_of planned n ≡ None → new (Data n r) ≡ pointers_before t (Data n r)
   data_kept n r e = ap (data_in r) (planned_not t.maps.items planned n e)
 
-  indirect_kept : (n : ℕ) → entry_of planned n ≡ None → new (Indirect n) ≡ pointers_of t (Indirect n)
+  indirect_kept : (n : ℕ) → entry_of planned n ≡ None → new (Indirect n) ≡ pointers_before t (Indirect n)
   indirect_kept n e = ap indirect_in (planned_not t.maps.items planned n e)
 
   data_now : (n r : ℕ) (m : ObjectMap) → entry_of planned n ≡ Some m → new (Data n r) ≡ record_in m r
@@ -127,16 +127,16 @@ module _ (s : Progress) (t : Tree) (after : FinMap nat_cmp (List ℕ)) (objects 
   indirect_now : (n : ℕ) (m : ObjectMap) → entry_of planned n ≡ Some m → new (Indirect n) ≡ m.indirect
   indirect_now n m e = ap indirect_in (planned_there t.maps.items planned n m e)
 
-  data_was : (n r : ℕ) (old : ObjectMap) → slice_get t.maps.items n ≡ Some old → pointers_of t (Data n r) ≡ record_in old r
+  data_was : (n r : ℕ) (old : ObjectMap) → slice_get t.maps.items n ≡ Some old → pointers_before t (Data n r) ≡ record_in old r
   data_was n r old e = ap (data_in r) e
 
-  indirect_was : (n : ℕ) (old : ObjectMap) → slice_get t.maps.items n ≡ Some old → pointers_of t (Indirect n) ≡ old.indirect
+  indirect_was : (n : ℕ) (old : ObjectMap) → slice_get t.maps.items n ≡ Some old → pointers_before t (Indirect n) ≡ old.indirect
   indirect_was n old e = ap indirect_in e
 
   -- a record of an object that is planned
   record_planned : (before : FinMap nat_cmp (List ℕ)) → IsCoveredBy objects before after → AreChanges objects after → (n r : ℕ) (m : ObjectMap) (f : IsPlannedFrom s t.maps.items after objects n m)
       → r < 84 → entry_of planned n ≡ Some m → (b : Bool) → slice_index_or f.dirty.flags r false ≡ b → IsRecordPlanned s n r (unwrap_or (finite.get after n) []) b (record_in f.old r) (record_in m r)
-      → IsPlannedAt s.blocks s.frame (pointers_of t) new before after (Data n r)
+      → IsPlannedAt s.blocks s.frame (pointers_before t) new before after (Data n r)
   record_planned before covered changes n r m f low e true flag written =
       let marked : is_marked objects n r ≡ true = ap (λ (o : Option DirtyRecords). option_map_or (λ (dirty : DirtyRecords). slice_index_or dirty.flags r false) o false) f.dirty_is ∙ flag in
       inr (if_some (λ (bytes : List ℕ). 4032 * r < length bytes) (λ (bytes : List ℕ). (4032 * r < length bytes) × IsNewAt s.blocks s.frame (Data n r) (new (Data n r)) (padded_record r bytes)) (finite.get after n)
@@ -151,13 +151,13 @@ module _ (s : Progress) (t : Tree) (after : FinMap nat_cmp (List ℕ)) (objects 
       inl (data_now n r m e ∙ same ∙ sym (data_was n r f.old f.old_is), covered.records n r f.low low unmarked)
 
   data_planned : (before : FinMap nat_cmp (List ℕ)) → IsCoveredBy objects before after → AreChanges objects after → (n r : ℕ) → n < object_count → r < 84
-      → (o : Option ObjectMap) → entry_of planned n ≡ o → IsPlannedAt s.blocks s.frame (pointers_of t) new before after (Data n r)
+      → (o : Option ObjectMap) → entry_of planned n ≡ o → IsPlannedAt s.blocks s.frame (pointers_before t) new before after (Data n r)
   data_planned before covered changes n r low below None e = inl (data_kept n r e, covered.records n r low below (not_marked n r low e))
   data_planned before covered changes n r low below (Some m) e =
       let f = w.objects_planned.each n m e in
       record_planned before covered changes n r m f below e (slice_index_or f.dirty.flags r false) refl (f.planned.records r below)
 
-  indirect_planned : (before : FinMap nat_cmp (List ℕ)) (n : ℕ) (o : Option ObjectMap) → entry_of planned n ≡ o → IsPlannedAt s.blocks s.frame (pointers_of t) new before after (Indirect n)
+  indirect_planned : (before : FinMap nat_cmp (List ℕ)) (n : ℕ) (o : Option ObjectMap) → entry_of planned n ≡ o → IsPlannedAt s.blocks s.frame (pointers_before t) new before after (Indirect n)
   indirect_planned before n None e = inl (indirect_kept n e, λ r low. data_kept n r e)
   indirect_planned before n (Some m) e =
       let f = w.objects_planned.each n m e in
@@ -168,7 +168,7 @@ module _ (s : Progress) (t : Tree) (after : FinMap nat_cmp (List ℕ)) (objects 
       )
 
   -- an object that is not there has no indirect block after the plan either
-  no_others : AreChanges objects after → HasNoOthers (pointers_of t) after → (n : ℕ) → n < object_count → finite.get after n ≡ None → (o : Option ObjectMap) → entry_of planned n ≡ o → new (Indirect n) ≡ no_pointer
+  no_others : AreChanges objects after → HasNoOthers (pointers_before t) after → (n : ℕ) → n < object_count → finite.get after n ≡ None → (o : Option ObjectMap) → entry_of planned n ≡ o → new (Indirect n) ≡ no_pointer
   no_others changes absent n low none None e = indirect_kept n e ∙ absent n low none
   no_others changes absent n low none (Some m) e =
       let f = w.objects_planned.each n m e in
@@ -178,9 +178,9 @@ module _ (s : Progress) (t : Tree) (after : FinMap nat_cmp (List ℕ)) (objects 
   not_planned n none None e = e
   not_planned n none (Some m) e = let f = w.objects_planned.each n m e in absurd (none_some (entry_of objects n) none (ap is_some f.dirty_is))
 
-  directory_planned : (before : FinMap nat_cmp (List ℕ)) → IsCoveredBy objects before after → AreChanges objects after → HasNoOthers (pointers_of t) after → (d : ℕ) → d < 84
+  directory_planned : (before : FinMap nat_cmp (List ℕ)) → IsCoveredBy objects before after → AreChanges objects after → HasNoOthers (pointers_before t) after → (d : ℕ) → d < 84
       → (b : Bool) → is_directory_touched objects d ≡ b → IsDirectoryPlanned s t.maps.items planned after d b (slice_index_or t.directories.items d no_pointer) (slice_index_or directories d no_pointer)
-      → IsPlannedAt s.blocks s.frame (pointers_of t) new before after (Directory d)
+      → IsPlannedAt s.blocks s.frame (pointers_before t) new before after (Directory d)
   directory_planned before covered changes absent d low true e p =
       inr (
         p.0,
@@ -201,7 +201,7 @@ module _ (s : Progress) (t : Tree) (after : FinMap nat_cmp (List ℕ)) (objects 
             (indirect_kept (63 * d + k) (not_planned (63 * d + k) none (entry_of planned (63 * d + k)) refl), covered.entries (63 * d + k) there (ap is_some none)),
       )
 
-  root_planned : (before : FinMap nat_cmp (List ℕ)) → (b : Bool) → is_any_touched objects ≡ b → IsRootPlanned s directories b t.root root → IsPlannedAt s.blocks s.frame (pointers_of t) new before after Root
+  root_planned : (before : FinMap nat_cmp (List ℕ)) → (b : Bool) → is_any_touched objects ≡ b → IsRootPlanned s directories b t.root root → IsPlannedAt s.blocks s.frame (pointers_before t) new before after Root
   root_planned before true e p = inr (p.0, p.1.block, p.2)
   root_planned before false e same = inl (same, λ d low. kept d low (is_directory_touched objects d) refl (w.directories_planned d low))
     where
@@ -215,8 +215,8 @@ module _ (s : Progress) (t : Tree) (after : FinMap nat_cmp (List ℕ)) (objects 
       kept d low false is same = same
 
   -- each place is planned
-  pub tree_planned : (before : FinMap nat_cmp (List ℕ)) → IsCoveredBy objects before after → AreChanges objects after → HasNoOthers (pointers_of t) after
-      → IsTreePlan s.blocks s.frame (pointers_of t) (pointers_from root directories (planned_map t.maps.items planned)) before after
+  pub tree_planned : (before : FinMap nat_cmp (List ℕ)) → IsCoveredBy objects before after → AreChanges objects after → HasNoOthers (pointers_before t) after
+      → IsTreePlan s.blocks s.frame (pointers_before t) (pointers_from root directories (planned_map t.maps.items planned)) before after
   tree_planned before covered changes absent Root low = root_planned before (is_any_touched objects) refl w.root_planned
   tree_planned before covered changes absent (Directory d) low = directory_planned before covered changes absent d low (is_directory_touched objects d) refl (w.directories_planned d low)
   tree_planned before covered changes absent (Indirect n) low = indirect_planned before n (entry_of planned n) refl
@@ -227,14 +227,14 @@ module _ (s : Progress) (t : Tree) (after : FinMap nat_cmp (List ℕ)) (objects 
   record_placed n r bytes true old now written was = inr written.in_area
   record_placed n r bytes false old now same was = rw same was
 
-  data_placed : ArePlaced s.frame.blocks (pointers_of t) → (n r : ℕ) → n < object_count → r < 84 → (o : Option ObjectMap) → entry_of planned n ≡ o → IsPlaced s.frame.blocks (new (Data n r))
+  data_placed : ArePlaced s.frame.blocks (pointers_before t) → (n r : ℕ) → n < object_count → r < 84 → (o : Option ObjectMap) → entry_of planned n ≡ o → IsPlaced s.frame.blocks (new (Data n r))
   data_placed old n r low below None e = subst (λ (p : Pointer). IsPlaced s.frame.blocks p) (sym (data_kept n r e)) (old (Data n r) (low, below))
   data_placed old n r low below (Some m) e =
       let f = w.objects_planned.each n m e in
       let was : IsPlaced s.frame.blocks (record_in f.old r) = subst (λ (p : Pointer). IsPlaced s.frame.blocks p) (data_was n r f.old f.old_is) (old (Data n r) (low, below)) in
       subst (λ (p : Pointer). IsPlaced s.frame.blocks p) (sym (data_now n r m e)) (record_placed n r _ _ _ _ (f.planned.records r below) was)
 
-  indirect_placed : ArePlaced s.frame.blocks (pointers_of t) → (n : ℕ) → n < object_count → (o : Option ObjectMap) → entry_of planned n ≡ o → IsPlaced s.frame.blocks (new (Indirect n))
+  indirect_placed : ArePlaced s.frame.blocks (pointers_before t) → (n : ℕ) → n < object_count → (o : Option ObjectMap) → entry_of planned n ≡ o → IsPlaced s.frame.blocks (new (Indirect n))
   indirect_placed old n low None e = subst (λ (p : Pointer). IsPlaced s.frame.blocks p) (sym (indirect_kept n e)) (old (Indirect n) low)
   indirect_placed old n low (Some m) e =
       let f = w.objects_planned.each n m e in
@@ -248,7 +248,7 @@ module _ (s : Progress) (t : Tree) (after : FinMap nat_cmp (List ℕ)) (objects 
   root_placed true old now p was = inr p.1.in_area
   root_placed false old now same was = rw same was
 
-  pub tree_placed : ArePlaced s.frame.blocks (pointers_of t) → ArePlaced s.frame.blocks (pointers_from root directories (planned_map t.maps.items planned))
+  pub tree_placed : ArePlaced s.frame.blocks (pointers_before t) → ArePlaced s.frame.blocks (pointers_from root directories (planned_map t.maps.items planned))
   tree_placed old Root low = root_placed _ _ _ w.root_planned (old Root tt)
   tree_placed old (Directory d) low = directory_placed d _ _ _ (w.directories_planned d low) (old (Directory d) low)
   tree_placed old (Indirect n) low = indirect_placed old n low (entry_of planned n) refl
@@ -258,7 +258,7 @@ module _ (s : Progress) (t : Tree) (after : FinMap nat_cmp (List ℕ)) (objects 
   record IsReplaced (address : ℕ) : Type 0 where
     place : Place
     in_range : IsPlace place
-    is_of : IsOf (pointers_of t place) address
+    is_of : IsOf (pointers_before t place) address
     born : (new place).birth ≡ s.frame.group
 
   born_record : (n r : ℕ) (bytes : List ℕ) (b : Bool) (old now : Pointer) → b ≡ true → IsRecordPlanned s n r bytes b old now → now.birth ≡ s.frame.group
@@ -303,7 +303,7 @@ module _ (s : Progress) (t : Tree) (after : FinMap nat_cmp (List ℕ)) (objects 
     ]
   ]
 
-  pub freed_in_area : ArePlaced s.frame.blocks (pointers_of t) → All (λ address. IsBlockAddress s.frame.blocks address) s.freed
+  pub freed_in_area : ArePlaced s.frame.blocks (pointers_before t) → All (λ address. IsBlockAddress s.frame.blocks address) s.freed
   freed_in_area old k d low =
       let r = replaced (slice_index_or s.freed k d) (k, slice_get-get_or s.freed k d low) in
       elim (old r.place r.in_range) [ inl none ↦ absurd (r.is_of.0 none) | inr area ↦ rw (← r.is_of.1) area ]
@@ -313,7 +313,7 @@ module _ (s : Progress) (t : Tree) (after : FinMap nat_cmp (List ℕ)) (objects 
   freed_record n r bytes true old now written ne there = written.freed there
   freed_record n r bytes false old now same ne there = absurd (ne same)
 
-  freed_data : (n r : ℕ) → r < 84 → (o : Option ObjectMap) → entry_of planned n ≡ o → new (Data n r) ≢ pointers_of t (Data n r) → pointers_of t (Data n r) ≢ no_pointer → IsAmong s.freed (pointers_of t (Data n r)).address
+  freed_data : (n r : ℕ) → r < 84 → (o : Option ObjectMap) → entry_of planned n ≡ o → new (Data n r) ≢ pointers_before t (Data n r) → pointers_before t (Data n r) ≢ no_pointer → IsAmong s.freed (pointers_before t (Data n r)).address
   freed_data n r low None e ne there = absurd (ne (data_kept n r e))
   freed_data n r low (Some m) e ne there =
       let f = w.objects_planned.each n m e in
@@ -321,7 +321,7 @@ module _ (s : Progress) (t : Tree) (after : FinMap nat_cmp (List ℕ)) (objects 
       subst (λ (p : Pointer). IsAmong s.freed p.address) (sym was)
       (freed_record n r _ _ _ _ (f.planned.records r low) (λ same. ne (data_now n r m e ∙ same ∙ sym was)) (λ none. there (was ∙ none)))
 
-  freed_indirect : (n : ℕ) → (o : Option ObjectMap) → entry_of planned n ≡ o → new (Indirect n) ≢ pointers_of t (Indirect n) → pointers_of t (Indirect n) ≢ no_pointer → IsAmong s.freed (pointers_of t (Indirect n)).address
+  freed_indirect : (n : ℕ) → (o : Option ObjectMap) → entry_of planned n ≡ o → new (Indirect n) ≢ pointers_before t (Indirect n) → pointers_before t (Indirect n) ≢ no_pointer → IsAmong s.freed (pointers_before t (Indirect n)).address
   freed_indirect n None e ne there = absurd (ne (indirect_kept n e))
   freed_indirect n (Some m) e ne there =
       let f = w.objects_planned.each n m e in
@@ -336,17 +336,17 @@ module _ (s : Progress) (t : Tree) (after : FinMap nat_cmp (List ℕ)) (objects 
   freed_root true old now p ne there = p.1.freed there
   freed_root false old now same ne there = absurd (ne same)
 
-  freed_at : (place : Place) → IsPlace place → new place ≢ pointers_of t place → pointers_of t place ≢ no_pointer → IsAmong s.freed (pointers_of t place).address
+  freed_at : (place : Place) → IsPlace place → new place ≢ pointers_before t place → pointers_before t place ≢ no_pointer → IsAmong s.freed (pointers_before t place).address
   freed_at Root low ne there = freed_root _ _ _ w.root_planned ne there
   freed_at (Directory d) low ne there = freed_directory d _ _ _ (w.directories_planned d low) ne there
   freed_at (Indirect n) low ne there = freed_indirect n (entry_of planned n) refl ne there
   freed_at (Data n r) low ne there = freed_data n r low.1 (entry_of planned n) refl ne there
 
-  pub all_freed : AreBornBefore s.frame.group (pointers_of t) → AreFreed (pointers_of t) (pointers_from root directories (planned_map t.maps.items planned)) s.freed
+  pub all_freed : AreBornBefore s.frame.group (pointers_before t) → AreFreed (pointers_before t) (pointers_from root directories (planned_map t.maps.items planned)) s.freed
   all_freed older = record {
     all = freed_at;
     no_others = λ i address e. let r = replaced address (i, e) in
-        (r.place, r.in_range, (λ same. let before = older r.place r.in_range in let born : (pointers_of t r.place).birth ≡ s.frame.group = ap (λ (p : Pointer). p.birth) (sym same) ∙ r.born in omega arith), r.is_of.1, r.is_of.0);
+        (r.place, r.in_range, (λ same. let before = older r.place r.in_range in let born : (pointers_before t r.place).birth ≡ s.frame.group = ap (λ (p : Pointer). p.birth) (sym same) ∙ r.born in omega arith), r.is_of.1, r.is_of.0);
   }
 
   -- the root is written exactly where an object changes

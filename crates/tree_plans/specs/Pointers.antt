@@ -31,9 +31,9 @@ pointers_from root directories map_of (Directory d) = pointer_of_list directorie
 pointers_from root directories map_of (Indirect n) = option_map_or (λ (m : ObjectMap). m.indirect) (map_of n) no_pointer
 pointers_from root directories map_of (Data n r) = option_map_or (λ (m : ObjectMap). record_in m r) (map_of n) no_pointer
 
--- the pointers of a tree
-abbrev pub pointers_of : Tree → Place → Pointer
-pointers_of tree = pointers_from tree.root tree.directories.items (λ n. slice_get tree.maps.items n)
+-- the pointers of a tree before a plan
+abbrev pub pointers_before : Tree → Place → Pointer
+pointers_before tree = pointers_from tree.root tree.directories.items (λ n. slice_get tree.maps.items n)
 
 -- what a plan has for an object, and what the tree has where the plan has nothing
 abbrev pub planned_map : List ObjectMap → List (ObjectId × ObjectMap) → ℕ → Option ObjectMap

@@ -18,7 +18,7 @@ use Rattle.tree_plans.specs.declared.walk.PlanSource.{PlanSource}
 use Rattle.tree_plans.specs.Changes.{AreBornBefore, AreChanges, AreInRange, HasNoOthers, IsCoveredBy, written_frame, is_marked}
 use Rattle.tree_plans.specs.Parts.{objects_after}
 use Rattle.tree_plans.specs.Plans.{address_of, new_block}
-use Rattle.tree_plans.specs.Pointers.{entry_of, planned_pointers, pointers_of}
+use Rattle.tree_plans.specs.Pointers.{entry_of, planned_pointers, pointers_before}
 use Rattle.tree_plans.specs.Walks.{is_any_touched}
 
 -- the places that objects with these dirty records change, in the order of a walk
@@ -41,14 +41,14 @@ pub record TakesBlocks (source : PlanSource) (objects : BTreeMap ObjectId DirtyR
 -- changes. Each pointer is to a block of the area, where that held before, and each block of the plan is behind a pointer.
 pub record MakesTree (source : PlanSource) (objects : BTreeMap ObjectId DirtyRecords) (plan : TreePlan) : Type 0 where
   pub planned : (before : FinMap nat_cmp (List ℕ)) → IsCoveredBy objects.entries before (objects_after source) → AreChanges objects.entries (objects_after source)
-      → HasNoOthers (pointers_of source.tree.now) (objects_after source)
-      → IsTreePlan (map new_block plan.blocks.items) (written_frame source.guid source.geometry source.group.0) (pointers_of source.tree.now) (planned_pointers source.tree.now plan) before (objects_after source)
-  pub placed : ArePlaced (block_count source.geometry) (pointers_of source.tree.now) → ArePlaced (block_count source.geometry) (planned_pointers source.tree.now plan)
+      → HasNoOthers (pointers_before source.tree.now) (objects_after source)
+      → IsTreePlan (map new_block plan.blocks.items) (written_frame source.guid source.geometry source.group.0) (pointers_before source.tree.now) (planned_pointers source.tree.now plan) before (objects_after source)
+  pub placed : ArePlaced (block_count source.geometry) (pointers_before source.tree.now) → ArePlaced (block_count source.geometry) (planned_pointers source.tree.now plan)
   pub used : AreUsed (map new_block plan.blocks.items) (planned_pointers source.tree.now plan)
   pub kept_root : is_any_touched objects.entries ≡ false → plan.root ≡ source.tree.now.root
   pub new_root : is_any_touched objects.entries ≡ true → plan.root.birth ≡ source.group.0
 
 -- the blocks that come back are in the area, and are those that the plan replaces
 pub record GivesBack (source : PlanSource) (plan : TreePlan) : Type 0 where
-  pub returned : ArePlaced (block_count source.geometry) (pointers_of source.tree.now) → All (λ address. IsBlockAddress (block_count source.geometry) address) plan.freed.items
-  pub freed : AreBornBefore source.group.0 (pointers_of source.tree.now) → AreFreed (pointers_of source.tree.now) (planned_pointers source.tree.now plan) plan.freed.items
+  pub returned : ArePlaced (block_count source.geometry) (pointers_before source.tree.now) → All (λ address. IsBlockAddress (block_count source.geometry) address) plan.freed.items
+  pub freed : AreBornBefore source.group.0 (pointers_before source.tree.now) → AreFreed (pointers_before source.tree.now) (planned_pointers source.tree.now plan) plan.freed.items

@@ -1,6 +1,7 @@
-use Rattle.std.proofs.Common.{◌∙◌, ℕ, List, refl}
+use Rattle.std.proofs.Common.{◌≡◌, ◌∙◌, ℕ, List, length, refl, arith}
 use Rattle.base.specs.disk.Disk.{bytes_of}
-use Rattle.object_maps.proofs.LoadedTrees.{all_empty, no_pointers, standing_tree, length-standing, tree_placed, tree_bounded, tree_holds}
+use Rattle.object_maps.specs.declared.objects.Objects.{Objects}
+use Rattle.object_maps.proofs.LoadedTrees.{all_empty, no_pointers, standing_tree, tree_placed, tree_bounded, tree_holds}
 use Rattle.std.proofs.lemmas.Result.{err_from_is_err_and}
 use Rattle.object_maps.proofs.WalkParts.{first_fault}
 use Rattle.object_maps.proofs.walk.load.Goals as goal
@@ -11,39 +12,35 @@ load_tree-requires-clause-no_directories g c =
 
 pub load_tree-requires-clause-empty : goal.load_tree-requires-clause-empty
 load_tree-requires-clause-empty g c =
-    rw (c.deref_mut-2.ensures.value, c.deref_mut-3.ensures.value)
-    (all_empty c.in_ok-slots.slots.items c.in_ok-maps.maps.items c.in_ok-slots.ensures.1 c.in_ok-maps.ensures.empty)
+    all_empty c.in_ok-slots.slots.items c.in_ok-maps.maps.items c.in_ok-slots.ensures.absent c.in_ok-maps.ensures.empty
 
 pub returns-clause-placed : goal.returns-clause-placed
 returns-clause-placed g c =
     let image : List ℕ = bytes_of (g.D.SectorDevice.disk c.args.device.now).now in
-    let tree = standing_tree g.D.SectorDevice.keeps_model image c.args.frame.now c.args.root
-    c.load_tree.new.directories c.in_ok-directories.directories.items c.load_tree.new.slots c.in_ok-slots.slots.items c.load_tree.new.maps c.in_ok-maps.maps.items
-    c.in_ok-directories.directories.len c.in_ok-slots.slots.len c.in_ok-maps.maps.len
-    (c.load_tree.auto.directories ∙ c.deref_mut.ensures.len) (c.load_tree.auto.slots ∙ c.deref_mut-2.ensures.len) (c.load_tree.auto.maps ∙ c.deref_mut-3.ensures.len)
+    let objects : Objects = c.load_tree.new.objects in
+    let tree = standing_tree g.D.SectorDevice.keeps_model image c.args.frame.now c.args.root c.load_tree.new.directories c.in_ok-directories.directories.items
+    objects.slots.items objects.maps.items c.in_ok-directories.directories.len (c.load_tree.auto.directories ∙ c.deref_mut.ensures.len)
     (c.in_ok-load_tree.ensures.loaded image (λ keeps. refl)) in
     tree_placed g.D.SectorDevice.keeps_model image c.args.frame.now c.args.root _ _ _ tree
 
 pub returns-clause-bounded : goal.returns-clause-bounded
 returns-clause-bounded g c =
     let image : List ℕ = bytes_of (g.D.SectorDevice.disk c.args.device.now).now in
-    let tree = standing_tree g.D.SectorDevice.keeps_model image c.args.frame.now c.args.root
-    c.load_tree.new.directories c.in_ok-directories.directories.items c.load_tree.new.slots c.in_ok-slots.slots.items c.load_tree.new.maps c.in_ok-maps.maps.items
-    c.in_ok-directories.directories.len c.in_ok-slots.slots.len c.in_ok-maps.maps.len
-    (c.load_tree.auto.directories ∙ c.deref_mut.ensures.len) (c.load_tree.auto.slots ∙ c.deref_mut-2.ensures.len) (c.load_tree.auto.maps ∙ c.deref_mut-3.ensures.len)
+    let objects : Objects = c.load_tree.new.objects in
+    let tree = standing_tree g.D.SectorDevice.keeps_model image c.args.frame.now c.args.root c.load_tree.new.directories c.in_ok-directories.directories.items
+    objects.slots.items objects.maps.items c.in_ok-directories.directories.len (c.load_tree.auto.directories ∙ c.deref_mut.ensures.len)
     (c.in_ok-load_tree.ensures.loaded image (λ keeps. refl)) in
-    let long = length-standing c.load_tree.new.slots c.in_ok-slots.slots.items c.in_ok-slots.slots.len (c.load_tree.auto.slots ∙ c.deref_mut-2.ensures.len) ∙ c.in_ok-slots.ensures.0 in
+    let long : length objects.slots.items ≡ 5292 = omega (arith, objects.all_slots, objects.slots.ok.0) in
     tree_bounded g.D.SectorDevice.keeps_model image c.args.frame.now c.args.root _ _ _ long tree
 
 pub returns-clause-held : goal.returns-clause-held
 returns-clause-held g c =
     let image : List ℕ = bytes_of (g.D.SectorDevice.disk c.args.device.now).now in
-    let tree = standing_tree g.D.SectorDevice.keeps_model image c.args.frame.now c.args.root
-    c.load_tree.new.directories c.in_ok-directories.directories.items c.load_tree.new.slots c.in_ok-slots.slots.items c.load_tree.new.maps c.in_ok-maps.maps.items
-    c.in_ok-directories.directories.len c.in_ok-slots.slots.len c.in_ok-maps.maps.len
-    (c.load_tree.auto.directories ∙ c.deref_mut.ensures.len) (c.load_tree.auto.slots ∙ c.deref_mut-2.ensures.len) (c.load_tree.auto.maps ∙ c.deref_mut-3.ensures.len)
+    let objects : Objects = c.load_tree.new.objects in
+    let tree = standing_tree g.D.SectorDevice.keeps_model image c.args.frame.now c.args.root c.load_tree.new.directories c.in_ok-directories.directories.items
+    objects.slots.items objects.maps.items c.in_ok-directories.directories.len (c.load_tree.auto.directories ∙ c.deref_mut.ensures.len)
     (c.in_ok-load_tree.ensures.loaded image (λ keeps. refl)) in
-    let long = length-standing c.load_tree.new.slots c.in_ok-slots.slots.items c.in_ok-slots.slots.len (c.load_tree.auto.slots ∙ c.deref_mut-2.ensures.len) ∙ c.in_ok-slots.ensures.0 in
+    let long : length objects.slots.items ≡ 5292 = omega (arith, objects.all_slots, objects.slots.ok.0) in
     tree_holds g.D.SectorDevice.keeps_model image c.args.frame.now c.args.root _ _ _ long tree
 
 pub returns-in_err-load_tree-clause-fault : goal.returns-in_err-load_tree-clause-fault

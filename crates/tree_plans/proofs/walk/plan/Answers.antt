@@ -11,7 +11,7 @@ use Rattle.base.specs.tree.Places.{Place}
 use Rattle.tree_plans.specs.declared.planner.PlannedBlock.{PlannedBlock}
 use Rattle.tree_plans.specs.declared.planner.Planner.{Planner}
 use Rattle.tree_plans.specs.Plans.{new_block, progress_of}
-use Rattle.tree_plans.specs.Pointers.{planned_map, pointers_from, pointers_of}
+use Rattle.tree_plans.specs.Pointers.{planned_map, pointers_from, pointers_before}
 use Rattle.tree_plans.proofs.Planned.{all_freed, freed_in_area, taken_lowest, tree_placed, tree_planned}
 use Rattle.tree_plans.proofs.Uses.{all_whole}
 use Rattle.tree_plans.proofs.Order.{planned_in_order}
@@ -40,9 +40,9 @@ returns-clause-tree c =
     let new : Place → Pointer = pointers_from tree.root tree.directories.items (planned_map t.maps.items tree.maps.entries) in
     record {
       planned = λ before covered changes absent.
-          subst (λ (f : Frame). IsTreePlan s.blocks f (pointers_of t) new before after) told.goes.frame
+          subst (λ (f : Frame). IsTreePlan s.blocks f (pointers_before t) new before after) told.goes.frame
           (tree_planned s t after objects tree.maps.entries tree.directories.items tree.root told.walked before covered changes absent);
-      placed = subst (λ (f : Frame). ArePlaced f.blocks (pointers_of t) → ArePlaced f.blocks new) told.goes.frame
+      placed = subst (λ (f : Frame). ArePlaced f.blocks (pointers_before t) → ArePlaced f.blocks new) told.goes.frame
           (tree_placed s t after objects tree.maps.entries tree.directories.items tree.root told.walked);
       used = told.used;
       kept_root = λ none. rw none at told.walked.root_planned;
@@ -59,9 +59,9 @@ returns-clause-freed c =
     let told = c.in_ok-tree.ensures.planned in
     let new : Place → Pointer = pointers_from tree.root tree.directories.items (planned_map t.maps.items tree.maps.entries) in
     record {
-      returned = subst (λ (f : Frame). ArePlaced f.blocks (pointers_of t) → All (λ address. IsBlockAddress f.blocks address) s.freed) told.goes.frame
+      returned = subst (λ (f : Frame). ArePlaced f.blocks (pointers_before t) → All (λ address. IsBlockAddress f.blocks address) s.freed) told.goes.frame
           (freed_in_area s t after objects tree.maps.entries tree.directories.items tree.root told.walked);
-      freed = subst (λ (f : Frame). AreBornBefore f.group (pointers_of t) → AreFreed (pointers_of t) new s.freed) told.goes.frame
+      freed = subst (λ (f : Frame). AreBornBefore f.group (pointers_before t) → AreFreed (pointers_before t) new s.freed) told.goes.frame
           (all_freed s t after objects tree.maps.entries tree.directories.items tree.root told.walked);
     }
 

@@ -1,27 +1,26 @@
 use Rattle.std.proofs.Common.{◌+◌, ◌*◌, ◌∙◌, ℕ, List, refl, ap, sym, subst}
 use Rattle.std.specs.Prelude.{IsTrue}
-use Rattle.std.proofs.lemmas.Result.{on_ok_weaker, IfErr-weaker, err_from_is_err_and}
+use Rattle.std.proofs.lemmas.Result.{MatchResult-weaker, on_ok_weaker, err_from_is_err_and}
 use Rattle.base.specs.disk.Disk.{Disk, bytes_of}
 use Rattle.base.specs.tree.Places.Place.{Directory}
 use Rattle.base.specs.tree.Tree.{OpensAt}
 use Rattle.object_maps.proofs.LoadedBlocks.{still_shows}
 use Rattle.object_maps.proofs.LoadedEntries.{directory_loaded}
-use Rattle.object_maps.specs.Walking.{TellsFault}
 use Rattle.object_maps.proofs.WalkFaults.{sound_at, missing_fault, formless_fault}
 use Rattle.object_maps.proofs.WalkParts.{directory_sound, directory_tells}
-use Rattle.object_maps.proofs.walk.load_directory.Goals as goal
+use Rattle.object_maps.proofs.walk.Loader.load_directory.Goals as goal
 
 pub returns-clause-loaded : goal.returns-clause-loaded
 returns-clause-loaded g c = λ image shows.
     let keeps_model = g.D.SectorDevice.keeps_model in
-    let frame = c.args.frame.now in
+    let frame = c.args.self.now.frame.now in
     let read = c.in_ok-read_block.ensures in
     let same = still_shows keeps_model (g.D.SectorDevice.disk c.args.device.now) (g.D.SectorDevice.disk c.read_block.new.device) image read.disk shows in
     let opens = λ (keeps : IsTrue keeps_model). subst (λ (l : List ℕ). OpensAt image frame (Directory c.args.directory) c.args.pointer.now l) (sym c.payload_of-payload.ensures.payload)
     (read.opens image shows keeps) in
     on_ok_weaker c.load_entries.result
-    (directory_loaded keeps_model image frame c.args.directory c.args.pointer.now c.payload_of-payload.result.now c.args.slots.now c.load_entries.new.slots
-    c.args.maps.now c.load_entries.new.maps read.placed opens)
+    (directory_loaded keeps_model image frame c.args.directory c.args.pointer.now c.payload_of-payload.result.now c.args.objects.now.slots.items c.load_entries.new.objects.slots.items
+    c.args.objects.now.maps.items c.load_entries.new.objects.maps.items read.placed opens)
     (c.load_entries.ensures.loaded image same)
 
 pub returns-clause-others : goal.returns-clause-others
@@ -29,39 +28,28 @@ returns-clause-others g c =
     on_ok_weaker c.load_entries.result (λ loaded. loaded.others)
     (c.load_entries.ensures.loaded (bytes_of (g.D.SectorDevice.disk c.read_block.new.device).now) (λ keeps. refl))
 
-pub returns-in_err-read_block-clause-fault : goal.returns-in_err-read_block-clause-fault
-returns-in_err-read_block-clause-fault g c = λ keeps image top shows at named.
+pub returns-in_err-read_block-clause-walked : goal.returns-in_err-read_block-clause-walked
+returns-in_err-read_block-clause-walked g c = λ keeps image top shows at named.
     let p = err_from_is_err_and c.from_residual.result c.from_residual.ensures.1 in
-    rw (p.1, p.2) (missing_fault image c.args.frame.now top (Directory c.args.directory) (1 + 5356 * c.args.directory) c.args.pointer.now
+    rw (p.1, p.2) (missing_fault image c.args.self.now.frame.now top (Directory c.args.directory) (1 + 5356 * c.args.directory) c.args.pointer.now
     c.in_err-read_block.field-0.0 c.requires.in_range refl at named (c.in_err-read_block.ensures.refused keeps image shows))
 
-pub returns-then-not-are_entries-clause-fault : goal.returns-then-not-are_entries-clause-fault
-returns-then-not-are_entries-clause-fault g c = λ keeps image top shows at named.
-    let frame = c.args.frame.now in
+pub returns-then-not-are_entries-clause-walked : goal.returns-then-not-are_entries-clause-walked
+returns-then-not-are_entries-clause-walked g c = λ keeps image top shows at named.
+    let frame = c.args.self.now.frame.now in
     let opens = subst (λ (l : List ℕ). OpensAt image frame (Directory c.args.directory) c.args.pointer.now l) (sym c.payload_of-payload.ensures.payload)
     (c.in_ok-read_block.ensures.opens image (λ k. shows) keeps) in
     formless_fault image frame top (Directory c.args.directory) (1 + 5356 * c.args.directory) c.args.pointer.now c.payload_of-payload.result.now c.damaged.result c.requires.in_range refl at named
     opens (λ formed. let no = c.if-not-are_entries.ensures.1 formed in cc) c.damaged.ensures
 
-pub returns-clause-sound : goal.returns-clause-sound
-returns-clause-sound g c = λ keeps image top shows at named.
-    let frame = c.args.frame.now in
+pub returns-clause-walked : goal.returns-clause-walked
+returns-clause-walked g c = λ keeps image top shows at named.
+    let frame = c.args.self.now.frame.now in
     let payload : List ℕ = c.payload_of-payload.result.now in
     let opens = subst (λ (l : List ℕ). OpensAt image frame (Directory c.args.directory) c.args.pointer.now l) (sym c.payload_of-payload.ensures.payload)
     (c.in_ok-read_block.ensures.opens image (λ k. shows) keeps) in
-    on_ok_weaker c.load_entries.result
-    (directory_sound image frame top c.args.directory c.requires.in_range (sound_at image frame top (Directory c.args.directory) c.args.pointer.now payload at opens (c.if-not-are_entries.ensures.0 refl)))
-    (c.load_entries.ensures.sound keeps image top (ap (λ (d : Disk). bytes_of d.now) (c.in_ok-read_block.ensures.disk keeps) ∙ shows)
+    let here = sound_at image frame top (Directory c.args.directory) c.args.pointer.now payload at opens (c.if-not-are_entries.ensures.0 refl) in
+    MatchResult-weaker c.load_entries.result
+    (c.load_entries.ensures.walked keeps image top (ap (λ (d : Disk). bytes_of d.now) (c.in_ok-read_block.ensures.disk keeps) ∙ shows)
     (record { pointer = c.args.pointer.now; at = at; opens = opens }))
-
-pub returns-clause-fault : goal.returns-clause-fault
-returns-clause-fault g c = λ keeps image top shows at named.
-    let frame = c.args.frame.now in
-    let payload : List ℕ = c.payload_of-payload.result.now in
-    let opens = subst (λ (l : List ℕ). OpensAt image frame (Directory c.args.directory) c.args.pointer.now l) (sym c.payload_of-payload.ensures.payload)
-    (c.in_ok-read_block.ensures.opens image (λ k. shows) keeps) in
-    IfErr-weaker c.load_entries.result (TellsFault image frame top (2 + 5356 * c.args.directory)) (TellsFault image frame top (1 + 5356 * c.args.directory))
-    (λ e. directory_tells image frame top c.args.directory e c.requires.in_range
-    (sound_at image frame top (Directory c.args.directory) c.args.pointer.now payload at opens (c.if-not-are_entries.ensures.0 refl)))
-    (c.load_entries.ensures.fault keeps image top (ap (λ (d : Disk). bytes_of d.now) (c.in_ok-read_block.ensures.disk keeps) ∙ shows)
-    (record { pointer = c.args.pointer.now; at = at; opens = opens }))
+    (λ x. directory_sound image frame top c.args.directory c.requires.in_range here) (λ e. directory_tells image frame top c.args.directory e c.requires.in_range here)

@@ -1,20 +1,21 @@
-use Rattle.std.proofs.Common.{◌≡◌, ◌+◌, ◌*◌, List, ℕ}
+use Rattle.std.proofs.Common.{◌≡◌, ◌+◌, length, List, ℕ}
 use Rattle.std.specs.Prelude.{IsTrue}
 use Rattle.base.specs.declared.pointer.Pointer.{Pointer}
 use Rattle.base.specs.disk.Disk.{bytes_of}
-use Rattle.object_maps.specs.Walking.{AreSound, IsPayloadOf}
-use Rattle.object_maps.specs.Loading.{Shows, AreLoadedEntries}
-use Rattle.object_maps.proofs.walk.load_entries.Given as goal
+use Rattle.base.specs.tree.Places.{walk_index_of_indirect}
+use Rattle.object_maps.specs.Walking.{AreSound, AreDataOf}
+use Rattle.object_maps.specs.Loading.{Shows, AreLoadedRecords}
+use Rattle.object_maps.proofs.walk.Loader.load_records.Given as goal
 
--- the device is as it was, and so many objects of the directory are loaded
+-- the device is as it was, and so many records are loaded
 abbrev pub invariant-loop-index : goal.invariant-loop-index
 invariant-loop-index g l = record {
   size : g.D.SectorDevice.size l.device ≡ g.D.SectorDevice.size l.fn.device;
   disk : IsTrue g.D.SectorDevice.keeps_model → g.D.SectorDevice.disk l.device ≡ g.D.SectorDevice.disk l.fn.device;
   count : g.D.SectorDevice.refused l.device ≡ g.D.SectorDevice.refused l.fn.device;
   sound : IsTrue g.D.SectorDevice.keeps_model → (image : List ℕ) (top : Pointer) → bytes_of (g.D.SectorDevice.disk l.fn.device).now ≡ image
-      → IsPayloadOf image l.frame top l.directory l.payload
-      → AreSound image l.frame top (2 + 5356 * l.directory) (2 + 5356 * l.directory + 85 * l.index);
+      → AreDataOf image top l.number l.records (length l.fn.bytes)
+      → AreSound image l.self.frame.now top (walk_index_of_indirect l.number + 1) (walk_index_of_indirect l.number + 1 + l.index);
   loaded : (image : List ℕ) → Shows g.D.SectorDevice.keeps_model (g.D.SectorDevice.disk l.fn.device) image
-      → AreLoadedEntries g.D.SectorDevice.keeps_model image l.frame l.directory l.payload l.index l.fn.slots l.slots l.fn.maps l.maps;
+      → AreLoadedRecords g.D.SectorDevice.keeps_model image l.self.frame.now l.number l.records l.bytes l.index;
 }

@@ -8,7 +8,7 @@ use Rattle.base.specs.disk.Disk.{Disk, bytes_of}
 use Rattle.object_maps.specs.Walking.{AreSound}
 use Rattle.object_maps.proofs.WalkOrder.{sound_more}
 use Rattle.object_maps.proofs.WalkParts.{tells_behind, directory_skip}
-use Rattle.object_maps.proofs.walk.load_directories.Goals as goal
+use Rattle.object_maps.proofs.walk.Loader.load_directories.Goals as goal
 
 pub loop-index-preserved-then-is_none : goal.loop-index-preserved-then-is_none
 loop-index-preserved-then-is_none g c =
@@ -18,11 +18,11 @@ loop-index-preserved-then-is_none g c =
       size = i.size;
       disk = i.disk;
       count = i.count;
-      empty = empty_more c.loop-index.index c.loop-index.slots c.loop-index.maps i.empty;
-      sound = λ keeps image top shows all. directory_skip image c.args.frame.now top c.loop-index.index c.args.directories.now _ c.loop-index-test.true all within
+      empty = empty_more c.loop-index.index c.loop-index.objects.slots.items c.loop-index.objects.maps.items i.empty;
+      sound = λ keeps image top shows all. directory_skip image c.args.self.now.frame.now top c.loop-index.index c.args.directories.now _ c.loop-index-test.true all within
           (c.if-is_none.ensures.0 refl) (i.sound keeps image top shows all);
-      loaded = λ image shows. directories_skip g.D.SectorDevice.keeps_model image c.args.frame.now c.args.directories.now c.loop-index.index
-          c.loop-index.slots c.loop-index.maps (i.loaded image shows) _ within (c.if-is_none.ensures.0 refl);
+      loaded = λ image shows. directories_skip g.D.SectorDevice.keeps_model image c.args.self.now.frame.now c.args.directories.now c.loop-index.index
+          c.loop-index.objects.slots.items c.loop-index.objects.maps.items (i.loaded image shows) _ within (c.if-is_none.ensures.0 refl);
     }
 
 pub loop-index-preserved : goal.loop-index-preserved
@@ -34,14 +34,14 @@ loop-index-preserved g c =
       size = call.size ∙ i.size;
       disk = λ keeps. call.disk keeps ∙ i.disk keeps;
       count = call.count ∙ i.count;
-      empty = empty_behind c.loop-index.index c.loop-index.slots c.load_directory.new.slots c.loop-index.maps c.load_directory.new.maps i.empty call.others;
+      empty = empty_behind c.loop-index.index c.loop-index.objects.slots.items c.load_directory.new.objects.slots.items c.loop-index.objects.maps.items c.load_directory.new.objects.maps.items i.empty call.others;
       sound = λ keeps image top shows all.
-          sound_more image c.args.frame.now top 1 (1 + 5356 * c.loop-index.index) (1 + 5356 * (c.loop-index.index + 1)) (i.sound keeps image top shows all)
-          (call.sound keeps image top (ap (λ (d : Disk). bytes_of d.now) (i.disk keeps) ∙ shows)
+          sound_more image c.args.self.now.frame.now top 1 (1 + 5356 * c.loop-index.index) (1 + 5356 * (c.loop-index.index + 1)) (i.sound keeps image top shows all)
+          (call.walked keeps image top (ap (λ (d : Disk). bytes_of d.now) (i.disk keeps) ∙ shows)
           (all.at c.loop-index.index c.loop-index-test.true ∙ get_or_default c.args.directories.now c.loop-index.index no_pointer _ within)
           (λ none. let no = c.if-is_none.ensures.1 none in cc));
-      loaded = λ image shows. directories_load g.D.SectorDevice.keeps_model image c.args.frame.now c.args.directories.now c.loop-index.index
-          c.loop-index.slots c.load_directory.new.slots c.loop-index.maps c.load_directory.new.maps (i.loaded image shows) call.others _ within
+      loaded = λ image shows. directories_load g.D.SectorDevice.keeps_model image c.args.self.now.frame.now c.args.directories.now c.loop-index.index
+          c.loop-index.objects.slots.items c.load_directory.new.objects.slots.items c.loop-index.objects.maps.items c.load_directory.new.objects.maps.items (i.loaded image shows) call.others _ within
           (call.loaded image (still_shows g.D.SectorDevice.keeps_model (g.D.SectorDevice.disk c.args.device.now) (g.D.SectorDevice.disk c.loop-index.device) image i.disk shows));
     }
 
@@ -50,18 +50,18 @@ returns-clause-loaded g c = λ image shows.
     let e : c.loop-index.index ≡ 84 = omega (arith, c.loop-index.auto.index-end, c.loop-index-test.false) in
     rw e at (c.loop-index.invariant.loaded image shows)
 
-pub returns-clause-sound : goal.returns-clause-sound
-returns-clause-sound g c = λ keeps image top shows all.
+pub returns-clause-walked : goal.returns-clause-walked
+returns-clause-walked g c = λ keeps image top shows all.
     let e : 1 + 5356 * c.loop-index.index ≡ 1 + 5356 * 84 = omega (arith, c.loop-index.auto.index-end, c.loop-index-test.false) in
-    subst (λ (k : ℕ). AreSound image c.args.frame.now top 1 k) e (c.loop-index.invariant.sound keeps image top shows all)
+    subst (λ (k : ℕ). AreSound image c.args.self.now.frame.now top 1 k) e (c.loop-index.invariant.sound keeps image top shows all)
 
-pub returns-in_err-load_directory-clause-fault : goal.returns-in_err-load_directory-clause-fault
-returns-in_err-load_directory-clause-fault g c = λ keeps image top shows all.
+pub returns-in_err-load_directory-clause-walked : goal.returns-in_err-load_directory-clause-walked
+returns-in_err-load_directory-clause-walked g c = λ keeps image top shows all.
     let p = err_from_is_err_and c.from_residual.result c.from_residual.ensures.1 in
     let i = c.loop-index.invariant in
     let within : c.loop-index.index < length c.args.directories.now = omega (arith, c.requires.directories, c.loop-index-test.true) in
-    rw (p.1, p.2) (tells_behind image c.args.frame.now top 1 (1 + 5356 * c.loop-index.index) (1 + 5356 * c.loop-index.index) c.in_err-load_directory.field-0.0
+    rw (p.1, p.2) (tells_behind image c.args.self.now.frame.now top 1 (1 + 5356 * c.loop-index.index) (1 + 5356 * c.loop-index.index) c.in_err-load_directory.field-0.0
     (omega arith) refl (i.sound keeps image top shows all)
-    (c.in_err-load_directory.ensures.fault keeps image top (ap (λ (d : Disk). bytes_of d.now) (i.disk keeps) ∙ shows)
+    (c.in_err-load_directory.ensures.walked keeps image top (ap (λ (d : Disk). bytes_of d.now) (i.disk keeps) ∙ shows)
     (all.at c.loop-index.index c.loop-index-test.true ∙ get_or_default c.args.directories.now c.loop-index.index no_pointer _ within)
     (λ none. let no = c.if-is_none.ensures.1 none in cc)))

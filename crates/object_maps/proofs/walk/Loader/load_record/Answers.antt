@@ -6,16 +6,16 @@ use Rattle.object_maps.proofs.LoadedRecords.{record_taken, records_apart}
 use Rattle.std.proofs.lemmas.Result.{err_from_is_err_and}
 use Rattle.base.specs.tree.Places.{walk_index_of}
 use Rattle.object_maps.proofs.WalkFaults.{missing_fault, record_fault, record_sound}
-use Rattle.object_maps.proofs.walk.load_record.Goals as goal
+use Rattle.object_maps.proofs.walk.Loader.load_record.Goals as goal
 
 pub returns-clause-loaded : goal.returns-clause-loaded
 returns-clause-loaded g c = λ image shows.
     let payload : List ℕ = c.payload_of-payload.result.now in
     let zeros = rw (take_rest payload c.min-count.result) at (c.if-not-are_zeros.ensures.0 refl) in
-    record_taken g.D.SectorDevice.keeps_model image c.args.frame.now c.args.number c.args.index c.min-count.result c.args.pointer.now payload
+    record_taken g.D.SectorDevice.keeps_model image c.args.self.now.frame.now c.args.number c.args.index c.min-count.result c.args.pointer.now payload
     c.args.bytes.now c.write_bytes.new.bytes c.payload_of-payload.ensures.length c.requires.within c.min-count.ensures zeros c.write_bytes.ensures
     c.in_ok-read_block.ensures.placed
-    (λ keeps. subst (λ (l : List ℕ). OpensAt image c.args.frame.now (Data c.args.number c.args.index) c.args.pointer.now l)
+    (λ keeps. subst (λ (l : List ℕ). OpensAt image c.args.self.now.frame.now (Data c.args.number c.args.index) c.args.pointer.now l)
     (sym c.payload_of-payload.ensures.payload) (c.in_ok-read_block.ensures.opens image shows keeps))
 
 pub returns-clause-others : goal.returns-clause-others
@@ -23,26 +23,26 @@ returns-clause-others g c =
     records_apart c.args.index c.min-count.result c.payload_of-payload.result.now c.args.bytes.now c.write_bytes.new.bytes c.requires.within c.min-count.ensures
     c.write_bytes.ensures
 
-pub returns-in_err-read_block-clause-fault : goal.returns-in_err-read_block-clause-fault
-returns-in_err-read_block-clause-fault g c = λ keeps image top shows named_by.
+pub returns-in_err-read_block-clause-walked : goal.returns-in_err-read_block-clause-walked
+returns-in_err-read_block-clause-walked g c = λ keeps image top shows named_by.
     let p = err_from_is_err_and c.from_residual.result c.from_residual.ensures.1 in
-    rw (p.1, p.2) (missing_fault image c.args.frame.now top (Data c.args.number c.args.index) (walk_index_of (Data c.args.number c.args.index)) c.args.pointer.now
+    rw (p.1, p.2) (missing_fault image c.args.self.now.frame.now top (Data c.args.number c.args.index) (walk_index_of (Data c.args.number c.args.index)) c.args.pointer.now
     c.in_err-read_block.field-0.0 (c.requires.number, c.requires.index) refl named_by.at named_by.there (c.in_err-read_block.ensures.refused keeps image shows))
 
-pub returns-then-not-are_zeros-clause-fault : goal.returns-then-not-are_zeros-clause-fault
-returns-then-not-are_zeros-clause-fault g c = λ keeps image top shows named_by.
+pub returns-then-not-are_zeros-clause-walked : goal.returns-then-not-are_zeros-clause-walked
+returns-then-not-are_zeros-clause-walked g c = λ keeps image top shows named_by.
     let payload : List ℕ = c.payload_of-payload.result.now in
-    let frame = c.args.frame.now in
+    let frame = c.args.self.now.frame.now in
     let opens = subst (λ (l : List ℕ). OpensAt image frame (Data c.args.number c.args.index) c.args.pointer.now l) (sym c.payload_of-payload.ensures.payload)
     (c.in_ok-read_block.ensures.opens image (λ k. shows) keeps) in
     let not = rw (take_rest payload c.min-count.result) at c.if-not-are_zeros.ensures.1 in
     record_fault image frame top c.args.number c.args.index (length c.args.bytes.now) c.min-count.result c.args.pointer.now payload c.damaged.result c.requires.number c.requires.index
     named_by opens c.payload_of-payload.ensures.length c.min-count.ensures (λ zeros. let no = not zeros in cc) c.damaged.ensures
 
-pub returns-clause-sound : goal.returns-clause-sound
-returns-clause-sound g c = λ keeps image top shows named_by.
+pub returns-clause-walked : goal.returns-clause-walked
+returns-clause-walked g c = λ keeps image top shows named_by.
     let payload : List ℕ = c.payload_of-payload.result.now in
-    let frame = c.args.frame.now in
+    let frame = c.args.self.now.frame.now in
     let opens = subst (λ (l : List ℕ). OpensAt image frame (Data c.args.number c.args.index) c.args.pointer.now l) (sym c.payload_of-payload.ensures.payload)
     (c.in_ok-read_block.ensures.opens image (λ k. shows) keeps) in
     let zeros = rw (take_rest payload c.min-count.result) at (c.if-not-are_zeros.ensures.0 refl) in

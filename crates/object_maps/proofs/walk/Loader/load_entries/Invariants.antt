@@ -1,21 +1,20 @@
-use Rattle.std.proofs.Common.{◌≡◌, ◌+◌, length, List, ℕ}
+use Rattle.std.proofs.Common.{◌≡◌, ◌+◌, ◌*◌, List, ℕ}
 use Rattle.std.specs.Prelude.{IsTrue}
 use Rattle.base.specs.declared.pointer.Pointer.{Pointer}
 use Rattle.base.specs.disk.Disk.{bytes_of}
-use Rattle.base.specs.tree.Places.{walk_index_of_indirect}
-use Rattle.object_maps.specs.Walking.{AreSound, AreDataOf}
-use Rattle.object_maps.specs.Loading.{Shows, AreLoadedRecords}
-use Rattle.object_maps.proofs.walk.load_records.Given as goal
+use Rattle.object_maps.specs.Walking.{AreSound, IsPayloadOf}
+use Rattle.object_maps.specs.Loading.{Shows, AreLoadedEntries}
+use Rattle.object_maps.proofs.walk.Loader.load_entries.Given as goal
 
--- the device is as it was, and so many records are loaded
+-- the device is as it was, and so many objects of the directory are loaded
 abbrev pub invariant-loop-index : goal.invariant-loop-index
 invariant-loop-index g l = record {
   size : g.D.SectorDevice.size l.device ≡ g.D.SectorDevice.size l.fn.device;
   disk : IsTrue g.D.SectorDevice.keeps_model → g.D.SectorDevice.disk l.device ≡ g.D.SectorDevice.disk l.fn.device;
   count : g.D.SectorDevice.refused l.device ≡ g.D.SectorDevice.refused l.fn.device;
   sound : IsTrue g.D.SectorDevice.keeps_model → (image : List ℕ) (top : Pointer) → bytes_of (g.D.SectorDevice.disk l.fn.device).now ≡ image
-      → AreDataOf image top l.number l.records (length l.fn.bytes)
-      → AreSound image l.frame top (walk_index_of_indirect l.number + 1) (walk_index_of_indirect l.number + 1 + l.index);
+      → IsPayloadOf image l.self.frame.now top l.directory l.payload
+      → AreSound image l.self.frame.now top (2 + 5356 * l.directory) (2 + 5356 * l.directory + 85 * l.index);
   loaded : (image : List ℕ) → Shows g.D.SectorDevice.keeps_model (g.D.SectorDevice.disk l.fn.device) image
-      → AreLoadedRecords g.D.SectorDevice.keeps_model image l.frame l.number l.records l.bytes l.index;
+      → AreLoadedEntries g.D.SectorDevice.keeps_model image l.self.frame.now l.directory l.payload l.index l.fn.objects.slots.items l.objects.slots.items l.fn.objects.maps.items l.objects.maps.items;
 }

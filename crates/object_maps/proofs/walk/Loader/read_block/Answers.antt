@@ -4,16 +4,16 @@ use Rattle.object_maps.specs.Kinds.{kind_number}
 use Rattle.std.proofs.lemmas.Result.{err_from_is_err_and}
 use Rattle.object_maps.proofs.LoadedBlocks.{block_opens}
 use Rattle.object_maps.proofs.WalkFaults.{tells_missing}
-use Rattle.object_maps.proofs.walk.read_block.Goals as goal
+use Rattle.object_maps.proofs.walk.Loader.read_block.Goals as goal
 
 pub returns-clause-opens : goal.returns-clause-opens
 returns-clause-opens g c = λ image shows keeps.
     let long : length c.args.buffer.now ≡ 4096 = c.told-buffer in
-    let born : c.args.pointer.now.birth ≤ c.args.frame.now.group = omega (arith, c.group.ensures, c.if-pointer-group.false) in
+    let born : c.args.pointer.now.birth ≤ c.args.self.now.frame.now.group = omega (arith, c.group.ensures, c.if-pointer-group.false) in
     let at = c.in_ok-read.ensures.bytes keeps
     ∙ ap (λ (l : List ℕ). part l c.args.pointer.now.address (length c.args.buffer.now)) (shows keeps)
     ∙ ap (λ (n : ℕ). part image c.args.pointer.now.address n) long in
-    block_opens image c.args.frame.now (kind_number c.args.place.kind) c.args.place.number c.args.pointer.now c.expected.result c.read.new.into
+    block_opens image c.args.self.now.frame.now (kind_number c.args.place.kind) c.args.place.number c.args.pointer.now c.expected.result c.read.new.into
     c.expected.ensures.named (c.if-not-is_block_address.ensures.0 refl) born at (c.read.auto.into ∙ long) (c.in_ok-open.ensures.ok.0 refl)
 
 pub returns-in_err-open-clause-refused : goal.returns-in_err-open-clause-refused
@@ -23,5 +23,5 @@ returns-in_err-open-clause-refused g c = λ keeps image shows.
     let at = c.in_ok-read.ensures.bytes keeps
     ∙ ap (λ (l : List ℕ). part l c.args.pointer.now.address (length c.args.buffer.now)) shows
     ∙ ap (λ (n : ℕ). part image c.args.pointer.now.address n) long in
-    rw (p.1, p.2) (tells_missing image c.args.frame.now (kind_number c.args.place.kind) c.args.place.number c.args.pointer.now c.expected.result c.read.new.into
+    rw (p.1, p.2) (tells_missing image c.args.self.now.frame.now (kind_number c.args.place.kind) c.args.place.number c.args.pointer.now c.expected.result c.read.new.into
     c.in_err-open.field-0.0 c.expected.ensures.named c.expected.ensures.address at (λ x. let no = c.in_err-open.ensures.ok.1 x in cc) c.in_err-open.ensures.refused)

@@ -8,7 +8,7 @@ use Rattle.std.proofs.lemmas.Result.{err_from_is_err_and}
 use Rattle.base.specs.disk.Disk.{Disk, bytes_of}
 use Rattle.object_maps.specs.Walking.{AreSound}
 use Rattle.object_maps.proofs.WalkParts.{entry_skip, object_more, linked_entry, entry_tells}
-use Rattle.object_maps.proofs.walk.load_entries.Goals as goal
+use Rattle.object_maps.proofs.walk.Loader.load_entries.Goals as goal
 
 pub loop-index-preserved-then-entry-ne1 : goal.loop-index-preserved-then-entry-ne1
 loop-index-preserved-then-entry-ne1 g c =
@@ -19,10 +19,10 @@ loop-index-preserved-then-entry-ne1 g c =
       size = i.size;
       disk = i.disk;
       count = i.count;
-      sound = λ keeps image top shows payload. entry_skip image c.args.frame.now top c.args.directory c.loop-index.index c.args.payload.now
+      sound = λ keeps image top shows payload. entry_skip image c.args.self.now.frame.now top c.args.directory c.loop-index.index c.args.payload.now
           c.requires.in_range c.loop-index-test.true payload absent (i.sound keeps image top shows payload);
-      loaded = λ image shows. entries_skip g.D.SectorDevice.keeps_model image c.args.frame.now c.args.directory c.args.payload.now c.loop-index.index
-          c.args.slots.now c.loop-index.slots c.args.maps.now c.loop-index.maps (i.loaded image shows) c.requires.empty absent;
+      loaded = λ image shows. entries_skip g.D.SectorDevice.keeps_model image c.args.self.now.frame.now c.args.directory c.args.payload.now c.loop-index.index
+          c.args.objects.now.slots.items c.loop-index.objects.slots.items c.args.objects.now.maps.items c.loop-index.objects.maps.items (i.loaded image shows) c.requires.empty absent;
     }
 
 pub load_object-requires-clause-length : goal.load_object-requires-clause-length
@@ -39,22 +39,24 @@ loop-index-preserved g c =
     let k : ℕ = c.loop-index.index in
     let is_present : entry_present (entry_in payload k) ≡ 1 = sym entry.present ∙ c.if-entry-ne1.false in
     let most : entry_length (entry_in payload k) ≤ max_length = entry_short (entry_in payload k) (c.requires.entries k c.loop-index-test.true) is_present in
-    let size : entry_length (entry_in payload k) ≡ length c.in_ok-slot.slot.bytes.items = sym entry.length ∙ sym call.length in
-    let slot_in : 63 * c.args.directory + k < length c.loop-index.slots = omega (arith, c.requires.in_range, c.loop-index-test.true, c.loop-index.auto.slots, c.requires.slots) in
-    let map_in : 63 * c.args.directory + k < length c.loop-index.maps = omega (arith, c.requires.in_range, c.loop-index-test.true, c.loop-index.auto.maps, c.requires.maps) in
+    let size : entry_length (entry_in payload k) ≡ length c.in_ok-slot.slot.bytes.items = sym entry.length ∙ sym call.told.size in
+    let slots_are = c.loop-index.objects.all_slots in
+    let maps_are = c.loop-index.objects.all_maps in
+    let slot_in : 63 * c.args.directory + k < length c.loop-index.objects.slots.items = omega (arith, c.requires.in_range, c.loop-index-test.true, c.loop-index.objects.slots.ok.0, slots_are) in
+    let map_in : 63 * c.args.directory + k < length c.loop-index.objects.maps.items = omega (arith, c.requires.in_range, c.loop-index-test.true, c.loop-index.objects.maps.ok.0, maps_are) in
     record {
       size = call.size ∙ i.size;
       disk = λ keeps. call.disk keeps ∙ i.disk keeps;
       count = call.count ∙ i.count;
       sound = λ keeps image top shows of_directory.
-          object_more image c.args.frame.now top c.args.directory k c.loop-index-test.true (i.sound keeps image top shows of_directory)
-          (call.sound keeps image top (ap (λ (d : Disk). bytes_of d.now) (i.disk keeps) ∙ shows)
-          (linked_entry image c.args.frame.now top c.args.directory k payload c.read_entry-entry.result.pointer c.read_entry-entry.result.length
+          object_more image c.args.self.now.frame.now top c.args.directory k c.loop-index-test.true (i.sound keeps image top shows of_directory)
+          (call.walked keeps image top (ap (λ (d : Disk). bytes_of d.now) (i.disk keeps) ∙ shows)
+          (linked_entry image c.args.self.now.frame.now top c.args.directory k payload c.read_entry-entry.result.pointer c.read_entry-entry.result.length
           c.loop-index-test.true of_directory entry.pointer entry.length));
-      loaded = λ image shows. entries_put g.D.SectorDevice.keeps_model image c.args.frame.now c.args.directory payload k
-          c.args.slots.now c.loop-index.slots c.args.maps.now c.loop-index.maps c.in_ok-slot.slot c.in_ok-slot.map (i.loaded image shows) slot_in map_in call.present
+      loaded = λ image shows. entries_put g.D.SectorDevice.keeps_model image c.args.self.now.frame.now c.args.directory payload k
+          c.args.objects.now.slots.items c.loop-index.objects.slots.items c.args.objects.now.maps.items c.loop-index.objects.maps.items c.in_ok-slot.slot c.in_ok-slot.map (i.loaded image shows) slot_in map_in call.told.present
           (call.loaded image (still_shows g.D.SectorDevice.keeps_model (g.D.SectorDevice.disk c.args.device.now) (g.D.SectorDevice.disk c.loop-index.device) image i.disk shows))
-          is_present size (omega (arith, size, most)) (sym entry.pointer ∙ sym call.indirect);
+          is_present size (omega (arith, size, most)) (sym entry.pointer ∙ sym call.told.indirect);
     }
 
 pub returns-clause-loaded : goal.returns-clause-loaded
@@ -62,18 +64,18 @@ returns-clause-loaded g c = λ image shows.
     let e : c.loop-index.index ≡ 63 = omega (arith, c.loop-index.auto.index-end, c.loop-index-test.false) in
     rw e at (c.loop-index.invariant.loaded image shows)
 
-pub returns-clause-sound : goal.returns-clause-sound
-returns-clause-sound g c = λ keeps image top shows payload.
+pub returns-clause-walked : goal.returns-clause-walked
+returns-clause-walked g c = λ keeps image top shows payload.
     let e : 2 + 5356 * c.args.directory + 85 * c.loop-index.index ≡ 1 + 5356 * (c.args.directory + 1) = omega (arith, c.loop-index.auto.index-end, c.loop-index-test.false) in
-    subst (λ (k : ℕ). AreSound image c.args.frame.now top (2 + 5356 * c.args.directory) k) e (c.loop-index.invariant.sound keeps image top shows payload)
+    subst (λ (k : ℕ). AreSound image c.args.self.now.frame.now top (2 + 5356 * c.args.directory) k) e (c.loop-index.invariant.sound keeps image top shows payload)
 
-pub returns-in_err-slot-clause-fault : goal.returns-in_err-slot-clause-fault
-returns-in_err-slot-clause-fault g c = λ keeps image top shows of_directory.
+pub returns-in_err-slot-clause-walked : goal.returns-in_err-slot-clause-walked
+returns-in_err-slot-clause-walked g c = λ keeps image top shows of_directory.
     let p = err_from_is_err_and c.from_residual.result c.from_residual.ensures.1 in
     let i = c.loop-index.invariant in
     let entry = c.read_entry-entry.ensures in
-    rw (p.1, p.2) (entry_tells image c.args.frame.now top c.args.directory c.loop-index.index c.in_err-slot.field-0.0 c.loop-index-test.true
+    rw (p.1, p.2) (entry_tells image c.args.self.now.frame.now top c.args.directory c.loop-index.index c.in_err-slot.field-0.0 c.loop-index-test.true
     (i.sound keeps image top shows of_directory)
-    (c.in_err-slot.ensures.fault keeps image top (ap (λ (d : Disk). bytes_of d.now) (i.disk keeps) ∙ shows)
-    (linked_entry image c.args.frame.now top c.args.directory c.loop-index.index c.args.payload.now c.read_entry-entry.result.pointer c.read_entry-entry.result.length
+    (c.in_err-slot.ensures.walked keeps image top (ap (λ (d : Disk). bytes_of d.now) (i.disk keeps) ∙ shows)
+    (linked_entry image c.args.self.now.frame.now top c.args.directory c.loop-index.index c.args.payload.now c.read_entry-entry.result.pointer c.read_entry-entry.result.length
     c.loop-index-test.true of_directory entry.pointer entry.length)))

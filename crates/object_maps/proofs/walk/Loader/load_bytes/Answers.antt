@@ -15,13 +15,13 @@ use Rattle.base.specs.tree.Places.{walk_index_of_indirect}
 use Rattle.object_maps.proofs.WalkOrder.{sound_more}
 use Rattle.object_maps.proofs.WalkFaults.{missing_fault}
 use Rattle.object_maps.proofs.WalkParts.{tells_behind, object_none, data_linked, indirect_sound, indirect_fault}
-use Rattle.object_maps.proofs.walk.load_bytes.Goals as goal
+use Rattle.object_maps.proofs.walk.Loader.load_bytes.Goals as goal
 
 pub returns-then-is_none-clause-loaded : goal.returns-then-is_none-clause-loaded
 returns-then-is_none-clause-loaded g c = λ image shows.
-    subst (λ (l : List Pointer). IsLoadedObject g.D.SectorDevice.keeps_model image c.args.frame.now c.args.number (Some c.args.bytes.now) c.args.indirect.now l)
+    subst (λ (l : List Pointer). IsLoadedObject g.D.SectorDevice.keeps_model image c.args.self.now.frame.now c.args.number (Some c.args.bytes.now) c.args.indirect.now l)
     (sym c.new.ensures.items)
-    (hole_loaded g.D.SectorDevice.keeps_model image c.args.frame.now c.args.number c.args.indirect.now c.args.bytes.now
+    (hole_loaded g.D.SectorDevice.keeps_model image c.args.self.now.frame.now c.args.number c.args.indirect.now c.args.bytes.now
     (c.if-is_none.ensures.0 refl) c.requires.bound c.requires.zeros)
 
 -- the records that are read stand in the Vec
@@ -39,7 +39,7 @@ load_records-requires-clause-zeros g c = zero_records c.args.bytes.now c.require
 pub returns-clause-loaded : goal.returns-clause-loaded
 returns-clause-loaded g c = λ image shows.
     let keeps_model = g.D.SectorDevice.keeps_model in
-    let frame = c.args.frame.now in
+    let frame = c.args.self.now.frame.now in
     let new : List Pointer = c.read_pointers.new.pointers in
     let items = take_at new (drop (length new) c.in_ok-records.records.items) c.in_ok-records.records.len (c.read_pointers.auto.pointers ∙ c.deref_mut.ensures.len) in
     let read = c.in_ok-read_block.ensures in
@@ -51,29 +51,29 @@ returns-clause-loaded g c = λ image shows.
     (object_loaded keeps_model image frame c.args.number c.args.indirect.now new c.load_records.new.bytes c.payload_of-payload.result.now
     read.placed opens c.read_pointers.ensures (omega (arith, c.load_records.auto.bytes, c.requires.bound)) all)
 
-pub returns-then-is_none-clause-sound : goal.returns-then-is_none-clause-sound
-returns-then-is_none-clause-sound g c = λ keeps image top shows indirect.
-    object_none image c.args.frame.now top c.args.number c.requires.in_range (indirect.at ∙ c.if-is_none.ensures.0 refl)
+pub returns-then-is_none-clause-walked : goal.returns-then-is_none-clause-walked
+returns-then-is_none-clause-walked g c = λ keeps image top shows indirect.
+    object_none image c.args.self.now.frame.now top c.args.number c.requires.in_range (indirect.at ∙ c.if-is_none.ensures.0 refl)
 
-pub returns-in_err-read_block-clause-fault : goal.returns-in_err-read_block-clause-fault
-returns-in_err-read_block-clause-fault g c = λ keeps image top shows indirect.
+pub returns-in_err-read_block-clause-walked : goal.returns-in_err-read_block-clause-walked
+returns-in_err-read_block-clause-walked g c = λ keeps image top shows indirect.
     let p = err_from_is_err_and c.from_residual-in_err-read_block.result c.from_residual-in_err-read_block.ensures.1 in
-    rw (p.1, p.2) (missing_fault image c.args.frame.now top (Indirect c.args.number) (walk_index_of_indirect c.args.number) c.args.indirect.now
+    rw (p.1, p.2) (missing_fault image c.args.self.now.frame.now top (Indirect c.args.number) (walk_index_of_indirect c.args.number) c.args.indirect.now
     c.in_err-read_block.field-0.0 c.requires.in_range refl indirect.at (λ none. let no = c.if-is_none.ensures.1 none in cc) (c.in_err-read_block.ensures.refused keeps image shows))
 
-pub returns-then-not-are_records-clause-fault : goal.returns-then-not-are_records-clause-fault
-returns-then-not-are_records-clause-fault g c = λ keeps image top shows indirect.
-    let frame = c.args.frame.now in
+pub returns-then-not-are_records-clause-walked : goal.returns-then-not-are_records-clause-walked
+returns-then-not-are_records-clause-walked g c = λ keeps image top shows indirect.
+    let frame = c.args.self.now.frame.now in
     let payload : List ℕ = c.payload_of-payload.result.now in
     let opens = subst (λ (l : List ℕ). OpensAt image frame (Indirect c.args.number) c.args.indirect.now l) (sym c.payload_of-payload.ensures.payload)
     (c.in_ok-read_block.ensures.opens image (λ k. shows) keeps) in
     indirect_fault image frame top c.args.number (length c.args.bytes.now) c.args.indirect.now payload c.damaged.result c.requires.in_range indirect
     (λ none. let no = c.if-is_none.ensures.1 none in cc) opens (λ formed. let no = c.if-not-are_records.ensures.1 formed in cc) c.damaged.ensures
 
-pub returns-in_err-load_records-clause-fault : goal.returns-in_err-load_records-clause-fault
-returns-in_err-load_records-clause-fault g c = λ keeps image top shows indirect.
+pub returns-in_err-load_records-clause-walked : goal.returns-in_err-load_records-clause-walked
+returns-in_err-load_records-clause-walked g c = λ keeps image top shows indirect.
     let p = err_from_is_err_and c.from_residual-in_err-load_records.result c.from_residual-in_err-load_records.ensures.1 in
-    let frame = c.args.frame.now in
+    let frame = c.args.self.now.frame.now in
     let payload : List ℕ = c.payload_of-payload.result.now in
     let new : List Pointer = c.read_pointers.new.pointers in
     let items : c.deref.result.now ≡ new = c.deref.ensures.value ∙ take_at new (drop (length new) c.in_ok-records.records.items) c.in_ok-records.records.len
@@ -85,11 +85,11 @@ returns-in_err-load_records-clause-fault g c = λ keeps image top shows indirect
     let sound = indirect_sound image frame top c.args.number (length c.args.bytes.now) c.args.indirect.now payload c.requires.in_range indirect opens (c.if-not-are_records.ensures.0 refl) in
     rw (p.1, p.2) (tells_behind image frame top (walk_index_of_indirect c.args.number) (walk_index_of_indirect c.args.number + 1) (walk_index_of_indirect c.args.number + 1)
     c.in_err-load_records.field-0.0 (omega arith) refl sound
-    (c.in_err-load_records.ensures.fault keeps image top (ap (λ (d : Disk). bytes_of d.now) (c.in_ok-read_block.ensures.disk keeps) ∙ shows) linked))
+    (c.in_err-load_records.ensures.walked keeps image top (ap (λ (d : Disk). bytes_of d.now) (c.in_ok-read_block.ensures.disk keeps) ∙ shows) linked))
 
-pub returns-clause-sound : goal.returns-clause-sound
-returns-clause-sound g c = λ keeps image top shows indirect.
-    let frame = c.args.frame.now in
+pub returns-clause-walked : goal.returns-clause-walked
+returns-clause-walked g c = λ keeps image top shows indirect.
+    let frame = c.args.self.now.frame.now in
     let payload : List ℕ = c.payload_of-payload.result.now in
     let new : List Pointer = c.read_pointers.new.pointers in
     let items : c.deref.result.now ≡ new = c.deref.ensures.value ∙ take_at new (drop (length new) c.in_ok-records.records.items) c.in_ok-records.records.len
@@ -100,4 +100,4 @@ returns-clause-sound g c = λ keeps image top shows indirect.
     (λ r low. ap (λ (l : List Pointer). pointer_of_list l r) items ∙ c.read_pointers.ensures r low) in
     let sound = indirect_sound image frame top c.args.number (length c.args.bytes.now) c.args.indirect.now payload c.requires.in_range indirect opens (c.if-not-are_records.ensures.0 refl) in
     sound_more image frame top (walk_index_of_indirect c.args.number) (walk_index_of_indirect c.args.number + 1) (walk_index_of_indirect c.args.number + 85) sound
-    (c.in_ok-load_records.ensures.sound keeps image top (ap (λ (d : Disk). bytes_of d.now) (c.in_ok-read_block.ensures.disk keeps) ∙ shows) linked)
+    (c.in_ok-load_records.ensures.walked keeps image top (ap (λ (d : Disk). bytes_of d.now) (c.in_ok-read_block.ensures.disk keeps) ∙ shows) linked)
