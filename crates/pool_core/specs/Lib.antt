@@ -5,6 +5,9 @@ pub mod Targets
 pub mod Meets
 pub mod StepAnswers
 pub mod Lines
+pub mod HeldLocks
+pub mod GrantedLocks
+pub mod OpenTransactions
 pub mod StepReplies
 pub mod ExplainedRuns
 pub mod Holds

@@ -5,26 +5,21 @@ use Rattle.std.specs.FinMap.{FinMap}
 use Rattle.std.specs.Ordering.{nat_cmp}
 use Rattle.std.specs.FinSet as set
 use Rattle.base.specs.declared.pointer.Pointer.{Pointer}
-use Rattle.base.specs.steps.Locks.{Grant}
 use Rattle.base.specs.steps.Groups.{Admission}
 use Rattle.base.specs.formats.Geometry.{block_address, block_count}
 use Rattle.base.specs.formats.Records.{Record}
 use Rattle.base.specs.steps.Logs.{Log}
 use Rattle.base.specs.steps.Shown.{Shown, SyncPlan}
 use Rattle.space.specs.FreeSets.{free_of}
-use Rattle.pool_core.specs.Targets.{target_of}
 use Rattle.object_maps.specs.ContentsShown.{contents_of}
+use Rattle.pool_core.specs.GrantedLocks.{grants_of}
 use Rattle.pool_core.specs.Lines.{line_of}
-use Rattle.pool_core.specs.declared.range_locks.HeldLock.{HeldLock}
 use Rattle.pool_core.specs.declared.transactions.OpenTransaction.{OpenTransaction}
 use Rattle.tree_plans.specs.declared.planner.Committed.{Committed}
 use Rattle.tree_plans.specs.declared.planner.PlannedBlock.{PlannedBlock}
 use Rattle.pool_core.specs.declared.pool.RunningSync.{RunningSync}
 use Rattle.pool_core.specs.declared.pool.Pool.{Pool}
 use Rattle.sync.specs.Runs.{call_count}
-
-abbrev pub grant_of : HeldLock → Grant
-grant_of h = record { id = h.id.0; owner = h.owner.0; range = target_of h.target; mode = h.mode }
 
 abbrev pub admission_of : OpenTransaction → Admission
 admission_of t = record { tx = t.tx.0; group = t.group.0; owner = t.owner.0; plan = t.plan }
@@ -64,7 +59,7 @@ shown_of objects p = record {
   blocks = block_count p.geometry;
   import_number = p.import_number;
   dirty_max = p.dirty_max;
-  locks = map grant_of p.locks.locks.items;
+  locks = grants_of p.locks;
   next_lock = p.locks.next;
   line = line_of p.groups;
   transactions = map admission_of p.transactions.items;

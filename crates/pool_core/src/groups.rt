@@ -1,11 +1,11 @@
 //! The line of transaction groups (`txg.c`): one is synced, then at most one is syncing, at most one quiesces or is
 //! quiesced and waits (this rule is the project's), and one is always open.
 
-ghost use Rattle.std.specs.Prelude.{◌≡◌, ◌<◌, ◌≤◌, ◌+◌, ◌^◌, true, false, IfErr, IfOk, None, option_map};
+ghost use Rattle.std.specs.Prelude.{◌≡◌, ◌<◌, ◌≤◌, ◌^◌, IfErr, IfOk, option_map};
 ghost use Rattle.std.specs.Option.{ForSome};
 ghost use Rattle.base.specs.steps.Refusals.{quiesced_group, quiescing_group};
 ghost use Rattle.base.specs.steps.Stage.{has_older_group};
-ghost use Rattle.base.specs.steps.Steps.{line_after_close, line_after_quiesce};
+ghost use Rattle.base.specs.steps.Steps.{line_after_quiesce};
 ghost use Rattle.pool_core.specs.Numbers.{IsGroup};
 
 use base::{Group, LAST_NUMBER, PoolError};
@@ -29,13 +29,14 @@ pub struct Groups {
 }
 
 impl Groups {
-    ghost use Rattle.pool_core.specs.Lines.{is_last_open, line_of};
+    ghost use Rattle.pool_core.specs.Lines.{Closes, RefusesClose, line_after_start, line_after_sync, line_behind, line_of};
+    ghost use Rattle.pool_core.specs.StepAnswers.{group_number};
 
     /// The groups behind a synced one: the next is open.
     pub fn new(synced: Group) -> Self
         requires low { 4 ≤ synced.0 }
         requires high { synced.0 < 2 ^ 60 }
-        ensures { line_of result ≡ record { synced = synced.0; syncing = None; middle = None; open_group = synced.0 + 1 } }
+        ensures { line_of result ≡ line_behind synced.0 }
     {
         Groups {
             synced,
@@ -55,8 +56,8 @@ impl Groups {
     /// The open group quiesces, and the next one is open. Refused NotReady where a middle is there, or the open group
     /// has the last number.
     pub fn close_open(&mut self) -> Result<Group, PoolError>
-        ensures refused { IfErr result (λ e. (e ≡ PoolError.NotReady) × (self.new ≡ self.old) × (is_last_open (line_of self.old) ≡ true)) }
-        ensures closed { IfOk result (λ group. (group.0 ≡ self.old.«open».0 + 1) × (line_of self.new ≡ line_after_close (line_of self.old)) × (is_last_open (line_of self.old) ≡ false)) }
+        ensures refused { IfErr result (λ e. RefusesClose e self.old self.new) }
+        ensures closed { IfOk result (λ group. Closes group self.old self.new) }
     {
         if self.middle.is_some() || self.open.0 >= LAST_NUMBER {
             return Err(PoolError::NotReady);
@@ -72,7 +73,7 @@ impl Groups {
     /// The quiescing group.
     pub fn quiescing(&self) -> Option<Group>
         ensures group { ForSome result (λ group. IsGroup group.0) }
-        ensures quiescing { option_map (λ group. group.0) result ≡ quiescing_group (line_of self.now) }
+        ensures quiescing { option_map group_number result ≡ quiescing_group (line_of self.now) }
     {
         match self.middle {
             Some(middle) if !middle.quiesced => Some(middle.group),
@@ -83,7 +84,7 @@ impl Groups {
     /// The quiesced group that waits for its sync.
     pub fn quiesced(&self) -> Option<Group>
         ensures group { ForSome result (λ group. IsGroup group.0) }
-        ensures quiesced { option_map (λ group. group.0) result ≡ quiesced_group (line_of self.now) }
+        ensures quiesced { option_map group_number result ≡ quiesced_group (line_of self.now) }
     {
         match self.middle {
             Some(middle) if middle.quiesced => Some(middle.group),
@@ -104,7 +105,7 @@ impl Groups {
 
     /// The quiesced group is being synced.
     pub fn start_sync(&mut self, group: Group)
-        ensures { line_of self.new ≡ record (line_of self.old) { syncing = Some group.0; middle = None } }
+        ensures { line_of self.new ≡ line_after_start group.0 (line_of self.old) }
     {
         self.syncing = Some(group);
         self.middle = None;
@@ -112,7 +113,7 @@ impl Groups {
 
     /// The syncing group is synced.
     pub fn finish_sync(&mut self, group: Group)
-        ensures { line_of self.new ≡ record (line_of self.old) { synced = group.0; syncing = None } }
+        ensures { line_of self.new ≡ line_after_sync group.0 (line_of self.old) }
     {
         self.synced = group;
         self.syncing = None;

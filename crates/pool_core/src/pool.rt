@@ -123,7 +123,8 @@ impl Pool {
     ghost use Rattle.pool_core.specs.Holds.{Leads, sync_reply, told_of_pool};
     ghost use Rattle.pool_core.specs.Lines.{MayNotStart, MayStart, line_of};
     ghost use Rattle.pool_core.specs.Meets.{MayCommit};
-    ghost use Rattle.pool_core.specs.Shows.{grant_of, new_plan, plan_of, shown_after_tree, shown_of_pool};
+    ghost use Rattle.pool_core.specs.HeldLocks.{grant_of};
+    ghost use Rattle.pool_core.specs.Shows.{new_plan, plan_of, shown_after_tree, shown_of_pool};
     ghost use Rattle.pool_core.specs.States.{IsOfNoDevice, KeepsTree};
     ghost use Rattle.pool_core.specs.StepAnswers.{Begins, ClosesGroup, Commits, Locks, MarksQuiesced, Reads, StartsSync, StepsSync, Unlocks};
     ghost use Rattle.pool_core.specs.SyncStarts.{IsRefusedForLack, StartLeads, StartsHeld, StartsInOrder};

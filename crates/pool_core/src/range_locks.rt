@@ -1,12 +1,12 @@
 //! Range locks in order of grant (`zfs_rlock.c`): readers may overlap readers, a writer overlaps nothing.
 
-ghost use Rattle.std.specs.Prelude.{[], ◌≤◌, ◌<◌, ◌+◌, ◌^◌, ◌≡◌, IfSome, IsTrue, vec_len};
-ghost use Rattle.std.specs.Prelude.{◌&&◌, ◌==◌, filter, not};
+ghost use Rattle.std.specs.Prelude.{[], ◌≤◌, ◌+◌, ◌^◌, ◌≡◌, ◌==◌, IsTrue, filter, not};
 ghost use Rattle.std.specs.List.{find, list_any};
 ghost use Rattle.base.specs.steps.Locks as locks;
 ghost use Rattle.base.specs.history.Plans.{lies_in, overlaps};
 ghost use Rattle.pool_core.specs.declared.range_locks.HeldLock.{HeldLock};
-ghost use Rattle.pool_core.specs.Targets.{target_of};
+ghost use Rattle.pool_core.specs.HeldLocks.{blocks, covers, covers_for_writing, is_lock};
+ghost use Rattle.pool_core.specs.Targets.{number_range};
 
 use base::{LAST_NUMBER, LockId, MAX_LENGTH, MAX_LOCKS, Mode, ObjectId, Owner, PoolError, Range};
 use std::alloc::{AllocFailed, Global};
@@ -21,7 +21,7 @@ pub struct ObjectRange {
 impl ObjectRange {
     /// Whether the two have a byte in common.
     pub fn overlaps(&self, other: &ObjectRange) -> bool
-        ensures { result ≡ overlaps (target_of self.now) (target_of other.now) }
+        ensures { result ≡ overlaps (number_range self.now) (number_range other.now) }
     {
         self.object.0 == other.object.0
             && (self.range.low < other.range.high && other.range.low < self.range.high)
@@ -29,7 +29,7 @@ impl ObjectRange {
 
     /// Whether it lies in the other.
     pub fn lies_in(&self, other: &ObjectRange) -> bool
-        ensures { result ≡ lies_in (target_of self.now) (target_of other.now) }
+        ensures { result ≡ lies_in (number_range self.now) (number_range other.now) }
     {
         self.object.0 == other.object.0
             && (other.range.low <= self.range.low && self.range.high <= other.range.high)
@@ -62,11 +62,11 @@ pub struct RangeLocks {
 }
 
 impl RangeLocks {
-    ghost use Rattle.std.specs.Prelude.{◌&&◌, ◌==◌, filter, map, not, option_map};
+    ghost use Rattle.std.specs.Prelude.{option_map};
     ghost use Rattle.std.specs.List.{find};
-    ghost use Rattle.base.specs.steps.Locks.{Grant, is_covered, is_covered_for_writing};
-    ghost use Rattle.pool_core.specs.Shows.{grant_of};
-    ghost use Rattle.pool_core.specs.Tables.{Grants, result_map};
+    ghost use Rattle.base.specs.steps.Locks.{is_covered, is_covered_for_writing};
+    ghost use Rattle.pool_core.specs.GrantedLocks.{GrantsLock, grants_of};
+    ghost use Rattle.pool_core.specs.HeldLocks.{grant_of, grants_without, is_grant};
 
     /// No locks. It takes no memory.
     pub fn new(alloc: Global) -> Self
@@ -87,7 +87,7 @@ impl RangeLocks {
         target: ObjectRange,
         mode: Mode,
     ) -> Result<LockId, PoolError>
-        ensures { Grants owner.0 (target_of target) mode (result_map (λ id. id.0) result) (map grant_of self.old.locks.items) self.old.next (map grant_of self.new.locks.items) self.new.next }
+        ensures { GrantsLock owner target mode result self.old self.new }
     {
         if self.is_blocked(&target, mode) {
             return Err(PoolError::Busy);
@@ -107,21 +107,21 @@ impl RangeLocks {
     }
 
     fn is_blocked(&self, target: &ObjectRange, mode: Mode) -> bool
-        ensures { result ≡ locks.is_blocked (target_of target.now) mode (map grant_of self.now.locks.items) }
+        ensures { result ≡ locks.is_blocked (number_range target.now) mode (grants_of self.now) }
     {
         any_blocks(&self.locks, target, mode)
     }
 
     /// The owner's lock of this name.
     pub fn find(&self, owner: Owner, id: LockId) -> Option<HeldLock>
-        ensures { option_map grant_of result ≡ find (λ (g : Grant). (g.id == id.0) && (g.owner == owner.0)) (map grant_of self.now.locks.items) }
+        ensures { option_map grant_of result ≡ find (is_grant owner id) (grants_of self.now) }
     {
         find_lock(&self.locks, owner, id)
     }
 
     /// Lets go the lock of this name.
     pub fn unlock(&mut self, id: LockId)
-        ensures locks { map grant_of self.new.locks.items ≡ filter (λ (g : Grant). not (g.id == id.0)) (map grant_of self.old.locks.items) }
+        ensures locks { grants_of self.new ≡ grants_without id (grants_of self.old) }
         ensures next { self.new.next ≡ self.old.next }
     {
         keep_others(&mut self.locks, id);
@@ -129,14 +129,15 @@ impl RangeLocks {
 
     /// Whether one lock of the owner covers a range.
     pub fn covers(&self, owner: Owner, target: &ObjectRange) -> bool
-        ensures { result ≡ is_covered owner.0 (target_of target.now) (map grant_of self.now.locks.items) }
+        ensures { result ≡ is_covered owner.0 (number_range target.now) (grants_of self.now) }
     {
         any_covers(&self.locks, owner, target)
     }
 
     /// Whether one writer lock of the owner covers a range.
     pub fn covers_for_writing(&self, owner: Owner, target: &ObjectRange) -> bool
-        ensures { result ≡ is_covered_for_writing owner.0 (target_of target.now) (map grant_of self.now.locks.items) }
+        ensures { result
+            ≡ is_covered_for_writing owner.0 (number_range target.now) (grants_of self.now) }
     {
         any_covers_for_writing(&self.locks, owner, target)
     }
@@ -153,14 +154,14 @@ pub fn is_reader(mode: Mode) -> bool
 }
 
 fn any_blocks(held: &[HeldLock], target: &ObjectRange, mode: Mode) -> bool
-    ensures { result ≡ list_any (λ (h : HeldLock). overlaps (target_of h.target) (target_of target.now) && not (locks.is_reader h.mode && locks.is_reader mode)) held.now }
+    ensures { result ≡ list_any (blocks target.now mode) held.now }
 {
     held.iter().any(|lock| lock.target.overlaps(target)
         && !(is_reader(lock.mode) && is_reader(mode)))
 }
 
 fn find_lock(held: &[HeldLock], owner: Owner, id: LockId) -> Option<HeldLock>
-    ensures { result ≡ find (λ (h : HeldLock). (h.id.0 == id.0) && (h.owner.0 == owner.0)) held.now }
+    ensures { result ≡ find (is_lock owner id) held.now }
 {
     for lock in held {
         if lock.id.0 == id.0 && lock.owner.0 == owner.0 {
@@ -177,13 +178,13 @@ fn keep_others(held: &mut Vec<HeldLock>, id: LockId)
 }
 
 fn any_covers(held: &[HeldLock], owner: Owner, target: &ObjectRange) -> bool
-    ensures { result ≡ list_any (λ (h : HeldLock). (h.owner.0 == owner.0) && lies_in (target_of target.now) (target_of h.target)) held.now }
+    ensures { result ≡ list_any (covers owner target.now) held.now }
 {
     held.iter().any(|lock| lock.owner.0 == owner.0 && target.lies_in(&lock.target))
 }
 
 fn any_covers_for_writing(held: &[HeldLock], owner: Owner, target: &ObjectRange) -> bool
-    ensures { result ≡ list_any (λ (h : HeldLock). not (locks.is_reader h.mode) && ((h.owner.0 == owner.0) && lies_in (target_of target.now) (target_of h.target))) held.now }
+    ensures { result ≡ list_any (covers_for_writing owner target.now) held.now }
 {
     held.iter().any(|lock| !is_reader(lock.mode)
         && (lock.owner.0 == owner.0 && target.lies_in(&lock.target)))

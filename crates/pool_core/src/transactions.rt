@@ -1,14 +1,14 @@
 //! Plans of transactions: their limits and what they touch, and the transactions that are open.
 
-ghost use Rattle.std.specs.Prelude.{◌≡◌, ◌↔◌, ◌+◌, ◌-◌, ◌^◌, ◌==◌, ◌&&◌, IsTrue, filter, map, min, nat_le, nat_lt, not, option_map};
+ghost use Rattle.std.specs.Prelude.{◌≡◌, ◌↔◌, ◌+◌, ◌-◌, ◌^◌, ◌==◌, IsTrue, map, min, nat_le, nat_lt, option_map};
 ghost use Rattle.std.specs.List.{find, list_all, list_any};
 ghost use Rattle.base.specs.formats.Limits.{max_length, max_log_record};
-ghost use Rattle.base.specs.steps.Locks as locks;
 ghost use Rattle.base.specs.history.Plans as plans;
-ghost use Rattle.base.specs.history.Plans.{lies_in, overlaps, shape_of};
+ghost use Rattle.base.specs.history.Plans.{shape_of};
 ghost use Rattle.base.specs.steps.Stage as stage;
 ghost use Rattle.base.specs.steps.Stage.{is_plan_built};
-ghost use Rattle.pool_core.specs.Targets.{kept_range_of, target_of};
+ghost use Rattle.pool_core.specs.OpenTransactions.{is_held_in_use, is_of_name, is_range_in_use, open_without, overlaps_open};
+ghost use Rattle.pool_core.specs.Targets.{has_shape_in, kept_range_of, number_range, overlaps_plan, plans_overlap};
 ghost use Rattle.pool_core.specs.declared.transactions.OpenTransaction.{OpenTransaction};
 
 use crate::range_locks::{HeldLock, ObjectRange, is_reader};
@@ -28,7 +28,7 @@ pub struct OpenTransaction {
 
 // The whole range of an object, or of the name.
 fn whole(object: ObjectId) -> ObjectRange
-    ensures { target_of result ≡ plans.whole_range object.0 }
+    ensures { number_range result ≡ plans.whole_range object.0 }
 {
     ObjectRange {
         object,
@@ -42,7 +42,7 @@ fn whole(object: ObjectId) -> ObjectRange
 /// The range that a shape touches: a write its bytes, every other shape the whole object or the whole name. The end of a
 /// write stays within 64 bits.
 pub fn range_of(shape: &Shape) -> ObjectRange
-    ensures { target_of result ≡ kept_range_of shape.now }
+    ensures { number_range result ≡ kept_range_of shape.now }
 {
     match shape {
         Shape::Create(id) | Shape::Remove(id) | Shape::SetLength(id, _) => whole(*id),
@@ -137,14 +137,14 @@ fn size_of(shape: &Shape) -> u64
 
 /// The open transaction of this name.
 pub fn find_transaction(open: &[OpenTransaction], tx: TxId) -> Option<&OpenTransaction>
-    ensures { option_map (λ t. t.now) result ≡ find (λ (t : OpenTransaction). t.tx.0 == tx.0) «open».now }
+    ensures { option_map (λ t. t.now) result ≡ find (is_of_name tx.0) «open».now }
 {
     open.iter().find(|transaction| transaction.tx.0 == tx.0)
 }
 
 /// The transaction of this name is open no more.
 pub fn remove_transaction(open: &mut Vec<OpenTransaction>, tx: TxId)
-    ensures { «open».new.items ≡ filter (λ (t : OpenTransaction). not (t.tx.0 == tx.0)) «open».old.items }
+    ensures { «open».new.items ≡ open_without tx.0 «open».old.items }
 {
     open.retain(|transaction| !(transaction.tx.0 == tx.0));
 }
@@ -159,40 +159,40 @@ pub fn is_group_held(open: &[OpenTransaction], group: Group) -> bool
 
 /// Whether some range of a plan overlaps one of an open transaction.
 pub fn is_blocked(plan: &[Shape], open: &[OpenTransaction]) -> bool
-    ensures { result ≡ list_any (λ (t : OpenTransaction). list_any (λ x. list_any (λ y. overlaps (kept_range_of x) (kept_range_of y)) t.plan) plan.now) «open».now }
+    ensures { result ≡ overlaps_open plan.now «open».now }
 {
     open.iter().any(|transaction| overlaps_any(plan, transaction.plan.as_slice()))
 }
 
 fn overlaps_any(plan: &[Shape], other: &[Shape]) -> bool
-    ensures { result ≡ list_any (λ x. list_any (λ y. overlaps (kept_range_of x) (kept_range_of y)) other.now) plan.now }
+    ensures { result ≡ plans_overlap plan.now other.now }
 {
     plan.iter()
         .any(|shape| touches_any(&range_of(shape), other))
 }
 
 fn touches_any(target: &ObjectRange, plan: &[Shape]) -> bool
-    ensures { result ≡ list_any (λ y. overlaps (target_of target.now) (kept_range_of y)) plan.now }
+    ensures { result ≡ overlaps_plan (number_range target.now) plan.now }
 {
     plan.iter().any(|shape| target.overlaps(&range_of(shape)))
 }
 
 // Whether a range of an open transaction lies in this one.
 fn is_in_use(target: &ObjectRange, open: &[OpenTransaction]) -> bool
-    ensures { result ≡ list_any (λ (t : OpenTransaction). list_any (λ x. lies_in (kept_range_of x) (target_of target.now)) t.plan) «open».now }
+    ensures { result ≡ is_range_in_use (number_range target.now) «open».now }
 {
     open.iter().any(|transaction| lies_any_in(transaction.plan.as_slice(), target))
 }
 
 /// Whether a held lock is a writer's in which a range of an open transaction lies.
 pub fn is_held_in_use(held: &HeldLock, open: &[OpenTransaction]) -> bool
-    ensures { result ≡ (not (locks.is_reader held.now.mode) && list_any (λ (t : OpenTransaction). list_any (λ x. lies_in (kept_range_of x) (target_of held.now.target)) t.plan) «open».now) }
+    ensures { result ≡ is_held_in_use held.now «open».now }
 {
     !is_reader(held.mode) && is_in_use(&held.target, open)
 }
 
 fn lies_any_in(plan: &[Shape], target: &ObjectRange) -> bool
-    ensures { result ≡ list_any (λ x. lies_in (kept_range_of x) (target_of target.now)) plan.now }
+    ensures { result ≡ has_shape_in (number_range target.now) plan.now }
 {
     plan.iter().any(|shape| range_of(shape).lies_in(target))
 }

@@ -7,7 +7,8 @@ use Rattle.base.specs.steps.Locks.{is_covered_for_writing}
 use Rattle.base.specs.history.Plans.{NumberRange, overlaps}
 use Rattle.base.specs.steps.Stage.{is_plan_built}
 use Rattle.pool_core.specs.Targets.{kept_range_of}
-use Rattle.pool_core.specs.Shows.{admission_of, grant_of, shown_of_pool}
+use Rattle.pool_core.specs.HeldLocks.{grant_of}
+use Rattle.pool_core.specs.Shows.{admission_of, shown_of_pool}
 use Rattle.pool_core.specs.declared.transactions.OpenTransaction.{OpenTransaction}
 use Rattle.pool_core.proofs.KeptRanges.{blocked_same, covered_same}
 use Rattle.pool_core.proofs.LockSteps.{MayBegin, begin_suspended, begin_older, begin_bad, begin_large, begin_open, begin_busy, begin_many, begin_passes}

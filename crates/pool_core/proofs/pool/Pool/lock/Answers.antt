@@ -3,7 +3,8 @@ use Rattle.std.proofs.lemmas.Result.{err_from_is_err_and}
 use Rattle.base.specs.steps.Refusals.{object_range}
 use Rattle.pool_core.proofs.Flags.{from_not_false, from_not_true}
 use Rattle.pool_core.proofs.LockSteps.{lock_suspended, lock_bad, lock_ends}
-use Rattle.pool_core.specs.Shows.{grant_of, shown_of_pool}
+use Rattle.pool_core.specs.HeldLocks.{grant_of}
+use Rattle.pool_core.specs.Shows.{shown_of_pool}
 use Rattle.pool_core.specs.Tables.{result_map}
 use Rattle.pool_core.proofs.pool.Pool.lock.Goals as goal
 

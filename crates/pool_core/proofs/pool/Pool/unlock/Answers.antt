@@ -1,7 +1,8 @@
 use Rattle.std.proofs.Common.{◌∙◌, sym, refl}
 use Rattle.std.proofs.lemmas.Result.{err_from_is_err_and}
 use Rattle.pool_core.proofs.LockSteps.{unlock_suspended, unlock_none, unlock_used, unlock_done}
-use Rattle.pool_core.specs.Shows.{grant_of, shown_of_pool}
+use Rattle.pool_core.specs.HeldLocks.{grant_of}
+use Rattle.pool_core.specs.Shows.{shown_of_pool}
 use Rattle.pool_core.proofs.pool.Pool.unlock.Goals as goal
 
 pub returns-in_err-check_running-clause-step : goal.returns-in_err-check_running-clause-step

@@ -3,13 +3,13 @@ use Rattle.std.specs.List.{list_any}
 use Rattle.base.specs.history.Plans.{lies_in}
 use Rattle.base.specs.steps.Locks.{Grant}
 use Rattle.pool_core.specs.declared.range_locks.HeldLock.{HeldLock}
-use Rattle.pool_core.specs.Shows.{grant_of}
-use Rattle.pool_core.specs.Targets.{target_of}
+use Rattle.pool_core.specs.HeldLocks.{grant_of}
+use Rattle.pool_core.specs.Targets.{number_range}
 use Rattle.pool_core.proofs.Mapped.{list_any-map}
 use Rattle.pool_core.proofs.range_locks.RangeLocks.covers.Goals as goal
 
 pub returns : goal.returns
 returns c =
-    let P : Grant → Bool = λ (g : Grant). (g.owner == c.args.owner.0) && lies_in (target_of c.args.target.now) g.range in
+    let P : Grant → Bool = λ (g : Grant). (g.owner == c.args.owner.0) && lies_in (number_range c.args.target.now) g.range in
     let items : List HeldLock = c.args.self.now.locks.items in
     c.any_covers.ensures ∙ ap (λ (l : List HeldLock). list_any (λ (h : HeldLock). P (grant_of h)) l) c.deref.ensures.value ∙ sym (list_any-map P grant_of items)

@@ -3,7 +3,7 @@ use Rattle.std.specs.Prelude.{Option, option_map}
 use Rattle.std.specs.List.{find}
 use Rattle.base.specs.steps.Locks.{Grant}
 use Rattle.pool_core.specs.declared.range_locks.HeldLock.{HeldLock}
-use Rattle.pool_core.specs.Shows.{grant_of}
+use Rattle.pool_core.specs.HeldLocks.{grant_of}
 use Rattle.pool_core.proofs.Mapped.{find-map}
 use Rattle.pool_core.proofs.range_locks.RangeLocks.find.Goals as goal
 

@@ -1,7 +1,7 @@
 use Rattle.std.proofs.Common.{◌==◌, Bool, not, List, map, ap, sym, ◌∙◌}
 use Rattle.base.specs.steps.Locks.{Grant}
 use Rattle.pool_core.specs.declared.range_locks.HeldLock.{HeldLock}
-use Rattle.pool_core.specs.Shows.{grant_of}
+use Rattle.pool_core.specs.HeldLocks.{grant_of}
 use Rattle.pool_core.proofs.Mapped.{filter-map}
 use Rattle.pool_core.proofs.range_locks.RangeLocks.unlock.Goals as goal
 
