@@ -1,0 +1,90 @@
+-- What a create and an import make of the device, and what a refused one leaves of it.
+use Rattle.std.specs.Prelude.{ℕ, ◌≡◌, ◌⊎◌, ◌+◌, ◌/◌, false, List, Result, Ok, Err, IfSome, unwrap_or}
+use Rattle.base.specs.declared.error.PoolError.{PoolError}
+use Rattle.base.specs.declared.error.PoolError.TheVariants.{BadGeometry, BadRange}
+use Rattle.base.specs.declared.step.Reply.TheVariants.{Done, Refused}
+use Rattle.base.specs.disk.Disk.{CrashLeaves, bytes_of, certain, disk_size}
+use Rattle.device_model.specs.MemState.{MemState, new_state}
+use Rattle.import_replay.specs.Creations.{IsNewPool}
+use Rattle.import_replay.specs.ImportRefusals.{IsReadingRefusal, IsReason, IsSyncRefusal}
+use Rattle.import_replay.specs.ImportStops.{IsImportStopped}
+use Rattle.import_replay.specs.ImportSyncs.{IsImportSynced}
+use Rattle.import_replay.specs.Mounts.{shown_of_import}
+use Rattle.import_replay.specs.declared.mounted.Mounted.{Mounted}
+use Rattle.pool_core.specs.Shows.{shown_of}
+use Rattle.scripts.specs.declared.answer.Answer.{Answer}
+use Rattle.scripts.specs.declared.answer.Answer.TheVariants as answer
+use Rattle.scripts.specs.declared.command.Command.{Command}
+use Rattle.scripts.specs.declared.command.Command.TheVariants as command
+use Rattle.scripts.specs.declared.session.BadCommand.{BadCommand}
+use Rattle.scripts.specs.declared.session.Place.{Place}
+use Rattle.scripts.specs.declared.session.Place.TheVariants.{Nothing, Device, Pool}
+use Rattle.scripts.specs.declared.session.ScriptPool.{ScriptPool}
+use Rattle.scripts.specs.declared.session.Session.{Session}
+use Rattle.scripts.specs.Places.{device_in, has_device}
+
+-- the device that a create works on: the one that is there, or a new one of zeros
+abbrev pub device_for : Session → MemState
+device_for s = unwrap_or (device_in s.place) (new_state (s.size / 512))
+
+-- a refused create gives the device back, as it was where the size or the name is the reason
+pub record IsLeftByCreate (old : MemState) (e : PoolError) (new : MemState) : Type 0 where
+  pub size : disk_size new.disk ≡ disk_size old.disk
+  pub untouched : (e ≡ BadGeometry) ⊎ (e ≡ BadRange) → new ≡ old
+
+-- a create leaves a new pool of this name, guid and moment, whatever a crash makes of it; or it is refused
+abbrev pub Creates : List ℕ → ℕ → Session → Answer → Place → Type 0
+Creates name guid s (answer.Reply Done) (Device new) = CrashLeaves (λ image. IsNewPool image name guid s.moment) new.disk.now
+Creates name guid s (answer.Reply (Refused e)) (Device new) = IsLeftByCreate (device_for s) e new
+Creates name guid s (answer.Reply (Refused e)) Nothing = has_device s.place ≡ false
+Creates name guid s told new = ⊥
+
+-- A refused import gives the device back, and told what the image is: as it was where the limit is the reason, with the disk as it
+-- was and flushed where no write and no flush was refused, and else with what the calls before the refused one made of it.
+pub record IsLeftByImport (moment : ℕ) (old : MemState) (e : PoolError) (new : MemState) : Type 0 where
+  pub size : disk_size new.disk ≡ disk_size old.disk
+  pub reason : IsReason (bytes_of old.disk.now) e
+  pub untouched : (e ≡ BadGeometry) ⊎ (e ≡ BadRange) → new ≡ old
+  pub unchanged : IsReadingRefusal e → new.disk ≡ certain (bytes_of old.disk.now) old.disk
+  pub stopped : IsSyncRefusal e → IsImportStopped old.disk new.disk moment e
+
+-- what is told of an imported pool
+abbrev pub answer_of : Mounted → Answer
+answer_of m = answer.Imported m.group (record { 0 = m.group.0 + 1 }) 0
+
+-- a pool stands on this device, is shown as what was mounted, and its syncs get this moment
+pub record IsPoolOf (device : MemState) (mounted : Mounted) (moment : ℕ) (pool : ScriptPool) : Type 0 where
+  pub device_is : pool.state.device ≡ device
+  pub shown : shown_of pool.state.pool ≡ shown_of_import mounted
+  pub moment_is : pool.moment ≡ moment
+
+-- there is a pool, and this holds of it
+abbrev pub IfPool : Place → (ScriptPool → Type 0) → Type 0
+IfPool Nothing P = ⊥
+IfPool (Device device) P = ⊥
+IfPool (Pool pool) P = P pool
+
+-- the import of a device with this limit and moment left this device and mounted this
+pub record IsImported (dirty_max moment : ℕ) (old device : MemState) (mounted : Mounted) : Type 0 where
+  pub limit : mounted.dirty_max ≡ dirty_max
+  pub synced : IsImportSynced old.disk device.disk moment mounted
+
+-- an import leaves the pool that it mounted on the device as it left it, and tells of it
+pub record IsImportOn (dirty_max moment : ℕ) (old : MemState) (told : Answer) (new : Place) : Type 0 where
+  pub device : MemState
+  pub mounted : Mounted
+  pub imported : IsImported dirty_max moment old device mounted
+  pub told_is : told ≡ answer_of mounted
+  pub pool : IfPool new (IsPoolOf device mounted moment)
+
+-- so it does, or it is refused
+abbrev pub Imports : ℕ → ℕ → MemState → Answer → Place → Type 0
+Imports dirty_max moment old (answer.Imported synced next records) new = IsImportOn dirty_max moment old (answer.Imported synced next records) new
+Imports dirty_max moment old (answer.Reply (Refused e)) (Device new) = IsLeftByImport moment old e new
+Imports dirty_max moment old told new = ⊥
+
+-- what a create or an import makes of the device
+abbrev pub Makes : Command → Session → Result Answer BadCommand → Place → Type 0
+Makes (command.Create name guid) s (Ok told) new = Creates name guid s told new
+Makes (command.Import dirty_max) s (Ok told) new = IfSome (device_in s.place) (λ device. Imports dirty_max s.moment device told new)
+Makes asked s told new = Unit {0}
