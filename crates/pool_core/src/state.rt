@@ -1,8 +1,9 @@
 //! A running pool on its device, and each of its steps.
 
-ghost use Rattle.std.specs.Prelude.{◌≡◌, [], IfErr, IfOk, IsTrue};
+ghost use Rattle.std.specs.Prelude.{◌≡◌, [], IfErr, IfOk, IsTrue, option_map};
 ghost use Rattle.base.specs.history.Past.{Past};
-ghost use Rattle.base.specs.steps.Refusals.{object_range};
+ghost use Rattle.base.specs.steps.Groups.{Admission};
+ghost use Rattle.base.specs.steps.Refusals.{object_range, transaction_of};
 ghost use Rattle.base.specs.steps.Stage as stage;
 ghost use Rattle.base.specs.steps.Steps as steps;
 ghost use Rattle.base.specs.stored.Stored.{IsHeld};
@@ -130,6 +131,14 @@ impl<D: SectorDevice> PoolState<D> {
         ensures count { D.refused self.new.device ≡ counted result (D.refused self.old.device) }
     {
         self.pool.begin(owner, plan)
+    }
+
+    /// The plan of an open transaction. It takes no memory.
+    pub fn open_plan(&self, tx: TxId) -> Option<&Plan>
+        ensures { option_map (λ p. p.now) result
+            ≡ option_map (λ (a : Admission). a.plan) (transaction_of tx.0 (shown_of self.now.pool)) }
+    {
+        self.pool.open_plan(tx)
     }
 
     /// Commits a transaction whole, in its own group.
