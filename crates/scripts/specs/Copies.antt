@@ -2,12 +2,12 @@
 use Rattle.std.specs.Prelude.{◌≡◌, ◌≢◌, ◌<◌, ◌++◌, ◌∷◌, [], ℕ, List, replicate}
 use Rattle.std.specs.Borrow.{Bor}
 use Rattle.std.specs.List.{AllZip}
-use Rattle.scripts.specs.Numbers.{IsNumberBelow, number_of}
+use Rattle.scripts.specs.Numbers.{IsNumberBelow, spelled_number}
 
 -- `COUNT:C` (58 is the colon) stands for 1 to 338,688 copies of the character C
 abbrev pub AreCopies : List ℕ → List ℕ → Type 0
 AreCopies copies bytes = (count : List ℕ) × (character : ℕ) × (copies ≡ count ++ 58 ∷ character ∷ [])
-    × IsNumberBelow 338689 count × (0 < number_of count) × (bytes ≡ replicate (number_of count) character)
+    × IsNumberBelow 338689 count × (0 < spelled_number count) × (bytes ≡ replicate (spelled_number count) character)
 
 -- copies behind `@` (64), else the word's own bytes
 abbrev pub IsContentOf : List ℕ → List ℕ → Type 0

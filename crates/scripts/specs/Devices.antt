@@ -11,17 +11,13 @@ use Rattle.import_replay.specs.ImportStops.{IsImportStopped}
 use Rattle.import_replay.specs.ImportSyncs.{IsImportSynced}
 use Rattle.import_replay.specs.Mounts.{shown_of_import}
 use Rattle.import_replay.specs.declared.mounted.Mounted.{Mounted}
-use Rattle.pool_core.specs.Shows.{shown_of}
 use Rattle.scripts.specs.declared.answer.Answer.{Answer}
 use Rattle.scripts.specs.declared.answer.Answer.TheVariants as answer
-use Rattle.scripts.specs.declared.command.Command.{Command}
-use Rattle.scripts.specs.declared.command.Command.TheVariants as command
-use Rattle.scripts.specs.declared.session.BadCommand.{BadCommand}
 use Rattle.scripts.specs.declared.session.Place.{Place}
 use Rattle.scripts.specs.declared.session.Place.TheVariants.{Nothing, Device, Pool}
-use Rattle.scripts.specs.declared.session.ScriptPool.{ScriptPool}
 use Rattle.scripts.specs.declared.session.Session.{Session}
 use Rattle.scripts.specs.Places.{device_in, has_device}
+use Rattle.scripts.specs.Pools.{MemPool, device_of, shown}
 
 -- the device that a create works on: the one that is there, or a new one of zeros
 abbrev pub device_for : Session → MemState
@@ -49,23 +45,22 @@ pub record IsLeftByImport (moment : ℕ) (old : MemState) (e : PoolError) (new :
   pub stopped : IsSyncRefusal e → IsImportStopped old.disk new.disk moment e
 
 -- what is told of an imported pool
-abbrev pub answer_of : Mounted → Answer
-answer_of m = answer.Imported m.group (record { 0 = m.group.0 + 1 }) 0
+abbrev pub imported_answer : Mounted → Answer
+imported_answer m = answer.Imported m.group (record { 0 = m.group.0 + 1 }) 0
 
--- a pool stands on this device, is shown as what was mounted, and its syncs get this moment
-pub record IsPoolOf (device : MemState) (mounted : Mounted) (moment : ℕ) (pool : ScriptPool) : Type 0 where
-  pub device_is : pool.state.device ≡ device
-  pub shown : shown_of pool.state.pool ≡ shown_of_import mounted
-  pub moment_is : pool.moment ≡ moment
+-- a pool stands on this device, and is shown as what was mounted
+pub record IsImportedPool (device : MemState) (mounted : Mounted) (pool : MemPool) : Type 0 where
+  pub device_is : device_of pool ≡ device
+  pub shown_is : shown pool ≡ shown_of_import mounted
 
 -- there is a pool, and this holds of it
-abbrev pub IfPool : Place → (ScriptPool → Type 0) → Type 0
+abbrev pub IfPool : Place → (MemPool → Type 0) → Type 0
 IfPool Nothing P = ⊥
 IfPool (Device device) P = ⊥
 IfPool (Pool pool) P = P pool
 
 -- the import of a device with this limit and moment left this device and mounted this
-pub record IsImported (dirty_max moment : ℕ) (old device : MemState) (mounted : Mounted) : Type 0 where
+pub record IsMountedFrom (dirty_max moment : ℕ) (old device : MemState) (mounted : Mounted) : Type 0 where
   pub limit : mounted.dirty_max ≡ dirty_max
   pub synced : IsImportSynced old.disk device.disk moment mounted
 
@@ -73,18 +68,12 @@ pub record IsImported (dirty_max moment : ℕ) (old device : MemState) (mounted 
 pub record IsImportOn (dirty_max moment : ℕ) (old : MemState) (told : Answer) (new : Place) : Type 0 where
   pub device : MemState
   pub mounted : Mounted
-  pub imported : IsImported dirty_max moment old device mounted
-  pub told_is : told ≡ answer_of mounted
-  pub pool : IfPool new (IsPoolOf device mounted moment)
+  pub imported : IsMountedFrom dirty_max moment old device mounted
+  pub told_is : told ≡ imported_answer mounted
+  pub pool : IfPool new (IsImportedPool device mounted)
 
 -- so it does, or it is refused
 abbrev pub Imports : ℕ → ℕ → MemState → Answer → Place → Type 0
 Imports dirty_max moment old (answer.Imported synced next records) new = IsImportOn dirty_max moment old (answer.Imported synced next records) new
 Imports dirty_max moment old (answer.Reply (Refused e)) (Device new) = IsLeftByImport moment old e new
 Imports dirty_max moment old told new = ⊥
-
--- what a create or an import makes of the device
-abbrev pub Makes : Command → Session → Result Answer BadCommand → Place → Type 0
-Makes (command.Create name guid) s (Ok told) new = Creates name guid s told new
-Makes (command.Import dirty_max) s (Ok told) new = IfSome (device_in s.place) (λ device. Imports dirty_max s.moment device told new)
-Makes asked s told new = Unit {0}

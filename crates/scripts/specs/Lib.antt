@@ -7,3 +7,5 @@ pub mod Letters
 pub mod Numbers
 pub mod Places
 pub mod PoolSteps
+pub mod Pools
+pub mod Sessions

@@ -3,9 +3,9 @@ use Rattle.std.specs.Prelude.{ℕ, ◌<◌, List}
 use Rattle.std.specs.Str.Parse.{IsNumeral, digits_value}
 
 -- the number that decimal digits spell, the first digit the highest
-abbrev pub number_of : List ℕ → ℕ
-number_of word = digits_value 10 word
+abbrev pub spelled_number : List ℕ → ℕ
+spelled_number word = digits_value 10 word
 
 -- at least one byte, all decimal digits, and they spell a number below the limit
 abbrev pub IsNumberBelow : ℕ → List ℕ → Type 0
-IsNumberBelow limit word = IsNumeral 10 word × (number_of word < limit)
+IsNumberBelow limit word = IsNumeral 10 word × (spelled_number word < limit)

@@ -1,7 +1,8 @@
--- What a command needs.
-use Rattle.std.specs.Prelude.{◌≡◌, ◌<◌, ◌≤◌, Bool, true, false, Option, Some, None, Result, Ok, Err, List, length, IsErr, IsTrue}
+-- What a session has: nothing, a device or a pool; and what a crash makes of it.
+use Rattle.std.specs.Prelude.{◌≡◌, ◌<◌, ◌≤◌, Bool, true, false, Option, Some, None, Result, Ok, Err, List, length, IsErr}
 use Rattle.base.specs.declared.piece.Piece.{Piece}
 use Rattle.device_model.specs.MemState.{MemState, after_crash}
+use Rattle.scripts.specs.Pools.{device_of}
 use Rattle.scripts.specs.declared.answer.Answer.{Answer}
 use Rattle.scripts.specs.declared.answer.Answer.TheVariants.{Crashed}
 use Rattle.scripts.specs.declared.session.BadCommand.{BadCommand}
@@ -20,13 +21,6 @@ has_pool Nothing = false
 has_pool (Device device) = false
 has_pool (Pool pool) = true
 
--- there is the device or the pool that the command needs
-abbrev pub has_what_it_needs : Command → Place → Bool
-has_what_it_needs (command.Create name guid) place = true
-has_what_it_needs (command.Import dirty_max) place = has_device place
-has_what_it_needs (command.Crash pieces) place = has_device place
-has_what_it_needs (command.Pool asked) place = has_pool place
-
 abbrev pub is_crash : Command → Bool
 is_crash (command.Create name guid) = false
 is_crash (command.Import dirty_max) = false
@@ -37,7 +31,7 @@ is_crash (command.Pool asked) = false
 abbrev pub device_in : Place → Option MemState
 device_in Nothing = None
 device_in (Device device) = Some device
-device_in (Pool pool) = Some pool.state.device
+device_in (Pool pool) = Some (device_of pool)
 
 -- a crash leaves the pieces of the unflushed writes and tells their number; it is refused where there are more pieces
 abbrev pub Crashes : Option MemState → List Piece → Result Answer BadCommand → Place → Type 0
@@ -45,10 +39,3 @@ Crashes None pieces answer new = IsErr answer
 Crashes (Some device) pieces (Ok answer) new =
     (length pieces ≤ length device.disk.now.unflushed) × (answer ≡ Crashed (length device.disk.now.unflushed)) × (new ≡ Device (after_crash pieces device))
 Crashes (Some device) pieces (Err e) new = (length device.disk.now.unflushed < length pieces) × (new ≡ Device device)
-
--- what a command leaves of the device and the pool
-abbrev pub Leaves : Command → Place → Result Answer BadCommand → Place → Type 0
-Leaves (command.Create name guid) old answer new = (IsTrue (has_device old) → IsTrue (has_device new)) × (has_pool new ≡ false)
-Leaves (command.Import dirty_max) old answer new = has_device new ≡ has_device old
-Leaves (command.Crash pieces) old answer new = Crashes (device_in old) pieces.items answer new × (has_device new ≡ has_device old) × (has_pool new ≡ false)
-Leaves (command.Pool asked) old answer new = has_pool new ≡ has_pool old

@@ -4,7 +4,7 @@
 
 ghost use Rattle.std.specs.Prelude.{◌≡◌, ◌↔◌, ◌^◌, ◌<◌, ◌≤◌, IsOk, IfOk, IfErr, map, Some, vec_len, length, replicate, slice_index, ◌≢◌, All, IsSome};
 ghost use Rattle.std.specs.Result.{OkIff, result_ok};
-ghost use Rattle.scripts.specs.Numbers.{IsNumberBelow, number_of};
+ghost use Rattle.scripts.specs.Numbers.{IsNumberBelow, spelled_number};
 ghost use Rattle.scripts.specs.Commands.{IsBeginOf, IsCommitOf, IsCrashOf};
 ghost use Rattle.scripts.specs.Copies.{AreContentsOf, AreCopies, IsContentOf};
 ghost use Rattle.scripts.specs.Letters.{mode_of, piece_of};
@@ -35,8 +35,6 @@ pub enum Command {
 /// What a line asks a pool for.
 #[derive(Drop)]
 pub enum PoolCommand {
-    /// Opens a transaction that keeps to this plan.
-    Begin(Owner, Plan),
     /// Commits a transaction, with the bytes of its writes in order.
     Commit(TxId, Vec<Bytes>),
     /// Starts the sync of the quiesced group.
@@ -97,16 +95,15 @@ pub fn parse_command(alloc: Global, line: &str) -> Result<Command, LineError> {
 
 fn parse_pool_command(alloc: Global, words: &[&str]) -> Result<PoolCommand, LineError> {
     match words {
-        ["begin", owner, shapes @ ..] => parse_begin(alloc, owner, shapes),
         ["commit", tx, contents @ ..] => parse_commit(alloc, tx, contents),
         ["start"] => Ok(PoolCommand::Start),
         ["finish"] => Ok(PoolCommand::Finish),
         ["sync"] => Ok(PoolCommand::Sync),
-        words => Ok(PoolCommand::Step(parse_step(words)?)),
+        words => Ok(PoolCommand::Step(parse_step(alloc, words)?)),
     }
 }
 
-fn parse_step(words: &[&str]) -> Result<Step, LineError> {
+fn parse_step(alloc: Global, words: &[&str]) -> Result<Step, LineError> {
     match words {
         ["lock", owner, object, mode, low, high] => Ok(Step::Lock(
             parse_owner(owner)?,
@@ -115,6 +112,7 @@ fn parse_step(words: &[&str]) -> Result<Step, LineError> {
             parse_mode(mode)?,
         )),
         ["unlock", owner, id] => Ok(Step::Unlock(parse_owner(owner)?, LockId(wide(id)?))),
+        ["begin", owner, shapes @ ..] => parse_begin(alloc, owner, shapes),
         ["read", owner, object, low, high] => Ok(Step::Read(
             parse_owner(owner)?,
             parse_object(object)?,
@@ -128,14 +126,14 @@ fn parse_step(words: &[&str]) -> Result<Step, LineError> {
 }
 
 fn wide(word: &str) -> Result<u64, LineError>
-    ensures number { OkIff result (IsNumberBelow (2 ^ 64) word.now) (number_of word.now) }
+    ensures number { OkIff result (IsNumberBelow (2 ^ 64) word.now) (spelled_number word.now) }
     ensures refused { IfErr result (λ e. e ≡ LineError.BadCommand) }
 {
     parse_u64(word).ok_or(LineError::BadCommand)
 }
 
 fn narrow(word: &str) -> Result<u32, LineError>
-    ensures number { OkIff result (IsNumberBelow (2 ^ 32) word.now) (number_of word.now) }
+    ensures number { OkIff result (IsNumberBelow (2 ^ 32) word.now) (spelled_number word.now) }
     ensures refused { IfErr result (λ e. e ≡ LineError.BadCommand) }
 {
     parse_u32(word).ok_or(LineError::BadCommand)
@@ -143,7 +141,7 @@ fn narrow(word: &str) -> Result<u32, LineError>
 
 fn parse_owner(word: &str) -> Result<Owner, LineError>
     ensures ok { IsOk result ↔ IsNumberBelow (2 ^ 32) word.now }
-    ensures owner { IfOk result (λ owner. owner.0 ≡ number_of word.now) }
+    ensures owner { IfOk result (λ owner. owner.0 ≡ spelled_number word.now) }
     ensures refused { IfErr result (λ e. e ≡ LineError.BadCommand) }
 {
     Ok(Owner(narrow(word)?))
@@ -151,7 +149,7 @@ fn parse_owner(word: &str) -> Result<Owner, LineError>
 
 fn parse_object(word: &str) -> Result<ObjectId, LineError>
     ensures ok { IsOk result ↔ IsNumberBelow (2 ^ 32) word.now }
-    ensures object { IfOk result (λ object. object.0 ≡ number_of word.now) }
+    ensures object { IfOk result (λ object. object.0 ≡ spelled_number word.now) }
     ensures refused { IfErr result (λ e. e ≡ LineError.BadCommand) }
 {
     Ok(ObjectId(narrow(word)?))
@@ -159,8 +157,8 @@ fn parse_object(word: &str) -> Result<ObjectId, LineError>
 
 fn parse_range(low: &str, high: &str) -> Result<Range, LineError>
     ensures ok { IsOk result ↔ (IsNumberBelow (2 ^ 64) low.now × IsNumberBelow (2 ^ 64) high.now) }
-    ensures low { IfOk result (λ range. range.low ≡ number_of low.now) }
-    ensures high { IfOk result (λ range. range.high ≡ number_of high.now) }
+    ensures low { IfOk result (λ range. range.low ≡ spelled_number low.now) }
+    ensures high { IfOk result (λ range. range.high ≡ spelled_number high.now) }
     ensures refused { IfErr result (λ e. e ≡ LineError.BadCommand) }
 {
     Ok(Range {
@@ -181,9 +179,10 @@ fn parse_mode(word: &str) -> Result<Mode, LineError>
 }
 
 fn parse_create(alloc: Global, name: &str, guid: &str) -> Result<Command, LineError>
-    ensures command { IfOk result (λ command. command ≡ Command.Create name.now (number_of guid.now)) }
+    ensures command { IfOk result (λ command. command ≡ Command.Create name.now (spelled_number guid.now)) }
     ensures ok { IsOk result → (0 < length name.now) × IsNumberBelow (2 ^ 64) guid.now }
-    ensures refused { IfErr result (λ e. 0 < length name.now → IsNumberBelow (2 ^ 64) guid.now → e ≡ LineError.NoMemory) }
+    ensures refused { IfErr result (λ e. 0 < length name.now → IsNumberBelow (2 ^ 64) guid.now
+        → e ≡ LineError.NoMemory) }
 {
     if name.is_empty() {
         return Err(LineError::BadCommand);
@@ -194,12 +193,12 @@ fn parse_create(alloc: Global, name: &str, guid: &str) -> Result<Command, LineEr
     })
 }
 
-fn parse_begin(alloc: Global, owner: &str, words: &[&str]) -> Result<PoolCommand, LineError>
-    ensures begin { IfOk result (λ asked. IsBeginOf owner.now (length words.now) asked) }
+fn parse_begin(alloc: Global, owner: &str, words: &[&str]) -> Result<Step, LineError>
+    ensures begin { IfOk result (λ step. IsBeginOf owner.now (length words.now) step) }
     ensures owner { IsOk result → IsNumberBelow (2 ^ 32) owner.now }
 {
     let owner = parse_owner(owner)?;
-    Ok(PoolCommand::Begin(owner, Plan::new(parse_shapes(alloc, words)?)))
+    Ok(Step::Begin(owner, Plan::new(parse_shapes(alloc, words)?)))
 }
 
 fn parse_shapes(alloc: Global, words: &[&str]) -> Result<Vec<Shape>, LineError>
@@ -273,10 +272,10 @@ fn parse_copies(alloc: Global, copies: &str) -> Result<Bytes, LineError>
 }
 
 fn make_copies(alloc: Global, count: &str, byte: u8) -> Result<Bytes, LineError>
-    ensures number { IsOk result → IsNumberBelow 338689 count.now × (0 < number_of count.now) }
-    ensures copies { IfOk result (λ bytes. bytes ≡ replicate (number_of count.now) byte) }
+    ensures number { IsOk result → IsNumberBelow 338689 count.now × (0 < spelled_number count.now) }
+    ensures copies { IfOk result (λ bytes. bytes ≡ replicate (spelled_number count.now) byte) }
     ensures limits { IfOk result (λ bytes. (0 < length bytes) × (length bytes ≤ 338688)) }
-    ensures refused { IfErr result (λ e. IsNumberBelow 338689 count.now → 0 < number_of count.now
+    ensures refused { IfErr result (λ e. IsNumberBelow 338689 count.now → 0 < spelled_number count.now
         → e ≡ LineError.NoMemory) }
 {
     let count = wide(count)?;

@@ -6,6 +6,7 @@
 mod answer;
 mod command;
 mod number;
+mod pool_commands;
 mod script;
 mod session;
 #[cfg(test)]

@@ -2,11 +2,11 @@
 
 ghost use Rattle.std.specs.Prelude.{◌^◌};
 ghost use Rattle.std.specs.Option.{SomeIff};
-ghost use Rattle.scripts.specs.Numbers.{IsNumberBelow, number_of};
+ghost use Rattle.scripts.specs.Numbers.{IsNumberBelow, spelled_number};
 
 /// The number that a word spells. `None` where it is not of digits alone, or 2^64 or more.
 pub fn parse_u64(word: &str) -> Option<u64>
-    ensures { SomeIff result (IsNumberBelow (2 ^ 64) word.now) (number_of word.now) }
+    ensures { SomeIff result (IsNumberBelow (2 ^ 64) word.now) (spelled_number word.now) }
 {
     if word.starts_with('+') {
         return None;
@@ -16,7 +16,7 @@ pub fn parse_u64(word: &str) -> Option<u64>
 
 /// The number that a word spells. `None` where it is not of digits alone, or 2^32 or more.
 pub fn parse_u32(word: &str) -> Option<u32>
-    ensures { SomeIff result (IsNumberBelow (2 ^ 32) word.now) (number_of word.now) }
+    ensures { SomeIff result (IsNumberBelow (2 ^ 32) word.now) (spelled_number word.now) }
 {
     if word.starts_with('+') {
         return None;

@@ -2,7 +2,7 @@ use Rattle.std.proofs.Common.{◌≡◌, ◌++◌, drop}
 use Rattle.std.specs.Option.{option_map}
 use Rattle.std.specs.Vec.Iter.{into_iter_items}
 use Rattle.scripts.specs.Fillings.{ops_of}
-use Rattle.scripts.proofs.session.make_ops.Given as goal
+use Rattle.scripts.proofs.pool_commands.fill_plan.Given as goal
 
 abbrev pub invariant-loop-shape : goal.invariant-loop-shape
 invariant-loop-shape l =

@@ -1,7 +1,6 @@
-use Rattle.std.proofs.Common.{◌≡◌}
-use Rattle.scripts.specs.PoolSteps.{MakesSteps, shown}
-use Rattle.scripts.proofs.session.ScriptPool.finish.Given as goal
+use Rattle.scripts.specs.PoolSteps.{MakesSteps}
+use Rattle.scripts.proofs.pool_commands.finish.Given as goal
 
 -- each step so far had more behind it
 abbrev pub invariant-loop-step : goal.invariant-loop-step
-invariant-loop-step l = MakesSteps l._step (shown l.fn.self) (shown l.self) × (l.self.moment ≡ l.fn.self.moment)
+invariant-loop-step l = MakesSteps l._step l.fn.pool l.pool

@@ -3,7 +3,7 @@ use Rattle.scripts.proofs.session.Session.import.Goals as goal
 
 pub returns-in-Ok-clause-imports : goal.returns-in-Ok-clause-imports
 returns-in-Ok-clause-imports c =
-    rw (← c.in-Some.ensures.device, c.keep_pool.ensures.told, ← c.take_device.ensures.moment)
+    rw (← c.in-Some.ensures.device, c.keep_pool.ensures.told, ← c.take_device.ensures.same_run.0)
     (record {
       device = c.in-Ok.imported.device;
       mounted = c.in-Ok.imported.mounted;
@@ -15,5 +15,5 @@ returns-in-Ok-clause-imports c =
 pub returns-in-Err-clause-imports : goal.returns-in-Err-clause-imports
 returns-in-Err-clause-imports c =
     let left = c.in-Err.ensures in
-    rw (← c.in-Some.ensures.device, c.give_back.ensures.refused, c.give_back.ensures.device, ← c.take_device.ensures.moment)
+    rw (← c.in-Some.ensures.device, c.give_back.ensures.refused, c.give_back.ensures.device, ← c.take_device.ensures.same_run.0)
     (record { size = left.given_back; reason = left.reason refl; untouched = left.untouched; unchanged = left.unchanged refl; stopped = left.stopped refl })
