@@ -15,7 +15,8 @@ ghost use Rattle.base.specs.tree.PlacedTrees.{ArePlaced};
 ghost use Rattle.base.specs.tree.Places.{IsPlace, Place};
 ghost use Rattle.base.specs.tree.PlannedTrees.{AreFreed, NewBlock};
 ghost use Rattle.base.specs.stored.Stored.{AreUsed, IsHeld, frame_at};
-ghost use Rattle.base.specs.steps.Refusals.{is_lock_in_use, object_range};
+ghost use Rattle.base.specs.steps.Groups.{Admission};
+ghost use Rattle.base.specs.steps.Refusals.{is_lock_in_use, object_range, transaction_of};
 ghost use Rattle.base.specs.steps.Stage as stage;
 ghost use Rattle.base.specs.steps.Stage.{has_older_group, is_plan_built};
 ghost use Rattle.base.specs.steps.Steps as steps;
@@ -284,6 +285,15 @@ impl Pool {
         ensures { result ≡ (nat_le max_transactions (vec_len self.now.transactions) || nat_lt last_number self.now.next_tx) }
     {
         self.transactions.len() >= MAX_TRANSACTIONS || self.next_tx > LAST_NUMBER
+    }
+
+    // The plan of an open transaction.
+    pub(crate) fn open_plan(&self, tx: TxId) -> Option<&Plan>
+        ensures { option_map (λ p. p.now) result
+            ≡ option_map (λ (a : Admission). a.plan) (transaction_of tx.0 (shown_of_pool self.now)) }
+    {
+        let transaction = find_transaction(&self.transactions, tx)?;
+        Some(&transaction.plan)
     }
 
     // The group of a transaction that may commit. Refused where a commit is, but for want of memory.

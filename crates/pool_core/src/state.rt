@@ -1,6 +1,8 @@
 //! A running pool on its device, and each of its steps.
 
-ghost use Rattle.std.specs.Prelude.{◌≡◌, IsTrue};
+ghost use Rattle.std.specs.Prelude.{◌≡◌, IsTrue, option_map};
+ghost use Rattle.base.specs.steps.Groups.{Admission};
+ghost use Rattle.base.specs.steps.Refusals.{transaction_of};
 
 use crate::pool::Pool;
 use base::{
@@ -112,6 +114,14 @@ impl<D: SectorDevice> PoolState<D> {
         ensures unmoved { MovesNothing result self.old self.new }
     {
         self.pool.begin(owner, plan)
+    }
+
+    /// The plan of an open transaction. It takes no memory.
+    pub fn open_plan(&self, tx: TxId) -> Option<&Plan>
+        ensures { option_map (λ p. p.now) result
+            ≡ option_map (λ (a : Admission). a.plan) (transaction_of tx.0 (shown self.now)) }
+    {
+        self.pool.open_plan(tx)
     }
 
     /// Commits a transaction whole, in its own group.

@@ -1,19 +1,17 @@
 //! The command line of the pool's write engine. `ztxg script SIZE SCRIPT` runs a script on a device in memory.
 #![tactic(auto)]
 
-mod answer;
 mod arguments;
-mod command;
-mod number;
-mod script;
-mod session;
 #[cfg(test)]
 mod tests;
 
+ghost use Rattle.std.specs.Prelude.{◌≡◌, ◌≢◌, ◌≤◌, IsErr};
+
 use arguments::{ScriptArguments, parse_arguments, read_arguments};
-use script::run_opened;
+use scripts::{FAILED, run_script};
+use std::alloc::Global;
 use std::fs::File;
-use std::io;
+use std::io::{self, Read, Write};
 use std::process::ExitCode;
 
 /// The status of a fault of the command line.
@@ -62,4 +60,27 @@ fn run(rt: &HostRuntime, arguments: ScriptArguments<'_>) -> ExitCode {
         )
     };
     ExitCode::from(status)
+}
+
+/// Runs a script that was to be opened, with what was given to it.
+///
+/// Where it was not opened, `ztxg: cannot use FILE` is printed to `errors`, and the status is 3.
+fn run_opened<R: Read + Drop, W: Write + Drop, E: Write>(
+    alloc: Global,
+    arguments: ScriptArguments<'_>,
+    opened: io::Result<R>,
+    out: W,
+    errors: &mut E,
+) -> u8
+    ensures failed { IsErr opened → result ≡ 3 }
+    ensures range { result ≤ 3 }
+    ensures no_refusal { result ≢ 1 }
+{
+    match opened {
+        Ok(script) => run_script(alloc, arguments.size, arguments.moment, script, out),
+        Err(_) => {
+            let _ = writeln!(errors, "ztxg: cannot use {}", arguments.script);
+            FAILED
+        }
+    }
 }

@@ -1,0 +1,6 @@
+use Rattle.scripts.specs.PoolSteps.{MakesSteps}
+use Rattle.scripts.proofs.pool_commands.finish.Given as goal
+
+-- each step so far had more behind it
+abbrev pub invariant-loop-step : goal.invariant-loop-step
+invariant-loop-step l = MakesSteps l._step l.fn.pool l.pool

@@ -1,0 +1,80 @@
+-- What a create and an import make of the device, and what a refused one leaves of it.
+use Rattle.std.specs.Prelude.{ℕ, ◌≡◌, ◌⊎◌, ◌+◌, ◌/◌, false, List, Result, Ok, Err, IfSome, unwrap_or}
+use Rattle.base.specs.declared.error.PoolError.{PoolError}
+use Rattle.base.specs.declared.error.PoolError.TheVariants.{BadGeometry, BadRange}
+use Rattle.base.specs.declared.step.Reply.TheVariants.{Done, Refused}
+use Rattle.base.specs.disk.Disk.{CrashLeaves, bytes_of, certain, disk_size}
+use Rattle.device_model.specs.MemState.{MemState, new_state}
+use Rattle.import_replay.specs.Creations.{IsNewPool}
+use Rattle.import_replay.specs.ImportRefusals.{IsReadingRefusal, IsReason, IsSyncRefusal}
+use Rattle.import_replay.specs.ImportStops.{IsImportStopped}
+use Rattle.import_replay.specs.ImportSyncs.{IsImportSynced}
+use Rattle.import_replay.specs.Mounts.{shown_of_import}
+use Rattle.import_replay.specs.declared.mounted.Mounted.{Mounted}
+use Rattle.scripts.specs.declared.answer.Answer.{Answer}
+use Rattle.scripts.specs.declared.answer.Answer.TheVariants as answer
+use Rattle.scripts.specs.declared.session.Place.{Place}
+use Rattle.scripts.specs.declared.session.Place.TheVariants.{Nothing, Device, Pool}
+use Rattle.scripts.specs.declared.session.Session.{Session}
+use Rattle.scripts.specs.Places.{device_in, has_device}
+use Rattle.pool_core.specs.States.{device_of, shown}
+use Rattle.scripts.specs.Pools.{MemPool}
+
+-- the device that a create works on: the one that is there, or a new one of zeros
+abbrev pub device_for : Session → MemState
+device_for s = unwrap_or (device_in s.place) (new_state (s.size / 512))
+
+-- a refused create gives the device back, as it was where the size or the name is the reason
+pub record IsLeftByCreate (old : MemState) (e : PoolError) (new : MemState) : Type 0 where
+  pub size : disk_size new.disk ≡ disk_size old.disk
+  pub untouched : (e ≡ BadGeometry) ⊎ (e ≡ BadRange) → new ≡ old
+
+-- a create leaves a new pool of this name, guid and moment, whatever a crash makes of it; or it is refused
+abbrev pub Creates : List ℕ → ℕ → Session → Answer → Place → Type 0
+Creates name guid s (answer.Reply Done) (Device new) = CrashLeaves (λ image. IsNewPool image name guid s.moment) new.disk.now
+Creates name guid s (answer.Reply (Refused e)) (Device new) = IsLeftByCreate (device_for s) e new
+Creates name guid s (answer.Reply (Refused e)) Nothing = has_device s.place ≡ false
+Creates name guid s told new = ⊥
+
+-- A refused import gives the device back, and told what the image is: as it was where the limit is the reason, with the disk as it
+-- was and flushed where no write and no flush was refused, and else with what the calls before the refused one made of it.
+pub record IsLeftByImport (moment : ℕ) (old : MemState) (e : PoolError) (new : MemState) : Type 0 where
+  pub size : disk_size new.disk ≡ disk_size old.disk
+  pub reason : IsReason (bytes_of old.disk.now) e
+  pub untouched : (e ≡ BadGeometry) ⊎ (e ≡ BadRange) → new ≡ old
+  pub unchanged : IsReadingRefusal e → new.disk ≡ certain (bytes_of old.disk.now) old.disk
+  pub stopped : IsSyncRefusal e → IsImportStopped old.disk new.disk moment e
+
+-- what is told of an imported pool
+abbrev pub imported_answer : Mounted → Answer
+imported_answer m = answer.Imported m.group (record { 0 = m.group.0 + 1 }) 0
+
+-- a pool stands on this device, and is shown as what was mounted
+pub record IsImportedPool (device : MemState) (mounted : Mounted) (pool : MemPool) : Type 0 where
+  pub device_is : device_of pool ≡ device
+  pub shown_is : shown pool ≡ shown_of_import mounted
+
+-- there is a pool, and this holds of it
+abbrev pub IfPool : Place → (MemPool → Type 0) → Type 0
+IfPool Nothing P = ⊥
+IfPool (Device device) P = ⊥
+IfPool (Pool pool) P = P pool
+
+-- the import of a device with this limit and moment left this device and mounted this
+pub record IsMountedFrom (dirty_max moment : ℕ) (old device : MemState) (mounted : Mounted) : Type 0 where
+  pub limit : mounted.dirty_max ≡ dirty_max
+  pub synced : IsImportSynced old.disk device.disk moment mounted
+
+-- an import leaves the pool that it mounted on the device as it left it, and tells of it
+pub record IsImportOn (dirty_max moment : ℕ) (old : MemState) (told : Answer) (new : Place) : Type 0 where
+  pub device : MemState
+  pub mounted : Mounted
+  pub imported : IsMountedFrom dirty_max moment old device mounted
+  pub told_is : told ≡ imported_answer mounted
+  pub pool : IfPool new (IsImportedPool device mounted)
+
+-- so it does, or it is refused
+abbrev pub Imports : ℕ → ℕ → MemState → Answer → Place → Type 0
+Imports dirty_max moment old (answer.Imported synced next records) new = IsImportOn dirty_max moment old (answer.Imported synced next records) new
+Imports dirty_max moment old (answer.Reply (Refused e)) (Device new) = IsLeftByImport moment old e new
+Imports dirty_max moment old told new = ⊥

@@ -1,0 +1,11 @@
+pub mod Commands
+pub mod Copies
+pub mod Devices
+pub mod Endings
+pub mod Fillings
+pub mod Letters
+pub mod Numbers
+pub mod Places
+pub mod PoolSteps
+pub mod Pools
+pub mod Sessions

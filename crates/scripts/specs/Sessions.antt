@@ -1,0 +1,51 @@
+-- What a command needs of a session, does in it and leaves of it.
+use Rattle.std.specs.Prelude.{ℕ, ◌≡◌, Bool, true, false, Result, Ok, Err, IfSome, IsTrue}
+use Rattle.scripts.specs.declared.answer.Answer.{Answer}
+use Rattle.scripts.specs.declared.answer.Answer.TheVariants as answer
+use Rattle.scripts.specs.declared.command.Command.{Command}
+use Rattle.scripts.specs.declared.command.Command.TheVariants as command
+use Rattle.scripts.specs.declared.command.PoolCommand.{PoolCommand}
+use Rattle.scripts.specs.declared.session.BadCommand.{BadCommand}
+use Rattle.scripts.specs.declared.session.Place.{Place}
+use Rattle.scripts.specs.declared.session.Place.TheVariants.{Nothing, Device, Pool}
+use Rattle.scripts.specs.declared.session.Session.{Session}
+use Rattle.scripts.specs.Devices.{Creates, Imports}
+use Rattle.scripts.specs.Places.{Crashes, device_in, has_device, has_pool}
+use Rattle.scripts.specs.PoolSteps.{Asks}
+
+-- a session with no device yet, whose new devices have this size, and whose uberblocks this moment
+pub record IsNewSession (size moment : ℕ) (s : Session) : Type 0 where
+  pub place : s.place ≡ Nothing
+  pub moment_is : s.moment ≡ moment
+  pub size_is : s.size ≡ size
+
+-- the size of new devices and the moment of uberblocks stay
+abbrev pub IsSameRun : Session → Session → Type 0
+IsSameRun old new = (new.moment ≡ old.moment) × (new.size ≡ old.size)
+
+-- there is the device or the pool that the command needs
+abbrev pub has_what_it_needs : Command → Session → Bool
+has_what_it_needs (command.Create name guid) s = true
+has_what_it_needs (command.Import dirty_max) s = has_device s.place
+has_what_it_needs (command.Crash pieces) s = has_device s.place
+has_what_it_needs (command.Pool asked) s = has_pool s.place
+
+-- whether there is a device and a pool after a command
+abbrev pub Leaves : Command → Session → Result Answer BadCommand → Session → Type 0
+Leaves (command.Create name guid) old told new = (IsTrue (has_device old.place) → IsTrue (has_device new.place)) × (has_pool new.place ≡ false)
+Leaves (command.Import dirty_max) old told new = has_device new.place ≡ has_device old.place
+Leaves (command.Crash pieces) old told new = (has_device new.place ≡ has_device old.place) × (has_pool new.place ≡ false)
+Leaves (command.Pool asked) old told new = has_pool new.place ≡ has_pool old.place
+
+-- the pool that is there is asked, with the moment of its syncs, and replies
+abbrev pub AsksIn : PoolCommand → ℕ → Place → Answer → Place → Type 0
+AsksIn asked moment (Pool old) (answer.Reply reply) (Pool new) = Asks asked moment reply old new
+AsksIn asked moment old told new = ⊥
+
+-- what a command does that is answered, and a crash also where it is none
+abbrev pub Does : Command → Session → Result Answer BadCommand → Session → Type 0
+Does (command.Create name guid) s (Ok told) new = Creates name guid s told new.place
+Does (command.Import dirty_max) s (Ok told) new = IfSome (device_in s.place) (λ device. Imports dirty_max s.moment device told new.place)
+Does (command.Crash pieces) s told new = Crashes (device_in s.place) pieces.items told new.place
+Does (command.Pool asked) s (Ok told) new = AsksIn asked s.moment s.place told new.place
+Does asked s (Err e) new = Unit {0}

@@ -1,0 +1,321 @@
+//! The commands of a script.
+//!
+//! A line is cut into words by single spaces. A word has at least one byte.
+
+ghost use Rattle.std.specs.Prelude.{◌≡◌, ◌↔◌, ◌^◌, ◌<◌, ◌≤◌, IsOk, IfOk, IfErr, map, Some, vec_len, length, replicate, slice_index, ◌≢◌, All, IsSome};
+ghost use Rattle.std.specs.Result.{OkIff, result_ok};
+ghost use Rattle.scripts.specs.Numbers.{IsNumberBelow, spelled_number};
+ghost use Rattle.scripts.specs.Commands.{IsBeginOf, IsCommitOf, IsCrashOf};
+ghost use Rattle.scripts.specs.Copies.{AreContentsOf, AreCopies, IsContentOf};
+ghost use Rattle.scripts.specs.Letters.{mode_of, piece_of};
+
+use crate::number::{parse_u32, parse_u64};
+use base::{Bytes, LockId, Mode, ObjectId, Owner, Piece, Plan, Range, Shape, Step, TxId};
+use std::alloc::{AllocError, AllocFailed, Global};
+
+/// The most copies that a word `@COUNT:C` stands for.
+const MAX_COPIES: u64 = 338_688;
+
+/// The byte with which a crash fills the range of a torn write.
+const TORN: u8 = 0xaa;
+
+/// What a line of a script asks for.
+#[derive(Drop)]
+pub enum Command {
+    /// Makes a pool of this name and guid on the device, or on a new one.
+    Create { name: Bytes, guid: u64 },
+    /// Imports the pool on the device, with this limit of the bytes that may be dirty.
+    Import { dirty_max: u64 },
+    /// Stops the pool, and leaves these pieces of the unflushed writes of its device.
+    Crash(Vec<Piece>),
+    /// What asks the pool for something.
+    Pool(PoolCommand),
+}
+
+/// What a line asks a pool for.
+#[derive(Drop)]
+pub enum PoolCommand {
+    /// Commits a transaction, with the bytes of its writes in order.
+    Commit(TxId, Vec<Bytes>),
+    /// Starts the sync of the quiesced group.
+    Start,
+    /// Takes the steps of the sync until its group is synced.
+    Finish,
+    /// Closes the open group and syncs it.
+    Sync,
+    /// One step of the pool.
+    Step(Step),
+}
+
+/// Why a line gives no command.
+#[derive(Clone, Copy, Debug, PartialEq, Eq)]
+pub enum LineError {
+    /// It is no command.
+    BadCommand,
+    /// There is no memory for what it says.
+    NoMemory,
+}
+
+impl From<AllocError> for LineError {
+    ghost use Rattle.scripts.specs.declared.command.LineError.TheVariants.{NoMemory};
+
+    ghost from_gives = { λ _ e. e ≡ NoMemory };
+
+    fn from(_error: AllocError) -> LineError {
+        LineError::NoMemory
+    }
+}
+
+impl<T: Drop> From<AllocFailed<T>> for LineError {
+    ghost use Rattle.scripts.specs.declared.command.LineError.TheVariants.{NoMemory};
+
+    ghost from_gives = { λ _ e. e ≡ NoMemory };
+
+    fn from(_failed: AllocFailed<T>) -> LineError {
+        LineError::NoMemory
+    }
+}
+
+/// Reads a line as a command.
+///
+/// # Errors
+/// `BadCommand` where it has no command's form, or a number in it is too wide for its type; `NoMemory`.
+pub fn parse_command(alloc: Global, line: &str) -> Result<Command, LineError> {
+    let words: Vec<&str> = line.split(' ').collect(alloc)?;
+    match words.as_slice() {
+        ["create", name, guid] => parse_create(alloc, name, guid),
+        ["import", dirty_max] => Ok(Command::Import {
+            dirty_max: wide(dirty_max)?,
+        }),
+        ["crash"] => Ok(Command::Crash(Vec::new(alloc))),
+        ["crash", letters] => parse_crash(alloc, letters),
+        words => Ok(Command::Pool(parse_pool_command(alloc, words)?)),
+    }
+}
+
+fn parse_pool_command(alloc: Global, words: &[&str]) -> Result<PoolCommand, LineError> {
+    match words {
+        ["commit", tx, contents @ ..] => parse_commit(alloc, tx, contents),
+        ["start"] => Ok(PoolCommand::Start),
+        ["finish"] => Ok(PoolCommand::Finish),
+        ["sync"] => Ok(PoolCommand::Sync),
+        words => Ok(PoolCommand::Step(parse_step(alloc, words)?)),
+    }
+}
+
+fn parse_step(alloc: Global, words: &[&str]) -> Result<Step, LineError> {
+    match words {
+        ["lock", owner, object, mode, low, high] => Ok(Step::Lock(
+            parse_owner(owner)?,
+            parse_object(object)?,
+            parse_range(low, high)?,
+            parse_mode(mode)?,
+        )),
+        ["unlock", owner, id] => Ok(Step::Unlock(parse_owner(owner)?, LockId(wide(id)?))),
+        ["begin", owner, shapes @ ..] => parse_begin(alloc, owner, shapes),
+        ["read", owner, object, low, high] => Ok(Step::Read(
+            parse_owner(owner)?,
+            parse_object(object)?,
+            parse_range(low, high)?,
+        )),
+        ["close"] => Ok(Step::CloseGroup),
+        ["quiesce"] => Ok(Step::MarkQuiesced),
+        ["step"] => Ok(Step::SyncStep),
+        _ => Err(LineError::BadCommand),
+    }
+}
+
+fn wide(word: &str) -> Result<u64, LineError>
+    ensures number { OkIff result (IsNumberBelow (2 ^ 64) word.now) (spelled_number word.now) }
+    ensures refused { IfErr result (λ e. e ≡ LineError.BadCommand) }
+{
+    parse_u64(word).ok_or(LineError::BadCommand)
+}
+
+fn narrow(word: &str) -> Result<u32, LineError>
+    ensures number { OkIff result (IsNumberBelow (2 ^ 32) word.now) (spelled_number word.now) }
+    ensures refused { IfErr result (λ e. e ≡ LineError.BadCommand) }
+{
+    parse_u32(word).ok_or(LineError::BadCommand)
+}
+
+fn parse_owner(word: &str) -> Result<Owner, LineError>
+    ensures ok { IsOk result ↔ IsNumberBelow (2 ^ 32) word.now }
+    ensures owner { IfOk result (λ owner. owner.0 ≡ spelled_number word.now) }
+    ensures refused { IfErr result (λ e. e ≡ LineError.BadCommand) }
+{
+    Ok(Owner(narrow(word)?))
+}
+
+fn parse_object(word: &str) -> Result<ObjectId, LineError>
+    ensures ok { IsOk result ↔ IsNumberBelow (2 ^ 32) word.now }
+    ensures object { IfOk result (λ object. object.0 ≡ spelled_number word.now) }
+    ensures refused { IfErr result (λ e. e ≡ LineError.BadCommand) }
+{
+    Ok(ObjectId(narrow(word)?))
+}
+
+fn parse_range(low: &str, high: &str) -> Result<Range, LineError>
+    ensures ok { IsOk result ↔ (IsNumberBelow (2 ^ 64) low.now × IsNumberBelow (2 ^ 64) high.now) }
+    ensures low { IfOk result (λ range. range.low ≡ spelled_number low.now) }
+    ensures high { IfOk result (λ range. range.high ≡ spelled_number high.now) }
+    ensures refused { IfErr result (λ e. e ≡ LineError.BadCommand) }
+{
+    Ok(Range {
+        low: wide(low)?,
+        high: wide(high)?,
+    })
+}
+
+fn parse_mode(word: &str) -> Result<Mode, LineError>
+    ensures mode { result_ok result ≡ mode_of word.now }
+    ensures refused { IfErr result (λ e. e ≡ LineError.BadCommand) }
+{
+    match word {
+        "r" => Ok(Mode::Reader),
+        "w" => Ok(Mode::Writer),
+        _ => Err(LineError::BadCommand),
+    }
+}
+
+fn parse_create(alloc: Global, name: &str, guid: &str) -> Result<Command, LineError>
+    ensures command { IfOk result (λ command. command ≡ Command.Create name.now (spelled_number guid.now)) }
+    ensures ok { IsOk result → (0 < length name.now) × IsNumberBelow (2 ^ 64) guid.now }
+    ensures refused { IfErr result (λ e. 0 < length name.now → IsNumberBelow (2 ^ 64) guid.now
+        → e ≡ LineError.NoMemory) }
+{
+    if name.is_empty() {
+        return Err(LineError::BadCommand);
+    }
+    Ok(Command::Create {
+        name: Bytes::from_slice(alloc, name.as_bytes())?,
+        guid: wide(guid)?,
+    })
+}
+
+fn parse_begin(alloc: Global, owner: &str, words: &[&str]) -> Result<Step, LineError>
+    ensures begin { IfOk result (λ step. IsBeginOf owner.now (length words.now) step) }
+    ensures owner { IsOk result → IsNumberBelow (2 ^ 32) owner.now }
+{
+    let owner = parse_owner(owner)?;
+    Ok(Step::Begin(owner, Plan::new(parse_shapes(alloc, words)?)))
+}
+
+fn parse_shapes(alloc: Global, words: &[&str]) -> Result<Vec<Shape>, LineError>
+    ensures { IfOk result (λ shapes. vec_len shapes ≡ length words.now) }
+{
+    let mut shapes = Vec::new(alloc);
+    for word in words {
+        shapes.push(parse_shape(alloc, word)?)?;
+    }
+    Ok(shapes)
+}
+
+fn parse_shape(alloc: Global, word: &str) -> Result<Shape, LineError> {
+    let parts: Vec<&str> = word.split(':').collect(alloc)?;
+    match parts.as_slice() {
+        ["c", object] => Ok(Shape::Create(parse_object(object)?)),
+        ["w", object, offset, length] => Ok(Shape::Write(
+            parse_object(object)?,
+            wide(offset)?,
+            wide(length)?,
+        )),
+        _ => Err(LineError::BadCommand),
+    }
+}
+
+fn parse_commit(alloc: Global, tx: &str, words: &[&str]) -> Result<PoolCommand, LineError>
+    ensures commit { IfOk result (λ asked. IsCommitOf tx.now words.now asked) }
+    ensures tx { IsOk result → IsNumberBelow (2 ^ 64) tx.now }
+{
+    let tx = TxId(wide(tx)?);
+    Ok(PoolCommand::Commit(tx, parse_contents(alloc, words)?))
+}
+
+fn parse_contents(alloc: Global, words: &[&str]) -> Result<Vec<Bytes>, LineError>
+    ensures count { IfOk result (λ contents. vec_len contents ≡ length words.now) }
+    ensures each { IfOk result (λ contents. AreContentsOf words.now contents.items) }
+{
+    let mut contents = Vec::new(alloc);
+    for word in words {
+        contents.push(parse_content(alloc, word)?)?;
+    }
+    Ok(contents)
+}
+
+// The bytes of a word: its own, or copies of one character.
+fn parse_content(alloc: Global, word: &str) -> Result<Bytes, LineError>
+    ensures some { IfOk result (λ bytes. 0 < length bytes) }
+    ensures plain { slice_index word.now 0 ≢ 64 → IfOk result (λ bytes. bytes ≡ word.now) }
+    ensures content { IfOk result (λ bytes. IsContentOf word.now bytes) }
+{
+    if word.is_empty() || !word.bytes().all(|byte| byte.is_ascii_graphic()) {
+        return Err(LineError::BadCommand);
+    }
+    match word.strip_prefix('@') {
+        Some(copies) => parse_copies(alloc, copies),
+        None => Ok(Bytes::from_slice(alloc, word.as_bytes())?),
+    }
+}
+
+fn parse_copies(alloc: Global, copies: &str) -> Result<Bytes, LineError>
+    ensures limits { IfOk result (λ bytes. (0 < length bytes) × (length bytes ≤ 338688)) }
+    ensures copies { IfOk result (λ bytes. AreCopies copies.now bytes) }
+{
+    let Some((count, character)) = copies.split_once(':') else {
+        return Err(LineError::BadCommand);
+    };
+    let [byte] = character.as_bytes() else {
+        return Err(LineError::BadCommand);
+    };
+    make_copies(alloc, count, *byte)
+}
+
+fn make_copies(alloc: Global, count: &str, byte: u8) -> Result<Bytes, LineError>
+    ensures number { IsOk result → IsNumberBelow 338689 count.now × (0 < spelled_number count.now) }
+    ensures copies { IfOk result (λ bytes. bytes ≡ replicate (spelled_number count.now) byte) }
+    ensures limits { IfOk result (λ bytes. (0 < length bytes) × (length bytes ≤ 338688)) }
+    ensures refused { IfErr result (λ e. IsNumberBelow 338689 count.now → 0 < spelled_number count.now
+        → e ≡ LineError.NoMemory) }
+{
+    let count = wide(count)?;
+    if count == 0 || count > MAX_COPIES {
+        return Err(LineError::BadCommand);
+    }
+    Ok(Bytes::new(vec![in alloc; byte; count as usize]?))
+}
+
+fn parse_crash(alloc: Global, letters: &str) -> Result<Command, LineError>
+    ensures crash { IfOk result (λ command. IsCrashOf letters.now command) }
+    ensures refused { 0 < length letters.now → All (λ letter. IsSome (piece_of letter)) letters.now
+        → IfErr result (λ e. e ≡ LineError.NoMemory) }
+{
+    if letters.is_empty() {
+        return Err(LineError::BadCommand);
+    }
+    Ok(Command::Crash(parse_pieces(alloc, letters.as_bytes())?))
+}
+
+fn parse_pieces(alloc: Global, letters: &[u8]) -> Result<Vec<Piece>, LineError>
+    ensures pieces { IfOk result (λ pieces. map Some pieces.items ≡ map piece_of letters.now) }
+    ensures refused { All (λ letter. IsSome (piece_of letter)) letters.now
+        → IfErr result (λ e. e ≡ LineError.NoMemory) }
+{
+    let mut pieces = Vec::new(alloc);
+    for letter in letters {
+        pieces.push(parse_piece(*letter)?)?;
+    }
+    Ok(pieces)
+}
+
+fn parse_piece(letter: u8) -> Result<Piece, LineError>
+    ensures piece { result_ok result ≡ piece_of letter }
+    ensures refused { IfErr result (λ e. e ≡ LineError.BadCommand) }
+{
+    match letter {
+        b'k' => Ok(Piece::Keep),
+        b'l' => Ok(Piece::Lose),
+        b't' => Ok(Piece::Fill(TORN)),
+        _ => Err(LineError::BadCommand),
+    }
+}

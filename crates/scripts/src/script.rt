@@ -1,0 +1,131 @@
+//! A script, line by line.
+
+ghost use Rattle.std.specs.Prelude.{◌≡◌, ◌≢◌, ◌≤◌, ◌↔◌, IsTrue, None, Ok};
+ghost use Rattle.scripts.specs.Endings.{status_number};
+ghost use Rattle.scripts.specs.Letters.{is_silent};
+
+use crate::answer::Answer;
+use crate::command::{LineError, parse_command};
+use crate::session::{BadCommand, Session};
+use base::PoolError;
+use std::alloc::Global;
+use std::io::{self, BufRead, BufReader, BufWriter, Read, Write};
+
+/// The status of a script that could not be read, or whose answers could not be written.
+pub const FAILED: u8 = 3;
+
+/// How a script ended.
+#[derive(Clone, Copy, Debug, PartialEq, Eq)]
+enum Ending {
+    Done,
+    BadLine,
+    Failed,
+}
+
+fn status_of(ending: Ending) -> u8
+    ensures status { result ≡ status_number ending }
+    ensures range { result ≤ 3 }
+    ensures no_refusal { result ≢ 1 }
+{
+    match ending {
+        Ending::Done => 0,
+        Ending::BadLine => 2,
+        Ending::Failed => FAILED,
+    }
+}
+
+/// Runs a script on a device in memory of `size` div 512 sectors, and prints one line for each command.
+///
+/// A line is a command, or empty, or begins with `#`; the last two print nothing, whatever bytes follow. A refusal is
+/// printed, and the script goes on. A line that is no command, also one that is no UTF-8, prints `line N: bad command` and
+/// ends it.
+///
+/// It answers the status to end with: 0 where the script was done, 2 at a line that is no command, 3 where the reader or
+/// the writer failed, and then nothing more is printed.
+pub fn run_script<R: Read + Drop, W: Write + Drop>(
+    alloc: Global,
+    size: u64,
+    moment: u64,
+    script: R,
+    out: W,
+) -> u8
+    ensures range { result ≤ 3 }
+    ensures no_refusal { result ≢ 1 }
+{
+    let Ok(mut reader) = BufReader::new(alloc, script) else {
+        return status_of(Ending::Failed);
+    };
+    let Ok(mut writer) = BufWriter::new(alloc, out) else {
+        return status_of(Ending::Failed);
+    };
+    let ending = match run_lines(
+        alloc,
+        &mut Session::new(alloc, size, moment),
+        &mut reader,
+        &mut writer,
+    ) {
+        Ok(ending) => ending,
+        Err(_) => Ending::Failed,
+    };
+    // What the writer did not take is not handed to it again.
+    let _ = writer.into_parts();
+    status_of(ending)
+}
+
+fn run_lines<R: BufRead, W: Write>(
+    alloc: Global,
+    session: &mut Session,
+    script: &mut R,
+    out: &mut W,
+) -> io::Result<Ending> {
+    let mut line = Vec::new(alloc);
+    for number in 1..u64::MAX {
+        line.clear();
+        if script.read_until(b'\n', &mut line)? == 0 {
+            return Ok(Ending::Done);
+        }
+        match run_line(alloc, session, without_newline(line.as_slice())) {
+            Ok(None) => {}
+            Ok(Some(answer)) => writeln!(out, "{answer}")?,
+            Err(BadCommand) => {
+                writeln!(out, "line {number}: bad command")?;
+                out.flush()?;
+                return Ok(Ending::BadLine);
+            }
+        }
+        out.flush()?;
+    }
+    Ok(Ending::Failed)
+}
+
+fn without_newline(line: &[u8]) -> &[u8] {
+    line.strip_suffix(b"\n").unwrap_or(line)
+}
+
+// Whether a line is empty or a comment, which may have any bytes.
+fn prints_nothing(line: &[u8]) -> bool
+    ensures { result ≡ is_silent line.now }
+{
+    match line {
+        [] | [b'#', ..] => true,
+        _ => false,
+    }
+}
+
+// The answer to a line, if it has one.
+fn run_line(alloc: Global, session: &mut Session, line: &[u8]) -> Result<Option<Answer>, BadCommand>
+    ensures silent { result ≡ Ok None ↔ IsTrue (is_silent line.now) }
+    ensures unchanged { IsTrue (is_silent line.now) → session.new ≡ session.old }
+{
+    if prints_nothing(line) {
+        return Ok(None);
+    }
+    let Ok(text) = str::from_utf8(line) else {
+        return Err(BadCommand);
+    };
+    match parse_command(alloc, text) {
+        Ok(command) => Ok(Some(session.run(command)?)),
+        Err(LineError::NoMemory) => Ok(Some(Answer::refused(PoolError::NoMemory))),
+        Err(LineError::BadCommand) => Err(BadCommand),
+    }
+}

@@ -1,0 +1,216 @@
+//! The device and the pool that a script works on.
+
+ghost use Rattle.std.specs.Prelude.{◌≡◌, ◌↔◌, ◌*◌, ◌/◌, true, false, is_ok, is_some, IsTrue, IsOk, IsErr, IfOk, IsErrOf, unwrap_or, IfSome, IsSomeAnd};
+ghost use Rattle.base.specs.disk.Disk.{bytes_of};
+ghost use Rattle.base.specs.formats.Geometry.{is_geometry};
+ghost use Rattle.device_model.specs.MemState.{new_state};
+ghost use Rattle.import_replay.specs.Creations.{IsCreatedOn};
+
+use crate::answer::Answer;
+use crate::command::{Command, PoolCommand};
+use crate::pool_commands;
+use base::{Bytes, Group, Piece, PoolError, Reply};
+use device_model::MemDevice;
+use import_replay::{Imported, create, import};
+use labels::Geometry;
+use pool_core::PoolState;
+use std::alloc::Global;
+use std::mem;
+
+/// The bytes of a sector.
+const SECTOR_SIZE: u64 = 512;
+
+/// A command that needs a device or a pool where there is none, or has more letters than there are writes.
+#[derive(Clone, Copy, Debug, PartialEq, Eq)]
+pub struct BadCommand;
+
+// What a script has so far.
+#[derive(Drop)]
+enum Place {
+    Nothing,
+    Device(MemDevice),
+    Pool(PoolState<MemDevice>),
+}
+
+/// A run of a script: its device in memory, and the pool that is imported from it.
+#[derive(Drop)]
+pub struct Session {
+    alloc: Global,
+    size: u64,
+    moment: u64,
+    place: Place,
+}
+
+impl Session {
+    ghost use Rattle.scripts.specs.Devices.{Creates, IfPool, Imports, IsImportedPool, device_for, imported_answer};
+    ghost use Rattle.scripts.specs.Places.{Crashes, device_in, has_device, has_pool, is_crash};
+    ghost use Rattle.scripts.specs.Sessions.{AsksIn, Does, IsNewSession, IsSameRun, Leaves, has_what_it_needs};
+
+    /// A session with no device yet. A new device has `size` div 512 sectors, and each uberblock this moment.
+    pub fn new(alloc: Global, size: u64, moment: u64) -> Self
+        ensures { IsNewSession size moment result }
+    {
+        Session {
+            alloc,
+            size,
+            moment,
+            place: Place::Nothing,
+        }
+    }
+
+    /// Does what a command asks for.
+    ///
+    /// # Errors
+    /// `BadCommand` where it needs a device or an imported pool and there is none, or where a crash is given more letters
+    /// than there are unflushed writes. A refusal of the pool is an answer.
+    pub fn run(&mut self, command: Command) -> Result<Answer, BadCommand>
+        ensures needs { IsOk result → IsTrue (has_what_it_needs command self.old) }
+        ensures answered { is_crash command ≡ false
+            → is_ok result ≡ has_what_it_needs command self.old }
+        ensures left { Leaves command self.old result self.new }
+        ensures done { Does command self.old result self.new }
+        ensures same_run { IsSameRun self.old self.new }
+    {
+        match command {
+            Command::Create { name, guid } => Ok(self.create(&name, guid)),
+            Command::Import { dirty_max } => self.import(dirty_max),
+            Command::Crash(pieces) => self.crash(pieces.as_slice()),
+            Command::Pool(command) => self.run_on_pool(command),
+        }
+    }
+
+    // The device, which then is no longer the session's. A pool on it is gone.
+    fn take_device(&mut self) -> Option<MemDevice>
+        ensures device { result ≡ device_in self.old.place }
+        ensures variant { is_some result ≡ has_device self.old.place }
+        ensures taken { self.new.place ≡ Place.Nothing }
+        ensures same_run { IsSameRun self.old self.new }
+    {
+        match mem::replace(&mut self.place, Place::Nothing) {
+            Place::Nothing => None,
+            Place::Device(device) => Some(device),
+            Place::Pool(pool) => Some(pool.into_device()),
+        }
+    }
+
+    // A device of zeros. It is refused `BadGeometry` where no pool may have its size, and `NoMemory`.
+    fn new_device(&self) -> Result<MemDevice, PoolError>
+        ensures device { IfOk result (λ device. device ≡ new_state (self.now.size / 512)) }
+        ensures size { IsErrOf result PoolError.BadGeometry
+            ↔ (is_geometry (512 * (self.now.size / 512)) ≡ false) }
+    {
+        let sectors = self.size / SECTOR_SIZE;
+        let _ = Geometry::of(sectors)?;
+        MemDevice::new(self.alloc, sectors)
+    }
+
+    fn take_or_make_device(&mut self) -> Result<MemDevice, PoolError>
+        ensures needs { IsErr result → has_device self.old.place ≡ false }
+        ensures device { IfOk result (λ device. device ≡ device_for self.old) }
+        ensures taken { self.new.place ≡ Place.Nothing }
+        ensures same_run { IsSameRun self.old self.new }
+    {
+        match self.take_device() {
+            Some(device) => Ok(device),
+            None => self.new_device(),
+        }
+    }
+
+    fn create(&mut self, name: &Bytes, guid: u64) -> Answer
+        ensures left { IsTrue (has_device self.old.place) → IsTrue (has_device self.new.place) }
+        ensures no_pool { has_pool self.new.place ≡ false }
+        ensures created { result ≡ Answer.Reply Reply.Done → IsSomeAnd (device_in self.new.place)
+            (λ device. IsCreatedOn (bytes_of device.disk.now) name.now guid) }
+        ensures creates { Creates name.now guid self.old result self.new.place }
+        ensures same_run { IsSameRun self.old self.new }
+    {
+        let device = match self.take_or_make_device() {
+            Ok(device) => device,
+            Err(error) => return Answer::refused(error),
+        };
+        match create(device, name.as_slice(), guid, self.moment) {
+            Ok(device) => {
+                self.place = Place::Device(device);
+                Answer::Reply(Reply::Done)
+            }
+            Err((error, device)) => self.give_back(error, device),
+        }
+    }
+
+    // A refusal, with the device that came back.
+    fn give_back(&mut self, error: PoolError, device: MemDevice) -> Answer
+        ensures refused { result ≡ Answer.Reply (Reply.Refused error) }
+        ensures device { self.new.place ≡ Place.Device device }
+        ensures same_run { IsSameRun self.old self.new }
+    {
+        self.place = Place::Device(device);
+        Answer::refused(error)
+    }
+
+    fn import(&mut self, dirty_max: u64) -> Result<Answer, BadCommand>
+        ensures needs { is_ok result ≡ has_device self.old.place }
+        ensures left { has_device self.new.place ≡ has_device self.old.place }
+        ensures imports { IfOk result (λ told. IfSome (device_in self.old.place)
+            (λ device. Imports dirty_max self.old.moment device told self.new.place)) }
+        ensures same_run { IsSameRun self.old self.new }
+    {
+        let Some(device) = self.take_device() else {
+            return Err(BadCommand);
+        };
+        match import(self.alloc, device, dirty_max, self.moment) {
+            Ok(imported) => Ok(self.keep_pool(imported)),
+            Err((error, device)) => Ok(self.give_back(error, device)),
+        }
+    }
+
+    // Keeps an imported pool, and tells what it is.
+    fn keep_pool(&mut self, imported: Imported<MemDevice>) -> Answer
+        ensures pool { IfPool self.new.place (IsImportedPool imported.device imported.mounted) }
+        ensures told { result ≡ imported_answer imported.mounted }
+        ensures same_run { IsSameRun self.old self.new }
+    {
+        let synced = imported.group();
+        let records = imported.records();
+        self.place = Place::Pool(PoolState::new(imported));
+        Answer::Imported {
+            synced,
+            open: Group(synced.0.saturating_add(1)),
+            records,
+        }
+    }
+
+    fn crash(&mut self, pieces: &[Piece]) -> Result<Answer, BadCommand>
+        ensures crash { Crashes (device_in self.old.place) pieces.now result self.new.place }
+        ensures needs { IsOk result → IsTrue (has_device self.old.place) }
+        ensures left { has_device self.new.place ≡ has_device self.old.place }
+        ensures same_run { IsSameRun self.old self.new }
+        ensures no_pool { has_pool self.new.place ≡ false }
+    {
+        let Some(device) = self.take_device() else {
+            return Err(BadCommand);
+        };
+        let unflushed = device.unflushed();
+        if unflushed < pieces.len() {
+            self.place = Place::Device(device);
+            return Err(BadCommand);
+        }
+        self.place = Place::Device(device.crash(pieces));
+        Ok(Answer::Crashed(unflushed))
+    }
+
+    fn run_on_pool(&mut self, command: PoolCommand) -> Result<Answer, BadCommand>
+        ensures needs { is_ok result ≡ has_pool self.old.place }
+        ensures left { has_pool self.new.place ≡ has_pool self.old.place }
+        ensures asked { IfOk result (λ told.
+            AsksIn command self.old.moment self.old.place told self.new.place) }
+        ensures same_run { IsSameRun self.old self.new }
+    {
+        match &mut self.place {
+            Place::Pool(pool) => {
+                let reply = pool_commands::run(self.alloc, pool, self.moment, command);
+                Ok(Answer::Reply(reply))
+            }
+            _ => Err(BadCommand),
+        }
+    }
+}

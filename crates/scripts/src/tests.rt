@@ -1,0 +1,291 @@
+use crate::run_script;
+use std::alloc::Global;
+use std::io::{self, ErrorKind, Read, Write};
+use std::test::Fail;
+
+const SIZE: u64 = 8_388_608;
+
+/// A script that is run on a device of so many bytes, its status, and what it prints.
+#[derive(Clone, Copy)]
+struct Row {
+    size: u64,
+    script: &'static str,
+    status: u8,
+    answers: &'static str,
+}
+
+/// One transaction is synced, and read after a crash.
+const FIRST_PATH: Row = Row {
+    size: SIZE,
+    script: "create tank 77\nimport 1048576\nlock 1 1 w 0 338688\nbegin 1 c:1 w:1:0:4\ncommit 0 abcd\nunlock 1 0\nsync\ncrash\nimport 1048576\nlock 1 1 r 0 4\nread 1 1 0 4\n",
+    status: 0,
+    answers: "ok\nsynced 8 open 9 records 0\nlock 0\ntx 0 group 9\nentry 0 group 9\nok\nsynced 9\ncrashed 0\nsynced 13 open 14 records 0\nlock 0\nbytes 4 61626364\n",
+};
+
+/// A reader shares no byte with a writer.
+const LOCKS: Row = Row {
+    size: SIZE,
+    script: "create tank 77\nimport 1048576\nlock 1 1 w 0 10\nlock 2 1 r 9 12\nlock 2 1 r 10 12\n",
+    status: 0,
+    answers: "ok\nsynced 8 open 9 records 0\nlock 0\nrefused 14 Busy\nlock 1\n",
+};
+
+/// The last byte of an object, one behind it, and a write of nothing.
+const RANGES: Row = Row {
+    size: SIZE,
+    script: "create tank 77\nimport 1048576\nlock 1 1 w 0 338688\nbegin 1 w:1:338684:4\nbegin 1 w:1:338685:4\nbegin 1 w:1:0:0\n",
+    status: 0,
+    answers: "ok\nsynced 8 open 9 records 0\nlock 0\ntx 0 group 9\nrefused 11 BadRange\nrefused 11 BadRange\n",
+};
+
+/// One sector less than 6 MiB, and more than 1 GiB: no pool, and no device.
+const TOO_SMALL: Row = Row {
+    size: 6_290_944,
+    script: "create tank 77\nimport 1048576\n",
+    status: 2,
+    answers: "refused 8 BadGeometry\nline 2: bad command\n",
+};
+
+const TOO_LARGE: Row = Row {
+    size: 1_074_003_968,
+    script: "create tank 77\n",
+    status: 0,
+    answers: "refused 8 BadGeometry\n",
+};
+
+/// Comments and empty lines print nothing.
+const BAD_WORD: Row = Row {
+    size: SIZE,
+    script: "create tank 77\n\n# a comment\nnothing\nclose\n",
+    status: 2,
+    answers: "ok\nline 4: bad command\n",
+};
+
+const NO_DEVICE: Row = Row {
+    size: SIZE,
+    script: "import 1048576\n",
+    status: 2,
+    answers: "line 1: bad command\n",
+};
+
+const NO_POOL: Row = Row {
+    size: SIZE,
+    script: "create tank 77\nclose\n",
+    status: 2,
+    answers: "ok\nline 2: bad command\n",
+};
+
+/// One letter more than there are unflushed writes.
+const SURPLUS_LETTERS: Row = Row {
+    size: SIZE,
+    script: "create tank 77\nimport 1048576\ncrash k\n",
+    status: 2,
+    answers: "ok\nsynced 8 open 9 records 0\nline 3: bad command\n",
+};
+
+/// The words of a commit: bytes of another length, words of another number, no open transaction, copies of a character.
+const WORDS: Row = Row {
+    size: SIZE,
+    script: "create tank 77\nimport 1048576\nlock 1 1 w 0 338688\nbegin 1 c:1 w:1:0:4\ncommit 0 abc\ncommit 0\ncommit 0 abcd abcd\ncommit 1 abcd\ncommit 0 @4:z\nread 1 1 0 10\n",
+    status: 0,
+    answers: "ok\nsynced 8 open 9 records 0\nlock 0\ntx 0 group 9\nrefused 12 OutOfPlan\nrefused 12 OutOfPlan\nrefused 12 OutOfPlan\nrefused 19 NoSuchTransaction\nentry 0 group 9\nbytes 4 7a7a7a7a\n",
+};
+
+/// The steps of a sync, one device call each, and a crash that tears all four uberblocks: the group before is mounted.
+const STEPS: Row = Row {
+    size: SIZE,
+    script: "create tank 77\nimport 1048576\nlock 1 1 w 0 338688\nbegin 1 c:1\ncommit 0\nclose\nquiesce\nstart\nstep\nstep\nstep\nstep\nstep\nstep\nstep\ncrash tttt\nimport 1048576\nlock 1 1 r 0 4\nread 1 1 0 4\n",
+    status: 0,
+    answers: "ok\nsynced 8 open 9 records 0\nlock 0\ntx 0 group 9\nentry 0 group 9\nopen 10\nquiesced 9\nsyncing 9\nmore\nmore\nmore\nmore\nmore\nmore\nmore\ncrashed 4\nsynced 12 open 13 records 0\nlock 0\nrefused 9 NoObject\n",
+};
+
+/// A refused import leaves the device with its pool, and so does a create that is refused for its name. A size needs only
+/// whole sectors to be a pool's, and a last line needs no newline.
+const DEVICES: Row = Row {
+    size: SIZE + 511,
+    script: "create 9 77\ncrash\nimport 4095\ncreate tank 0077\nimport 1048576\nimport 4095\nimport 1099511627777\ncrash\nimport 1099511627776\ncreate 9 77\nimport 4096\ncrash\nbegin 1",
+    status: 2,
+    answers: "refused 11 BadRange\ncrashed 0\nrefused 11 BadRange\nok\nsynced 8 open 9 records 0\nrefused 11 BadRange\nrefused 11 BadRange\ncrashed 0\nsynced 12 open 13 records 0\nrefused 11 BadRange\nsynced 16 open 17 records 0\ncrashed 0\nline 13: bad command\n",
+};
+
+/// A write across two records: two data blocks, the indirect block, the directory and the root, a flush, four uberblocks
+/// and a flush are eleven steps.
+const ELEVEN_STEPS: Row = Row {
+    size: SIZE,
+    script: "create tank 77\nimport 1048576\nlock 1 1 w 0 338688\nbegin 1 c:1 w:1:4030:4\ncommit 0 abcd\nclose\nquiesce\nstart\nstep\nfinish\nbegin 1 w:1:4030:4\ncommit 1 efgh\nclose\nquiesce\nstart\nstep\nstep\nstep\nstep\nstep\nstep\nstep\nstep\nstep\nstep\nstep\nbegin 1 w:1:4030:4\ncommit 2 ijkl\nclose\nquiesce\nstart\nfinish\nbegin 1 w:1:4030:4\ncommit 3 mnop\nsync\n",
+    status: 0,
+    answers: "ok\nsynced 8 open 9 records 0\nlock 0\ntx 0 group 9\nentry 0 group 9\nopen 10\nquiesced 9\nsyncing 9\nmore\nsynced 9\ntx 1 group 10\nentry 1 group 10\nopen 11\nquiesced 10\nsyncing 10\nmore\nmore\nmore\nmore\nmore\nmore\nmore\nmore\nmore\nmore\nsynced 10\ntx 2 group 11\nentry 2 group 11\nopen 12\nquiesced 11\nsyncing 11\nsynced 11\ntx 3 group 12\nentry 3 group 12\nsynced 12\n",
+};
+
+/// The owner stands before the object. A gap before a write is zeros, two digits each, and behind it there are no bytes.
+const NUMBERS: Row = Row {
+    size: SIZE,
+    script: "create tank 77\nimport 1048576\nlock 2 1 w 0 338688\nbegin 1 c:1\nbegin 2 c:1 w:1:2:2\ncommit 0 ab\nread 2 1 0 10\nread 2 1 4 10\nread 1 1 0 4\nread 1 2 0 4\nunlock 1 0\nunlock 2 0\nread 2 1 0 4\n",
+    status: 0,
+    answers: "ok\nsynced 8 open 9 records 0\nlock 0\nrefused 13 NotLocked\ntx 0 group 9\nentry 0 group 9\nbytes 4 00006162\nbytes 0\nrefused 13 NotLocked\nrefused 13 NotLocked\nrefused 21 NoSuchLock\nok\nrefused 13 NotLocked\n",
+};
+
+/// A plan with no shape is the pool's to refuse.
+const NO_SHAPE: Row = Row {
+    size: SIZE,
+    script: "create tank 77\nimport 1048576\nbegin 1\n",
+    status: 0,
+    answers: "ok\nsynced 8 open 9 records 0\nrefused 11 BadRange\n",
+};
+
+// The status and the text of a run.
+fn run(alloc: Global, row: &Row) -> Result<(u8, String), Fail> {
+    let mut out = Vec::new(alloc);
+    let status = run_script(alloc, row.size, 0, row.script.as_bytes(), &mut out);
+    Ok((status, String::from_utf8(out)?))
+}
+
+#[test]
+fn prints_the_answers_of_whole_scripts(rt: HostRuntime) -> Result<(), Fail> {
+    for row in [FIRST_PATH, LOCKS, RANGES, WORDS, STEPS, NO_SHAPE] {
+        let (status, text) = run(rt.alloc(), &row)?;
+        assert_eq!(rt; text.as_str(), row.answers);
+        assert_eq!(rt; status, row.status);
+    }
+    Ok(())
+}
+
+#[test]
+fn leaves_devices_steps_syncs_and_tells_numbers(rt: HostRuntime) -> Result<(), Fail> {
+    for row in [DEVICES, ELEVEN_STEPS, NUMBERS] {
+        let (status, text) = run(rt.alloc(), &row)?;
+        assert_eq!(rt; text.as_str(), row.answers);
+        assert_eq!(rt; status, row.status);
+    }
+    Ok(())
+}
+
+#[test]
+fn ends_at_the_first_bad_line(rt: HostRuntime) -> Result<(), Fail> {
+    for row in [
+        TOO_SMALL,
+        TOO_LARGE,
+        BAD_WORD,
+        NO_DEVICE,
+        NO_POOL,
+        SURPLUS_LETTERS,
+    ] {
+        let (status, text) = run(rt.alloc(), &row)?;
+        assert_eq!(rt; text.as_str(), row.answers);
+        assert_eq!(rt; status, row.status);
+    }
+    Ok(())
+}
+
+// What a line alone prints, before there is a device.
+fn answer(alloc: Global, line: &[u8]) -> Result<String, Fail> {
+    let mut out = Vec::new(alloc);
+    let _ = run_script(alloc, SIZE, 0, line, &mut out);
+    Ok(String::from_utf8(out)?)
+}
+
+#[test]
+fn takes_no_other_form_of_a_line(rt: HostRuntime) -> Result<(), Fail> {
+    for line in [
+        "create tank +7",
+        "create tank 18446744073709551616",
+        "create tank",
+        "create  77",
+        "create tank 77\r",
+        " create tank 77",
+        "create tank 7\u{e9}",
+        "Create tank 77",
+        "lock 1 1 x 0 4",
+        "lock 4294967296 1 w 0 4",
+        "begin 1 c:1:2",
+        "begin 1 d:1",
+        "commit 0 \u{e9}",
+        "commit 0 @0:a",
+        "commit 0 @338689:a",
+        "commit 0 @4",
+        "crash x",
+        "status",
+    ] {
+        assert_eq!(rt;
+            answer(rt.alloc(), line.as_bytes())?.as_str(),
+            "line 1: bad command\n",
+            "{line}"
+        );
+    }
+    assert_eq!(rt;
+        answer(rt.alloc(), b"create t\xff 77")?.as_str(),
+        "line 1: bad command\n"
+    );
+    Ok(())
+}
+
+#[test]
+fn skips_comments_of_any_bytes_and_any_number_of_lines(rt: HostRuntime) -> Result<(), Fail> {
+    assert_eq!(rt;
+        answer(rt.alloc(), b"#\xff\n# \xc3\n\nnothing\n")?.as_str(),
+        "line 4: bad command\n"
+    );
+    let lines = "\n".repeat(rt.alloc(), 2000)?;
+    let mut script = lines.into_bytes();
+    script.extend_from_slice(b"nothing")?;
+    assert_eq!(rt;
+        answer(rt.alloc(), script.as_slice())?.as_str(),
+        "line 2001: bad command\n"
+    );
+    Ok(())
+}
+
+// A reader that fails behind its first line.
+#[derive(Drop)]
+struct Broken {
+    first: bool,
+}
+
+impl Read for Broken {
+    fn read(&mut self, into: &mut [u8]) -> io::Result<usize> {
+        if !self.first {
+            return Err(io::Error::from(ErrorKind::Other));
+        }
+        self.first = false;
+        let mut line: &[u8] = b"create 9 77\n";
+        line.read(into)
+    }
+}
+
+// A writer that takes so many calls.
+#[derive(Drop)]
+struct Full {
+    calls: u8,
+    text: Vec<u8>,
+}
+
+impl Write for Full {
+    fn write(&mut self, bytes: &[u8]) -> io::Result<usize> {
+        if self.calls == 0 {
+            return Err(io::Error::from(ErrorKind::Other));
+        }
+        self.calls -= 1;
+        self.text.write(bytes)
+    }
+
+    fn flush(&mut self) -> io::Result<()> {
+        Ok(())
+    }
+}
+
+#[test]
+fn prints_nothing_once_a_reader_or_writer_failed(rt: HostRuntime) -> Result<(), Fail> {
+    let mut out = Vec::new(rt.alloc());
+    let status = run_script(rt.alloc(), SIZE, 0, Broken { first: true }, &mut out);
+    assert_eq!(rt; status, 3);
+    assert!(rt; out.as_slice() == b"refused 11 BadRange\n".as_slice());
+    let mut full = Full {
+        calls: 1,
+        text: Vec::new(rt.alloc()),
+    };
+    let script = b"create 9 77\ncrash\nimport 4095\n";
+    let status = run_script(rt.alloc(), SIZE, 0, script.as_slice(), &mut full);
+    assert_eq!(rt; status, 3);
+    assert!(rt; full.text.as_slice() == b"refused 11 BadRange\n".as_slice());
+    Ok(())
+}

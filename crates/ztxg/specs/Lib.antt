@@ -1,9 +1,0 @@
-pub mod Commands
-pub mod Copies
-pub mod Devices
-pub mod Endings
-pub mod Fillings
-pub mod Letters
-pub mod Numbers
-pub mod Places
-pub mod PoolSteps
