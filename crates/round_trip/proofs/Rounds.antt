@@ -22,7 +22,7 @@ use Rattle.base.proofs.stored.StoredSyncs.{up_to-all}
 use Rattle.pool_core.specs.declared.pool.Pool.{Pool}
 use Rattle.pool_core.specs.Holds.{KeepsHeld, Leads, Told, held_with}
 use Rattle.pool_core.specs.Turns.{MakesStep, state_after, state_with, told_on}
-use Rattle.round_trip.specs.Rounds.{AreLeft, HoldsContents, IsAllSynced, IsOpened, IsRound}
+use Rattle.round_trip.specs.Rounds.{AreLeft, HoldsContents, IsAllSynced, IsOpened, IsCleanRound}
 
 -- an image without log blocks has no chain
 pub no_chain : (now : List ℕ) (u : Uberblock) → HasNoLogBlock now → IsChainOf now u []
@@ -115,7 +115,7 @@ module _ (Dev keeps : Type 0) (refused : Dev → RefusedCalls) (disk : Dev → D
   -- a run from a pool that was just imported is a round
   pub round : (image : List ℕ) (ss : List declared_step.Step) (rs : List declared_reply.Reply) (old new : Pool × Dev) → Run (MakesStep Dev keeps refused disk) ss rs old new → (before : Contents) (dirty_max moment : ℕ)
       → IsOpened image (bytes_of (disk old.1).now) moment → (told_on disk old).shown.contents ≡ before → IsHeld (held_with (told_on disk old) (new_past before 0 dirty_max)) → HasNoLogBlock (bytes_of (disk old.1).now)
-      → (after : Contents) × IsRound image before dirty_max moment ss rs (bytes_of (disk new.1).now) after
+      → (after : Contents) × IsCleanRound image before dirty_max moment ss rs (bytes_of (disk new.1).now) after
   round image ss rs old new ran before dirty_max moment opened shows held none =
       let past : Past = new_past before 0 dirty_max in
       let l = led ss rs old new ran past held none in

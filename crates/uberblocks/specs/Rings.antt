@@ -27,8 +27,8 @@ abbrev pub IsRingOf : List ℕ → List ℕ → Type 0
 IsRingOf ring image = (label : ℕ) → label < 4 → part ring (131072 * label) 131072 ≡ part image (slot_place (length image) label 0) 131072
 
 -- an uberblock stands in the slot at this position of a ring, where 128 slots follow one another in each label
-abbrev pub StandsAt : List ℕ → ℕ → Fields → Type 0
-StandsAt ring position u = IsUberblock (part ring (1024 * position) 1024) u × (slot_of u.group ≡ position % 128)
+abbrev pub StandsAtPosition : List ℕ → ℕ → Fields → Type 0
+StandsAtPosition ring position u = IsUberblock (part ring (1024 * position) 1024) u × (slot_of u.group ≡ position % 128)
 
 -- The position that is looked at after so many others: the labels one after another, and of each the last slot first.
 abbrev pub position_of : ℕ → ℕ
@@ -43,13 +43,13 @@ is_above group (Some best) = nat_lt best.group.0 group
 pub record IsFoundAt (ring : List ℕ) (position : ℕ) (best result : Option Uberblock) : Type 0 where
   pub found : Uberblock
   pub is : result ≡ Some found
-  pub stands : StandsAt ring position (fields_of found)
+  pub stands : StandsAtPosition ring position (fields_of found)
   pub above : is_above found.group.0 best ≡ true
 
 -- the best so far, where nothing that stands at a position is above it
 pub record IsKeptAt (ring : List ℕ) (position : ℕ) (best result : Option Uberblock) : Type 0 where
   pub is : result ≡ best
-  pub none : (u : Fields) → StandsAt ring position u → is_above u.group best ≡ false
+  pub none : (u : Fields) → StandsAtPosition ring position u → is_above u.group best ≡ false
 
 -- the better of the best so far and of what stands at a position
 abbrev pub IsBetterAt : List ℕ → ℕ → Option Uberblock → Option Uberblock → Type 0
