@@ -41,7 +41,12 @@ impl Model for Frame {
       group = record { 0 = f.group };
     } };
 
-    ghost inverse_ok = { λ f h i. record { version = version_of-number_of_version f.version i; guid = f.guid; blocks = f.blocks; group = f.group } };
+    ghost inverse_ok = { λ f h i. record {
+      version = version_of-number_of_version f.version i;
+      guid = f.guid;
+      blocks = f.blocks;
+      group = f.group;
+    } };
 }
 
 impl Frame {
@@ -51,8 +56,12 @@ impl Frame {
 
     /// The frame of this version, guid, number of blocks and greatest group.
     pub fn new(version: Version, guid: u64, blocks: u64, group: Group) -> Self
-        ensures { result
-            ≡ record { version = number_of_version version; guid = guid; blocks = blocks; group = group.0 } }
+        ensures { result ≡ record {
+          version = number_of_version version;
+          guid = guid;
+          blocks = blocks;
+          group = group.0;
+        } }
     {
         Frame {
             version,

@@ -11,11 +11,11 @@ use Rattle.base.specs.declared.piece.Piece.TheVariants.{Keep}
 use Rattle.base.specs.disk.Crashes.{left, crash_image}
 use Rattle.device_model.specs.Notes.{Track, after_note, tracked, start, IsOpen, LeadTo, AddsNote, Closes, with_pieces, replayed, undone}
 use Rattle.device_model.specs.MemState.{MemState}
-use Rattle.device_model.specs.Memory.{state_of, IsSound}
+use Rattle.device_model.specs.Memory.{state_of, IsSoundDevice}
 use Rattle.device_model.proofs.Tracks.{GoesOn, reads, split, goes_on_step, leads_on, writes_disk, image_is, all_weaker, Closed, closes_disk, Fits, recall_fits, length-replayed, marked_counted, marked_front, marked_goes, marked_behind, marked_disk, marked_image, undone_bytes, replayed_bytes, recall_old_fits}
 
 -- from the lists that the fields hold
-pub sound : (m : Inside) (bytes : List ℕ) (notes : List Note) → m.bytes.items ≡ bytes → m.notes.items ≡ notes → length bytes ≡ 512 * m.sectors → m.settled ≤ length notes → LeadTo (tracked (start m.sectors) (take m.settled notes)) (drop m.settled notes) bytes → IsSound m
+pub sound : (m : Inside) (bytes : List ℕ) (notes : List Note) → m.bytes.items ≡ bytes → m.notes.items ≡ notes → length bytes ≡ 512 * m.sectors → m.settled ≤ length notes → LeadTo (tracked (start m.sectors) (take m.settled notes)) (drop m.settled notes) bytes → IsSoundDevice m
 sound m bytes notes bytes_are notes_are size counted leads = record {
   size = ap (λ (l : List ℕ). length l) bytes_are ∙ size;
   counted = omega (arith, counted, ap (λ (l : List Note). length l) notes_are);
@@ -24,7 +24,7 @@ sound m bytes notes bytes_are notes_are size counted leads = record {
 }
 
 -- what a read gives is what the bytes are
-pub sound_reads : (m : Inside) → IsSound m → bytes_of (state_of m).disk.now ≡ m.bytes.items
+pub sound_reads : (m : Inside) → IsSoundDevice m → bytes_of (state_of m).disk.now ≡ m.bytes.items
 sound_reads m is = reads (start m.sectors) m.settled m.notes.items is.counted m.bytes.items is.leads
 
 -- how many writes are unflushed
@@ -34,7 +34,7 @@ open_count t (n ∷ ns) each =
     let step : length (after_note t n).disk.now.unflushed ≡ length t.disk.now.unflushed + 1 = ap (λ (u : Track). length u.disk.now.unflushed) (goes_on_step t n each.0.goes_on) ∙ omega arith in
     omega (arith, open_count (after_note t n) ns each.1, step)
 
-pub sound_unflushed : (m : Inside) → IsSound m → length m.notes.items - m.settled ≡ length (state_of m).disk.now.unflushed
+pub sound_unflushed : (m : Inside) → IsSoundDevice m → length m.notes.items - m.settled ≡ length (state_of m).disk.now.unflushed
 sound_unflushed m is =
     let from = tracked (start m.sectors) (take m.settled m.notes.items) in
     let none : length from.disk.now.unflushed ≡ 0 = ap (λ (ws : List Write). length ws) is.leads.certain in
@@ -47,7 +47,7 @@ from_ok P (Ok x) no_error p = p
 from_ok P (Err e) no_error p = absurd (cc no_error)
 
 -- one write more
-module _ (m : Inside) (is : IsSound m) (more : List Note) (place : ℕ) (content seen : List ℕ) (done : Bool) (same : seen ≡ m.bytes.items)
+module _ (m : Inside) (is : IsSoundDevice m) (more : List Note) (place : ℕ) (content seen : List ℕ) (done : Bool) (same : seen ≡ m.bytes.items)
     (adds : AddsNote m.notes.items more place content done seen) (fits : place + length content ≤ 512 * m.sectors) where
   adds_here : AddsNote m.notes.items more place content done m.bytes.items
   adds_here = subst (λ (l : List ℕ). AddsNote m.notes.items more place content done l) same adds
@@ -62,7 +62,7 @@ module _ (m : Inside) (is : IsSound m) (more : List Note) (place : ℕ) (content
   write_disk = writes_disk (start m.sectors) m.settled m.notes.items is.counted m.bytes.items more place content done adds_here
 
 -- the notes are closed: a good flush
-module _ (m : Inside) (is : IsSound m) (closed : List Note) (closes : Closes m.settled m.notes.items closed) where
+module _ (m : Inside) (is : IsSoundDevice m) (closed : List Note) (closes : Closes m.settled m.notes.items closed) where
   goes : AllByRecursion GoesOn (drop m.settled m.notes.items)
   goes = all_weaker IsOpen GoesOn (λ n is_open. is_open.goes_on) (drop m.settled m.notes.items) is.leads.each_open
 
@@ -79,7 +79,7 @@ module _ (m : Inside) (is : IsSound m) (closed : List Note) (closes : Closes m.s
   flush_disk = shut.disk ∙ ap (λ (l : List ℕ). certain l (state_of m).disk) (image_is_bytes ∙ sym (sound_reads m is))
 
 -- what is taken back, and what is left, lies on the device
-module _ (m : Inside) (is : IsSound m) where
+module _ (m : Inside) (is : IsSoundDevice m) where
   bytes_long : length m.bytes.items ≡ length (tracked (start m.sectors) (take m.settled m.notes.items)).image
   bytes_long = ap (λ (l : List ℕ). length l) is.leads.bytes_are ∙ length-replayed (drop m.settled m.notes.items) (tracked (start m.sectors) (take m.settled m.notes.items)).image (recall_fits (tracked (start m.sectors) (take m.settled m.notes.items)).image (drop m.settled m.notes.items) is.leads.recall)
 
@@ -90,7 +90,7 @@ module _ (m : Inside) (is : IsSound m) where
   content_fits size long = All-from_recursion _ (drop m.settled m.notes.items) (subst (λ (k : ℕ). AllByRecursion (Fits k) (drop m.settled m.notes.items)) (sym (long ∙ bytes_long)) (recall_fits (tracked (start m.sectors) (take m.settled m.notes.items)).image (drop m.settled m.notes.items) is.leads.recall))
 
 -- a crash that leaves these pieces
-module _ (m : Inside) (is : IsSound m) (pieces : List Piece) (marked closed : List Note) (marked_is : marked ≡ take m.settled m.notes.items ++ with_pieces pieces 0 (drop m.settled m.notes.items)) (closes : Closes m.settled marked closed) where
+module _ (m : Inside) (is : IsSoundDevice m) (pieces : List Piece) (marked closed : List Note) (marked_is : marked ≡ take m.settled m.notes.items ++ with_pieces pieces 0 (drop m.settled m.notes.items)) (closes : Closes m.settled marked closed) where
   abbrev from : Track
   from = tracked (start m.sectors) (take m.settled m.notes.items)
 
@@ -124,7 +124,7 @@ module _ (m : Inside) (is : IsSound m) (pieces : List Piece) (marked closed : Li
       ∙ ap (λ (d : Disk). certain (crash_image pieces (state_of m).disk.now) d) (marked_disk (start m.sectors) m.settled m.notes.items marked m.bytes.items pieces is.counted is.leads marked_is)
 
 -- and that image is one that a crash may leave
-pub crash_possible : (m : Inside) → IsSound m → (pieces : List Piece) → MayLeave (state_of m).disk.now (crash_image pieces (state_of m).disk.now)
+pub crash_possible : (m : Inside) → IsSoundDevice m → (pieces : List Piece) → MayLeave (state_of m).disk.now (crash_image pieces (state_of m).disk.now)
 crash_possible m is pieces =
     let from = tracked (start m.sectors) (take m.settled m.notes.items) in
     let behind = drop m.settled m.notes.items in
@@ -137,10 +137,10 @@ crash_possible m is pieces =
     (crash_may_leave pieces (tracked from behind).disk.now (subst (λ (k : ℕ). AllByRecursion (FitsWrite k) (tracked from behind).disk.now.unflushed) flushed all.0))
 
 -- the size that callers see is that of the bytes
-pub seen_size : (m : Inside) (v : MemState) → IsSound m → state_of m ≡ v → length (bytes_of v.disk.now) ≡ length m.bytes.items
+pub seen_size : (m : Inside) (v : MemState) → IsSoundDevice m → state_of m ≡ v → length (bytes_of v.disk.now) ≡ length m.bytes.items
 seen_size m v is view_is = ap (λ (w : MemState). length (bytes_of w.disk.now)) (sym view_is) ∙ ap (λ (l : List ℕ). length l) (sound_reads m is)
 
 -- and stays while the number of sectors does
-pub same_size : (m after : Inside) (v : MemState) → IsSound m → IsSound after → after.sectors ≡ m.sectors → state_of m ≡ v → length (bytes_of (state_of after).disk.now) ≡ length (bytes_of v.disk.now)
+pub same_size : (m after : Inside) (v : MemState) → IsSoundDevice m → IsSoundDevice after → after.sectors ≡ m.sectors → state_of m ≡ v → length (bytes_of (state_of after).disk.now) ≡ length (bytes_of v.disk.now)
 same_size m after v is is_after same view_is =
     omega (arith, seen_size m v is view_is, ap (λ (l : List ℕ). length l) (sound_reads after is_after), is.size, is_after.size, same)

@@ -15,7 +15,7 @@
 //! A crash takes the notes behind the last flush back, the newest first, so that the bytes are those of that flush. Then
 //! it writes the piece of each that it leaves, the oldest first, and settles them as a flush does.
 //!
-//! What holds between two calls (`IsSound` in `specs/Memory`): there are 512 bytes for each sector; the settled notes tell
+//! What holds between two calls (`IsSoundDevice` in `specs/Memory`): there are 512 bytes for each sector; the settled notes tell
 //! a disk on which nothing is unflushed; and from its image the other notes, each with what stood before it, lead to the
 //! bytes.
 
@@ -57,11 +57,11 @@ impl Model for MemDevice {
 
     ghost Value = { MemState };
 
-    ghost use Rattle.device_model.specs.Memory.{state_of, IsSound};
+    ghost use Rattle.device_model.specs.Memory.{state_of, IsSoundDevice};
 
     ghost view = { state_of };
 
-    ghost invariant = { IsSound };
+    ghost invariant = { IsSoundDevice };
 }
 
 impl MemDevice {

@@ -16,9 +16,9 @@
 //! from a device of another size is none.
 //!
 //! What tells the pools apart is the guid, what tells the configs of a pool apart is the group: the config of an active
-//! uberblock is the one of the highest group not above the uberblock's (`choose` has the rule in full). No config is
-//! ever changed in place in all labels at once: two labels are written and flushed before the other two, so at each
-//! moment one pair at least is whole.
+//! uberblock is the one of the highest group not above the uberblock's (`choose` has the rule in full). A sync or an
+//! import that changes the configs writes and flushes those of two labels before the other two, so at each moment of it
+//! one pair at least is whole.
 
 ghost use Rattle.std.specs.Prelude.{◌≡◌, ◌+◌, ◌<◌, ◌≤◌, ◌^◌, ◌↔◌, ℕ, List, IsTrue, IfSome, IfNone, length, replicate, take};
 ghost use Rattle.base.specs.formats.Labels.{IsConfigPayload};

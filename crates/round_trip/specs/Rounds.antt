@@ -23,8 +23,8 @@ pub record HoldsContents (now : List ℕ) (contents : Contents) : Type 0 where
   pub no_log : HasNoLogBlock now
 
 -- an import of these bytes shows the contents that they hold
-abbrev pub Shows : List ℕ → Contents → Type 0
-Shows now shown = (contents : Contents) → HoldsContents now contents → shown ≡ contents
+abbrev pub ShowsHeld : List ℕ → Contents → Type 0
+ShowsHeld now shown = (contents : Contents) → HoldsContents now contents → shown ≡ contents
 
 -- where the one image has no log block, the other has none
 abbrev pub KeepsNoLog : List ℕ → List ℕ → Type 0
@@ -55,7 +55,7 @@ pub record IsAllSynced (h : Held) : Type 0 where
 -- A round over an image of the contents before, at a moment and with a limit: the image's pool is opened at this moment and shows the
 -- contents at first, with this limit and a past in which nothing happened; the steps with these replies are a run of the definitions; and the bytes, which are given up, hold what the pool leaves. Where all is synced these are
 -- the contents that are shown at the end.
-pub record IsRound (image : List ℕ) (before : Contents) (dirty_max moment : ℕ) (ss : List declared_step.Step) (rs : List declared_reply.Reply) (now : List ℕ) (after : Contents) : Type 0 where
+pub record IsCleanRound (image : List ℕ) (before : Contents) (dirty_max moment : ℕ) (ss : List declared_step.Step) (rs : List declared_reply.Reply) (now : List ℕ) (after : Contents) : Type 0 where
   pub start : Held
   pub opened : IsOpened image start.now moment
   pub shows : start.state.shown.contents ≡ before
@@ -71,7 +71,7 @@ pub record IsRound (image : List ℕ) (before : Contents) (dirty_max moment : �
 
 -- so a round goes from an image of these contents to an image of some contents
 abbrev pub GoesRound : List ℕ → (dirty_max moment : ℕ) → List declared_step.Step → List declared_reply.Reply → List ℕ → Type 0
-GoesRound old dirty_max moment ss rs new = (before : Contents) → HoldsContents old before → ∥ ((after : Contents) × IsRound old before dirty_max moment ss rs new after) ∥₁
+GoesRound old dirty_max moment ss rs new = (before : Contents) → HoldsContents old before → ∥ ((after : Contents) × IsCleanRound old before dirty_max moment ss rs new after) ∥₁
 
 -- the contents of a new pool: this name and no object
 pub record AreNew (name : List ℕ) (contents : Contents) : Type 0 where
@@ -96,7 +96,7 @@ pub record IsFoundAfter (p : Play) (ss : List declared_step.Step) (rs : List dec
   pub before : Contents
   pub new : AreNew p.name before
   pub now : List ℕ
-  pub round : IsRound image before p.dirty_max p.moment ss rs now found
+  pub round : IsCleanRound image before p.dirty_max p.moment ss rs now found
 
 -- a refusal of a play on a device of so many bytes: that of its create, or behind it of an import
 abbrev pub IsPlayRefusal : ℕ → List ℕ → ℕ → PoolError → Type 0

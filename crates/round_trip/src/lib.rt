@@ -10,7 +10,7 @@ ghost use Rattle.import_replay.specs.CreateRefusals.{CanCreate, IsCreateRefusal}
 ghost use Rattle.import_replay.specs.Creations.{IsNewPool};
 ghost use Rattle.import_replay.specs.ImportRefusals.{CanImport, IsImportRefusal, IsReason};
 ghost use Rattle.object_maps.specs.ContentsShown.{contents_of};
-ghost use Rattle.round_trip.specs.Rounds.{GoesRound, HoldsNew, IsFoundAfter, IsOpened, IsPlayRefusal, KeepsNoLog, Shows};
+ghost use Rattle.round_trip.specs.Rounds.{GoesRound, HoldsNew, IsFoundAfter, IsOpened, IsPlayRefusal, KeepsNoLog, ShowsHeld};
 
 use base::{PoolError, Reply, Step};
 use device_model::SectorDevice;
@@ -53,7 +53,7 @@ pub fn open<D: SectorDevice + Drop>(
     moment: u64,
 ) -> Result<Imported<D>, PoolError>
     ensures found { IsTrue D.keeps_model → IfOk result
-        (λ i. Shows (bytes_of (D.disk device).now) (contents_of i.mounted.contents)) }
+        (λ i. ShowsHeld (bytes_of (D.disk device).now) (contents_of i.mounted.contents)) }
     ensures no_log { IsTrue D.keeps_model → IfOk result
         (λ i. KeepsNoLog (bytes_of (D.disk device).now) (bytes_of (D.disk i.device).now)) }
     ensures opened { IsTrue D.keeps_model → IfOk result

@@ -101,7 +101,8 @@ impl SyncRun {
         ensures last { IfOk result (λ last. IsTrue last ↔ (self.new.done ≡ call_count self.new)) }
         ensures there { (call : DeviceCall) × IsNextCall self.old call }
         ensures called { IsTrue D.keeps_model → (call : DeviceCall) → IsNextCall self.old call
-            → MakesCall self.old call (D.disk device.old) (plain_answer result) (D.disk device.new) }
+            → MakesCall self.old call
+            (D.disk device.old) (plain_answer result) (D.disk device.new) }
         ensures count { D.refused device.new ≡ counted result (D.refused device.old) }
         ensures refusal { (call : DeviceCall) → IsNextCall self.old call
             → IfErr result (λ e. e ≡ refusal_of call) }
@@ -160,8 +161,8 @@ impl SyncRun {
         requires there { HasCall self.now (DeviceCall.Block number) }
         ensures size { D.size device.new ≡ D.size device.old }
         ensures fits { TargetFits self.now (DeviceCall.Block number) }
-        ensures called { IsTrue D.keeps_model
-            → MakesCall self.now (DeviceCall.Block number) (D.disk device.old) result (D.disk device.new) }
+        ensures called { IsTrue D.keeps_model → MakesCall self.now (DeviceCall.Block number)
+            (D.disk device.old) result (D.disk device.new) }
         ensures count { D.refused device.new ≡ counted result (D.refused device.old) }
         ensures refusal { IfErr result (λ e. e ≡ PoolError.Write) }
     {
@@ -175,8 +176,8 @@ impl SyncRun {
         requires there { HasCall self.now (DeviceCall.Config label) }
         ensures size { D.size device.new ≡ D.size device.old }
         ensures fits { TargetFits self.now (DeviceCall.Config label) }
-        ensures called { IsTrue D.keeps_model
-            → MakesCall self.now (DeviceCall.Config label) (D.disk device.old) result (D.disk device.new) }
+        ensures called { IsTrue D.keeps_model → MakesCall self.now (DeviceCall.Config label)
+            (D.disk device.old) result (D.disk device.new) }
         ensures count { D.refused device.new ≡ counted result (D.refused device.old) }
         ensures refusal { IfErr result (λ e. e ≡ PoolError.Write) }
     {
@@ -195,8 +196,8 @@ impl SyncRun {
         requires there { HasCall self.now (DeviceCall.Uberblock label) }
         ensures size { D.size device.new ≡ D.size device.old }
         ensures fits { TargetFits self.now (DeviceCall.Uberblock label) }
-        ensures called { IsTrue D.keeps_model
-            → MakesCall self.now (DeviceCall.Uberblock label) (D.disk device.old) result (D.disk device.new) }
+        ensures called { IsTrue D.keeps_model → MakesCall self.now (DeviceCall.Uberblock label)
+            (D.disk device.old) result (D.disk device.new) }
         ensures count { D.refused device.new ≡ counted result (D.refused device.old) }
         ensures refusal { IfErr result (λ e. e ≡ PoolError.Write) }
     {

@@ -25,8 +25,8 @@ StandsInRing-at ring position u at =
     let place : 1024 * position ≡ 131072 * (position / 128) + 1024 * slot_of u.group = omega (arith, split, at.1) in
     subst (λ (k : ℕ). IsUberblock (part ring k 1024) u) place at.0
 
-StandsAt-in_ring : (ring : List ℕ) (label : ℕ) (u : Fields) → StandsInRing ring label u → StandsAtPosition ring (label * 128 + slot_of u.group) u
-StandsAt-in_ring ring label u stands =
+StandsAtPosition-in_ring : (ring : List ℕ) (label : ℕ) (u : Fields) → StandsInRing ring label u → StandsAtPosition ring (label * 128 + slot_of u.group) u
+StandsAtPosition-in_ring ring label u stands =
     let place : 131072 * label + 1024 * slot_of u.group ≡ 1024 * (label * 128 + slot_of u.group) = omega arith in
     (subst (λ (k : ℕ). IsUberblock (part ring k 1024) u) place stands, sym (mod-mul-add label 128 (slot_of u.group) (slot_below u.group)))
 
@@ -40,9 +40,9 @@ position_of-count_of label slot low = omega (arith, low)
 pub label-position_of : (count : ℕ) → position_of count / 128 ≡ count / 128
 label-position_of count = omega arith
 
-pub StandsAt-count : (ring : List ℕ) (label : ℕ) (u : Fields) → StandsInRing ring label u → StandsAtPosition ring (position_of (count_of label (slot_of u.group))) u
-StandsAt-count ring label u stands =
-    subst (λ (k : ℕ). StandsAtPosition ring k u) (sym (position_of-count_of label (slot_of u.group) (slot_below u.group))) (StandsAt-in_ring ring label u stands)
+pub StandsAtPosition-count : (ring : List ℕ) (label : ℕ) (u : Fields) → StandsInRing ring label u → StandsAtPosition ring (position_of (count_of label (slot_of u.group))) u
+StandsAtPosition-count ring label u stands =
+    subst (λ (k : ℕ). StandsAtPosition ring k u) (sym (position_of-count_of label (slot_of u.group) (slot_below u.group))) (StandsAtPosition-in_ring ring label u stands)
 
 -- the group of what stands at a position is the number in its place
 pub group-at : (ring : List ℕ) (position size group : ℕ) (u : Fields) → size ≡ 1024 → group ≡ number_at (part ring (1024 * position) size) 16 → StandsAtPosition ring position u → group ≡ u.group

@@ -8,7 +8,7 @@ use Rattle.base.specs.disk.Disk.{put}
 use Rattle.base.specs.formats.Fields.{part, number_bytes, pointer_bytes}
 use Rattle.base.specs.formats.Uberblocks.{Uberblock as Fields, IsUberblock}
 use Rattle.base.proofs.formats.FieldsRead.{length-number_bytes, put-put_behind}
-use Rattle.uberblocks.specs.Slots.{field_bytes, head_bytes, slot_bytes, zeros, FieldsFit, IsWithinLimits}
+use Rattle.uberblocks.specs.Slots.{field_bytes, checked_bytes, slot_bytes, zeros, FieldsFit, IsWithinLimits}
 use Rattle.uberblocks.proofs.SlotParts.{part_first, number_first, number_behind, pointer_first, pointer_behind, length-pointer_bytes}
 
 pub length-zeros : (n : ℕ) → length (zeros n) ≡ n
@@ -57,8 +57,8 @@ length-field_bytes u long =
     (length-number_bytes 0x00bab10c) (length-number_bytes u.version)) (length-number_bytes u.group)) (length-number_bytes u.guid)) (length-number_bytes u.moment))
     (length-pointer_bytes u.root long)) (length-number_bytes u.import_number)) (length-number_bytes u.log_address)) (length-number_bytes u.log_number)
 
-pub length-head_bytes : (u : Fields) → length u.root.check ≡ 32 → length (head_bytes u) ≡ 992
-length-head_bytes u long = length-two (field_bytes u) (zeros 880) 112 880 (length-field_bytes u long) (length-zeros 880)
+pub length-checked_bytes : (u : Fields) → length u.root.check ≡ 32 → length (checked_bytes u) ≡ 992
+length-checked_bytes u long = length-two (field_bytes u) (zeros 880) 112 880 (length-field_bytes u long) (length-zeros 880)
 
 -- the fields one behind the other, from the front on
 nest : (a b c d e f g h i rest : List ℕ) → a ++ b ++ c ++ d ++ e ++ f ++ g ++ h ++ i ++ rest ≡ a ++ (b ++ (c ++ (d ++ (e ++ (f ++ (g ++ (h ++ (i ++ rest))))))))
@@ -76,11 +76,11 @@ zeros_is e = e
 
 pub IsUberblock-slot_bytes : (u : Fields) → FieldsFit u → IsWithinLimits u → IsUberblock (slot_bytes u) u
 IsUberblock-slot_bytes u fits limits =
-    let check = sha256 (head_bytes u) in
+    let check = sha256 (checked_bytes u) in
     let bytes = slot_bytes u in
     let all = field_bytes u in
-    let head_long : length (head_bytes u) ≡ 992 = length-head_bytes u fits.check in
-    let check_long : length check ≡ 32 = length-sha256 (head_bytes u) in
+    let head_long : length (checked_bytes u) ≡ 992 = length-checked_bytes u fits.check in
+    let check_long : length check ≡ 32 = length-sha256 (checked_bytes u) in
     let whole : bytes ≡ all ++ (zeros 880 ++ check) = append_assoc all (zeros 880) check in
     let left = field_bytes-nested u (zeros 880 ++ check) in
     let d0 = whole ∙ left in
@@ -93,10 +93,10 @@ IsUberblock-slot_bytes u fits limits =
     let d96 = number_behind bytes _ 88 u.import_number d88 in
     let d104 = number_behind bytes _ 96 u.log_address d96 in
     let d112 = number_behind bytes _ 104 u.log_number d104 in
-    let taken : take 992 bytes ≡ head_bytes u = take_at (head_bytes u) check 992 head_long in
-    let checked : part bytes 992 32 ≡ check = part_first bytes check [] 992 32 (drop_at (head_bytes u) check 992 head_long ∙ sym (append-nil check)) check_long in
+    let taken : take 992 bytes ≡ checked_bytes u = take_at (checked_bytes u) check 992 head_long in
+    let checked : part bytes 992 32 ≡ check = part_first bytes check [] 992 32 (drop_at (checked_bytes u) check 992 head_long ∙ sym (append-nil check)) check_long in
     record {
-      size = length-two (head_bytes u) check 992 32 head_long check_long;
+      size = length-two (checked_bytes u) check 992 32 head_long check_long;
       magic = number_first bytes _ 0 0x00bab10c d0 (omega arith);
       version = number_first bytes _ 8 u.version d8 fits.version;
       group = number_first bytes _ 16 u.group d16 fits.group;
@@ -122,9 +122,9 @@ slot_bytes_made u empty written check made long clear fields digest sealed =
     let all = field_bytes u in
     let all_long = length-field_bytes u long in
     let front : written ≡ all ++ zeros 912 = fields ∙ ap (λ (l : List ℕ). put 0 all l) clear ∙ put_front all 112 912 all_long in
-    let head : take 992 written ≡ head_bytes u = ap (λ (l : List ℕ). take 992 l) front ∙ take_head all 112 880 912 all_long (omega arith) in
-    let check_is : check ≡ sha256 (head_bytes u) = digest ∙ ap sha256 head in
-    let check_long : length check ≡ 32 = ap (λ (l : List ℕ). length l) check_is ∙ length-sha256 (head_bytes u) in
+    let head : take 992 written ≡ checked_bytes u = ap (λ (l : List ℕ). take 992 l) front ∙ take_head all 112 880 912 all_long (omega arith) in
+    let check_is : check ≡ sha256 (checked_bytes u) = digest ∙ ap sha256 head in
+    let check_long : length check ≡ 32 = ap (λ (l : List ℕ). length l) check_is ∙ length-sha256 (checked_bytes u) in
     let written_long : length written ≡ 992 + 32 = ap (λ (l : List ℕ). length l) front ∙ length-two all (zeros 912) 112 912 all_long (length-zeros 912) in
     sealed ∙ put_check 992 32 check written check_long written_long
-    ∙ ap (λ (l : List ℕ). l ++ check) head ∙ ap (λ (l : List ℕ). head_bytes u ++ l) check_is
+    ∙ ap (λ (l : List ℕ). l ++ check) head ∙ ap (λ (l : List ℕ). checked_bytes u ++ l) check_is

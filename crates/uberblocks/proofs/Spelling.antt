@@ -7,9 +7,9 @@ use Rattle.sha2.specs.Sha256.{sha256}
 use Rattle.base.specs.declared.pointer.Pointer.{Pointer}
 use Rattle.base.specs.formats.Fields.{part, number_at, number_bytes, pointer_at, pointer_bytes}
 use Rattle.base.proofs.disk.Put.{length-part}
-use Rattle.uberblocks.specs.Slots.{field_bytes, head_bytes, zeros}
+use Rattle.uberblocks.specs.Slots.{field_bytes, checked_bytes, zeros}
 use Rattle.uberblocks.specs.Laws.{SlotsSpelledOnce}
-use Rattle.uberblocks.proofs.SlotWrites.{length-head_bytes, field_bytes-nested}
+use Rattle.uberblocks.proofs.SlotWrites.{length-checked_bytes, field_bytes-nested}
 
 -- every byte of a list is one
 abbrev AreBytes : List ℕ → Type 0
@@ -67,7 +67,7 @@ slots_spelled_once bytes u small is =
     let d16 = before (number_bytes u.group) (number_split bytes 16 u.group (omega (arith, long)) small is.group) d24 in
     let d8 = before (number_bytes u.version) (number_split bytes 8 u.version (omega (arith, long)) small is.version) d16 in
     let d0 = before (number_bytes 0x00bab10c) (number_split bytes 0 0x00bab10c (omega (arith, long)) small is.magic) d8 in
-    let whole : bytes ≡ head_bytes u ++ check = d0 ∙ sym (field_bytes-nested u (zeros 880 ++ check)) ∙ sym (append_assoc (field_bytes u) (zeros 880) check) in
+    let whole : bytes ≡ checked_bytes u ++ check = d0 ∙ sym (field_bytes-nested u (zeros 880 ++ check)) ∙ sym (append_assoc (field_bytes u) (zeros 880) check) in
     let check_long : length u.root.check ≡ 32 = ap (λ (q : Pointer). length q.check) (sym is.root) ∙ length-part 56 32 bytes (omega (arith, long)) in
-    let head : take 992 bytes ≡ head_bytes u = ap (λ (l : List ℕ). take 992 l) whole ∙ take_at (head_bytes u) check 992 (length-head_bytes u check_long) in
-    whole ∙ ap (λ (l : List ℕ). head_bytes u ++ sha256 l) head
+    let head : take 992 bytes ≡ checked_bytes u = ap (λ (l : List ℕ). take 992 l) whole ∙ take_at (checked_bytes u) check 992 (length-checked_bytes u check_long) in
+    whole ∙ ap (λ (l : List ℕ). checked_bytes u ++ sha256 l) head

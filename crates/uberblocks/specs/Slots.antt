@@ -61,9 +61,9 @@ field_bytes u =
     ++ pointer_bytes u.root ++ number_bytes u.import_number ++ number_bytes u.log_address ++ number_bytes u.log_number
 
 -- the bytes that the check covers: the fields, then zeros
-abbrev pub head_bytes : Fields → List ℕ
-head_bytes u = field_bytes u ++ zeros 880
+abbrev pub checked_bytes : Fields → List ℕ
+checked_bytes u = field_bytes u ++ zeros 880
 
 -- the 1,024 bytes of an uberblock
 abbrev pub slot_bytes : Fields → List ℕ
-slot_bytes u = head_bytes u ++ sha256 (head_bytes u)
+slot_bytes u = checked_bytes u ++ sha256 (checked_bytes u)

@@ -16,7 +16,7 @@ use Rattle.word_lock.specs.declared.rule.Sight.{Sight}
 use Rattle.word_lock.specs.declared.rule.Stage.{Stage}
 use Rattle.word_lock.specs.declared.rule.Stage.TheVariants.{Away, Met, Holding, Spent}
 use Rattle.word_lock.specs.declared.rule.Turn.{Turn}
-use Rattle.word_lock.specs.Turns.{turn, turns_of, IsLine, IsHistory}
+use Rattle.word_lock.specs.Turns.{turn, turns_of, IsTurnLine, IsTurnHistory}
 use Rattle.word_lock.specs.Kept.{Knows, Kept, Mine, away, holding, met, spent, tried, stays, noted, freed, settled, sat}
 
 -- ---- the held bit
@@ -60,12 +60,12 @@ module _ {V : Type 0} where
   turns_of-other j id ts t not = turns_of-append j ts ((id, t) ∷ []) ∙ ap (λ (b : Bool). turns_of j ts ++ (if b then t ∷ [] else [])) (ne_eqb id j (λ e. not (sym e))) ∙ append-nil (turns_of j ts)
 
   -- the line goes on by a turn that takes what was left last
-  line_on : (grows : V → V → Type 0) (v : V) (ts : List (ℕ × Turn V)) (w x : V) (id : ℕ) → IsLine grows v ts w → grows w x → IsLine grows v (ts ++ (id, turn w x) ∷ []) x
+  line_on : (grows : V → V → Type 0) (v : V) (ts : List (ℕ × Turn V)) (w x : V) (id : ℕ) → IsTurnLine grows v ts w → grows w x → IsTurnLine grows v (ts ++ (id, turn w x) ∷ []) x
   line_on grows v [] w x id e more = (e, subst (λ (y : V). grows y x) e more, refl)
   line_on grows v (t ∷ ts) w x id e more = (e.0, e.1, line_on grows t.1.left ts w x id e.2 more)
 
   -- a line leads to a view that goes on from its first
-  line_grows : (grows : V → V → Type 0) → ((a : V) → grows a a) → ((a b c : V) → grows a b → grows b c → grows a c) → (v : V) (ts : List (ℕ × Turn V)) (w : V) → IsLine grows v ts w → grows v w
+  line_grows : (grows : V → V → Type 0) → ((a : V) → grows a a) → ((a b c : V) → grows a b → grows b c → grows a c) → (v : V) (ts : List (ℕ × Turn V)) (w : V) → IsTurnLine grows v ts w → grows v w
   line_grows grows same onward v [] w e = subst (λ (y : V). grows v y) (sym e) (same v)
   line_grows grows same onward v (t ∷ ts) w e = onward v t.1.left w e.1 (line_grows grows same onward t.1.left ts w e.2)
 
@@ -211,7 +211,7 @@ module _ {V : Type 0} (grows : V → V → Type 0) (same : (a : V) → grows a a
             truth = next;
             holder = id;
             turns = all;
-            line = line_on grows first r.turns v next id (subst (IsLine grows first r.turns) (sym mine.2) r.line) more;
+            line = line_on grows first r.turns v next id (subst (IsTurnLine grows first r.turns) (sym mine.2) r.line) more;
             one_word = length-set s.words 0 m ∙ r.one_word;
             free = λ e. absurd (omega arith);
             out = λ _. (w, set_here s.views id w (below s.views id (holding v ts) at), refl);
@@ -241,7 +241,7 @@ module _ {V : Type 0} (grows : V → V → Type 0) (same : (a : V) → grows a a
             truth = v;
             holder = id;
             turns = r.turns;
-            line = subst (IsLine grows first r.turns) (sym mine.2) r.line;
+            line = subst (IsTurnLine grows first r.turns) (sym mine.2) r.line;
             one_word = length-set s.words 0 n ∙ r.one_word;
             free = λ _. (x, one_set s.homes (some (Some x)) (wide ∙ one), is);
             out = λ odd. let now_even : get_or (set s.words 0 n) 0 0 % 2 ≡ 0 = ap (λ (z : ℕ). z % 2) now ∙ even in absurd (omega arith);
@@ -374,7 +374,7 @@ module _ {T V : Type 0} (explains : V → T → Type 0) (grows : V → V → Typ
 
   -- a table that was closed while the word was even, and the last view of one of its seats
   pub closes : (id : ℕ) (d : Sight V) (v : V) (ts : List (Turn V)) (ws : List ℕ) (xs : List (std.Option T)) (n : ℕ) (o : std.Option T) → d ≡ away v ts → Final (Seen (Kept explains grows first) id d) ws xs
-      → get_elem? ws 0 ≡ some n → n % 2 ≡ 0 → get_elem? xs 0 ≡ some o → IfSome o (λ x. (h : V) × explains h x × grows d.seen h × IsHistory grows first id d.turns h)
+      → get_elem? ws 0 ≡ some n → n % 2 ≡ 0 → get_elem? xs 0 ≡ some o → IfSome o (λ x. (h : V) × explains h x × grows d.seen h × IsTurnHistory grows first id d.turns h)
   closes id d v ts ws xs n o is f at even there =
       let r : Kept explains grows first f.0 = f.1.0 in
       let word : get_or f.0.words 0 0 ≡ n = ap (λ (l : List ℕ). get_or l 0 0) f.2 ∙ at_first ws n at in
@@ -382,10 +382,10 @@ module _ {T V : Type 0} (explains : V → T → Type 0) (grows : V → V → Typ
       let same : o ≡ Some x.0 = some-injective o (Some x.0) (sym there ∙ f.4 0 (Some x.0) (ap (λ (l : List (Option (std.Option T))). get_elem? l 0) x.1)) in
       let more : grows d.seen r.truth = subst (λ (e : Sight V). Knows grows r.truth (get_or f.0.words 0 0) r.holder id e.seen e.stage → grows e.seen r.truth) (sym is) (λ k. k) (r.each_seat id d f.1.1) in
       let its : d.turns ≡ turns_of id r.turns = r.own id d f.1.1 (λ e. let no : away v ts ≡ d = sym is in absurd (cc)) in
-      subst (λ (p : std.Option T). IfSome p (λ x. (h : V) × explains h x × grows d.seen h × IsHistory grows first id d.turns h)) (sym same) (r.truth, x.2, more, (r.turns, r.line, its))
+      subst (λ (p : std.Option T). IfSome p (λ x. (h : V) × explains h x × grows d.seen h × IsTurnHistory grows first id d.turns h)) (sym same) (r.truth, x.2, more, (r.turns, r.line, its))
 
   -- what goes on from a later view goes on from the first one
-  pub closes_onward : ((a b c : V) → grows a b → grows b c → grows a c) → (v : V) (id : ℕ) (mine : List (Turn V)) (o : std.Option T) → grows first v → IfSome o (λ x. (h : V) × explains h x × grows v h × IsHistory grows first id mine h)
+  pub closes_onward : ((a b c : V) → grows a b → grows b c → grows a c) → (v : V) (id : ℕ) (mine : List (Turn V)) (o : std.Option T) → grows first v → IfSome o (λ x. (h : V) × explains h x × grows v h × IsTurnHistory grows first id mine h)
       → IfSome o (λ x. (h : V) × explains h x × grows first h)
   closes_onward onward v id mine std.None on p = tt
   closes_onward onward v id mine (Some x) on p = (p.0, p.1, onward first v p.0 on p.2)

@@ -9,7 +9,7 @@ use Rattle.word_lock.specs.declared.rule.Sight.{Sight}
 use Rattle.word_lock.specs.declared.rule.Stage.{Stage}
 use Rattle.word_lock.specs.declared.rule.Stage.TheVariants.{Away, Met, Holding, Spent}
 use Rattle.word_lock.specs.declared.rule.Turn.{Turn}
-use Rattle.word_lock.specs.Turns.{turn, turns_of, IsLine}
+use Rattle.word_lock.specs.Turns.{turn, turns_of, IsTurnLine}
 
 module _ {V : Type 0} where
   abbrev pub away : V → List (Turn V) → Sight V
@@ -77,7 +77,7 @@ module _ {T V : Type 0} where
       pub holder : ℕ
       -- all turns so far, each with the number of its seat
       pub turns : List (ℕ × Turn V)
-      pub line : IsLine grows first turns truth
+      pub line : IsTurnLine grows first turns truth
       pub one_word : length s.words ≡ 1
       pub free : slice_index s.words 0 % 2 ≡ 0 → (x : T) × (s.homes ≡ some (Some x) ∷ []) × explains truth x
       pub out : slice_index s.words 0 % 2 ≡ 1 → (d : Sight V) × (get_elem? s.views holder ≡ some d) × (d.stage ≡ Holding)

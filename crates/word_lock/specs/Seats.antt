@@ -5,7 +5,7 @@ use Rattle.word_lock.specs.declared.lock.WordLock.{WordLock}
 use Rattle.word_lock.specs.declared.rule.Turn.{Turn}
 use Rattle.word_lock.specs.declared.seat.Seat.{Seat}
 use Rattle.word_lock.specs.Kept.{away, holding}
-use Rattle.word_lock.specs.Turns.{turn, IsHistory}
+use Rattle.word_lock.specs.Turns.{turn, IsTurnHistory}
 
 module _ {T R A V : Type 0} where
   abbrev pub lock_table : WordLock T R A V → TableId
@@ -65,4 +65,4 @@ module _ {T R A V : Type 0} where
 
   -- A value that the lock leaves: a view explains it that goes on from what the seat has seen, and the turns of all seats lead to this view.
   abbrev pub IsLastValue : (V → V → Type 0) → (V → T → Type 0) → WordLock T R A V → Seat T R V → T → Type 0
-  IsLastValue grows explains l s x = (v : V) × explains v x × grows (seen s) v × IsHistory grows (opening l) (seat_number s) (turns s) v
+  IsLastValue grows explains l s x = (v : V) × explains v x × grows (seen s) v × IsTurnHistory grows (opening l) (seat_number s) (turns s) v

@@ -2,8 +2,8 @@
 //!
 //! Its state is one word and one slot of an `atomic_table`. Bit 0 of the word says that the lock is held, bit 1 that a
 //! seat waits for it, and the bits above count the releases, which makes each wake a change of the word. The value lies
-//! in the slot while bit 0 is clear. While it is set the slot is empty, and the value is out with the one seat that set
-//! the bit.
+//! in the slot while bit 0 is clear. While it is set the slot is that of the one seat that set the bit, which takes the
+//! value out and puts one back before it frees the lock.
 //!
 //! A seat takes the lock by a `fetch_or` of bit 0: where that bit was clear, the value in the slot is its own. It frees
 //! the lock in three steps, whose order is the rule of this crate:

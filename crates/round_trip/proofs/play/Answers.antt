@@ -2,7 +2,7 @@ use Rattle.std.proofs.Common.{sym, subst}
 use Rattle.std.proofs.Math.Logic.{∥∥₁_map}
 use Rattle.base.specs.history.Contents.{Contents}
 use Rattle.base.specs.disk.Disk.{bytes_of}
-use Rattle.round_trip.specs.Rounds.{IsRound}
+use Rattle.round_trip.specs.Rounds.{IsCleanRound}
 use Rattle.round_trip.proofs.play.Goals as goal
 
 pub returns-clause-found : goal.returns-clause-found
@@ -18,5 +18,5 @@ returns-clause-found g c = λ keeps.
       before = new.0;
       new = new.1;
       now = now;
-      round = subst (λ (found : Contents). IsRound image new.0 c.args.dirty_max c.args.moment ss rs now found) (sym (c.in_ok-imported.ensures.found keeps left.0 left.1.holds)) left.1;
+      round = subst (λ (found : Contents). IsCleanRound image new.0 c.args.dirty_max c.args.moment ss rs now found) (sym (c.in_ok-imported.ensures.found keeps left.0 left.1.holds)) left.1;
     })

@@ -8,7 +8,7 @@ use Rattle.base.specs.stored.ShownLabels.{HasNoLogBlock}
 use Rattle.base.specs.stored.Stored.{IsHeld}
 use Rattle.pool_core.specs.Holds.{held_with}
 use Rattle.pool_core.specs.States.{shown, told}
-use Rattle.round_trip.specs.Rounds.{IsOpened, IsRound}
+use Rattle.round_trip.specs.Rounds.{IsOpened, IsCleanRound}
 use Rattle.round_trip.proofs.Rounds.{round}
 use Rattle.round_trip.proofs.round.Goals as goal
 
@@ -29,5 +29,5 @@ returns-clause-went g c = λ keeps before holds.
     subst (λ (base : Contents). IsHeld (held_with (told state) (new_past base 0 (shown state).dirty_max))) shows (anew keeps 0) in
     let held : IsHeld (held_with (told state) (new_past before 0 c.args.dirty_max)) =
     subst (λ (k : ℕ). IsHeld (held_with (told state) (new_past before 0 k))) limit based in
-    subst (λ d. (after : Contents) × IsRound image before c.args.dirty_max c.args.moment ss rs (bytes_of (disk d).now) after) (sym c.into_device.ensures)
+    subst (λ d. (after : Contents) × IsCleanRound image before c.args.dirty_max c.args.moment ss rs (bytes_of (disk d).now) after) (sym c.into_device.ensures)
     (round keeps image ss rs state c.run.new.state c.in_ok-replies.ensures.ran before c.args.dirty_max c.args.moment opened shows held none))
