@@ -22,7 +22,7 @@ use Rattle.tree_plans.specs.Changes.{AreBornBefore}
 use Rattle.tree_plans.specs.Plans.{address_of, new_block}
 use Rattle.pool_core.specs.declared.pool.Pool.{Pool}
 use Rattle.pool_core.specs.declared.pool.RunningSync.{RunningSync}
-use Rattle.pool_core.specs.GroupPlans.{IsPlannedFrom, IsShortOfBlocks}
+use Rattle.pool_core.specs.GroupPlans.{IsPlannedGroup, IsShortOfBlocks}
 use Rattle.pool_core.specs.Holds.{held_with, new_tree_of, told_of_pool}
 use Rattle.pool_core.specs.SyncStarts.{LacksBlocks}
 use Rattle.pool_core.specs.Lines.{MayStart, line_of}
@@ -45,7 +45,7 @@ nothing_made tree r root directories maps blocks root_is directories_are maps_ar
 -- what the plan of a group says is what a start of its sync asks, with each past
 pub group_planned : (now : List ℕ) (past : Past) (pool : Pool) (group moment : ℕ) (blocks : List PlannedBlock) (freed : List ℕ) (root : Pointer) (directories : List Pointer) (maps : BTreeMap ObjectId ObjectMap)
     → MayStart group (line_of pool.groups)
-    → IsPlannedFrom group pool.pending.items (frame_at (shown_of_pool pool) group) (pointers_of pool.tree) (pointers_after root directories maps pool.tree) (map new_block blocks) (contents_of pool.contents).objects
+    → IsPlannedGroup group pool.pending.items (frame_at (shown_of_pool pool) group) (pointers_of pool.tree) (pointers_after root directories maps pool.tree) (map new_block blocks) (contents_of pool.contents).objects
     → (AreBornBefore group (pointers_of pool.tree) → AreFreed (pointers_of pool.tree) (pointers_after root directories maps pool.tree) freed)
     → AreUsed (map new_block blocks) (pointers_after root directories maps pool.tree) → ((i : ℕ) (b : NewBlock) → slice_get (map new_block blocks) i ≡ Some b → length b.content ≡ 4096)
     → (x : IsHeld (held_with (told_of_pool pool now) past))
@@ -59,7 +59,7 @@ group_planned now past pool group moment blocks freed root directories maps may 
 -- what a started sync takes is what its tree has at the places that it writes, in order
 module _ (now : List ℕ) (past : Past) (pool : Pool) (group moment : ℕ) (blocks : List PlannedBlock) (freed : List ℕ) (root : Pointer) (directories : List Pointer) (maps : BTreeMap ObjectId ObjectMap)
     (may : MayStart group (line_of pool.groups))
-    (planned : IsPlannedFrom group pool.pending.items (frame_at (shown_of_pool pool) group) (pointers_of pool.tree) (pointers_after root directories maps pool.tree) (map new_block blocks) (contents_of pool.contents).objects)
+    (planned : IsPlannedGroup group pool.pending.items (frame_at (shown_of_pool pool) group) (pointers_of pool.tree) (pointers_after root directories maps pool.tree) (map new_block blocks) (contents_of pool.contents).objects)
     (x : IsHeld (held_with (told_of_pool pool now) past)) where
   abbrev pub plan : SyncPlan
   plan = new_plan moment pool.log_address (map address_of blocks) freed root

@@ -37,9 +37,12 @@ pub record Told : Type 0 where
 abbrev pub made_by : (Place → Pointer) → SyncRun → NewTree
 made_by pointers run = record { pointers = pointers; blocks = map new_block run.blocks.items; slot = run.uberblock; done = run.done }
 
--- the one that a running sync makes of this tree
+-- the one that a running sync makes of this tree, and its pointers
+abbrev pub tree_after : RunningSync → Tree → Place → Pointer
+tree_after r tree = pointers_after r.root r.directories.items r.maps tree
+
 abbrev pub new_tree_of : Tree → RunningSync → NewTree
-new_tree_of tree r = made_by (pointers_after r.root r.directories.items r.maps tree) r.run
+new_tree_of tree r = made_by (tree_after r tree) r.run
 
 -- a pool that has these objects, over a device with these bytes
 abbrev pub told_of : FinMap nat_cmp (List ℕ) → Pool → List ℕ → Told

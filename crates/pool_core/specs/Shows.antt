@@ -83,9 +83,9 @@ abbrev pub shown_of_pool : Pool → Shown
 shown_of_pool p = shown_of (objects_of p) p
 
 -- what is shown once the tree of a synced group is the pool's
-abbrev pub shown_after_tree : ℕ → List ℕ → Pointer → Shown → Shown
-shown_after_tree group freed root s = record s {
-  free = set.union s.free (set.from_list freed);
-  log = record s.log { pending = filter (λ (r : Record). nat_lt group r.group) s.log.pending };
-  root = root;
+abbrev pub shown_after_tree : RunningSync → Shown → Shown
+shown_after_tree r s = record s {
+  free = set.union s.free (set.from_list r.freed.items);
+  log = record s.log { pending = filter (λ (x : Record). nat_lt r.group.0 x.group) s.log.pending };
+  root = r.root;
 }

@@ -13,10 +13,10 @@ use Rattle.tree_plans.specs.declared.planner.TreePlan.{TreePlan}
 use Rattle.tree_plans.specs.Changes.{AreBornBefore}
 use Rattle.tree_plans.specs.Marks.{AreMarks, pending_ops}
 use Rattle.tree_plans.specs.Plans.{new_block}
-use Rattle.pool_core.specs.GroupPlans.{IsPlannedFrom}
+use Rattle.pool_core.specs.GroupPlans.{IsPlannedGroup}
 use Rattle.pool_core.specs.Shows.{shown_of_pool}
 use Rattle.pool_core.proofs.FreeBlocks.{are_blocks}
-use Rattle.pool_core.proofs.PlannedPointers.{IfOk_both, IfOk_map, plan_placed, retold}
+use Rattle.pool_core.proofs.PlannedPointers.{IfOk_all, IfOk_both, plan_placed, retold}
 use Rattle.pool_core.proofs.StartLeads.{addresses_are}
 use Rattle.pool_core.proofs.Starts.{turn_want}
 use Rattle.pool_core.proofs.pool.Pool.plan_group.Goals as goal
@@ -26,30 +26,27 @@ returns-in_err-objects-clause-refused c =
     let p = err_from_is_err_and c.from_residual.result c.from_residual.ensures.1 in
     rw (p.1, p.2) (inl c.in_err-objects.ensures.refused)
 
-pub returns-clause-freed : goal.returns-clause-freed
-returns-clause-freed c = IfOk_map c.plan.result (λ (p : TreePlan) returned. are_blocks (block_count c.args.self.now.geometry) c.args.self.now.tree p.freed.items c.args.self.now.tree_placed returned) c.plan.ensures.returned
+pub returns-clause-fits : goal.returns-clause-fits
+returns-clause-fits c =
+    IfOk_both c.plan.result (λ (p : TreePlan) within returned. record { within = within; freed = are_blocks (block_count c.args.self.now.geometry) c.args.self.now.tree p.freed.items c.args.self.now.tree_placed returned })
+    c.plan.ensures.within c.plan.ensures.returned
 
-pub returns-clause-placed : goal.returns-clause-placed
-returns-clause-placed c = IfOk_map c.plan.result (λ (p : TreePlan) placed. plan_placed c.args.self.now.tree p.root p.directories.items p.maps (block_count c.args.self.now.geometry) c.args.self.now.tree_placed placed) c.plan.ensures.placed
-
-pub returns-clause-planned : goal.returns-clause-planned
-returns-clause-planned c =
+pub returns-clause-tree : goal.returns-clause-tree
+returns-clause-tree c =
     let pool = c.args.self.now in
+    let told = c.plan.ensures in
+    let group = c.args.group.0 in
     let objects : List (ObjectId × DirtyRecords) = c.in_ok-objects.objects.entries in
-    let marks : AreMarks (pending_ops c.args.group.0 pool.pending.items) objects = subst (λ (l : List Committed). AreMarks (pending_ops c.args.group.0 l) objects) c.deref.ensures.value c.in_ok-objects.ensures.marks in
-    IfOk_both c.plan.result (λ (p : TreePlan) told order. retold pool.tree p.root p.directories.items p.maps
-    (λ (old new : Place → Pointer). IsPlannedFrom c.args.group.0 pool.pending.items (frame_at (shown_of_pool pool) c.args.group.0) old new (map new_block p.blocks.items) (contents_of pool.contents).objects)
-    (record { objects = objects; marks = marks; planned = told; order = λ in_range. addresses_are p.blocks.items ∙ order in_range })) c.plan.ensures.planned c.plan.ensures.order
-
-pub returns-clause-freed_are : goal.returns-clause-freed_are
-returns-clause-freed_are c =
-    IfOk_map c.plan.result (λ (p : TreePlan) freed. retold c.args.self.now.tree p.root p.directories.items p.maps
-    (λ (old new : Place → Pointer). AreBornBefore c.args.group.0 old → AreFreed old new p.freed.items) freed) c.plan.ensures.freed
-
-pub returns-clause-used : goal.returns-clause-used
-returns-clause-used c =
-    IfOk_map c.plan.result (λ (p : TreePlan) used. retold c.args.self.now.tree p.root p.directories.items p.maps
-    (λ (old new : Place → Pointer). AreUsed (map new_block p.blocks.items) new) used) c.plan.ensures.used
+    let marks : AreMarks (pending_ops group pool.pending.items) objects = subst (λ (l : List Committed). AreMarks (pending_ops group l) objects) c.deref.ensures.value c.in_ok-objects.ensures.marks in
+    IfOk_all c.plan.result (λ (p : TreePlan) placed planned order freed used whole. record {
+      placed = plan_placed pool.tree p.root p.directories.items p.maps (block_count pool.geometry) pool.tree_placed placed;
+      planned = retold pool.tree p.root p.directories.items p.maps
+          (λ (old new : Place → Pointer). IsPlannedGroup group pool.pending.items (frame_at (shown_of_pool pool) group) old new (map new_block p.blocks.items) (contents_of pool.contents).objects)
+          (record { objects = objects; marks = marks; planned = planned; order = λ in_range. addresses_are p.blocks.items ∙ order in_range });
+      freed = retold pool.tree p.root p.directories.items p.maps (λ (old new : Place → Pointer). AreBornBefore group old → AreFreed old new p.freed.items) freed;
+      used = retold pool.tree p.root p.directories.items p.maps (λ (old new : Place → Pointer). AreUsed (map new_block p.blocks.items) new) used;
+      whole = whole;
+    }) told.placed told.planned told.order told.freed told.used told.whole
 
 pub returns-clause-refused : goal.returns-clause-refused
 returns-clause-refused c = turn_want c.plan.result c.plan.ensures.refused

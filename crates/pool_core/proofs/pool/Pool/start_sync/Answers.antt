@@ -89,12 +89,12 @@ invariant_of-self-2 c =
       plans_built = pool.plans_built;
       running = λ x e. let same = kept_sync rs x e in (
         ap (λ (r : RunningSync). r.run.geometry) (sym same) ∙ ens.geometry,
-        subst (λ (r : RunningSync). r.run.done < call_count r.run) same ens.left,
+        subst (λ (r : RunningSync). r.run.done < call_count r.run) same ens.begins.left,
       );
       uberblock = λ x e. subst (λ (r : RunningSync). WritesUberblock (uberblock_with pool.guid pool.import_number pool.log_address r.group.0 r.moment r.root) r.run) (kept_sync rs x e)
-          (rw (ens.group, ens.moment, ens.root) ens.uberblock);
+          (rw (ens.group, ens.moment, ens.begins.root) ens.uberblock);
       planned = λ x e. subst (λ (r : RunningSync). ∥ ArePlaced (block_count pool.geometry) (pointers_after r.root r.directories.items r.maps pool.tree) ∥₁) (kept_sync rs x e)
-          (rw (ens.root, ens.directories, ens.maps) c.in_ok-planned.ensures.placed);
+          (rw (ens.begins.root, ens.begins.directories, ens.begins.maps) c.in_ok-planned.ensures.tree.placed);
       sync_line = ap (λ (g : _). Some g.0) ens.group ∙ sym (ap (λ (l : Line). l.syncing) c.start_sync.ensures);
       pending_built = pool.pending_built;
       tree_placed = pool.tree_placed;
@@ -124,7 +124,7 @@ returns-clause-held c = λ now past x.
     let may = c.in_ok-group.ensures.may in (
       past,
       start_done (Unit {0}) now past s c.args.moment _ c.in_ok-group.group.0 plan x.explained
-          (λ keeps. group_takes_each now past pool c.in_ok-group.group.0 c.args.moment blocks planned.freed.items planned.root planned.directories.items planned.maps may c.in_ok-planned.ensures.planned x)
+          (λ keeps. group_takes_each now past pool c.in_ok-group.group.0 c.args.moment blocks planned.freed.items planned.root planned.directories.items planned.maps may c.in_ok-planned.ensures.tree.planned x)
           c.in_ok-check_running.ensures may.0 may.1 (pending_names pool.pending.items pool.pending_built) refl refl
           (lowest_taken blocks pool.free.flags.items c.in_ok-planned.ensures.taken) refl refl
           (rw (c.start_sync.ensures, c.take_all.ensures.free, c.running_sync.ensures.plan) (ap (λ (l : List PlannedBlock). record s { line = record s.line { syncing = Some c.in_ok-group.group.0; middle = None }; free = set.difference s.free (set.from_list (map address_of l)); sync = Some plan }) c.deref.ensures.value)),
@@ -140,11 +140,11 @@ returns-clause-order c = λ now past x.
       synced = x.kept.stored.synced;
       replayed = x.kept.stored.replayed;
       tree = record { pointers = pointers_after planned.root planned.directories.items planned.maps pool.tree; blocks = map new_block planned.blocks.items; slot = rs.run.uberblock; done = 0 };
-      running = ap (λ (t : NewTree). Some t) (nothing_made pool.tree rs planned.root planned.directories planned.maps planned.blocks ens.root ens.directories ens.maps ens.blocks ens.done);
+      running = ap (λ (t : NewTree). Some t) (nothing_made pool.tree rs planned.root planned.directories planned.maps planned.blocks ens.begins.root ens.begins.directories ens.begins.maps ens.begins.blocks ens.begins.done);
       plan = new_plan c.args.moment pool.log_address (map address_of planned.blocks.items) planned.freed.items planned.root;
       plan_is = ap (λ (q : SyncPlan). Some q) ens.plan;
       each = group_takes now past pool c.in_ok-group.group.0 c.args.moment planned.blocks.items planned.freed.items planned.root planned.directories.items planned.maps
-          c.in_ok-group.ensures.may c.in_ok-planned.ensures.planned x;
+          c.in_ok-group.ensures.may c.in_ok-planned.ensures.tree.planned x;
     }
 
 pub returns-in_err-check_running-clause-leads : goal.returns-in_err-check_running-clause-leads
@@ -169,7 +169,7 @@ returns-clause-leads c = λ now past later.
     let told = c.in_ok-planned.ensures in
     let rs = c.running_sync.result in
     let ens = c.running_sync.ensures in
-    let made = nothing_made pool.tree rs planned.root planned.directories planned.maps planned.blocks ens.root ens.directories ens.maps ens.blocks ens.done in
+    let made = nothing_made pool.tree rs planned.root planned.directories planned.maps planned.blocks ens.begins.root ens.begins.directories ens.begins.maps ens.begins.blocks ens.begins.done in
     record {
       same = refl;
       pointers = refl;
@@ -181,7 +181,7 @@ returns-clause-leads c = λ now past later.
       plan_is = ap (λ (q : SyncPlan). Some q) ens.plan;
       slot_is = ens.uberblock.bytes;
       planned = λ x. group_planned now past pool c.in_ok-group.group.0 c.args.moment planned.blocks.items planned.freed.items planned.root planned.directories.items planned.maps
-          c.in_ok-group.ensures.may told.planned told.freed_are told.used told.whole x;
+          c.in_ok-group.ensures.may told.tree.planned told.tree.freed told.tree.used told.tree.whole x;
     }
 
 pub returns-in_err-planned-clause-no_space : goal.returns-in_err-planned-clause-no_space
