@@ -33,7 +33,7 @@ use Rattle.pool_core.specs.declared.pool.RunningSync.{RunningSync}
 use Rattle.pool_core.specs.Areas.{AreBlocksOf}
 use Rattle.pool_core.specs.Pointers.{pointers_after}
 use Rattle.pool_core.specs.RunningUberblocks.{uberblock_with}
-use Rattle.pool_core.specs.Shows.{new_plan, objects_of, shown_of_pool}
+use Rattle.pool_core.specs.Shows.{new_plan, shown_objects, pool_shown}
 
 -- Some objects have just the marks of the group's pending operations. For them these blocks make the tree after the group from the old one,
 -- whatever objects were there before of which the operations leave the rest as they were; and they are those of the marked places, one for
@@ -68,7 +68,7 @@ TakesLowest pool p = map address_of p.blocks.items ≡ take (length p.blocks.ite
 -- in the group or later, what comes back is what the old tree has and the new one has not.
 pub record MakesTree (pool : Pool) (group : ℕ) (p : TreePlan) : Type 0 where
   pub placed : ∥ ArePlaced (block_count pool.geometry) (plan_pointers pool p) ∥₁
-  pub planned : IsPlannedGroup group pool.pending.items (frame_at (shown_of_pool pool) group) (pointers_of pool.tree) (plan_pointers pool p) (map new_block p.blocks.items) (objects_of pool)
+  pub planned : IsPlannedGroup group pool.pending.items (frame_at (pool_shown pool) group) (pointers_of pool.tree) (plan_pointers pool p) (map new_block p.blocks.items) (shown_objects pool)
   pub freed : AreBornBefore group (pointers_of pool.tree) → AreFreed (pointers_of pool.tree) (plan_pointers pool p) p.freed.items
   pub used : AreUsed (map new_block p.blocks.items) (plan_pointers pool p)
   pub whole : (i : ℕ) (b : NewBlock) → slice_get (map new_block p.blocks.items) i ≡ Some b → length b.content ≡ block_size

@@ -110,10 +110,10 @@ impl Pool {
     ghost use Rattle.pool_core.specs.GrantedLocks.{grants_of};
     ghost use Rattle.pool_core.specs.GroupPlans.{BeginsPlan, FitsIn, IsRefusedShort, MakesTree, TakesLowest, begun_plan, uberblock_for};
     ghost use Rattle.pool_core.specs.HeldLocks.{grant_of};
-    ghost use Rattle.pool_core.specs.Holds.{Leads, SamePlaces, sync_reply, told_of_pool, tree_after};
+    ghost use Rattle.pool_core.specs.Holds.{Leads, SamePlaces, sync_step_reply, pool_told, tree_after};
     ghost use Rattle.pool_core.specs.Lines.{ChecksStart, line_of};
     ghost use Rattle.pool_core.specs.Meets.{ChecksBegin, ChecksCommit, RefusesIf};
-    ghost use Rattle.pool_core.specs.Shows.{plan_of, shown_after_tree, shown_of_pool};
+    ghost use Rattle.pool_core.specs.Shows.{plan_of, shown_after_tree, pool_shown};
     ghost use Rattle.pool_core.specs.States.{IsOfNoDevice, KeepsTree};
     ghost use Rattle.pool_core.specs.StepAnswers.{Begins, ClosesGroup, Commits, Locks, MarksQuiesced, Reads, StartsSync, StepsSync, Unlocks};
     ghost use Rattle.pool_core.specs.SyncStarts.{IsRefusedForLack, StartLeads, StartsHeld, StartsInOrder};
@@ -122,7 +122,7 @@ impl Pool {
 
     pub(crate) fn new(mounted: Mounted) -> Self
         ensures geometry { result.geometry ≡ mounted.geometry }
-        ensures shown { shown_of_pool result ≡ shown_of_import mounted }
+        ensures shown { pool_shown result ≡ shown_of_import mounted }
         ensures tree { result.tree ≡ mounted.tree }
         ensures idle { result.sync ≡ None }
     {
@@ -189,7 +189,8 @@ impl Pool {
         range: Range,
         mode: Mode,
     ) -> Result<LockId, PoolError>
-        ensures step { Locks owner object range mode result (shown_of_pool self.old) (shown_of_pool self.new) }
+        ensures step { Locks owner object range mode result
+            (pool_shown self.old) (pool_shown self.new) }
         ensures kept { KeepsTree self.old self.new }
     {
         self.check_running()?;
@@ -200,7 +201,7 @@ impl Pool {
     }
 
     pub(crate) fn unlock(&mut self, owner: Owner, id: LockId) -> Result<(), PoolError>
-        ensures step { Unlocks owner id result (shown_of_pool self.old) (shown_of_pool self.new) }
+        ensures step { Unlocks owner id result (pool_shown self.old) (pool_shown self.new) }
         ensures kept { KeepsTree self.old self.new }
     {
         self.check_running()?;
@@ -215,13 +216,13 @@ impl Pool {
     }
 
     fn is_in_use(&self, held: &HeldLock) -> bool
-        ensures { result ≡ is_lock_in_use (grant_of held.now) (shown_of_pool self.now) }
+        ensures { result ≡ is_lock_in_use (grant_of held.now) (pool_shown self.now) }
     {
         is_held_in_use(held, &self.transactions)
     }
 
     pub(crate) fn begin(&mut self, owner: Owner, plan: Plan) -> Result<(TxId, Group), PoolError>
-        ensures step { Begins owner plan result (shown_of_pool self.old) (shown_of_pool self.new) }
+        ensures step { Begins owner plan result (pool_shown self.old) (pool_shown self.new) }
         ensures kept { KeepsTree self.old self.new }
     {
         self.check_begin(owner, plan.as_slice())?;
@@ -239,7 +240,7 @@ impl Pool {
 
     // Refused where a begin is, but for want of memory.
     fn check_begin(&self, owner: Owner, plan: &[Shape]) -> Result<(), PoolError>
-        ensures refusal { ChecksBegin owner plan.now result (shown_of_pool self.now) }
+        ensures refusal { ChecksBegin owner plan.now result (pool_shown self.now) }
         ensures built { OnOk result (is_plan_built plan.now ≡ true) }
         ensures named { OnOk result (self.now.next_tx ≤ 2 ^ 60) }
     {
@@ -278,7 +279,7 @@ impl Pool {
 
     // The group of a transaction that may commit. Refused where a commit is, but for want of memory.
     fn check_commit(&self, tx: TxId, ops: &[Op]) -> Result<Group, PoolError>
-        ensures refusal { ChecksCommit tx ops.now result (shown_of_pool self.now) }
+        ensures refusal { ChecksCommit tx ops.now result (pool_shown self.now) }
         ensures allowed { OnOk result (AreOpsAllowed ops.now) }
         ensures named { OnOk result (self.now.next_ordinal ≤ 2 ^ 60) }
     {
@@ -298,7 +299,7 @@ impl Pool {
     }
 
     pub(crate) fn commit(&mut self, tx: TxId, ops: Ops) -> Result<Receipt, PoolError>
-        ensures step { Commits tx ops result (shown_of_pool self.old) (shown_of_pool self.new) }
+        ensures step { Commits tx ops result (pool_shown self.old) (pool_shown self.new) }
         ensures kept { KeepsTree self.old self.new }
     {
         let group = self.check_commit(tx, ops.as_slice())?;
@@ -325,7 +326,7 @@ impl Pool {
         object: ObjectId,
         range: Range,
     ) -> Result<Bytes, PoolError>
-        ensures { Reads owner object range result (shown_of_pool self.now) }
+        ensures { Reads owner object range result (pool_shown self.now) }
     {
         self.check_running()?;
         if !is_readable(object, range) {
@@ -341,7 +342,7 @@ impl Pool {
     }
 
     pub(crate) fn close_group(&mut self) -> Result<Group, PoolError>
-        ensures step { ClosesGroup result (shown_of_pool self.old) (shown_of_pool self.new) }
+        ensures step { ClosesGroup result (pool_shown self.old) (pool_shown self.new) }
         ensures kept { KeepsTree self.old self.new }
     {
         self.check_running()?;
@@ -350,7 +351,7 @@ impl Pool {
     }
 
     pub(crate) fn mark_quiesced(&mut self) -> Result<Group, PoolError>
-        ensures step { MarksQuiesced result (shown_of_pool self.old) (shown_of_pool self.new) }
+        ensures step { MarksQuiesced result (pool_shown self.old) (pool_shown self.new) }
         ensures kept { KeepsTree self.old self.new }
     {
         self.check_running()?;
@@ -366,11 +367,11 @@ impl Pool {
 
     pub(crate) fn start_sync(&mut self, moment: u64) -> Result<Group, PoolError>
         ensures geometry { self.new.geometry ≡ self.old.geometry }
-        ensures step { StartsSync moment result (shown_of_pool self.old) (shown_of_pool self.new) }
-        ensures held { StartsHeld moment result (told_of_pool self.old) (told_of_pool self.new) }
-        ensures order { StartsInOrder result (told_of_pool self.old) (told_of_pool self.new) }
-        ensures no_space { IsRefusedForLack result (told_of_pool self.old) }
-        ensures leads { StartLeads result (told_of_pool self.old) (told_of_pool self.new) }
+        ensures step { StartsSync moment result (pool_shown self.old) (pool_shown self.new) }
+        ensures held { StartsHeld moment result (pool_told self.old) (pool_told self.new) }
+        ensures order { StartsInOrder result (pool_told self.old) (pool_told self.new) }
+        ensures no_space { IsRefusedForLack result (pool_told self.old) }
+        ensures leads { StartLeads result (pool_told self.old) (pool_told self.new) }
         ensures own { IsOfNoDevice result }
     {
         self.check_running()?;
@@ -421,7 +422,8 @@ impl Pool {
         ensures moment { result.moment ≡ moment }
         ensures begins { BeginsPlan planned result }
         ensures plan { plan_of self.now.log_address result ≡ begun_plan self.now moment planned }
-        ensures uberblock { WritesUberblock (uberblock_for self.now group.0 moment planned.root) result.run }
+        ensures uberblock { WritesUberblock
+            (uberblock_for self.now group.0 moment planned.root) result.run }
     {
         // Labels lie apart from the blocks, as the size is one of a pool's device.
         let _size = self.geometry.size();
@@ -460,13 +462,13 @@ impl Pool {
         requires { D.size device.old ≡ self.old.geometry }
         ensures size { D.size device.new ≡ D.size device.old }
         ensures geometry { self.new.geometry ≡ self.old.geometry }
-        ensures step { StepsSync result (shown_of_pool self.old) (shown_of_pool self.new) }
+        ensures step { StepsSync result (pool_shown self.old) (pool_shown self.new) }
         ensures called { MakesNextOf (IsTrue D.keeps_model) D.disk self.old (plain_answer result)
             device.old device.new }
         ensures count { D.refused device.new ≡ counted result (D.refused device.old) }
-        ensures leads { IsTrue D.keeps_model → Leads (sync_reply result)
-            (told_of_pool self.old (bytes_of (D.disk device.old).now))
-            (told_of_pool self.new (bytes_of (D.disk device.new).now)) }
+        ensures leads { IsTrue D.keeps_model → Leads (sync_step_reply result)
+            (pool_told self.old (bytes_of (D.disk device.old).now))
+            (pool_told self.new (bytes_of (D.disk device.new).now)) }
     {
         self.check_running()?;
         let Some(mut running) = self.sync.take() else {
@@ -495,10 +497,11 @@ impl Pool {
     fn finish_tree(&mut self, running: RunningSync)
         requires none { is_some self.old.sync ≡ false }
         requires geometry { running.run.geometry ≡ self.old.geometry }
-        requires placed { ∥ ArePlaced (block_count self.old.geometry) (tree_after running self.old.tree) ∥₁ }
+        requires placed { ∥ ArePlaced (block_count self.old.geometry)
+            (tree_after running self.old.tree) ∥₁ }
         ensures geometry { self.new.geometry ≡ self.old.geometry }
         ensures sync { self.new.sync ≡ self.old.sync }
-        ensures shown { shown_of_pool self.new ≡ shown_after_tree running (shown_of_pool self.old) }
+        ensures shown { pool_shown self.new ≡ shown_after_tree running (pool_shown self.old) }
         ensures pointers { SamePlaces (pointers_of self.new.tree) (tree_after running self.old.tree) }
     {
         let RunningSync {
@@ -546,7 +549,8 @@ fn bytes_in(bytes: &[u8], range: Range) -> &[u8]
 // These blocks are taken.
 fn take_all(free: &mut FreeSet, blocks: &[PlannedBlock])
     ensures count { vec_len free.new.flags ≡ vec_len free.old.flags }
-    ensures free { free_of free.new.flags.items ≡ free_without free.old (map address_of blocks.now) }
+    ensures free { free_of free.new.flags.items
+        ≡ free_without free.old (map address_of blocks.now) }
 {
     for planned in blocks {
         free.take(planned.index);

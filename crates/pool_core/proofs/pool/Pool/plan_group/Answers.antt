@@ -14,7 +14,7 @@ use Rattle.tree_plans.specs.Changes.{AreBornBefore}
 use Rattle.tree_plans.specs.Marks.{AreMarks, pending_ops}
 use Rattle.tree_plans.specs.Plans.{new_block}
 use Rattle.pool_core.specs.GroupPlans.{IsPlannedGroup}
-use Rattle.pool_core.specs.Shows.{shown_of_pool}
+use Rattle.pool_core.specs.Shows.{pool_shown}
 use Rattle.pool_core.proofs.FreeBlocks.{are_blocks}
 use Rattle.pool_core.proofs.PlannedPointers.{IfOk_all, IfOk_both, plan_placed, retold}
 use Rattle.pool_core.proofs.StartLeads.{addresses_are}
@@ -41,7 +41,7 @@ returns-clause-tree c =
     IfOk_all c.plan.result (λ (p : TreePlan) placed planned order freed used whole. record {
       placed = plan_placed pool.tree p.root p.directories.items p.maps (block_count pool.geometry) pool.tree_placed placed;
       planned = retold pool.tree p.root p.directories.items p.maps
-          (λ (old new : Place → Pointer). IsPlannedGroup group pool.pending.items (frame_at (shown_of_pool pool) group) old new (map new_block p.blocks.items) (contents_of pool.contents).objects)
+          (λ (old new : Place → Pointer). IsPlannedGroup group pool.pending.items (frame_at (pool_shown pool) group) old new (map new_block p.blocks.items) (contents_of pool.contents).objects)
           (record { objects = objects; marks = marks; planned = planned; order = λ in_range. addresses_are p.blocks.items ∙ order in_range });
       freed = retold pool.tree p.root p.directories.items p.maps (λ (old new : Place → Pointer). AreBornBefore group old → AreFreed old new p.freed.items) freed;
       used = retold pool.tree p.root p.directories.items p.maps (λ (old new : Place → Pointer). AreUsed (map new_block p.blocks.items) new) used;

@@ -10,7 +10,7 @@ use Rattle.pool_core.specs.declared.pool.RunningSync.{RunningSync}
 use Rattle.tree_plans.specs.Plans.{address_of}
 use Rattle.pool_core.specs.Pointers.{pointers_after}
 use Rattle.pool_core.specs.RunningUberblocks.{WritesUberblock, uberblock_with}
-use Rattle.pool_core.specs.Shows.{new_plan, shown_of_pool}
+use Rattle.pool_core.specs.Shows.{new_plan, pool_shown}
 use Rattle.std.specs.Prelude.{Result}
 use Rattle.base.specs.declared.error.PoolError.{PoolError}
 use Rattle.base.specs.declared.names.Group.{Group}
@@ -29,37 +29,37 @@ pub returns-in_err-check_running-clause-step : goal.returns-in_err-check_running
 returns-in_err-check_running-clause-step c =
     let p = err_from_is_err_and c.from_residual.result c.from_residual.ensures.1 in
     let told = c.in_err-check_running.ensures in
-    rw (p.1, p.2, told.0) (λ past explained. (past, start_suspended ⊥ [] past (shown_of_pool c.args.self.now) c.args.moment told.1))
+    rw (p.1, p.2, told.0) (λ past explained. (past, start_suspended ⊥ [] past (pool_shown c.args.self.now) c.args.moment told.1))
 
 pub returns-in_err-group-clause-step : goal.returns-in_err-group-clause-step
 returns-in_err-group-clause-step c =
     let p = err_from_is_err_and c.from_residual-in_err-group.result c.from_residual-in_err-group.ensures.1 in
     let told = c.in_err-group.ensures.may in
-    rw (p.1, p.2, told.0) (λ past explained. (past, start_not_ready ⊥ [] past (shown_of_pool c.args.self.now) c.args.moment c.in_ok-check_running.ensures told.1))
+    rw (p.1, p.2, told.0) (λ past explained. (past, start_not_ready ⊥ [] past (pool_shown c.args.self.now) c.args.moment c.in_ok-check_running.ensures told.1))
 
 pub returns-in_err-planned-clause-step : goal.returns-in_err-planned-clause-step
 returns-in_err-planned-clause-step c =
     let p = err_from_is_err_and c.from_residual-in_err-planned.result c.from_residual-in_err-planned.ensures.1 in
     let may = c.in_ok-group.ensures.may in
-    rw (p.1, p.2) (λ past explained. (past, start_wants ⊥ [] past (shown_of_pool c.args.self.now) c.args.moment c.in_ok-group.group.0 c.in_err-planned.field-0.0 c.in_ok-check_running.ensures may.0 may.1 c.in_err-planned.ensures.refused))
+    rw (p.1, p.2) (λ past explained. (past, start_wants ⊥ [] past (pool_shown c.args.self.now) c.args.moment c.in_ok-group.group.0 c.in_err-planned.field-0.0 c.in_ok-check_running.ensures may.0 may.1 c.in_err-planned.ensures.refused))
 
 pub returns-in_err-check_running-clause-held : goal.returns-in_err-check_running-clause-held
 returns-in_err-check_running-clause-held c =
     let p = err_from_is_err_and c.from_residual.result c.from_residual.ensures.1 in
     let told = c.in_err-check_running.ensures in
-    rw (p.1, p.2, told.0) (λ now past x. (past, start_suspended (Unit {0}) now past (shown_of_pool c.args.self.now) c.args.moment told.1))
+    rw (p.1, p.2, told.0) (λ now past x. (past, start_suspended (Unit {0}) now past (pool_shown c.args.self.now) c.args.moment told.1))
 
 pub returns-in_err-group-clause-held : goal.returns-in_err-group-clause-held
 returns-in_err-group-clause-held c =
     let p = err_from_is_err_and c.from_residual-in_err-group.result c.from_residual-in_err-group.ensures.1 in
     let told = c.in_err-group.ensures.may in
-    rw (p.1, p.2, told.0) (λ now past x. (past, start_not_ready (Unit {0}) now past (shown_of_pool c.args.self.now) c.args.moment c.in_ok-check_running.ensures told.1))
+    rw (p.1, p.2, told.0) (λ now past x. (past, start_not_ready (Unit {0}) now past (pool_shown c.args.self.now) c.args.moment c.in_ok-check_running.ensures told.1))
 
 pub returns-in_err-planned-clause-held : goal.returns-in_err-planned-clause-held
 returns-in_err-planned-clause-held c =
     let p = err_from_is_err_and c.from_residual-in_err-planned.result c.from_residual-in_err-planned.ensures.1 in
     let may = c.in_ok-group.ensures.may in
-    rw (p.1, p.2) (λ now past x. (past, start_wants (Unit {0}) now past (shown_of_pool c.args.self.now) c.args.moment c.in_ok-group.group.0 c.in_err-planned.field-0.0 c.in_ok-check_running.ensures may.0 may.1 c.in_err-planned.ensures.refused))
+    rw (p.1, p.2) (λ now past x. (past, start_wants (Unit {0}) now past (pool_shown c.args.self.now) c.args.moment c.in_ok-group.group.0 c.in_err-planned.field-0.0 c.in_ok-check_running.ensures may.0 may.1 c.in_err-planned.ensures.refused))
 
 pub returns-in_err-check_running-clause-order : goal.returns-in_err-check_running-clause-order
 returns-in_err-check_running-clause-order c =
@@ -103,7 +103,7 @@ invariant_of-self-2 c =
 pub returns-clause-step : goal.returns-clause-step
 returns-clause-step c = λ past explained.
     let pool = c.args.self.now in
-    let s = shown_of_pool pool in
+    let s = pool_shown pool in
     let blocks : List PlannedBlock = c.in_ok-planned.planned.blocks.items in
     let plan = new_plan c.args.moment pool.log_address (map address_of blocks) c.in_ok-planned.planned.freed.items c.in_ok-planned.planned.root in
     let may = c.in_ok-group.ensures.may in (
@@ -117,7 +117,7 @@ returns-clause-step c = λ past explained.
 pub returns-clause-held : goal.returns-clause-held
 returns-clause-held c = λ now past x.
     let pool = c.args.self.now in
-    let s = shown_of_pool pool in
+    let s = pool_shown pool in
     let planned = c.in_ok-planned.planned in
     let blocks : List PlannedBlock = planned.blocks.items in
     let plan = new_plan c.args.moment pool.log_address (map address_of blocks) planned.freed.items planned.root in

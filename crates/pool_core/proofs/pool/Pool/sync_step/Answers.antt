@@ -10,12 +10,12 @@ use Rattle.sync.specs.Runs.{call_count}
 use Rattle.pool_core.specs.declared.pool.RunningSync.{RunningSync}
 use Rattle.pool_core.specs.Pointers.{pointers_after}
 use Rattle.pool_core.specs.RunningUberblocks.{WritesUberblock, uberblock_with}
-use Rattle.pool_core.specs.Shows.{plan_of, shown_of_pool}
+use Rattle.pool_core.specs.Shows.{plan_of, pool_shown}
 use Rattle.pool_core.proofs.SameSyncs.{as_many, kept_sync, left_as_before, more_left, one_left, one_less, refused_as, same_taken, same_uberblock}
 use Rattle.base.specs.disk.Disk.{bytes_of}
 use Rattle.base.specs.declared.error.PoolError.{PoolError}
 use Rattle.pool_core.specs.declared.state.Progress.{Progress}
-use Rattle.pool_core.specs.Holds.{made_by, new_tree_of, sync_reply}
+use Rattle.pool_core.specs.Holds.{made_by, new_tree_of, sync_step_reply}
 use Rattle.pool_core.proofs.StillSteps.{still_pool}
 use Rattle.pool_core.proofs.SyncLeads.{advanced, failed_call, failed_running, synced_told, was_running, was_syncing}
 use Rattle.pool_core.proofs.SyncSteps.{step_failed, step_more, step_not_ready, step_suspended, step_synced}
@@ -25,12 +25,12 @@ pub returns-in_err-check_running-clause-step : goal.returns-in_err-check_running
 returns-in_err-check_running-clause-step g c =
     let p = err_from_is_err_and c.from_residual.result c.from_residual.ensures.1 in
     let told = c.in_err-check_running.ensures in
-    rw (p.1, p.2, told.0) (step_suspended (shown_of_pool c.args.self.now) told.1)
+    rw (p.1, p.2, told.0) (step_suspended (pool_shown c.args.self.now) told.1)
 
 pub returns-in_default-clause-step : goal.returns-in_default-clause-step
 returns-in_default-clause-step g c =
     let pool = c.args.self.now in
-    let s = shown_of_pool pool in
+    let s = pool_shown pool in
     let none : pool.sync ≡ None = sym c.in_default.ensures.value in
     let idle = sym pool.sync_line ∙ ap (λ (o : Option RunningSync). option_map (λ (r : RunningSync). r.group.0) o) none in
     let same : None ≡ s.sync = sym (ap (λ (o : Option RunningSync). option_map (plan_of pool.log_address) o) none) in
@@ -94,7 +94,7 @@ invariant_of-self-in-Err g c =
 pub returns-in-Ok-true-clause-step : goal.returns-in-Ok-true-clause-step
 returns-in-Ok-true-clause-step g c =
     let pool = c.args.self.now in
-    let s = shown_of_pool pool in
+    let s = pool_shown pool in
     let is = sym c.in-Some.ensures.value in
     let told = c.in-Ok-true.ensures in
     let plan : SyncPlan = plan_of pool.log_address c.in-Some.running in
@@ -107,7 +107,7 @@ returns-in-Ok-true-clause-step g c =
 pub returns-in-Ok-false-clause-step : goal.returns-in-Ok-false-clause-step
 returns-in-Ok-false-clause-step g c =
     let pool = c.args.self.now in
-    let s = shown_of_pool pool in
+    let s = pool_shown pool in
     let is = sym c.in-Some.ensures.value in
     let was = pool.running c.in-Some.running is in
     let told = c.in-Ok-false.ensures in
@@ -123,7 +123,7 @@ returns-in-Ok-false-clause-step g c =
 pub returns-in-Err-clause-step : goal.returns-in-Err-clause-step
 returns-in-Err-clause-step g c =
     let pool = c.args.self.now in
-    let s = shown_of_pool pool in
+    let s = pool_shown pool in
     let is = sym c.in-Some.ensures.value in
     let told = c.in-Err.ensures in
     let plan : SyncPlan = plan_of pool.log_address c.in-Some.running in
@@ -140,7 +140,7 @@ returns-in-Err-clause-step g c =
 pub returns-in_err-check_running-clause-leads : goal.returns-in_err-check_running-clause-leads
 returns-in_err-check_running-clause-leads g c = λ keeps.
     let p = err_from_is_err_and c.from_residual.result c.from_residual.ensures.1 in
-    still_pool (sync_reply c.from_residual.result) p.0 (bytes_of (g.D.SectorDevice.disk c.args.device.now).now) c.args.self.now (ap (λ (r : Result Progress PoolError). sync_reply r) p.1)
+    still_pool (sync_step_reply c.from_residual.result) p.0 (bytes_of (g.D.SectorDevice.disk c.args.device.now).now) c.args.self.now (ap (λ (r : Result Progress PoolError). sync_step_reply r) p.1)
 
 pub returns-in_default-clause-leads : goal.returns-in_default-clause-leads
 returns-in_default-clause-leads g c = λ keeps past later. (
