@@ -471,23 +471,22 @@ impl Pool {
             (pool_told self.new (bytes_of (D.disk device.new).now)) }
     {
         self.check_running()?;
-        let Some(mut running) = self.sync.take() else {
+        let Some(running) = &mut self.sync else {
             return Err(PoolError::NotReady);
         };
         match running.run.next(device) {
             Ok(true) => {
-                let group = running.group;
+                let Some(synced) = self.sync.take() else {
+                    unreachable!();
+                };
+                let group = synced.group;
                 self.groups.finish_sync(group);
-                self.finish_tree(running);
+                self.finish_tree(synced);
                 Ok(Progress::Synced(group))
             }
-            Ok(false) => {
-                self.sync = Some(running);
-                Ok(Progress::More)
-            }
+            Ok(false) => Ok(Progress::More),
             Err(error) => {
                 self.suspended = true;
-                self.sync = Some(running);
                 Err(error)
             }
         }
@@ -502,7 +501,8 @@ impl Pool {
         ensures geometry { self.new.geometry ≡ self.old.geometry }
         ensures sync { self.new.sync ≡ self.old.sync }
         ensures shown { pool_shown self.new ≡ shown_after_tree running (pool_shown self.old) }
-        ensures pointers { SamePlaces (pointers_of self.new.tree) (tree_after running self.old.tree) }
+        ensures pointers { SamePlaces (pointers_of self.new.tree)
+            (tree_after running self.old.tree) }
     {
         let RunningSync {
             group,
