@@ -58,12 +58,6 @@ names_none (op.SetName bytes) h = absurd (let no_way : false ≡ true = h.0 in c
 pub no_names : (ops : List Op) → AreOpsAllowed ops → list_any gives_bad_name ops ≡ false
 no_names ops all = list_any_none gives_bad_name ops (λ k d below. names_none _ (all k d below))
 
-pub commit_suspended : (tx : ℕ) (ops : List Op) (s : Shown) → s.suspended ≡ true → commit_refusal tx ops s ≡ Some error.Suspended
-commit_suspended tx ops s h = rw h refl
-
-pub commit_older : (tx : ℕ) (ops : List Op) (s : Shown) → s.suspended ≡ false → has_older_group s.line ≡ true → commit_refusal tx ops s ≡ Some error.NotReady
-commit_older tx ops s h older = rw (h, older) refl
-
 pub commit_none : (tx : ℕ) (ops : List Op) (s : Shown) → s.suspended ≡ false → has_older_group s.line ≡ false → transaction_of tx s ≡ None → commit_refusal tx ops s ≡ Some error.NoSuchTransaction
 commit_none tx ops s h older none = rw (h, older, none) refl
 

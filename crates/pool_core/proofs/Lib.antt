@@ -4,6 +4,8 @@ pub mod Mapped
 pub mod Closes
 pub mod KeptRanges
 pub mod LockSteps
+pub mod BeginTests
+pub mod CommitTests
 pub mod Flags
 pub mod CommitSteps
 pub mod ReadSteps

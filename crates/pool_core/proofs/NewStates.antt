@@ -12,9 +12,9 @@ use Rattle.import_replay.specs.declared.mounted.Mounted.{Mounted}
 use Rattle.import_replay.specs.Mounts.{IsExplainedAnew, StandsOn, shown_of_import}
 use Rattle.import_replay.specs.ShownMounts.{LabelsShow}
 use Rattle.pool_core.specs.declared.pool.Pool.{Pool}
-use Rattle.pool_core.specs.Holds.{held_with, new_tree_of, told_of_pool}
+use Rattle.pool_core.specs.Holds.{held_with, new_tree_of, pool_told}
 use Rattle.pool_core.specs.NewStates.{IsExplainedAtFirst, IsHeldAtFirst, first_past}
-use Rattle.pool_core.specs.Shows.{shown_of_pool}
+use Rattle.pool_core.specs.Shows.{pool_shown}
 
 module _ (now : List ℕ) (created : ℕ) (m : Mounted) (sized : block_count m.geometry ≡ block_count (length now)) (on : StandsOn now m) (shows : LabelsShow now m) (explained : IsExplainedAnew m) where
   stored : IsStored now (shown_of_import m) (pointers_of m.tree) (new_past (contents_of m.contents) created m.dirty_max)
@@ -47,10 +47,10 @@ pub explained_as : (m : Mounted) (shown : Shown) → shown ≡ shown_of_import m
 explained_as m shown is explained = subst IsExplainedAtFirst (sym is) explained
 
 -- And where it has the tree and no running sync, the device holds what it should.
-pub held_as : (m : Mounted) (pool : Pool) (now : List ℕ) → shown_of_pool pool ≡ shown_of_import m → pool.tree ≡ m.tree → pool.sync ≡ None
-    → block_count m.geometry ≡ block_count (length now) → StandsOn now m → LabelsShow now m → IsExplainedAnew m → IsHeldAtFirst (told_of_pool pool now)
+pub held_as : (m : Mounted) (pool : Pool) (now : List ℕ) → pool_shown pool ≡ shown_of_import m → pool.tree ≡ m.tree → pool.sync ≡ None
+    → block_count m.geometry ≡ block_count (length now) → StandsOn now m → LabelsShow now m → IsExplainedAnew m → IsHeldAtFirst (pool_told pool now)
 held_as m pool now shown tree idle sized on shows explained created =
-    let same : held_with (told_of_pool pool now) (first_past (shown_of_pool pool) created)
+    let same : held_with (pool_told pool now) (first_past (pool_shown pool) created)
     ≡ record { state = record { shown = shown_of_import m; past = new_past (contents_of m.contents) created m.dirty_max }; now = now; pointers = pointers_of m.tree; running = None } = λ k.
     record { state = record { shown = shown k; past = first_past (shown k) created }; now = now; pointers = pointers_of (tree k); running = option_map (new_tree_of pool.tree) (idle k) } in
     subst IsHeld (sym same) (is_held now created m sized on shows explained)

@@ -30,7 +30,7 @@ use Rattle.tree_plans.specs.declared.planner.DirtyRecords.{DirtyRecords}
 use Rattle.tree_plans.specs.Changes.{AreInRange, is_marked}
 use Rattle.tree_plans.specs.Marks.{AreMarks, pending_ops, touches}
 use Rattle.tree_plans.specs.Pointers.{entry_of}
-use Rattle.pool_core.specs.GroupPlans.{IsPlannedFrom, IsShortOfBlocks}
+use Rattle.pool_core.specs.GroupPlans.{IsPlannedGroup, IsShortOfBlocks}
 use Rattle.pool_core.specs.Shows.{record_of as shown_record}
 use Rattle.pool_core.proofs.PlannedGroups.{any_on, built, follows, ops_are, there, touch_writes}
 
@@ -77,7 +77,7 @@ module _ (now : List ℕ) (s : Shown) (p : Past) (pointers : Place → Pointer) 
       subst (λ (l : List ℕ). length l < length places) (sym (rising-free_of flags))
       (subst (λ (ps : List Place). length (addresses_from 0 flags) < length ps) (sym (places_are short.objects short.marks)) (short.fewer (in_range short.objects short.marks)))
 
-  module _ (new : Place → Pointer) (bs : List NewBlock) (plan : SyncPlan) (from : IsPlannedFrom group pending (frame_at s group) pointers new bs s.contents.objects) (taken : map (λ (b : NewBlock). b.address) bs ≡ plan.taken) where
+  module _ (new : Place → Pointer) (bs : List NewBlock) (plan : SyncPlan) (from : IsPlannedGroup group pending (frame_at s group) pointers new bs s.contents.objects) (taken : map (λ (b : NewBlock). b.address) bs ≡ plan.taken) where
     -- the new tree has the taken addresses at them, in order
     pub takes_in_order : map (λ (place : Place). (new place).address) places ≡ plan.taken
     takes_in_order =

@@ -39,7 +39,7 @@ use Rattle.tree_plans.specs.declared.planner.DirtyRecords.{DirtyRecords}
 use Rattle.tree_plans.specs.Changes.{AreBornBefore, AreChanges, HasNoOthers, IsCoveredBy}
 use Rattle.tree_plans.specs.Marks.{AreMarks, changes, pending_ops, touches}
 use Rattle.tree_plans.specs.Pointers.{entry_of}
-use Rattle.pool_core.specs.GroupPlans.{IsPlannedFrom}
+use Rattle.pool_core.specs.GroupPlans.{IsPlannedGroup}
 use Rattle.pool_core.specs.Shows.{record_of as shown_record}
 
 -- transactions in order are their operations in order
@@ -208,7 +208,7 @@ module _ (now : List ℕ) (s : Shown) (p : Past) (pointers : Place → Pointer) 
       omega (arith, next, birth)
 
   -- what is planned is a sync from the stored tree to the contents
-  pub planned_sync : (new : Place → Pointer) (bs : List NewBlock) (plan : SyncPlan) → IsPlannedFrom group pending (frame_at s group) pointers new bs s.contents.objects
+  pub planned_sync : (new : Place → Pointer) (bs : List NewBlock) (plan : SyncPlan) → IsPlannedGroup group pending (frame_at s group) pointers new bs s.contents.objects
       → map (λ (b : NewBlock). b.address) bs ≡ plan.taken → ((i : ℕ) (b : NewBlock) → slice_get bs i ≡ Some b → length b.content ≡ 4096) → (AreBornBefore group pointers → AreFreed pointers new plan.freed)
       → AreUsed bs new → new Root ≡ plan.root → IsPlannedSync (frame_at s group) pointers new bs x.synced.objects s.contents.objects plan
   planned_sync new bs plan from taken whole freed used root = record {

@@ -80,15 +80,15 @@ module _ (tree : Tree) (root : Pointer) (directories : List Pointer) (maps : BTr
       let new : pointers_after root directories maps tree ≡ plans.pointers_from root directories (planned_map tree.maps.items maps.entries) = λ k place. same_plan tree root directories maps place k in
       subst (λ (f : Place → Pointer). P f (pointers_after root directories maps tree)) (sym old) (subst (λ (f : Place → Pointer). P (plans.pointers_before tree) f) (sym new) h)
 
--- what holds of a result holds in another form
-pub IfOk_map : {A : Type 0} {P Q : A → Type 0} (r : Result A PoolError) → ((a : A) → P a → Q a) → IfOk r P → IfOk r Q
-IfOk_map (Ok a) f h = f a h
-IfOk_map (Err e) f h = tt
-
--- and what two facts give together
+-- what two facts of an answer give together
 pub IfOk_both : {A : Type 0} {P Q R : A → Type 0} (r : Result A PoolError) → ((a : A) → P a → Q a → R a) → IfOk r P → IfOk r Q → IfOk r R
 IfOk_both (Ok a) f h k = f a h k
 IfOk_both (Err e) f h k = tt
+
+-- and three
+pub IfOk_all : {A : Type 0} {P Q R S : A → Type 0} (r : Result A PoolError) → ((a : A) → P a → Q a → R a → S a) → IfOk r P → IfOk r Q → IfOk r R → IfOk r S
+IfOk_all (Ok a) f p q r = f a p q r
+IfOk_all (Err e) f p q r = tt
 
 -- where the pointers of a tree are placed, so are those of its plan
 pub plan_placed : (tree : Tree) (root : Pointer) (directories : List Pointer) (maps : BTreeMap ObjectId ObjectMap) (blocks : ℕ) → ∥ ArePlaced blocks (kept.pointers_of tree) ∥₁

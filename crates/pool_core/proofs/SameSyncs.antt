@@ -27,10 +27,6 @@ same_count old new same = omega (arith, ap vec_len same.blocks, ap other_calls s
 pub kept_sync : (a b : RunningSync) → Some a ≡ Some b → a ≡ b
 kept_sync a b e = cc
 
--- the run of the sync that is kept
-pub kept_run : (a b : RunningSync) → Some a ≡ Some b → a.run ≡ b.run
-kept_run a b e = let inner : a ≡ b = cc in ap (λ (r : RunningSync). r.run) inner
-
 -- a sync whose next call was refused has as many left
 pub left_as_before : (old new : SyncRun) → SameSync old new → new.done ≡ old.done → old.done < call_count old → new.done < call_count new
 left_as_before old new same done left = let count = same_count old new same in omega arith

@@ -14,7 +14,7 @@ use Rattle.object_maps.specs.Pointers.{pointers_of}
 use Rattle.pool_core.specs.declared.pool.Pool.{Pool}
 use Rattle.pool_core.specs.declared.state.PoolState.{PoolState}
 use Rattle.pool_core.specs.Calls.{answer_in}
-use Rattle.pool_core.specs.Holds.{Leads, Told, new_tree_of, start_reply, told_of_pool}
+use Rattle.pool_core.specs.Holds.{Leads, Told, new_tree_of, start_reply, pool_told}
 use Rattle.pool_core.specs.States.{CountsRefused, MakesNoCall, MovesNothing, refused_calls, told, told_over}
 use Rattle.pool_core.specs.SyncStarts.{StartLeads}
 
@@ -47,9 +47,9 @@ pub leads_as : (r given : declared_reply.Reply) (old new : Told) → r ≡ given
 leads_as r given old new is leads = subst (λ (q : declared_reply.Reply). Leads q old new) is leads
 
 -- a refused step of a pool that stands
-pub still_pool : (given : declared_reply.Reply) (e : PoolError) (now : List ℕ) (pool : Pool) → given ≡ reply.Refused e → Leads given (told_of_pool pool now) (told_of_pool pool now)
+pub still_pool : (given : declared_reply.Reply) (e : PoolError) (now : List ℕ) (pool : Pool) → given ≡ reply.Refused e → Leads given (pool_told pool now) (pool_told pool now)
 still_pool given e now pool is =
-    subst (λ (r : declared_reply.Reply). Leads r (told_of_pool pool now) (told_of_pool pool now)) (sym is) (λ past later. (refl, refl, refl))
+    subst (λ (r : declared_reply.Reply). Leads r (pool_told pool now) (pool_told pool now)) (sym is) (λ past later. (refl, refl, refl))
 
 module _ {Dev : Type 0} {G : Ghosts Dev} (old new : PoolState Dev G) where
   still : {A : Type 0} (answer : Result A PoolError) → MovesNothing answer old new → IsStill (told old) (told new)

@@ -28,7 +28,7 @@ use Rattle.tree_plans.specs.Plans.{new_block}
 use Rattle.object_maps.specs.Pointers.{pointers_of}
 use Rattle.pool_core.specs.declared.pool.Pool.{Pool}
 use Rattle.pool_core.specs.declared.pool.RunningSync.{RunningSync}
-use Rattle.pool_core.specs.Holds.{Leads, SamePlaces, Told, made_by, new_tree_of, told_of_pool}
+use Rattle.pool_core.specs.Holds.{Leads, SamePlaces, Told, made_by, new_tree_of, pool_told}
 use Rattle.pool_core.specs.Pointers.{pointers_after}
 
 -- each call of a list, with its place in it
@@ -176,7 +176,7 @@ module _ (pool : Pool) (r : RunningSync) (next : SyncRun) (before after : Disk) 
       call_advances r.run next same pointers r.no_stages done before after (sized ∙ sym size) r.group.0 (pool.uberblock r is).slot there.0 there.1 (makes there.0 there.1)
 
   pub synced_told : (new : Pool) → next.done ≡ r.run.done + 1 → next.done ≡ call_count next → IsMade → new.sync ≡ None → SamePlaces (pointers_of new.tree) pointers
-      → Leads (reply.Synced r.group) (told_of_pool pool (bytes_of before.now)) (told_of_pool new (bytes_of after.now))
+      → Leads (reply.Synced r.group) (pool_told pool (bytes_of before.now)) (pool_told new (bytes_of after.now))
   synced_told new done last makes none places =
-      synced_leads r.group (told_of_pool pool (bytes_of before.now)) (told_of_pool new (bytes_of after.now)) (made_by pointers r.run) (made_by pointers next) (was_running pool r is) (was_syncing pool r is)
+      synced_leads r.group (pool_told pool (bytes_of before.now)) (pool_told new (bytes_of after.now)) (made_by pointers r.run) (made_by pointers next) (was_running pool r is) (was_syncing pool r is)
       (ap (λ (o : Option RunningSync). option_map (new_tree_of new.tree) o) none) places (made_all r.run next same pointers r.no_stages last) (advanced done makes)

@@ -1,5 +1,5 @@
 -- What the plan of a group says of its blocks and of the tree that they make.
-use Rattle.std.specs.Prelude.{ℕ, ◌≡◌, ◌<◌, Bool, List, length, map, is_some}
+use Rattle.std.specs.Prelude.{ℕ, ◌≡◌, ◌<◌, All, Bool, List, Some, length, map, is_some, slice_get, take}
 use Rattle.std.specs.Ordering.{nat_cmp}
 use Rattle.std.specs.FinMap.{FinMap}
 use Rattle.base.specs.declared.names.ObjectId.{ObjectId}
@@ -14,11 +14,31 @@ use Rattle.tree_plans.specs.declared.planner.DirtyRecords.{DirtyRecords}
 use Rattle.tree_plans.specs.Changes.{AreChanges, AreInRange, HasNoOthers, IsCoveredBy, is_marked}
 use Rattle.tree_plans.specs.Marks.{AreMarks, pending_ops}
 use Rattle.tree_plans.specs.Pointers.{entry_of}
+use Rattle.base.specs.declared.error.PoolError.{PoolError}
+use Rattle.base.specs.declared.error.PoolError.TheVariants.{NoSpace}
+use Rattle.base.specs.formats.Geometry.{block_count, block_size}
+use Rattle.base.specs.formats.Uberblocks.{Uberblock}
+use Rattle.base.specs.steps.Shown.{SyncPlan}
+use Rattle.base.specs.stored.Stored.{AreUsed, frame_at}
+use Rattle.base.specs.tree.PlacedTrees.{ArePlaced}
+use Rattle.base.specs.tree.PlannedTrees.{AreFreed}
+use Rattle.object_maps.specs.Pointers.{pointers_of}
+use Rattle.sync.specs.Runs.{call_count}
+use Rattle.tree_plans.specs.declared.planner.PlannedBlock.{PlannedBlock}
+use Rattle.tree_plans.specs.declared.planner.TreePlan.{TreePlan}
+use Rattle.tree_plans.specs.Changes.{AreBornBefore}
+use Rattle.tree_plans.specs.Plans.{address_of, new_block}
+use Rattle.pool_core.specs.declared.pool.Pool.{Pool}
+use Rattle.pool_core.specs.declared.pool.RunningSync.{RunningSync}
+use Rattle.pool_core.specs.Areas.{AreBlocksOf}
+use Rattle.pool_core.specs.Pointers.{pointers_after}
+use Rattle.pool_core.specs.RunningUberblocks.{uberblock_with}
+use Rattle.pool_core.specs.Shows.{new_plan, shown_objects, pool_shown}
 
 -- Some objects have just the marks of the group's pending operations. For them these blocks make the tree after the group from the old one,
 -- whatever objects were there before of which the operations leave the rest as they were; and they are those of the marked places, one for
 -- each, in their order.
-pub record IsPlannedFrom (group : ℕ) (pending : List Committed) (frame : Frame) (old new : Place → Pointer) (bs : List NewBlock) (after : FinMap nat_cmp (List ℕ)) : Type 0 where
+pub record IsPlannedGroup (group : ℕ) (pending : List Committed) (frame : Frame) (old new : Place → Pointer) (bs : List NewBlock) (after : FinMap nat_cmp (List ℕ)) : Type 0 where
   pub objects : List (ObjectId × DirtyRecords)
   pub marks : AreMarks (pending_ops group pending) objects
   pub planned : (before : FinMap nat_cmp (List ℕ)) → IsCoveredBy objects before after → AreChanges objects after → HasNoOthers old after → IsTreePlan bs frame old new before after
@@ -30,3 +50,45 @@ pub record IsShortOfBlocks (group : ℕ) (pending : List Committed) (flags : Lis
   pub objects : List (ObjectId × DirtyRecords)
   pub marks : AreMarks (pending_ops group pending) objects
   pub fewer : AreInRange objects → length (addresses_from 0 flags) < length (written_by (is_marked objects) (λ n. is_some (entry_of objects n)))
+
+-- the pointers of the tree that a plan makes of a pool's
+abbrev pub plan_pointers : Pool → TreePlan → Place → Pointer
+plan_pointers pool p = pointers_after p.root p.directories.items p.maps pool.tree
+
+-- what a plan writes and what comes back are blocks of a device of this size
+pub record FitsIn (size : ℕ) (p : TreePlan) : Type 0 where
+  pub within : All (λ (b : PlannedBlock). b.index < block_count size) p.blocks.items
+  pub freed : AreBlocksOf (block_count size) p.freed.items
+
+-- it takes the lowest free blocks of a pool, in their order
+abbrev pub TakesLowest : Pool → TreePlan → Type 0
+TakesLowest pool p = map address_of p.blocks.items ≡ take (length p.blocks.items) (addresses_from 0 pool.free.flags.items)
+
+-- It makes of a pool's tree that of a group: its pointers are placed, its blocks are whole and each one is used, and where no pointer was born
+-- in the group or later, what comes back is what the old tree has and the new one has not.
+pub record MakesGroupTree (pool : Pool) (group : ℕ) (p : TreePlan) : Type 0 where
+  pub placed : ∥ ArePlaced (block_count pool.geometry) (plan_pointers pool p) ∥₁
+  pub planned : IsPlannedGroup group pool.pending.items (frame_at (pool_shown pool) group) (pointers_of pool.tree) (plan_pointers pool p) (map new_block p.blocks.items) (shown_objects pool)
+  pub freed : AreBornBefore group (pointers_of pool.tree) → AreFreed (pointers_of pool.tree) (plan_pointers pool p) p.freed.items
+  pub used : AreUsed (map new_block p.blocks.items) (plan_pointers pool p)
+  pub whole : (i : ℕ) (b : NewBlock) → slice_get (map new_block p.blocks.items) i ≡ Some b → length b.content ≡ block_size
+
+-- refused NoSpace, a pool is short of blocks
+abbrev pub IsRefusedShort : Pool → ℕ → PoolError → Type 0
+IsRefusedShort pool group e = e ≡ NoSpace → IsShortOfBlocks group pool.pending.items pool.free.flags.items
+
+-- a sync of a plan that has made no call yet
+pub record BeginsPlan (p : TreePlan) (r : RunningSync) : Type 0 where
+  pub blocks : r.run.blocks ≡ p.blocks
+  pub done : r.run.done ≡ 0
+  pub left : r.run.done < call_count r.run
+  pub maps : r.maps ≡ p.maps
+  pub directories : r.directories ≡ p.directories
+  pub root : r.root ≡ p.root
+
+-- what is shown of it, with this moment, and its uberblock
+abbrev pub begun_plan : Pool → ℕ → TreePlan → SyncPlan
+begun_plan pool moment p = new_plan moment pool.log_address (map address_of p.blocks.items) p.freed.items p.root
+
+abbrev pub uberblock_for : Pool → ℕ → ℕ → Pointer → Uberblock
+uberblock_for pool group moment root = uberblock_with pool.guid pool.import_number pool.log_address group moment root

@@ -23,8 +23,8 @@ use Rattle.pool_core.specs.declared.pool.Pool.{Pool}
 use Rattle.pool_core.specs.declared.pool.RunningSync.{RunningSync}
 use Rattle.pool_core.specs.declared.state.Progress.{Progress}
 use Rattle.pool_core.specs.Pointers.{pointers_after}
-use Rattle.pool_core.specs.Progresses.{progress_of}
-use Rattle.pool_core.specs.Shows.{objects_of, shown_of}
+use Rattle.pool_core.specs.Progresses.{plain_progress}
+use Rattle.pool_core.specs.Shows.{shown_objects, shown_of}
 
 -- what is shown of a pool, the bytes of its device, the pointers of its tree, and what its running sync makes
 pub record Told : Type 0 where
@@ -37,17 +37,20 @@ pub record Told : Type 0 where
 abbrev pub made_by : (Place → Pointer) → SyncRun → NewTree
 made_by pointers run = record { pointers = pointers; blocks = map new_block run.blocks.items; slot = run.uberblock; done = run.done }
 
--- the one that a running sync makes of this tree
+-- the one that a running sync makes of this tree, and its pointers
+abbrev pub tree_after : RunningSync → Tree → Place → Pointer
+tree_after r tree = pointers_after r.root r.directories.items r.maps tree
+
 abbrev pub new_tree_of : Tree → RunningSync → NewTree
-new_tree_of tree r = made_by (pointers_after r.root r.directories.items r.maps tree) r.run
+new_tree_of tree r = made_by (tree_after r tree) r.run
 
 -- a pool that has these objects, over a device with these bytes
 abbrev pub told_of : FinMap nat_cmp (List ℕ) → Pool → List ℕ → Told
 told_of objects p now = record { shown = shown_of objects p; now = now; pointers = pointers_of p.tree; running = option_map (new_tree_of p.tree) p.sync }
 
 -- with the objects that it shows
-abbrev pub told_of_pool : Pool → List ℕ → Told
-told_of_pool p = told_of (objects_of p) p
+abbrev pub pool_told : Pool → List ℕ → Told
+pool_told p = told_of (shown_objects p) p
 
 -- what is told, with a past
 abbrev pub held_with : Told → Past → Held
@@ -60,8 +63,8 @@ state_with t past = record { shown = t.shown; past = past }
 abbrev pub start_reply : Result Group PoolError → declared_reply.Reply
 start_reply answer = reply_of (λ (g : Group). reply.Syncing g) answer
 
-abbrev pub sync_reply : Result Progress PoolError → declared_reply.Reply
-sync_reply answer = reply_of (λ (p : Progress). progress_reply (progress_of p)) answer
+abbrev pub sync_step_reply : Result Progress PoolError → declared_reply.Reply
+sync_step_reply answer = reply_of (λ (p : Progress). progress_reply (plain_progress p)) answer
 
 -- the same pointer at each place of a tree
 abbrev pub SamePlaces : (Place → Pointer) → (Place → Pointer) → Type 0

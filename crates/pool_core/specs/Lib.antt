@@ -1,4 +1,5 @@
 pub mod Numbers
+pub mod Pending
 pub mod Shows
 pub mod Tables
 pub mod Targets

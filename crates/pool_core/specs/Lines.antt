@@ -33,8 +33,8 @@ abbrev pub is_last_open : Line → Bool
 is_last_open l = is_some l.middle || nat_le last_number l.open_group
 
 -- the open group is closed, and this one is open; or it can't be, and all stands
-abbrev pub Closes : Group → Groups → Groups → Type 0
-Closes group old new = (group.0 ≡ old.«open».0 + 1) × (line_of new ≡ line_after_close (line_of old)) × (is_last_open (line_of old) ≡ false)
+abbrev pub ClosesOpen : Group → Groups → Groups → Type 0
+ClosesOpen group old new = (group.0 ≡ old.«open».0 + 1) × (line_of new ≡ line_after_close (line_of old)) × (is_last_open (line_of old) ≡ false)
 
 abbrev pub RefusesClose : PoolError → Groups → Groups → Type 0
 RefusesClose e old new = (e ≡ NotReady) × (new ≡ old) × (is_last_open (line_of old) ≡ true)

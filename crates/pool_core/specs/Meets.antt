@@ -1,7 +1,11 @@
 -- A step of a pool, in a run with any past.
-use Rattle.std.specs.Prelude.{ℕ, ◌≡◌, List, Result, Ok, Some, None}
+use Rattle.std.specs.Prelude.{ℕ, ◌≡◌, Bool, true, false, List, Result, Ok, Err, Some, None}
 use Rattle.base.specs.declared.error.PoolError.{PoolError}
+use Rattle.base.specs.declared.names.Group.{Group}
+use Rattle.base.specs.declared.names.Owner.{Owner}
+use Rattle.base.specs.declared.names.TxId.{TxId}
 use Rattle.base.specs.declared.operation.Op.{Op}
+use Rattle.base.specs.declared.operation.Shape.{Shape}
 use Rattle.base.specs.history.Contents.{Contents}
 use Rattle.base.specs.steps.ExactNow.{IsExplainedNow}
 use Rattle.base.specs.steps.Groups.{Admission}
@@ -9,7 +13,7 @@ use Rattle.base.specs.history.History.{apply_all}
 use Rattle.base.specs.history.Past.{Past}
 use Rattle.base.specs.steps.Refusals.{transaction_of}
 use Rattle.base.specs.steps.Shown.{Shown}
-use Rattle.base.specs.steps.Stage.{commit_refusal}
+use Rattle.base.specs.steps.Stage.{begin_refusal, commit_refusal}
 use Rattle.base.specs.steps.Steps.{State}
 
 -- whatever the past of a run, the step leads with this answer from what was shown before to what is shown after, and to a later past
@@ -28,3 +32,17 @@ pub record MayCommit (tx : ℕ) (ops : List Op) (group : ℕ) (s : Shown) : Type
   pub group_is : admission.group ≡ group
   pub after : Contents
   pub applied : apply_all ops s.contents ≡ Ok after
+
+-- refused with this reason exactly where its test applies
+abbrev pub RefusesIf : {A : Type 0} → Bool → PoolError → Result A PoolError → Type 0
+RefusesIf test reason (Ok a) = test ≡ false
+RefusesIf test reason (Err e) = (e ≡ reason) × (test ≡ true)
+
+-- the tests of a begin and of a commit: passed, or the first refusal that applies
+abbrev pub ChecksBegin : Owner → List Shape → Result (Unit {0}) PoolError → Shown → Type 0
+ChecksBegin owner plan (Ok done) s = begin_refusal owner.0 plan s ≡ None
+ChecksBegin owner plan (Err e) s = begin_refusal owner.0 plan s ≡ Some e
+
+abbrev pub ChecksCommit : TxId → List Op → Result Group PoolError → Shown → Type 0
+ChecksCommit tx ops (Ok group) s = MayCommit tx.0 ops group.0 s
+ChecksCommit tx ops (Err e) s = commit_refusal tx.0 ops s ≡ Some e

@@ -5,7 +5,7 @@ use Rattle.base.specs.declared.operation.Shape.{Shape}
 use Rattle.base.specs.formats.Limits.{last_number, max_transactions}
 use Rattle.base.specs.history.Plans.{NumberRange}
 use Rattle.base.specs.steps.Locks.{is_reader}
-use Rattle.pool_core.specs.Targets.{has_shape_in, number_range, plans_overlap}
+use Rattle.pool_core.specs.Targets.{has_shape_in, number_range, kept_ranges_overlap}
 use Rattle.pool_core.specs.declared.range_locks.HeldLock.{HeldLock}
 use Rattle.pool_core.specs.declared.transactions.OpenTransaction.{OpenTransaction}
 
@@ -17,7 +17,7 @@ open_without tx ts = filter (λ (t : OpenTransaction). not (t.tx.0 == tx)) ts
 
 -- whether a plan overlaps that of one
 abbrev pub overlaps_open : List Shape → List OpenTransaction → Bool
-overlaps_open plan ts = list_any (λ (t : OpenTransaction). plans_overlap plan t.plan) ts
+overlaps_open plan ts = list_any (λ (t : OpenTransaction). kept_ranges_overlap plan t.plan) ts
 
 -- whether a range of one lies in this range, or in this writer lock
 abbrev pub is_range_in_use : NumberRange → List OpenTransaction → Bool

@@ -4,6 +4,6 @@ use Rattle.base.specs.steps.Steps.SyncProgress.{More as more, Synced as synced}
 use Rattle.pool_core.specs.declared.state.Progress.{Progress}
 use Rattle.pool_core.specs.declared.state.Progress.TheVariants.{More, Synced}
 
-abbrev pub progress_of : Progress → steps.SyncProgress
-progress_of More = more
-progress_of (Synced group) = synced group.0
+abbrev pub plain_progress : Progress → steps.SyncProgress
+plain_progress More = more
+plain_progress (Synced group) = synced group.0

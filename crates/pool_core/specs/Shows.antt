@@ -76,16 +76,16 @@ shown_of objects p = record {
 
 -- The objects that a pool shows are those of its synced tree with the changes of its unsynced groups laid over; memory holds the result.
 -- Where they stand on the device alone, this word says how they are read, and no clause changes.
-abbrev pub objects_of : Pool → FinMap nat_cmp (List ℕ)
-objects_of p = (contents_of p.contents).objects
+abbrev pub shown_objects : Pool → FinMap nat_cmp (List ℕ)
+shown_objects p = (contents_of p.contents).objects
 
-abbrev pub shown_of_pool : Pool → Shown
-shown_of_pool p = shown_of (objects_of p) p
+abbrev pub pool_shown : Pool → Shown
+pool_shown p = shown_of (shown_objects p) p
 
 -- what is shown once the tree of a synced group is the pool's
-abbrev pub shown_after_tree : ℕ → List ℕ → Pointer → Shown → Shown
-shown_after_tree group freed root s = record s {
-  free = set.union s.free (set.from_list freed);
-  log = record s.log { pending = filter (λ (r : Record). nat_lt group r.group) s.log.pending };
-  root = root;
+abbrev pub shown_after_tree : RunningSync → Shown → Shown
+shown_after_tree r s = record s {
+  free = set.union s.free (set.from_list r.freed.items);
+  log = record s.log { pending = filter (λ (x : Record). nat_lt r.group.0 x.group) s.log.pending };
+  root = r.root;
 }

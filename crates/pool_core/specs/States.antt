@@ -9,7 +9,7 @@ use Rattle.device_model.specs.declared.device.SectorDevice.{Ghosts}
 use Rattle.pool_core.specs.declared.pool.Pool.{Pool}
 use Rattle.pool_core.specs.declared.state.PoolState.{PoolState}
 use Rattle.pool_core.specs.Holds.{Told, told_of}
-use Rattle.pool_core.specs.Shows.{objects_of, shown_of}
+use Rattle.pool_core.specs.Shows.{shown_objects, shown_of}
 
 -- an answer that is no refusal of a device: none of its calls is counted
 abbrev pub IsOfNoDevice : {A : Type 0} → Result A PoolError → Type 0
@@ -24,7 +24,7 @@ pub record KeepsTree (old new : Pool) : Type 0 where
 module _ {Dev : Type 0} {G : Ghosts Dev} where
   -- what is shown of it
   abbrev pub shown : PoolState Dev G → Shown
-  shown state = shown_of (objects_of state.pool) state.pool
+  shown state = shown_of (shown_objects state.pool) state.pool
 
   -- its device, and the calls that the device refused
   abbrev pub device_of : PoolState Dev G → Dev
@@ -35,7 +35,7 @@ module _ {Dev : Type 0} {G : Ghosts Dev} where
 
   -- what is told of it over these bytes, and over those of its device
   abbrev pub told_over : PoolState Dev G → List ℕ → Told
-  told_over state = told_of (objects_of state.pool) state.pool
+  told_over state = told_of (shown_objects state.pool) state.pool
 
   abbrev pub told : PoolState Dev G → Told
   told state = told_over state (bytes_of (G.disk state.device).now)

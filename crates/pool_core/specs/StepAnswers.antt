@@ -17,7 +17,7 @@ use Rattle.base.specs.steps.Stage as stage
 use Rattle.base.specs.steps.Steps as steps
 use Rattle.pool_core.specs.declared.state.Progress.{Progress}
 use Rattle.pool_core.specs.Meets.{Meets, MeetsExplained}
-use Rattle.pool_core.specs.Progresses.{progress_of}
+use Rattle.pool_core.specs.Progresses.{plain_progress}
 use Rattle.pool_core.specs.Tables.{result_map}
 
 -- the names and the numbers in an answer, as the definitions speak of them
@@ -59,4 +59,4 @@ abbrev pub StartsSync : ℕ → Result Group PoolError → Shown → Shown → T
 StartsSync moment answer = MeetsExplained (stage.StartSync ⊥ [] moment) (result_map group_number answer)
 
 abbrev pub StepsSync : Result Progress PoolError → Shown → Shown → Type 0
-StepsSync answer = Meets steps.SyncStep (result_map progress_of answer)
+StepsSync answer = Meets steps.SyncStep (result_map plain_progress answer)

@@ -38,5 +38,5 @@ abbrev pub has_shape_in : NumberRange → List Shape → Bool
 has_shape_in range plan = list_any (λ x. lies_in (kept_range_of x) range) plan
 
 -- whether the ranges of two plans overlap
-abbrev pub plans_overlap : List Shape → List Shape → Bool
-plans_overlap plan other = list_any (λ x. overlaps_plan (kept_range_of x) other) plan
+abbrev pub kept_ranges_overlap : List Shape → List Shape → Bool
+kept_ranges_overlap plan other = list_any (λ x. overlaps_plan (kept_range_of x) other) plan

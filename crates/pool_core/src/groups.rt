@@ -29,7 +29,7 @@ pub struct Groups {
 }
 
 impl Groups {
-    ghost use Rattle.pool_core.specs.Lines.{Closes, RefusesClose, line_after_start, line_after_sync, line_behind, line_of};
+    ghost use Rattle.pool_core.specs.Lines.{ClosesOpen, RefusesClose, line_after_start, line_after_sync, line_behind, line_of};
     ghost use Rattle.pool_core.specs.StepAnswers.{group_number};
 
     /// The groups behind a synced one: the next is open.
@@ -57,7 +57,7 @@ impl Groups {
     /// has the last number.
     pub fn close_open(&mut self) -> Result<Group, PoolError>
         ensures refused { IfErr result (λ e. RefusesClose e self.old self.new) }
-        ensures closed { IfOk result (λ group. Closes group self.old self.new) }
+        ensures closed { IfOk result (λ group. ClosesOpen group self.old self.new) }
     {
         if self.middle.is_some() || self.open.0 >= LAST_NUMBER {
             return Err(PoolError::NotReady);

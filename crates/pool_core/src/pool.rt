@@ -1,40 +1,28 @@
 //! A pool without its device, and each of its steps.
 
-ghost use Rattle.std.specs.Prelude.{◌≡◌, ◌<◌, ◌+◌, ◌-◌, ◌≤◌, ◌^◌, ◌||◌, ◌⊎◌, [], All, IfErr, IfOk, IfSome, IsTrue, MatchResult, None, OnOk, Some, false, filter, is_some, length, map, nat_le, nat_lt, not, option_map, slice_get, take, true, vec_len};
-ghost use Rattle.std.specs.FinSet as set;
+ghost use Rattle.std.specs.Prelude.{◌≡◌, ◌<◌, ◌+◌, ◌-◌, ◌≤◌, ◌^◌, ◌⊎◌, All, IfErr, IfOk, IsTrue, None, OnOk, false, is_some, length, map, option_map, true, vec_len};
 ghost use Rattle.std.proofs.Props.{props};
-ghost use Rattle.std.specs.List.{list_all, list_any};
+ghost use Rattle.std.specs.List.{list_any};
 ghost use Rattle.std.specs.Option.{ForSome};
-ghost use Rattle.base.specs.declared.names.Receipt.{Receipt};
 ghost use Rattle.base.specs.formats.Fields.{part};
-ghost use Rattle.base.specs.formats.Geometry.{IsGeometry, block_count, block_size};
-ghost use Rattle.base.specs.formats.Limits.{last_number, max_transactions, name_number, object_count};
-ghost use Rattle.base.specs.steps.Locks as held;
-ghost use Rattle.base.specs.history.Past.{Past};
+ghost use Rattle.base.specs.formats.Geometry.{IsGeometry, block_count};
 ghost use Rattle.base.specs.tree.PlacedTrees.{ArePlaced};
-ghost use Rattle.base.specs.tree.Places.{IsPlace, Place};
-ghost use Rattle.base.specs.tree.PlannedTrees.{AreFreed, NewBlock};
-ghost use Rattle.base.specs.stored.Stored.{AreUsed, IsHeld, frame_at};
 ghost use Rattle.base.specs.steps.Groups.{Admission};
-ghost use Rattle.base.specs.steps.Refusals.{is_lock_in_use, object_range, transaction_of};
-ghost use Rattle.base.specs.steps.Stage as stage;
+ghost use Rattle.base.specs.steps.Refusals.{is_lock_in_use, transaction_of};
 ghost use Rattle.base.specs.steps.Stage.{has_older_group, is_plan_built};
-ghost use Rattle.base.specs.steps.Steps as steps;
 ghost use Rattle.base.specs.tree.Syncs.{is_rename};
-ghost use Rattle.pool_core.specs.Areas.{is_block_of};
-ghost use Rattle.tree_plans.specs.Changes.{AreBornBefore};
-ghost use Rattle.tree_plans.specs.Plans.{address_of, new_block};
-ghost use Rattle.pool_core.specs.GroupPlans.{IsPlannedFrom, IsShortOfBlocks};
-ghost use Rattle.object_maps.specs.ContentsShown.{contents_of};
+ghost use Rattle.object_maps.specs.Ops.{AreOpsAllowed};
+ghost use Rattle.object_maps.specs.Pointers.{pointers_of};
+ghost use Rattle.space.specs.FreeSets.{free_of};
+ghost use Rattle.sync.specs.Runs.{call_count};
+ghost use Rattle.tree_plans.specs.Plans.{address_of};
+ghost use Rattle.tree_plans.specs.declared.planner.Committed.{Committed};
+ghost use Rattle.pool_core.specs.Areas.{AreBlocksOf, free_with, free_without, is_block_of};
 ghost use Rattle.pool_core.specs.Numbers.{IsGroup};
+ghost use Rattle.pool_core.specs.Pending.{pending_after};
 ghost use Rattle.pool_core.specs.Pointers.{pointers_after};
 ghost use Rattle.pool_core.specs.RunningUberblocks.{WritesUberblock, uberblock_with};
-ghost use Rattle.space.specs.FreeSets.{addresses_from, free_of};
-ghost use Rattle.object_maps.specs.Pointers.{pointers_of};
-ghost use Rattle.tree_plans.specs.declared.planner.Committed.{Committed};
-ghost use Rattle.object_maps.specs.Ops.{AreOpsAllowed};
-ghost use Rattle.sync.specs.Runs.{call_count};
-ghost use Rattle.tree_plans.specs.declared.planner.PlannedBlock.{PlannedBlock};
+ghost use Rattle.pool_core.specs.Targets.{is_lockable, is_readable};
 ghost use Rattle.pool_core.specs.declared.transactions.OpenTransaction.{OpenTransaction};
 
 use crate::groups::Groups;
@@ -116,24 +104,26 @@ pub(crate) struct Pool {
 
 impl Pool {
     ghost use Rattle.import_replay.specs.Mounts.{shown_of_import};
-    ghost use Rattle.std.specs.Prelude.{ℕ, List};
     ghost use Rattle.base.specs.disk.Disk.{bytes_of};
     ghost use Rattle.base.specs.disk.Calls.{counted};
     ghost use Rattle.sync.specs.Calls.{plain_answer};
     ghost use Rattle.pool_core.specs.Calls.{MakesNextOf};
-    ghost use Rattle.pool_core.specs.Holds.{Leads, sync_reply, told_of_pool};
-    ghost use Rattle.pool_core.specs.Lines.{MayNotStart, MayStart, line_of};
-    ghost use Rattle.pool_core.specs.Meets.{MayCommit};
+    ghost use Rattle.pool_core.specs.GrantedLocks.{grants_of};
+    ghost use Rattle.pool_core.specs.GroupPlans.{BeginsPlan, FitsIn, IsRefusedShort, MakesGroupTree, TakesLowest, begun_plan, uberblock_for};
     ghost use Rattle.pool_core.specs.HeldLocks.{grant_of};
-    ghost use Rattle.pool_core.specs.Shows.{new_plan, plan_of, shown_after_tree, shown_of_pool};
+    ghost use Rattle.pool_core.specs.Holds.{Leads, SamePlaces, sync_step_reply, pool_told, tree_after};
+    ghost use Rattle.pool_core.specs.Lines.{ChecksStart, line_of};
+    ghost use Rattle.pool_core.specs.Meets.{ChecksBegin, ChecksCommit, RefusesIf};
+    ghost use Rattle.pool_core.specs.Shows.{plan_of, shown_after_tree, pool_shown};
     ghost use Rattle.pool_core.specs.States.{IsOfNoDevice, KeepsTree};
     ghost use Rattle.pool_core.specs.StepAnswers.{Begins, ClosesGroup, Commits, Locks, MarksQuiesced, Reads, StartsSync, StepsSync, Unlocks};
     ghost use Rattle.pool_core.specs.SyncStarts.{IsRefusedForLack, StartLeads, StartsHeld, StartsInOrder};
-    ghost use Rattle.pool_core.specs.Targets.{kept_range_of};
+    ghost use Rattle.pool_core.specs.OpenTransactions.{is_full};
+    ghost use Rattle.pool_core.specs.Targets.{is_kept_covered};
 
     pub(crate) fn new(mounted: Mounted) -> Self
         ensures geometry { result.geometry ≡ mounted.geometry }
-        ensures shown { shown_of_pool result ≡ shown_of_import mounted }
+        ensures shown { pool_shown result ≡ shown_of_import mounted }
         ensures tree { result.tree ≡ mounted.tree }
         ensures idle { result.sync ≡ None }
     {
@@ -175,7 +165,7 @@ impl Pool {
     }
 
     fn check_running(&self) -> Result<(), PoolError>
-        ensures { MatchResult result (λ _. self.now.suspended ≡ false) (λ e. (e ≡ PoolError.Suspended) × (self.now.suspended ≡ true)) }
+        ensures { RefusesIf self.now.suspended PoolError.Suspended result }
     {
         if self.suspended {
             return Err(PoolError::Suspended);
@@ -185,7 +175,7 @@ impl Pool {
 
     // A transaction begins and commits, and a group is closed, only where no older group is unsynced.
     fn check_no_older(&self) -> Result<(), PoolError>
-        ensures { MatchResult result (λ _. has_older_group (line_of self.now.groups) ≡ false) (λ e. (e ≡ PoolError.NotReady) × (has_older_group (line_of self.now.groups) ≡ true)) }
+        ensures { RefusesIf (has_older_group (line_of self.now.groups)) PoolError.NotReady result }
     {
         if self.groups.has_older() {
             return Err(PoolError::NotReady);
@@ -200,7 +190,8 @@ impl Pool {
         range: Range,
         mode: Mode,
     ) -> Result<LockId, PoolError>
-        ensures step { Locks owner object range mode result (shown_of_pool self.old) (shown_of_pool self.new) }
+        ensures step { Locks owner object range mode result
+            (pool_shown self.old) (pool_shown self.new) }
         ensures kept { KeepsTree self.old self.new }
     {
         self.check_running()?;
@@ -211,7 +202,7 @@ impl Pool {
     }
 
     pub(crate) fn unlock(&mut self, owner: Owner, id: LockId) -> Result<(), PoolError>
-        ensures step { Unlocks owner id result (shown_of_pool self.old) (shown_of_pool self.new) }
+        ensures step { Unlocks owner id result (pool_shown self.old) (pool_shown self.new) }
         ensures kept { KeepsTree self.old self.new }
     {
         self.check_running()?;
@@ -226,13 +217,13 @@ impl Pool {
     }
 
     fn is_in_use(&self, held: &HeldLock) -> bool
-        ensures { result ≡ is_lock_in_use (grant_of held.now) (shown_of_pool self.now) }
+        ensures { result ≡ is_lock_in_use (grant_of held.now) (pool_shown self.now) }
     {
         is_held_in_use(held, &self.transactions)
     }
 
     pub(crate) fn begin(&mut self, owner: Owner, plan: Plan) -> Result<(TxId, Group), PoolError>
-        ensures step { Begins owner plan result (shown_of_pool self.old) (shown_of_pool self.new) }
+        ensures step { Begins owner plan result (pool_shown self.old) (pool_shown self.new) }
         ensures kept { KeepsTree self.old self.new }
     {
         self.check_begin(owner, plan.as_slice())?;
@@ -250,7 +241,7 @@ impl Pool {
 
     // Refused where a begin is, but for want of memory.
     fn check_begin(&self, owner: Owner, plan: &[Shape]) -> Result<(), PoolError>
-        ensures refusal { MatchResult result (λ _. stage.begin_refusal owner.0 plan.now (shown_of_pool self.now) ≡ None) (λ e. stage.begin_refusal owner.0 plan.now (shown_of_pool self.now) ≡ Some e) }
+        ensures refusal { ChecksBegin owner plan.now result (pool_shown self.now) }
         ensures built { OnOk result (is_plan_built plan.now ≡ true) }
         ensures named { OnOk result (self.now.next_tx ≤ 2 ^ 60) }
     {
@@ -275,14 +266,14 @@ impl Pool {
     }
 
     fn is_covered(&self, owner: Owner, plan: &[Shape]) -> bool
-        ensures { result ≡ list_all (λ x. held.is_covered_for_writing owner.0 (kept_range_of x) (map grant_of self.now.locks.locks.items)) plan.now }
+        ensures { result ≡ is_kept_covered owner.0 (grants_of self.now.locks) plan.now }
     {
         plan.iter().all(|shape| self.locks.covers_for_writing(owner, &range_of(shape)))
     }
 
     // Whether one more transaction is too many.
     fn has_too_many(&self) -> bool
-        ensures { result ≡ (nat_le max_transactions (vec_len self.now.transactions) || nat_lt last_number self.now.next_tx) }
+        ensures { result ≡ is_full (vec_len self.now.transactions) self.now.next_tx }
     {
         self.transactions.len() >= MAX_TRANSACTIONS || self.next_tx > LAST_NUMBER
     }
@@ -290,7 +281,7 @@ impl Pool {
     // The plan of an open transaction.
     pub(crate) fn open_plan(&self, tx: TxId) -> Option<&Plan>
         ensures { option_map (λ p. p.now) result
-            ≡ option_map (λ (a : Admission). a.plan) (transaction_of tx.0 (shown_of_pool self.now)) }
+            ≡ option_map (λ (a : Admission). a.plan) (transaction_of tx.0 (pool_shown self.now)) }
     {
         let transaction = find_transaction(&self.transactions, tx)?;
         Some(&transaction.plan)
@@ -298,7 +289,7 @@ impl Pool {
 
     // The group of a transaction that may commit. Refused where a commit is, but for want of memory.
     fn check_commit(&self, tx: TxId, ops: &[Op]) -> Result<Group, PoolError>
-        ensures refusal { MatchResult result (λ group. MayCommit tx.0 ops.now group.0 (shown_of_pool self.now)) (λ e. stage.commit_refusal tx.0 ops.now (shown_of_pool self.now) ≡ Some e) }
+        ensures refusal { ChecksCommit tx ops.now result (pool_shown self.now) }
         ensures allowed { OnOk result (AreOpsAllowed ops.now) }
         ensures named { OnOk result (self.now.next_ordinal ≤ 2 ^ 60) }
     {
@@ -318,7 +309,7 @@ impl Pool {
     }
 
     pub(crate) fn commit(&mut self, tx: TxId, ops: Ops) -> Result<Receipt, PoolError>
-        ensures step { Commits tx ops result (shown_of_pool self.old) (shown_of_pool self.new) }
+        ensures step { Commits tx ops result (pool_shown self.old) (pool_shown self.new) }
         ensures kept { KeepsTree self.old self.new }
     {
         let group = self.check_commit(tx, ops.as_slice())?;
@@ -345,7 +336,7 @@ impl Pool {
         object: ObjectId,
         range: Range,
     ) -> Result<Bytes, PoolError>
-        ensures { Reads owner object range result (shown_of_pool self.now) }
+        ensures { Reads owner object range result (pool_shown self.now) }
     {
         self.check_running()?;
         if !is_readable(object, range) {
@@ -361,7 +352,7 @@ impl Pool {
     }
 
     pub(crate) fn close_group(&mut self) -> Result<Group, PoolError>
-        ensures step { ClosesGroup result (shown_of_pool self.old) (shown_of_pool self.new) }
+        ensures step { ClosesGroup result (pool_shown self.old) (pool_shown self.new) }
         ensures kept { KeepsTree self.old self.new }
     {
         self.check_running()?;
@@ -370,7 +361,7 @@ impl Pool {
     }
 
     pub(crate) fn mark_quiesced(&mut self) -> Result<Group, PoolError>
-        ensures step { MarksQuiesced result (shown_of_pool self.old) (shown_of_pool self.new) }
+        ensures step { MarksQuiesced result (pool_shown self.old) (pool_shown self.new) }
         ensures kept { KeepsTree self.old self.new }
     {
         self.check_running()?;
@@ -386,11 +377,11 @@ impl Pool {
 
     pub(crate) fn start_sync(&mut self, moment: u64) -> Result<Group, PoolError>
         ensures geometry { self.new.geometry ≡ self.old.geometry }
-        ensures step { StartsSync moment result (shown_of_pool self.old) (shown_of_pool self.new) }
-        ensures held { StartsHeld moment result (told_of_pool self.old) (told_of_pool self.new) }
-        ensures order { StartsInOrder result (told_of_pool self.old) (told_of_pool self.new) }
-        ensures no_space { IsRefusedForLack result (told_of_pool self.old) }
-        ensures leads { StartLeads result (told_of_pool self.old) (told_of_pool self.new) }
+        ensures step { StartsSync moment result (pool_shown self.old) (pool_shown self.new) }
+        ensures held { StartsHeld moment result (pool_told self.old) (pool_told self.new) }
+        ensures order { StartsInOrder result (pool_told self.old) (pool_told self.new) }
+        ensures no_space { IsRefusedForLack result (pool_told self.old) }
+        ensures leads { StartLeads result (pool_told self.old) (pool_told self.new) }
         ensures own { IsOfNoDevice result }
     {
         self.check_running()?;
@@ -405,7 +396,7 @@ impl Pool {
     // The quiesced group, where a sync of it may start.
     fn check_start(&self) -> Result<Group, PoolError>
         ensures group { IfOk result (λ group. IsGroup group.0) }
-        ensures may { MatchResult result (λ group. MayStart group.0 (line_of self.now.groups)) (λ e. (e ≡ PoolError.NotReady) × MayNotStart (line_of self.now.groups)) }
+        ensures may { ChecksStart result (line_of self.now.groups) }
     {
         if self.sync.is_some() {
             return Err(PoolError::NotReady);
@@ -414,17 +405,10 @@ impl Pool {
     }
 
     fn plan_group(&self, group: Group) -> Result<TreePlan, PoolError>
-        ensures within { IfOk result (λ p. All (λ (b : PlannedBlock). b.index < block_count self.now.geometry) p.blocks.items) }
-        ensures taken { IfOk result (λ p. map address_of p.blocks.items ≡ take (length p.blocks.items) (addresses_from 0 self.now.free.flags.items)) }
-        ensures freed { IfOk result (λ p. All (λ address. is_block_of (block_count self.now.geometry) address ≡ true) p.freed.items) }
-        ensures placed { IfOk result (λ p. ∥ ArePlaced (block_count self.now.geometry) (pointers_after p.root p.directories.items p.maps self.now.tree) ∥₁) }
-        ensures planned { IfOk result (λ p. IsPlannedFrom group.0 self.now.pending.items (frame_at (shown_of_pool self.now) group.0) (pointers_of self.now.tree)
-            (pointers_after p.root p.directories.items p.maps self.now.tree) (map new_block p.blocks.items) (contents_of self.now.contents).objects) }
-        ensures freed_are { IfOk result (λ p. AreBornBefore group.0 (pointers_of self.now.tree)
-            → AreFreed (pointers_of self.now.tree) (pointers_after p.root p.directories.items p.maps self.now.tree) p.freed.items) }
-        ensures used { IfOk result (λ p. AreUsed (map new_block p.blocks.items) (pointers_after p.root p.directories.items p.maps self.now.tree)) }
-        ensures whole { IfOk result (λ p. (i : ℕ) (b : NewBlock) → slice_get (map new_block p.blocks.items) i ≡ Some b → length b.content ≡ block_size) }
-        ensures no_space { IfErr result (λ e. e ≡ PoolError.NoSpace → IsShortOfBlocks group.0 self.now.pending.items self.now.free.flags.items) }
+        ensures fits { IfOk result (FitsIn self.now.geometry) }
+        ensures taken { IfOk result (TakesLowest self.now) }
+        ensures tree { IfOk result (MakesGroupTree self.now group.0) }
+        ensures no_space { IfErr result (IsRefusedShort self.now group.0) }
         ensures refused { IfErr result (λ e. (e ≡ PoolError.NoMemory) ⊎ (e ≡ PoolError.NoSpace)) }
     {
         let objects = dirty_objects(self.alloc, &self.pending, group)?;
@@ -442,20 +426,14 @@ impl Pool {
 
     fn running_sync(&self, group: Group, moment: u64, planned: TreePlan) -> RunningSync
         requires group { IsGroup group.0 }
-        requires within { All (λ (b : PlannedBlock). b.index < block_count self.now.geometry) planned.blocks.items }
-        requires freed { All (λ address. is_block_of (block_count self.now.geometry) address ≡ true) planned.freed.items }
+        requires fits { FitsIn self.now.geometry planned }
         ensures geometry { result.run.geometry ≡ self.now.geometry }
-        ensures left { result.run.done < call_count result.run }
-        ensures blocks { result.run.blocks ≡ planned.blocks }
-        ensures done { result.run.done ≡ 0 }
         ensures group { result.group ≡ group }
-        ensures maps { result.maps ≡ planned.maps }
-        ensures directories { result.directories ≡ planned.directories }
-        ensures root { result.root ≡ planned.root }
-        ensures uberblock { WritesUberblock (uberblock_with self.now.guid self.now.import_number self.now.log_address
-            group.0 moment planned.root) result.run }
         ensures moment { result.moment ≡ moment }
-        ensures plan { plan_of self.now.log_address result ≡ new_plan moment self.now.log_address (map address_of planned.blocks.items) planned.freed.items planned.root }
+        ensures begins { BeginsPlan planned result }
+        ensures plan { plan_of self.now.log_address result ≡ begun_plan self.now moment planned }
+        ensures uberblock { WritesUberblock
+            (uberblock_for self.now group.0 moment planned.root) result.run }
     {
         // Labels lie apart from the blocks, as the size is one of a pool's device.
         let _size = self.geometry.size();
@@ -494,32 +472,31 @@ impl Pool {
         requires { D.size device.old ≡ self.old.geometry }
         ensures size { D.size device.new ≡ D.size device.old }
         ensures geometry { self.new.geometry ≡ self.old.geometry }
-        ensures step { StepsSync result (shown_of_pool self.old) (shown_of_pool self.new) }
+        ensures step { StepsSync result (pool_shown self.old) (pool_shown self.new) }
         ensures called { MakesNextOf (IsTrue D.keeps_model) D.disk self.old (plain_answer result)
             device.old device.new }
         ensures count { D.refused device.new ≡ counted result (D.refused device.old) }
-        ensures leads { IsTrue D.keeps_model → Leads (sync_reply result)
-            (told_of_pool self.old (bytes_of (D.disk device.old).now))
-            (told_of_pool self.new (bytes_of (D.disk device.new).now)) }
+        ensures leads { IsTrue D.keeps_model → Leads (sync_step_reply result)
+            (pool_told self.old (bytes_of (D.disk device.old).now))
+            (pool_told self.new (bytes_of (D.disk device.new).now)) }
     {
         self.check_running()?;
-        let Some(mut running) = self.sync.take() else {
+        let Some(running) = &mut self.sync else {
             return Err(PoolError::NotReady);
         };
         match running.run.next(device) {
             Ok(true) => {
-                let group = running.group;
+                let Some(synced) = self.sync.take() else {
+                    unreachable!();
+                };
+                let group = synced.group;
                 self.groups.finish_sync(group);
-                self.finish_tree(running);
+                self.finish_tree(synced);
                 Ok(Progress::Synced(group))
             }
-            Ok(false) => {
-                self.sync = Some(running);
-                Ok(Progress::More)
-            }
+            Ok(false) => Ok(Progress::More),
             Err(error) => {
                 self.suspended = true;
-                self.sync = Some(running);
                 Err(error)
             }
         }
@@ -529,11 +506,13 @@ impl Pool {
     fn finish_tree(&mut self, running: RunningSync)
         requires none { is_some self.old.sync ≡ false }
         requires geometry { running.run.geometry ≡ self.old.geometry }
-        requires placed { ∥ ArePlaced (block_count self.old.geometry) (pointers_after running.root running.directories.items running.maps self.old.tree) ∥₁ }
+        requires placed { ∥ ArePlaced (block_count self.old.geometry)
+            (tree_after running self.old.tree) ∥₁ }
         ensures geometry { self.new.geometry ≡ self.old.geometry }
         ensures sync { self.new.sync ≡ self.old.sync }
-        ensures shown { shown_of_pool self.new ≡ shown_after_tree running.group.0 running.freed.items running.root (shown_of_pool self.old) }
-        ensures pointers { (place : Place) → IsPlace place → pointers_of self.new.tree place ≡ pointers_after running.root running.directories.items running.maps self.old.tree place }
+        ensures shown { pool_shown self.new ≡ shown_after_tree running (pool_shown self.old) }
+        ensures pointers { SamePlaces (pointers_of self.new.tree)
+            (tree_after running self.old.tree) }
     {
         let RunningSync {
             group,
@@ -554,14 +533,14 @@ impl Pool {
 
 // Whether a lock may have this number and range.
 fn is_lockable(object: ObjectId, range: Range) -> bool
-    ensures { result ≡ not (nat_lt name_number object.0 || not (held.is_range_allowed range.low range.high)) }
+    ensures { result ≡ is_lockable object.0 range }
 {
     object.0 <= OBJECT_COUNT && is_range_allowed(range)
 }
 
 // Whether this range of an object may be read.
 fn is_readable(object: ObjectId, range: Range) -> bool
-    ensures allowed { result ≡ not (nat_le object_count object.0 || not (held.is_range_allowed range.low range.high)) }
+    ensures allowed { result ≡ is_readable object.0 range }
     ensures ordered { IsTrue result → range.low ≤ range.high }
 {
     object.0 < OBJECT_COUNT && is_range_allowed(range)
@@ -580,7 +559,8 @@ fn bytes_in(bytes: &[u8], range: Range) -> &[u8]
 // These blocks are taken.
 fn take_all(free: &mut FreeSet, blocks: &[PlannedBlock])
     ensures count { vec_len free.new.flags ≡ vec_len free.old.flags }
-    ensures free { free_of free.new.flags.items ≡ set.difference (free_of free.old.flags.items) (set.from_list (map address_of blocks.now)) }
+    ensures free { free_of free.new.flags.items
+        ≡ free_without free.old (map address_of blocks.now) }
 {
     for planned in blocks {
         free.take(planned.index);
@@ -590,9 +570,9 @@ fn take_all(free: &mut FreeSet, blocks: &[PlannedBlock])
 // The blocks at these addresses come back.
 fn give_all(free: &mut FreeSet, geometry: Geometry, addresses: &[u64])
     requires count { vec_len free.old.flags ≡ block_count geometry }
-    requires placed { All (λ address. is_block_of (block_count geometry) address ≡ true) addresses.now }
+    requires placed { AreBlocksOf (block_count geometry) addresses.now }
     ensures count { vec_len free.new.flags ≡ vec_len free.old.flags }
-    ensures free { free_of free.new.flags.items ≡ set.union (free_of free.old.flags.items) (set.from_list addresses.now) }
+    ensures free { free_of free.new.flags.items ≡ free_with free.old addresses.now }
 {
     for address in addresses {
         free.give(geometry.block_index(*address) as usize);
@@ -601,7 +581,7 @@ fn give_all(free: &mut FreeSet, geometry: Geometry, addresses: &[u64])
 
 // The transactions of a synced group are no longer pending, nor are those of older ones.
 fn drop_synced(pending: &mut Vec<Committed>, group: Group)
-    ensures { pending.new.items ≡ filter (λ (c : Committed). nat_lt group.0 c.group.0) pending.old.items }
+    ensures { pending.new.items ≡ pending_after group.0 pending.old.items }
 {
     pending.retain(|committed| committed.group > group);
 }

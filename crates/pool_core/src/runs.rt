@@ -56,7 +56,8 @@ impl<D: SectorDevice> PoolState<D> {
 // What a step's answer is told as.
 fn reply<T, F: FnOnce(T) -> Reply>(answer: Result<T, PoolError>, told: F) -> Reply
     requires { ForOk answer (F.pre told) }
-    ensures { MatchResult answer (λ value. F.post told value result) (λ e. result ≡ Reply.Refused e) }
+    ensures { MatchResult answer
+        (λ value. F.post told value result) (λ e. result ≡ Reply.Refused e) }
 {
     match answer {
         Ok(value) => told(value),

@@ -36,7 +36,7 @@ impl<D: SectorDevice> PoolState<D> {
     ghost use Rattle.import_replay.specs.Mounts.{shown_of_import};
     ghost use Rattle.sync.specs.Calls.{plain_answer};
     ghost use Rattle.pool_core.specs.Calls.{CallsNext};
-    ghost use Rattle.pool_core.specs.Holds.{Leads, sync_reply};
+    ghost use Rattle.pool_core.specs.Holds.{Leads, sync_step_reply};
     ghost use Rattle.pool_core.specs.NewStates.{IsExplainedAtFirst, IsHeldAtFirst};
     ghost use Rattle.pool_core.specs.States.{CountsRefused, MakesNoCall, MovesNothing, device_of, shown, told, told_over};
     ghost use Rattle.pool_core.specs.StepAnswers.{Begins, ClosesGroup, Commits, Locks, MarksQuiesced, Reads, StartsSync, StepsSync, Unlocks};
@@ -197,7 +197,8 @@ impl<D: SectorDevice> PoolState<D> {
     /// the pool is suspended.
     pub fn sync_step(&mut self) -> Result<Progress, PoolError>
         ensures step { StepsSync result (shown self.old) (shown self.new) }
-        ensures leads { IsTrue D.keeps_model → Leads (sync_reply result) (told self.old) (told self.new) }
+        ensures leads { IsTrue D.keeps_model
+            → Leads (sync_step_reply result) (told self.old) (told self.new) }
         ensures called { CallsNext (plain_answer result) self.old self.new }
         ensures count { CountsRefused result self.old self.new }
     {

@@ -8,7 +8,7 @@ ghost use Rattle.base.specs.history.Plans.{shape_of};
 ghost use Rattle.base.specs.steps.Stage as stage;
 ghost use Rattle.base.specs.steps.Stage.{is_plan_built};
 ghost use Rattle.pool_core.specs.OpenTransactions.{is_held_in_use, is_of_name, is_range_in_use, open_without, overlaps_open};
-ghost use Rattle.pool_core.specs.Targets.{has_shape_in, kept_range_of, number_range, overlaps_plan, plans_overlap};
+ghost use Rattle.pool_core.specs.Targets.{has_shape_in, kept_range_of, number_range, overlaps_plan, kept_ranges_overlap};
 ghost use Rattle.pool_core.specs.declared.transactions.OpenTransaction.{OpenTransaction};
 
 use crate::range_locks::{HeldLock, ObjectRange, is_reader};
@@ -165,7 +165,7 @@ pub fn is_blocked(plan: &[Shape], open: &[OpenTransaction]) -> bool
 }
 
 fn overlaps_any(plan: &[Shape], other: &[Shape]) -> bool
-    ensures { result ≡ plans_overlap plan.now other.now }
+    ensures { result ≡ kept_ranges_overlap plan.now other.now }
 {
     plan.iter()
         .any(|shape| touches_any(&range_of(shape), other))

@@ -1,21 +1,21 @@
 use Rattle.std.proofs.Common.{refl}
 use Rattle.std.proofs.lemmas.Result.{err_from_is_err_and}
 use Rattle.pool_core.proofs.Closes.{close_suspended, close_older, close_ends}
-use Rattle.pool_core.specs.Shows.{shown_of_pool}
+use Rattle.pool_core.specs.Shows.{pool_shown}
 use Rattle.pool_core.proofs.pool.Pool.close_group.Goals as goal
 
 pub returns-in_err-check_running-clause-step : goal.returns-in_err-check_running-clause-step
 returns-in_err-check_running-clause-step c =
     let p = err_from_is_err_and c.from_residual.result c.from_residual.ensures.1 in
     let told = c.in_err-check_running.ensures in
-    rw (p.1, p.2, told.0) (close_suspended (shown_of_pool c.args.self.now) told.1)
+    rw (p.1, p.2, told.0) (close_suspended (pool_shown c.args.self.now) told.1)
 
 pub returns-in_err-check_no_older-clause-step : goal.returns-in_err-check_no_older-clause-step
 returns-in_err-check_no_older-clause-step c =
     let p = err_from_is_err_and c.from_residual-in_err-check_no_older.result c.from_residual-in_err-check_no_older.ensures.1 in
     let told = c.in_err-check_no_older.ensures in
-    rw (p.1, p.2, told.0) (close_older (shown_of_pool c.args.self.now) c.in_ok-check_running.ensures told.1)
+    rw (p.1, p.2, told.0) (close_older (pool_shown c.args.self.now) c.in_ok-check_running.ensures told.1)
 
 pub returns-clause-step : goal.returns-clause-step
 returns-clause-step c =
-    close_ends c.close_open.result c.args.self.now.groups c.close_open.new.self (shown_of_pool c.args.self.now) c.in_ok-check_running.ensures refl c.in_ok-check_no_older.ensures c.close_open.ensures.refused c.close_open.ensures.closed
+    close_ends c.close_open.result c.args.self.now.groups c.close_open.new.self (pool_shown c.args.self.now) c.in_ok-check_running.ensures refl c.in_ok-check_no_older.ensures c.close_open.ensures.refused c.close_open.ensures.closed

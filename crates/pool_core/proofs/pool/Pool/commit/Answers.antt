@@ -15,7 +15,7 @@ use Rattle.object_maps.specs.ContentsShown.{contents_of}
 use Rattle.object_maps.specs.Ops.{AreOpsAllowed}
 use Rattle.tree_plans.specs.declared.planner.Committed.{Committed}
 use Rattle.pool_core.specs.Meets.{Meets, MayCommit}
-use Rattle.pool_core.specs.Shows.{admission_of, shown_of_pool}
+use Rattle.pool_core.specs.Shows.{admission_of, pool_shown}
 use Rattle.pool_core.specs.declared.transactions.OpenTransaction.{OpenTransaction}
 use Rattle.pool_core.proofs.CommitSteps.{commit_refused, commit_wants, commit_done}
 use Rattle.pool_core.proofs.KeptRanges.{IsBuilt}
@@ -27,7 +27,7 @@ pub returns-in_err-group-clause-step : goal.returns-in_err-group-clause-step
 returns-in_err-group-clause-step c =
     let tx = c.args.tx.0 in
     let ops = c.args.ops in
-    let s = shown_of_pool c.args.self.now in
+    let s = pool_shown c.args.self.now in
     let p = err_from_is_err_and c.from_residual.result c.from_residual.ensures.1 in
     let e = c.in_err-group.field-0.0 in
     rw (p.1, p.2) (commit_refused tx ops e s (subst (λ (l : List Op). commit_refusal tx l s ≡ Some e) c.as_slice.ensures c.in_err-group.ensures.refusal))
@@ -36,7 +36,7 @@ pub returns-in_err-reserve-clause-step : goal.returns-in_err-reserve-clause-step
 returns-in_err-reserve-clause-step c =
     let tx = c.args.tx.0 in
     let ops = c.args.ops in
-    let s = shown_of_pool c.args.self.now in
+    let s = pool_shown c.args.self.now in
     let may : MayCommit tx ops c.in_ok-group.group.0 s = subst (λ (l : List Op). MayCommit tx l c.in_ok-group.group.0 s) c.as_slice.ensures c.in_ok-group.ensures.refusal in
     let p = err_from_is_err_and c.from_residual-in_err-reserve.result c.from_residual-in_err-reserve.ensures.1 in
     rw (p.1, p.2, c.in_err-reserve.ensures.items) (commit_wants tx ops s may.passes)
@@ -45,7 +45,7 @@ pub returns-in_err-reserve-2-clause-step : goal.returns-in_err-reserve-2-clause-
 returns-in_err-reserve-2-clause-step c =
     let tx = c.args.tx.0 in
     let ops = c.args.ops in
-    let s = shown_of_pool c.args.self.now in
+    let s = pool_shown c.args.self.now in
     let may : MayCommit tx ops c.in_ok-group.group.0 s = subst (λ (l : List Op). MayCommit tx l c.in_ok-group.group.0 s) c.as_slice.ensures c.in_ok-group.ensures.refusal in
     let p = err_from_is_err_and c.from_residual-in_err-reserve-2.result c.from_residual-in_err-reserve-2.ensures.1 in
     rw (p.1, p.2, c.in_ok-reserve.ensures.items)
@@ -55,7 +55,7 @@ pub apply-requires-clause-judged : goal.apply-requires-clause-judged
 apply-requires-clause-judged c =
     let tx = c.args.tx.0 in
     let ops = c.args.ops in
-    let s = shown_of_pool c.args.self.now in
+    let s = pool_shown c.args.self.now in
     let may : MayCommit tx ops c.in_ok-group.group.0 s = subst (λ (l : List Op). MayCommit tx l c.in_ok-group.group.0 s) c.as_slice.ensures c.in_ok-group.ensures.refusal in
     let new = contents_of c.reserve-2.new.self in
     (may.after, ap (λ (l : List Op). apply_all l new) c.as_slice-3.ensures ∙ ap (λ (x : Contents). apply_all ops x) c.in_ok-reserve-2.ensures.kept ∙ may.applied)
@@ -74,7 +74,7 @@ pub returns-clause-step : goal.returns-clause-step
 returns-clause-step c =
     let tx = c.args.tx.0 in
     let ops = c.args.ops in
-    let s = shown_of_pool c.args.self.now in
+    let s = pool_shown c.args.self.now in
     let may : MayCommit tx ops c.in_ok-group.group.0 s = subst (λ (l : List Op). MayCommit tx l c.in_ok-group.group.0 s) c.as_slice.ensures c.in_ok-group.ensures.refusal in
     let new = contents_of c.reserve-2.new.self in
     let ok = sym (ap (λ (l : List Op). apply_all l new) c.as_slice-3.ensures ∙ ap (λ (x : Contents). apply_all ops x) c.in_ok-reserve-2.ensures.kept) ∙ c.apply.ensures in

@@ -6,7 +6,7 @@ use Rattle.base.specs.formats.Geometry.{block_count}
 use Rattle.base.specs.formats.Records.{Record}
 use Rattle.base.specs.tree.Syncs.{is_rename}
 use Rattle.tree_plans.specs.declared.planner.Committed.{Committed}
-use Rattle.pool_core.specs.Shows.{record_of, shown_of_pool}
+use Rattle.pool_core.specs.Shows.{record_of, pool_shown}
 use Rattle.pool_core.proofs.Mapped.{filter-map}
 use Rattle.pool_core.proofs.SameSyncs.{none_running, placed_after}
 use Rattle.pool_core.proofs.pool.Pool.finish_tree.Goals as goal
@@ -33,7 +33,7 @@ invariant_of-self-3 c =
 pub returns-clause-shown : goal.returns-clause-shown
 returns-clause-shown c =
     let pool = c.args.self.now in
-    let s = shown_of_pool pool in
+    let s = pool_shown pool in
     let rs = c.args.running in
     let later : Record → Bool = λ (r : Record). nat_lt rs.group.0 r.group in
     let free = c.give_all.ensures.free ∙ ap (λ (l : List ℕ). set.union s.free (set.from_list l)) c.deref.ensures.value in

@@ -1,5 +1,5 @@
 use Rattle.std.proofs.Common.{List, map, inl, subst, ◌∙◌}
-use Rattle.std.proofs.lemmas.Result.{IfErr-weaker, err_from_is_err_and}
+use Rattle.std.proofs.lemmas.Result.{IfErr-weaker, IfOk-weaker, err_from_is_err_and}
 use Rattle.base.specs.declared.names.ObjectId.{ObjectId}
 use Rattle.base.specs.declared.pointer.Pointer.{Pointer}
 use Rattle.base.specs.formats.Geometry.{block_count}
@@ -13,10 +13,10 @@ use Rattle.tree_plans.specs.declared.planner.TreePlan.{TreePlan}
 use Rattle.tree_plans.specs.Changes.{AreBornBefore}
 use Rattle.tree_plans.specs.Marks.{AreMarks, pending_ops}
 use Rattle.tree_plans.specs.Plans.{new_block}
-use Rattle.pool_core.specs.GroupPlans.{IsPlannedFrom}
-use Rattle.pool_core.specs.Shows.{shown_of_pool}
+use Rattle.pool_core.specs.GroupPlans.{IsPlannedGroup}
+use Rattle.pool_core.specs.Shows.{pool_shown}
 use Rattle.pool_core.proofs.FreeBlocks.{are_blocks}
-use Rattle.pool_core.proofs.PlannedPointers.{IfOk_both, IfOk_map, plan_placed, retold}
+use Rattle.pool_core.proofs.PlannedPointers.{IfOk_all, IfOk_both, plan_placed, retold}
 use Rattle.pool_core.proofs.StartLeads.{addresses_are}
 use Rattle.pool_core.proofs.Starts.{turn_want}
 use Rattle.pool_core.proofs.pool.Pool.plan_group.Goals as goal
@@ -26,39 +26,29 @@ returns-in_err-objects-clause-refused c =
     let p = err_from_is_err_and c.from_residual.result c.from_residual.ensures.1 in
     rw (p.1, p.2) (inl c.in_err-objects.ensures.refused)
 
-pub returns-clause-within : goal.returns-clause-within
-returns-clause-within c = IfOk_map c.plan.result (λ (p : TreePlan) told. told.within) c.plan.ensures.taken
+pub returns-clause-fits : goal.returns-clause-fits
+returns-clause-fits c =
+    IfOk_both c.plan.result (λ (p : TreePlan) taken back. record { within = taken.within; freed = are_blocks (block_count c.args.self.now.geometry) c.args.self.now.tree p.freed.items c.args.self.now.tree_placed back.returned })
+    c.plan.ensures.taken c.plan.ensures.freed
 
 pub returns-clause-taken : goal.returns-clause-taken
-returns-clause-taken c = IfOk_map c.plan.result (λ (p : TreePlan) told. told.taken) c.plan.ensures.taken
+returns-clause-taken c = IfOk-weaker c.plan.result _ _ (λ (p : TreePlan) told. told.taken) c.plan.ensures.taken
 
-pub returns-clause-whole : goal.returns-clause-whole
-returns-clause-whole c = IfOk_map c.plan.result (λ (p : TreePlan) told. told.whole) c.plan.ensures.taken
-
-pub returns-clause-freed : goal.returns-clause-freed
-returns-clause-freed c = IfOk_map c.plan.result (λ (p : TreePlan) told. are_blocks (block_count c.args.self.now.geometry) c.args.self.now.tree p.freed.items c.args.self.now.tree_placed told.returned) c.plan.ensures.freed
-
-pub returns-clause-placed : goal.returns-clause-placed
-returns-clause-placed c = IfOk_map c.plan.result (λ (p : TreePlan) told. plan_placed c.args.self.now.tree p.root p.directories.items p.maps (block_count c.args.self.now.geometry) c.args.self.now.tree_placed told.placed) c.plan.ensures.tree
-
-pub returns-clause-planned : goal.returns-clause-planned
-returns-clause-planned c =
+pub returns-clause-tree : goal.returns-clause-tree
+returns-clause-tree c =
     let pool = c.args.self.now in
+    let group = c.args.group.0 in
     let objects : List (ObjectId × DirtyRecords) = c.in_ok-objects.objects.entries in
-    let marks : AreMarks (pending_ops c.args.group.0 pool.pending.items) objects = subst (λ (l : List Committed). AreMarks (pending_ops c.args.group.0 l) objects) c.deref.ensures.value c.in_ok-objects.ensures.marks in
-    IfOk_both c.plan.result (λ (p : TreePlan) told taken. retold pool.tree p.root p.directories.items p.maps
-    (λ (old new : Place → Pointer). IsPlannedFrom c.args.group.0 pool.pending.items (frame_at (shown_of_pool pool) c.args.group.0) old new (map new_block p.blocks.items) (contents_of pool.contents).objects)
-    (record { objects = objects; marks = marks; planned = told.planned; order = λ in_range. addresses_are p.blocks.items ∙ taken.order in_range })) c.plan.ensures.tree c.plan.ensures.taken
-
-pub returns-clause-freed_are : goal.returns-clause-freed_are
-returns-clause-freed_are c =
-    IfOk_map c.plan.result (λ (p : TreePlan) told. retold c.args.self.now.tree p.root p.directories.items p.maps
-    (λ (old new : Place → Pointer). AreBornBefore c.args.group.0 old → AreFreed old new p.freed.items) told.freed) c.plan.ensures.freed
-
-pub returns-clause-used : goal.returns-clause-used
-returns-clause-used c =
-    IfOk_map c.plan.result (λ (p : TreePlan) told. retold c.args.self.now.tree p.root p.directories.items p.maps
-    (λ (old new : Place → Pointer). AreUsed (map new_block p.blocks.items) new) told.used) c.plan.ensures.tree
+    let marks : AreMarks (pending_ops group pool.pending.items) objects = subst (λ (l : List Committed). AreMarks (pending_ops group l) objects) c.deref.ensures.value c.in_ok-objects.ensures.marks in
+    IfOk_all c.plan.result (λ (p : TreePlan) taken tree back. record {
+      placed = plan_placed pool.tree p.root p.directories.items p.maps (block_count pool.geometry) pool.tree_placed tree.placed;
+      planned = retold pool.tree p.root p.directories.items p.maps
+          (λ (old new : Place → Pointer). IsPlannedGroup group pool.pending.items (frame_at (pool_shown pool) group) old new (map new_block p.blocks.items) (contents_of pool.contents).objects)
+          (record { objects = objects; marks = marks; planned = tree.planned; order = λ in_range. addresses_are p.blocks.items ∙ taken.order in_range });
+      freed = retold pool.tree p.root p.directories.items p.maps (λ (old new : Place → Pointer). AreBornBefore group old → AreFreed old new p.freed.items) back.freed;
+      used = retold pool.tree p.root p.directories.items p.maps (λ (old new : Place → Pointer). AreUsed (map new_block p.blocks.items) new) tree.used;
+      whole = taken.whole;
+    }) c.plan.ensures.taken c.plan.ensures.tree c.plan.ensures.freed
 
 pub returns-clause-refused : goal.returns-clause-refused
 returns-clause-refused c = turn_want c.plan.result c.plan.ensures.refused

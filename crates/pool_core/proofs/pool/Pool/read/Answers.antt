@@ -1,7 +1,7 @@
 use Rattle.std.proofs.Common.{◌∙◌, sym}
 use Rattle.std.proofs.lemmas.Result.{err_from_is_err_and}
 use Rattle.base.specs.steps.Refusals.{object_range}
-use Rattle.pool_core.specs.Shows.{shown_of_pool}
+use Rattle.pool_core.specs.Shows.{pool_shown}
 use Rattle.pool_core.proofs.Flags.{from_not_false, from_not_true}
 use Rattle.pool_core.proofs.ReadSteps.{read_suspended, read_bad, read_open, read_none, read_passes, read_wants, read_done}
 use Rattle.pool_core.proofs.pool.Pool.read.Goals as goal
@@ -10,7 +10,7 @@ pub returns-in_err-check_running : goal.returns-in_err-check_running
 returns-in_err-check_running c =
     let owner = c.args.owner.0 in
     let t = object_range c.args.object.0 c.args.range.low c.args.range.high in
-    let s = shown_of_pool c.args.self.now in
+    let s = pool_shown c.args.self.now in
     let p = err_from_is_err_and c.from_residual.result c.from_residual.ensures.1 in
     let told = c.in_err-check_running.ensures in
     rw (p.1, p.2, told.0) (read_suspended owner t s told.1)
@@ -19,14 +19,14 @@ pub returns-then-not-is_readable : goal.returns-then-not-is_readable
 returns-then-not-is_readable c =
     let owner = c.args.owner.0 in
     let t = object_range c.args.object.0 c.args.range.low c.args.range.high in
-    let s = shown_of_pool c.args.self.now in
+    let s = pool_shown c.args.self.now in
     read_bad owner t s c.in_ok-check_running.ensures (from_not_false _ _ c.is_readable.ensures.allowed c.if-not-is_readable.true)
 
 pub returns-then-not-covers : goal.returns-then-not-covers
 returns-then-not-covers c =
     let owner = c.args.owner.0 in
     let t = object_range c.args.object.0 c.args.range.low c.args.range.high in
-    let s = shown_of_pool c.args.self.now in
+    let s = pool_shown c.args.self.now in
     let readable = from_not_true _ _ c.is_readable.ensures.allowed c.if-not-is_readable.false in
     read_open owner t s c.in_ok-check_running.ensures readable (sym c.covers.ensures ∙ c.if-not-covers.true)
 
@@ -34,7 +34,7 @@ pub returns-in_default : goal.returns-in_default
 returns-in_default c =
     let owner = c.args.owner.0 in
     let t = object_range c.args.object.0 c.args.range.low c.args.range.high in
-    let s = shown_of_pool c.args.self.now in
+    let s = pool_shown c.args.self.now in
     let readable = from_not_true _ _ c.is_readable.ensures.allowed c.if-not-is_readable.false in
     let covered = sym c.covers.ensures ∙ c.if-not-covers.false in
     read_none owner t s c.in_ok-check_running.ensures readable covered (sym c.in_default.ensures)
@@ -43,7 +43,7 @@ pub returns-in_err-from_slice : goal.returns-in_err-from_slice
 returns-in_err-from_slice c =
     let owner = c.args.owner.0 in
     let t = object_range c.args.object.0 c.args.range.low c.args.range.high in
-    let s = shown_of_pool c.args.self.now in
+    let s = pool_shown c.args.self.now in
     let readable = from_not_true _ _ c.is_readable.ensures.allowed c.if-not-is_readable.false in
     let covered = sym c.covers.ensures ∙ c.if-not-covers.false in
     let passes = read_passes owner t c.in-Some.bytes.now s c.in_ok-check_running.ensures readable covered (sym c.in-Some.ensures) in
@@ -54,7 +54,7 @@ pub returns : goal.returns
 returns c =
     let owner = c.args.owner.0 in
     let t = object_range c.args.object.0 c.args.range.low c.args.range.high in
-    let s = shown_of_pool c.args.self.now in
+    let s = pool_shown c.args.self.now in
     let readable = from_not_true _ _ c.is_readable.ensures.allowed c.if-not-is_readable.false in
     let covered = sym c.covers.ensures ∙ c.if-not-covers.false in
     let passes = read_passes owner t c.in-Some.bytes.now s c.in_ok-check_running.ensures readable covered (sym c.in-Some.ensures) in

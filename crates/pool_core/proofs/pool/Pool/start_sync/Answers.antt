@@ -10,7 +10,7 @@ use Rattle.pool_core.specs.declared.pool.RunningSync.{RunningSync}
 use Rattle.tree_plans.specs.Plans.{address_of}
 use Rattle.pool_core.specs.Pointers.{pointers_after}
 use Rattle.pool_core.specs.RunningUberblocks.{WritesUberblock, uberblock_with}
-use Rattle.pool_core.specs.Shows.{new_plan, shown_of_pool}
+use Rattle.pool_core.specs.Shows.{new_plan, pool_shown}
 use Rattle.std.specs.Prelude.{Result}
 use Rattle.base.specs.declared.error.PoolError.{PoolError}
 use Rattle.base.specs.declared.names.Group.{Group}
@@ -29,37 +29,37 @@ pub returns-in_err-check_running-clause-step : goal.returns-in_err-check_running
 returns-in_err-check_running-clause-step c =
     let p = err_from_is_err_and c.from_residual.result c.from_residual.ensures.1 in
     let told = c.in_err-check_running.ensures in
-    rw (p.1, p.2, told.0) (λ past explained. (past, start_suspended ⊥ [] past (shown_of_pool c.args.self.now) c.args.moment told.1))
+    rw (p.1, p.2, told.0) (λ past explained. (past, start_suspended ⊥ [] past (pool_shown c.args.self.now) c.args.moment told.1))
 
 pub returns-in_err-group-clause-step : goal.returns-in_err-group-clause-step
 returns-in_err-group-clause-step c =
     let p = err_from_is_err_and c.from_residual-in_err-group.result c.from_residual-in_err-group.ensures.1 in
     let told = c.in_err-group.ensures.may in
-    rw (p.1, p.2, told.0) (λ past explained. (past, start_not_ready ⊥ [] past (shown_of_pool c.args.self.now) c.args.moment c.in_ok-check_running.ensures told.1))
+    rw (p.1, p.2, told.0) (λ past explained. (past, start_not_ready ⊥ [] past (pool_shown c.args.self.now) c.args.moment c.in_ok-check_running.ensures told.1))
 
 pub returns-in_err-planned-clause-step : goal.returns-in_err-planned-clause-step
 returns-in_err-planned-clause-step c =
     let p = err_from_is_err_and c.from_residual-in_err-planned.result c.from_residual-in_err-planned.ensures.1 in
     let may = c.in_ok-group.ensures.may in
-    rw (p.1, p.2) (λ past explained. (past, start_wants ⊥ [] past (shown_of_pool c.args.self.now) c.args.moment c.in_ok-group.group.0 c.in_err-planned.field-0.0 c.in_ok-check_running.ensures may.0 may.1 c.in_err-planned.ensures.refused))
+    rw (p.1, p.2) (λ past explained. (past, start_wants ⊥ [] past (pool_shown c.args.self.now) c.args.moment c.in_ok-group.group.0 c.in_err-planned.field-0.0 c.in_ok-check_running.ensures may.0 may.1 c.in_err-planned.ensures.refused))
 
 pub returns-in_err-check_running-clause-held : goal.returns-in_err-check_running-clause-held
 returns-in_err-check_running-clause-held c =
     let p = err_from_is_err_and c.from_residual.result c.from_residual.ensures.1 in
     let told = c.in_err-check_running.ensures in
-    rw (p.1, p.2, told.0) (λ now past x. (past, start_suspended (Unit {0}) now past (shown_of_pool c.args.self.now) c.args.moment told.1))
+    rw (p.1, p.2, told.0) (λ now past x. (past, start_suspended (Unit {0}) now past (pool_shown c.args.self.now) c.args.moment told.1))
 
 pub returns-in_err-group-clause-held : goal.returns-in_err-group-clause-held
 returns-in_err-group-clause-held c =
     let p = err_from_is_err_and c.from_residual-in_err-group.result c.from_residual-in_err-group.ensures.1 in
     let told = c.in_err-group.ensures.may in
-    rw (p.1, p.2, told.0) (λ now past x. (past, start_not_ready (Unit {0}) now past (shown_of_pool c.args.self.now) c.args.moment c.in_ok-check_running.ensures told.1))
+    rw (p.1, p.2, told.0) (λ now past x. (past, start_not_ready (Unit {0}) now past (pool_shown c.args.self.now) c.args.moment c.in_ok-check_running.ensures told.1))
 
 pub returns-in_err-planned-clause-held : goal.returns-in_err-planned-clause-held
 returns-in_err-planned-clause-held c =
     let p = err_from_is_err_and c.from_residual-in_err-planned.result c.from_residual-in_err-planned.ensures.1 in
     let may = c.in_ok-group.ensures.may in
-    rw (p.1, p.2) (λ now past x. (past, start_wants (Unit {0}) now past (shown_of_pool c.args.self.now) c.args.moment c.in_ok-group.group.0 c.in_err-planned.field-0.0 c.in_ok-check_running.ensures may.0 may.1 c.in_err-planned.ensures.refused))
+    rw (p.1, p.2) (λ now past x. (past, start_wants (Unit {0}) now past (pool_shown c.args.self.now) c.args.moment c.in_ok-group.group.0 c.in_err-planned.field-0.0 c.in_ok-check_running.ensures may.0 may.1 c.in_err-planned.ensures.refused))
 
 pub returns-in_err-check_running-clause-order : goal.returns-in_err-check_running-clause-order
 returns-in_err-check_running-clause-order c =
@@ -89,12 +89,12 @@ invariant_of-self-2 c =
       plans_built = pool.plans_built;
       running = λ x e. let same = kept_sync rs x e in (
         ap (λ (r : RunningSync). r.run.geometry) (sym same) ∙ ens.geometry,
-        subst (λ (r : RunningSync). r.run.done < call_count r.run) same ens.left,
+        subst (λ (r : RunningSync). r.run.done < call_count r.run) same ens.begins.left,
       );
       uberblock = λ x e. subst (λ (r : RunningSync). WritesUberblock (uberblock_with pool.guid pool.import_number pool.log_address r.group.0 r.moment r.root) r.run) (kept_sync rs x e)
-          (rw (ens.group, ens.moment, ens.root) ens.uberblock);
+          (rw (ens.group, ens.moment, ens.begins.root) ens.uberblock);
       planned = λ x e. subst (λ (r : RunningSync). ∥ ArePlaced (block_count pool.geometry) (pointers_after r.root r.directories.items r.maps pool.tree) ∥₁) (kept_sync rs x e)
-          (rw (ens.root, ens.directories, ens.maps) c.in_ok-planned.ensures.placed);
+          (rw (ens.begins.root, ens.begins.directories, ens.begins.maps) c.in_ok-planned.ensures.tree.placed);
       sync_line = ap (λ (g : _). Some g.0) ens.group ∙ sym (ap (λ (l : Line). l.syncing) c.start_sync.ensures);
       pending_built = pool.pending_built;
       tree_placed = pool.tree_placed;
@@ -103,7 +103,7 @@ invariant_of-self-2 c =
 pub returns-clause-step : goal.returns-clause-step
 returns-clause-step c = λ past explained.
     let pool = c.args.self.now in
-    let s = shown_of_pool pool in
+    let s = pool_shown pool in
     let blocks : List PlannedBlock = c.in_ok-planned.planned.blocks.items in
     let plan = new_plan c.args.moment pool.log_address (map address_of blocks) c.in_ok-planned.planned.freed.items c.in_ok-planned.planned.root in
     let may = c.in_ok-group.ensures.may in (
@@ -117,14 +117,14 @@ returns-clause-step c = λ past explained.
 pub returns-clause-held : goal.returns-clause-held
 returns-clause-held c = λ now past x.
     let pool = c.args.self.now in
-    let s = shown_of_pool pool in
+    let s = pool_shown pool in
     let planned = c.in_ok-planned.planned in
     let blocks : List PlannedBlock = planned.blocks.items in
     let plan = new_plan c.args.moment pool.log_address (map address_of blocks) planned.freed.items planned.root in
     let may = c.in_ok-group.ensures.may in (
       past,
       start_done (Unit {0}) now past s c.args.moment _ c.in_ok-group.group.0 plan x.explained
-          (λ keeps. group_takes_each now past pool c.in_ok-group.group.0 c.args.moment blocks planned.freed.items planned.root planned.directories.items planned.maps may c.in_ok-planned.ensures.planned x)
+          (λ keeps. group_takes_each now past pool c.in_ok-group.group.0 c.args.moment blocks planned.freed.items planned.root planned.directories.items planned.maps may c.in_ok-planned.ensures.tree.planned x)
           c.in_ok-check_running.ensures may.0 may.1 (pending_names pool.pending.items pool.pending_built) refl refl
           (lowest_taken blocks pool.free.flags.items c.in_ok-planned.ensures.taken) refl refl
           (rw (c.start_sync.ensures, c.take_all.ensures.free, c.running_sync.ensures.plan) (ap (λ (l : List PlannedBlock). record s { line = record s.line { syncing = Some c.in_ok-group.group.0; middle = None }; free = set.difference s.free (set.from_list (map address_of l)); sync = Some plan }) c.deref.ensures.value)),
@@ -140,11 +140,11 @@ returns-clause-order c = λ now past x.
       synced = x.kept.stored.synced;
       replayed = x.kept.stored.replayed;
       tree = record { pointers = pointers_after planned.root planned.directories.items planned.maps pool.tree; blocks = map new_block planned.blocks.items; slot = rs.run.uberblock; done = 0 };
-      running = ap (λ (t : NewTree). Some t) (nothing_made pool.tree rs planned.root planned.directories planned.maps planned.blocks ens.root ens.directories ens.maps ens.blocks ens.done);
+      running = ap (λ (t : NewTree). Some t) (nothing_made pool.tree rs planned.root planned.directories planned.maps planned.blocks ens.begins.root ens.begins.directories ens.begins.maps ens.begins.blocks ens.begins.done);
       plan = new_plan c.args.moment pool.log_address (map address_of planned.blocks.items) planned.freed.items planned.root;
       plan_is = ap (λ (q : SyncPlan). Some q) ens.plan;
       each = group_takes now past pool c.in_ok-group.group.0 c.args.moment planned.blocks.items planned.freed.items planned.root planned.directories.items planned.maps
-          c.in_ok-group.ensures.may c.in_ok-planned.ensures.planned x;
+          c.in_ok-group.ensures.may c.in_ok-planned.ensures.tree.planned x;
     }
 
 pub returns-in_err-check_running-clause-leads : goal.returns-in_err-check_running-clause-leads
@@ -169,7 +169,7 @@ returns-clause-leads c = λ now past later.
     let told = c.in_ok-planned.ensures in
     let rs = c.running_sync.result in
     let ens = c.running_sync.ensures in
-    let made = nothing_made pool.tree rs planned.root planned.directories planned.maps planned.blocks ens.root ens.directories ens.maps ens.blocks ens.done in
+    let made = nothing_made pool.tree rs planned.root planned.directories planned.maps planned.blocks ens.begins.root ens.begins.directories ens.begins.maps ens.begins.blocks ens.begins.done in
     record {
       same = refl;
       pointers = refl;
@@ -181,7 +181,7 @@ returns-clause-leads c = λ now past later.
       plan_is = ap (λ (q : SyncPlan). Some q) ens.plan;
       slot_is = ens.uberblock.bytes;
       planned = λ x. group_planned now past pool c.in_ok-group.group.0 c.args.moment planned.blocks.items planned.freed.items planned.root planned.directories.items planned.maps
-          c.in_ok-group.ensures.may told.planned told.freed_are told.used told.whole x;
+          c.in_ok-group.ensures.may told.tree.planned told.tree.freed told.tree.used told.tree.whole x;
     }
 
 pub returns-in_err-planned-clause-no_space : goal.returns-in_err-planned-clause-no_space

@@ -7,16 +7,18 @@ use Rattle.tree_plans.specs.declared.planner.PlannedBlock.{PlannedBlock}
 use Rattle.base.specs.tree.PlacedTrees.{ArePlaced}
 use Rattle.base.specs.steps.Shown.{SyncPlan}
 use Rattle.sync.specs.Runs.{call_count}
+use Rattle.object_maps.specs.Pointers.{pointers_of}
 use Rattle.pool_core.specs.declared.pool.RunningSync.{RunningSync}
-use Rattle.pool_core.specs.Pointers.{pointers_after}
 use Rattle.pool_core.specs.RunningUberblocks.{WritesUberblock, uberblock_with}
-use Rattle.pool_core.specs.Shows.{plan_of, shown_of_pool}
+use Rattle.pool_core.specs.Shows.{plan_of, pool_shown, shown_after_tree}
 use Rattle.pool_core.proofs.SameSyncs.{as_many, kept_sync, left_as_before, more_left, one_left, one_less, refused_as, same_taken, same_uberblock}
 use Rattle.base.specs.disk.Disk.{bytes_of}
+use Rattle.base.specs.declared.step.Reply.TheVariants as reply
+use Rattle.pool_core.specs.Lines.{line_after_sync}
 use Rattle.base.specs.declared.error.PoolError.{PoolError}
 use Rattle.pool_core.specs.declared.state.Progress.{Progress}
-use Rattle.pool_core.specs.Holds.{made_by, new_tree_of, sync_reply}
-use Rattle.pool_core.proofs.StillSteps.{still_pool}
+use Rattle.pool_core.specs.Holds.{SamePlaces, pool_told, made_by, sync_step_reply, tree_after}
+use Rattle.pool_core.proofs.StillSteps.{leads_as, still_pool}
 use Rattle.pool_core.proofs.SyncLeads.{advanced, failed_call, failed_running, synced_told, was_running, was_syncing}
 use Rattle.pool_core.proofs.SyncSteps.{step_failed, step_more, step_not_ready, step_suspended, step_synced}
 use Rattle.pool_core.proofs.pool.Pool.sync_step.Goals as goal
@@ -25,26 +27,31 @@ pub returns-in_err-check_running-clause-step : goal.returns-in_err-check_running
 returns-in_err-check_running-clause-step g c =
     let p = err_from_is_err_and c.from_residual.result c.from_residual.ensures.1 in
     let told = c.in_err-check_running.ensures in
-    rw (p.1, p.2, told.0) (step_suspended (shown_of_pool c.args.self.now) told.1)
+    rw (p.1, p.2, told.0) (step_suspended (pool_shown c.args.self.now) told.1)
 
 pub returns-in_default-clause-step : goal.returns-in_default-clause-step
 returns-in_default-clause-step g c =
     let pool = c.args.self.now in
-    let s = shown_of_pool pool in
-    let none : pool.sync ≡ None = sym c.in_default.ensures.value in
+    let s = pool_shown pool in
+    let none : pool.sync ≡ None = c.in_default.is in
     let idle = sym pool.sync_line ∙ ap (λ (o : Option RunningSync). option_map (λ (r : RunningSync). r.group.0) o) none in
-    let same : None ≡ s.sync = sym (ap (λ (o : Option RunningSync). option_map (plan_of pool.log_address) o) none) in
-    step_not_ready s _ c.in_ok-check_running.ensures idle (rw c.take.ensures.after (λ k. record s { sync = same k }))
+    step_not_ready s s c.in_ok-check_running.ensures idle refl
 
 pub next-requires-clause-sized : goal.next-requires-clause-sized
 next-requires-clause-sized g c =
-    let was = c.args.self.now.running c.in-Some.running (sym c.in-Some.ensures.value) in
+    let was = c.args.self.now.running c.in-Some.running c.in-Some.is in
     c.requires ∙ sym was.0
+
+pub finish_tree-requires-clause-placed : goal.finish_tree-requires-clause-placed
+finish_tree-requires-clause-placed g c =
+    let pool = c.args.self.now in
+    let same = kept_sync c.in-Some-take.synced _ c.in-Some-take.ensures.value in
+    subst (λ (r : RunningSync). ∥ ArePlaced (block_count pool.geometry) (tree_after r pool.tree) ∥₁) (sym same) (pool.planned c.in-Some.running c.in-Some.is)
 
 pub invariant_of-self-in-Ok-false : goal.invariant_of-self-in-Ok-false
 invariant_of-self-in-Ok-false g c =
     let pool = c.args.self.now in
-    let is = sym c.in-Some.ensures.value in
+    let is = c.in-Some.is in
     let was = pool.running c.in-Some.running is in
     let told = c.in-Ok-false.ensures in
     let left = more_left c.in-Some.running.run c.next.new.self told.sync told.done was.1 (λ e. true≢false (sym (told.last.1 e) ∙ c.in-Ok-false.field-0-test)) in
@@ -60,7 +67,7 @@ invariant_of-self-in-Ok-false g c =
       );
       uberblock = λ x e. subst (λ (r : RunningSync). WritesUberblock (uberblock_with pool.guid pool.import_number pool.log_address r.group.0 r.moment r.root) r.run) (kept_sync _ x e)
           (same_uberblock c.in-Some.running.run c.next.new.self told.sync _ (pool.uberblock c.in-Some.running is));
-      planned = λ x e. subst (λ (r : RunningSync). ∥ ArePlaced (block_count pool.geometry) (pointers_after r.root r.directories.items r.maps pool.tree) ∥₁) (kept_sync _ x e) (pool.planned c.in-Some.running is);
+      planned = λ x e. subst (λ (r : RunningSync). ∥ ArePlaced (block_count pool.geometry) (tree_after r pool.tree) ∥₁) (kept_sync _ x e) (pool.planned c.in-Some.running is);
       sync_line = ap (λ (o : Option RunningSync). option_map (λ (r : RunningSync). r.group.0) o) (sym is) ∙ pool.sync_line;
       pending_built = pool.pending_built;
       tree_placed = pool.tree_placed;
@@ -69,7 +76,7 @@ invariant_of-self-in-Ok-false g c =
 pub invariant_of-self-in-Err : goal.invariant_of-self-in-Err
 invariant_of-self-in-Err g c =
     let pool = c.args.self.now in
-    let is = sym c.in-Some.ensures.value in
+    let is = c.in-Some.is in
     let was = pool.running c.in-Some.running is in
     let told = c.in-Err.ensures in
     let left = left_as_before c.in-Some.running.run c.next.new.self told.sync told.done was.1 in
@@ -85,30 +92,31 @@ invariant_of-self-in-Err g c =
       );
       uberblock = λ x e. subst (λ (r : RunningSync). WritesUberblock (uberblock_with pool.guid pool.import_number pool.log_address r.group.0 r.moment r.root) r.run) (kept_sync _ x e)
           (same_uberblock c.in-Some.running.run c.next.new.self told.sync _ (pool.uberblock c.in-Some.running is));
-      planned = λ x e. subst (λ (r : RunningSync). ∥ ArePlaced (block_count pool.geometry) (pointers_after r.root r.directories.items r.maps pool.tree) ∥₁) (kept_sync _ x e) (pool.planned c.in-Some.running is);
+      planned = λ x e. subst (λ (r : RunningSync). ∥ ArePlaced (block_count pool.geometry) (tree_after r pool.tree) ∥₁) (kept_sync _ x e) (pool.planned c.in-Some.running is);
       sync_line = ap (λ (o : Option RunningSync). option_map (λ (r : RunningSync). r.group.0) o) (sym is) ∙ pool.sync_line;
       pending_built = pool.pending_built;
       tree_placed = pool.tree_placed;
     }
 
-pub returns-in-Ok-true-clause-step : goal.returns-in-Ok-true-clause-step
-returns-in-Ok-true-clause-step g c =
+pub returns-in-Some-take-clause-step : goal.returns-in-Some-take-clause-step
+returns-in-Some-take-clause-step g c =
     let pool = c.args.self.now in
-    let s = shown_of_pool pool in
-    let is = sym c.in-Some.ensures.value in
+    let s = pool_shown pool in
+    let is = c.in-Some.is in
     let told = c.in-Ok-true.ensures in
     let plan : SyncPlan = plan_of pool.log_address c.in-Some.running in
     let syncing = sym pool.sync_line ∙ ap (λ (o : Option RunningSync). option_map (λ (r : RunningSync). r.group.0) o) is in
+    let same = kept_sync c.in-Some-take.synced _ c.in-Some-take.ensures.value in
     let running = ap (λ (o : Option RunningSync). option_map (plan_of pool.log_address) o) is in
-    step_synced s _ c.in-Some.running.group.0 c.in-Some.running.group.0 plan c.in_ok-check_running.ensures syncing running
-    (one_left c.in-Some.running.run c.next.new.self told.sync told.done (told.last.0 c.in-Ok-true.field-0-test)) refl refl refl refl
-    (c.finish_tree.ensures.shown ∙ rw (c.finish_sync.ensures, c.take.ensures.after) refl)
+    step_synced s _ c.in-Some.running.group.0 c.in-Some-take.synced.group.0 plan c.in_ok-check_running.ensures syncing running
+    (one_left c.in-Some.running.run c.next.new.self told.sync told.done (told.last.0 c.in-Ok-true.field-0-test)) (ap (λ (r : RunningSync). r.group.0) same) refl refl refl
+    (c.finish_tree.ensures.shown ∙ rw (c.finish_sync.ensures, c.take.ensures.after) (λ k. shown_after_tree (same k) (record s { line = line_after_sync (same k).group.0 s.line; sync = None })))
 
 pub returns-in-Ok-false-clause-step : goal.returns-in-Ok-false-clause-step
 returns-in-Ok-false-clause-step g c =
     let pool = c.args.self.now in
-    let s = shown_of_pool pool in
-    let is = sym c.in-Some.ensures.value in
+    let s = pool_shown pool in
+    let is = c.in-Some.is in
     let was = pool.running c.in-Some.running is in
     let told = c.in-Ok-false.ensures in
     let plan : SyncPlan = plan_of pool.log_address c.in-Some.running in
@@ -123,8 +131,8 @@ returns-in-Ok-false-clause-step g c =
 pub returns-in-Err-clause-step : goal.returns-in-Err-clause-step
 returns-in-Err-clause-step g c =
     let pool = c.args.self.now in
-    let s = shown_of_pool pool in
-    let is = sym c.in-Some.ensures.value in
+    let s = pool_shown pool in
+    let is = c.in-Some.is in
     let told = c.in-Err.ensures in
     let plan : SyncPlan = plan_of pool.log_address c.in-Some.running in
     let syncing = sym pool.sync_line ∙ ap (λ (o : Option RunningSync). option_map (λ (r : RunningSync). r.group.0) o) is in
@@ -140,43 +148,43 @@ returns-in-Err-clause-step g c =
 pub returns-in_err-check_running-clause-leads : goal.returns-in_err-check_running-clause-leads
 returns-in_err-check_running-clause-leads g c = λ keeps.
     let p = err_from_is_err_and c.from_residual.result c.from_residual.ensures.1 in
-    still_pool (sync_reply c.from_residual.result) p.0 (bytes_of (g.D.SectorDevice.disk c.args.device.now).now) c.args.self.now (ap (λ (r : Result Progress PoolError). sync_reply r) p.1)
+    still_pool (sync_step_reply c.from_residual.result) p.0 (bytes_of (g.D.SectorDevice.disk c.args.device.now).now) c.args.self.now (ap (λ (r : Result Progress PoolError). sync_step_reply r) p.1)
 
 pub returns-in_default-clause-leads : goal.returns-in_default-clause-leads
-returns-in_default-clause-leads g c = λ keeps past later. (
-  refl,
-  refl,
-  ap (λ (o : Option RunningSync). option_map (new_tree_of c.args.self.now.tree) o) (c.take.ensures.after ∙ c.in_default.ensures.value),
-)
+returns-in_default-clause-leads g c = λ keeps past later. (refl, refl, refl)
 
-pub returns-in-Ok-true-clause-leads : goal.returns-in-Ok-true-clause-leads
-returns-in-Ok-true-clause-leads g c = λ keeps.
+pub returns-in-Some-take-clause-leads : goal.returns-in-Some-take-clause-leads
+returns-in-Some-take-clause-leads g c = λ keeps.
     let pool = c.args.self.now in
-    let is = sym c.in-Some.ensures.value in
+    let is = c.in-Some.is in
     let was = pool.running c.in-Some.running is in
     let told = c.in-Ok-true.ensures in
+    let same = kept_sync c.in-Some-take.synced _ c.in-Some-take.ensures.value in
     let sized = g.met.D.SectorDevice.sized keeps c.args.device.now ∙ c.requires in
-    synced_told pool c.in-Some.running c.next.new.self (g.D.SectorDevice.disk c.args.device.now) (g.D.SectorDevice.disk c.next.new.device) is told.sync sized was.0 told.there
-    c.finish_tree.new.self told.done (told.last.0 c.in-Ok-true.field-0-test) (told.called keeps) (c.finish_tree.ensures.sync ∙ c.take.ensures.after) c.finish_tree.ensures.pointers
+    leads_as (reply.Synced c.in-Some.running.group) (reply.Synced c.in-Some-take.synced.group) (pool_told pool (bytes_of (g.D.SectorDevice.disk c.args.device.now).now))
+    (pool_told c.finish_tree.new.self (bytes_of (g.D.SectorDevice.disk c.next.new.device).now)) (ap (λ (r : RunningSync). reply.Synced r.group) (sym same))
+    (synced_told pool c.in-Some.running c.next.new.self (g.D.SectorDevice.disk c.args.device.now) (g.D.SectorDevice.disk c.next.new.device) is told.sync sized was.0 told.there
+    c.finish_tree.new.self told.done (told.last.0 c.in-Ok-true.field-0-test) (told.called keeps) (c.finish_tree.ensures.sync ∙ c.take.ensures.after)
+    (subst (λ (r : RunningSync). SamePlaces (pointers_of c.finish_tree.new.self.tree) (tree_after r pool.tree)) same c.finish_tree.ensures.pointers))
 
 pub returns-in-Ok-false-clause-leads : goal.returns-in-Ok-false-clause-leads
 returns-in-Ok-false-clause-leads g c = λ keeps past later.
     let pool = c.args.self.now in
     let r = c.in-Some.running in
-    let is = sym c.in-Some.ensures.value in
+    let is = c.in-Some.is in
     let size = (pool.running r is).0 in
     let told = c.in-Ok-false.ensures in
     let sized = g.met.D.SectorDevice.sized keeps c.args.device.now ∙ c.requires in
     let before = g.D.SectorDevice.disk c.args.device.now in
     let after = g.D.SectorDevice.disk c.next.new.device in
     let advances = advanced pool r c.next.new.self before after is told.sync sized size told.there told.done (told.called keeps) in
-    (made_by (pointers_after r.root r.directories.items r.maps pool.tree) c.next.new.self, record { before = made_by (pointers_after r.root r.directories.items r.maps pool.tree) r.run; running = was_running pool r is; group = r.group.0; syncing = was_syncing pool r is; advances = advances }, refl, refl)
+    (made_by (tree_after r pool.tree) c.next.new.self, record { before = made_by (tree_after r pool.tree) r.run; running = was_running pool r is; group = r.group.0; syncing = was_syncing pool r is; advances = advances }, refl, refl)
 
 pub returns-in-Err-clause-leads : goal.returns-in-Err-clause-leads
 returns-in-Err-clause-leads g c = λ keeps past later.
     let pool = c.args.self.now in
     let r = c.in-Some.running in
-    let is = sym c.in-Some.ensures.value in
+    let is = c.in-Some.is in
     let told = c.in-Err.ensures in
     let before = g.D.SectorDevice.disk c.args.device.now in
     let after = g.D.SectorDevice.disk c.next.new.device in
@@ -186,24 +194,24 @@ pub returns-in_err-check_running-clause-called : goal.returns-in_err-check_runni
 returns-in_err-check_running-clause-called g c = rw c.in_err-check_running.ensures.1 refl
 
 pub returns-in_default-clause-called : goal.returns-in_default-clause-called
-returns-in_default-clause-called g c = rw (c.in_ok-check_running.ensures, sym c.in_default.ensures.value) refl
+returns-in_default-clause-called g c = rw (c.in_ok-check_running.ensures, c.in_default.is) refl
 
-pub returns-in-Ok-true-clause-called : goal.returns-in-Ok-true-clause-called
-returns-in-Ok-true-clause-called g c =
+pub returns-in-Some-take-clause-called : goal.returns-in-Some-take-clause-called
+returns-in-Some-take-clause-called g c =
     let told = c.in-Ok-true.ensures in
-    rw (c.in_ok-check_running.ensures, sym c.in-Some.ensures.value)
+    rw (c.in_ok-check_running.ensures, c.in-Some.is)
     (record { call = told.there.0; next = told.there.1; refusal = tt; made = λ keeps. told.called keeps told.there.0 told.there.1 })
 
 pub returns-in-Ok-false-clause-called : goal.returns-in-Ok-false-clause-called
 returns-in-Ok-false-clause-called g c =
     let told = c.in-Ok-false.ensures in
-    rw (c.in_ok-check_running.ensures, sym c.in-Some.ensures.value)
+    rw (c.in_ok-check_running.ensures, c.in-Some.is)
     (record { call = told.there.0; next = told.there.1; refusal = tt; made = λ keeps. told.called keeps told.there.0 told.there.1 })
 
 pub returns-in-Err-clause-called : goal.returns-in-Err-clause-called
 returns-in-Err-clause-called g c =
     let told = c.in-Err.ensures in
-    rw (c.in_ok-check_running.ensures, sym c.in-Some.ensures.value)
+    rw (c.in_ok-check_running.ensures, c.in-Some.is)
     (record { call = told.there.0; next = told.there.1; refusal = told.refusal told.there.0 told.there.1; made = λ keeps. told.called keeps told.there.0 told.there.1 })
 
 pub returns-in_err-check_running-clause-count : goal.returns-in_err-check_running-clause-count

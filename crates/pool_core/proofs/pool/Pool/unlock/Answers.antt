@@ -2,24 +2,24 @@ use Rattle.std.proofs.Common.{◌∙◌, sym, refl}
 use Rattle.std.proofs.lemmas.Result.{err_from_is_err_and}
 use Rattle.pool_core.proofs.LockSteps.{unlock_suspended, unlock_none, unlock_used, unlock_done}
 use Rattle.pool_core.specs.HeldLocks.{grant_of}
-use Rattle.pool_core.specs.Shows.{shown_of_pool}
+use Rattle.pool_core.specs.Shows.{pool_shown}
 use Rattle.pool_core.proofs.pool.Pool.unlock.Goals as goal
 
 pub returns-in_err-check_running-clause-step : goal.returns-in_err-check_running-clause-step
 returns-in_err-check_running-clause-step c =
     let p = err_from_is_err_and c.from_residual.result c.from_residual.ensures.1 in
     let told = c.in_err-check_running.ensures in
-    rw (p.1, p.2, told.0) (unlock_suspended c.args.owner.0 c.args.id.0 (shown_of_pool c.args.self.now) told.1)
+    rw (p.1, p.2, told.0) (unlock_suspended c.args.owner.0 c.args.id.0 (pool_shown c.args.self.now) told.1)
 
 pub returns-in_default-clause-step : goal.returns-in_default-clause-step
 returns-in_default-clause-step c =
-    unlock_none c.args.owner.0 c.args.id.0 (shown_of_pool c.args.self.now) c.in_ok-check_running.ensures (sym c.in_default.ensures)
+    unlock_none c.args.owner.0 c.args.id.0 (pool_shown c.args.self.now) c.in_ok-check_running.ensures (sym c.in_default.ensures)
 
 pub returns-then-is_in_use-clause-step : goal.returns-then-is_in_use-clause-step
 returns-then-is_in_use-clause-step c =
-    unlock_used c.args.owner.0 c.args.id.0 (grant_of c.in-Some.held) (shown_of_pool c.args.self.now) c.in_ok-check_running.ensures (sym c.in-Some.ensures) (sym c.is_in_use.ensures ∙ c.if-is_in_use.true)
+    unlock_used c.args.owner.0 c.args.id.0 (grant_of c.in-Some.held) (pool_shown c.args.self.now) c.in_ok-check_running.ensures (sym c.in-Some.ensures) (sym c.is_in_use.ensures ∙ c.if-is_in_use.true)
 
 pub returns-clause-step : goal.returns-clause-step
 returns-clause-step c =
-    unlock_done c.args.owner.0 c.args.id.0 (grant_of c.in-Some.held) (shown_of_pool c.args.self.now) _ c.in_ok-check_running.ensures (sym c.in-Some.ensures) (sym c.is_in_use.ensures ∙ c.if-is_in_use.false)
+    unlock_done c.args.owner.0 c.args.id.0 (grant_of c.in-Some.held) (pool_shown c.args.self.now) _ c.in_ok-check_running.ensures (sym c.in-Some.ensures) (sym c.is_in_use.ensures ∙ c.if-is_in_use.false)
     (rw (c.unlock.ensures.locks, c.unlock.ensures.next) refl)

@@ -1,5 +1,5 @@
 use Rattle.std.proofs.Common.{refl}
-use Rattle.pool_core.specs.Shows.{shown_of_pool}
+use Rattle.pool_core.specs.Shows.{pool_shown}
 use Rattle.pool_core.specs.StepAnswers.{admitted_numbers}
 use Rattle.pool_core.specs.Tables.{result_map}
 use Rattle.pool_core.proofs.OfNoDevice.{begin_own, map_counts}
@@ -7,5 +7,5 @@ use Rattle.pool_core.proofs.state.PoolState.begin.Goals as goal
 
 pub returns-clause-unmoved : goal.returns-clause-unmoved
 returns-clause-unmoved g c =
-    let own = begin_own (shown_of_pool c.args.self.now.pool) (shown_of_pool c.begin.new.self) c.args.owner.0 c.args.plan (result_map admitted_numbers c.begin.result) c.begin.ensures.step in
+    let own = begin_own (pool_shown c.args.self.now.pool) (pool_shown c.begin.new.self) c.args.owner.0 c.args.plan (result_map admitted_numbers c.begin.result) c.begin.ensures.step in
     record { no_call = record { device = refl; own = map_counts admitted_numbers c.begin.result own }; kept = c.begin.ensures.kept }

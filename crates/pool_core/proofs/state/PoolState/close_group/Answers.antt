@@ -1,5 +1,5 @@
 use Rattle.std.proofs.Common.{refl}
-use Rattle.pool_core.specs.Shows.{shown_of_pool}
+use Rattle.pool_core.specs.Shows.{pool_shown}
 use Rattle.pool_core.specs.StepAnswers.{group_number}
 use Rattle.pool_core.specs.Tables.{result_map}
 use Rattle.pool_core.proofs.OfNoDevice.{close_own, map_counts}
@@ -7,5 +7,5 @@ use Rattle.pool_core.proofs.state.PoolState.close_group.Goals as goal
 
 pub returns-clause-unmoved : goal.returns-clause-unmoved
 returns-clause-unmoved g c =
-    let own = close_own (shown_of_pool c.args.self.now.pool) (shown_of_pool c.close_group.new.self) (result_map group_number c.close_group.result) c.close_group.ensures.step in
+    let own = close_own (pool_shown c.args.self.now.pool) (pool_shown c.close_group.new.self) (result_map group_number c.close_group.result) c.close_group.ensures.step in
     record { no_call = record { device = refl; own = map_counts group_number c.close_group.result own }; kept = c.close_group.ensures.kept }

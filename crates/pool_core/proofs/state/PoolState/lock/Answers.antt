@@ -1,6 +1,6 @@
 use Rattle.std.proofs.Common.{refl}
 use Rattle.base.specs.steps.Refusals.{object_range}
-use Rattle.pool_core.specs.Shows.{shown_of_pool}
+use Rattle.pool_core.specs.Shows.{pool_shown}
 use Rattle.pool_core.specs.StepAnswers.{lock_number}
 use Rattle.pool_core.specs.Tables.{result_map}
 use Rattle.pool_core.proofs.OfNoDevice.{lock_own, map_counts}
@@ -8,5 +8,5 @@ use Rattle.pool_core.proofs.state.PoolState.lock.Goals as goal
 
 pub returns-clause-unmoved : goal.returns-clause-unmoved
 returns-clause-unmoved g c =
-    let own = lock_own (shown_of_pool c.args.self.now.pool) (shown_of_pool c.lock.new.self) c.args.owner.0 (object_range c.args.object.0 c.args.range.low c.args.range.high) c.args.mode (result_map lock_number c.lock.result) c.lock.ensures.step in
+    let own = lock_own (pool_shown c.args.self.now.pool) (pool_shown c.lock.new.self) c.args.owner.0 (object_range c.args.object.0 c.args.range.low c.args.range.high) c.args.mode (result_map lock_number c.lock.result) c.lock.ensures.step in
     record { no_call = record { device = refl; own = map_counts lock_number c.lock.result own }; kept = c.lock.ensures.kept }

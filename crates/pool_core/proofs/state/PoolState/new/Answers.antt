@@ -2,12 +2,12 @@ use Rattle.std.proofs.Common.{◌∙◌, ℕ, List, ap, sym}
 use Rattle.std.proofs.Math.Logic.{∥∥₁_elim, ∥∥₁_map, ∥∥₁_prop}
 use Rattle.base.specs.disk.Disk.{bytes_of}
 use Rattle.base.specs.formats.Geometry.{block_count}
-use Rattle.pool_core.specs.Shows.{shown_of_pool}
+use Rattle.pool_core.specs.Shows.{pool_shown}
 use Rattle.pool_core.proofs.NewStates.{explained_as, held_as}
 use Rattle.pool_core.proofs.state.PoolState.new.Goals as goal
 
 pub returns-clause-explained : goal.returns-clause-explained
-returns-clause-explained g c = ∥∥₁_map c.args.imported.explained (explained_as c.args.imported.mounted (shown_of_pool c.new.result) c.new.ensures.shown)
+returns-clause-explained g c = ∥∥₁_map c.args.imported.explained (explained_as c.args.imported.mounted (pool_shown c.new.result) c.new.ensures.shown)
 
 pub returns-clause-held : goal.returns-clause-held
 returns-clause-held g c =

@@ -11,8 +11,8 @@ use Rattle.base.specs.steps.Runs.{progress_reply, receipt_reply}
 use Rattle.base.specs.steps.Stage as stage
 use Rattle.base.specs.steps.Steps as steps
 use Rattle.pool_core.specs.declared.state.Progress.{Progress}
-use Rattle.pool_core.specs.Holds.{sync_reply}
-use Rattle.pool_core.specs.Progresses.{progress_of}
+use Rattle.pool_core.specs.Holds.{sync_step_reply}
+use Rattle.pool_core.specs.Progresses.{plain_progress}
 use Rattle.pool_core.specs.States.{shown, told}
 use Rattle.pool_core.specs.StepAnswers.{admitted_numbers, group_number, lock_number, receipt_numbers}
 use Rattle.pool_core.proofs.StepsOver.{is_start, start_over}
@@ -66,15 +66,15 @@ returns-in-StartSync-clause-replied g c =
 
 pub returns-in-Ok-More-clause-replied : goal.returns-in-Ok-More-clause-replied
 returns-in-Ok-More-clause-replied g c =
-    rw c.in-SyncStep.is (replied steps.SyncStep progress_of progress_reply (Ok c.in-Ok-More.field-0) reply.More (shown c.args.self.now) (shown c.sync_step.new.self) c.in-Ok-More.ensures.step (sym (ap (λ (p : Progress). progress_reply (progress_of p)) c.in-Ok-More.field-0-is)))
+    rw c.in-SyncStep.is (replied steps.SyncStep plain_progress progress_reply (Ok c.in-Ok-More.field-0) reply.More (shown c.args.self.now) (shown c.sync_step.new.self) c.in-Ok-More.ensures.step (sym (ap (λ (p : Progress). progress_reply (plain_progress p)) c.in-Ok-More.field-0-is)))
 
 pub returns-in-Ok-Synced-clause-replied : goal.returns-in-Ok-Synced-clause-replied
 returns-in-Ok-Synced-clause-replied g c =
-    rw c.in-SyncStep.is (replied steps.SyncStep progress_of progress_reply (Ok c.in-Ok-Synced.field-0) (reply.Synced c.in-Ok-Synced.group) (shown c.args.self.now) (shown c.sync_step.new.self) c.in-Ok-Synced.ensures.step (sym (ap (λ (p : Progress). progress_reply (progress_of p)) c.in-Ok-Synced.field-0-is)))
+    rw c.in-SyncStep.is (replied steps.SyncStep plain_progress progress_reply (Ok c.in-Ok-Synced.field-0) (reply.Synced c.in-Ok-Synced.group) (shown c.args.self.now) (shown c.sync_step.new.self) c.in-Ok-Synced.ensures.step (sym (ap (λ (p : Progress). progress_reply (plain_progress p)) c.in-Ok-Synced.field-0-is)))
 
 pub returns-in-Err-sync_step-clause-replied : goal.returns-in-Err-sync_step-clause-replied
 returns-in-Err-sync_step-clause-replied g c =
-    rw c.in-SyncStep.is (replied steps.SyncStep progress_of progress_reply (Err c.in-Err-sync_step.error) (reply.Refused c.in-Err-sync_step.error) (shown c.args.self.now) (shown c.sync_step.new.self) c.in-Err-sync_step.ensures.step refl)
+    rw c.in-SyncStep.is (replied steps.SyncStep plain_progress progress_reply (Err c.in-Err-sync_step.error) (reply.Refused c.in-Err-sync_step.error) (shown c.args.self.now) (shown c.sync_step.new.self) c.in-Err-sync_step.ensures.step refl)
 
 pub returns-in-Lock-clause-leads : goal.returns-in-Lock-clause-leads
 returns-in-Lock-clause-leads g c = λ keeps.
@@ -118,11 +118,11 @@ returns-in-StartSync-clause-leads g c = λ keeps.
 
 pub returns-in-Ok-More-clause-leads : goal.returns-in-Ok-More-clause-leads
 returns-in-Ok-More-clause-leads g c = λ keeps.
-    leads_as (sync_reply (Ok c.in-Ok-More.field-0)) reply.More (told c.args.self.now) (told c.sync_step.new.self) (sym (sym (ap (λ (p : Progress). progress_reply (progress_of p)) c.in-Ok-More.field-0-is))) (c.in-Ok-More.ensures.leads keeps)
+    leads_as (sync_step_reply (Ok c.in-Ok-More.field-0)) reply.More (told c.args.self.now) (told c.sync_step.new.self) (sym (sym (ap (λ (p : Progress). progress_reply (plain_progress p)) c.in-Ok-More.field-0-is))) (c.in-Ok-More.ensures.leads keeps)
 
 pub returns-in-Ok-Synced-clause-leads : goal.returns-in-Ok-Synced-clause-leads
 returns-in-Ok-Synced-clause-leads g c = λ keeps.
-    leads_as (sync_reply (Ok c.in-Ok-Synced.field-0)) (reply.Synced c.in-Ok-Synced.group) (told c.args.self.now) (told c.sync_step.new.self) (sym (sym (ap (λ (p : Progress). progress_reply (progress_of p)) c.in-Ok-Synced.field-0-is))) (c.in-Ok-Synced.ensures.leads keeps)
+    leads_as (sync_step_reply (Ok c.in-Ok-Synced.field-0)) (reply.Synced c.in-Ok-Synced.group) (told c.args.self.now) (told c.sync_step.new.self) (sym (sym (ap (λ (p : Progress). progress_reply (plain_progress p)) c.in-Ok-Synced.field-0-is))) (c.in-Ok-Synced.ensures.leads keeps)
 
 pub returns-in-Err-sync_step-clause-leads : goal.returns-in-Err-sync_step-clause-leads
 returns-in-Err-sync_step-clause-leads g c = c.in-Err-sync_step.ensures.leads
