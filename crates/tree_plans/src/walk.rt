@@ -1,4 +1,15 @@
-//! The walk of a sync over a tree: objects, directories, the root.
+//! The walk of a sync over a tree: which blocks it writes, and in which order.
+//!
+//! Live blocks are never overwritten (On-Disk Specification, chapter 2), so a block that changes moves, and what points to
+//! it changes too: a record changes its indirect block, that its directory, and that the root. A pointer has the check of
+//! its block, so the walk goes from the records up:
+//!
+//! 1. each object that changes, rising: its dirty records, rising, and behind them its indirect block;
+//! 2. each directory with an object that changes, rising;
+//! 3. the root, where an object changes.
+//!
+//! Each block takes the lowest free place behind the one before it. No flag of the free set changes here, so a plan that is
+//! refused has changed nothing.
 
 ghost use Rattle.std.specs.Prelude.{◌≡◌, ◌<◌, [], List, Some, false, length, vec_len, IfOk, IfErr, OnOk};
 ghost use Rattle.base.specs.declared.error.PoolError.TheVariants as error;
