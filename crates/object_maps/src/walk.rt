@@ -1,4 +1,8 @@
-//! The load of a tree from its device, in the order of its walk.
+//! The load of a tree from its device, in the order of its walk (On-Disk Specification, chapter 2): the root, then each
+//! directory, rising, and for each of its entries, rising, the indirect block and behind it the records, rising.
+//!
+//! A block is taken only if it is the one that its pointer names, and what it holds is tested before anything below it is
+//! read. So the block that a load is refused for is the first fault of the walk.
 
 ghost use Rattle.std.specs.Prelude.{◌≡◌, ◌≢◌, ℕ, ◌+◌, ◌*◌, ◌<◌, ◌≤◌, ◌↔◌, List, IfOk, IfErr, OnOk, IfSome, IsTrue, Some, true, drop, get_or, length, replicate, vec_len};
 ghost use Rattle.std.specs.FinMap as finite;

@@ -1,5 +1,5 @@
 -- What each part of a walk has done, from the plan before it (old) to the plan after it (new).
-use Rattle.std.specs.Prelude.{ℕ, ◌≡◌, ◌<◌, ◌==◌, ◌++◌, ◌∷◌, [], Bool, false, List, map, slice_index_or, Some, None}
+use Rattle.std.specs.Prelude.{ℕ, ◌≡◌, ◌<◌, ◌==◌, ◌++◌, ◌∷◌, [], Bool, false, List, map, slice_index_or, Some, None, vec_len}
 use Rattle.std.specs.BTreeMap.{BTreeMap}
 use Rattle.std.specs.Ordering.{nat_cmp}
 use Rattle.std.specs.FinMap.{FinMap}
@@ -135,9 +135,15 @@ pub record PlansRoot (source : PlanSource) (objects : BTreeMap ObjectId DirtyRec
   pub uses : UsesOnly (blocks_of old) (blocks_of new) root.address
   pub adds : Adds (blocks_of old) (blocks_of new) (address_if (is_any_touched objects.entries) root)
 
+-- a plan that has nothing yet
+pub record HasNothing (planner : Planner) : Type 0 where
+  pub freed : planner.freed.items ≡ []
+  pub planned : planner.blocks.items ≡ []
+
 -- the whole walk, from a plan that has nothing yet
 pub record PlansTree (source : PlanSource) (objects : BTreeMap ObjectId DirtyRecords) (old new : Planner) (tree : NewTree) : Type 0 where
   pub goes : GoesOn source.free.now old new
+  pub count : vec_len tree.directories ≡ pointer_count
   pub walked : IsWalked (progress_of new) source.tree.now (objects_after source) objects.entries tree.maps.entries tree.directories.items tree.root
   pub used : AreUsed (blocks_of new) (pointers_from tree.root tree.directories.items (planned_map (maps_before source) tree.maps.entries))
   pub order : AreInRange objects.entries → AreInOrder (addresses_of (blocks_of new)) (pointers_from tree.root tree.directories.items (planned_map (maps_before source) tree.maps.entries)) objects.entries

@@ -1,4 +1,5 @@
-//! The objects that a group's operations change, with their dirty records.
+//! The objects that a group's operations change, with their dirty records: those of which an operation writes a byte. A
+//! dirty record is written whole.
 
 ghost use Rattle.std.specs.Prelude.{◌≡◌, ◌<◌, ◌∷◌, [], ℕ, false, slice_index_or, IfErr, IfOk, OnOk};
 ghost use Rattle.base.specs.declared.error.PoolError.TheVariants as error;

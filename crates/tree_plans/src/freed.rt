@@ -1,4 +1,4 @@
-//! The blocks that come back.
+//! The blocks that come back: those that a plan replaces.
 
 ghost use Rattle.std.specs.Prelude.{◌≡◌, ◌<◌, vec_len, vec_capacity};
 ghost use Rattle.base.specs.formats.Fields.{no_pointer};
@@ -6,7 +6,7 @@ ghost use Rattle.tree_plans.specs.Plans.{FreesOnly, IsAmong, Keeps};
 
 use base::Pointer;
 
-/// The block that a pointer names comes back, if it names one. The room for its address is there. The room is there.
+/// The block that a pointer names comes back, if it names one. The room for its address is there.
 pub fn give_back(freed: &mut Vec<u64>, replaced: &Pointer)
     requires { vec_len freed.old < vec_capacity freed.old }
     ensures kept { Keeps freed.old.items freed.new.items }

@@ -1,4 +1,15 @@
-//! The walk of a sync over a tree: objects, directories, the root.
+//! The walk of a sync over a tree: which blocks it writes, and in which order.
+//!
+//! Live blocks are never overwritten (On-Disk Specification, chapter 2), so a block that changes moves, and what points to
+//! it changes too: a record changes its indirect block, that its directory, and that the root. A pointer has the check of
+//! its block, so the walk goes from the records up:
+//!
+//! 1. each object that changes, rising: its dirty records, rising, and behind them its indirect block;
+//! 2. each directory with an object that changes, rising;
+//! 3. the root, where an object changes.
+//!
+//! Each block takes the lowest free place behind the one before it. No flag of the free set changes here, so a plan that is
+//! refused has changed nothing.
 
 ghost use Rattle.std.specs.Prelude.{◌≡◌, ◌<◌, [], List, Some, false, length, vec_len, IfOk, IfErr, OnOk};
 ghost use Rattle.base.specs.declared.error.PoolError.TheVariants as error;
@@ -6,7 +17,7 @@ ghost use Rattle.base.specs.declared.names.ObjectId.{ObjectId};
 ghost use Rattle.base.specs.formats.Geometry.{block_count};
 ghost use Rattle.tree_plans.specs.Changes.{AreInRange, is_marked};
 ghost use Rattle.tree_plans.specs.declared.planner.DirtyRecords.{DirtyRecords};
-ghost use Rattle.tree_plans.specs.Parts.{GoesOver, PlansDirectories, PlansDirectory, PlansObjects, PlansRoot, PlansTree, TellsLack};
+ghost use Rattle.tree_plans.specs.Parts.{GoesOver, HasNothing, PlansDirectories, PlansDirectory, PlansObjects, PlansRoot, PlansTree, TellsLack};
 ghost use Rattle.tree_plans.specs.Plans.{IsWant};
 ghost use Rattle.tree_plans.specs.Pointers.{entry_of};
 ghost use Rattle.tree_plans.specs.Room.{changed_blocks, count_if, directory_blocks, object_blocks, root_blocks, tree_blocks};
@@ -108,10 +119,8 @@ fn place_tree(
 ) -> Result<NewTree, PoolError>
     requires geometry { planner.old.geometry ≡ source.now.geometry }
     requires free { vec_len source.now.free.now.flags ≡ block_count source.now.geometry }
-    requires none_freed { planner.old.freed.items ≡ [] }
-    requires none_planned { planner.old.blocks.items ≡ [] }
+    requires begun { HasNothing planner.old }
     ensures geometry { planner.new.geometry ≡ planner.old.geometry }
-    ensures count { IfOk result (λ tree. vec_len tree.directories ≡ 84) }
     ensures planned { IfOk result
         (PlansTree source.now objects.now planner.old planner.new) }
     ensures full { IfErr result (λ e. AreInRange objects.now.entries

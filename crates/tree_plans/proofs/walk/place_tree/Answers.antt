@@ -18,14 +18,15 @@ returns-clause-planned c =
     let first = c.in_ok-maps.ensures.planned in
     let then = c.in_ok-directories.ensures.planned in
     let last = c.in_ok-root.ensures.planned in
-    let begun = ap (map new_block) c.requires.none_planned in
+    let begun = ap (map new_block) c.requires.begun.planned in
     record {
       goes = goes_twice first.goes (goes_twice then.goes last.goes);
+      count = c.in_ok-directories.ensures.count;
       walked = record {
         objects_planned = objects_stay tree.maps.items after objects objects planned (goes_twice then.goes last.goes) first.planned;
         directories_planned = directories_stay tree.maps.items planned after objects tree.directories.items 84 directories last.goes then.planned;
         root_planned = rw (← c.deref.ensures.value) last.planned;
-        frees = walk_frees _ _ _ _ tree.maps.items objects planned tree.directories.items tree.root c.requires.none_freed first.frees then.frees last.frees;
+        frees = walk_frees _ _ _ _ tree.maps.items objects planned tree.directories.items tree.root c.requires.begun.freed first.frees then.frees last.frees;
       };
       used = tree_used _ _ _ _ tree.maps.items planned directories _ begun first.uses then.uses last.uses;
       order = λ within. tree_in_order tree.maps.items planned directories _ objects _ _ _ _ begun within (first.adds within) then.adds last.adds;
