@@ -179,7 +179,8 @@ fn parse_mode(word: &str) -> Result<Mode, LineError>
 }
 
 fn parse_create(alloc: Global, name: &str, guid: &str) -> Result<Command, LineError>
-    ensures command { IfOk result (λ command. command ≡ Command.Create name.now (spelled_number guid.now)) }
+    ensures command { IfOk result (λ command.
+        command ≡ Command.Create name.now (spelled_number guid.now)) }
     ensures ok { IsOk result → (0 < length name.now) × IsNumberBelow (2 ^ 64) guid.now }
     ensures refused { IfErr result (λ e. 0 < length name.now → IsNumberBelow (2 ^ 64) guid.now
         → e ≡ LineError.NoMemory) }
@@ -275,8 +276,8 @@ fn make_copies(alloc: Global, count: &str, byte: u8) -> Result<Bytes, LineError>
     ensures number { IsOk result → IsNumberBelow 338689 count.now × (0 < spelled_number count.now) }
     ensures copies { IfOk result (λ bytes. bytes ≡ replicate (spelled_number count.now) byte) }
     ensures limits { IfOk result (λ bytes. (0 < length bytes) × (length bytes ≤ 338688)) }
-    ensures refused { IfErr result (λ e. IsNumberBelow 338689 count.now → 0 < spelled_number count.now
-        → e ≡ LineError.NoMemory) }
+    ensures refused { IfErr result (λ e. IsNumberBelow 338689 count.now
+        → 0 < spelled_number count.now → e ≡ LineError.NoMemory) }
 {
     let count = wide(count)?;
     if count == 0 || count > MAX_COPIES {
