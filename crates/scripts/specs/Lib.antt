@@ -9,3 +9,4 @@ pub mod Places
 pub mod PoolSteps
 pub mod Pools
 pub mod Sessions
+pub mod Words

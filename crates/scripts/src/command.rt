@@ -5,9 +5,10 @@
 ghost use Rattle.std.specs.Prelude.{◌≡◌, ◌↔◌, ◌^◌, ◌<◌, ◌≤◌, IsOk, IfOk, IfErr, map, Some, vec_len, length, replicate, slice_index, ◌≢◌, All, IsSome};
 ghost use Rattle.std.specs.Result.{OkIff, result_ok};
 ghost use Rattle.scripts.specs.Numbers.{IsNumberBelow, spelled_number};
-ghost use Rattle.scripts.specs.Commands.{IsBeginOf, IsCommitOf, IsCrashOf};
+ghost use Rattle.scripts.specs.Commands.{IsBeginOf, IsCommitOf, IsCrashOf, IsLineForm, IsPoolForm, IsStepForm, ReadsLine, ReadsPool, ReadsStep, ReadsWords};
 ghost use Rattle.scripts.specs.Copies.{AreContentsOf, AreCopies, IsContentOf};
 ghost use Rattle.scripts.specs.Letters.{mode_of, piece_of};
+ghost use Rattle.scripts.specs.Words.{ArePartsOf};
 
 use crate::number::{parse_u32, parse_u64};
 use base::{Bytes, LockId, Mode, ObjectId, Owner, Piece, Plan, Range, Shape, Step, TxId};
@@ -80,9 +81,24 @@ impl<T: Drop> From<AllocFailed<T>> for LineError {
 ///
 /// # Errors
 /// `BadCommand` where it has no command's form, or a number in it is too wide for its type; `NoMemory`.
-pub fn parse_command(alloc: Global, line: &str) -> Result<Command, LineError> {
-    let words: Vec<&str> = line.split(' ').collect(alloc)?;
-    match words.as_slice() {
+pub fn parse_command(alloc: Global, line: &str) -> Result<Command, LineError>
+    ensures { ReadsLine line.now result }
+{
+    let words = split_words(alloc, line)?;
+    parse_words(alloc, words.as_slice())
+}
+
+fn split_words(alloc: Global, line: &str) -> Result<Vec<&str>, AllocError>
+    ensures { IfOk result (λ words. ArePartsOf 32 line.now words.items) }
+{
+    line.split(' ').collect(alloc)
+}
+
+fn parse_words(alloc: Global, words: &[&str]) -> Result<Command, LineError>
+    ensures command { ReadsWords words.now result }
+    ensures form { IsOk result → IsLineForm words.now }
+{
+    match words {
         ["create", name, guid] => parse_create(alloc, name, guid),
         ["import", dirty_max] => Ok(Command::Import {
             dirty_max: wide(dirty_max)?,
@@ -93,7 +109,10 @@ pub fn parse_command(alloc: Global, line: &str) -> Result<Command, LineError> {
     }
 }
 
-fn parse_pool_command(alloc: Global, words: &[&str]) -> Result<PoolCommand, LineError> {
+fn parse_pool_command(alloc: Global, words: &[&str]) -> Result<PoolCommand, LineError>
+    ensures asked { ReadsPool (λ asked. asked) words.now result }
+    ensures form { IsOk result → IsPoolForm words.now }
+{
     match words {
         ["commit", tx, contents @ ..] => parse_commit(alloc, tx, contents),
         ["start"] => Ok(PoolCommand::Start),
@@ -103,7 +122,10 @@ fn parse_pool_command(alloc: Global, words: &[&str]) -> Result<PoolCommand, Line
     }
 }
 
-fn parse_step(alloc: Global, words: &[&str]) -> Result<Step, LineError> {
+fn parse_step(alloc: Global, words: &[&str]) -> Result<Step, LineError>
+    ensures step { ReadsStep (λ s. s) words.now result }
+    ensures form { IsOk result → IsStepForm words.now }
+{
     match words {
         ["lock", owner, object, mode, low, high] => Ok(Step::Lock(
             parse_owner(owner)?,
