@@ -1,5 +1,5 @@
 -- What a line's words ask for.
-use Rattle.std.specs.Prelude.{◌≡◌, ◌<◌, ◌^◌, ◌-◌, ◌⊎◌, ℕ, List, [], Some, Result, Ok, Err, IfOk, IsOk, IsSome, codes, drop, length, map, unwrap_or, vec_len}
+use Rattle.std.specs.Prelude.{◌≡◌, ◌<◌, ◌^◌, ◌⊎◌, ℕ, List, [], Some, Result, Ok, Err, IfOk, IsOk, IsSome, codes, drop, length, map, unwrap_or, vec_len}
 use Rattle.std.specs.Result.{OkIff}
 use Rattle.std.specs.Borrow.{Bor}
 use Rattle.base.specs.declared.range.Mode.TheVariants.{Reader}
@@ -14,6 +14,7 @@ use Rattle.scripts.specs.declared.command.PoolCommand.TheVariants as pool
 use Rattle.scripts.specs.Copies.{AreContentsOf}
 use Rattle.scripts.specs.Letters.{mode_of, piece_of}
 use Rattle.scripts.specs.Numbers.{IsNumberBelow, spelled_number}
+use Rattle.scripts.specs.Shapes.{AreShapesOf}
 use Rattle.scripts.specs.Words.{ArePartsOf, BeginsWith, HasForm, Words, word}
 
 -- a crash with one piece for each letter
@@ -21,10 +22,10 @@ abbrev pub IsCrashOf : List ℕ → Command → Type 0
 IsCrashOf letters (Crash pieces) = map Some pieces.items ≡ map piece_of letters
 IsCrashOf letters _ = ⊥
 
--- a begin of this owner with so many shapes
-abbrev pub IsBeginOf : List ℕ → ℕ → Step → Type 0
-IsBeginOf owner count (step.Begin o plan) = (o.0 ≡ spelled_number owner) × (length plan ≡ count)
-IsBeginOf owner count _ = ⊥
+-- a begin of this owner with a shape for each of these words
+abbrev pub IsBeginOf : List ℕ → Words → Step → Type 0
+IsBeginOf owner words (step.Begin o plan) = (o.0 ≡ spelled_number owner) × (length plan ≡ length words) × AreShapesOf words plan
+IsBeginOf owner words _ = ⊥
 
 -- a commit of this transaction with the bytes of these words
 abbrev pub IsCommitOf : List ℕ → List (Bor (List ℕ)) → PoolCommand → Type 0
@@ -63,7 +64,7 @@ module _ {A : Type 0} (of : Step → A) (words : Words) (r : Result A LineError)
 
   -- a `begin` line: an owner, and a shape for each further word
   abbrev pub ReadsBegin : Type 0
-  ReadsBegin = BeginsWith words (codes "begin") 2 → IfOk r (λ a. (s : Step) × (a ≡ of s) × IsBeginOf (word words 1) (length words - 2) s)
+  ReadsBegin = BeginsWith words (codes "begin") 2 → IfOk r (λ a. (s : Step) × (a ≡ of s) × IsBeginOf (word words 1) (drop 2 words) s)
 
   -- a `read` line: owner, object, low and high
   abbrev pub ReadsRead : Type 0

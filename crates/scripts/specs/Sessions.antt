@@ -9,7 +9,7 @@ use Rattle.scripts.specs.declared.command.Command.TheVariants as command
 use Rattle.scripts.specs.declared.command.PoolCommand.{PoolCommand}
 use Rattle.scripts.specs.declared.session.BadCommand.{BadCommand}
 use Rattle.scripts.specs.declared.session.Place.{Place}
-use Rattle.scripts.specs.declared.session.Place.TheVariants.{Nothing, Device, Pool}
+use Rattle.scripts.specs.declared.session.Place.TheVariants.{Nothing, Pool}
 use Rattle.scripts.specs.declared.session.Session.{Session}
 use Rattle.scripts.specs.Commands.{ReadsLine}
 use Rattle.scripts.specs.Devices.{Creates, Imports}

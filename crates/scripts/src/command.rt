@@ -8,6 +8,7 @@ ghost use Rattle.scripts.specs.Numbers.{IsNumberBelow, spelled_number};
 ghost use Rattle.scripts.specs.Commands.{IsBeginOf, IsCommitOf, IsCrashOf, IsLineForm, IsPoolForm, IsStepForm, ReadsLine, ReadsPool, ReadsStep, ReadsWords};
 ghost use Rattle.scripts.specs.Copies.{AreContentsOf, AreCopies, IsContentOf};
 ghost use Rattle.scripts.specs.Letters.{mode_of, piece_of};
+ghost use Rattle.scripts.specs.Shapes.{AreShapesOf, IsShapeForm, IsShapeOf, ReadsShape};
 ghost use Rattle.scripts.specs.Words.{ArePartsOf};
 
 use crate::number::{parse_u32, parse_u64};
@@ -217,7 +218,7 @@ fn parse_create(alloc: Global, name: &str, guid: &str) -> Result<Command, LineEr
 }
 
 fn parse_begin(alloc: Global, owner: &str, words: &[&str]) -> Result<Step, LineError>
-    ensures begin { IfOk result (λ step. IsBeginOf owner.now (length words.now) step) }
+    ensures begin { IfOk result (λ step. IsBeginOf owner.now words.now step) }
     ensures owner { IsOk result → IsNumberBelow (2 ^ 32) owner.now }
 {
     let owner = parse_owner(owner)?;
@@ -225,7 +226,8 @@ fn parse_begin(alloc: Global, owner: &str, words: &[&str]) -> Result<Step, LineE
 }
 
 fn parse_shapes(alloc: Global, words: &[&str]) -> Result<Vec<Shape>, LineError>
-    ensures { IfOk result (λ shapes. vec_len shapes ≡ length words.now) }
+    ensures count { IfOk result (λ shapes. vec_len shapes ≡ length words.now) }
+    ensures each { IfOk result (λ shapes. AreShapesOf words.now shapes.items) }
 {
     let mut shapes = Vec::new(alloc);
     for word in words {
@@ -234,9 +236,24 @@ fn parse_shapes(alloc: Global, words: &[&str]) -> Result<Vec<Shape>, LineError>
     Ok(shapes)
 }
 
-fn parse_shape(alloc: Global, word: &str) -> Result<Shape, LineError> {
-    let parts: Vec<&str> = word.split(':').collect(alloc)?;
-    match parts.as_slice() {
+fn parse_shape(alloc: Global, word: &str) -> Result<Shape, LineError>
+    ensures { IfOk result (IsShapeOf word.now) }
+{
+    let parts = split_parts(alloc, word)?;
+    parse_parts(parts.as_slice())
+}
+
+fn split_parts(alloc: Global, word: &str) -> Result<Vec<&str>, AllocError>
+    ensures { IfOk result (λ parts. ArePartsOf 58 word.now parts.items) }
+{
+    word.split(':').collect(alloc)
+}
+
+fn parse_parts(parts: &[&str]) -> Result<Shape, LineError>
+    ensures shape { ReadsShape parts.now result }
+    ensures form { IsOk result → IsShapeForm parts.now }
+{
+    match parts {
         ["c", object] => Ok(Shape::Create(parse_object(object)?)),
         ["w", object, offset, length] => Ok(Shape::Write(
             parse_object(object)?,
