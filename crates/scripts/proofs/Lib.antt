@@ -1,2 +1,3 @@
 pub mod Copies
 mod PoolSteps
+mod Zips

@@ -1,27 +1,106 @@
 -- What a line's words ask for.
-use Rattle.std.specs.Prelude.{◌≡◌, ℕ, List, Some, length, map, vec_len}
+use Rattle.std.specs.Prelude.{◌≡◌, ◌<◌, ◌^◌, ◌⊎◌, ℕ, List, [], Some, Result, Ok, Err, IfOk, IsOk, IsSome, codes, drop, length, map, unwrap_or, vec_len}
+use Rattle.std.specs.Result.{OkIff}
 use Rattle.std.specs.Borrow.{Bor}
+use Rattle.base.specs.declared.range.Mode.TheVariants.{Reader}
 use Rattle.base.specs.declared.step.Step.{Step}
 use Rattle.base.specs.declared.step.Step.TheVariants as step
 use Rattle.scripts.specs.declared.command.Command.{Command}
-use Rattle.scripts.specs.declared.command.Command.TheVariants.{Crash}
+use Rattle.scripts.specs.declared.command.Command.TheVariants.{Create, Import, Crash, Pool}
+use Rattle.scripts.specs.declared.command.LineError.{LineError}
+use Rattle.scripts.specs.declared.command.LineError.TheVariants.{NoMemory}
 use Rattle.scripts.specs.declared.command.PoolCommand.{PoolCommand}
-use Rattle.scripts.specs.declared.command.PoolCommand.TheVariants.{Commit}
+use Rattle.scripts.specs.declared.command.PoolCommand.TheVariants as pool
 use Rattle.scripts.specs.Copies.{AreContentsOf}
-use Rattle.scripts.specs.Letters.{piece_of}
-use Rattle.scripts.specs.Numbers.{spelled_number}
+use Rattle.scripts.specs.Letters.{mode_of, piece_of}
+use Rattle.scripts.specs.Numbers.{IsNumberBelow, spelled_number}
+use Rattle.scripts.specs.Shapes.{AreShapesOf}
+use Rattle.scripts.specs.Words.{ArePartsOf, BeginsWith, HasForm, Words, word}
 
 -- a crash with one piece for each letter
 abbrev pub IsCrashOf : List ℕ → Command → Type 0
 IsCrashOf letters (Crash pieces) = map Some pieces.items ≡ map piece_of letters
 IsCrashOf letters _ = ⊥
 
--- a begin of this owner with so many shapes
-abbrev pub IsBeginOf : List ℕ → ℕ → Step → Type 0
-IsBeginOf owner count (step.Begin o plan) = (o.0 ≡ spelled_number owner) × (length plan ≡ count)
-IsBeginOf owner count _ = ⊥
+-- a begin of this owner with a shape for each of these words
+abbrev pub IsBeginOf : List ℕ → Words → Step → Type 0
+IsBeginOf owner words (step.Begin o plan) = (o.0 ≡ spelled_number owner) × (length plan ≡ length words) × AreShapesOf words plan
+IsBeginOf owner words _ = ⊥
 
 -- a commit of this transaction with the bytes of these words
 abbrev pub IsCommitOf : List ℕ → List (Bor (List ℕ)) → PoolCommand → Type 0
-IsCommitOf tx words (Commit t contents) = (t.0 ≡ spelled_number tx) × (vec_len contents ≡ length words) × AreContentsOf words contents.items
+IsCommitOf tx words (pool.Commit t contents) = (t.0 ≡ spelled_number tx) × (vec_len contents ≡ length words) × AreContentsOf words contents.items
 IsCommitOf tx words _ = ⊥
+
+-- the lines that are a step
+abbrev pub IsStepForm : Words → Type 0
+IsStepForm words = HasForm words (codes "lock") 6 ⊎ (HasForm words (codes "unlock") 3 ⊎ (BeginsWith words (codes "begin") 2
+    ⊎ (HasForm words (codes "read") 5 ⊎ (HasForm words (codes "close") 1 ⊎ (HasForm words (codes "quiesce") 1 ⊎ HasForm words (codes "step") 1)))))
+
+-- the lines that ask a pool for something
+abbrev pub IsPoolForm : Words → Type 0
+IsPoolForm words = BeginsWith words (codes "commit") 2 ⊎ (HasForm words (codes "start") 1 ⊎ (HasForm words (codes "finish") 1
+    ⊎ (HasForm words (codes "sync") 1 ⊎ IsStepForm words)))
+
+-- the lines that are a command
+abbrev pub IsLineForm : Words → Type 0
+IsLineForm words = HasForm words (codes "create") 3 ⊎ (HasForm words (codes "import") 2 ⊎ (HasForm words (codes "crash") 1
+    ⊎ (HasForm words (codes "crash") 2 ⊎ IsPoolForm words)))
+
+module _ {A : Type 0} (of : Step → A) (words : Words) (r : Result A LineError) where
+  -- a `lock` line: owner, object, r or w, low and high
+  abbrev pub ReadsLock : Type 0
+  ReadsLock = HasForm words (codes "lock") 6 → OkIff r
+      (IsNumberBelow (2 ^ 32) (word words 1) × IsNumberBelow (2 ^ 32) (word words 2) × IsSome (mode_of (word words 3))
+      × IsNumberBelow (2 ^ 64) (word words 4) × IsNumberBelow (2 ^ 64) (word words 5))
+      (of (step.Lock (record { 0 = spelled_number (word words 1) }) (record { 0 = spelled_number (word words 2) })
+      (record { low = spelled_number (word words 4); high = spelled_number (word words 5) }) (unwrap_or (mode_of (word words 3)) Reader)))
+
+  -- an `unlock` line: owner and lock
+  abbrev pub ReadsUnlock : Type 0
+  ReadsUnlock = HasForm words (codes "unlock") 3 → OkIff r
+      (IsNumberBelow (2 ^ 32) (word words 1) × IsNumberBelow (2 ^ 64) (word words 2))
+      (of (step.Unlock (record { 0 = spelled_number (word words 1) }) (record { 0 = spelled_number (word words 2) })))
+
+  -- a `begin` line: an owner, and a shape for each further word
+  abbrev pub ReadsBegin : Type 0
+  ReadsBegin = BeginsWith words (codes "begin") 2 → IfOk r (λ a. (s : Step) × (a ≡ of s) × IsBeginOf (word words 1) (drop 2 words) s)
+
+  -- a `read` line: owner, object, low and high
+  abbrev pub ReadsRead : Type 0
+  ReadsRead = HasForm words (codes "read") 5 → OkIff r
+      (IsNumberBelow (2 ^ 32) (word words 1) × IsNumberBelow (2 ^ 32) (word words 2)
+      × IsNumberBelow (2 ^ 64) (word words 3) × IsNumberBelow (2 ^ 64) (word words 4))
+      (of (step.Read (record { 0 = spelled_number (word words 1) }) (record { 0 = spelled_number (word words 2) })
+      (record { low = spelled_number (word words 3); high = spelled_number (word words 4) })))
+
+-- what the words of a step are read as
+pub record ReadsStep {A : Type 0} (of : Step → A) (words : Words) (r : Result A LineError) : Type 0 where
+  pub lock : ReadsLock of words r
+  pub unlock : ReadsUnlock of words r
+  pub begin : ReadsBegin of words r
+  pub read : ReadsRead of words r
+  pub close : HasForm words (codes "close") 1 → r ≡ Ok (of step.CloseGroup)
+  pub quiesce : HasForm words (codes "quiesce") 1 → r ≡ Ok (of step.MarkQuiesced)
+  pub sync_step : HasForm words (codes "step") 1 → r ≡ Ok (of step.SyncStep)
+
+-- what the words of a commit and a sync are read as
+pub record ReadsPool {A : Type 0} (of : PoolCommand → A) (words : Words) (r : Result A LineError) : Type 0 where
+  pub commit : BeginsWith words (codes "commit") 2 → IfOk r (λ a. (asked : PoolCommand) × (a ≡ of asked) × IsCommitOf (word words 1) (drop 2 words) asked)
+  pub start : HasForm words (codes "start") 1 → r ≡ Ok (of pool.Start)
+  pub finish : HasForm words (codes "finish") 1 → r ≡ Ok (of pool.Finish)
+  pub sync : HasForm words (codes "sync") 1 → r ≡ Ok (of pool.Sync)
+  pub step : ReadsStep (λ s. of (pool.Step s)) words r
+
+-- what the words of a line are read as
+pub record ReadsWords (words : Words) (r : Result Command LineError) : Type 0 where
+  pub create : HasForm words (codes "create") 3 → IfOk r (λ asked. (asked ≡ Create (word words 1) (spelled_number (word words 2)))
+      × (0 < length (word words 1)) × IsNumberBelow (2 ^ 64) (word words 2))
+  pub import : HasForm words (codes "import") 2 → OkIff r (IsNumberBelow (2 ^ 64) (word words 1)) (Import (spelled_number (word words 1)))
+  pub crash : HasForm words (codes "crash") 1 → IfOk r (IsCrashOf [])
+  pub crash_of : HasForm words (codes "crash") 2 → IfOk r (IsCrashOf (word words 1))
+  pub pool : ReadsPool Pool words r
+
+-- a line is read by its words between single spaces (32), or there is no memory for them
+abbrev pub ReadsLine : List ℕ → Result Command LineError → Type 0
+ReadsLine line r = (r ≡ Err NoMemory) ⊎ ((words : Words) × ArePartsOf 32 line words × ReadsWords words r × (IsOk r → IsLineForm words))

@@ -1,5 +1,5 @@
 -- What a create and an import make of the device, and what a refused one leaves of it.
-use Rattle.std.specs.Prelude.{ℕ, ◌≡◌, ◌⊎◌, ◌+◌, ◌/◌, false, List, Result, Ok, Err, IfSome, unwrap_or}
+use Rattle.std.specs.Prelude.{ℕ, ◌≡◌, ◌⊎◌, ◌+◌, ◌/◌, false, List, unwrap_or}
 use Rattle.base.specs.declared.error.PoolError.{PoolError}
 use Rattle.base.specs.declared.error.PoolError.TheVariants.{BadGeometry, BadRange}
 use Rattle.base.specs.declared.step.Reply.TheVariants.{Done, Refused}
@@ -61,7 +61,7 @@ IfPool (Device device) P = ⊥
 IfPool (Pool pool) P = P pool
 
 -- the import of a device with this limit and moment left this device and mounted this
-pub record IsMountedFrom (dirty_max moment : ℕ) (old device : MemState) (mounted : Mounted) : Type 0 where
+pub record IsImportRun (dirty_max moment : ℕ) (old device : MemState) (mounted : Mounted) : Type 0 where
   pub limit : mounted.dirty_max ≡ dirty_max
   pub synced : IsImportSynced old.disk device.disk moment mounted
 
@@ -69,7 +69,7 @@ pub record IsMountedFrom (dirty_max moment : ℕ) (old device : MemState) (mount
 pub record IsImportOn (dirty_max moment : ℕ) (old : MemState) (told : Answer) (new : Place) : Type 0 where
   pub device : MemState
   pub mounted : Mounted
-  pub imported : IsMountedFrom dirty_max moment old device mounted
+  pub imported : IsImportRun dirty_max moment old device mounted
   pub told_is : told ≡ imported_answer mounted
   pub pool : IfPool new (IsImportedPool device mounted)
 

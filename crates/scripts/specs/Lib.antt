@@ -9,3 +9,5 @@ pub mod Places
 pub mod PoolSteps
 pub mod Pools
 pub mod Sessions
+pub mod Shapes
+pub mod Words

@@ -1,5 +1,7 @@
--- What a command needs of a session, does in it and leaves of it.
-use Rattle.std.specs.Prelude.{ℕ, ◌≡◌, Bool, true, false, Result, Ok, Err, IfSome, IsTrue}
+-- What a command needs of a session, does in it and leaves of it, and so a line.
+use Rattle.std.specs.Prelude.{ℕ, ◌≡◌, ◌⊎◌, Bool, true, false, List, Result, Ok, Err, IfSome, IsTrue}
+use Rattle.base.specs.declared.error.PoolError.TheVariants.{NoMemory}
+use Rattle.base.specs.declared.step.Reply.TheVariants.{Refused}
 use Rattle.scripts.specs.declared.answer.Answer.{Answer}
 use Rattle.scripts.specs.declared.answer.Answer.TheVariants as answer
 use Rattle.scripts.specs.declared.command.Command.{Command}
@@ -7,8 +9,9 @@ use Rattle.scripts.specs.declared.command.Command.TheVariants as command
 use Rattle.scripts.specs.declared.command.PoolCommand.{PoolCommand}
 use Rattle.scripts.specs.declared.session.BadCommand.{BadCommand}
 use Rattle.scripts.specs.declared.session.Place.{Place}
-use Rattle.scripts.specs.declared.session.Place.TheVariants.{Nothing, Device, Pool}
+use Rattle.scripts.specs.declared.session.Place.TheVariants.{Nothing, Pool}
 use Rattle.scripts.specs.declared.session.Session.{Session}
+use Rattle.scripts.specs.Commands.{ReadsLine}
 use Rattle.scripts.specs.Devices.{Creates, Imports}
 use Rattle.scripts.specs.Places.{Crashes, device_in, has_device, has_pool}
 use Rattle.scripts.specs.PoolSteps.{Asks}
@@ -49,3 +52,8 @@ Does (command.Import dirty_max) s (Ok told) new = IfSome (device_in s.place) (λ
 Does (command.Crash pieces) s told new = Crashes (device_in s.place) pieces.items told new.place
 Does (command.Pool asked) s (Ok told) new = AsksIn asked s.moment s.place told new.place
 Does asked s (Err e) new = Unit {0}
+
+-- What a line asks for is done and answered. For want of memory it is refused, and the session is as it was.
+abbrev pub RunsLine : List ℕ → Session → Answer → Session → Type 0
+RunsLine line old told new = ((told ≡ answer.Reply (Refused NoMemory)) × (new ≡ old))
+    ⊎ ((asked : Command) × ReadsLine line (Ok asked) × Does asked old (Ok told) new)

@@ -5,9 +5,11 @@
 ghost use Rattle.std.specs.Prelude.{◌≡◌, ◌↔◌, ◌^◌, ◌<◌, ◌≤◌, IsOk, IfOk, IfErr, map, Some, vec_len, length, replicate, slice_index, ◌≢◌, All, IsSome};
 ghost use Rattle.std.specs.Result.{OkIff, result_ok};
 ghost use Rattle.scripts.specs.Numbers.{IsNumberBelow, spelled_number};
-ghost use Rattle.scripts.specs.Commands.{IsBeginOf, IsCommitOf, IsCrashOf};
+ghost use Rattle.scripts.specs.Commands.{IsBeginOf, IsCommitOf, IsCrashOf, IsLineForm, IsPoolForm, IsStepForm, ReadsLine, ReadsPool, ReadsStep, ReadsWords};
 ghost use Rattle.scripts.specs.Copies.{AreContentsOf, AreCopies, IsContentOf};
 ghost use Rattle.scripts.specs.Letters.{mode_of, piece_of};
+ghost use Rattle.scripts.specs.Shapes.{AreShapesOf, IsShapeForm, IsShapeOf, ReadsShape};
+ghost use Rattle.scripts.specs.Words.{ArePartsOf};
 
 use crate::number::{parse_u32, parse_u64};
 use base::{Bytes, LockId, Mode, ObjectId, Owner, Piece, Plan, Range, Shape, Step, TxId};
@@ -80,9 +82,24 @@ impl<T: Drop> From<AllocFailed<T>> for LineError {
 ///
 /// # Errors
 /// `BadCommand` where it has no command's form, or a number in it is too wide for its type; `NoMemory`.
-pub fn parse_command(alloc: Global, line: &str) -> Result<Command, LineError> {
-    let words: Vec<&str> = line.split(' ').collect(alloc)?;
-    match words.as_slice() {
+pub fn parse_command(alloc: Global, line: &str) -> Result<Command, LineError>
+    ensures { ReadsLine line.now result }
+{
+    let words = split_words(alloc, line)?;
+    parse_words(alloc, words.as_slice())
+}
+
+fn split_words(alloc: Global, line: &str) -> Result<Vec<&str>, AllocError>
+    ensures { IfOk result (λ words. ArePartsOf 32 line.now words.items) }
+{
+    line.split(' ').collect(alloc)
+}
+
+fn parse_words(alloc: Global, words: &[&str]) -> Result<Command, LineError>
+    ensures command { ReadsWords words.now result }
+    ensures form { IsOk result → IsLineForm words.now }
+{
+    match words {
         ["create", name, guid] => parse_create(alloc, name, guid),
         ["import", dirty_max] => Ok(Command::Import {
             dirty_max: wide(dirty_max)?,
@@ -93,7 +110,10 @@ pub fn parse_command(alloc: Global, line: &str) -> Result<Command, LineError> {
     }
 }
 
-fn parse_pool_command(alloc: Global, words: &[&str]) -> Result<PoolCommand, LineError> {
+fn parse_pool_command(alloc: Global, words: &[&str]) -> Result<PoolCommand, LineError>
+    ensures asked { ReadsPool (λ asked. asked) words.now result }
+    ensures form { IsOk result → IsPoolForm words.now }
+{
     match words {
         ["commit", tx, contents @ ..] => parse_commit(alloc, tx, contents),
         ["start"] => Ok(PoolCommand::Start),
@@ -103,7 +123,10 @@ fn parse_pool_command(alloc: Global, words: &[&str]) -> Result<PoolCommand, Line
     }
 }
 
-fn parse_step(alloc: Global, words: &[&str]) -> Result<Step, LineError> {
+fn parse_step(alloc: Global, words: &[&str]) -> Result<Step, LineError>
+    ensures step { ReadsStep (λ s. s) words.now result }
+    ensures form { IsOk result → IsStepForm words.now }
+{
     match words {
         ["lock", owner, object, mode, low, high] => Ok(Step::Lock(
             parse_owner(owner)?,
@@ -179,7 +202,8 @@ fn parse_mode(word: &str) -> Result<Mode, LineError>
 }
 
 fn parse_create(alloc: Global, name: &str, guid: &str) -> Result<Command, LineError>
-    ensures command { IfOk result (λ command. command ≡ Command.Create name.now (spelled_number guid.now)) }
+    ensures command { IfOk result (λ command.
+        command ≡ Command.Create name.now (spelled_number guid.now)) }
     ensures ok { IsOk result → (0 < length name.now) × IsNumberBelow (2 ^ 64) guid.now }
     ensures refused { IfErr result (λ e. 0 < length name.now → IsNumberBelow (2 ^ 64) guid.now
         → e ≡ LineError.NoMemory) }
@@ -194,7 +218,7 @@ fn parse_create(alloc: Global, name: &str, guid: &str) -> Result<Command, LineEr
 }
 
 fn parse_begin(alloc: Global, owner: &str, words: &[&str]) -> Result<Step, LineError>
-    ensures begin { IfOk result (λ step. IsBeginOf owner.now (length words.now) step) }
+    ensures begin { IfOk result (λ step. IsBeginOf owner.now words.now step) }
     ensures owner { IsOk result → IsNumberBelow (2 ^ 32) owner.now }
 {
     let owner = parse_owner(owner)?;
@@ -202,7 +226,8 @@ fn parse_begin(alloc: Global, owner: &str, words: &[&str]) -> Result<Step, LineE
 }
 
 fn parse_shapes(alloc: Global, words: &[&str]) -> Result<Vec<Shape>, LineError>
-    ensures { IfOk result (λ shapes. vec_len shapes ≡ length words.now) }
+    ensures count { IfOk result (λ shapes. vec_len shapes ≡ length words.now) }
+    ensures each { IfOk result (λ shapes. AreShapesOf words.now shapes.items) }
 {
     let mut shapes = Vec::new(alloc);
     for word in words {
@@ -211,9 +236,24 @@ fn parse_shapes(alloc: Global, words: &[&str]) -> Result<Vec<Shape>, LineError>
     Ok(shapes)
 }
 
-fn parse_shape(alloc: Global, word: &str) -> Result<Shape, LineError> {
-    let parts: Vec<&str> = word.split(':').collect(alloc)?;
-    match parts.as_slice() {
+fn parse_shape(alloc: Global, word: &str) -> Result<Shape, LineError>
+    ensures { IfOk result (IsShapeOf word.now) }
+{
+    let parts = split_parts(alloc, word)?;
+    parse_parts(parts.as_slice())
+}
+
+fn split_parts(alloc: Global, word: &str) -> Result<Vec<&str>, AllocError>
+    ensures { IfOk result (λ parts. ArePartsOf 58 word.now parts.items) }
+{
+    word.split(':').collect(alloc)
+}
+
+fn parse_parts(parts: &[&str]) -> Result<Shape, LineError>
+    ensures shape { ReadsShape parts.now result }
+    ensures form { IsOk result → IsShapeForm parts.now }
+{
+    match parts {
         ["c", object] => Ok(Shape::Create(parse_object(object)?)),
         ["w", object, offset, length] => Ok(Shape::Write(
             parse_object(object)?,
@@ -275,8 +315,8 @@ fn make_copies(alloc: Global, count: &str, byte: u8) -> Result<Bytes, LineError>
     ensures number { IsOk result → IsNumberBelow 338689 count.now × (0 < spelled_number count.now) }
     ensures copies { IfOk result (λ bytes. bytes ≡ replicate (spelled_number count.now) byte) }
     ensures limits { IfOk result (λ bytes. (0 < length bytes) × (length bytes ≤ 338688)) }
-    ensures refused { IfErr result (λ e. IsNumberBelow 338689 count.now → 0 < spelled_number count.now
-        → e ≡ LineError.NoMemory) }
+    ensures refused { IfErr result (λ e. IsNumberBelow 338689 count.now
+        → 0 < spelled_number count.now → e ≡ LineError.NoMemory) }
 {
     let count = wide(count)?;
     if count == 0 || count > MAX_COPIES {

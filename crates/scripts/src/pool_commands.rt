@@ -122,7 +122,8 @@ fn fill_plan(alloc: Global, shapes: &[Shape], contents: Vec<Bytes>) -> Result<Op
 
 fn make_op(shape: Shape, contents: &mut IntoIter<Bytes>) -> Option<Op>
     ensures op { result ≡ op_of shape (into_iter_items contents.old) }
-    ensures rest { into_iter_items contents.new ≡ drop (taken_by shape) (into_iter_items contents.old) }
+    ensures rest { into_iter_items contents.new
+        ≡ drop (taken_by shape) (into_iter_items contents.old) }
 {
     match shape {
         Shape::Create(id) => Some(Op::Create(id)),

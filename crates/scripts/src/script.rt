@@ -1,8 +1,9 @@
 //! A script, line by line.
 
-ghost use Rattle.std.specs.Prelude.{◌≡◌, ◌≢◌, ◌≤◌, ◌↔◌, IsTrue, None, Ok};
+ghost use Rattle.std.specs.Prelude.{◌≡◌, ◌≢◌, ◌≤◌, ◌↔◌, IfOk, IfSome, IsTrue, None, Ok};
 ghost use Rattle.scripts.specs.Endings.{status_number};
 ghost use Rattle.scripts.specs.Letters.{is_silent};
+ghost use Rattle.scripts.specs.Sessions.{RunsLine};
 
 use crate::answer::Answer;
 use crate::command::{LineError, parse_command};
@@ -116,6 +117,8 @@ fn prints_nothing(line: &[u8]) -> bool
 fn run_line(alloc: Global, session: &mut Session, line: &[u8]) -> Result<Option<Answer>, BadCommand>
     ensures silent { result ≡ Ok None ↔ IsTrue (is_silent line.now) }
     ensures unchanged { IsTrue (is_silent line.now) → session.new ≡ session.old }
+    ensures answered { IfOk result (λ told.
+        IfSome told (λ answer. RunsLine line.now session.old answer session.new)) }
 {
     if prints_nothing(line) {
         return Ok(None);

@@ -1,3 +1,5 @@
+//! Whole scripts with their answers, lines that are no commands, and readers and writers that fail.
+
 use crate::run_script;
 use std::alloc::Global;
 use std::io::{self, ErrorKind, Read, Write};

@@ -1,10 +1,10 @@
-//! The command line.
+//! The command line: its words, their help, and the numbers that they spell.
 
 use clap::{Arg, ArgMatches, Command, Error, value_parser};
 use std::alloc::{AllocError, Global};
 
 /// What `ztxg script` is given.
-#[derive(Clone, Copy, Debug)]
+#[derive(Clone, Copy, Debug, PartialEq, Eq)]
 pub struct ScriptArguments<'a> {
     /// The bytes of the device.
     pub size: u64,

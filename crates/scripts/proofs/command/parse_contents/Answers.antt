@@ -1,8 +1,8 @@
 use Rattle.std.proofs.Common.{List, ℕ, subst, arith}
 use Rattle.std.specs.Borrow.{Bor}
 use Rattle.std.proofs.lemmas.List.{take_all}
-use Rattle.scripts.specs.Copies.{AreContentsOf}
-use Rattle.scripts.proofs.Copies.{contents_more}
+use Rattle.scripts.specs.Copies.{AreContentsOf, IsContentOf}
+use Rattle.scripts.proofs.Zips.{zip_more}
 use Rattle.scripts.proofs.command.parse_contents.Goals as goal
 
 pub returns-clause-each : goal.returns-clause-each
@@ -13,6 +13,6 @@ pub loop-word-preserved : goal.loop-word-preserved
 loop-word-preserved c = (
   omega (arith, c.in_ok-push.ensures.len, c.loop-word.invariant.0),
   rw c.in_ok-push.ensures.items
-      (contents_more c.args.words.now c.loop-word.contents.items c.loop-word.word-index _ c.in_ok-parse_content.field-0 c.loop-word-test.true c.loop-word.invariant.1
+      (zip_more (λ word bytes. IsContentOf word.now bytes) c.args.words.now c.loop-word.contents.items c.loop-word.word-index _ c.in_ok-parse_content.field-0 c.loop-word-test.true c.loop-word.invariant.1
       c.in_ok-parse_content.ensures.content),
 )

@@ -1,6 +1,4 @@
 use Rattle.std.proofs.Common.{inl}
-use Rattle.base.specs.declared.step.Step.TheVariants as step
-use Rattle.scripts.specs.Pools.{IsStepOf}
 use Rattle.scripts.proofs.pool_commands.commit.Goals as goal
 
 pub returns-in-Ok : goal.returns-in-Ok
