@@ -1,5 +1,5 @@
 -- Uberblocks in an image: there is one active one at most, and what a write does to those that stand.
-use Rattle.std.proofs.Common.{ℕ, ◌≡◌, ◌+◌, ◌<◌, ◌≤◌, ◌⊎◌, ◌↔◌, inl, inr, List, length, sym, ap, ◌∙◌, subst, arith}
+use Rattle.std.proofs.Common.{ℕ, ◌≡◌, ◌+◌, ◌≤◌, ◌↔◌, List, length, sym, ap, ◌∙◌, subst, arith}
 use Rattle.base.specs.disk.Disk.{put}
 use Rattle.base.specs.formats.Fields.{part}
 use Rattle.base.specs.formats.Geometry.{slot_of, slot_place}
