@@ -1,6 +1,7 @@
 //! What each step keeps of a pool: each function's contract is a law, and its body does nothing.
 
 ghost use Rattle.base.specs.steps.Additions.{PastsAreTold, PastsGrow};
+ghost use Rattle.base.specs.steps.Locks.{BusyIsUnsound};
 ghost use Rattle.base.specs.steps.ExactNow.{StepsKeepTables, RunsKeepTables, LogStepsKeepTables, NewPoolsAreExplained};
 ghost use Rattle.base.specs.stored.HeldMounts.{MountsAgree, HeldMounts, IdleMounts, StepsWriteNoLog};
 ghost use Rattle.base.specs.steps.SyncEnds.{SuspendedPoolsRefuse, SuspendedPoolsStay, SyncsEndOnTime};
@@ -69,4 +70,9 @@ pub fn idle_pools_mount()
 /// No step writes a log block.
 pub fn steps_write_no_log()
     ensures { StepsWriteNoLog }
+{}
+
+/// A lock is refused as busy exactly where granting it would leave the held locks unsound (`zfs_rlock.c`).
+pub fn busy_is_unsound()
+    ensures { BusyIsUnsound }
 {}
