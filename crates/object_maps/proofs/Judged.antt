@@ -54,10 +54,6 @@ created_gives : (o p : Option (List ℕ)) → created o ≡ Ok p → is_some p �
 created_gives None p h = let e : p ≡ Some [] = cc in rw e refl
 created_gives (Some bytes) p h = cc
 
-changed_gives : (f : List ℕ → List ℕ) (o p : Option (List ℕ)) → changed f o ≡ Ok p → p ≡ option_map f o
-changed_gives f None p h = cc
-changed_gives f (Some bytes) p h = cc
-
 changed_keeps : (f : List ℕ → List ℕ) (o p : Option (List ℕ)) → changed f o ≡ Ok p → is_some p ≡ is_some o
 changed_keeps f None p h = cc
 changed_keeps f (Some bytes) p h = let e : p ≡ Some (f bytes) = cc in rw e refl

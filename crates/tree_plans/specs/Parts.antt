@@ -35,8 +35,8 @@ abbrev pub blocks_of : Planner → List NewBlock
 blocks_of p = map new_block p.blocks.items
 
 -- what every part keeps: it takes the lowest free blocks, and what the plan has stays
-abbrev pub GoesOn : FreeSet → Planner → Planner → Type 0
-GoesOn free old new = Goes free.flags.items (progress_of old) (progress_of new)
+abbrev pub ExtendsPlan : FreeSet → Planner → Planner → Type 0
+ExtendsPlan free old new = Goes free.flags.items (progress_of old) (progress_of new)
 
 -- an error tells that the plan so far and so many blocks more are more than are free
 abbrev pub TellsLack : FreeSet → Planner → ℕ → PoolError → Type 0
@@ -59,7 +59,7 @@ directory_before source d = slice_index_or source.tree.now.directories.items d n
 
 -- one block is taken: it stands at its place, and the one that it replaces comes back
 pub record TakesBlock (free : FreeSet) (place : BlockPlace) (payload : List ℕ) (replaced : Pointer) (old new : Planner) (pointer : Pointer) : Type 0 where
-  pub goes : GoesOn free old new
+  pub goes : ExtendsPlan free old new
   pub written : IsWritten (progress_of new) (place_of place) replaced pointer (padded payload)
   pub frees : FreesOnly old.freed.items new.freed.items replaced
   pub uses : UsesOnly (blocks_of old) (blocks_of new) pointer.address
@@ -67,7 +67,7 @@ pub record TakesBlock (free : FreeSet) (place : BlockPlace) (payload : List ℕ)
 
 -- a record of an object: it takes a block where it is dirty, and stays otherwise
 pub record PlansRecord (free : FreeSet) (place : RecordPlace) (bytes : List ℕ) (was : Pointer) (dirty : Bool) (old new : Planner) (pointer : Pointer) : Type 0 where
-  pub goes : GoesOn free old new
+  pub goes : ExtendsPlan free old new
   pub planned : IsRecordPlanned (progress_of new) place.id.0 place.index bytes dirty was pointer
   pub frees : RecordFrees old.freed.items new.freed.items dirty was
   pub uses : UsesOnly (blocks_of old) (blocks_of new) pointer.address
@@ -75,7 +75,7 @@ pub record PlansRecord (free : FreeSet) (place : RecordPlace) (bytes : List ℕ)
 
 -- the records of an object, rising
 pub record PlansRecords (free : FreeSet) (id : ObjectId) (bytes : List ℕ) (was : ObjectMap) (dirty : DirtyRecords) (old new : Planner) (records : List Pointer) : Type 0 where
-  pub goes : GoesOn free old new
+  pub goes : ExtendsPlan free old new
   pub planned : AreRecordsPlanned (progress_of new) id.0 bytes dirty.flags was pointer_count records
   pub frees : RecordsFree old.freed.items new.freed.items dirty.flags was pointer_count
   pub uses : PointersUse (blocks_of old) (blocks_of new) records pointer_count
@@ -83,7 +83,7 @@ pub record PlansRecords (free : FreeSet) (id : ObjectId) (bytes : List ℕ) (was
 
 -- an object: its records, and then its indirect block
 pub record PlansObject (free : FreeSet) (id : ObjectId) (bytes : List ℕ) (was : ObjectMap) (dirty : DirtyRecords) (old new : Planner) (map : ObjectMap) : Type 0 where
-  pub goes : GoesOn free old new
+  pub goes : ExtendsPlan free old new
   pub planned : IsObjectPlanned (progress_of new) id.0 bytes dirty.flags was map
   pub frees : ObjectFrees old.freed.items new.freed.items dirty.flags was
   pub uses : ObjectUses (blocks_of old) (blocks_of new) map
@@ -91,7 +91,7 @@ pub record PlansObject (free : FreeSet) (id : ObjectId) (bytes : List ℕ) (was 
 
 -- one object of a walk goes over to those that are done, where the objects of the walk have these dirty records for it
 pub record GoesOver (source : PlanSource) (id : ObjectId) (dirty : DirtyRecords) (maps : List (ObjectId × ObjectMap)) (old new : Planner) (planned_maps : List (ObjectId × ObjectMap)) : Type 0 where
-  pub goes : GoesOn source.free.now old new
+  pub goes : ExtendsPlan source.free.now old new
   pub planned : (objects done : List (ObjectId × DirtyRecords)) → entry_of objects id.0 ≡ Some dirty
       → AreObjectsPlanned (progress_of old) (maps_before source) (objects_after source) objects done maps
       → AreObjectsPlanned (progress_of new) (maps_before source) (objects_after source) objects (done ++ ((id, dirty) ∷ [])) planned_maps
@@ -105,7 +105,7 @@ pub record GoesOver (source : PlanSource) (id : ObjectId) (dirty : DirtyRecords)
 
 -- the objects that change, rising
 pub record PlansObjects (source : PlanSource) (objects : BTreeMap ObjectId DirtyRecords) (old new : Planner) (maps : BTreeMap ObjectId ObjectMap) : Type 0 where
-  pub goes : GoesOn source.free.now old new
+  pub goes : ExtendsPlan source.free.now old new
   pub planned : AreObjectsPlanned (progress_of new) (maps_before source) (objects_after source) objects.entries objects.entries maps.entries
   pub frees : ObjectsFree old.freed.items new.freed.items (maps_before source) objects.entries maps.entries
   pub uses : ObjectsUse (blocks_of old) (blocks_of new) maps.entries
@@ -113,7 +113,7 @@ pub record PlansObjects (source : PlanSource) (objects : BTreeMap ObjectId Dirty
 
 -- a directory: it takes a block where an object of it changes, and stays otherwise
 pub record PlansDirectory (source : PlanSource) (maps : BTreeMap ObjectId ObjectMap) (index : ℕ) (touched : Bool) (old new : Planner) (pointer : Pointer) : Type 0 where
-  pub goes : GoesOn source.free.now old new
+  pub goes : ExtendsPlan source.free.now old new
   pub planned : IsDirectoryPlanned (progress_of new) (maps_before source) maps.entries (objects_after source) index touched (directory_before source index) pointer
   pub frees : RecordFrees old.freed.items new.freed.items touched (directory_before source index)
   pub uses : UsesOnly (blocks_of old) (blocks_of new) pointer.address
@@ -121,7 +121,7 @@ pub record PlansDirectory (source : PlanSource) (maps : BTreeMap ObjectId Object
 
 -- all directories, rising
 pub record PlansDirectories (source : PlanSource) (objects : BTreeMap ObjectId DirtyRecords) (maps : BTreeMap ObjectId ObjectMap) (old new : Planner) (directories : List Pointer) : Type 0 where
-  pub goes : GoesOn source.free.now old new
+  pub goes : ExtendsPlan source.free.now old new
   pub planned : AreDirectoriesPlanned (progress_of new) (maps_before source) maps.entries (objects_after source) objects.entries source.tree.now.directories.items pointer_count directories
   pub frees : DirectoriesFree old.freed.items new.freed.items objects.entries source.tree.now.directories.items pointer_count
   pub uses : PointersUse (blocks_of old) (blocks_of new) directories pointer_count
@@ -129,7 +129,7 @@ pub record PlansDirectories (source : PlanSource) (objects : BTreeMap ObjectId D
 
 -- the root: it takes a block where an object changes, and stays otherwise
 pub record PlansRoot (source : PlanSource) (objects : BTreeMap ObjectId DirtyRecords) (directories : List Pointer) (old new : Planner) (root : Pointer) : Type 0 where
-  pub goes : GoesOn source.free.now old new
+  pub goes : ExtendsPlan source.free.now old new
   pub planned : IsRootPlanned (progress_of new) directories (is_any_touched objects.entries) source.tree.now.root root
   pub frees : RecordFrees old.freed.items new.freed.items (is_any_touched objects.entries) source.tree.now.root
   pub uses : UsesOnly (blocks_of old) (blocks_of new) root.address
@@ -142,7 +142,7 @@ pub record HasNothing (planner : Planner) : Type 0 where
 
 -- the whole walk, from a plan that has nothing yet
 pub record PlansTree (source : PlanSource) (objects : BTreeMap ObjectId DirtyRecords) (old new : Planner) (tree : NewTree) : Type 0 where
-  pub goes : GoesOn source.free.now old new
+  pub goes : ExtendsPlan source.free.now old new
   pub count : vec_len tree.directories ≡ pointer_count
   pub walked : IsWalked (progress_of new) source.tree.now (objects_after source) objects.entries tree.maps.entries tree.directories.items tree.root
   pub used : AreUsed (blocks_of new) (pointers_from tree.root tree.directories.items (planned_map (maps_before source) tree.maps.entries))
