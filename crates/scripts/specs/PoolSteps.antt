@@ -29,8 +29,8 @@ abbrev pub ops_for : ℕ → List (List ℕ) → MemPool → List Op
 ops_for tx contents p = unwrap_or (option_and_then (λ (a : Admission). ops_of a.plan contents) (transaction_of tx (shown p))) []
 
 -- a commit of these operations, where there is memory for them
-abbrev pub Commits : TxId → List (List ℕ) → Reply → MemPool → MemPool → Type 0
-Commits tx contents reply old new = IsStepOf (step.Commit tx (ops_for tx.0 contents old)) reply old new ⊎ MakesNone reply old new
+abbrev pub CommitsWords : TxId → List (List ℕ) → Reply → MemPool → MemPool → Type 0
+CommitsWords tx contents reply old new = IsStepOf (step.Commit tx (ops_for tx.0 contents old)) reply old new ⊎ MakesNone reply old new
 
 -- so many steps of a sync, each answered that there are more
 abbrev pub MakesSteps : ℕ → MemPool → MemPool → Type 0
@@ -55,7 +55,7 @@ Syncs moment = Then step.CloseGroup (Then step.MarkQuiesced (Then (step.StartSyn
 
 -- what a command asks of the pool, with the moment of its syncs
 abbrev pub Asks : PoolCommand → ℕ → Reply → MemPool → MemPool → Type 0
-Asks (command.Commit tx contents) moment reply old new = Commits tx contents.items reply old new
+Asks (command.Commit tx contents) moment reply old new = CommitsWords tx contents.items reply old new
 Asks command.Start moment reply old new = IsStepOf (step.StartSync moment) reply old new
 Asks command.Finish moment reply old new = Finishes reply old new
 Asks command.Sync moment reply old new = Syncs moment reply old new

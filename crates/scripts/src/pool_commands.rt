@@ -5,7 +5,7 @@ ghost use Rattle.std.specs.Vec.Iter.{into_iter_items};
 ghost use Rattle.scripts.specs.Fillings.{op_of, ops_of, taken_by};
 ghost use Rattle.scripts.specs.Pools.{IsStepOf};
 ghost use Rattle.scripts.specs.PoolSteps as asked;
-ghost use Rattle.scripts.specs.PoolSteps.{Asks, Commits, Finishes, Syncs, ops_for};
+ghost use Rattle.scripts.specs.PoolSteps.{Asks, CommitsWords, Finishes, Syncs, ops_for};
 
 use crate::command::PoolCommand;
 use base::{Bytes, Op, Ops, PoolError, Reply, Shape, Step, TxId};
@@ -42,7 +42,7 @@ fn make_step(pool: &mut PoolState<MemDevice>, step: Step) -> Reply
 // Commits with the bytes that the script gives. Where there is no such transaction, or they are not one for each write of
 // its plan, the pool is given no operations, which no plan has, so that it refuses them in its own order.
 fn commit(alloc: Global, pool: &mut PoolState<MemDevice>, tx: TxId, contents: Vec<Bytes>) -> Reply
-    ensures { Commits tx contents.items result pool.old pool.new }
+    ensures { CommitsWords tx contents.items result pool.old pool.new }
 {
     match make_ops(alloc, pool, tx, contents) {
         Ok(ops) => make_step(pool, Step::Commit(tx, ops)),

@@ -17,7 +17,7 @@ use Rattle.base.specs.steps.Steps as steps
 use Rattle.base.specs.steps.Steps.{State, Answers, SyncProgress}
 use Rattle.base.specs.steps.Steps.SyncProgress.{More, Synced}
 use Rattle.base.specs.steps.ExactNow.{IsRun, GoesOn}
-use Rattle.base.specs.steps.SyncEnds.{IsAnswer, is_refusal, sync_replies, sync_step_reply}
+use Rattle.base.specs.steps.SyncEnds.{IsAnswer, is_refusal, sync_replies, reply_with_left}
 
 -- where the first refusal is that the pool is suspended, that is the answer, and nothing changes
 suspended_answer : {A : Type 0} (r : Option PoolError) (answer : Result A PoolError) (old new : State) (does : A → Type 0) (own : PoolError → Type 0) → r ≡ Some error.Suspended
@@ -71,11 +71,11 @@ Runs s group left = (plan : SyncPlan) × (s.shown.suspended ≡ false) × (s.sho
 some_is : {A : Type 0} (o : Option A) (a b : A) → o ≡ Some a → o ≡ Some b → a ≡ b
 some_is o a b p q = let e : Some a ≡ Some b = sym p ∙ q in cc
 
-more_reply : (group left : ℕ) → 0 < left → sync_step_reply group left ≡ reply.More
+more_reply : (group left : ℕ) → 0 < left → reply_with_left group left ≡ reply.More
 more_reply group zero low = absurd (omega (arith, low))
 more_reply group (suc left) low = refl
 
-last_reply : (group left : ℕ) → left ≡ 0 → sync_step_reply group left ≡ reply.Synced (record { 0 = group })
+last_reply : (group left : ℕ) → left ≡ 0 → reply_with_left group left ≡ reply.Synced (record { 0 = group })
 last_reply group zero none = refl
 last_reply group (suc left) none = absurd (omega (arith, none))
 
@@ -89,7 +89,7 @@ module _ (group left : ℕ) (r : Reply) (old new : State) (runs : Runs old group
 
   by_answer : (a : Result SyncProgress PoolError) → IsAnswer r → r ≡ reply_of progress_reply a
       → Answers None a old new Goes Fails
-      → (r ≡ sync_step_reply group left) × (0 < left → Runs new group left)
+      → (r ≡ reply_with_left group left) × (0 < left → Runs new group left)
   by_answer (Ok More) answered told (g, p, is_group, is_plan, (low, same)) =
       let count : p.steps_left ≡ suc left = ap (λ (x : SyncPlan). x.steps_left) (some_is old.shown.sync p runs.0 is_plan runs.3) ∙ runs.4 in (
         told ∙ sym (more_reply group left (omega (arith, low, count))),
@@ -108,7 +108,7 @@ module _ (group left : ℕ) (r : Reply) (old new : State) (runs : Runs old group
       (told ∙ ap (λ (n : ℕ). reply.Synced (record { 0 = n })) at ∙ sym (last_reply group left none), λ some. absurd (omega (arith, none, some)))
   by_answer (Err e) answered told own = absurd (true≢false (ap (λ (y : Reply). is_refusal y) (sym told) ∙ answered))
 
-  one_step : (now : List ℕ) → IsAnswer r → Step ⊥ now step.SyncStep r old new → (r ≡ sync_step_reply group left) × (0 < left → Runs new group left)
+  one_step : (now : List ℕ) → IsAnswer r → Step ⊥ now step.SyncStep r old new → (r ≡ reply_with_left group left) × (0 < left → Runs new group left)
   one_step now answered (answer, told, h) =
       let none : refusal.sync_step_refusal old.shown ≡ None = rw (runs.1, runs.2) refl in
       by_answer answer answered told (subst (λ (o : Option PoolError). Answers o answer old new Goes Fails) none h)
@@ -127,7 +127,7 @@ steps_end (r ∷ rs) s new group (suc left) runs (middle, (now, one), rest) answ
     let first = one_step group left r s middle runs now (All-head IsAnswer r rs answers) one in
     let fits : length rs ≤ left = omega (arith, low) in
     let others = behind rs middle group left fits first.1 (λ onward. steps_end rs middle new group left onward rest (All-tail IsAnswer r rs answers) fits) in
-    ap (λ (x : Reply). x ∷ rs) first.0 ∙ ap (λ (l : List Reply). sync_step_reply group left ∷ l) others
+    ap (λ (x : Reply). x ∷ rs) first.0 ∙ ap (λ (l : List Reply). reply_with_left group left ∷ l) others
 
 pub syncs_end_on_time : (s new : State) (group : ℕ) (plan : SyncPlan) (rs : List Reply) → s.shown.suspended ≡ false → s.shown.line.syncing ≡ Some group → s.shown.sync ≡ Some plan
     → IsRun ⊥ (replicate (length rs) step.SyncStep) rs s new → All IsAnswer rs → length rs ≤ plan.steps_left → rs ≡ take (length rs) (sync_replies group plan.steps_left)

@@ -17,14 +17,14 @@ abbrev pub IsAnswer : Reply → Type 0
 IsAnswer r = is_refusal r ≡ false
 
 -- the reply to a step of a group's sync behind which so many are left
-abbrev pub sync_step_reply : ℕ → ℕ → Reply
-sync_step_reply group zero = reply.Synced (record { 0 = group })
-sync_step_reply group (suc left) = reply.More
+abbrev pub reply_with_left : ℕ → ℕ → Reply
+reply_with_left group zero = reply.Synced (record { 0 = group })
+reply_with_left group (suc left) = reply.More
 
 -- the replies to all steps of a sync that has so many left
 abbrev pub sync_replies : ℕ → ℕ → List Reply
 sync_replies group zero = []
-sync_replies group (suc left) = sync_step_reply group left ∷ sync_replies group left
+sync_replies group (suc left) = reply_with_left group left ∷ sync_replies group left
 
 -- Steps of a started sync that are not refused answer that there is more, and the last of those that the sync has, and no other, that
 -- its group is synced.
