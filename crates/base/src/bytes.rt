@@ -6,7 +6,7 @@ use std::marker::Model;
 /// Bytes in one allocation. Contracts see them as a list.
 ///
 /// It is made from a `Vec` and gives it back without taking memory.
-#[derive(Drop)]
+#[derive(Debug, Drop)]
 pub struct Bytes {
     items: Vec<u8>,
 }
@@ -17,6 +17,26 @@ impl Model for Bytes {
     ghost Value = { List ℕ };
 
     ghost view = { λ b. b.items.items };
+}
+
+impl PartialEq for Bytes {
+    ghost use Rattle.std.specs.Prelude.{nat_eq};
+    ghost use Rattle.std.specs.Cmp.{partial_equiv_from_equiv};
+    ghost use Rattle.std.specs.Cmp.Lexicographic.{nat_list_eq_equiv, pointwise};
+
+    ghost eq = { λ a b. pointwise nat_eq a b };
+
+    ghost laws = { partial_equiv_from_equiv nat_list_eq_equiv };
+
+    fn eq(&self, other: &Self) -> bool {
+        self.as_slice() == other.as_slice()
+    }
+}
+
+impl Eq for Bytes {
+    ghost use Rattle.std.specs.Cmp.Lexicographic.{nat_list_eq_equiv};
+
+    ghost laws = { nat_list_eq_equiv };
 }
 
 impl Bytes {

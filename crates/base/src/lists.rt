@@ -6,7 +6,7 @@ use std::marker::Model;
 /// What a transaction means to do: the shapes of its operations, in order. Contracts see it as a list.
 ///
 /// It is made from a `Vec` and gives it back without taking memory.
-#[derive(Drop)]
+#[derive(Debug, Drop)]
 pub struct Plan {
     items: Vec<Shape>,
 }
@@ -18,6 +18,27 @@ impl Model for Plan {
     ghost Value = { List Shape };
 
     ghost view = { λ p. p.items.items };
+}
+
+impl PartialEq for Plan {
+    ghost use Rattle.std.specs.Cmp.Lexicographic.{lists_per, pointwise};
+    ghost use Rattle.base.specs.contracts.operation.ShapePartialEq.TheImpl.{ghosts};
+    ghost use Rattle.base.specs.contracts.operation.ShapePartialEq.TheImpl.Laws.{laws-law};
+
+    ghost eq = { λ a b. pointwise ghosts.eq a b };
+
+    ghost laws = { lists_per laws-law };
+
+    fn eq(&self, other: &Self) -> bool {
+        self.as_slice() == other.as_slice()
+    }
+}
+
+impl Eq for Plan {
+    ghost use Rattle.std.specs.Cmp.Lexicographic.{lists_equiv};
+    ghost use Rattle.base.specs.contracts.operation.ShapeEq.TheImpl.Laws.{laws-law};
+
+    ghost laws = { lists_equiv laws-law };
 }
 
 impl Plan {
@@ -47,7 +68,7 @@ impl Plan {
 /// What a transaction does, in order. Contracts see it as a list.
 ///
 /// It is made from a `Vec` and gives it back without taking memory.
-#[derive(Drop)]
+#[derive(Debug, Drop)]
 pub struct Ops {
     items: Vec<Op>,
 }
@@ -59,6 +80,27 @@ impl Model for Ops {
     ghost Value = { List Op };
 
     ghost view = { λ p. p.items.items };
+}
+
+impl PartialEq for Ops {
+    ghost use Rattle.std.specs.Cmp.Lexicographic.{lists_per, pointwise};
+    ghost use Rattle.base.specs.contracts.operation.OpPartialEq.TheImpl.{ghosts};
+    ghost use Rattle.base.specs.contracts.operation.OpPartialEq.TheImpl.Laws.{laws-law};
+
+    ghost eq = { λ a b. pointwise ghosts.eq a b };
+
+    ghost laws = { lists_per laws-law };
+
+    fn eq(&self, other: &Self) -> bool {
+        self.as_slice() == other.as_slice()
+    }
+}
+
+impl Eq for Ops {
+    ghost use Rattle.std.specs.Cmp.Lexicographic.{lists_equiv};
+    ghost use Rattle.base.specs.contracts.operation.OpEq.TheImpl.Laws.{laws-law};
+
+    ghost laws = { lists_equiv laws-law };
 }
 
 impl Ops {

@@ -11,7 +11,7 @@ pub const MAX_NAME: usize = 64;
 
 /// A pool's name in place: 1 to 64 bytes, first an ASCII letter, then letters, digits, `-`, `_` and `.`.
 /// Contracts see it as a list of bytes.
-#[derive(Clone, Drop)]
+#[derive(Clone, Debug, Drop)]
 pub struct PoolName {
     bytes: [u8; 64],
     length: usize,
@@ -26,6 +26,26 @@ impl Model for PoolName {
     ghost view = { λ n. take n.length n.bytes };
 
     ghost invariant = { λ n. (n.length ≤ 64) × IsName (take n.length n.bytes) };
+}
+
+impl PartialEq for PoolName {
+    ghost use Rattle.std.specs.Prelude.{nat_eq};
+    ghost use Rattle.std.specs.Cmp.{partial_equiv_from_equiv};
+    ghost use Rattle.std.specs.Cmp.Lexicographic.{nat_list_eq_equiv, pointwise};
+
+    ghost eq = { λ a b. pointwise nat_eq a b };
+
+    ghost laws = { partial_equiv_from_equiv nat_list_eq_equiv };
+
+    fn eq(&self, other: &Self) -> bool {
+        self.as_slice() == other.as_slice()
+    }
+}
+
+impl Eq for PoolName {
+    ghost use Rattle.std.specs.Cmp.Lexicographic.{nat_list_eq_equiv};
+
+    ghost laws = { nat_list_eq_equiv };
 }
 
 impl PoolName {

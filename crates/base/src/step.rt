@@ -19,7 +19,7 @@ use crate::names::{Group, LockId, ObjectId, Owner, Receipt, TxId};
 use crate::range::{Mode, Range};
 
 /// One event of a pool.
-#[derive(Drop)]
+#[derive(Debug, PartialEq, Eq, Drop)]
 pub enum Step {
     /// Locks a range of an object, or of the pool's name.
     Lock(Owner, ObjectId, Range, Mode),
@@ -42,7 +42,7 @@ pub enum Step {
 }
 
 /// What a step answers.
-#[derive(Drop)]
+#[derive(Debug, PartialEq, Eq, Drop)]
 pub enum Reply {
     Refused(PoolError),
     /// Done, with nothing to tell.
