@@ -1,6 +1,7 @@
 //! What a transaction means to do and what it does, as lists in one allocation: `Plan` of shapes, `Ops` of operations.
 
 use crate::operation::{Op, Shape};
+use std::alloc::{AllocError, Global};
 use std::marker::Model;
 
 /// What a transaction means to do: the shapes of its operations, in order. Contracts see it as a list.
@@ -42,13 +43,22 @@ impl Eq for Plan {
 }
 
 impl Plan {
-    ghost use Rattle.std.specs.Prelude.{◌≡◌};
+    ghost use Rattle.std.specs.Prelude.{◌≡◌, IfOk, map};
+    ghost use Rattle.base.specs.history.Plans.{shape_of};
 
     /// The plan of these shapes.
     pub fn new(items: Vec<Shape>) -> Self
         ensures { result ≡ items.items }
     {
         Plan { items }
+    }
+
+    /// The plan of these operations: their shapes, in order.
+    pub fn of(alloc: Global, ops: &Ops) -> Result<Self, AllocError>
+        ensures { IfOk result (λ plan. plan ≡ map shape_of ops.now) }
+    {
+        let items = ops.as_slice().iter().map(|op| op.shape()).collect(alloc)?;
+        Ok(Plan { items })
     }
 
     /// The `Vec` that holds the shapes.

@@ -2,7 +2,7 @@
 #![tactic(auto)]
 
 use anyhow::Result;
-use base::{Bytes, MAX_LENGTH, Mode, ObjectId, Op, Ops, Owner, Plan, PoolError, Range, Shape};
+use base::{Bytes, MAX_LENGTH, Mode, ObjectId, Op, Ops, Owner, Plan, PoolError, Range};
 use device_model::MemDevice;
 use import_replay::{create, import};
 use pool_core::{PoolState, Progress};
@@ -44,12 +44,12 @@ fn write_hello(alloc: Global, pool: &mut PoolState<MemDevice>) -> Result<(), Poo
         high: MAX_LENGTH,
     };
     let lock = pool.lock(OWNER, NOTES, whole, Mode::Writer)?;
-    let plan = Plan::new(vec![in alloc; Shape::Create(NOTES), Shape::Write(NOTES, 0, 5)]?);
-    let (tx, _) = pool.begin(OWNER, plan)?;
     let mut ops = Vec::new(alloc);
     ops.push(Op::Create(NOTES))?;
     ops.push(Op::Write(NOTES, 0, Bytes::from_slice(alloc, b"hello")?))?;
-    pool.commit(tx, Ops::new(ops))?;
+    let ops = Ops::new(ops);
+    let (tx, _) = pool.begin(OWNER, Plan::of(alloc, &ops)?)?;
+    pool.commit(tx, ops)?;
     pool.unlock(OWNER, lock)
 }
 

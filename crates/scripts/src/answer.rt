@@ -6,7 +6,7 @@ use base::{Bytes, Group, PoolError, Reply};
 use std::fmt;
 
 /// The answer to a command, one line of text.
-#[derive(Drop)]
+#[derive(Debug, PartialEq, Eq, Drop)]
 pub enum Answer {
     /// The pool that an import mounted: the group that it synced. The one behind it is open.
     Imported {

@@ -22,7 +22,7 @@ const MAX_COPIES: u64 = 338_688;
 const TORN: u8 = 0xaa;
 
 /// What a line of a script asks for.
-#[derive(Drop)]
+#[derive(Debug, PartialEq, Eq, Drop)]
 pub enum Command {
     /// Makes a pool of this name and guid on the device, or on a new one.
     Create { name: Bytes, guid: u64 },
@@ -35,7 +35,7 @@ pub enum Command {
 }
 
 /// What a line asks a pool for.
-#[derive(Drop)]
+#[derive(Debug, PartialEq, Eq, Drop)]
 pub enum PoolCommand {
     /// Commits a transaction, with the bytes of its writes in order.
     Commit(TxId, Vec<Bytes>),
