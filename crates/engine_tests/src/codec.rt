@@ -88,10 +88,7 @@ fn lists_are_made_and_given_back(rt: HostRuntime) -> Result<(), Fail> {
     list.push(Op::Create(ObjectId(1)))?;
     list.push(Op::Write(ObjectId(1), 7, Bytes::from_slice(alloc, b"abc")?))?;
     let ops = Ops::new(list);
-    let shapes = [
-        Shape::Create(ObjectId(1)),
-        Shape::Write(ObjectId(1), 7, 3),
-    ];
+    let shapes = [Shape::Create(ObjectId(1)), Shape::Write(ObjectId(1), 7, 3)];
     assert!(rt; Plan::of(alloc, &ops)? == Plan::new(Vec::from_slice(alloc, &shapes)?));
     assert_eq!(rt; ops.as_slice().len(), 2);
     assert_eq!(rt; ops.into_vec().len(), 2);
