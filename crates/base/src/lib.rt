@@ -44,7 +44,7 @@ pub use operation::{Op, Shape};
 pub use piece::Piece;
 pub use pointer::Pointer;
 pub use pool_name::{MAX_NAME, PoolName, is_name};
-pub use range::{Mode, Range};
+pub use range::{Mode, ObjectRange, Range};
 pub use refused::RefusedCalls;
 pub use seen_laws::{
     begins_are_seen, commits_are_seen, contents_are_between, durable_is_known, groups_go_up,

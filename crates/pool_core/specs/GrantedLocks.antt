@@ -5,12 +5,12 @@ use Rattle.base.specs.declared.names.LockId.{LockId}
 use Rattle.base.specs.declared.names.Owner.{Owner}
 use Rattle.base.specs.declared.range.Mode.{Mode}
 use Rattle.base.specs.steps.Locks.{Grant}
-use Rattle.pool_core.specs.declared.range_locks.ObjectRange.{ObjectRange}
+use Rattle.base.specs.declared.range.ObjectRange.{ObjectRange}
 use Rattle.pool_core.specs.declared.range_locks.RangeLocks.{RangeLocks}
 use Rattle.pool_core.specs.HeldLocks.{grant_of}
 use Rattle.pool_core.specs.StepAnswers.{lock_number}
 use Rattle.pool_core.specs.Tables.{Grants, result_map}
-use Rattle.pool_core.specs.Targets.{number_range}
+use Rattle.base.specs.history.Plans.{number_range}
 
 -- in order of grant
 abbrev pub grants_of : RangeLocks → List Grant

@@ -3,11 +3,10 @@ use Rattle.std.specs.Prelude.{◌==◌, ◌&&◌, Bool, List, filter, not}
 use Rattle.base.specs.declared.names.LockId.{LockId}
 use Rattle.base.specs.declared.names.Owner.{Owner}
 use Rattle.base.specs.declared.range.Mode.{Mode}
-use Rattle.base.specs.history.Plans.{lies_in, overlaps}
+use Rattle.base.specs.history.Plans.{lies_in, overlaps, number_range}
 use Rattle.base.specs.steps.Locks.{Grant, is_reader}
 use Rattle.pool_core.specs.declared.range_locks.HeldLock.{HeldLock}
-use Rattle.pool_core.specs.declared.range_locks.ObjectRange.{ObjectRange}
-use Rattle.pool_core.specs.Targets.{number_range}
+use Rattle.base.specs.declared.range.ObjectRange.{ObjectRange}
 
 abbrev pub grant_of : HeldLock → Grant
 grant_of h = record { id = h.id.0; owner = h.owner.0; range = number_range h.target; mode = h.mode }

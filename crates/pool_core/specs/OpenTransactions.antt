@@ -3,9 +3,9 @@ use Rattle.std.specs.Prelude.{ℕ, ◌==◌, ◌&&◌, ◌||◌, Bool, List, fil
 use Rattle.std.specs.List.{list_any}
 use Rattle.base.specs.declared.operation.Shape.{Shape}
 use Rattle.base.specs.formats.Limits.{last_number, max_transactions}
-use Rattle.base.specs.history.Plans.{NumberRange}
+use Rattle.base.specs.history.Plans.{NumberRange, number_range}
 use Rattle.base.specs.steps.Locks.{is_reader}
-use Rattle.pool_core.specs.Targets.{has_shape_in, number_range, kept_ranges_overlap}
+use Rattle.pool_core.specs.Targets.{has_shape_in, kept_ranges_overlap}
 use Rattle.pool_core.specs.declared.range_locks.HeldLock.{HeldLock}
 use Rattle.pool_core.specs.declared.transactions.OpenTransaction.{OpenTransaction}
 

@@ -7,10 +7,6 @@ use Rattle.base.specs.declared.range.Range.{Range}
 use Rattle.base.specs.formats.Limits.{name_number, object_count}
 use Rattle.base.specs.history.Plans.{NumberRange, lies_in, overlaps, whole_range}
 use Rattle.base.specs.steps.Locks.{Grant, is_covered_for_writing, is_range_allowed}
-use Rattle.pool_core.specs.declared.range_locks.ObjectRange.{ObjectRange}
-
-abbrev pub number_range : ObjectRange → NumberRange
-number_range t = record { number = t.object.0; low = t.range.low; high = t.range.high }
 
 -- whether a range of this number may be locked, or read
 abbrev pub is_lockable : ℕ → Range → Bool

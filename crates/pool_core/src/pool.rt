@@ -26,15 +26,16 @@ ghost use Rattle.pool_core.specs.Targets.{is_lockable, is_readable};
 ghost use Rattle.pool_core.specs.declared.transactions.OpenTransaction.{OpenTransaction};
 
 use crate::groups::Groups;
-use crate::range_locks::{HeldLock, ObjectRange, RangeLocks, is_range_allowed};
+use crate::range_locks::{HeldLock, RangeLocks};
 use crate::state::Progress;
 use crate::transactions::{
     OpenTransaction, find_transaction, is_blocked, is_group_held, is_held_in_use, is_in_plan,
     is_plan_allowed, is_too_large, range_of, remove_transaction,
 };
 use base::{
-    Bytes, Group, LAST_NUMBER, LockId, MAX_TRANSACTIONS, Mode, OBJECT_COUNT, ObjectId, Op, Ops,
-    Ordinal, Owner, Plan, Pointer, PoolError, Range, Receipt, Shape, TxId, WRITTEN_VERSION,
+    Bytes, Group, LAST_NUMBER, LockId, MAX_TRANSACTIONS, Mode, OBJECT_COUNT, ObjectId, ObjectRange,
+    Op, Ops, Ordinal, Owner, Plan, Pointer, PoolError, Range, Receipt, Shape, TxId,
+    WRITTEN_VERSION,
 };
 use device_model::SectorDevice;
 use import_replay::Mounted;
@@ -535,7 +536,7 @@ impl Pool {
 fn is_lockable(object: ObjectId, range: Range) -> bool
     ensures { result ≡ is_lockable object.0 range }
 {
-    object.0 <= OBJECT_COUNT && is_range_allowed(range)
+    object.0 <= OBJECT_COUNT && range.is_allowed()
 }
 
 // Whether this range of an object may be read.
@@ -543,7 +544,7 @@ fn is_readable(object: ObjectId, range: Range) -> bool
     ensures allowed { result ≡ is_readable object.0 range }
     ensures ordered { IsTrue result → range.low ≤ range.high }
 {
-    object.0 < OBJECT_COUNT && is_range_allowed(range)
+    object.0 < OBJECT_COUNT && range.is_allowed()
 }
 
 // The bytes of a range that an object has.

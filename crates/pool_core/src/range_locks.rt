@@ -3,46 +3,12 @@
 ghost use Rattle.std.specs.Prelude.{[], ◌≤◌, ◌+◌, ◌^◌, ◌≡◌, ◌==◌, IsTrue, filter, not};
 ghost use Rattle.std.specs.List.{find, list_any};
 ghost use Rattle.base.specs.steps.Locks as locks;
-ghost use Rattle.base.specs.history.Plans.{lies_in, overlaps};
 ghost use Rattle.pool_core.specs.declared.range_locks.HeldLock.{HeldLock};
 ghost use Rattle.pool_core.specs.HeldLocks.{blocks, covers, covers_for_writing, is_lock};
-ghost use Rattle.pool_core.specs.Targets.{number_range};
+ghost use Rattle.base.specs.history.Plans.{number_range};
 
-use base::{LAST_NUMBER, LockId, MAX_LENGTH, MAX_LOCKS, Mode, ObjectId, Owner, PoolError, Range};
+use base::{LAST_NUMBER, LockId, MAX_LOCKS, Mode, ObjectRange, Owner, PoolError};
 use std::alloc::{AllocFailed, Global};
-
-/// A byte range of an object, or of the name's number.
-#[derive(Clone, Copy, Debug, PartialEq, Eq)]
-pub struct ObjectRange {
-    pub object: ObjectId,
-    pub range: Range,
-}
-
-impl ObjectRange {
-    /// Whether the two have a byte in common.
-    pub fn overlaps(&self, other: &ObjectRange) -> bool
-        ensures { result ≡ overlaps (number_range self.now) (number_range other.now) }
-    {
-        self.object.0 == other.object.0
-            && (self.range.low < other.range.high && other.range.low < self.range.high)
-    }
-
-    /// Whether it lies in the other.
-    pub fn lies_in(&self, other: &ObjectRange) -> bool
-        ensures { result ≡ lies_in (number_range self.now) (number_range other.now) }
-    {
-        self.object.0 == other.object.0
-            && (other.range.low <= self.range.low && self.range.high <= other.range.high)
-    }
-}
-
-/// Whether a range may be locked or read: its low end lies below its high end, and that is at most the greatest length.
-pub fn is_range_allowed(range: Range) -> bool
-    ensures allowed { result ≡ locks.is_range_allowed range.low range.high }
-    ensures ordered { IsTrue result → range.low ≤ range.high }
-{
-    range.low < range.high && range.high <= MAX_LENGTH
-}
 
 /// A granted range lock.
 #[derive(Clone, Copy, Debug, PartialEq, Eq)]
@@ -143,21 +109,11 @@ impl RangeLocks {
     }
 }
 
-/// Whether a mode is a reader's.
-pub fn is_reader(mode: Mode) -> bool
-    ensures { result ≡ locks.is_reader mode }
-{
-    match mode {
-        Mode::Reader => true,
-        Mode::Writer => false,
-    }
-}
-
 fn any_blocks(held: &[HeldLock], target: &ObjectRange, mode: Mode) -> bool
     ensures { result ≡ list_any (blocks target.now mode) held.now }
 {
     held.iter().any(|lock| lock.target.overlaps(target)
-        && !(is_reader(lock.mode) && is_reader(mode)))
+        && !(lock.mode.is_reader() && mode.is_reader()))
 }
 
 fn find_lock(held: &[HeldLock], owner: Owner, id: LockId) -> Option<HeldLock>
@@ -186,6 +142,6 @@ fn any_covers(held: &[HeldLock], owner: Owner, target: &ObjectRange) -> bool
 fn any_covers_for_writing(held: &[HeldLock], owner: Owner, target: &ObjectRange) -> bool
     ensures { result ≡ list_any (covers_for_writing owner target.now) held.now }
 {
-    held.iter().any(|lock| !is_reader(lock.mode)
+    held.iter().any(|lock| !lock.mode.is_reader()
         && (lock.owner.0 == owner.0 && target.lies_in(&lock.target)))
 }

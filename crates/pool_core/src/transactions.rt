@@ -8,13 +8,14 @@ ghost use Rattle.base.specs.history.Plans.{shape_of};
 ghost use Rattle.base.specs.steps.Stage as stage;
 ghost use Rattle.base.specs.steps.Stage.{is_plan_built};
 ghost use Rattle.pool_core.specs.OpenTransactions.{is_held_in_use, is_of_name, is_range_in_use, open_without, overlaps_open};
-ghost use Rattle.pool_core.specs.Targets.{has_shape_in, kept_range_of, number_range, overlaps_plan, kept_ranges_overlap};
+ghost use Rattle.base.specs.history.Plans.{number_range};
+ghost use Rattle.pool_core.specs.Targets.{has_shape_in, kept_range_of, overlaps_plan, kept_ranges_overlap};
 ghost use Rattle.pool_core.specs.declared.transactions.OpenTransaction.{OpenTransaction};
 
-use crate::range_locks::{HeldLock, ObjectRange, is_reader};
+use crate::range_locks::HeldLock;
 use base::{
-    Group, MAX_LENGTH, MAX_LOG_RECORD, MAX_NAME, OBJECT_COUNT, ObjectId, Op, Owner, Plan, Range,
-    Shape, TxId,
+    Group, MAX_LENGTH, MAX_LOG_RECORD, MAX_NAME, OBJECT_COUNT, ObjectId, ObjectRange, Op, Owner,
+    Plan, Range, Shape, TxId,
 };
 
 /// A transaction that was admitted and has not ended.
@@ -188,7 +189,7 @@ fn is_in_use(target: &ObjectRange, open: &[OpenTransaction]) -> bool
 pub fn is_held_in_use(held: &HeldLock, open: &[OpenTransaction]) -> bool
     ensures { result ≡ is_held_in_use held.now «open».now }
 {
-    !is_reader(held.mode) && is_in_use(&held.target, open)
+    !held.mode.is_reader() && is_in_use(&held.target, open)
 }
 
 fn lies_any_in(plan: &[Shape], target: &ObjectRange) -> bool

@@ -6,6 +6,7 @@ use Rattle.base.specs.declared.operation.Op.{Op}
 use Rattle.base.specs.declared.operation.Op.TheVariants.{Create, Remove, Write, SetLength, SetName}
 use Rattle.base.specs.declared.operation.Shape.{Shape}
 use Rattle.base.specs.declared.operation.Shape.TheVariants as shape
+use Rattle.base.specs.declared.range.ObjectRange.{ObjectRange}
 use Rattle.base.specs.formats.Limits.{object_count, name_number, max_length, record_size}
 use Rattle.base.specs.formats.Names.{is_name_length}
 use Rattle.base.specs.history.Contents.{Contents, length_of}
@@ -23,6 +24,10 @@ pub record NumberRange : Type 0 where
   pub number : ℕ
   pub low : ℕ
   pub high : ℕ
+
+-- the range of an object, or of the name's number, that code speaks of
+abbrev pub number_range : ObjectRange → NumberRange
+number_range t = record { number = t.object.0; low = t.range.low; high = t.range.high }
 
 -- the whole range of an object, or of the name
 abbrev pub whole_range : ℕ → NumberRange

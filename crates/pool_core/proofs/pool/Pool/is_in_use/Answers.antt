@@ -1,8 +1,8 @@
 use Rattle.std.proofs.Common.{◌∙◌, ◌&&◌, not, List, ap}
 use Rattle.std.specs.List.{list_any}
-use Rattle.base.specs.history.Plans.{lies_in}
+use Rattle.base.specs.history.Plans.{lies_in, number_range}
 use Rattle.base.specs.steps.Locks.{is_reader}
-use Rattle.pool_core.specs.Targets.{kept_range_of, number_range}
+use Rattle.pool_core.specs.Targets.{kept_range_of}
 use Rattle.pool_core.specs.declared.transactions.OpenTransaction.{OpenTransaction}
 use Rattle.pool_core.proofs.KeptRanges.{in_use_same}
 use Rattle.pool_core.proofs.pool.Pool.is_in_use.Goals as goal

@@ -1,10 +1,9 @@
 use Rattle.std.proofs.Common.{◌&&◌, Bool, not, List, ap, sym, ◌∙◌}
 use Rattle.std.specs.List.{list_any}
-use Rattle.base.specs.history.Plans.{overlaps}
+use Rattle.base.specs.history.Plans.{overlaps, number_range}
 use Rattle.base.specs.steps.Locks.{Grant, is_reader}
 use Rattle.pool_core.specs.declared.range_locks.HeldLock.{HeldLock}
 use Rattle.pool_core.specs.HeldLocks.{grant_of}
-use Rattle.pool_core.specs.Targets.{number_range}
 use Rattle.pool_core.proofs.Mapped.{list_any-map}
 use Rattle.pool_core.proofs.range_locks.RangeLocks.is_blocked.Goals as goal
 
