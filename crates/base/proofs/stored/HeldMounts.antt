@@ -114,11 +114,4 @@ pub steps_write_no_log : StepsWriteNoLog
 steps_write_no_log (reply.Syncing group) old new x m none = subst HasNoLogBlock (sym m.same) none
 steps_write_no_log reply.More old new x m none = call-no_log old new m.0 x m.1 none
 steps_write_no_log (reply.Synced group) old new x m none = call-no_log old new m.0 x m.1 none
-steps_write_no_log (reply.Refused e) old new x m none = subst HasNoLogBlock (sym m.0) none
-steps_write_no_log reply.Done old new x m none = subst HasNoLogBlock (sym m.0) none
-steps_write_no_log (reply.Locked id) old new x m none = subst HasNoLogBlock (sym m.0) none
-steps_write_no_log (reply.Began tx group) old new x m none = subst HasNoLogBlock (sym m.0) none
-steps_write_no_log (reply.Committed receipt) old new x m none = subst HasNoLogBlock (sym m.0) none
-steps_write_no_log (reply.Bytes all) old new x m none = subst HasNoLogBlock (sym m.0) none
-steps_write_no_log (reply.Opened group) old new x m none = subst HasNoLogBlock (sym m.0) none
-steps_write_no_log (reply.Quiesced group) old new x m none = subst HasNoLogBlock (sym m.0) none
+steps_write_no_log _ old new x m none = subst HasNoLogBlock (sym m.0) none

@@ -1,5 +1,5 @@
 -- Steps and their replies, one after another.
-use Rattle.std.specs.Prelude.{ℕ, ◌≡◌, List, [], ◌∷◌, Option, Result, Ok, Err}
+use Rattle.std.specs.Prelude.{ℕ, ◌≡◌, Bool, true, false, List, [], ◌∷◌, Option, Result, Ok, Err}
 use Rattle.base.specs.declared.error.PoolError.{PoolError}
 use Rattle.base.specs.declared.step.Step as declared_step
 use Rattle.base.specs.declared.step.Step.TheVariants as step
@@ -7,7 +7,7 @@ use Rattle.base.specs.declared.step.Reply as declared_reply
 use Rattle.base.specs.declared.step.Reply.TheVariants as reply
 use Rattle.base.specs.steps.Shown.{Shown}
 use Rattle.base.specs.steps.Refusals as refusal
-use Rattle.base.specs.steps.Refusals.{object_range}
+use Rattle.base.specs.steps.Refusals.{Test, first_refusal, object_range}
 use Rattle.base.specs.steps.Steps as steps
 use Rattle.base.specs.steps.Stage as stage
 use Rattle.base.specs.steps.Steps.{State, SyncProgress}
@@ -56,17 +56,26 @@ Step keeps now (step.StartSync moment) given old new =
 Step keeps now step.SyncStep given old new =
     Replies progress_reply given (λ answer. steps.SyncStep answer old new)
 
--- why each step is refused first, if its tests refuse it
+-- the tests of each step, in order
+abbrev pub tests_of_step : declared_step.Step → Shown → List Test
+tests_of_step (step.Lock owner n range mode) s = refusal.lock_tests owner.0 (object_range n.0 range.low range.high) mode s
+tests_of_step (step.Unlock owner id) s = refusal.unlock_tests owner.0 id.0 s
+tests_of_step (step.Begin owner plan) s = stage.begin_tests owner.0 plan s
+tests_of_step (step.Commit tx ops) s = stage.waits_for_older s (refusal.commit_tests tx.0 ops s)
+tests_of_step (step.Read owner n range) s = refusal.read_tests owner.0 (object_range n.0 range.low range.high) s
+tests_of_step step.CloseGroup s = stage.waits_for_older s (refusal.close_tests s)
+tests_of_step step.MarkQuiesced s = refusal.quiesce_tests s
+tests_of_step (step.StartSync moment) s = refusal.start_tests s
+tests_of_step step.SyncStep s = refusal.sync_step_tests s
+
+-- why it is refused first, if its tests refuse it
 abbrev pub refusal_of_step : declared_step.Step → Shown → Option PoolError
-refusal_of_step (step.Lock owner n range mode) s = refusal.lock_refusal owner.0 (object_range n.0 range.low range.high) mode s
-refusal_of_step (step.Unlock owner id) s = refusal.unlock_refusal owner.0 id.0 s
-refusal_of_step (step.Begin owner plan) s = stage.begin_refusal owner.0 plan s
-refusal_of_step (step.Commit tx ops) s = stage.commit_refusal tx.0 ops s
-refusal_of_step (step.Read owner n range) s = refusal.read_refusal owner.0 (object_range n.0 range.low range.high) s
-refusal_of_step step.CloseGroup s = stage.close_refusal s
-refusal_of_step step.MarkQuiesced s = refusal.quiesce_refusal s
-refusal_of_step (step.StartSync moment) s = refusal.start_refusal s
-refusal_of_step step.SyncStep s = refusal.sync_step_refusal s
+refusal_of_step step s = first_refusal (tests_of_step step s)
+
+-- whether a step says something of the blocks of the device: each other one is the same over every device
+abbrev pub is_start : declared_step.Step → Bool
+is_start (step.StartSync moment) = true
+is_start _ = false
 
 -- steps one after another, each with its reply, over states of any type
 abbrev pub Run : {S : Type 0} → (declared_step.Step → declared_reply.Reply → S → S → Type 0) → List declared_step.Step → List declared_reply.Reply → S → S → Type 0
