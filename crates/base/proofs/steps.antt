@@ -1,4 +1,5 @@
 pub mod NewPools
+pub mod StepEffects
 pub mod Additions
 pub mod BusyLocks
 pub mod OpenTransactions

@@ -6,6 +6,7 @@ pub mod Shown
 pub mod Refusals
 pub mod Steps
 pub mod Stage
+pub mod Effects
 pub mod Runs
 pub mod Exact
 pub mod Explains

@@ -75,13 +75,16 @@ LockAppend owner n answer old new = Answers (refusal.append_refusal owner n old.
     (λ a. let range = refusal.append_range n old.shown in
     (a ≡ (old.shown.next_lock, range.low, range.high)) × (new ≡ state_after_grant (next_grant owner range Writer old.shown) old)) (WantsMemory old new)
 
+abbrev pub state_after_unlock : ℕ → State → State
+state_after_unlock id s = record {
+  shown = record s.shown { locks = filter (λ (g : Grant). not (g.id == id)) s.shown.locks };
+  past = record s.past { let_go = s.past.let_go ++ id ∷ [] };
+}
+
 -- a lock is let go
 abbrev pub Unlock : ℕ → ℕ → Result (Unit {0}) PoolError → State → State → Type 0
 Unlock owner id answer old new = Answers (refusal.unlock_refusal owner id old.shown) answer old new
-    (λ _. new ≡ record {
-      shown = record old.shown { locks = filter (λ (g : Grant). not (g.id == id)) old.shown.locks };
-      past = record old.past { let_go = old.past.let_go ++ id ∷ [] };
-    }) Never
+    (λ _. new ≡ state_after_unlock id old) Never
 
 -- the admission of the next name, to the open group
 abbrev pub next_admission : ℕ → List Shape → Shown → Admission

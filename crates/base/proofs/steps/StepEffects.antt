@@ -1,0 +1,200 @@
+-- Which effect each step with its reply has, and how it is refused. What holds of each effect holds of each step by this.
+use Rattle.std.proofs.Common.{◌≡◌, ℕ, Bool, true, false, not, ◌&&◌, List, [], ◌∷◌, refl, ap, sym, subst, ◌∙◌, ◌⊎◌, inl, inr}
+use Rattle.std.specs.Prelude.{Option, Some, None, Result, Ok, Err, is_some, is_none, nat_le, ◌==◌}
+use Rattle.std.specs.List.{list_all}
+use Rattle.std.specs.Option.{option_map_or}
+use Rattle.std.proofs.lemmas.Bool.{or_parts, not-false, ltb-false, leb-false, false≢true}
+use Rattle.base.specs.declared.error.PoolError.{PoolError}
+use Rattle.base.specs.declared.error.PoolError.TheVariants as error
+use Rattle.base.specs.declared.operation.Op.{Op}
+use Rattle.base.specs.declared.step.Step as declared_step
+use Rattle.base.specs.declared.step.Step.TheVariants as step
+use Rattle.base.specs.declared.step.Reply as declared_reply
+use Rattle.base.specs.declared.step.Reply.TheVariants as reply
+use Rattle.base.specs.formats.Limits.{last_number, max_log_record}
+use Rattle.base.specs.history.Plans.{log_record_size}
+use Rattle.base.specs.steps.Additions.{past_after}
+use Rattle.base.specs.steps.Effects.{Effect, HasEffect, MayHave, is_on_log, is_turning, state_after}
+use Rattle.base.specs.steps.Effects.Effect.{Stays, OnLocks, OnTransactions, OnLine, OnSync, OnLog}
+use Rattle.base.specs.steps.Effects.LockEffect.{AddsGrant, LetsGo}
+use Rattle.base.specs.steps.Effects.TransactionEffect.{AddsAdmission, AddsEntry}
+use Rattle.base.specs.steps.Effects.LineEffect.{OpensNext, QuiescesMiddle}
+use Rattle.base.specs.steps.Effects.SyncEffect.{PlansSync, CountsStep, EndsSync}
+use Rattle.base.specs.steps.Groups.{hold_count}
+use Rattle.base.specs.steps.Locks.{Grant}
+use Rattle.base.specs.steps.Refusals as refusal
+use Rattle.base.specs.steps.Refusals.{Test, refused_if, first_refusal, object_range}
+use Rattle.base.specs.steps.Runs.{Step, refusal_of_step, reply_of, progress_reply}
+use Rattle.base.specs.steps.SeenLaws.{is_suspending, is_untested}
+use Rattle.base.specs.steps.Shown.{Shown, SyncPlan}
+use Rattle.base.specs.steps.Stage as stage
+use Rattle.base.specs.steps.Steps as steps
+use Rattle.base.specs.steps.Steps.{State, Answers, SyncProgress, WantsMemory}
+use Rattle.base.specs.steps.Steps.SyncProgress.{More, Synced}
+use Rattle.base.specs.steps.SyncEnds.{is_refusal}
+use Rattle.base.specs.stored.Stored.{is_turn}
+use Rattle.base.proofs.history.CommitOrder.{no_refusal}
+use Rattle.base.proofs.steps.KeptGroups.{none_there}
+
+-- how a step was answered: it was refused by its tests, or otherwise, or was not refused
+pub data Answered (s : declared_step.Step) (r : declared_reply.Reply) (old new : State) : Type 0 where
+  tested : (e : PoolError) → r ≡ reply.Refused e → refusal_of_step s old.shown ≡ Some e → new ≡ old → Answered s r old new
+  untested : (e : PoolError) → r ≡ reply.Refused e → is_untested s e ≡ true → (is_suspending e ≡ true → new.shown.suspended ≡ true) → refusal_of_step s old.shown ≡ None → Answered s r old new
+  made : is_refusal r ≡ false → refusal_of_step s old.shown ≡ None → Answered s r old new
+
+-- What a step with a reply does: its effect, what it adds to the past, and how it was answered. As of this stage none writes the log.
+pub record StepDoes (s : declared_step.Step) (r : declared_reply.Reply) (old new : State) : Type 0 where
+  pub has : HasEffect old new
+  pub past : new.past ≡ past_after s r old
+  pub turns : is_turning has.effect ≡ is_turn r
+  pub no_log : is_on_log has.effect ≡ false
+  pub answer : Answered s r old new
+
+past-refused : (s : declared_step.Step) (e : PoolError) (old : State) → past_after s (reply.Refused e) old ≡ old.past
+past-refused (step.Lock owner n range mode) e old = refl
+past-refused _ e old = refl
+
+module _ (s : declared_step.Step) (old new : State) where
+  -- an effect, and no more
+  does : (r : declared_reply.Reply) (e : Effect) → refusal_of_step s old.shown ≡ None → MayHave e old → new ≡ state_after e old → (state_after e old).past ≡ past_after s r old → is_refusal r ≡ false
+      → is_turning e ≡ is_turn r → is_on_log e ≡ false → StepDoes s r old new
+  does r e none may is past answers turns no_log = record {
+    has = record { effect = e; may = may; left = inl is };
+    past = ap (λ (x : State). x.past) is ∙ past;
+    turns = turns;
+    no_log = no_log;
+    answer = made answers none;
+  }
+
+  -- a refusal that leaves all as it was
+  stays : (e : PoolError) → new ≡ old → Answered s (reply.Refused e) old new → StepDoes s (reply.Refused e) old new
+  stays e same answer = record {
+    has = record { effect = Stays; may = tt; left = inl same };
+    past = ap (λ (x : State). x.past) same ∙ sym (past-refused s e old);
+    turns = refl;
+    no_log = refl;
+    answer = answer;
+  }
+
+  -- such a one of the step's own, which does not say that the pool is suspended
+  own : (e : PoolError) → refusal_of_step s old.shown ≡ None → new ≡ old → is_untested s e ≡ true → is_suspending e ≡ false → StepDoes s (reply.Refused e) old new
+  own e none same is quiet = stays e same (untested e refl is (λ loud. absurd (false≢true (sym quiet ∙ loud))) none)
+
+  no_memory : (e : PoolError) → refusal_of_step s old.shown ≡ None → WantsMemory old new e → StepDoes s (reply.Refused e) old new
+  no_memory e none wants = own e none wants.1 (ap (is_untested s) wants.0) (ap is_suspending wants.0)
+
+  -- a call that the device refuses, without an effect before it
+  device_refuses : (e : PoolError) → refusal_of_step s old.shown ≡ None → new ≡ steps.suspended_state old → is_untested s e ≡ true → StepDoes s (reply.Refused e) old new
+  device_refuses e none is own = record {
+    has = record { effect = Stays; may = tt; left = inr is };
+    past = ap (λ (x : State). x.past) is ∙ sym (past-refused s e old);
+    turns = refl;
+    no_log = refl;
+    answer = untested e refl own (λ loud. ap (λ (x : State). x.shown.suspended) is) none;
+  }
+
+  by_answer : {A : Type 0} (make : A → declared_reply.Reply) (r : declared_reply.Reply) (answer : Result A PoolError) (done : A → Type 0) (fails : PoolError → Type 0)
+      → ((a : A) → refusal_of_step s old.shown ≡ None → done a → StepDoes s (make a) old new) → ((e : PoolError) → refusal_of_step s old.shown ≡ None → fails e → StepDoes s (reply.Refused e) old new)
+      → r ≡ reply_of make answer → Answers (refusal_of_step s old.shown) answer old new done fails → StepDoes s r old new
+  by_answer {A} make r answer done fails answers refuses is h = subst (λ q. StepDoes s q old new) (sym is) (go (refusal_of_step s old.shown) refl answer h)
+    where
+      go : (o : Option PoolError) → refusal_of_step s old.shown ≡ o → (a : Result A PoolError) → Answers o a old new done fails → StepDoes s (reply_of make a) old new
+      go None none (Ok a) d = answers a none d
+      go None none (Err e) d = refuses e none d
+      go (Some e) some (Ok a) d = absurd (let no_way : Ok a ≡ Err e = d.0 in cc)
+      go (Some e) some (Err f) d = let same : e ≡ f = cc in stays f d.1 (tested f refl (some ∙ ap (λ (x : PoolError). Some x) same) d.1)
+
+-- what the tests of some steps have found
+module _ (s : Shown) where
+  some_there : {A : Type 0} (o : Option A) → is_none o ≡ false → (a : A) × (o ≡ Some a)
+  some_there None h = absurd (false≢true (sym h))
+  some_there (Some a) h = (a, refl)
+
+  lock_found : (owner id : ℕ) → refusal.unlock_refusal owner id s ≡ None → (g : Grant) × (refusal.lock_of owner id s ≡ Some g) × (refusal.is_lock_in_use g s ≡ false)
+  lock_found owner id none =
+      let held = some_there (refusal.lock_of owner id s) (no_refusal (refusal.unlock_tests owner id s) none 1 _ refl) in
+      (held.0, held.1, subst (λ o. option_map_or (λ g. refusal.is_lock_in_use g s) o false ≡ false) held.1 (no_refusal (refusal.unlock_tests owner id s) none 2 _ refl))
+
+  none_older : (tests : List Test) → first_refusal (stage.waits_for_older s tests) ≡ None → (s.line.middle ≡ None) × (s.line.syncing ≡ None)
+  none_older tests none =
+      let parts = or_parts (is_some s.line.middle) (is_some s.line.syncing) (no_refusal (stage.waits_for_older s tests) none 1 _ refl) in
+      (none_there s.line.middle parts.0, none_there s.line.syncing parts.1)
+
+  later_none : (t : Test) (ts : List Test) → first_refusal (t ∷ ts) ≡ None → first_refusal ts ≡ None
+  later_none t ts none = go t.applies none
+    where
+      go : (b : Bool) → first_refusal (record { applies = b; error = t.error } ∷ ts) ≡ None → first_refusal ts ≡ None
+      go true h = absurd (let no_way : Some t.error ≡ None = h in cc)
+      go false h = h
+
+  commit_passes : (tx : ℕ) (ops : List Op) → stage.commit_refusal tx ops s ≡ None → refusal.whole_commit_refusal tx ops s ≡ None
+  commit_passes tx ops none =
+      let older : Test = refused_if (stage.has_older_group s.line) error.NotReady in
+      later_none older (refusal.commit_tests tx ops s) (later_none (refused_if s.suspended error.Suspended) (older ∷ refusal.commit_tests tx ops s) none)
+
+  none_held : (group : ℕ) → refusal.quiesce_refusal s ≡ None → refusal.quiescing_group s.line ≡ Some group → (hold_count group s.transactions == 0) ≡ true
+  none_held group none quiescing =
+      not-false (hold_count group s.transactions == 0) (subst (λ o. not (option_map_or (λ g. hold_count g s.transactions == 0) o false) ≡ false) quiescing (no_refusal (refusal.quiesce_tests s) none 1 _ refl))
+
+  none_syncs : refusal.start_refusal s ≡ None → s.line.syncing ≡ None
+  none_syncs none = none_there s.line.syncing (or_parts (is_none (refusal.quiesced_group s.line)) (is_some s.line.syncing) (no_refusal (refusal.start_tests s) none 1 _ refl)).1
+
+-- The effect of each step: a new step has its case here.
+pub step_does : (keeps : Type 0) (now : List ℕ) (s : declared_step.Step) (r : declared_reply.Reply) (old new : State) → Step keeps now s r old new → StepDoes s r old new
+step_does keeps now (step.Lock owner n range mode) r old new (answer, is, h) =
+    let s : declared_step.Step = step.Lock owner n range mode in
+    let wanted = object_range n.0 range.low range.high in
+    by_answer s old new _ r answer _ _ (λ id none d. does s old new _ (OnLocks (AddsGrant (steps.next_grant owner.0 wanted mode old.shown))) none
+    (refl, no_refusal (refusal.lock_tests owner.0 wanted mode old.shown) none 2 _ refl) d.1 (rw d.0 refl) refl refl refl)
+    (no_memory s old new) is h
+step_does keeps now (step.Unlock owner id) r old new (answer, is, h) =
+    let s : declared_step.Step = step.Unlock owner id in
+    by_answer s old new _ r answer _ _ (λ a none d. does s old new _ (OnLocks (LetsGo owner.0 id.0)) none (lock_found old.shown owner.0 id.0 none) d refl refl refl refl) (λ e none never. absurd never) is h
+step_does keeps now (step.Begin owner plan) r old new (answer, is, h) =
+    let s : declared_step.Step = step.Begin owner plan in
+    let tests = stage.begin_tests owner.0 plan old.shown in
+    by_answer s old new _ r answer _ _ (λ a none d. does s old new _ (OnTransactions (AddsAdmission (steps.next_admission owner.0 plan old.shown))) none (record {
+      named = refl;
+      in_open = refl;
+      built = not-false (stage.is_plan_built plan) (no_refusal tests none 2 _ refl);
+      small = ltb-false max_log_record (log_record_size plan) (no_refusal tests none 3 _ refl);
+      covered = not-false (refusal.is_plan_covered owner.0 plan old.shown.locks) (no_refusal tests none 4 _ refl);
+      free = no_refusal tests none 5 _ refl;
+    }) d.1 (rw d.0 refl) refl refl refl) (no_memory s old new) is h
+step_does keeps now (step.Commit tx ops) r old new (answer, is, h) =
+    let s : declared_step.Step = step.Commit tx ops in
+    by_answer s old new _ r answer _ _ (λ receipt none d.
+    let idle = none_older old.shown (refusal.commit_tests tx.0 ops old.shown) none in
+    does s old new _ (OnTransactions (AddsEntry tx.0 d.0 ops d.1)) none
+    (record { found = d.2; passed = commit_passes old.shown tx.0 ops none; applied = d.3; allowed = d.4; no_middle = idle.0; no_sync = idle.1 }) d.6 (rw d.5 refl) refl refl refl)
+    (no_memory s old new) is h
+step_does keeps now (step.Read owner n range) r old new (answer, is, h) =
+    let s : declared_step.Step = step.Read owner n range in
+    by_answer s old new _ r answer _ _ (λ bytes none d. does s old new _ Stays none tt d.1 refl refl refl refl) (no_memory s old new) is h
+step_does keeps now step.CloseGroup r old new (answer, is, h) =
+    by_answer step.CloseGroup old new _ r answer _ _ (λ group none d.
+    let tests = stage.waits_for_older old.shown (refusal.close_tests old.shown) in
+    let last = (or_parts (is_some old.shown.line.middle) (nat_le last_number old.shown.line.open_group) (no_refusal tests none 3 _ refl)).1 in
+    does step.CloseGroup old new _ (OnLine OpensNext) none ((none_older old.shown (refusal.close_tests old.shown) none).0, leb-false last_number old.shown.line.open_group last) d.1 refl refl refl refl)
+    (λ e none never. absurd never) is h
+step_does keeps now step.MarkQuiesced r old new (answer, is, h) =
+    by_answer step.MarkQuiesced old new _ r answer _ _
+    (λ group none d. does step.MarkQuiesced old new _ (OnLine (QuiescesMiddle group)) none (d.0, none_held old.shown group none d.0) d.1 refl refl refl refl) (λ e none never. absurd never) is h
+step_does keeps now (step.StartSync moment) r old new (answer, is, h) =
+    let s : declared_step.Step = step.StartSync moment in
+    by_answer s old new _ r answer _ _ (λ group none d. does s old new _ (OnSync (PlansSync group d.0)) none (moment, d.1, none_syncs old.shown none, d.2) d.4 refl refl refl refl)
+    (λ e none fails. elim fails.0 as (λ _. StepDoes s (reply.Refused e) old new) [
+      | inl memory ↦ no_memory s old new e none (memory, fails.1)
+      | inr full ↦ own s old new e none fails.1 (ap (is_untested s) full) (ap is_suspending full)
+    ]) is h
+step_does keeps now step.SyncStep r old new (answer, is, h) =
+    by_answer step.SyncStep old new progress_reply r answer _ _ progress (λ e none fails. device_refuses step.SyncStep old new e none fails.1 (by_device e fails.0)) is h
+  where
+    progress : (p : SyncProgress) → refusal.sync_step_refusal old.shown ≡ None
+        → (group : ℕ) × (plan : SyncPlan) × (old.shown.line.syncing ≡ Some group) × (old.shown.sync ≡ Some plan) × steps.IsProgress group p plan old new → StepDoes step.SyncStep (progress_reply p) old new
+    progress More none d = does step.SyncStep old new reply.More (OnSync (CountsStep d.1)) none (d.3, d.4.0) d.4.1 refl refl refl refl
+    progress (Synced g) none d = does step.SyncStep old new _ (OnSync (EndsSync d.0 d.1)) none (d.2, d.3) d.4.2 (rw d.4.1 refl) refl refl refl
+
+    by_device : (e : PoolError) → (e ≡ error.Write) ⊎ (e ≡ error.Flush) → is_untested step.SyncStep e ≡ true
+    by_device e (inl write) = ap (is_untested step.SyncStep) write
+    by_device e (inr flush) = ap (is_untested step.SyncStep) flush
