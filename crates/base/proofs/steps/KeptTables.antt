@@ -1,4 +1,4 @@
--- Each step keeps what is shown of a pool exact, and its entries a history.
+-- Each effect of a step keeps what is shown of a pool exact, and its entries a history: so each step does.
 use Rattle.std.proofs.Common.{rules, ◌≡◌, ℕ, ◌+◌, ◌<◌, ◌≤◌, Bool, true, false, not, ◌&&◌, List, [], ◌∷◌, ◌++◌, length, map, refl, ap, sym, subst, ◌∙◌, arith, ◌⊎◌, inl, inr}
 use Rattle.std.specs.Prelude.{Option, Some, None, Result, Ok, Err, is_some, is_none, slice_get, option_map, IfSome, filter, nat_lt, nat_le, All, ◌==◌}
 use Rattle.std.specs.List.{list_all, list_any}
@@ -25,7 +25,7 @@ use Rattle.base.specs.formats.Uberblocks.{Uberblock}
 use Rattle.base.specs.history.Past.{Past, new_past}
 use Rattle.base.specs.steps.Shown.{Shown, SyncPlan}
 use Rattle.base.specs.formats.Records.{Record, IsAllowed, is_content_allowed}
-use Rattle.base.specs.steps.Exact.{IsBounded}
+use Rattle.base.specs.steps.Exact.{IsBounded, AreLocksExact, AreGroupsExact, AreIsolated, IsLogExact, IsSyncExact}
 use Rattle.base.specs.crash.Imports.{IsImported}
 use Rattle.base.specs.steps.Refusals as refusal
 use Rattle.base.specs.steps.Refusals.{Test, refused_if, first_refusal}
@@ -33,6 +33,13 @@ use Rattle.base.specs.steps.Steps as steps
 use Rattle.base.specs.steps.Steps.{State, Answers, SyncProgress}
 use Rattle.base.specs.steps.Steps.SyncProgress.{More, Synced}
 use Rattle.base.specs.steps.Stage as stage
+use Rattle.base.specs.steps.Effects.{Effect, LockEffect, TransactionEffect, LineEffect, SyncEffect, LogEffect, HasEffect, MayHave, MayLock, MayAdmit, MayCommit, MayTransact, MayLine, MaySync, MayLog, state_after}
+use Rattle.base.specs.steps.Effects.Effect.{Stays, OnLocks, OnTransactions, OnLine, OnSync, OnLog}
+use Rattle.base.specs.steps.Effects.LockEffect.{AddsGrant, LetsGo}
+use Rattle.base.specs.steps.Effects.TransactionEffect.{AddsAdmission, AddsEntry}
+use Rattle.base.specs.steps.Effects.LineEffect.{OpensNext, QuiescesMiddle}
+use Rattle.base.specs.steps.Effects.SyncEffect.{PlansSync, CountsStep, EndsSync}
+use Rattle.base.specs.steps.Effects.LogEffect.{WritesLog, FlushesLog}
 use Rattle.base.specs.steps.Runs.{Step}
 use Rattle.base.specs.steps.ExactNow.{IsExplainedNow, IsRun, IsLogStep}
 use Rattle.base.proofs.history.Cuts.{histories_grow}
@@ -49,88 +56,56 @@ use Rattle.base.proofs.steps.KeptWrites.{write_log, write_sync}
 use Rattle.base.proofs.steps.KeptFlushes.{flush_log, flush_sync}
 use Rattle.base.proofs.history.KeptContents.{operations_keep}
 use Rattle.base.proofs.steps.KeptSyncs.{same_sync, start_sync, step_sync, end_sync}
+use Rattle.base.proofs.steps.StepEffects.{log_step_has, step_does}
 
 abbrev IsExplainedState : State → Type 0
 IsExplainedState s = IsExplainedNow s.shown s.past
 
--- a refused step keeps it where its own refusals do, and each step where what it does does too
-refused_step : {A : Type 0} (r : Option PoolError) (e : PoolError) (old new : State) (does : A → Type 0) (own : PoolError → Type 0)
-    → IsExplainedState old → (own e → IsExplainedState new) → Answers r (Err e) old new does own → IsExplainedState new
-refused_step None e old new does own x refused h = refused h
-refused_step (Some f) e old new does own x refused h = subst IsExplainedState (sym h.1) x
-
-by_answer : {A : Type 0} (answer : Result A PoolError) (r : Option PoolError) (old new : State) (does : A → Type 0) (own : PoolError → Type 0)
-    → ((a : A) → r ≡ None → does a → IsExplainedState new) → ((e : PoolError) → own e → IsExplainedState new) → IsExplainedState old → Answers r answer old new does own → IsExplainedState new
-by_answer (Ok a) r old new does own done refused x h = let both = ok-none r a old new does own h in done a both.0 both.1
-by_answer (Err e) r old new does own done refused x h = refused_step r e old new does own x (refused e) h
-
-some_there : {A : Type 0} (o : Option A) → is_none o ≡ false → (a : A) × (o ≡ Some a)
-some_there None h = absurd (let no_way : true ≡ false = h in cc)
-some_there (Some a) h = (a, refl)
-
--- a lock
-lock_state : (g : Grant) (s : State) → IsExplainedState s → g.id ≡ s.shown.next_lock → is_blocked g.range g.mode s.shown.locks ≡ false → IsExplainedState (steps.state_after_grant g s)
-lock_state g s x named free =
-    let t : State = steps.state_after_grant g s in
-    record {
-      exact = record {
-        locks = lock_keeps s.shown s.past x.exact.locks g named free;
-        groups = same_groups s.shown t.shown s.past t.past x.exact.groups;
-        order = x.exact.order;
-        isolated = lock_isolated s.shown t.shown s.past t.past g x.exact.isolated;
-        log = same_log s.shown t.shown s.past t.past x.exact.log;
-        bounded = x.exact.bounded;
-        sync = same_sync s.shown t.shown x.exact.sync;
-        limit = x.exact.limit;
-      };
-      history = x.history;
-    }
-
-lock_step : (owner : ℕ) (range : NumberRange) (mode : Mode) (answer : Result ℕ PoolError) (old new : State) → IsExplainedState old → steps.Lock owner range mode answer old new → IsExplainedState new
-lock_step owner range mode answer old new x h = by_answer answer (refusal.lock_refusal owner range mode old.shown) old new _ _
-    (λ id none d. subst IsExplainedState (sym d.1) (lock_state (steps.next_grant owner range mode old.shown) old x refl (no_refusal (refusal.lock_tests owner range mode old.shown) none 2 _ refl)))
-    (λ e own. subst IsExplainedState (sym own.1) x) x h
-
--- an unlock
-unlock_step : (owner id : ℕ) (answer : Result (Unit {0}) PoolError) (old new : State) → IsExplainedState old → steps.Unlock owner id answer old new → IsExplainedState new
-unlock_step owner id answer old new x h = by_answer answer (refusal.unlock_refusal owner id old.shown) old new _ _ (λ a none d. subst IsExplainedState (sym d) (state none)) (λ e own. absurd own) x h
+-- an effect on the locks
+locks_keep : (e : LockEffect) (s : State) → IsExplainedState s → MayLock e s → IsExplainedState (state_after (OnLocks e) s)
+locks_keep e s x may = record {
+  exact = record {
+    locks = locks e may;
+    groups = same_groups s.shown t.shown s.past t.past x.exact.groups;
+    order = x.exact.order;
+    isolated = isolated e may;
+    log = same_log s.shown t.shown s.past t.past x.exact.log;
+    bounded = x.exact.bounded;
+    sync = same_sync s.shown t.shown x.exact.sync;
+    limit = x.exact.limit;
+  };
+  history = x.history;
+}
   where
-    state : refusal.unlock_refusal owner id old.shown ≡ None
-        → IsExplainedNow (record old.shown { locks = filter (λ (g : Grant). not (g.id == id)) old.shown.locks }) (record old.past { let_go = old.past.let_go ++ id ∷ [] })
-    state none =
-        let s : Shown = old.shown in
-        let p : Past = old.past in
-        let t : Shown = record s { locks = filter (λ (g : Grant). not (g.id == id)) s.locks } in
-        let q : Past = record p { let_go = p.let_go ++ id ∷ [] } in
-        let held : (g : Grant) × (refusal.lock_of owner id s ≡ Some g) = some_there (refusal.lock_of owner id s) (no_refusal (refusal.unlock_tests owner id s) none 1 _ refl) in
-        let found = found_at (λ (g : Grant). (g.id == id) && (g.owner == owner)) s.locks held.0 held.1 in
-        let named : held.0.id ≡ id = eqb-true held.0.id id (and_parts (held.0.id == id) (held.0.owner == owner) found.2).0 in
-        let unused : refusal.is_lock_in_use held.0 s ≡ false = subst (λ o. option_map_or (λ g. refusal.is_lock_in_use g s) o false ≡ false) held.1 (no_refusal (refusal.unlock_tests owner id s) none 2 _ refl) in
-        record {
-          exact = record {
-            locks = unlock_keeps s p x.exact.locks id found.0 held.0 found.1 named;
-            groups = same_groups s t p q x.exact.groups;
-            order = x.exact.order;
-            isolated = unlock_isolated s p q id found.0 held.0 x.exact.locks x.exact.isolated found.1 named unused;
-            log = same_log s t p q x.exact.log;
-            bounded = x.exact.bounded;
-            sync = same_sync s t x.exact.sync;
-            limit = x.exact.limit;
-          };
-          history = x.history;
-        }
+    t : State
+    t = state_after (OnLocks e) s
 
--- a begin
-begin_state : (a : Admission) (s : State) → IsExplainedState s → a.tx ≡ s.shown.next_tx → a.group ≡ s.shown.line.open_group → is_plan_allowed a.plan ≡ true → log_record_size a.plan ≤ max_log_record
-    → refusal.is_plan_blocked a.plan s.shown.transactions ≡ false → refusal.is_plan_covered a.owner a.plan s.shown.locks ≡ true → IsExplainedState (stage.state_after_admission a s)
-begin_state a s x named in_open allowed small free covers =
+    found : (owner id : ℕ) (g : Grant) → refusal.lock_of owner id s.shown ≡ Some g → (i : ℕ) × (slice_get s.shown.locks i ≡ Some g) × (g.id ≡ id)
+    found owner id g is =
+        let place = found_at (λ (h : Grant). (h.id == id) && (h.owner == owner)) s.shown.locks g is in
+        (place.0, place.1, eqb-true g.id id (and_parts (g.id == id) (g.owner == owner) place.2).0)
+
+    locks : (e : LockEffect) → MayLock e s → AreLocksExact (state_after (OnLocks e) s).shown (state_after (OnLocks e) s).past
+    locks (AddsGrant g) (named, free) = lock_keeps s.shown s.past x.exact.locks g named free
+    locks (LetsGo owner id) (g, is, unused) = let at = found owner id g is in unlock_keeps s.shown s.past x.exact.locks id at.0 g at.1 at.2
+
+    isolated : (e : LockEffect) → MayLock e s → AreIsolated (state_after (OnLocks e) s).shown (state_after (OnLocks e) s).past
+    isolated (AddsGrant g) may = let u : State = steps.state_after_grant g s in lock_isolated s.shown u.shown s.past u.past g x.exact.isolated
+    isolated (LetsGo owner id) (g, is, unused) =
+        let at = found owner id g is in
+        unlock_isolated s.shown s.past (steps.state_after_unlock id s).past id at.0 g x.exact.locks x.exact.isolated at.1 at.2 unused
+
+-- an admission
+admission_keeps : (a : Admission) (s : State) → IsExplainedState s → MayAdmit a s → IsExplainedState (stage.state_after_admission a s)
+admission_keeps a s x may =
     let t : State = stage.state_after_admission a s in
+    let allowed = (and_parts (is_plan_allowed a.plan) (list_all stage.is_shape_built a.plan) may.built).0 in
     record {
       exact = record {
         locks = same_locks s.shown t.shown s.past t.past x.exact.locks;
-        groups = begin_keeps s.shown s.past a x.exact.groups named in_open allowed small;
+        groups = begin_keeps s.shown s.past a x.exact.groups may.named may.in_open allowed may.small;
         order = x.exact.order;
-        isolated = begin_isolated s.shown t.shown s.past t.past a x.exact.isolated in_open free covers;
+        isolated = begin_isolated s.shown t.shown s.past t.past a x.exact.isolated may.in_open may.free may.covered;
         log = same_log s.shown t.shown s.past t.past x.exact.log;
         bounded = x.exact.bounded;
         sync = same_sync s.shown t.shown x.exact.sync;
@@ -138,37 +113,6 @@ begin_state a s x named in_open allowed small free covers =
       };
       history = x.history;
     }
-
-begin_step : (owner : ℕ) (plan : List Shape) (answer : Result (ℕ × ℕ) PoolError) (old new : State) → IsExplainedState old → stage.Begin owner plan answer old new → IsExplainedState new
-begin_step owner plan answer old new x h = by_answer answer (stage.begin_refusal owner plan old.shown) old new _ _
-    (λ a none d. subst IsExplainedState (sym d.1) (begin_state (steps.next_admission owner plan old.shown) old x refl refl
-    (and_parts (is_plan_allowed plan) (list_all stage.is_shape_built plan) (not-false (stage.is_plan_built plan) (no_refusal (stage.begin_tests owner plan old.shown) none 2 _ refl))).0
-    (ltb-false max_log_record (log_record_size plan) (no_refusal (stage.begin_tests owner plan old.shown) none 3 _ refl))
-    (no_refusal (stage.begin_tests owner plan old.shown) none 5 _ refl)
-    (not-false (refusal.is_plan_covered owner plan old.shown.locks) (no_refusal (stage.begin_tests owner plan old.shown) none 4 _ refl))))
-    (λ e own. subst IsExplainedState (sym own.1) x) x h
-
--- a commit
-later_none : (t : Test) (ts : List Test) → first_refusal (t ∷ ts) ≡ None → first_refusal ts ≡ None
-later_none t ts none = go t.applies none
-  where
-    go : (b : Bool) → first_refusal (record { applies = b; error = t.error } ∷ ts) ≡ None → first_refusal ts ≡ None
-    go true h = absurd (let no_way : Some t.error ≡ None = h in cc)
-    go false h = h
-
-ok_answer : {A : Type 0} (r : Option PoolError) (a : A) (old new : State) (does : A → Type 0) (own : PoolError → Type 0) → r ≡ None → does a → Answers r (Ok a) old new does own
-ok_answer {A} r a old new does own none d = subst (λ o. Answers o (Ok a) old new does own) (sym none) d
-
-commit_none : (tx : ℕ) (ops : List Op) (s : Shown) → stage.commit_refusal tx ops s ≡ None → refusal.whole_commit_refusal tx ops s ≡ None
-commit_none tx ops s none =
-    let older : Test = refused_if (stage.has_older_group s.line) error.NotReady in
-    later_none older (refusal.commit_tests tx ops s) (later_none (refused_if s.suspended error.Suspended) (older ∷ refusal.commit_tests tx ops s) none)
-
--- a commit that is answered Ok is so where older groups count for nothing
-full_commit : (tx : ℕ) (ops : List Op) (receipt : ℕ × ℕ) (old new : State) → stage.Commit tx ops (Ok receipt) old new → steps.WholeCommit tx ops (Ok receipt) old new
-full_commit tx ops receipt old new h =
-    let done = ok-none (stage.commit_refusal tx ops old.shown) receipt old new _ _ h in
-    ok_answer (refusal.whole_commit_refusal tx ops old.shown) receipt old new _ _ (commit_none tx ops old.shown done.0) done.1
 
 shape_range : (x : Shape) → is_shape_allowed x ≡ true → IsRange (range_of x)
 shape_range (shape.Create n) h = record { some = omega arith; within = omega arith }
@@ -186,9 +130,8 @@ plan_range (x ∷ xs) h =
     let p = and_parts (is_shape_allowed x) (list_all is_shape_allowed xs) h in
     All-cons IsRange (range_of x) (plan_ranges xs) (shape_range x p.0) (plan_range xs p.1)
 
-module _ (tx : ℕ) (ops : List Op) (receipt : ℕ × ℕ) (old new : State) (x : IsExplainedState old) (none : refusal.whole_commit_refusal tx ops old.shown ≡ None) (a : Admission) (contents : Contents)
-    (there : refusal.transaction_of tx old.shown ≡ Some a) (applied : apply_all ops old.shown.contents ≡ Ok contents) (allowed : list_all is_content_allowed ops ≡ true)
-    (admitted : AreAdmitted (steps.state_after_commit tx a.group ops contents old).past.entries (steps.state_after_commit tx a.group ops contents old).shown.line.open_group (map admitted_of (steps.state_after_commit tx a.group ops contents old).shown.transactions)) where
+-- an entry
+module _ (tx : ℕ) (a : Admission) (ops : List Op) (contents : Contents) (old : State) (x : IsExplainedState old) (may : MayCommit tx a ops contents old) where
   abbrev s : Shown
   s = old.shown
 
@@ -202,13 +145,13 @@ module _ (tx : ℕ) (ops : List Op) (receipt : ℕ × ℕ) (old new : State) (x 
   e = record { group = a.group; tx = tx; ops = ops }
 
   place : (i : ℕ) × (slice_get s.transactions i ≡ Some a) × ((a.tx == tx) ≡ true)
-  place = let found = found_at (λ (b : Admission). b.tx == tx) s.transactions a there in (found.0, found.1, found.2)
+  place = let found = found_at (λ (b : Admission). b.tx == tx) s.transactions a may.found in (found.0, found.1, found.2)
 
   named : a.tx ≡ tx
   named = eqb-true a.tx tx place.2
 
   of_plan : map shape_of ops ≡ a.plan
-  of_plan = found-plan tx ops old a none there
+  of_plan = found-plan tx ops old a may.passed may.found
 
   in_line : slice_get (open_transactions p.admissions p.entries p.aborted) place.0 ≡ Some a
   in_line = subst (λ ts. slice_get ts place.0 ≡ Some a) x.exact.groups.transactions place.1
@@ -223,7 +166,7 @@ module _ (tx : ℕ) (ops : List Op) (receipt : ℕ × ℕ) (old new : State) (x 
   shapes_allowed = subst (λ q. list_all is_shape_allowed q ≡ true) (sym of_plan) (and_parts (nat_lt 0 (length a.plan)) (list_all is_shape_allowed a.plan) plan_allowed.0).1
 
   last_ordinal : s.next_ordinal ≤ last_number
-  last_ordinal = ltb-false last_number s.next_ordinal (no_refusal (tests (Ok contents)) (subst (λ r. first_refusal (tests r) ≡ None) applied none) 4 _ refl)
+  last_ordinal = ltb-false last_number s.next_ordinal (no_refusal (tests (Ok contents)) (subst (λ r. first_refusal (tests r) ≡ None) may.applied may.passed) 4 _ refl)
     where
       tests : Result Contents PoolError → List Test
       tests r = refused_if s.suspended error.Suspended
@@ -237,7 +180,7 @@ module _ (tx : ℕ) (ops : List Op) (receipt : ℕ × ℕ) (old new : State) (x 
     group = let low = within.1 in let last = x.exact.groups.line.last in omega arith;
     ordinal = last_ordinal;
     shapes = subst (λ q. is_plan_allowed q ≡ true) (sym of_plan) plan_allowed.0;
-    contents = allowed;
+    contents = may.allowed;
     size = subst (λ q. log_record_size q ≤ max_log_record) (sym of_plan) plan_allowed.1;
   }
 
@@ -251,151 +194,143 @@ module _ (tx : ℕ) (ops : List Op) (receipt : ℕ × ℕ) (old new : State) (x 
   commit_history : IsHistory (p.entries ++ e ∷ []) p.base contents
   commit_history = histories_grow p.entries e p.base s.contents contents x.history
       (subst (λ ts. All IsRange ts) (sym touches) (plan_range a.plan (and_parts (nat_lt 0 (length a.plan)) (list_all is_shape_allowed a.plan) plan_allowed.0).1))
-      (subst (λ ts. MayFollow p.entries a.group ts) (sym touches) follows) applied
+      (subst (λ ts. MayFollow p.entries a.group ts) (sym touches) follows) may.applied
 
-  commit_state : IsExplainedState after
-  commit_state = record {
+  entry_keeps : IsExplainedState after
+  entry_keeps = record {
     exact = record {
       locks = same_locks s after.shown p after.past x.exact.locks;
       groups = commit_keeps s after.shown p e place.0 a x.exact.groups place.1 named refl of_plan;
       order = commit_history.order;
-      isolated = record { admitted = admitted; covered = covered_without s p (λ (b : Admission). not (b.tx == tx)) x.exact.isolated };
+      isolated = record { admitted = commit-admitted tx ops old a x.exact.isolated.admitted may.passed may.found; covered = covered_without s p (λ (b : Admission). not (b.tx == tx)) x.exact.isolated };
       log = commit_log s after.shown p after.past x.exact.log e within.0 record_allowed;
-      bounded = operations_keep ops s.contents contents shapes_allowed allowed applied x.exact.bounded;
+      bounded = operations_keep ops s.contents contents shapes_allowed may.allowed may.applied x.exact.bounded;
       sync = same_sync s after.shown x.exact.sync;
       limit = x.exact.limit;
     };
     history = commit_history;
   }
 
-commit_step : (tx : ℕ) (ops : List Op) (answer : Result (ℕ × ℕ) PoolError) (old new : State) → IsExplainedState old → stage.Commit tx ops answer old new → IsExplainedState new
-commit_step tx ops (Ok receipt) old new x h =
-    let done = ok-none (stage.commit_refusal tx ops old.shown) receipt old new _ _ h in
-    let admitted = commit-admitted tx ops receipt old new x.exact.isolated.admitted (full_commit tx ops receipt old new h) in
-    subst IsExplainedState (sym done.1.6) (commit_state tx ops receipt old new x (commit_none tx ops old.shown done.0) done.1.0 done.1.1 done.1.2 done.1.3 done.1.4
-    (subst (λ (t : State). AreAdmitted t.past.entries t.shown.line.open_group (map admitted_of t.shown.transactions)) done.1.6 admitted))
-commit_step tx ops (Err e) old new x h = refused_step (stage.commit_refusal tx ops old.shown) e old new _ _ x (λ own. subst IsExplainedState (sym own.1) x) h
+-- an effect on the transactions
+transactions_keep : (e : TransactionEffect) (s : State) → IsExplainedState s → MayTransact e s → IsExplainedState (state_after (OnTransactions e) s)
+transactions_keep (AddsAdmission a) s x may = admission_keeps a s x may
+transactions_keep (AddsEntry tx a ops contents) s x may = entry_keeps tx a ops contents s x may
 
--- a read, and whatever leaves all as it was
-same_step : (old new : State) → IsExplainedState old → new ≡ old → IsExplainedState new
-same_step old new x is = subst IsExplainedState (sym is) x
+-- an effect on the line of groups
+line_keeps : (e : LineEffect) (s : State) → IsExplainedState s → MayLine e s → IsExplainedState (state_after (OnLine e) s)
+line_keeps e s x may = record {
+  exact = record {
+    locks = same_locks s.shown t.shown s.past t.past x.exact.locks;
+    groups = groups e may;
+    order = x.exact.order;
+    isolated = isolated e;
+    log = same_log s.shown t.shown s.past t.past x.exact.log;
+    bounded = x.exact.bounded;
+    sync = same_sync s.shown t.shown x.exact.sync;
+    limit = x.exact.limit;
+  };
+  history = x.history;
+}
+  where
+    t : State
+    t = state_after (OnLine e) s
 
-read_step : (owner : ℕ) (range : NumberRange) (answer : Result (List ℕ) PoolError) (old new : State) → IsExplainedState old → stage.Read owner range answer old new → IsExplainedState new
-read_step owner range answer old new x h = by_answer answer (refusal.read_refusal owner range old.shown) old new _ _ (λ bytes none d. same_step old new x d.1) (λ e own. same_step old new x own.1) x h
+    groups : (e : LineEffect) → MayLine e s → AreGroupsExact (state_after (OnLine e) s).shown s.past
+    groups OpensNext (none, below) = close_keeps s.shown s.past x.exact.groups none below
+    groups (QuiescesMiddle group) (is, none) = quiesce_keeps s.shown s.past group x.exact.groups (quiescing_is s.shown.line group is) none
 
--- a close
-close_state : (s : State) → IsExplainedState s → s.shown.line.middle ≡ None → s.shown.line.open_group < last_number → IsExplainedState (steps.with_line (steps.line_after_close s.shown.line) s)
-close_state s x none below =
-    let t : State = steps.with_line (steps.line_after_close s.shown.line) s in
-    record {
-      exact = record {
-        locks = same_locks s.shown t.shown s.past t.past x.exact.locks;
-        groups = close_keeps s.shown s.past x.exact.groups none below;
-        order = x.exact.order;
-        isolated = record { admitted = closes_leave s.past.entries s.shown.line.open_group (map admitted_of s.shown.transactions) x.exact.isolated.admitted; covered = x.exact.isolated.covered };
-        log = same_log s.shown t.shown s.past t.past x.exact.log;
-        bounded = x.exact.bounded;
-        sync = same_sync s.shown t.shown x.exact.sync;
-        limit = x.exact.limit;
-      };
-      history = x.history;
+    isolated : (e : LineEffect) → AreIsolated (state_after (OnLine e) s).shown s.past
+    isolated OpensNext = record {
+      admitted = closes_leave s.past.entries s.shown.line.open_group (map admitted_of s.shown.transactions) x.exact.isolated.admitted;
+      covered = x.exact.isolated.covered;
     }
+    isolated (QuiescesMiddle group) = same_isolated s.shown (state_after (OnLine (QuiescesMiddle group)) s).shown s.past s.past x.exact.isolated
 
-close_step : (answer : Result ℕ PoolError) (old new : State) → IsExplainedState old → stage.CloseGroup answer old new → IsExplainedState new
-close_step answer old new x h = by_answer answer (stage.close_refusal old.shown) old new _ _
-    (λ group none d.
-    let parts = or_parts (is_some old.shown.line.middle) (nat_le last_number old.shown.line.open_group) (no_refusal (stage.waits_for_older old.shown (refusal.close_tests old.shown)) none 3 _ refl) in
-    subst IsExplainedState (sym d.1) (close_state old x (none_there old.shown.line.middle parts.0) (leb-false last_number old.shown.line.open_group parts.1)))
-    (λ e own. absurd own) x h
+-- an effect on the running sync
+sync_keeps_tables : (e : SyncEffect) (s : State) → IsExplainedState s → MaySync e s → IsExplainedState (state_after (OnSync e) s)
+sync_keeps_tables e s x may = record {
+  exact = record {
+    locks = same_locks s.shown t.shown s.past t.past x.exact.locks;
+    groups = groups e may;
+    order = x.exact.order;
+    isolated = same_isolated s.shown t.shown s.past t.past x.exact.isolated;
+    log = log e may;
+    bounded = x.exact.bounded;
+    sync = sync e may;
+    limit = x.exact.limit;
+  };
+  history = x.history;
+}
+  where
+    t : State
+    t = state_after (OnSync e) s
 
--- a mark that a group is quiesced
-quiesce_state : (g : ℕ) (s : State) → IsExplainedState s → s.shown.line.middle ≡ Some (record { group = g; quiesced = false }) → (hold_count g s.shown.transactions == 0) ≡ true
-    → IsExplainedState (steps.with_line (steps.line_after_quiesce g s.shown.line) s)
-quiesce_state g s x is none =
-    let t : State = steps.with_line (steps.line_after_quiesce g s.shown.line) s in
-    record {
-      exact = record {
-        locks = same_locks s.shown t.shown s.past t.past x.exact.locks;
-        groups = quiesce_keeps s.shown s.past g x.exact.groups is none;
-        order = x.exact.order;
-        isolated = same_isolated s.shown t.shown s.past t.past x.exact.isolated;
-        log = same_log s.shown t.shown s.past t.past x.exact.log;
-        bounded = x.exact.bounded;
-        sync = same_sync s.shown t.shown x.exact.sync;
-        limit = x.exact.limit;
-      };
-      history = x.history;
-    }
+    after : SyncEffect → State
+    after e = state_after (OnSync e) s
 
-quiesce_step : (answer : Result ℕ PoolError) (old new : State) → IsExplainedState old → steps.MarkQuiesced answer old new → IsExplainedState new
-quiesce_step answer old new x h = by_answer answer (refusal.quiesce_refusal old.shown) old new _ _
-    (λ group none d. subst IsExplainedState (sym d.1) (quiesce_state group old x (quiescing_is old.shown.line group d.0)
-    (not-false (hold_count group old.shown.transactions == 0) (subst (λ o. not (option_map_or (λ g. hold_count g old.shown.transactions == 0) o false) ≡ false) d.0 (no_refusal (refusal.quiesce_tests old.shown) none 1 _ refl)))))
-    (λ e own. absurd own) x h
+    next : (group : ℕ) → s.shown.line.syncing ≡ Some group → group ≡ s.shown.line.synced + 1
+    next group syncing = subst (λ o. IfSome o (λ n. n ≡ s.shown.line.synced + 1)) syncing x.exact.groups.line.syncing
 
--- a start of a sync
-start_state : (moment g : ℕ) (plan : SyncPlan) (s : State) → IsExplainedState s → s.shown.line.middle ≡ Some (record { group = g; quiesced = true }) → s.shown.line.syncing ≡ None
-    → steps.IsPlanned s moment g plan → IsExplainedState (steps.state_after_start g plan s)
-start_state moment g plan s x is idle planned =
-    let t : State = steps.state_after_start g plan s in
-    record {
-      exact = record {
-        locks = same_locks s.shown t.shown s.past t.past x.exact.locks;
-        groups = start_keeps s.shown t.shown s.past g x.exact.groups is idle;
-        order = x.exact.order;
-        isolated = same_isolated s.shown t.shown s.past t.past x.exact.isolated;
-        log = same_log s.shown t.shown s.past t.past x.exact.log;
-        bounded = x.exact.bounded;
-        sync = start_sync s t moment g plan x.exact.log.numbered planned;
-        limit = x.exact.limit;
-      };
-      history = x.history;
-    }
+    groups : (e : SyncEffect) → MaySync e s → AreGroupsExact (after e).shown (after e).past
+    groups (PlansSync group plan) (moment, is, idle, planned) = start_keeps s.shown (after (PlansSync group plan)).shown s.past group x.exact.groups (quiesced_is s.shown.line group is) idle
+    groups (CountsStep plan) may = same_groups s.shown (after (CountsStep plan)).shown s.past (after (CountsStep plan)).past x.exact.groups
+    groups (EndsSync group plan) (syncing, running) = let u : State = after (EndsSync group plan) in sync_keeps s.shown u.shown s.past u.past group x.exact.groups syncing
 
-start_step : (keeps : Type 0) (now : List ℕ) (moment : ℕ) (answer : Result ℕ PoolError) (old new : State) → IsExplainedState old → stage.StartSync keeps now moment answer old new → IsExplainedState new
-start_step keeps now moment answer old new x h = by_answer answer (refusal.start_refusal old.shown) old new _ _
-    (λ group none d. subst IsExplainedState (sym d.4) (start_state moment group d.0 old x (quiesced_is old.shown.line group d.1)
-    (none_there old.shown.line.syncing (or_parts (is_none (refusal.quiesced_group old.shown.line)) (is_some old.shown.line.syncing) (no_refusal (refusal.start_tests old.shown) none 1 _ refl)).1) d.2))
-    (λ e own. same_step old new x own.1) x h
+    log : (e : SyncEffect) → MaySync e s → IsLogExact (after e).shown (after e).past
+    log (PlansSync group plan) may = let u : State = after (PlansSync group plan) in same_log s.shown u.shown s.past u.past x.exact.log
+    log (CountsStep plan) may = let u : State = after (CountsStep plan) in same_log s.shown u.shown s.past u.past x.exact.log
+    log (EndsSync group plan) (syncing, running) =
+        let u : State = after (EndsSync group plan) in
+        sync_log s.shown u.shown s.past u.past x.exact.log x.exact.sync group plan (next group syncing) syncing running
 
--- a step of a sync
-step_state : (plan : SyncPlan) (s : State) → IsExplainedState s → s.shown.sync ≡ Some plan → 1 < plan.steps_left → IsExplainedState (steps.state_after_step plan s)
-step_state plan s x running more =
-    let t : State = steps.state_after_step plan s in
-    record {
-      exact = record {
-        locks = same_locks s.shown t.shown s.past t.past x.exact.locks;
-        groups = same_groups s.shown t.shown s.past t.past x.exact.groups;
-        order = x.exact.order;
-        isolated = same_isolated s.shown t.shown s.past t.past x.exact.isolated;
-        log = same_log s.shown t.shown s.past t.past x.exact.log;
-        bounded = x.exact.bounded;
-        sync = step_sync s.shown t.shown plan x.exact.sync running more;
-        limit = x.exact.limit;
-      };
-      history = x.history;
-    }
+    sync : (e : SyncEffect) → MaySync e s → IsSyncExact (after e).shown
+    sync (PlansSync group plan) (moment, is, idle, planned) = start_sync s (after (PlansSync group plan)) moment group plan x.exact.log.numbered planned
+    sync (CountsStep plan) (running, more) = step_sync s.shown (after (CountsStep plan)).shown plan x.exact.sync running more
+    sync (EndsSync group plan) may = end_sync (after (EndsSync group plan)).shown
 
-sync_state : (g : ℕ) (plan : SyncPlan) (s : State) → IsExplainedState s → s.shown.line.syncing ≡ Some g → s.shown.sync ≡ Some plan → IsExplainedState (steps.state_after_sync g plan s)
-sync_state g plan s x syncing running =
-    let t : State = steps.state_after_sync g plan s in
-    let next : g ≡ s.shown.line.synced + 1 = subst (λ o. IfSome o (λ n. n ≡ s.shown.line.synced + 1)) syncing x.exact.groups.line.syncing in
-    record {
-      exact = record {
-        locks = same_locks s.shown t.shown s.past t.past x.exact.locks;
-        groups = sync_keeps s.shown t.shown s.past t.past g x.exact.groups syncing;
-        order = x.exact.order;
-        isolated = same_isolated s.shown t.shown s.past t.past x.exact.isolated;
-        log = sync_log s.shown t.shown s.past t.past x.exact.log x.exact.sync g plan next syncing running;
-        bounded = x.exact.bounded;
-        sync = end_sync t.shown;
-        limit = x.exact.limit;
-      };
-      history = x.history;
-    }
+-- an effect on the log
+log_keeps : (e : LogEffect) (s : State) → IsExplainedState s → MayLog e s → IsExplainedState (state_after (OnLog e) s)
+log_keeps e s x may = record {
+  exact = record {
+    locks = same_locks s.shown t.shown s.past t.past x.exact.locks;
+    groups = same_groups s.shown t.shown s.past t.past x.exact.groups;
+    order = x.exact.order;
+    isolated = same_isolated s.shown t.shown s.past t.past x.exact.isolated;
+    log = log e may;
+    bounded = x.exact.bounded;
+    sync = sync e may;
+    limit = x.exact.limit;
+  };
+  history = x.history;
+}
+  where
+    t : State
+    t = state_after (OnLog e) s
 
-suspended_state : (s : State) → IsExplainedState s → IsExplainedState (steps.suspended_state s)
-suspended_state s x =
+    after : LogEffect → State
+    after e = state_after (OnLog e) s
+
+    log : (e : LogEffect) → MayLog e s → IsLogExact (after e).shown (after e).past
+    log (WritesLog taken rest address) takes = let u : State = after (WritesLog taken rest address) in write_log s.shown u.shown s.past u.past x.exact.log taken rest address takes.packed.front
+    log FlushesLog may = let u : State = after FlushesLog in flush_log s.shown u.shown s.past u.past x.exact.log
+
+    sync : (e : LogEffect) → MayLog e s → IsSyncExact (after e).shown
+    sync (WritesLog taken rest address) takes =
+        let u : State = after (WritesLog taken rest address) in
+        write_sync s.shown u.shown s.past u.past x.exact.log taken rest address takes.packed.front x.exact.sync
+    sync FlushesLog may = let u : State = after FlushesLog in flush_sync s.shown u.shown s.past u.past x.exact.log x.exact.sync
+
+effect_keeps : (e : Effect) (s : State) → IsExplainedState s → MayHave e s → IsExplainedState (state_after e s)
+effect_keeps Stays s x may = x
+effect_keeps (OnLocks e) s x may = locks_keep e s x may
+effect_keeps (OnTransactions e) s x may = transactions_keep e s x may
+effect_keeps (OnLine e) s x may = line_keeps e s x may
+effect_keeps (OnSync e) s x may = sync_keeps_tables e s x may
+effect_keeps (OnLog e) s x may = log_keeps e s x may
+
+-- a suspended pool
+suspended_keeps : (s : State) → IsExplainedState s → IsExplainedState (steps.suspended_state s)
+suspended_keeps s x =
     let t : State = steps.suspended_state s in
     record {
       exact = record {
@@ -411,83 +346,30 @@ suspended_state s x =
       history = x.history;
     }
 
-progress_step : (progress : SyncProgress) (group : ℕ) (plan : SyncPlan) (old new : State) → IsExplainedState old → old.shown.line.syncing ≡ Some group → old.shown.sync ≡ Some plan
-    → steps.IsProgress group progress plan old new → IsExplainedState new
-progress_step More group plan old new x syncing running h = subst IsExplainedState (sym h.1) (step_state plan old x running h.0)
-progress_step (Synced g) group plan old new x syncing running h = subst IsExplainedState (sym h.2) (sync_state group plan old x syncing running)
+pub effects_keep_tables : (old new : State) → HasEffect old new → IsExplainedNow old.shown old.past → IsExplainedNow new.shown new.past
+effects_keep_tables old new has x =
+    let kept = effect_keeps has.effect old x has.may in
+    elim (has.left) as (λ _. IsExplainedState new) [
+      | inl is ↦ subst IsExplainedState (sym is) kept
+      | inr is ↦ subst IsExplainedState (sym is) (suspended_keeps (state_after has.effect old) kept)
+    ]
 
-sync_step : (answer : Result SyncProgress PoolError) (old new : State) → IsExplainedState old → steps.SyncStep answer old new → IsExplainedState new
-sync_step answer old new x h = by_answer answer (refusal.sync_step_refusal old.shown) old new _ _
-    (λ progress none d. progress_step progress d.0 d.1 old new x d.2 d.3 d.4) (λ e own. subst IsExplainedState (sym own.1) (suspended_state old x)) x h
-
--- each step keeps it, over whichever device
+-- so each step keeps it, over whichever device
 pub steps_keep_tables : (keeps : Type 0) (now : List ℕ) (s : declared_step.Step) (r : declared_reply.Reply) (old new : State) → Step keeps now s r old new
     → IsExplainedNow old.shown old.past → IsExplainedNow new.shown new.past
-steps_keep_tables keeps now (step.Lock owner n range mode) r old new (answer, is, h) x = lock_step owner.0 (refusal.object_range n.0 range.low range.high) mode answer old new x h
-steps_keep_tables keeps now (step.Unlock owner id) r old new (answer, is, h) x = unlock_step owner.0 id.0 answer old new x h
-steps_keep_tables keeps now (step.Begin owner plan) r old new (answer, is, h) x = begin_step owner.0 plan answer old new x h
-steps_keep_tables keeps now (step.Commit tx ops) r old new (answer, is, h) x = commit_step tx.0 ops answer old new x h
-steps_keep_tables keeps now (step.Read owner n range) r old new (answer, is, h) x = read_step owner.0 (refusal.object_range n.0 range.low range.high) answer old new x h
-steps_keep_tables keeps now step.CloseGroup r old new (answer, is, h) x = close_step answer old new x h
-steps_keep_tables keeps now step.MarkQuiesced r old new (answer, is, h) x = quiesce_step answer old new x h
-steps_keep_tables keeps now (step.StartSync moment) r old new (answer, is, h) x = start_step keeps now moment answer old new x h
-steps_keep_tables keeps now step.SyncStep r old new (answer, is, h) x = sync_step answer old new x h
+steps_keep_tables keeps now s r old new h x = effects_keep_tables old new (step_does keeps now s r old new h).has x
 
 -- and so do steps one after another
 pub runs_keep_tables : (keeps : Type 0) (ss : List declared_step.Step) (rs : List declared_reply.Reply) (old new : State) → IsRun keeps ss rs old new
     → IsExplainedNow old.shown old.past → IsExplainedNow new.shown new.past
-runs_keep_tables keeps [] [] old new h x = same_step old new x h
+runs_keep_tables keeps [] [] old new h x = subst IsExplainedState (sym h) x
 runs_keep_tables keeps (s ∷ ss) (r ∷ rs) old new (middle, (now, one), rest) x = runs_keep_tables keeps ss rs middle new rest (steps_keep_tables keeps now s r old middle one x)
 runs_keep_tables keeps [] (r ∷ rs) old new h x = absurd h
 runs_keep_tables keeps (s ∷ ss) [] old new h x = absurd h
 
--- a write of the log, and a flush of it
-log_write_state : (taken rest : List Record) (address : ℕ) (s : State) → IsExplainedState s → s.shown.log.pending ≡ taken ++ rest → IsExplainedState (steps.state_after_log_write taken rest address s)
-log_write_state taken rest address s x split =
-    let t : State = steps.state_after_log_write taken rest address s in
-    record {
-      exact = record {
-        locks = same_locks s.shown t.shown s.past t.past x.exact.locks;
-        groups = same_groups s.shown t.shown s.past t.past x.exact.groups;
-        order = x.exact.order;
-        isolated = same_isolated s.shown t.shown s.past t.past x.exact.isolated;
-        log = write_log s.shown t.shown s.past t.past x.exact.log taken rest address split;
-        bounded = x.exact.bounded;
-        sync = write_sync s.shown t.shown s.past t.past x.exact.log taken rest address split x.exact.sync;
-        limit = x.exact.limit;
-      };
-      history = x.history;
-    }
-
-log_flush_state : (s : State) → IsExplainedState s → IsExplainedState (steps.state_after_log_flush s)
-log_flush_state s x =
-    let t : State = steps.state_after_log_flush s in
-    record {
-      exact = record {
-        locks = same_locks s.shown t.shown s.past t.past x.exact.locks;
-        groups = same_groups s.shown t.shown s.past t.past x.exact.groups;
-        order = x.exact.order;
-        isolated = same_isolated s.shown t.shown s.past t.past x.exact.isolated;
-        log = flush_log s.shown t.shown s.past t.past x.exact.log;
-        bounded = x.exact.bounded;
-        sync = flush_sync s.shown t.shown s.past t.past x.exact.log x.exact.sync;
-        limit = x.exact.limit;
-      };
-      history = x.history;
-    }
-
-refused_log_write : (given : PoolError) (old new : State) → IsExplainedState old
-    → steps.WantsMemory old new given ⊎ ((given ≡ error.Write) × ((taken rest : List Record) × (address : ℕ) × steps.TakesForLog old taken rest address × (new ≡ steps.suspended_state (steps.state_after_log_write taken rest address old))))
-    → IsExplainedState new
-refused_log_write given old new x (inl memory) = same_step old new x memory.1
-refused_log_write given old new x (inr (is, (taken, rest, address, takes, same))) =
-    subst IsExplainedState (sym same) (suspended_state (steps.state_after_log_write taken rest address old) (log_write_state taken rest address old x takes.packed.front))
-
+-- and so do a write and a flush of the log
 pub log_steps_keep_tables : (old new : State) → IsLogStep old new → IsExplainedNow old.shown old.past → IsExplainedNow new.shown new.past
-log_steps_keep_tables old new (inl (answer, h)) x = by_answer answer (refusal.log_write_refusal old.shown) old new _ _
-    (λ count none d. subst IsExplainedState (sym d.5) (log_write_state d.0 d.1 d.2 old x d.3.packed.front)) (λ e own. refused_log_write e old new x own) x h
-log_steps_keep_tables old new (inr (answer, h)) x = by_answer answer (refusal.log_flush_refusal old.shown) old new _ _
-    (λ a none d. subst IsExplainedState (sym d) (log_flush_state old x)) (λ e own. subst IsExplainedState (sym own.1) (suspended_state old x)) x h
+log_steps_keep_tables old new h x = effects_keep_tables old new (log_step_has old new h) x
 
 -- a pool that was just imported
 pub new_pools_are_explained : (u : Uberblock) (blocks : ℕ) (contents : Contents) (created dirty_max : ℕ) (s : Shown) → IsImported u blocks contents dirty_max s → IsBounded contents

@@ -1,6 +1,6 @@
 -- A commit keeps the other open transactions apart, and each of them can be the next.
 use Rattle.std.proofs.Common.{◌≡◌, ℕ, zero, suc, ◌≤◌, Bool, true, false, not, List, [], ◌∷◌, ◌++◌, map, get_or, refl, ap, sym, subst, ◌∙◌, arith}
-use Rattle.std.specs.Prelude.{Some, None, Ok, cond, slice_get, filter, find, All, AllPairs, ◌==◌}
+use Rattle.std.specs.Prelude.{Some, None, cond, slice_get, filter, find, All, AllPairs, ◌==◌}
 use Rattle.std.specs.List.{position_or_len}
 use Rattle.std.proofs.lemmas.Bool.{eqb-true, eq-eqb, false≢true}
 use Rattle.std.proofs.lemmas.List.Elements.{All-head, All-tail, All-nil, All-cons, All-push, All-map, All-filter}
@@ -10,12 +10,12 @@ use Rattle.base.specs.declared.operation.Op.{Op}
 use Rattle.base.specs.history.Plans.{ranges, plan_ranges, clash}
 use Rattle.base.specs.history.History.{Entry, Admitted, MayFollow, AreAdmitted}
 use Rattle.base.specs.steps.Groups.{Admission, admitted_of}
-use Rattle.base.specs.steps.Refusals.{whole_commit_refusal}
-use Rattle.base.specs.steps.Steps.{State, WholeCommit, transactions_without}
+use Rattle.base.specs.steps.Refusals.{transaction_of, whole_commit_refusal}
+use Rattle.base.specs.steps.Steps.{State, transactions_without}
 use Rattle.base.proofs.common.Sieves.{AllPairs-cons, AllPairs-head, AllPairs-tail}
 use Rattle.base.proofs.history.Conflicts.{clashes_turn}
 use Rattle.base.proofs.history.Projections.{plans_touch}
-use Rattle.base.proofs.history.CommitOrder.{ok-none, found-plan}
+use Rattle.base.proofs.history.CommitOrder.{found-plan}
 use Rattle.base.proofs.common.KeptLists.{All-at}
 
 module _ {X Y : Type 0} (f : X → Y) where
@@ -84,28 +84,28 @@ filtered entries filling p ts are = record {
       (AllPairs-filter AreApart p ts (AllPairs-of_map admitted_of (λ (a b : Admitted). clash a.touches b.touches ≡ false) ts are.apart));
 }
 
-pub commit-admitted : (tx : ℕ) (ops : List Op) (receipt : ℕ × ℕ) (old new : State) → AreStillAdmitted old → WholeCommit tx ops (Ok receipt) old new → AreStillAdmitted new
-commit-admitted tx ops receipt old new are h =
-    let done = ok-none (whole_commit_refusal tx ops old.shown) receipt old new _ _ h in
-    let a : Admission = done.1.0 in
-    let ts : List Admission = old.shown.transactions in
+pub commit-admitted : (tx : ℕ) (ops : List Op) (s : State) (a : Admission) → AreStillAdmitted s → whole_commit_refusal tx ops s.shown ≡ None → transaction_of tx s.shown ≡ Some a
+    → AreAdmitted (s.past.entries ++ record { group = a.group; tx = tx; ops = ops } ∷ []) s.shown.line.open_group (map admitted_of (transactions_without tx s.shown.transactions))
+commit-admitted tx ops s a are passed found =
+    let ts : List Admission = s.shown.transactions in
     let place : ℕ = position_or_len (λ (x : Admission). x.tx == tx) ts in
-    let at_a : slice_get ts place ≡ Some a = sym (find_at (λ (x : Admission). x.tx == tx) ts) ∙ done.1.2 in
-    let named : a.tx ≡ tx = eqb-true a.tx tx (find-passes (λ (x : Admission). x.tx == tx) ts a done.1.2) in
-    let touches : ranges ops ≡ plan_ranges a.plan = plans_touch ops ∙ ap (λ p. plan_ranges p) (found-plan tx ops old a done.0 done.1.2) in
+    let at_a : slice_get ts place ≡ Some a = sym (find_at (λ (x : Admission). x.tx == tx) ts) ∙ found in
+    let named : a.tx ≡ tx = eqb-true a.tx tx (find-passes (λ (x : Admission). x.tx == tx) ts a found) in
+    let touches : ranges ops ≡ plan_ranges a.plan = plans_touch ops ∙ ap (λ p. plan_ranges p) (found-plan tx ops s a passed found) in
+    let entries : List Entry = s.past.entries in
     let next : Entry = record { group = a.group; tx = tx; ops = ops } in
-    let filling : ℕ = old.shown.line.open_group in
+    let filling : ℕ = s.shown.line.open_group in
     let below : a.group ≤ filling = All-at (λ (x : Admission). x.group ≤ filling) ts place a (All-of_map admitted_of (λ (x : Admitted). x.group ≤ filling) ts are.below) at_a in
     let others : All (λ (x : Admission). not (x.tx == a.tx) ≡ true → AreApart a x) ts = others_apart ts place a (AllPairs-of_map admitted_of (λ (x y : Admitted). clash x.touches y.touches ≡ false) ts are.apart) at_a in
     let free : All (λ (x : Admission). AreApart a x) (transactions_without tx ts) =
     All-filter_passing (λ (x : Admission). not (x.tx == tx)) (AreApart a) ts (subst (λ (n : ℕ). All (λ (x : Admission). not (x.tx == n) ≡ true → AreApart a x) ts) named others) in
-    let rest = filtered old.past.entries filling (λ (x : Admission). not (x.tx == tx)) ts are in
-    let still = All-of_map admitted_of (λ (x : Admitted). MayFollow old.past.entries x.group x.touches) (transactions_without tx ts) rest.may_follow in
-    subst AreStillAdmitted (sym done.1.6) (record {
-      committed = All-push (λ (e : Entry). e.group ≤ filling) old.past.entries next are.committed below;
+    let rest = filtered entries filling (λ (x : Admission). not (x.tx == tx)) ts are in
+    let still = All-of_map admitted_of (λ (x : Admitted). MayFollow entries x.group x.touches) (transactions_without tx ts) rest.may_follow in
+    record {
+      committed = All-push (λ (e : Entry). e.group ≤ filling) entries next are.committed below;
       below = rest.below;
-      may_follow = All-map (λ (x : Admitted). MayFollow (old.past.entries ++ next ∷ []) x.group x.touches) admitted_of (transactions_without tx ts)
-          (λ k d l. All-push (λ (e : Entry). clash (ranges e.ops) (plan_ranges (get_or (transactions_without tx ts) k d).plan) ≡ true → e.group ≤ (get_or (transactions_without tx ts) k d).group) old.past.entries next (still k d l)
+      may_follow = All-map (λ (x : Admitted). MayFollow (entries ++ next ∷ []) x.group x.touches) admitted_of (transactions_without tx ts)
+          (λ k d l. All-push (λ (e : Entry). clash (ranges e.ops) (plan_ranges (get_or (transactions_without tx ts) k d).plan) ≡ true → e.group ≤ (get_or (transactions_without tx ts) k d).group) entries next (still k d l)
           (λ c. absurd (false≢true (sym (free k d l) ∙ ap (λ rs. clash rs (plan_ranges (get_or (transactions_without tx ts) k d).plan)) (sym touches) ∙ c))));
       apart = rest.apart;
-    })
+    }

@@ -1,5 +1,5 @@
 -- Which effect each step with its reply has, and how it is refused. What holds of each effect holds of each step by this.
-use Rattle.std.proofs.Common.{◌≡◌, ℕ, Bool, true, false, not, ◌&&◌, List, [], ◌∷◌, refl, ap, sym, subst, ◌∙◌, ◌⊎◌, inl, inr}
+use Rattle.std.proofs.Common.{◌≡◌, ℕ, Bool, true, false, not, ◌&&◌, List, [], ◌∷◌, length, refl, ap, sym, subst, ◌∙◌, ◌⊎◌, inl, inr}
 use Rattle.std.specs.Prelude.{Option, Some, None, Result, Ok, Err, is_some, is_none, nat_le, ◌==◌}
 use Rattle.std.specs.List.{list_all}
 use Rattle.std.specs.Option.{option_map_or}
@@ -12,6 +12,7 @@ use Rattle.base.specs.declared.step.Step.TheVariants as step
 use Rattle.base.specs.declared.step.Reply as declared_reply
 use Rattle.base.specs.declared.step.Reply.TheVariants as reply
 use Rattle.base.specs.formats.Limits.{last_number, max_log_record}
+use Rattle.base.specs.formats.Records.{Record}
 use Rattle.base.specs.history.Plans.{log_record_size}
 use Rattle.base.specs.steps.Additions.{past_after}
 use Rattle.base.specs.steps.Effects.{Effect, HasEffect, MayHave, is_on_log, is_turning, state_after}
@@ -20,6 +21,8 @@ use Rattle.base.specs.steps.Effects.LockEffect.{AddsGrant, LetsGo}
 use Rattle.base.specs.steps.Effects.TransactionEffect.{AddsAdmission, AddsEntry}
 use Rattle.base.specs.steps.Effects.LineEffect.{OpensNext, QuiescesMiddle}
 use Rattle.base.specs.steps.Effects.SyncEffect.{PlansSync, CountsStep, EndsSync}
+use Rattle.base.specs.steps.Effects.LogEffect.{WritesLog, FlushesLog}
+use Rattle.base.specs.steps.ExactNow.{IsLogStep}
 use Rattle.base.specs.steps.Groups.{hold_count}
 use Rattle.base.specs.steps.Locks.{Grant}
 use Rattle.base.specs.steps.Refusals as refusal
@@ -198,3 +201,24 @@ step_does keeps now step.SyncStep r old new (answer, is, h) =
     by_device : (e : PoolError) → (e ≡ error.Write) ⊎ (e ≡ error.Flush) → is_untested step.SyncStep e ≡ true
     by_device e (inl write) = ap (is_untested step.SyncStep) write
     by_device e (inr flush) = ap (is_untested step.SyncStep) flush
+
+-- A write of the log has its effect also where the device refuses it, and a flush has one where the device answers it.
+pub log_step_has : (old new : State) → IsLogStep old new → HasEffect old new
+log_step_has old new (inl (answer, h)) = write answer (refusal.log_write_refusal old.shown) h
+  where
+    Refused : PoolError → Type 0
+    Refused e = steps.WantsMemory old new e
+        ⊎ ((e ≡ error.Write) × ((taken rest : List Record) × (address : ℕ) × steps.TakesForLog old taken rest address × (new ≡ steps.suspended_state (steps.state_after_log_write taken rest address old))))
+
+    write : (a : Result ℕ PoolError) (o : Option PoolError) → Answers o a old new
+        (λ count. (taken rest : List Record) × (address : ℕ) × steps.TakesForLog old taken rest address × (count ≡ length taken) × (new ≡ steps.state_after_log_write taken rest address old)) Refused → HasEffect old new
+    write (Ok count) None d = record { effect = OnLog (WritesLog d.0 d.1 d.2); may = d.3; left = inl d.5 }
+    write (Err e) None (inl memory) = record { effect = Stays; may = tt; left = inl memory.1 }
+    write (Err e) None (inr (is, (taken, rest, address, takes, same))) = record { effect = OnLog (WritesLog taken rest address); may = takes; left = inr same }
+    write a (Some e) d = record { effect = Stays; may = tt; left = inl d.1 }
+log_step_has old new (inr (answer, h)) = flush answer (refusal.log_flush_refusal old.shown) h
+  where
+    flush : (a : Result (Unit {0}) PoolError) (o : Option PoolError) → Answers o a old new (λ _. new ≡ steps.state_after_log_flush old) (λ e. (e ≡ error.Flush) × (new ≡ steps.suspended_state old)) → HasEffect old new
+    flush (Ok a) None d = record { effect = OnLog FlushesLog; may = tt; left = inl d }
+    flush (Err e) None d = record { effect = Stays; may = tt; left = inr d.1 }
+    flush a (Some e) d = record { effect = Stays; may = tt; left = inl d.1 }

@@ -94,16 +94,18 @@ state_after (OnTransactions e) s =
       };
       past = record s.past { admissions = t.past.admissions; entries = t.past.entries };
     }
-state_after (OnLine e) s = steps.with_line (after_line e s).shown.line s
+state_after (OnLine e) s =
+    let t = after_line e s in
+    steps.with_line (record s.shown.line { middle = t.shown.line.middle; open_group = t.shown.line.open_group }) s
 state_after (OnSync e) s =
     let t = after_sync e s in
     record {
       shown = record s.shown {
-        line = t.shown.line;
+        line = record s.shown.line { synced = t.shown.line.synced; syncing = t.shown.line.syncing; middle = t.shown.line.middle };
         dirty = t.shown.dirty;
         reserved = t.shown.reserved;
         free = t.shown.free;
-        log = t.shown.log;
+        log = record s.shown.log { pending = t.shown.log.pending; kept = t.shown.log.kept };
         root = t.shown.root;
         sync = t.shown.sync;
       };
