@@ -12,59 +12,43 @@ use Rattle.base.specs.steps.Groups.{Line}
 use Rattle.base.specs.history.Past.{Grows}
 use Rattle.base.specs.steps.Logs.{KeptBlock, Committed, has_record, is_flushed_in}
 use Rattle.base.specs.steps.Shown.{SyncPlan, is_durable}
-use Rattle.base.specs.steps.Steps.{State, Answers, SyncProgress, IsProgress}
-use Rattle.base.specs.steps.Steps.SyncProgress.{More, Synced}
-use Rattle.base.specs.steps.Runs.{Step}
+use Rattle.base.specs.steps.Effects.{Effect, HasEffect, MayHave, state_after}
+use Rattle.base.specs.steps.Effects.Effect.{OnLine, OnSync}
+use Rattle.base.specs.steps.Effects.LineEffect.{OpensNext}
+use Rattle.base.specs.steps.Effects.SyncEffect.{EndsSync}
+use Rattle.base.specs.steps.Steps.{State}
 use Rattle.base.specs.steps.ExactNow.{IsExplainedNow, IsRun, GoesOn}
 use Rattle.base.specs.steps.Seen.{IsKnownDurable, IsPoolSynced}
-use Rattle.base.proofs.history.CommitOrder.{ok-none}
 use Rattle.base.proofs.steps.KeptGroups.{held_above}
 use Rattle.base.proofs.steps.KeptTables.{steps_keep_tables}
+use Rattle.base.proofs.steps.StepEffects.{step_does}
 use Rattle.base.proofs.steps.SeenStates.{grown, at-prefix}
 
 -- the groups of a line are no lower than those of an earlier one
 abbrev GoUp : Line → Line → Type 0
 GoUp l m = (l.synced ≤ m.synced) × (l.open_group ≤ m.open_group)
 
-stay : (old new : State) → new.shown.line ≡ old.shown.line → GoUp old.shown.line new.shown.line
-stay old new same = subst (λ (m : Line). GoUp old.shown.line m) (sym same) (omega arith, omega arith)
+same-up : (l : Line) → GoUp l l
+same-up l = (omega arith, omega arith)
 
-line-of : (old new : State) → new ≡ old → new.shown.line ≡ old.shown.line
-line-of old new same = ap (λ (s : State). s.shown.line) same
+-- they go up with each effect
+effect-up : (e : Effect) (s : State) → IsExplainedNow s.shown s.past → MayHave e s → GoUp s.shown.line (state_after e s).shown.line
+effect-up (OnLine OpensNext) s x may = (omega arith, omega arith)
+effect-up (OnSync (EndsSync group plan)) s x may =
+    let next : group ≡ s.shown.line.synced + 1 = subst (λ o. IfSome o (λ n. n ≡ s.shown.line.synced + 1)) may.0 x.exact.groups.line.syncing in
+    (omega arith, omega arith)
+effect-up _ s x may = same-up s.shown.line
 
--- they go up in a step where they do by what it does, and where its own refusals leave the line
-answered : {A : Type 0} (answer : Result A PoolError) (r : Option PoolError) (old new : State) (does : A → Type 0) (own : PoolError → Type 0)
-    → ((a : A) → does a → GoUp old.shown.line new.shown.line) → ((e : PoolError) → own e → new.shown.line ≡ old.shown.line) → Answers r answer old new does own → GoUp old.shown.line new.shown.line
-answered (Ok a) r old new does own done refused h = done a (ok-none r a old new does own h).1
-answered (Err e) None old new does own done refused h = stay old new (refused e h)
-answered (Err e) (Some f) old new does own done refused h = stay old new (line-of old new h.1)
-
-progress : (p : SyncProgress) (group : ℕ) (plan : SyncPlan) (old new : State) → IsExplainedNow old.shown old.past → old.shown.line.syncing ≡ Some group → IsProgress group p plan old new
-    → GoUp old.shown.line new.shown.line
-progress More group plan old new x syncing h = stay old new (ap (λ (s : State). s.shown.line) h.1)
-progress (Synced g) group plan old new x syncing h =
-    let next : group ≡ old.shown.line.synced + 1 = subst (λ o. IfSome o (λ n. n ≡ old.shown.line.synced + 1)) syncing x.exact.groups.line.syncing in
-    subst (λ (s : State). GoUp old.shown.line s.shown.line) (sym h.2) (omega arith, omega arith)
-
-step-up : (now : List ℕ) (s : declared_step.Step) (r : declared_reply.Reply) (old new : State) → IsExplainedNow old.shown old.past → Step ⊥ now s r old new → GoUp old.shown.line new.shown.line
-step-up now (step.Lock owner n range mode) r old new x (answer, is, h) = answered answer _ old new _ _ (λ id d. stay old new (ap (λ (s : State). s.shown.line) d.1)) (λ e own. line-of old new own.1) h
-step-up now (step.Unlock owner id) r old new x (answer, is, h) = answered answer _ old new _ _ (λ a d. stay old new (ap (λ (s : State). s.shown.line) d)) (λ e own. absurd own) h
-step-up now (step.Begin owner plan) r old new x (answer, is, h) = answered answer _ old new _ _ (λ a d. stay old new (ap (λ (s : State). s.shown.line) d.1)) (λ e own. line-of old new own.1) h
-step-up now (step.Commit tx ops) r old new x (answer, is, h) = answered answer _ old new _ _ (λ a d. stay old new (ap (λ (s : State). s.shown.line) d.6)) (λ e own. line-of old new own.1) h
-step-up now (step.Read owner n range) r old new x (answer, is, h) = answered answer _ old new _ _ (λ a d. stay old new (line-of old new d.1)) (λ e own. line-of old new own.1) h
-step-up now step.CloseGroup r old new x (answer, is, h) =
-    answered answer _ old new _ _ (λ a d. subst (λ (s : State). GoUp old.shown.line s.shown.line) (sym d.1) (omega arith, omega arith)) (λ e own. absurd own) h
-step-up now step.MarkQuiesced r old new x (answer, is, h) =
-    answered answer _ old new _ _ (λ a d. subst (λ (s : State). GoUp old.shown.line s.shown.line) (sym d.1) (omega arith, omega arith)) (λ e own. absurd own) h
-step-up now (step.StartSync moment) r old new x (answer, is, h) =
-    answered answer _ old new _ _ (λ a d. subst (λ (s : State). GoUp old.shown.line s.shown.line) (sym d.4) (omega arith, omega arith)) (λ e own. line-of old new own.1) h
-step-up now step.SyncStep r old new x (answer, is, h) =
-    answered answer _ old new _ _ (λ p d. progress p d.0 d.1 old new x d.2 d.4) (λ e own. ap (λ (s : State). s.shown.line) own.1) h
+has-up : (old new : State) → IsExplainedNow old.shown old.past → HasEffect old new → GoUp old.shown.line new.shown.line
+has-up old new x has = elim (has.left) as (λ _. GoUp old.shown.line new.shown.line) [
+  | inl is ↦ subst (λ (t : State). GoUp old.shown.line t.shown.line) (sym is) (effect-up has.effect old x has.may)
+  | inr is ↦ subst (λ (t : State). GoUp old.shown.line t.shown.line) (sym is) (effect-up has.effect old x has.may)
+]
 
 run-up : (ss : List declared_step.Step) (rs : List declared_reply.Reply) (old new : State) → IsExplainedNow old.shown old.past → IsRun ⊥ ss rs old new → GoUp old.shown.line new.shown.line
-run-up [] [] old new x same = stay old new (line-of old new same)
+run-up [] [] old new x same = subst (λ (t : State). GoUp old.shown.line t.shown.line) (sym same) (same-up old.shown.line)
 run-up (s ∷ ss) (r ∷ rs) old new x (middle, (now, one), rest) =
-    let first = step-up now s r old middle x one in
+    let first = has-up old middle x (step_does ⊥ now s r old middle one).has in
     let others = run-up ss rs middle new (steps_keep_tables ⊥ now s r old middle one x) rest in
     (omega (arith, first.0, others.0), omega (arith, first.1, others.1))
 run-up [] (r ∷ rs) old new x h = absurd h

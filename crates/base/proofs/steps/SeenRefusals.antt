@@ -22,10 +22,12 @@ use Rattle.base.specs.steps.Stage as stage
 use Rattle.base.specs.steps.Steps.{State, Answers, SyncProgress}
 use Rattle.base.specs.steps.Steps.SyncProgress.{More, Synced}
 use Rattle.base.specs.steps.SyncEnds.{is_refusal}
-use Rattle.base.specs.steps.Runs.{Step, refusal_of_step, reply_of, progress_reply}
+use Rattle.base.specs.steps.Runs.{Step, refusal_of_step, tests_of_step}
 use Rattle.base.specs.steps.ExactNow.{GoesOn}
 use Rattle.base.specs.steps.Seen.{IsMadeBetween, IsRefusedBetween}
 use Rattle.base.specs.steps.SeenLaws.{is_suspending, is_untested}
+use Rattle.base.proofs.steps.StepEffects.{Answered, step_does}
+use Rattle.base.proofs.steps.StepEffects.Answered.{tested, untested, made}
 use Rattle.base.proofs.steps.SyncEnds.{suspended_pools_stay}
 
 -- a test that gives no refusal of a pool that is suspended from then on
@@ -83,53 +85,23 @@ quiet-tests (Err e) t h quiet = go (is_suspending e) h
     go true no_way = absurd (false≢true no_way)
     go false same = rw quiet refl
 
--- a step that is refused so leaves a suspended pool, where its own refusals do and the tests before them find one
-refused : {A : Type 0} (make : A → declared_reply.Reply) (answer : Result A PoolError) (r : Option PoolError) (e : PoolError) (old new : State) (does : A → Type 0) (own : PoolError → Type 0)
-    → ((a : A) → is_refusal (make a) ≡ false) → ((f : PoolError) → own f → is_suspending f ≡ true → new.shown.suspended ≡ true)
-    → ((f : PoolError) → r ≡ Some f → is_suspending f ≡ true → old.shown.suspended ≡ true)
-    → reply.Refused e ≡ reply_of make answer → Answers r answer old new does own → is_suspending e ≡ true → new.shown.suspended ≡ true
-refused make (Ok a) r e old new does own answers owned tested is h suspends = absurd (false≢true (sym (answers a) ∙ sym (ap is_refusal is)))
-refused make (Err f) None e old new does own answers owned tested is h suspends = owned f h (let same : e ≡ f = cc in ap is_suspending (sym same) ∙ suspends)
-refused make (Err f) (Some g) e old new does own answers owned tested is h suspends =
-    let same : e ≡ f = cc in
-    let found : f ≡ g = let told : Err f ≡ Err g = h.0 in cc in
-    ap (λ (s : State). s.shown.suspended) h.1 ∙ tested g refl (ap is_suspending (sym (same ∙ found)) ∙ suspends)
+-- the tests of a step are quiet while the pool is not suspended
+quiet-step : (s : declared_step.Step) (t : Shown) → list_all is_quiet (tests_of_step s (record t { suspended = false })) ≡ true
+quiet-step (step.Commit tx ops) t = quiet-tests (apply_all ops t.contents) _ (quiet-ops ops t.contents) refl
+quiet-step _ t = refl
 
-progress-answers : (p : SyncProgress) → is_refusal (progress_reply p) ≡ false
-progress-answers More = refl
-progress-answers (Synced group) = refl
+same-refusal : (e f : PoolError) → reply.Refused e ≡ reply.Refused f → e ≡ f
+same-refusal e f is = cc
 
--- want of memory suspends nothing
-memory-quiet : (old new : State) (f : PoolError) → f ≡ error.NoMemory → is_suspending f ≡ true → new.shown.suspended ≡ true
-memory-quiet old new f is suspends = absurd (false≢true (ap is_suspending (sym is) ∙ suspends))
-
+-- a step that is refused so leaves a suspended pool
 step-suspends : (now : List ℕ) (s : declared_step.Step) (e : PoolError) (old new : State) → Step ⊥ now s (reply.Refused e) old new → is_suspending e ≡ true → new.shown.suspended ≡ true
-step-suspends now (step.Lock owner n range mode) e old new (answer, is, h) suspends =
-    refused _ answer _ e old new _ _ (λ a. refl) (λ f own. memory-quiet old new f own.0)
-    (λ f. suspended-first (refusal.lock_tests owner.0 (object_range n.0 range.low range.high) mode) old.shown f refl) is h suspends
-step-suspends now (step.Unlock owner id) e old new (answer, is, h) suspends =
-    refused _ answer _ e old new _ _ (λ a. refl) (λ f own. absurd own) (λ f. suspended-first (refusal.unlock_tests owner.0 id.0) old.shown f refl) is h suspends
-step-suspends now (step.Begin owner plan) e old new (answer, is, h) suspends =
-    refused _ answer _ e old new _ _ (λ a. refl) (λ f own. memory-quiet old new f own.0) (λ f. suspended-first (stage.begin_tests owner.0 plan) old.shown f refl) is h suspends
-step-suspends now (step.Commit tx ops) e old new (answer, is, h) suspends =
-    refused _ answer _ e old new _ _ (λ a. refl) (λ f own. memory-quiet old new f own.0)
-    (λ f. suspended-first (λ s. stage.waits_for_older s (refusal.commit_tests tx.0 ops s)) old.shown f (quiet-tests (apply_all ops old.shown.contents) _ (quiet-ops ops old.shown.contents) refl)) is h suspends
-step-suspends now (step.Read owner n range) e old new (answer, is, h) suspends =
-    refused _ answer _ e old new _ _ (λ a. refl) (λ f own. memory-quiet old new f own.0)
-    (λ f. suspended-first (refusal.read_tests owner.0 (object_range n.0 range.low range.high)) old.shown f refl) is h suspends
-step-suspends now step.CloseGroup e old new (answer, is, h) suspends =
-    refused _ answer _ e old new _ _ (λ a. refl) (λ f own. absurd own) (λ f. suspended-first (λ s. stage.waits_for_older s (refusal.close_tests s)) old.shown f refl) is h suspends
-step-suspends now step.MarkQuiesced e old new (answer, is, h) suspends =
-    refused _ answer _ e old new _ _ (λ a. refl) (λ f own. absurd own) (λ f. suspended-first refusal.quiesce_tests old.shown f refl) is h suspends
-step-suspends now (step.StartSync moment) e old new (answer, is, h) suspends =
-    refused _ answer _ e old new _ _ (λ a. refl) (λ f own. start-quiet f own.0) (λ f. suspended-first refusal.start_tests old.shown f refl) is h suspends
+step-suspends now s e old new h suspends = by (step_does ⊥ now s (reply.Refused e) old new h).answer
   where
-    start-quiet : (f : PoolError) → (f ≡ error.NoMemory) ⊎ (f ≡ error.NoSpace) → is_suspending f ≡ true → new.shown.suspended ≡ true
-    start-quiet f (inl memory) suspending = memory-quiet old new f memory suspending
-    start-quiet f (inr full) suspending = absurd (false≢true (ap is_suspending (sym full) ∙ suspending))
-step-suspends now step.SyncStep e old new (answer, is, h) suspends =
-    refused progress_reply answer _ e old new _ _ progress-answers (λ f own suspending. ap (λ (s : State). s.shown.suspended) own.1)
-    (λ f. suspended-first refusal.sync_step_tests old.shown f refl) is h suspends
+    by : Answered s (reply.Refused e) old new → new.shown.suspended ≡ true
+    by (tested f is found same) =
+        ap (λ (x : State). x.shown.suspended) same ∙ suspended-first (tests_of_step s) old.shown f (quiet-step s old.shown) found (ap is_suspending (sym (same-refusal e f is)) ∙ suspends)
+    by (untested f is own loud none) = loud (ap is_suspending (sym (same-refusal e f is)) ∙ suspends)
+    by (made answers none) = absurd (false≢true (sym answers))
 
 stays-suspended : (s after : State) → s.shown.suspended ≡ true → GoesOn s after → after.shown.suspended ≡ true
 stays-suspended s after is onward = ap (λ (x : State). x.shown.suspended) (suspended_pools_stay s after is onward) ∙ is
@@ -141,38 +113,13 @@ pub suspensions_are_seen : (refuses : Shown → Option PoolError) (before after 
 suspensions_are_seen refuses before after r = stays-suspended r.state after (r.suspended refl) r.no_later
 
 -- a refusal that is none of a step's own is the first of its tests, and all stands
-tested : {A : Type 0} (s : declared_step.Step) (make : A → declared_reply.Reply) (answer : Result A PoolError) (r : Option PoolError) (e : PoolError) (old new : State) (does : A → Type 0) (own : PoolError → Type 0)
-    → ((a : A) → is_refusal (make a) ≡ false) → ((f : PoolError) → own f → is_untested s f ≡ true) → reply.Refused e ≡ reply_of make answer → Answers r answer old new does own → is_untested s e ≡ false
-    → (r ≡ Some e) × (new ≡ old)
-tested s make (Ok a) r e old new does own answers owned is h seen = absurd (false≢true (sym (answers a) ∙ sym (ap is_refusal is)))
-tested s make (Err f) None e old new does own answers owned is h seen = absurd (let same : e ≡ f = cc in false≢true (sym seen ∙ ap (is_untested s) same ∙ owned f h))
-tested s make (Err f) (Some g) e old new does own answers owned is h seen =
-    let same : e ≡ f = cc in
-    let found : f ≡ g = let told : Err f ≡ Err g = h.0 in cc in
-    (ap (λ (x : PoolError). Some x) (sym (same ∙ found)), h.1)
-
 step-tested : (now : List ℕ) (s : declared_step.Step) (e : PoolError) (old new : State) → Step ⊥ now s (reply.Refused e) old new → is_untested s e ≡ false → (refusal_of_step s old.shown ≡ Some e) × (new ≡ old)
-step-tested now (step.Lock owner n range mode) e old new (answer, is, h) seen =
-    tested (step.Lock owner n range mode) _ answer _ e old new _ _ (λ a. refl) (λ f own. ap (is_untested (step.Lock owner n range mode)) own.0) is h seen
-step-tested now (step.Unlock owner id) e old new (answer, is, h) seen = tested (step.Unlock owner id) _ answer _ e old new _ _ (λ a. refl) (λ f own. absurd own) is h seen
-step-tested now (step.Begin owner plan) e old new (answer, is, h) seen =
-    tested (step.Begin owner plan) _ answer _ e old new _ _ (λ a. refl) (λ f own. ap (is_untested (step.Begin owner plan)) own.0) is h seen
-step-tested now (step.Commit tx ops) e old new (answer, is, h) seen =
-    tested (step.Commit tx ops) _ answer _ e old new _ _ (λ a. refl) (λ f own. ap (is_untested (step.Commit tx ops)) own.0) is h seen
-step-tested now (step.Read owner n range) e old new (answer, is, h) seen =
-    tested (step.Read owner n range) _ answer _ e old new _ _ (λ a. refl) (λ f own. ap (is_untested (step.Read owner n range)) own.0) is h seen
-step-tested now step.CloseGroup e old new (answer, is, h) seen = tested step.CloseGroup _ answer _ e old new _ _ (λ a. refl) (λ f own. absurd own) is h seen
-step-tested now step.MarkQuiesced e old new (answer, is, h) seen = tested step.MarkQuiesced _ answer _ e old new _ _ (λ a. refl) (λ f own. absurd own) is h seen
-step-tested now (step.StartSync moment) e old new (answer, is, h) seen = tested (step.StartSync moment) _ answer _ e old new _ _ (λ a. refl) (λ f own. by_start f own.0) is h seen
+step-tested now s e old new h seen = by (step_does ⊥ now s (reply.Refused e) old new h).answer
   where
-    by_start : (f : PoolError) → (f ≡ error.NoMemory) ⊎ (f ≡ error.NoSpace) → is_untested (step.StartSync moment) f ≡ true
-    by_start f (inl memory) = ap (is_untested (step.StartSync moment)) memory
-    by_start f (inr full) = ap (is_untested (step.StartSync moment)) full
-step-tested now step.SyncStep e old new (answer, is, h) seen = tested step.SyncStep progress_reply answer _ e old new _ _ progress-answers (λ f own. by_device f own.0) is h seen
-  where
-    by_device : (f : PoolError) → (f ≡ error.Write) ⊎ (f ≡ error.Flush) → is_untested step.SyncStep f ≡ true
-    by_device f (inl write) = ap (is_untested step.SyncStep) write
-    by_device f (inr flush) = ap (is_untested step.SyncStep) flush
+    by : Answered s (reply.Refused e) old new → (refusal_of_step s old.shown ≡ Some e) × (new ≡ old)
+    by (tested f is found same) = (found ∙ ap (λ (x : PoolError). Some x) (sym (same-refusal e f is)), same)
+    by (untested f is own loud none) = absurd (false≢true (sym seen ∙ ap (is_untested s) (same-refusal e f is) ∙ own))
+    by (made answers none) = absurd (false≢true (sym answers))
 
 pub refusals_are_seen : (s : declared_step.Step) (e : PoolError) (before after : State) → IsMadeBetween ⊥ s (reply.Refused e) before after → is_untested s e ≡ false
     → IsRefusedBetween (refusal_of_step s) e before after

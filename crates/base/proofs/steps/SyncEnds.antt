@@ -10,41 +10,35 @@ use Rattle.base.specs.declared.step.Step.TheVariants as step
 use Rattle.base.specs.declared.step.Reply.{Reply}
 use Rattle.base.specs.declared.step.Reply.TheVariants as reply
 use Rattle.base.specs.steps.Refusals as refusal
-use Rattle.base.specs.steps.Runs.{Step, progress_reply, reply_of}
-use Rattle.base.specs.steps.Shown.{SyncPlan}
+use Rattle.base.specs.steps.Runs.{Step, progress_reply, refusal_of_step, reply_of}
+use Rattle.base.specs.steps.Shown.{Shown, SyncPlan}
 use Rattle.base.specs.steps.Stage as stage
 use Rattle.base.specs.steps.Steps as steps
 use Rattle.base.specs.steps.Steps.{State, Answers, SyncProgress}
 use Rattle.base.specs.steps.Steps.SyncProgress.{More, Synced}
 use Rattle.base.specs.steps.ExactNow.{IsRun, GoesOn}
 use Rattle.base.specs.steps.SyncEnds.{IsAnswer, is_refusal, sync_replies, reply_with_left}
+use Rattle.base.proofs.common.KeptLists.{Some-injective}
+use Rattle.base.proofs.steps.StepEffects.{Answered, step_does}
+use Rattle.base.proofs.steps.StepEffects.Answered.{tested, untested, made}
 
--- where the first refusal is that the pool is suspended, that is the answer, and nothing changes
-suspended_answer : {A : Type 0} (r : Option PoolError) (answer : Result A PoolError) (old new : State) (does : A → Type 0) (own : PoolError → Type 0) → r ≡ Some error.Suspended
-    → Answers r answer old new does own → (answer ≡ Err error.Suspended) × (new ≡ old)
-suspended_answer None answer old new does own is h = absurd (let none : None ≡ Some error.Suspended = is in cc)
-suspended_answer (Some e) answer old new does own is h = let same : e ≡ error.Suspended = cc in (h.0 ∙ ap (λ (x : PoolError). Err x) same, h.1)
+-- the first test of each step refuses it where the pool is suspended
+suspended_first : (s : declared_step.Step) (t : Shown) → t.suspended ≡ true → refusal_of_step s t ≡ Some error.Suspended
+suspended_first (step.Lock owner n range mode) t is = rw is refl
+suspended_first _ t is = rw is refl
 
--- and so is the reply
-suspended_reply : {A : Type 0} (make : A → Reply) (r : Option PoolError) (given : Reply) (answer : Result A PoolError) (old new : State) (does : A → Type 0) (own : PoolError → Type 0) → r ≡ Some error.Suspended
-    → given ≡ reply_of make answer → Answers r answer old new does own → (new ≡ old) × (given ≡ reply.Refused error.Suspended)
-suspended_reply make r given answer old new does own is told h =
-    let both = suspended_answer r answer old new does own is h in
-    (both.1, told ∙ ap (λ a. reply_of make a) both.0)
-
+-- so that is the answer, and nothing changes
 suspended_step : (now : List ℕ) (s : declared_step.Step) (r : Reply) (old new : State) → old.shown.suspended ≡ true → Step ⊥ now s r old new
     → (new ≡ old) × (r ≡ reply.Refused error.Suspended)
-suspended_step now (step.Lock owner n range mode) r old new is (answer, told, h) =
-    suspended_reply _ (refusal.lock_refusal owner.0 (refusal.object_range n.0 range.low range.high) mode old.shown) r answer old new _ _ (rw is refl) told h
-suspended_step now (step.Unlock owner id) r old new is (answer, told, h) = suspended_reply _ (refusal.unlock_refusal owner.0 id.0 old.shown) r answer old new _ _ (rw is refl) told h
-suspended_step now (step.Begin owner plan) r old new is (answer, told, h) = suspended_reply _ (stage.begin_refusal owner.0 plan old.shown) r answer old new _ _ (rw is refl) told h
-suspended_step now (step.Commit tx ops) r old new is (answer, told, h) = suspended_reply _ (stage.commit_refusal tx.0 ops old.shown) r answer old new _ _ (rw is refl) told h
-suspended_step now (step.Read owner n range) r old new is (answer, told, h) =
-    suspended_reply _ (refusal.read_refusal owner.0 (refusal.object_range n.0 range.low range.high) old.shown) r answer old new _ _ (rw is refl) told h
-suspended_step now step.CloseGroup r old new is (answer, told, h) = suspended_reply _ (stage.close_refusal old.shown) r answer old new _ _ (rw is refl) told h
-suspended_step now step.MarkQuiesced r old new is (answer, told, h) = suspended_reply _ (refusal.quiesce_refusal old.shown) r answer old new _ _ (rw is refl) told h
-suspended_step now (step.StartSync moment) r old new is (answer, told, h) = suspended_reply _ (refusal.start_refusal old.shown) r answer old new _ _ (rw is refl) told h
-suspended_step now step.SyncStep r old new is (answer, told, h) = suspended_reply _ (refusal.sync_step_refusal old.shown) r answer old new _ _ (rw is refl) told h
+suspended_step now s r old new is h = by (step_does ⊥ now s r old new h).answer
+  where
+    first : refusal_of_step s old.shown ≡ Some error.Suspended
+    first = suspended_first s old.shown is
+
+    by : Answered s r old new → (new ≡ old) × (r ≡ reply.Refused error.Suspended)
+    by (tested e told found same) = (same, told ∙ ap (λ (x : PoolError). reply.Refused x) (Some-injective (sym found ∙ first)))
+    by (untested e told own loud none) = absurd (let no_way : None ≡ Some error.Suspended = sym none ∙ first in cc)
+    by (made answers none) = absurd (let no_way : None ≡ Some error.Suspended = sym none ∙ first in cc)
 
 suspended_run : (ss : List declared_step.Step) (rs : List Reply) (s new : State) → s.shown.suspended ≡ true → IsRun ⊥ ss rs s new
     → (new ≡ s) × (rs ≡ replicate (length ss) (reply.Refused error.Suspended))
@@ -68,9 +62,6 @@ suspended_pools_refuse ss rs s new is run = (suspended_run ss rs s new is run).1
 abbrev Runs : State → ℕ → ℕ → Type 0
 Runs s group left = (plan : SyncPlan) × (s.shown.suspended ≡ false) × (s.shown.line.syncing ≡ Some group) × (s.shown.sync ≡ Some plan) × (plan.steps_left ≡ left)
 
-some_is : {A : Type 0} (o : Option A) (a b : A) → o ≡ Some a → o ≡ Some b → a ≡ b
-some_is o a b p q = let e : Some a ≡ Some b = sym p ∙ q in cc
-
 more_reply : (group left : ℕ) → 0 < left → reply_with_left group left ≡ reply.More
 more_reply group zero low = absurd (omega (arith, low))
 more_reply group (suc left) low = refl
@@ -91,7 +82,7 @@ module _ (group left : ℕ) (r : Reply) (old new : State) (runs : Runs old group
       → Answers None a old new Goes Fails
       → (r ≡ reply_with_left group left) × (0 < left → Runs new group left)
   by_answer (Ok More) answered told (g, p, is_group, is_plan, (low, same)) =
-      let count : p.steps_left ≡ suc left = ap (λ (x : SyncPlan). x.steps_left) (some_is old.shown.sync p runs.0 is_plan runs.3) ∙ runs.4 in (
+      let count : p.steps_left ≡ suc left = ap (λ (x : SyncPlan). x.steps_left) (Some-injective (sym is_plan ∙ runs.3)) ∙ runs.4 in (
         told ∙ sym (more_reply group left (omega (arith, low, count))),
         λ _. (
           record p { steps_left = p.steps_left - 1 },
@@ -102,9 +93,9 @@ module _ (group left : ℕ) (r : Reply) (old new : State) (runs : Runs old group
         ),
       )
   by_answer (Ok (Synced x)) answered told (g, p, is_group, is_plan, (last, is, same)) =
-      let count : p.steps_left ≡ suc left = ap (λ (y : SyncPlan). y.steps_left) (some_is old.shown.sync p runs.0 is_plan runs.3) ∙ runs.4 in
+      let count : p.steps_left ≡ suc left = ap (λ (y : SyncPlan). y.steps_left) (Some-injective (sym is_plan ∙ runs.3)) ∙ runs.4 in
       let none : left ≡ 0 = omega (arith, last, count) in
-      let at : x ≡ group = is ∙ some_is old.shown.line.syncing g group is_group runs.2 in
+      let at : x ≡ group = is ∙ Some-injective (sym is_group ∙ runs.2) in
       (told ∙ ap (λ (n : ℕ). reply.Synced (record { 0 = n })) at ∙ sym (last_reply group left none), λ some. absurd (omega (arith, none, some)))
   by_answer (Err e) answered told own = absurd (true≢false (ap (λ (y : Reply). is_refusal y) (sym told) ∙ answered))
 
