@@ -25,6 +25,11 @@ use Rattle.base.specs.steps.Steps as steps
 use Rattle.base.specs.steps.Steps.{State, Answers, SyncProgress}
 use Rattle.base.specs.steps.Steps.SyncProgress.{More, Synced}
 use Rattle.base.specs.steps.Stage as stage
+use Rattle.base.specs.steps.Effects.{Effect, MayCommit, MayHave, is_on_log, is_turning, state_after}
+use Rattle.base.specs.steps.Effects.Effect.{Stays, OnLocks, OnTransactions, OnLine, OnSync, OnLog}
+use Rattle.base.specs.steps.Effects.TransactionEffect.{AddsAdmission, AddsEntry}
+use Rattle.base.specs.steps.Effects.LineEffect.{OpensNext, QuiescesMiddle}
+use Rattle.base.specs.steps.Effects.SyncEffect.{CountsStep}
 use Rattle.base.specs.declared.step.Reply.TheVariants as reply
 use Rattle.base.specs.steps.Runs.{Step, reply_of, progress_reply}
 use Rattle.base.specs.steps.ExactNow.{IsExplainedNow}
@@ -33,6 +38,7 @@ use Rattle.base.specs.stored.Stored.{NewTree, IsStored, IsSyncing, RunsAs, IsKep
 use Rattle.base.proofs.history.CommitOrder.{no_refusal}
 use Rattle.base.proofs.common.KeptLists.{found_at, Some-injective, push-cases}
 use Rattle.base.proofs.steps.KeptGroups.{held_above, quiescing_is, none_there}
+use Rattle.base.proofs.steps.StepEffects.{StepDoes, step_does}
 use Rattle.base.proofs.stored.StoredLabels.{synced-state, counted-state, labels-state}
 
 -- the free blocks are the same where a sync has taken the same
@@ -155,79 +161,23 @@ module _ (now : List ℕ) (pointers : Place → Pointer) (running : Option NewTr
   abbrev pub IsKeptState : State → Type 0
   IsKeptState s = IsKept now s.shown pointers running s.past
 
-  refused : {A : Type 0} (r : Option PoolError) (e : PoolError) (old new : State) (does : A → Type 0) (own : PoolError → Type 0)
-      → IsKeptState old → (own e → IsKeptState new) → Answers r (Err e) old new does own → IsKeptState new
-  refused None e old new does own x is h = is h
-  refused (Some f) e old new does own x is h = subst IsKeptState (sym h.1) x
-
-  by_answer : {A : Type 0} (answer : Result A PoolError) (r : Option PoolError) (old new : State) (does : A → Type 0) (own : PoolError → Type 0)
-      → ((a : A) → answer ≡ Ok a → r ≡ None → does a → IsKeptState new) → ((e : PoolError) → own e → IsKeptState new) → IsKeptState old → Answers r answer old new does own → IsKeptState new
-  by_answer (Ok a) None old new does own done is x h = done a refl refl h
-  by_answer (Ok a) (Some e) old new does own done is x h = absurd (let no_way : Ok a ≡ Err e = h.0 in cc)
-  by_answer (Err e) r old new does own done is x h = refused r e old new does own x (is e) h
-
   -- what changes neither the line nor the admissions
   stays : (s t : Shown) (p q : Past) → IsKept now s pointers running p
       → IsKept now (record t { guid = s.guid; import_number = s.import_number; blocks = s.blocks; line = s.line; contents = s.contents; free = s.free; log = record t.log { kept = s.log.kept; next = s.log.next }; root = s.root; sync = s.sync })
       pointers running (record q { base = p.base; entries = p.entries; admissions = p.admissions })
   stays s t p q x = kept-state now s (record t { line = s.line }) pointers p (record q { admissions = p.admissions }) running x x.stored.middle x.stored.built
 
-  lock : (owner : ℕ) (range : NumberRange) (mode : Mode) (answer : Result ℕ PoolError) (old new : State) → IsKeptState old → steps.Lock owner range mode answer old new → IsKeptState new
-  lock owner range mode answer old new x h = by_answer answer (refusal.lock_refusal owner range mode old.shown) old new _ _
-      (λ id is none d. subst IsKeptState (sym d.1) (let t : State = steps.state_after_grant (steps.next_grant owner range mode old.shown) old in stays old.shown t.shown old.past t.past x))
-      (λ e own. subst IsKeptState (sym own.1) x) x h
+  -- an admission has a plan of built shapes
+  admission : (a : Admission) (s : State) → IsKeptState s → list_all stage.is_shape_built a.plan ≡ true → IsKeptState (stage.state_after_admission a s)
+  admission a s x of_plan =
+      let t : State = stage.state_after_admission a s in
+      kept-state now s.shown t.shown pointers s.past t.past running x x.stored.middle
+      (λ i b at. elim (push-cases s.past.admissions a b i at) as (λ _. list_all stage.is_shape_built b.plan ≡ true) [
+        | inl before ↦ x.stored.built i b before
+        | inr last ↦ ap (λ (c : Admission). list_all stage.is_shape_built c.plan) (sym last.1) ∙ of_plan
+      ])
 
-  unlock : (owner id : ℕ) (answer : Result (Unit {0}) PoolError) (old new : State) → IsKeptState old → steps.Unlock owner id answer old new → IsKeptState new
-  unlock owner id answer old new x h = by_answer answer (refusal.unlock_refusal owner id old.shown) old new _ _
-      (λ a is none d. subst IsKeptState (sym d) state) (λ e own. absurd own) x h
-    where
-      state : IsKept now (record old.shown { locks = filter (λ (g : Grant). not (g.id == id)) old.shown.locks }) pointers running (record old.past { let_go = old.past.let_go ++ id ∷ [] })
-      state = stays old.shown (record old.shown { locks = filter (λ (g : Grant). not (g.id == id)) old.shown.locks }) old.past (record old.past { let_go = old.past.let_go ++ id ∷ [] }) x
-
-  -- a begin has a plan of built shapes
-  begin : (owner : ℕ) (plan : List Shape) (answer : Result (ℕ × ℕ) PoolError) (old new : State) → IsKeptState old → stage.Begin owner plan answer old new → IsKeptState new
-  begin owner plan answer old new x h = by_answer answer (stage.begin_refusal owner plan old.shown) old new _ _
-      (λ a is none d. subst IsKeptState (sym d.1) (state none)) (λ e own. subst IsKeptState (sym own.1) x) x h
-    where
-      state : stage.begin_refusal owner plan old.shown ≡ None → IsKeptState (stage.state_after_admission (steps.next_admission owner plan old.shown) old)
-      state none =
-          let a : Admission = steps.next_admission owner plan old.shown in
-          let t : State = stage.state_after_admission a old in
-          let of_plan : list_all stage.is_shape_built plan ≡ true =
-          (and_parts (is_plan_allowed plan) (list_all stage.is_shape_built plan) (not-false (stage.is_plan_built plan) (no_refusal (stage.begin_tests owner plan old.shown) none 2 _ refl))).1 in
-          kept-state now old.shown t.shown pointers old.past t.past running x x.stored.middle
-          (λ i b at. elim (push-cases old.past.admissions a b i at) as (λ _. list_all stage.is_shape_built b.plan ≡ true) [
-            | inl before ↦ x.stored.built i b before
-            | inr last ↦ ap (λ (c : Admission). list_all stage.is_shape_built c.plan) (sym last.1) ∙ of_plan
-          ])
-
-  read : (owner : ℕ) (range : NumberRange) (answer : Result (List ℕ) PoolError) (old new : State) → IsKeptState old → stage.Read owner range answer old new → IsKeptState new
-  read owner range answer old new x h = by_answer answer (refusal.read_refusal owner range old.shown) old new _ _
-      (λ bytes is none d. subst IsKeptState (sym d.1) x) (λ e own. subst IsKeptState (sym own.1) x) x h
-
-  -- no entry is above the open group as it is closed
-  close : (answer : Result ℕ PoolError) (old new : State) → IsExplainedNow old.shown old.past → IsKeptState old → stage.CloseGroup answer old new → IsKeptState new
-  close answer old new explained x h = by_answer answer (stage.close_refusal old.shown) old new _ _
-      (λ group is none d. subst IsKeptState (sym d.1) (
-      let t : State = steps.with_line (steps.line_after_close old.shown.line) old in
-      kept-state now old.shown t.shown pointers old.past t.past running x explained.exact.isolated.admitted.committed x.stored.built
-      )) (λ e own. absurd own) x h
-
-  quiesce : (answer : Result ℕ PoolError) (old new : State) → IsKeptState old → steps.MarkQuiesced answer old new → IsKeptState new
-  quiesce answer old new x h = by_answer answer (refusal.quiesce_refusal old.shown) old new _ _
-      (λ group is none d. subst IsKeptState (sym d.1) (
-      let t : State = steps.with_line (steps.line_after_quiesce group old.shown.line) old in
-      kept-state now old.shown t.shown pointers old.past t.past running x
-      (subst (λ (o : Option Middle). IfSome o (λ (m : Middle). AreUpTo m.group old.past.entries)) (quiescing_is old.shown.line group d.0) x.stored.middle) x.stored.built
-      )) (λ e own. absurd own) x h
-
-  -- what waits for older groups is done while there is none
-  none_older : (s : Shown) (tests : List refusal.Test) → refusal.first_refusal (stage.waits_for_older s tests) ≡ None → (s.line.middle ≡ None) × (s.line.syncing ≡ None)
-  none_older s tests none =
-      let parts = or_parts (is_some s.line.middle) (is_some s.line.syncing) (no_refusal (stage.waits_for_older s tests) none 1 _ refl) in
-      (none_there s.line.middle parts.0, none_there s.line.syncing parts.1)
-
-  -- so no sync runs then
+  -- while no group is syncing no sync runs
   none_runs : (s : Shown) (p : Past) (o : Option NewTree) → s.line.syncing ≡ None → RunsAs now s pointers o p → (o ≡ None) × (s.sync ≡ None)
   none_runs s p None idle none = (refl, none)
   none_runs s p (Some new) idle y = absurd (let no_way : None ≡ Some y.group = sym idle ∙ y.syncing in cc)
@@ -239,31 +189,25 @@ module _ (now : List ℕ) (pointers : Place → Pointer) (running : Option NewTr
       let in_line : slice_get (open_transactions p.admissions p.entries p.aborted) found.0 ≡ Some a = subst (λ ts. slice_get ts found.0 ≡ Some a) explained.exact.groups.transactions found.1 in
       (held_above s.line a.group explained.exact.groups.line (explained.exact.groups.members.holding found.0 a in_line)).0
 
-  commit : (tx : ℕ) (ops : List Op) (answer : Result (ℕ × ℕ) PoolError) (old new : State) → IsExplainedNow old.shown old.past → IsKeptState old → stage.Commit tx ops answer old new → IsKeptState new
-  commit tx ops answer old new explained x h = by_answer answer (stage.commit_refusal tx ops old.shown) old new _ _
-      (λ receipt is none d. subst IsKeptState (sym d.6) (state none d.0 d.1 d.2)) (λ e own. subst IsKeptState (sym own.1) x) x h
-    where
-      s : Shown
-      s = old.shown
-
-      p : Past
-      p = old.past
-
-      state : stage.commit_refusal tx ops old.shown ≡ None → (a : Admission) (contents : Contents) → refusal.transaction_of tx old.shown ≡ Some a → IsKeptState (steps.state_after_commit tx a.group ops contents old)
-      state none a contents there =
-          let t : State = steps.state_after_commit tx a.group ops contents old in
-          let e : Entry = record { group = a.group; tx = tx; ops = ops } in
-          let idle = none_older s (refusal.commit_tests tx ops s) none in
-          let off = none_runs s p running idle.1 x.sync in
-          record {
-            stored = stored-state now s t.shown pointers p t.past x.stored refl (up_to_push s.line.synced p.entries e (transaction_above tx s p a explained there))
-                (subst (λ (o : Option Middle). IfSome o (λ (m : Middle). AreUpTo m.group t.past.entries)) (sym idle.0) tt)
-                (subst (λ (o : Option ℕ). IfSome o (λ group. AreUpTo group t.past.entries)) (sym idle.1) tt) x.stored.built;
-            sync = subst (λ (o : Option NewTree). RunsAs now t.shown pointers o t.past) (sym off.0) off.1;
-            geometry = x.geometry;
-            labels = subst (λ (o : Option NewTree). AreLabelsShown now t.shown o t.past) (sym off.0)
-                (synced-state now s t.shown p t.past (subst (λ (o : Option NewTree). AreLabelsShown now s o p) off.0 x.labels) (up_to_push s.line.synced p.entries e (transaction_above tx s p a explained there)));
-          }
+  -- an entry comes while no older group is unsynced
+  entry : (tx : ℕ) (a : Admission) (ops : List Op) (contents : Contents) (old : State) → IsExplainedNow old.shown old.past → IsKeptState old → MayCommit tx a ops contents old
+      → IsKeptState (steps.state_after_commit tx a.group ops contents old)
+  entry tx a ops contents old explained x may =
+      let s : Shown = old.shown in
+      let p : Past = old.past in
+      let t : State = steps.state_after_commit tx a.group ops contents old in
+      let next : Entry = record { group = a.group; tx = tx; ops = ops } in
+      let off = none_runs s p running may.no_sync x.sync in
+      let same = up_to_push s.line.synced p.entries next (transaction_above tx s p a explained may.found) in
+      record {
+        stored = stored-state now s t.shown pointers p t.past x.stored refl same
+            (subst (λ (o : Option Middle). IfSome o (λ (m : Middle). AreUpTo m.group t.past.entries)) (sym may.no_middle) tt)
+            (subst (λ (o : Option ℕ). IfSome o (λ group. AreUpTo group t.past.entries)) (sym may.no_sync) tt) x.stored.built;
+        sync = subst (λ (o : Option NewTree). RunsAs now t.shown pointers o t.past) (sym off.0) off.1;
+        geometry = x.geometry;
+        labels = subst (λ (o : Option NewTree). AreLabelsShown now t.shown o t.past) (sym off.0)
+            (synced-state now s t.shown p t.past (subst (λ (o : Option NewTree). AreLabelsShown now s o p) off.0 x.labels) same);
+      }
 
   -- a device call of a sync was made, and more are left
   more : (plan : SyncPlan) (old : State) → IsKeptState old → old.shown.sync ≡ Some plan → IsKeptState (steps.state_after_step plan old)
@@ -287,42 +231,31 @@ module _ (now : List ℕ) (pointers : Place → Pointer) (running : Option NewTr
           let same : plan ≡ y.plan = Some-injective (sym is ∙ y.running) in
           syncing-state now old.shown t.shown pointers old.past t.past new y (plan.steps_left - 1) (ap (λ (q : SyncPlan). Some (record q { steps_left = plan.steps_left - 1 })) same)
 
-  progress : (made : SyncProgress) (group : ℕ) (plan : SyncPlan) (old new : State) → made ≡ More → IsKeptState old → old.shown.sync ≡ Some plan → steps.IsProgress group made plan old new → IsKeptState new
-  progress More group plan old new is x running_is h = subst IsKeptState (sym h.1) (more plan old x running_is)
-  progress (Synced g) group plan old new is x running_is h = absurd (cc)
-
-  -- a reply that is no turn is not of a sync that was started
-  no_start : (answer : Result ℕ PoolError) (group : ℕ) (r : declared_reply.Reply) → r ≡ reply_of (λ (g : ℕ). reply.Syncing (record { 0 = g })) answer → is_turn r ≡ false → answer ≡ Ok group → ⊥
-  no_start answer group r given off is =
-      let same : is_turn r ≡ true = ap is_turn given ∙ ap (λ (a : Result ℕ PoolError). is_turn (reply_of (λ (g : ℕ). reply.Syncing (record { 0 = g })) a)) is in
-      false≢true (sym off ∙ same)
-
-  start : (keeps : Type 0) (bytes : List ℕ) (moment : ℕ) (answer : Result ℕ PoolError) (old new : State) → ((group : ℕ) → answer ≡ Ok group → ⊥) → IsKeptState old → stage.StartSync keeps bytes moment answer old new → IsKeptState new
-  start keeps bytes moment answer old new off x h = by_answer answer (refusal.start_refusal old.shown) old new _ _
-      (λ group is none d. absurd (off group is)) (λ e own. subst IsKeptState (sym own.1) x) x h
-
-  -- nor of one that is done
-  no_end : (answer : Result SyncProgress PoolError) (made : SyncProgress) (r : declared_reply.Reply) → r ≡ reply_of progress_reply answer → is_turn r ≡ false → answer ≡ Ok made → made ≡ More
-  no_end answer More r given off is = refl
-  no_end answer (Synced g) r given off is =
-      let same : is_turn r ≡ true = ap is_turn given ∙ ap (λ (a : Result SyncProgress PoolError). is_turn (reply_of progress_reply a)) is in
-      absurd (false≢true (sym off ∙ same))
-
-  sync_step : (answer : Result SyncProgress PoolError) (old new : State) → ((made : SyncProgress) → answer ≡ Ok made → made ≡ More) → IsKeptState old → steps.SyncStep answer old new → IsKeptState new
-  sync_step answer old new off x h = by_answer answer (refusal.sync_step_refusal old.shown) old new _ _
-      (λ made is none d. progress made d.0 d.1 old new (off made is) x d.3 d.4)
-      (λ e own. subst IsKeptState (sym own.1) (let t : State = steps.suspended_state old in stays old.shown t.shown old.past t.past x)) x h
+  -- by the effect; no entry is above the open group as it is closed
+  effect_keeps : (e : Effect) (s : State) → is_turning e ≡ false → is_on_log e ≡ false → IsExplainedNow s.shown s.past → IsKeptState s → MayHave e s → IsKeptState (state_after e s)
+  effect_keeps Stays s off no_log explained x may = x
+  effect_keeps (OnLocks e) s off no_log explained x may = let t : State = state_after (OnLocks e) s in stays s.shown t.shown s.past t.past x
+  effect_keeps (OnTransactions (AddsAdmission a)) s off no_log explained x may = admission a s x (and_parts (is_plan_allowed a.plan) (list_all stage.is_shape_built a.plan) may.built).1
+  effect_keeps (OnTransactions (AddsEntry tx a ops contents)) s off no_log explained x may = entry tx a ops contents s explained x may
+  effect_keeps (OnLine OpensNext) s off no_log explained x may =
+      let t : State = state_after (OnLine OpensNext) s in
+      kept-state now s.shown t.shown pointers s.past t.past running x explained.exact.isolated.admitted.committed x.stored.built
+  effect_keeps (OnLine (QuiescesMiddle group)) s off no_log explained x may =
+      let t : State = state_after (OnLine (QuiescesMiddle group)) s in
+      kept-state now s.shown t.shown pointers s.past t.past running x
+      (subst (λ (o : Option Middle). IfSome o (λ (m : Middle). AreUpTo m.group s.past.entries)) (quiescing_is s.shown.line group may.0) x.stored.middle) x.stored.built
+  effect_keeps (OnSync (CountsStep plan)) s off no_log explained x may = more plan s x may.0
+  effect_keeps (OnSync _) s turning no_log explained x may = absurd (false≢true (sym turning))
+  effect_keeps (OnLog e) s off on_log explained x may = absurd (false≢true (sym on_log))
 
   -- Each step but the start of a sync and its end keeps what is kept, over the same bytes and pointers. (The bytes that the step itself
   -- names are any.)
   pub steps_keep_kept : (keeps : Type 0) (bytes : List ℕ) (s : declared_step.Step) (r : declared_reply.Reply) (old new : State) → Step keeps bytes s r old new → is_turn r ≡ false → IsExplainedNow old.shown old.past
       → IsKept now old.shown pointers running old.past → IsKept now new.shown pointers running new.past
-  steps_keep_kept keeps bytes (step.Lock owner n range mode) r old new (answer, is, h) off explained x = lock owner.0 (refusal.object_range n.0 range.low range.high) mode answer old new x h
-  steps_keep_kept keeps bytes (step.Unlock owner id) r old new (answer, is, h) off explained x = unlock owner.0 id.0 answer old new x h
-  steps_keep_kept keeps bytes (step.Begin owner plan) r old new (answer, is, h) off explained x = begin owner.0 plan answer old new x h
-  steps_keep_kept keeps bytes (step.Commit tx ops) r old new (answer, is, h) off explained x = commit tx.0 ops answer old new explained x h
-  steps_keep_kept keeps bytes (step.Read owner n range) r old new (answer, is, h) off explained x = read owner.0 (refusal.object_range n.0 range.low range.high) answer old new x h
-  steps_keep_kept keeps bytes step.CloseGroup r old new (answer, is, h) off explained x = close answer old new explained x h
-  steps_keep_kept keeps bytes step.MarkQuiesced r old new (answer, is, h) off explained x = quiesce answer old new x h
-  steps_keep_kept keeps bytes (step.StartSync moment) r old new (answer, is, h) off explained x = start keeps bytes moment answer old new (λ group. no_start answer group r is off) x h
-  steps_keep_kept keeps bytes step.SyncStep r old new (answer, is, h) off explained x = sync_step answer old new (λ made. no_end answer made r is off) x h
+  steps_keep_kept keeps bytes s r old new h off explained x =
+      let d : StepDoes s r old new = step_does keeps bytes s r old new h in
+      let kept = effect_keeps d.has.effect old (d.turns ∙ off) d.no_log explained x d.has.may in
+      elim (d.has.left) as (λ _. IsKeptState new) [
+        | inl is ↦ subst IsKeptState (sym is) kept
+        | inr is ↦ subst IsKeptState (sym is) (let after : State = state_after d.has.effect old in let t : State = steps.suspended_state after in stays after.shown t.shown after.past t.past kept)
+      ]
