@@ -46,15 +46,9 @@ stepped keeps bytes (Ok (Synced group)) r old new is h = inr (inr (group, is, h)
 stepped keeps bytes (Err e) r old new is h = inl (ap is_turn is)
 
 turn-of : (keeps : Type 0) (bytes : List ℕ) (s : declared_step.Step) (r : declared_reply.Reply) (old new : State) → Step keeps bytes s r old new → Turn keeps bytes r old new
-turn-of keeps bytes (step.Lock owner n range mode) r old new (answer, is, h) = inl (no-turn _ answer r (λ id. refl) is)
-turn-of keeps bytes (step.Unlock owner id) r old new (answer, is, h) = inl (no-turn _ answer r (λ a. refl) is)
-turn-of keeps bytes (step.Begin owner plan) r old new (answer, is, h) = inl (no-turn _ answer r (λ a. refl) is)
-turn-of keeps bytes (step.Commit tx ops) r old new (answer, is, h) = inl (no-turn _ answer r (λ a. refl) is)
-turn-of keeps bytes (step.Read owner n range) r old new (answer, is, h) = inl (no-turn _ answer r (λ a. refl) is)
-turn-of keeps bytes step.CloseGroup r old new (answer, is, h) = inl (no-turn _ answer r (λ a. refl) is)
-turn-of keeps bytes step.MarkQuiesced r old new (answer, is, h) = inl (no-turn _ answer r (λ a. refl) is)
 turn-of keeps bytes (step.StartSync moment) r old new (answer, is, h) = started keeps bytes moment answer r old new is h
 turn-of keeps bytes step.SyncStep r old new (answer, is, h) = stepped keeps bytes answer r old new is h
+turn-of keeps bytes _ r old new (answer, is, h) = inl (no-turn _ answer r (λ a. refl) is)
 
 module _ (old new : Held) (x : IsHeld old) where
   -- what is kept after a call, while all that is shown is as before
@@ -87,17 +81,10 @@ module _ (old new : Held) (x : IsHeld old) where
 
     -- by the reply of a step that is no turn
     no_turn : (r : declared_reply.Reply) → Step keeps bytes s r old.state new.state → is_turn r ≡ false → Moves r old new → Kept
-    no_turn (reply.Refused e) h off m = beside (reply.Refused e) h off m
-    no_turn reply.Done h off m = beside reply.Done h off m
-    no_turn (reply.Locked id) h off m = beside (reply.Locked id) h off m
-    no_turn (reply.Began tx group) h off m = beside (reply.Began tx group) h off m
-    no_turn (reply.Committed receipt) h off m = beside (reply.Committed receipt) h off m
-    no_turn (reply.Bytes all) h off m = beside (reply.Bytes all) h off m
-    no_turn (reply.Opened group) h off m = beside (reply.Opened group) h off m
-    no_turn (reply.Quiesced group) h off m = beside (reply.Quiesced group) h off m
     no_turn reply.More h off m = more reply.More h off m
     no_turn (reply.Syncing group) h off m = absurd (false≢true (sym off))
     no_turn (reply.Synced group) h off m = absurd (false≢true (sym off))
+    no_turn r h off m = beside r h off m
 
     -- the start of a sync
     start : (group : ℕ) (moment : ℕ) → stage.StartSync keeps bytes moment (Ok group) old.state new.state → Starts group old new → Kept
