@@ -1,5 +1,6 @@
 pub mod NewPools
 pub mod StepEffects
+pub mod AnyDevice
 pub mod Additions
 pub mod BusyLocks
 pub mod OpenTransactions
