@@ -1,22 +1,18 @@
 -- The past after a step is told by the step, its reply and the state before, and it only grows.
-use Rattle.std.proofs.Common.{◌≡◌, ℕ, true, List, [], ◌∷◌, ◌++◌, refl, ap, sym, subst, ◌∙◌, ◌⊎◌, inl, inr, append_assoc}
-use Rattle.std.specs.Prelude.{Option, Some, None, Result, Ok, Err, ◌==◌}
+use Rattle.std.proofs.Common.{◌≡◌, ℕ, true, List, [], ◌∷◌, ◌++◌, refl, ap, sym, subst, ◌∙◌, inl, inr, append_assoc}
+use Rattle.std.specs.Prelude.{◌==◌}
 use Rattle.std.proofs.lemmas.Bool.{or_left}
 use Rattle.std.proofs.lemmas.List.{append-nil}
 use Rattle.std.proofs.lemmas.List.Folds.{list_any-append}
-use Rattle.base.specs.declared.error.PoolError.{PoolError}
 use Rattle.base.specs.declared.step.Step as declared_step
-use Rattle.base.specs.declared.step.Step.TheVariants as step
 use Rattle.base.specs.declared.step.Reply as declared_reply
-use Rattle.base.specs.declared.step.Reply.TheVariants as reply
 use Rattle.base.specs.steps.Locks.{is_in}
 use Rattle.base.specs.history.Past.{Past, Grows, IsPrefixOf}
-use Rattle.base.specs.steps.Shown.{SyncPlan}
 use Rattle.base.specs.steps.Additions.{past_after}
 use Rattle.base.specs.steps.Stage.{state_after_admission}
 use Rattle.base.specs.steps.Steps.{State, state_after_commit, state_after_grant, state_after_log_flush, state_after_sync, state_after_unlock}
 use Rattle.base.specs.steps.Effects.{Effect, HasEffect, state_after}
-use Rattle.base.specs.steps.Effects.Effect.{Stays, OnLocks, OnTransactions, OnSync, OnLog}
+use Rattle.base.specs.steps.Effects.Effect.{OnLocks, OnTransactions, OnSync, OnLog}
 use Rattle.base.specs.steps.Effects.LockEffect.{AddsGrant, LetsGo}
 use Rattle.base.specs.steps.Effects.TransactionEffect.{AddsAdmission, AddsEntry}
 use Rattle.base.specs.steps.Effects.SyncEffect.{EndsSync}

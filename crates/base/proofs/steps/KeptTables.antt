@@ -1,9 +1,9 @@
 -- Each effect of a step keeps what is shown of a pool exact, and its entries a history: so each step does.
-use Rattle.std.proofs.Common.{rules, ◌≡◌, ℕ, ◌+◌, ◌<◌, ◌≤◌, Bool, true, false, not, ◌&&◌, List, [], ◌∷◌, ◌++◌, length, map, refl, ap, sym, subst, ◌∙◌, arith, ◌⊎◌, inl, inr}
-use Rattle.std.specs.Prelude.{Option, Some, None, Result, Ok, Err, is_some, is_none, slice_get, option_map, IfSome, filter, nat_lt, nat_le, All, ◌==◌}
+use Rattle.std.proofs.Common.{rules, ◌≡◌, ℕ, ◌+◌, ◌<◌, ◌≤◌, true, false, not, ◌&&◌, List, [], ◌∷◌, ◌++◌, length, map, refl, ap, sym, subst, ◌∙◌, arith, inl, inr}
+use Rattle.std.specs.Prelude.{Some, None, Result, Ok, is_none, slice_get, option_map, IfSome, nat_lt, nat_le, All, ◌==◌}
 use Rattle.std.specs.List.{list_all, list_any}
 use Rattle.std.specs.Option.{option_map_or}
-use Rattle.std.proofs.lemmas.Bool.{and_parts, or_parts, not-false, eqb-true, ltb-true, ltb-false, leb-true, leb-false}
+use Rattle.std.proofs.lemmas.Bool.{and_parts, eqb-true, ltb-true, ltb-false, leb-true}
 use Rattle.std.proofs.lemmas.Option.{slice_get-map}
 use Rattle.std.proofs.lemmas.List.Elements.{All-nil, All-cons}
 use Rattle.base.specs.declared.error.PoolError.{PoolError}
@@ -11,20 +11,18 @@ use Rattle.base.specs.declared.error.PoolError.TheVariants as error
 use Rattle.base.specs.declared.operation.Op.{Op}
 use Rattle.base.specs.declared.operation.Shape.{Shape}
 use Rattle.base.specs.declared.operation.Shape.TheVariants as shape
-use Rattle.base.specs.declared.range.Mode.{Mode}
 use Rattle.base.specs.declared.step.Step as declared_step
-use Rattle.base.specs.declared.step.Step.TheVariants as step
 use Rattle.base.specs.declared.step.Reply as declared_reply
 use Rattle.base.specs.formats.Limits.{object_count, max_length, max_log_record, last_number}
 use Rattle.base.specs.history.Contents.{Contents}
-use Rattle.base.specs.history.Plans.{NumberRange, IsRange, shape_of, range_of, ranges, plan_ranges, is_shape_allowed, is_plan_allowed, log_record_size}
-use Rattle.base.specs.history.History.{Entry, IsHistory, MayFollow, Admitted, AreAdmitted, apply_all}
-use Rattle.base.specs.steps.Locks.{Grant, is_blocked}
-use Rattle.base.specs.steps.Groups.{Admission, admitted_of, open_transactions, hold_count}
+use Rattle.base.specs.history.Plans.{IsRange, shape_of, range_of, ranges, plan_ranges, is_shape_allowed, is_plan_allowed, log_record_size}
+use Rattle.base.specs.history.History.{Entry, IsHistory, MayFollow, Admitted}
+use Rattle.base.specs.steps.Locks.{Grant}
+use Rattle.base.specs.steps.Groups.{Admission, admitted_of, open_transactions}
 use Rattle.base.specs.formats.Uberblocks.{Uberblock}
 use Rattle.base.specs.history.Past.{Past, new_past}
-use Rattle.base.specs.steps.Shown.{Shown, SyncPlan}
-use Rattle.base.specs.formats.Records.{Record, IsAllowed, is_content_allowed}
+use Rattle.base.specs.steps.Shown.{Shown}
+use Rattle.base.specs.formats.Records.{IsAllowed}
 use Rattle.base.specs.steps.Exact.{IsBounded, AreLocksExact, AreGroupsExact, AreIsolated, IsLogExact, IsSyncExact}
 use Rattle.base.specs.crash.Imports.{IsImported}
 use Rattle.base.specs.steps.Refusals as refusal
@@ -44,12 +42,12 @@ use Rattle.base.specs.steps.Runs.{Step}
 use Rattle.base.specs.steps.ExactNow.{IsExplainedNow, IsRun, IsLogStep}
 use Rattle.base.proofs.history.Cuts.{histories_grow}
 use Rattle.base.proofs.history.Projections.{plans_touch}
-use Rattle.base.proofs.history.CommitOrder.{no_refusal, ok-none, found-plan}
+use Rattle.base.proofs.history.CommitOrder.{no_refusal, found-plan}
 use Rattle.base.proofs.steps.OpenTransactions.{commit-admitted}
 use Rattle.base.proofs.history.Admissions.{closes_leave}
 use Rattle.base.proofs.common.KeptLists.{found_at, All-at}
 use Rattle.base.proofs.steps.KeptLocks.{same_locks, lock_keeps, unlock_keeps}
-use Rattle.base.proofs.steps.KeptGroups.{same_groups, begin_keeps, commit_keeps, close_keeps, quiesce_keeps, start_keeps, sync_keeps, open_is, held_above, quiescing_is, quiesced_is, none_there}
+use Rattle.base.proofs.steps.KeptGroups.{same_groups, begin_keeps, commit_keeps, close_keeps, quiesce_keeps, start_keeps, sync_keeps, open_is, held_above, quiescing_is, quiesced_is}
 use Rattle.base.proofs.steps.KeptIsolation.{same_isolated, lock_isolated, unlock_isolated, begin_isolated, covered_without}
 use Rattle.base.proofs.steps.KeptLog.{same_log, commit_log, sync_log}
 use Rattle.base.proofs.steps.KeptWrites.{write_log, write_sync}

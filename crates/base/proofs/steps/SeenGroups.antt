@@ -1,17 +1,15 @@
 -- The synced and the open group only go up, and what is shown as durable is known to be so from then on.
 use Rattle.std.proofs.Common.{◌≡◌, ℕ, zero, suc, ◌+◌, ◌<◌, ◌≤◌, true, false, ◌&&◌, List, [], ◌∷◌, refl, ap, sym, subst, ◌∙◌, arith, inl, inr}
-use Rattle.std.specs.Prelude.{Option, Some, None, Result, Ok, Err, IfSome, slice_get, nat_le}
+use Rattle.std.specs.Prelude.{Some, IfSome, slice_get, nat_le}
 use Rattle.std.specs.List.{list_any}
 use Rattle.std.proofs.lemmas.Bool.{and_parts, or_cases, leb-true}
-use Rattle.base.specs.declared.error.PoolError.{PoolError}
 use Rattle.base.specs.declared.step.Step as declared_step
-use Rattle.base.specs.declared.step.Step.TheVariants as step
 use Rattle.base.specs.declared.step.Reply as declared_reply
 use Rattle.base.specs.history.History.{Entry}
 use Rattle.base.specs.steps.Groups.{Line}
 use Rattle.base.specs.history.Past.{Grows}
 use Rattle.base.specs.steps.Logs.{KeptBlock, Committed, has_record, is_flushed_in}
-use Rattle.base.specs.steps.Shown.{SyncPlan, is_durable}
+use Rattle.base.specs.steps.Shown.{is_durable}
 use Rattle.base.specs.steps.Effects.{Effect, HasEffect, MayHave, state_after}
 use Rattle.base.specs.steps.Effects.Effect.{OnLine, OnSync}
 use Rattle.base.specs.steps.Effects.LineEffect.{OpensNext}

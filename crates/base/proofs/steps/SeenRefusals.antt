@@ -1,5 +1,5 @@
 -- A pool of which a step was refused a write, a flush, or as suspended, is suspended from then on.
-use Rattle.std.proofs.Common.{subst, ◌≡◌, ℕ, Bool, true, false, not, ◌&&◌, List, [], ◌∷◌, ◌++◌, refl, ap, sym, ◌∙◌, ◌⊎◌, inl, inr}
+use Rattle.std.proofs.Common.{subst, ◌≡◌, ℕ, Bool, true, false, not, ◌&&◌, List, [], ◌∷◌, ◌++◌, refl, ap, sym, ◌∙◌}
 use Rattle.std.specs.Prelude.{Option, Some, None, Result, Ok, Err}
 use Rattle.std.specs.FinMap as finite
 use Rattle.std.specs.List.{list_all}
@@ -10,18 +10,13 @@ use Rattle.base.specs.declared.operation.Op.{Op}
 use Rattle.base.specs.declared.operation.Op.TheVariants as op
 use Rattle.base.specs.declared.step.Step as declared_step
 use Rattle.base.specs.declared.step.Step.TheVariants as step
-use Rattle.base.specs.declared.step.Reply as declared_reply
 use Rattle.base.specs.declared.step.Reply.TheVariants as reply
 use Rattle.base.specs.history.Sequences.{and_then, in_turn}
 use Rattle.base.specs.history.Contents.{Contents, apply, created, removed, changed, with_object, bytes_after_write, resize}
 use Rattle.base.specs.history.History.{apply_all}
 use Rattle.base.specs.steps.Shown.{Shown}
-use Rattle.base.specs.steps.Refusals as refusal
-use Rattle.base.specs.steps.Refusals.{Test, first_refusal, ops_tests, object_range}
-use Rattle.base.specs.steps.Stage as stage
-use Rattle.base.specs.steps.Steps.{State, Answers, SyncProgress}
-use Rattle.base.specs.steps.Steps.SyncProgress.{More, Synced}
-use Rattle.base.specs.steps.SyncEnds.{is_refusal}
+use Rattle.base.specs.steps.Refusals.{Test, first_refusal, ops_tests}
+use Rattle.base.specs.steps.Steps.{State}
 use Rattle.base.specs.steps.Runs.{Step, refusal_of_step, tests_of_step}
 use Rattle.base.specs.steps.ExactNow.{GoesOn}
 use Rattle.base.specs.steps.Seen.{IsMadeBetween, IsRefusedBetween}

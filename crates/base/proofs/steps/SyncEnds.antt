@@ -12,7 +12,6 @@ use Rattle.base.specs.declared.step.Reply.TheVariants as reply
 use Rattle.base.specs.steps.Refusals as refusal
 use Rattle.base.specs.steps.Runs.{Step, progress_reply, refusal_of_step, reply_of}
 use Rattle.base.specs.steps.Shown.{Shown, SyncPlan}
-use Rattle.base.specs.steps.Stage as stage
 use Rattle.base.specs.steps.Steps as steps
 use Rattle.base.specs.steps.Steps.{State, Answers, SyncProgress}
 use Rattle.base.specs.steps.Steps.SyncProgress.{More, Synced}

@@ -1,20 +1,16 @@
 -- Steps that start and end no sync keep what a pool keeps of its device.
 use Rattle.std.proofs.Common.{◌≡◌, ℕ, ◌-◌, ◌<◌, Bool, true, false, cond, List, [], ◌∷◌, ◌++◌, refl, ap, sym, subst, ◌∙◌, ◌⊎◌, inl, inr}
-use Rattle.std.specs.Prelude.{Option, Some, None, Result, Ok, Err, is_some, slice_get, IfSome, nat_le, filter, not, ◌==◌}
+use Rattle.std.specs.Prelude.{Option, Some, None, slice_get, IfSome, nat_le, ◌==◌}
 use Rattle.std.specs.List.{list_all}
-use Rattle.std.proofs.lemmas.Bool.{and_parts, or_parts, not-false, lt-leb, false≢true}
-use Rattle.base.specs.declared.error.PoolError.{PoolError}
+use Rattle.std.proofs.lemmas.Bool.{and_parts, lt-leb, false≢true}
 use Rattle.base.specs.declared.operation.Op.{Op}
-use Rattle.base.specs.declared.operation.Shape.{Shape}
-use Rattle.base.specs.declared.range.Mode.{Mode}
 use Rattle.base.specs.declared.step.Step as declared_step
-use Rattle.base.specs.declared.step.Step.TheVariants as step
 use Rattle.base.specs.declared.step.Reply as declared_reply
 use Rattle.base.specs.declared.pointer.Pointer.{Pointer}
 use Rattle.base.specs.history.Contents.{Contents}
-use Rattle.base.specs.history.Plans.{NumberRange, is_plan_allowed}
+use Rattle.base.specs.history.Plans.{is_plan_allowed}
 use Rattle.base.specs.history.History.{Entry, replay, entries_up_to}
-use Rattle.base.specs.steps.Locks.{Grant, is_in}
+use Rattle.base.specs.steps.Locks.{is_in}
 use Rattle.base.specs.steps.Groups.{Middle, Admission, open_transactions}
 use Rattle.base.specs.tree.Places.{Place, IsInTree}
 use Rattle.base.specs.history.Past.{Past}
@@ -30,14 +26,12 @@ use Rattle.base.specs.steps.Effects.Effect.{Stays, OnLocks, OnTransactions, OnLi
 use Rattle.base.specs.steps.Effects.TransactionEffect.{AddsAdmission, AddsEntry}
 use Rattle.base.specs.steps.Effects.LineEffect.{OpensNext, QuiescesMiddle}
 use Rattle.base.specs.steps.Effects.SyncEffect.{CountsStep}
-use Rattle.base.specs.declared.step.Reply.TheVariants as reply
-use Rattle.base.specs.steps.Runs.{Step, reply_of, progress_reply}
+use Rattle.base.specs.steps.Runs.{Step}
 use Rattle.base.specs.steps.ExactNow.{IsExplainedNow}
 use Rattle.base.specs.stored.ShownLabels.{AreLabelsShown}
 use Rattle.base.specs.stored.Stored.{NewTree, IsStored, IsSyncing, RunsAs, IsKept, AreUpTo, AreBuilt, is_turn}
-use Rattle.base.proofs.history.CommitOrder.{no_refusal}
 use Rattle.base.proofs.common.KeptLists.{found_at, Some-injective, push-cases}
-use Rattle.base.proofs.steps.KeptGroups.{held_above, quiescing_is, none_there}
+use Rattle.base.proofs.steps.KeptGroups.{held_above, quiescing_is}
 use Rattle.base.proofs.steps.StepEffects.{StepDoes, step_does}
 use Rattle.base.proofs.stored.StoredLabels.{synced-state, counted-state, labels-state}
 

@@ -1,5 +1,5 @@
 -- What a step does to a pool: an effect on one of its tables, which leaves the others as they are.
-use Rattle.std.specs.Prelude.{ℕ, ◌≡◌, ◌≤◌, ◌<◌, ◌==◌, ◌++◌, ◌⊎◌, Bool, true, false, not, List, [], ◌∷◌, filter, Option, Some, None, Ok, is_none}
+use Rattle.std.specs.Prelude.{ℕ, ◌≡◌, ◌≤◌, ◌<◌, ◌==◌, ◌⊎◌, Bool, true, false, List, Some, None, Ok}
 use Rattle.std.specs.List.{list_all}
 use Rattle.base.specs.declared.operation.Op.{Op}
 use Rattle.base.specs.formats.Limits.{last_number, max_log_record}
