@@ -12,11 +12,7 @@ use Rattle.base.specs.steps.Additions.{past_after}
 use Rattle.base.specs.steps.Stage.{state_after_admission}
 use Rattle.base.specs.steps.Steps.{State, state_after_commit, state_after_grant, state_after_log_flush, state_after_sync, state_after_unlock}
 use Rattle.base.specs.steps.Effects.{Effect, HasEffect, state_after}
-use Rattle.base.specs.steps.Effects.Effect.{OnLocks, OnTransactions, OnSync, OnLog}
-use Rattle.base.specs.steps.Effects.LockEffect.{AddsGrant, LetsGo}
-use Rattle.base.specs.steps.Effects.TransactionEffect.{AddsAdmission, AddsEntry}
-use Rattle.base.specs.steps.Effects.SyncEffect.{EndsSync}
-use Rattle.base.specs.steps.Effects.LogEffect.{FlushesLog}
+use Rattle.base.specs.steps.Effects.Effect.{AddsGrant, LetsGo, AddsAdmission, AddsEntry, EndsSync, FlushesLog}
 use Rattle.base.specs.steps.Runs.{Step}
 use Rattle.base.specs.steps.ExactNow.{IsRun}
 use Rattle.base.proofs.steps.StepEffects.{step_does}
@@ -67,14 +63,14 @@ still-in : (o : ℕ) (xs more : List ℕ) → is_in o xs ≡ true → is_in o (x
 still-in o xs more h = list_any-append (λ y. o == y) xs more ∙ or_left (is_in o xs) (is_in o more) h
 
 effect-grows : (e : Effect) (s : State) → Grows s.past (state_after e s).past
-effect-grows (OnLocks (AddsGrant g)) s = grows-to s.past (state_after_grant g s).past (same-prefix _) (_, refl) (same-prefix _) (same-prefix _) (same-prefix _) (λ o h. h)
-effect-grows (OnLocks (LetsGo owner id)) s = grows-to s.past (state_after_unlock id s).past (same-prefix _) (same-prefix _) (_, refl) (same-prefix _) (same-prefix _) (λ o h. h)
-effect-grows (OnTransactions (AddsAdmission a)) s = grows-to s.past (state_after_admission a s).past (same-prefix _) (same-prefix _) (same-prefix _) (_, refl) (same-prefix _) (λ o h. h)
-effect-grows (OnTransactions (AddsEntry tx a ops contents)) s =
+effect-grows (AddsGrant g) s = grows-to s.past (state_after_grant g s).past (same-prefix _) (_, refl) (same-prefix _) (same-prefix _) (same-prefix _) (λ o h. h)
+effect-grows (LetsGo owner id) s = grows-to s.past (state_after_unlock id s).past (same-prefix _) (same-prefix _) (_, refl) (same-prefix _) (same-prefix _) (λ o h. h)
+effect-grows (AddsAdmission a) s = grows-to s.past (state_after_admission a s).past (same-prefix _) (same-prefix _) (same-prefix _) (_, refl) (same-prefix _) (λ o h. h)
+effect-grows (AddsEntry tx a ops contents) s =
     grows-to s.past (state_after_commit tx a.group ops contents s).past (_, refl) (same-prefix _) (same-prefix _) (same-prefix _) (same-prefix _) (λ o h. h)
-effect-grows (OnSync (EndsSync group plan)) s =
+effect-grows (EndsSync group plan) s =
     grows-to s.past (state_after_sync group plan s).past (same-prefix _) (same-prefix _) (same-prefix _) (same-prefix _) (same-prefix _) (λ o h. still-in o s.past.acknowledged _ h)
-effect-grows (OnLog FlushesLog) s = grows-to s.past (state_after_log_flush s).past (same-prefix _) (same-prefix _) (same-prefix _) (same-prefix _) (same-prefix _) (λ o h. still-in o s.past.acknowledged _ h)
+effect-grows FlushesLog s = grows-to s.past (state_after_log_flush s).past (same-prefix _) (same-prefix _) (same-prefix _) (same-prefix _) (same-prefix _) (λ o h. still-in o s.past.acknowledged _ h)
 effect-grows _ s = grows-same s.past
 
 has-grows : (old new : State) → HasEffect old new → Grows old.past new.past

@@ -27,17 +27,10 @@ use Rattle.base.specs.steps.Exact.{IsBounded, AreLocksExact, AreGroupsExact, Are
 use Rattle.base.specs.crash.Imports.{IsImported}
 use Rattle.base.specs.steps.Refusals as refusal
 use Rattle.base.specs.steps.Refusals.{Test, refused_if, first_refusal}
-use Rattle.base.specs.steps.Steps as steps
-use Rattle.base.specs.steps.Steps.{State, Answers, SyncProgress}
-use Rattle.base.specs.steps.Steps.SyncProgress.{More, Synced}
+use Rattle.base.specs.steps.Steps.{State}
 use Rattle.base.specs.steps.Stage as stage
-use Rattle.base.specs.steps.Effects.{Effect, LockEffect, TransactionEffect, LineEffect, SyncEffect, LogEffect, HasEffect, MayHave, MayLock, MayAdmit, MayCommit, MayTransact, MayLine, MaySync, MayLog, state_after}
-use Rattle.base.specs.steps.Effects.Effect.{Stays, OnLocks, OnTransactions, OnLine, OnSync, OnLog}
-use Rattle.base.specs.steps.Effects.LockEffect.{AddsGrant, LetsGo}
-use Rattle.base.specs.steps.Effects.TransactionEffect.{AddsAdmission, AddsEntry}
-use Rattle.base.specs.steps.Effects.LineEffect.{OpensNext, QuiescesMiddle}
-use Rattle.base.specs.steps.Effects.SyncEffect.{PlansSync, CountsStep, EndsSync}
-use Rattle.base.specs.steps.Effects.LogEffect.{WritesLog, FlushesLog}
+use Rattle.base.specs.steps.Effects.{Effect, HasEffect, MayHave, MayAddEntry, state_after}
+use Rattle.base.specs.steps.Effects.Effect.{Stays, Suspends, AddsGrant, LetsGo, AddsAdmission, AddsEntry, OpensNext, QuiescesMiddle, PlansSync, CountsStep, EndsSync, WritesLog, FlushesLog}
 use Rattle.base.specs.steps.Runs.{Step}
 use Rattle.base.specs.steps.ExactNow.{IsExplainedNow, IsRun, IsLogStep}
 use Rattle.base.proofs.history.Cuts.{histories_grow}
@@ -59,59 +52,6 @@ use Rattle.base.proofs.steps.StepEffects.{log_step_has, step_does}
 abbrev IsExplainedState : State → Type 0
 IsExplainedState s = IsExplainedNow s.shown s.past
 
--- an effect on the locks
-locks_keep : (e : LockEffect) (s : State) → IsExplainedState s → MayLock e s → IsExplainedState (state_after (OnLocks e) s)
-locks_keep e s x may = record {
-  exact = record {
-    locks = locks e may;
-    groups = same_groups s.shown t.shown s.past t.past x.exact.groups;
-    order = x.exact.order;
-    isolated = isolated e may;
-    log = same_log s.shown t.shown s.past t.past x.exact.log;
-    bounded = x.exact.bounded;
-    sync = same_sync s.shown t.shown x.exact.sync;
-    limit = x.exact.limit;
-  };
-  history = x.history;
-}
-  where
-    t : State
-    t = state_after (OnLocks e) s
-
-    found : (owner id : ℕ) (g : Grant) → refusal.lock_of owner id s.shown ≡ Some g → (i : ℕ) × (slice_get s.shown.locks i ≡ Some g) × (g.id ≡ id)
-    found owner id g is =
-        let place = found_at (λ (h : Grant). (h.id == id) && (h.owner == owner)) s.shown.locks g is in
-        (place.0, place.1, eqb-true g.id id (and_parts (g.id == id) (g.owner == owner) place.2).0)
-
-    locks : (e : LockEffect) → MayLock e s → AreLocksExact (state_after (OnLocks e) s).shown (state_after (OnLocks e) s).past
-    locks (AddsGrant g) (named, free) = lock_keeps s.shown s.past x.exact.locks g named free
-    locks (LetsGo owner id) (g, is, unused) = let at = found owner id g is in unlock_keeps s.shown s.past x.exact.locks id at.0 g at.1 at.2
-
-    isolated : (e : LockEffect) → MayLock e s → AreIsolated (state_after (OnLocks e) s).shown (state_after (OnLocks e) s).past
-    isolated (AddsGrant g) may = let u : State = steps.state_after_grant g s in lock_isolated s.shown u.shown s.past u.past g x.exact.isolated
-    isolated (LetsGo owner id) (g, is, unused) =
-        let at = found owner id g is in
-        unlock_isolated s.shown s.past (steps.state_after_unlock id s).past id at.0 g x.exact.locks x.exact.isolated at.1 at.2 unused
-
--- an admission
-admission_keeps : (a : Admission) (s : State) → IsExplainedState s → MayAdmit a s → IsExplainedState (stage.state_after_admission a s)
-admission_keeps a s x may =
-    let t : State = stage.state_after_admission a s in
-    let allowed = (and_parts (is_plan_allowed a.plan) (list_all stage.is_shape_built a.plan) may.built).0 in
-    record {
-      exact = record {
-        locks = same_locks s.shown t.shown s.past t.past x.exact.locks;
-        groups = begin_keeps s.shown s.past a x.exact.groups may.named may.in_open allowed may.small;
-        order = x.exact.order;
-        isolated = begin_isolated s.shown t.shown s.past t.past a x.exact.isolated may.in_open may.free may.covered;
-        log = same_log s.shown t.shown s.past t.past x.exact.log;
-        bounded = x.exact.bounded;
-        sync = same_sync s.shown t.shown x.exact.sync;
-        limit = x.exact.limit;
-      };
-      history = x.history;
-    }
-
 shape_range : (x : Shape) → is_shape_allowed x ≡ true → IsRange (range_of x)
 shape_range (shape.Create n) h = record { some = omega arith; within = omega arith }
 shape_range (shape.Remove n) h = record { some = omega arith; within = omega arith }
@@ -128,228 +68,165 @@ plan_range (x ∷ xs) h =
     let p = and_parts (is_shape_allowed x) (list_all is_shape_allowed xs) h in
     All-cons IsRange (range_of x) (plan_ranges xs) (shape_range x p.0) (plan_range xs p.1)
 
--- an entry
-module _ (tx : ℕ) (a : Admission) (ops : List Op) (contents : Contents) (old : State) (x : IsExplainedState old) (may : MayCommit tx a ops contents old) where
+module _ (old : State) (x : IsExplainedState old) where
   abbrev s : Shown
   s = old.shown
 
   abbrev p : Past
   p = old.past
 
-  abbrev after : State
-  after = steps.state_after_commit tx a.group ops contents old
+  -- an entry of an open transaction
+  module _ (tx : ℕ) (a : Admission) (ops : List Op) (contents : Contents) (may : MayAddEntry tx a ops contents old) where
+    abbrev next : Entry
+    next = record { group = a.group; tx = tx; ops = ops }
 
-  abbrev e : Entry
-  e = record { group = a.group; tx = tx; ops = ops }
+    place : (i : ℕ) × (slice_get s.transactions i ≡ Some a) × ((a.tx == tx) ≡ true)
+    place = let found = found_at (λ (b : Admission). b.tx == tx) s.transactions a may.found in (found.0, found.1, found.2)
 
-  place : (i : ℕ) × (slice_get s.transactions i ≡ Some a) × ((a.tx == tx) ≡ true)
-  place = let found = found_at (λ (b : Admission). b.tx == tx) s.transactions a may.found in (found.0, found.1, found.2)
+    named : a.tx ≡ tx
+    named = eqb-true a.tx tx place.2
 
-  named : a.tx ≡ tx
-  named = eqb-true a.tx tx place.2
+    of_plan : map shape_of ops ≡ a.plan
+    of_plan = found-plan tx ops old a may.passed may.found
 
-  of_plan : map shape_of ops ≡ a.plan
-  of_plan = found-plan tx ops old a may.passed may.found
+    in_line : slice_get (open_transactions p.admissions p.entries p.aborted) place.0 ≡ Some a
+    in_line = subst (λ ts. slice_get ts place.0 ≡ Some a) x.exact.groups.transactions place.1
 
-  in_line : slice_get (open_transactions p.admissions p.entries p.aborted) place.0 ≡ Some a
-  in_line = subst (λ ts. slice_get ts place.0 ≡ Some a) x.exact.groups.transactions place.1
+    within : (s.line.synced < a.group) × (a.group ≤ s.line.open_group)
+    within = held_above s.line a.group x.exact.groups.line (x.exact.groups.members.holding place.0 a in_line)
 
-  within : (s.line.synced < a.group) × (a.group ≤ s.line.open_group)
-  within = held_above s.line a.group x.exact.groups.line (x.exact.groups.members.holding place.0 a in_line)
+    plan_allowed : (is_plan_allowed a.plan ≡ true) × (log_record_size a.plan ≤ max_log_record)
+    plan_allowed = x.exact.groups.members.allowed a.tx a (open_is s.line p.admissions p.entries p.aborted x.exact.groups.members place.0 a in_line).0
 
-  plan_allowed : (is_plan_allowed a.plan ≡ true) × (log_record_size a.plan ≤ max_log_record)
-  plan_allowed = x.exact.groups.members.allowed a.tx a (open_is s.line p.admissions p.entries p.aborted x.exact.groups.members place.0 a in_line).0
+    shapes_allowed : list_all is_shape_allowed (map shape_of ops) ≡ true
+    shapes_allowed = subst (λ q. list_all is_shape_allowed q ≡ true) (sym of_plan) (and_parts (nat_lt 0 (length a.plan)) (list_all is_shape_allowed a.plan) plan_allowed.0).1
 
-  shapes_allowed : list_all is_shape_allowed (map shape_of ops) ≡ true
-  shapes_allowed = subst (λ q. list_all is_shape_allowed q ≡ true) (sym of_plan) (and_parts (nat_lt 0 (length a.plan)) (list_all is_shape_allowed a.plan) plan_allowed.0).1
+    last_ordinal : s.next_ordinal ≤ last_number
+    last_ordinal = ltb-false last_number s.next_ordinal (no_refusal (tests (Ok contents)) (subst (λ r. first_refusal (tests r) ≡ None) may.applied may.passed) 4 _ refl)
+      where
+        tests : Result Contents PoolError → List Test
+        tests r = refused_if s.suspended error.Suspended
+            ∷ refused_if (is_none (refusal.transaction_of tx s)) error.NoSuchTransaction
+            ∷ refused_if (option_map_or (λ (b : Admission). not (refusal.is_same_plan (map shape_of ops) b.plan)) (refusal.transaction_of tx s) false) error.OutOfPlan
+            ∷ refused_if (list_any refusal.gives_bad_name ops) error.BadRange
+            ∷ refusal.ops_tests r ++ refused_if (nat_lt last_number s.next_ordinal) error.TooMany ∷ []
 
-  last_ordinal : s.next_ordinal ≤ last_number
-  last_ordinal = ltb-false last_number s.next_ordinal (no_refusal (tests (Ok contents)) (subst (λ r. first_refusal (tests r) ≡ None) may.applied may.passed) 4 _ refl)
-    where
-      tests : Result Contents PoolError → List Test
-      tests r = refused_if s.suspended error.Suspended
-          ∷ refused_if (is_none (refusal.transaction_of tx s)) error.NoSuchTransaction
-          ∷ refused_if (option_map_or (λ (b : Admission). not (refusal.is_same_plan (map shape_of ops) b.plan)) (refusal.transaction_of tx s) false) error.OutOfPlan
-          ∷ refused_if (list_any refusal.gives_bad_name ops) error.BadRange
-          ∷ refusal.ops_tests r ++ refused_if (nat_lt last_number s.next_ordinal) error.TooMany ∷ []
+    record_allowed : IsAllowed (record { group = a.group; ordinal = s.next_ordinal; ops = ops })
+    record_allowed = record {
+      group = let low = within.1 in let last = x.exact.groups.line.last in omega arith;
+      ordinal = last_ordinal;
+      shapes = subst (λ q. is_plan_allowed q ≡ true) (sym of_plan) plan_allowed.0;
+      contents = may.allowed;
+      size = subst (λ q. log_record_size q ≤ max_log_record) (sym of_plan) plan_allowed.1;
+    }
 
-  record_allowed : IsAllowed (record { group = a.group; ordinal = s.next_ordinal; ops = ops })
-  record_allowed = record {
-    group = let low = within.1 in let last = x.exact.groups.line.last in omega arith;
-    ordinal = last_ordinal;
-    shapes = subst (λ q. is_plan_allowed q ≡ true) (sym of_plan) plan_allowed.0;
-    contents = may.allowed;
-    size = subst (λ q. log_record_size q ≤ max_log_record) (sym of_plan) plan_allowed.1;
+    touches : ranges ops ≡ plan_ranges a.plan
+    touches = plans_touch ops ∙ ap (λ q. plan_ranges q) of_plan
+
+    follows : MayFollow p.entries a.group (plan_ranges a.plan)
+    follows = All-at (λ (y : Admitted). MayFollow p.entries y.group y.touches) (map admitted_of s.transactions) place.0 (admitted_of a) x.exact.isolated.admitted.may_follow
+        (slice_get-map admitted_of s.transactions place.0 ∙ ap (λ o. option_map admitted_of o) place.1)
+
+    commit_history : IsHistory (p.entries ++ next ∷ []) p.base contents
+    commit_history = histories_grow p.entries next p.base s.contents contents x.history
+        (subst (λ ts. All IsRange ts) (sym touches) (plan_range a.plan (and_parts (nat_lt 0 (length a.plan)) (list_all is_shape_allowed a.plan) plan_allowed.0).1))
+        (subst (λ ts. MayFollow p.entries a.group ts) (sym touches) follows) may.applied
+
+  -- Table by table: the effects that change it, and then all others.
+  lock_at : (owner id : ℕ) (g : Grant) → refusal.lock_of owner id s ≡ Some g → (i : ℕ) × (slice_get s.locks i ≡ Some g) × (g.id ≡ id)
+  lock_at owner id g is =
+      let place = found_at (λ (h : Grant). (h.id == id) && (h.owner == owner)) s.locks g is in
+      (place.0, place.1, eqb-true g.id id (and_parts (g.id == id) (g.owner == owner) place.2).0)
+
+  locks : (e : Effect) → MayHave e old → AreLocksExact (state_after e old).shown (state_after e old).past
+  locks (AddsGrant g) (named, free) = lock_keeps s p x.exact.locks g named free
+  locks (LetsGo owner id) (g, is, unused) = let at = lock_at owner id g is in unlock_keeps s p x.exact.locks id at.0 g at.1 at.2
+  locks e may = let t : State = state_after e old in same_locks s t.shown p t.past x.exact.locks
+
+  groups : (e : Effect) → MayHave e old → AreGroupsExact (state_after e old).shown (state_after e old).past
+  groups (AddsAdmission a) may =
+      begin_keeps s p a x.exact.groups may.named may.in_open (and_parts (is_plan_allowed a.plan) (list_all stage.is_shape_built a.plan) may.built).0 may.small
+  groups (AddsEntry tx a ops contents) may =
+      let t : State = state_after (AddsEntry tx a ops contents) old in
+      let at = place tx a ops contents may in
+      commit_keeps s t.shown p (record { group = a.group; tx = tx; ops = ops }) at.0 a x.exact.groups at.1 (named tx a ops contents may) refl (of_plan tx a ops contents may)
+  groups OpensNext (none, below) = close_keeps s p x.exact.groups none below
+  groups (QuiescesMiddle group) (is, none) = quiesce_keeps s p group x.exact.groups (quiescing_is s.line group is) none
+  groups (PlansSync group plan) (moment, is, idle, planned) = start_keeps s (state_after (PlansSync group plan) old).shown p group x.exact.groups (quiesced_is s.line group is) idle
+  groups (EndsSync group plan) (syncing, running) = let t : State = state_after (EndsSync group plan) old in sync_keeps s t.shown p t.past group x.exact.groups syncing
+  groups e may = let t : State = state_after e old in same_groups s t.shown p t.past x.exact.groups
+
+  isolated : (e : Effect) → MayHave e old → AreIsolated (state_after e old).shown (state_after e old).past
+  isolated (AddsGrant g) may = let t : State = state_after (AddsGrant g) old in lock_isolated s t.shown p t.past g x.exact.isolated
+  isolated (LetsGo owner id) (g, is, unused) =
+      let at = lock_at owner id g is in
+      unlock_isolated s p (state_after (LetsGo owner id) old).past id at.0 g x.exact.locks x.exact.isolated at.1 at.2 unused
+  isolated (AddsAdmission a) may = let t : State = state_after (AddsAdmission a) old in begin_isolated s t.shown p t.past a x.exact.isolated may.in_open may.free may.covered
+  isolated (AddsEntry tx a ops contents) may = record {
+    admitted = commit-admitted tx ops old a x.exact.isolated.admitted may.passed may.found;
+    covered = covered_without s p (λ (b : Admission). not (b.tx == tx)) x.exact.isolated;
   }
+  isolated OpensNext may = record {
+    admitted = closes_leave p.entries s.line.open_group (map admitted_of s.transactions) x.exact.isolated.admitted;
+    covered = x.exact.isolated.covered;
+  }
+  isolated e may = let t : State = state_after e old in same_isolated s t.shown p t.past x.exact.isolated
 
-  touches : ranges ops ≡ plan_ranges a.plan
-  touches = plans_touch ops ∙ ap (λ q. plan_ranges q) of_plan
+  log : (e : Effect) → MayHave e old → IsLogExact (state_after e old).shown (state_after e old).past
+  log (AddsEntry tx a ops contents) may =
+      let t : State = state_after (AddsEntry tx a ops contents) old in
+      commit_log s t.shown p t.past x.exact.log (record { group = a.group; tx = tx; ops = ops }) (within tx a ops contents may).0 (record_allowed tx a ops contents may)
+  log (EndsSync group plan) (syncing, running) =
+      let t : State = state_after (EndsSync group plan) old in
+      let next : group ≡ s.line.synced + 1 = subst (λ o. IfSome o (λ n. n ≡ s.line.synced + 1)) syncing x.exact.groups.line.syncing in
+      sync_log s t.shown p t.past x.exact.log x.exact.sync group plan next syncing running
+  log (WritesLog taken rest address) takes = let t : State = state_after (WritesLog taken rest address) old in write_log s t.shown p t.past x.exact.log taken rest address takes.packed.front
+  log FlushesLog may = let t : State = state_after FlushesLog old in flush_log s t.shown p t.past x.exact.log
+  log e may = let t : State = state_after e old in same_log s t.shown p t.past x.exact.log
 
-  follows : MayFollow p.entries a.group (plan_ranges a.plan)
-  follows = All-at (λ (y : Admitted). MayFollow p.entries y.group y.touches) (map admitted_of s.transactions) place.0 (admitted_of a) x.exact.isolated.admitted.may_follow
-      (slice_get-map admitted_of s.transactions place.0 ∙ ap (λ o. option_map admitted_of o) place.1)
+  bounded : (e : Effect) → MayHave e old → IsBounded (state_after e old).shown.contents
+  bounded (AddsEntry tx a ops contents) may = operations_keep ops s.contents contents (shapes_allowed tx a ops contents may) may.allowed may.applied x.exact.bounded
+  bounded _ may = x.exact.bounded
 
-  commit_history : IsHistory (p.entries ++ e ∷ []) p.base contents
-  commit_history = histories_grow p.entries e p.base s.contents contents x.history
-      (subst (λ ts. All IsRange ts) (sym touches) (plan_range a.plan (and_parts (nat_lt 0 (length a.plan)) (list_all is_shape_allowed a.plan) plan_allowed.0).1))
-      (subst (λ ts. MayFollow p.entries a.group ts) (sym touches) follows) may.applied
+  sync : (e : Effect) → MayHave e old → IsSyncExact (state_after e old).shown
+  sync (PlansSync group plan) (moment, is, idle, planned) = start_sync old (state_after (PlansSync group plan) old) moment group plan x.exact.log.numbered planned
+  sync (CountsStep plan) (running, more) = step_sync s (state_after (CountsStep plan) old).shown plan x.exact.sync running more
+  sync (EndsSync group plan) may = end_sync (state_after (EndsSync group plan) old).shown
+  sync (WritesLog taken rest address) takes =
+      let t : State = state_after (WritesLog taken rest address) old in
+      write_sync s t.shown p t.past x.exact.log taken rest address takes.packed.front x.exact.sync
+  sync FlushesLog may = let t : State = state_after FlushesLog old in flush_sync s t.shown p t.past x.exact.log x.exact.sync
+  sync e may = same_sync s (state_after e old).shown x.exact.sync
 
-  entry_keeps : IsExplainedState after
-  entry_keeps = record {
+  limit : (e : Effect) → (state_after e old).shown.dirty_max ≡ (state_after e old).past.dirty_max
+  limit Stays = x.exact.limit
+  limit _ = x.exact.limit
+
+  history : (e : Effect) → MayHave e old → IsHistory (state_after e old).past.entries (state_after e old).past.base (state_after e old).shown.contents
+  history (AddsEntry tx a ops contents) may = commit_history tx a ops contents may
+  history _ may = x.history
+
+  effect_keeps : (e : Effect) → MayHave e old → IsExplainedState (state_after e old)
+  effect_keeps e may = record {
     exact = record {
-      locks = same_locks s after.shown p after.past x.exact.locks;
-      groups = commit_keeps s after.shown p e place.0 a x.exact.groups place.1 named refl of_plan;
-      order = commit_history.order;
-      isolated = record { admitted = commit-admitted tx ops old a x.exact.isolated.admitted may.passed may.found; covered = covered_without s p (λ (b : Admission). not (b.tx == tx)) x.exact.isolated };
-      log = commit_log s after.shown p after.past x.exact.log e within.0 record_allowed;
-      bounded = operations_keep ops s.contents contents shapes_allowed may.allowed may.applied x.exact.bounded;
-      sync = same_sync s after.shown x.exact.sync;
-      limit = x.exact.limit;
+      locks = locks e may;
+      groups = groups e may;
+      order = (history e may).order;
+      isolated = isolated e may;
+      log = log e may;
+      bounded = bounded e may;
+      sync = sync e may;
+      limit = limit e;
     };
-    history = commit_history;
+    history = history e may;
   }
-
--- an effect on the transactions
-transactions_keep : (e : TransactionEffect) (s : State) → IsExplainedState s → MayTransact e s → IsExplainedState (state_after (OnTransactions e) s)
-transactions_keep (AddsAdmission a) s x may = admission_keeps a s x may
-transactions_keep (AddsEntry tx a ops contents) s x may = entry_keeps tx a ops contents s x may
-
--- an effect on the line of groups
-line_keeps : (e : LineEffect) (s : State) → IsExplainedState s → MayLine e s → IsExplainedState (state_after (OnLine e) s)
-line_keeps e s x may = record {
-  exact = record {
-    locks = same_locks s.shown t.shown s.past t.past x.exact.locks;
-    groups = groups e may;
-    order = x.exact.order;
-    isolated = isolated e;
-    log = same_log s.shown t.shown s.past t.past x.exact.log;
-    bounded = x.exact.bounded;
-    sync = same_sync s.shown t.shown x.exact.sync;
-    limit = x.exact.limit;
-  };
-  history = x.history;
-}
-  where
-    t : State
-    t = state_after (OnLine e) s
-
-    groups : (e : LineEffect) → MayLine e s → AreGroupsExact (state_after (OnLine e) s).shown s.past
-    groups OpensNext (none, below) = close_keeps s.shown s.past x.exact.groups none below
-    groups (QuiescesMiddle group) (is, none) = quiesce_keeps s.shown s.past group x.exact.groups (quiescing_is s.shown.line group is) none
-
-    isolated : (e : LineEffect) → AreIsolated (state_after (OnLine e) s).shown s.past
-    isolated OpensNext = record {
-      admitted = closes_leave s.past.entries s.shown.line.open_group (map admitted_of s.shown.transactions) x.exact.isolated.admitted;
-      covered = x.exact.isolated.covered;
-    }
-    isolated (QuiescesMiddle group) = same_isolated s.shown (state_after (OnLine (QuiescesMiddle group)) s).shown s.past s.past x.exact.isolated
-
--- an effect on the running sync
-sync_keeps_tables : (e : SyncEffect) (s : State) → IsExplainedState s → MaySync e s → IsExplainedState (state_after (OnSync e) s)
-sync_keeps_tables e s x may = record {
-  exact = record {
-    locks = same_locks s.shown t.shown s.past t.past x.exact.locks;
-    groups = groups e may;
-    order = x.exact.order;
-    isolated = same_isolated s.shown t.shown s.past t.past x.exact.isolated;
-    log = log e may;
-    bounded = x.exact.bounded;
-    sync = sync e may;
-    limit = x.exact.limit;
-  };
-  history = x.history;
-}
-  where
-    t : State
-    t = state_after (OnSync e) s
-
-    after : SyncEffect → State
-    after e = state_after (OnSync e) s
-
-    next : (group : ℕ) → s.shown.line.syncing ≡ Some group → group ≡ s.shown.line.synced + 1
-    next group syncing = subst (λ o. IfSome o (λ n. n ≡ s.shown.line.synced + 1)) syncing x.exact.groups.line.syncing
-
-    groups : (e : SyncEffect) → MaySync e s → AreGroupsExact (after e).shown (after e).past
-    groups (PlansSync group plan) (moment, is, idle, planned) = start_keeps s.shown (after (PlansSync group plan)).shown s.past group x.exact.groups (quiesced_is s.shown.line group is) idle
-    groups (CountsStep plan) may = same_groups s.shown (after (CountsStep plan)).shown s.past (after (CountsStep plan)).past x.exact.groups
-    groups (EndsSync group plan) (syncing, running) = let u : State = after (EndsSync group plan) in sync_keeps s.shown u.shown s.past u.past group x.exact.groups syncing
-
-    log : (e : SyncEffect) → MaySync e s → IsLogExact (after e).shown (after e).past
-    log (PlansSync group plan) may = let u : State = after (PlansSync group plan) in same_log s.shown u.shown s.past u.past x.exact.log
-    log (CountsStep plan) may = let u : State = after (CountsStep plan) in same_log s.shown u.shown s.past u.past x.exact.log
-    log (EndsSync group plan) (syncing, running) =
-        let u : State = after (EndsSync group plan) in
-        sync_log s.shown u.shown s.past u.past x.exact.log x.exact.sync group plan (next group syncing) syncing running
-
-    sync : (e : SyncEffect) → MaySync e s → IsSyncExact (after e).shown
-    sync (PlansSync group plan) (moment, is, idle, planned) = start_sync s (after (PlansSync group plan)) moment group plan x.exact.log.numbered planned
-    sync (CountsStep plan) (running, more) = step_sync s.shown (after (CountsStep plan)).shown plan x.exact.sync running more
-    sync (EndsSync group plan) may = end_sync (after (EndsSync group plan)).shown
-
--- an effect on the log
-log_keeps : (e : LogEffect) (s : State) → IsExplainedState s → MayLog e s → IsExplainedState (state_after (OnLog e) s)
-log_keeps e s x may = record {
-  exact = record {
-    locks = same_locks s.shown t.shown s.past t.past x.exact.locks;
-    groups = same_groups s.shown t.shown s.past t.past x.exact.groups;
-    order = x.exact.order;
-    isolated = same_isolated s.shown t.shown s.past t.past x.exact.isolated;
-    log = log e may;
-    bounded = x.exact.bounded;
-    sync = sync e may;
-    limit = x.exact.limit;
-  };
-  history = x.history;
-}
-  where
-    t : State
-    t = state_after (OnLog e) s
-
-    after : LogEffect → State
-    after e = state_after (OnLog e) s
-
-    log : (e : LogEffect) → MayLog e s → IsLogExact (after e).shown (after e).past
-    log (WritesLog taken rest address) takes = let u : State = after (WritesLog taken rest address) in write_log s.shown u.shown s.past u.past x.exact.log taken rest address takes.packed.front
-    log FlushesLog may = let u : State = after FlushesLog in flush_log s.shown u.shown s.past u.past x.exact.log
-
-    sync : (e : LogEffect) → MayLog e s → IsSyncExact (after e).shown
-    sync (WritesLog taken rest address) takes =
-        let u : State = after (WritesLog taken rest address) in
-        write_sync s.shown u.shown s.past u.past x.exact.log taken rest address takes.packed.front x.exact.sync
-    sync FlushesLog may = let u : State = after FlushesLog in flush_sync s.shown u.shown s.past u.past x.exact.log x.exact.sync
-
-effect_keeps : (e : Effect) (s : State) → IsExplainedState s → MayHave e s → IsExplainedState (state_after e s)
-effect_keeps Stays s x may = x
-effect_keeps (OnLocks e) s x may = locks_keep e s x may
-effect_keeps (OnTransactions e) s x may = transactions_keep e s x may
-effect_keeps (OnLine e) s x may = line_keeps e s x may
-effect_keeps (OnSync e) s x may = sync_keeps_tables e s x may
-effect_keeps (OnLog e) s x may = log_keeps e s x may
-
--- a suspended pool
-suspended_keeps : (s : State) → IsExplainedState s → IsExplainedState (steps.suspended_state s)
-suspended_keeps s x =
-    let t : State = steps.suspended_state s in
-    record {
-      exact = record {
-        locks = same_locks s.shown t.shown s.past t.past x.exact.locks;
-        groups = same_groups s.shown t.shown s.past t.past x.exact.groups;
-        order = x.exact.order;
-        isolated = same_isolated s.shown t.shown s.past t.past x.exact.isolated;
-        log = same_log s.shown t.shown s.past t.past x.exact.log;
-        bounded = x.exact.bounded;
-        sync = same_sync s.shown t.shown x.exact.sync;
-        limit = x.exact.limit;
-      };
-      history = x.history;
-    }
 
 pub effects_keep_tables : (old new : State) → HasEffect old new → IsExplainedNow old.shown old.past → IsExplainedNow new.shown new.past
 effects_keep_tables old new has x =
-    let kept = effect_keeps has.effect old x has.may in
+    let kept = effect_keeps old x has.effect has.may in
     elim (has.left) as (λ _. IsExplainedState new) [
       | inl is ↦ subst IsExplainedState (sym is) kept
-      | inr is ↦ subst IsExplainedState (sym is) (suspended_keeps (state_after has.effect old) kept)
+      | inr is ↦ subst IsExplainedState (sym is) (effect_keeps (state_after has.effect old) kept Suspends tt)
     ]
 
 -- so each step keeps it, over whichever device

@@ -11,9 +11,7 @@ use Rattle.base.specs.history.Past.{Grows}
 use Rattle.base.specs.steps.Logs.{KeptBlock, Committed, has_record, is_flushed_in}
 use Rattle.base.specs.steps.Shown.{is_durable}
 use Rattle.base.specs.steps.Effects.{Effect, HasEffect, MayHave, state_after}
-use Rattle.base.specs.steps.Effects.Effect.{OnLine, OnSync}
-use Rattle.base.specs.steps.Effects.LineEffect.{OpensNext}
-use Rattle.base.specs.steps.Effects.SyncEffect.{EndsSync}
+use Rattle.base.specs.steps.Effects.Effect.{OpensNext, EndsSync}
 use Rattle.base.specs.steps.Steps.{State}
 use Rattle.base.specs.steps.ExactNow.{IsExplainedNow, IsRun, GoesOn}
 use Rattle.base.specs.steps.Seen.{IsKnownDurable, IsPoolSynced}
@@ -31,8 +29,8 @@ same-up l = (omega arith, omega arith)
 
 -- they go up with each effect
 effect-up : (e : Effect) (s : State) → IsExplainedNow s.shown s.past → MayHave e s → GoUp s.shown.line (state_after e s).shown.line
-effect-up (OnLine OpensNext) s x may = (omega arith, omega arith)
-effect-up (OnSync (EndsSync group plan)) s x may =
+effect-up OpensNext s x may = (omega arith, omega arith)
+effect-up (EndsSync group plan) s x may =
     let next : group ≡ s.shown.line.synced + 1 = subst (λ o. IfSome o (λ n. n ≡ s.shown.line.synced + 1)) may.0 x.exact.groups.line.syncing in
     (omega arith, omega arith)
 effect-up _ s x may = same-up s.shown.line

@@ -14,13 +14,8 @@ use Rattle.base.specs.formats.Limits.{last_number, max_log_record}
 use Rattle.base.specs.formats.Records.{Record}
 use Rattle.base.specs.history.Plans.{log_record_size}
 use Rattle.base.specs.steps.Additions.{past_after}
-use Rattle.base.specs.steps.Effects.{Effect, HasEffect, MayHave, is_on_log, is_turning, state_after}
-use Rattle.base.specs.steps.Effects.Effect.{Stays, OnLocks, OnTransactions, OnLine, OnSync, OnLog}
-use Rattle.base.specs.steps.Effects.LockEffect.{AddsGrant, LetsGo}
-use Rattle.base.specs.steps.Effects.TransactionEffect.{AddsAdmission, AddsEntry}
-use Rattle.base.specs.steps.Effects.LineEffect.{OpensNext, QuiescesMiddle}
-use Rattle.base.specs.steps.Effects.SyncEffect.{PlansSync, CountsStep, EndsSync}
-use Rattle.base.specs.steps.Effects.LogEffect.{WritesLog, FlushesLog}
+use Rattle.base.specs.steps.Effects.{Effect, HasEffect, MayHave, is_logging, is_turning, state_after}
+use Rattle.base.specs.steps.Effects.Effect.{Stays, AddsGrant, LetsGo, AddsAdmission, AddsEntry, OpensNext, QuiescesMiddle, PlansSync, CountsStep, EndsSync, WritesLog, FlushesLog}
 use Rattle.base.specs.steps.ExactNow.{IsLogStep}
 use Rattle.base.specs.steps.Groups.{hold_count}
 use Rattle.base.specs.steps.Locks.{Grant}
@@ -49,7 +44,7 @@ pub record StepDoes (s : declared_step.Step) (r : declared_reply.Reply) (old new
   pub has : HasEffect old new
   pub past : new.past ≡ past_after s r old
   pub turns : is_turning has.effect ≡ is_turn r
-  pub no_log : is_on_log has.effect ≡ false
+  pub no_log : is_logging has.effect ≡ false
   pub answer : Answered s r old new
 
 past-refused : (s : declared_step.Step) (e : PoolError) (old : State) → past_after s (reply.Refused e) old ≡ old.past
@@ -59,7 +54,7 @@ past-refused _ e old = refl
 module _ (s : declared_step.Step) (old new : State) where
   -- an effect, and no more
   does : (r : declared_reply.Reply) (e : Effect) → refusal_of_step s old.shown ≡ None → MayHave e old → new ≡ state_after e old → (state_after e old).past ≡ past_after s r old → is_refusal r ≡ false
-      → is_turning e ≡ is_turn r → is_on_log e ≡ false → StepDoes s r old new
+      → is_turning e ≡ is_turn r → is_logging e ≡ false → StepDoes s r old new
   does r e none may is past answers turns no_log = record {
     has = record { effect = e; may = may; left = inl is };
     past = ap (λ (x : State). x.past) is ∙ past;
@@ -146,16 +141,16 @@ pub step_does : (keeps : Type 0) (now : List ℕ) (s : declared_step.Step) (r : 
 step_does keeps now (step.Lock owner n range mode) r old new (answer, is, h) =
     let s : declared_step.Step = step.Lock owner n range mode in
     let wanted = object_range n.0 range.low range.high in
-    by_answer s old new _ r answer _ _ (λ id none d. does s old new _ (OnLocks (AddsGrant (steps.next_grant owner.0 wanted mode old.shown))) none
+    by_answer s old new _ r answer _ _ (λ id none d. does s old new _ (AddsGrant (steps.next_grant owner.0 wanted mode old.shown)) none
     (refl, no_refusal (refusal.lock_tests owner.0 wanted mode old.shown) none 2 _ refl) d.1 (rw d.0 refl) refl refl refl)
     (no_memory s old new) is h
 step_does keeps now (step.Unlock owner id) r old new (answer, is, h) =
     let s : declared_step.Step = step.Unlock owner id in
-    by_answer s old new _ r answer _ _ (λ a none d. does s old new _ (OnLocks (LetsGo owner.0 id.0)) none (lock_found old.shown owner.0 id.0 none) d refl refl refl refl) (λ e none never. absurd never) is h
+    by_answer s old new _ r answer _ _ (λ a none d. does s old new _ (LetsGo owner.0 id.0) none (lock_found old.shown owner.0 id.0 none) d refl refl refl refl) (λ e none never. absurd never) is h
 step_does keeps now (step.Begin owner plan) r old new (answer, is, h) =
     let s : declared_step.Step = step.Begin owner plan in
     let tests = stage.begin_tests owner.0 plan old.shown in
-    by_answer s old new _ r answer _ _ (λ a none d. does s old new _ (OnTransactions (AddsAdmission (steps.next_admission owner.0 plan old.shown))) none (record {
+    by_answer s old new _ r answer _ _ (λ a none d. does s old new _ (AddsAdmission (steps.next_admission owner.0 plan old.shown)) none (record {
       named = refl;
       in_open = refl;
       built = not-false (stage.is_plan_built plan) (no_refusal tests none 2 _ refl);
@@ -167,7 +162,7 @@ step_does keeps now (step.Commit tx ops) r old new (answer, is, h) =
     let s : declared_step.Step = step.Commit tx ops in
     by_answer s old new _ r answer _ _ (λ receipt none d.
     let idle = none_older old.shown (refusal.commit_tests tx.0 ops old.shown) none in
-    does s old new _ (OnTransactions (AddsEntry tx.0 d.0 ops d.1)) none
+    does s old new _ (AddsEntry tx.0 d.0 ops d.1) none
     (record { found = d.2; passed = commit_passes old.shown tx.0 ops none; applied = d.3; allowed = d.4; no_middle = idle.0; no_sync = idle.1 }) d.6 (rw d.5 refl) refl refl refl)
     (no_memory s old new) is h
 step_does keeps now (step.Read owner n range) r old new (answer, is, h) =
@@ -177,14 +172,14 @@ step_does keeps now step.CloseGroup r old new (answer, is, h) =
     by_answer step.CloseGroup old new _ r answer _ _ (λ group none d.
     let tests = stage.waits_for_older old.shown (refusal.close_tests old.shown) in
     let last = (or_parts (is_some old.shown.line.middle) (nat_le last_number old.shown.line.open_group) (no_refusal tests none 3 _ refl)).1 in
-    does step.CloseGroup old new _ (OnLine OpensNext) none ((none_older old.shown (refusal.close_tests old.shown) none).0, leb-false last_number old.shown.line.open_group last) d.1 refl refl refl refl)
+    does step.CloseGroup old new _ OpensNext none ((none_older old.shown (refusal.close_tests old.shown) none).0, leb-false last_number old.shown.line.open_group last) d.1 refl refl refl refl)
     (λ e none never. absurd never) is h
 step_does keeps now step.MarkQuiesced r old new (answer, is, h) =
     by_answer step.MarkQuiesced old new _ r answer _ _
-    (λ group none d. does step.MarkQuiesced old new _ (OnLine (QuiescesMiddle group)) none (d.0, none_held old.shown group none d.0) d.1 refl refl refl refl) (λ e none never. absurd never) is h
+    (λ group none d. does step.MarkQuiesced old new _ (QuiescesMiddle group) none (d.0, none_held old.shown group none d.0) d.1 refl refl refl refl) (λ e none never. absurd never) is h
 step_does keeps now (step.StartSync moment) r old new (answer, is, h) =
     let s : declared_step.Step = step.StartSync moment in
-    by_answer s old new _ r answer _ _ (λ group none d. does s old new _ (OnSync (PlansSync group d.0)) none (moment, d.1, none_syncs old.shown none, d.2) d.4 refl refl refl refl)
+    by_answer s old new _ r answer _ _ (λ group none d. does s old new _ (PlansSync group d.0) none (moment, d.1, none_syncs old.shown none, d.2) d.4 refl refl refl refl)
     (λ e none fails. elim fails.0 as (λ _. StepDoes s (reply.Refused e) old new) [
       | inl memory ↦ no_memory s old new e none (memory, fails.1)
       | inr full ↦ own s old new e none fails.1 (ap (is_untested s) full) (ap is_suspending full)
@@ -194,8 +189,8 @@ step_does keeps now step.SyncStep r old new (answer, is, h) =
   where
     progress : (p : SyncProgress) → refusal.sync_step_refusal old.shown ≡ None
         → (group : ℕ) × (plan : SyncPlan) × (old.shown.line.syncing ≡ Some group) × (old.shown.sync ≡ Some plan) × steps.IsProgress group p plan old new → StepDoes step.SyncStep (progress_reply p) old new
-    progress More none d = does step.SyncStep old new reply.More (OnSync (CountsStep d.1)) none (d.3, d.4.0) d.4.1 refl refl refl refl
-    progress (Synced g) none d = does step.SyncStep old new _ (OnSync (EndsSync d.0 d.1)) none (d.2, d.3) d.4.2 (rw d.4.1 refl) refl refl refl
+    progress More none d = does step.SyncStep old new reply.More (CountsStep d.1) none (d.3, d.4.0) d.4.1 refl refl refl refl
+    progress (Synced g) none d = does step.SyncStep old new _ (EndsSync d.0 d.1) none (d.2, d.3) d.4.2 (rw d.4.1 refl) refl refl refl
 
     by_device : (e : PoolError) → (e ≡ error.Write) ⊎ (e ≡ error.Flush) → is_untested step.SyncStep e ≡ true
     by_device e (inl write) = ap (is_untested step.SyncStep) write
@@ -211,13 +206,13 @@ log_step_has old new (inl (answer, h)) = write answer (refusal.log_write_refusal
 
     write : (a : Result ℕ PoolError) (o : Option PoolError) → Answers o a old new
         (λ count. (taken rest : List Record) × (address : ℕ) × steps.TakesForLog old taken rest address × (count ≡ length taken) × (new ≡ steps.state_after_log_write taken rest address old)) Refused → HasEffect old new
-    write (Ok count) None d = record { effect = OnLog (WritesLog d.0 d.1 d.2); may = d.3; left = inl d.5 }
+    write (Ok count) None d = record { effect = WritesLog d.0 d.1 d.2; may = d.3; left = inl d.5 }
     write (Err e) None (inl memory) = record { effect = Stays; may = tt; left = inl memory.1 }
-    write (Err e) None (inr (is, (taken, rest, address, takes, same))) = record { effect = OnLog (WritesLog taken rest address); may = takes; left = inr same }
+    write (Err e) None (inr (is, (taken, rest, address, takes, same))) = record { effect = WritesLog taken rest address; may = takes; left = inr same }
     write a (Some e) d = record { effect = Stays; may = tt; left = inl d.1 }
 log_step_has old new (inr (answer, h)) = flush answer (refusal.log_flush_refusal old.shown) h
   where
     flush : (a : Result (Unit {0}) PoolError) (o : Option PoolError) → Answers o a old new (λ _. new ≡ steps.state_after_log_flush old) (λ e. (e ≡ error.Flush) × (new ≡ steps.suspended_state old)) → HasEffect old new
-    flush (Ok a) None d = record { effect = OnLog FlushesLog; may = tt; left = inl d }
+    flush (Ok a) None d = record { effect = FlushesLog; may = tt; left = inl d }
     flush (Err e) None d = record { effect = Stays; may = tt; left = inr d.1 }
     flush a (Some e) d = record { effect = Stays; may = tt; left = inl d.1 }

@@ -21,11 +21,8 @@ use Rattle.base.specs.steps.Steps as steps
 use Rattle.base.specs.steps.Steps.{State, Answers, SyncProgress}
 use Rattle.base.specs.steps.Steps.SyncProgress.{More, Synced}
 use Rattle.base.specs.steps.Stage as stage
-use Rattle.base.specs.steps.Effects.{Effect, MayCommit, MayHave, is_on_log, is_turning, state_after}
-use Rattle.base.specs.steps.Effects.Effect.{Stays, OnLocks, OnTransactions, OnLine, OnSync, OnLog}
-use Rattle.base.specs.steps.Effects.TransactionEffect.{AddsAdmission, AddsEntry}
-use Rattle.base.specs.steps.Effects.LineEffect.{OpensNext, QuiescesMiddle}
-use Rattle.base.specs.steps.Effects.SyncEffect.{CountsStep}
+use Rattle.base.specs.steps.Effects.{Effect, MayAddEntry, MayHave, is_logging, is_turning, state_after}
+use Rattle.base.specs.steps.Effects.Effect.{Suspends, AddsAdmission, AddsEntry, OpensNext, QuiescesMiddle, PlansSync, CountsStep, EndsSync, WritesLog, FlushesLog}
 use Rattle.base.specs.steps.Runs.{Step}
 use Rattle.base.specs.steps.ExactNow.{IsExplainedNow}
 use Rattle.base.specs.stored.ShownLabels.{AreLabelsShown}
@@ -184,7 +181,7 @@ module _ (now : List ℕ) (pointers : Place → Pointer) (running : Option NewTr
       (held_above s.line a.group explained.exact.groups.line (explained.exact.groups.members.holding found.0 a in_line)).0
 
   -- an entry comes while no older group is unsynced
-  entry : (tx : ℕ) (a : Admission) (ops : List Op) (contents : Contents) (old : State) → IsExplainedNow old.shown old.past → IsKeptState old → MayCommit tx a ops contents old
+  entry : (tx : ℕ) (a : Admission) (ops : List Op) (contents : Contents) (old : State) → IsExplainedNow old.shown old.past → IsKeptState old → MayAddEntry tx a ops contents old
       → IsKeptState (steps.state_after_commit tx a.group ops contents old)
   entry tx a ops contents old explained x may =
       let s : Shown = old.shown in
@@ -226,21 +223,22 @@ module _ (now : List ℕ) (pointers : Place → Pointer) (running : Option NewTr
           syncing-state now old.shown t.shown pointers old.past t.past new y (plan.steps_left - 1) (ap (λ (q : SyncPlan). Some (record q { steps_left = plan.steps_left - 1 })) same)
 
   -- by the effect; no entry is above the open group as it is closed
-  effect_keeps : (e : Effect) (s : State) → is_turning e ≡ false → is_on_log e ≡ false → IsExplainedNow s.shown s.past → IsKeptState s → MayHave e s → IsKeptState (state_after e s)
-  effect_keeps Stays s off no_log explained x may = x
-  effect_keeps (OnLocks e) s off no_log explained x may = let t : State = state_after (OnLocks e) s in stays s.shown t.shown s.past t.past x
-  effect_keeps (OnTransactions (AddsAdmission a)) s off no_log explained x may = admission a s x (and_parts (is_plan_allowed a.plan) (list_all stage.is_shape_built a.plan) may.built).1
-  effect_keeps (OnTransactions (AddsEntry tx a ops contents)) s off no_log explained x may = entry tx a ops contents s explained x may
-  effect_keeps (OnLine OpensNext) s off no_log explained x may =
-      let t : State = state_after (OnLine OpensNext) s in
+  effect_keeps : (e : Effect) (s : State) → is_turning e ≡ false → is_logging e ≡ false → IsExplainedNow s.shown s.past → IsKeptState s → MayHave e s → IsKeptState (state_after e s)
+  effect_keeps (AddsAdmission a) s off no_log explained x may = admission a s x (and_parts (is_plan_allowed a.plan) (list_all stage.is_shape_built a.plan) may.built).1
+  effect_keeps (AddsEntry tx a ops contents) s off no_log explained x may = entry tx a ops contents s explained x may
+  effect_keeps OpensNext s off no_log explained x may =
+      let t : State = state_after OpensNext s in
       kept-state now s.shown t.shown pointers s.past t.past running x explained.exact.isolated.admitted.committed x.stored.built
-  effect_keeps (OnLine (QuiescesMiddle group)) s off no_log explained x may =
-      let t : State = state_after (OnLine (QuiescesMiddle group)) s in
+  effect_keeps (QuiescesMiddle group) s off no_log explained x may =
+      let t : State = state_after (QuiescesMiddle group) s in
       kept-state now s.shown t.shown pointers s.past t.past running x
       (subst (λ (o : Option Middle). IfSome o (λ (m : Middle). AreUpTo m.group s.past.entries)) (quiescing_is s.shown.line group may.0) x.stored.middle) x.stored.built
-  effect_keeps (OnSync (CountsStep plan)) s off no_log explained x may = more plan s x may.0
-  effect_keeps (OnSync _) s turning no_log explained x may = absurd (false≢true (sym turning))
-  effect_keeps (OnLog e) s off on_log explained x may = absurd (false≢true (sym on_log))
+  effect_keeps (CountsStep plan) s off no_log explained x may = more plan s x may.0
+  effect_keeps (PlansSync group plan) s turning no_log explained x may = absurd (false≢true (sym turning))
+  effect_keeps (EndsSync group plan) s turning no_log explained x may = absurd (false≢true (sym turning))
+  effect_keeps (WritesLog taken rest address) s off logging explained x may = absurd (false≢true (sym logging))
+  effect_keeps FlushesLog s off logging explained x may = absurd (false≢true (sym logging))
+  effect_keeps e s off no_log explained x may = let t : State = state_after e s in stays s.shown t.shown s.past t.past x
 
   -- Each step but the start of a sync and its end keeps what is kept, over the same bytes and pointers. (The bytes that the step itself
   -- names are any.)
@@ -251,5 +249,5 @@ module _ (now : List ℕ) (pointers : Place → Pointer) (running : Option NewTr
       let kept = effect_keeps d.has.effect old (d.turns ∙ off) d.no_log explained x d.has.may in
       elim (d.has.left) as (λ _. IsKeptState new) [
         | inl is ↦ subst IsKeptState (sym is) kept
-        | inr is ↦ subst IsKeptState (sym is) (let after : State = state_after d.has.effect old in let t : State = steps.suspended_state after in stays after.shown t.shown after.past t.past kept)
+        | inr is ↦ subst IsKeptState (sym is) (let after : State = state_after d.has.effect old in let t : State = state_after Suspends after in stays after.shown t.shown after.past t.past kept)
       ]
