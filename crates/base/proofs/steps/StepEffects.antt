@@ -1,4 +1,4 @@
--- Which effect each step with its reply has, and how it is refused. What holds of each effect holds of each step by this.
+-- Which effect on a pool each step with its reply has, and how it is refused: so what holds of each effect holds of each step.
 use Rattle.std.proofs.Common.{◌≡◌, ℕ, Bool, true, false, not, List, ◌∷◌, length, refl, ap, sym, subst, ◌∙◌, ◌⊎◌, inl, inr}
 use Rattle.std.specs.Prelude.{Option, Some, None, Result, Ok, Err, is_some, is_none, nat_le, ◌==◌}
 use Rattle.std.specs.Option.{option_map_or}

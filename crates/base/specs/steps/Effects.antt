@@ -16,8 +16,7 @@ use Rattle.base.specs.steps.Steps.{State, IsPlanned, TakesForLog}
 use Rattle.base.specs.steps.Stage as stage
 use Rattle.base.specs.steps.Stage.{is_plan_built}
 
--- An effect: nothing, the end of all steps that change something, or a change of the locks, the transactions, the line of groups, the running
--- sync or the log.
+-- An effect: nothing, that the pool is suspended, or a change of the locks, the transactions, the line of groups, the running sync or the log.
 pub data Effect : Type 0 where
   Stays : Effect
   Suspends : Effect
