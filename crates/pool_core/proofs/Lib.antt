@@ -15,8 +15,10 @@ pub mod RepliedSteps
 pub mod HeldSteps
 pub mod Turns
 pub mod MadeRuns
+pub mod AnyBytes
 pub mod StepsOver
 pub mod StillSteps
+pub mod MadeSteps
 pub mod SyncLeads
 pub mod PlannedGroups
 pub mod PlannedCounts
