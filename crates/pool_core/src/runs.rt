@@ -40,7 +40,7 @@ impl<D: SectorDevice> PoolState<D> {
                 .map(Reply::Locked),
             Step::Unlock(owner, id) => self.unlock(owner, id).map(|()| Reply::Done),
             Step::Begin(owner, plan) => self
-                .begin(owner, plan)
+                .begin(owner, &plan)
                 .map(|(tx, group)| Reply::Began(tx, group)),
             Step::Commit(tx, ops) => self.commit(tx, ops).map(Reply::Committed),
             Step::Read(owner, object, range) => self.read(owner, object, range).map(Reply::Bytes),
