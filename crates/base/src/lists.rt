@@ -61,6 +61,15 @@ impl Plan {
         Ok(Plan { items })
     }
 
+    /// A copy of it.
+    pub fn try_clone(&self, alloc: Global) -> Result<Self, AllocError>
+        ensures { IfOk result (λ copy. copy ≡ self.now) }
+    {
+        Ok(Plan {
+            items: Vec::from_slice(alloc, self.items.as_slice())?,
+        })
+    }
+
     /// The `Vec` that holds the shapes.
     pub fn into_vec(self) -> Vec<Shape>
         ensures { result.items ≡ self }

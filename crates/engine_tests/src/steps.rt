@@ -42,7 +42,7 @@ fn fill(alloc: Global, pool: &mut PoolState<MemDevice>, bytes: &[u8]) -> Result<
         shapes.push(Shape::Write(OBJECT, 0, bytes.len() as u64))?;
         ops.push(Op::Write(OBJECT, 0, Bytes::from_slice(alloc, bytes)?))?;
     }
-    let (tx, _) = pool.begin(OWNER, Plan::new(shapes))?;
+    let (tx, _) = pool.begin(OWNER, &Plan::new(shapes))?;
     pool.commit(tx, Ops::new(ops))?;
     pool.unlock(OWNER, id)?;
     pool.close_group()?;
@@ -121,7 +121,7 @@ fn a_sync_takes_the_lowest_blocks_in_order(rt: HostRuntime) -> Result<(), Fail> 
     let mut pool = tank(alloc, MemDevice::new(alloc, 16_384)?)?;
     fill(alloc, &mut pool, b"abcd")?;
     assert_eq!(rt;
-        pool.begin(OWNER, Plan::new(Vec::new(alloc))),
+        pool.begin(OWNER, &Plan::new(Vec::new(alloc))),
         Err(PoolError::NotReady)
     );
     assert_eq!(rt; pool.start_sync(7)?, Group(9));

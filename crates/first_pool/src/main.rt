@@ -48,7 +48,7 @@ fn write_hello(alloc: Global, pool: &mut PoolState<MemDevice>) -> Result<(), Poo
     ops.push(Op::Create(NOTES))?;
     ops.push(Op::Write(NOTES, 0, Bytes::from_slice(alloc, b"hello")?))?;
     let ops = Ops::new(ops);
-    let (tx, _) = pool.begin(OWNER, Plan::of(alloc, &ops)?)?;
+    let (tx, _) = pool.begin(OWNER, &Plan::of(alloc, &ops)?)?;
     pool.commit(tx, ops)?;
     pool.unlock(OWNER, lock)
 }

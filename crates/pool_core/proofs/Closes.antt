@@ -33,7 +33,7 @@ close_done s n group h older last e same = λ past. (past, let none : close_refu
 -- what is told of the line of groups, told of the pool
 pub close_ends : (answer : Result Group PoolError) (old new : Groups) (s : Shown) → s.suspended ≡ false → s.line ≡ line_of old → has_older_group s.line ≡ false
     → IfErr answer (λ e. (e ≡ error.NotReady) × (new ≡ old) × (is_last_open (line_of old) ≡ true))
-    → IfOk answer (λ group. (group.0 ≡ old.«open».0 + 1) × (line_of new ≡ line_after_close (line_of old)) × (is_last_open (line_of old) ≡ false))
+    → IfOk answer (λ group. (group.0 ≡ old.open_group.0 + 1) × (line_of new ≡ line_after_close (line_of old)) × (is_last_open (line_of old) ≡ false))
     → Meets CloseGroup (result_map (λ (group : Group). group.0) answer) s (record s { line = line_of new })
 close_ends (Ok group) old new s h line older refused closed =
     close_done s (record s { line = line_of new }) group.0 h older (rw line closed.2) (rw line closed.0) (rw (closed.1, line) refl)

@@ -15,7 +15,7 @@ use Rattle.base.specs.tree.PlacedTrees.{HoldsTree, StandsAt}
 use Rattle.base.specs.tree.Places.{Place, IsPlace}
 use Rattle.base.specs.tree.Places.Place.{Root, Directory, Indirect, Data}
 use Rattle.base.specs.steps.Shown.{Shown}
-use Rattle.base.specs.stored.Stored.{IsHeld, IsStored, Moves, NewTree, RunsAs, frame_at}
+use Rattle.base.specs.stored.Stored.{IsHeld, IsStored, NewTree, RunsAs, frame_at}
 use Rattle.base.specs.tree.Tree.{IsRecord, OpensAt}
 use Rattle.base.specs.tree.PlacedTrees.{IsEntryFor}
 use Rattle.base.specs.formats.Fields.{entry_in}
@@ -73,21 +73,9 @@ kept_as t pointers past same none x = record {
 }
 
 module _ (s : declared_step.Step) (old new : Told) (past later : Past) (x : IsHeld (held_with old past)) where
-  plain : (r : declared_reply.Reply) → IsStepOver s r (held_with old past) (held_with new later) → ((p q : Past) → Moves r (held_with old p) (held_with new q)) → IsHeld (held_with new later)
-  plain r h m = moves-keep (held_with old past) (held_with new later) x (Unit {0}) old.now s r h (m past later)
-
   -- a step that leads so keeps it
   pub leads_keep : (r : declared_reply.Reply) → IsStepOver s r (held_with old past) (held_with new later) → Leads r old new → IsHeld (held_with new later)
-  leads_keep (reply.Refused e) h m = plain (reply.Refused e) h m
-  leads_keep reply.Done h m = plain reply.Done h m
-  leads_keep (reply.Locked id) h m = plain (reply.Locked id) h m
-  leads_keep (reply.Began tx group) h m = plain (reply.Began tx group) h m
-  leads_keep (reply.Committed receipt) h m = plain (reply.Committed receipt) h m
-  leads_keep (reply.Bytes all) h m = plain (reply.Bytes all) h m
-  leads_keep (reply.Opened group) h m = plain (reply.Opened group) h m
-  leads_keep (reply.Quiesced group) h m = plain (reply.Quiesced group) h m
-  leads_keep reply.More h m = plain reply.More h m
-  leads_keep (reply.Syncing group) h m = plain (reply.Syncing group) h m
   leads_keep (reply.Synced group) h (pointers, same, m) =
       let at = m past later in
       kept_as new pointers later same at.4 (moves-keep (held_with old past) (held_with (record new { pointers = pointers }) later) x (Unit {0}) old.now s (reply.Synced group) h at)
+  leads_keep r h m = moves-keep (held_with old past) (held_with new later) x (Unit {0}) old.now s r h (m past later)

@@ -17,6 +17,7 @@ pub mod Turns
 pub mod MadeRuns
 pub mod StepsOver
 pub mod StillSteps
+pub mod MadeSteps
 pub mod SyncLeads
 pub mod PlannedGroups
 pub mod PlannedCounts

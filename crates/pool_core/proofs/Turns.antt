@@ -1,7 +1,6 @@
 -- A step of a pool on its device leads from a past that explains it to the past after the step.
 use Rattle.std.proofs.Common.{◌≡◌, false, [], subst}
 use Rattle.base.specs.declared.step.Step as declared_step
-use Rattle.base.specs.declared.step.Step.TheVariants as step
 use Rattle.base.specs.declared.step.Reply as declared_reply
 use Rattle.base.specs.steps.ExactNow.{IsExplainedNow}
 use Rattle.base.specs.history.Past.{Past}
@@ -9,26 +8,14 @@ use Rattle.base.specs.stored.Stored.{IsHeld}
 use Rattle.base.proofs.steps.Additions.{told_past}
 use Rattle.base.proofs.steps.KeptTables.{steps_keep_tables}
 use Rattle.pool_core.specs.Holds.{IsStepOver, Leads, StepsOver, Told, held_with, state_with}
+use Rattle.base.specs.steps.Runs.{is_start}
 use Rattle.pool_core.specs.StepReplies.{IsStep, StepReplies}
 use Rattle.pool_core.specs.Turns.{TurnsTo, held_after, state_after}
 use Rattle.pool_core.proofs.HeldSteps.{leads_keep}
-use Rattle.pool_core.proofs.StepsOver.{any_bytes, is_start}
+use Rattle.pool_core.proofs.StepsOver.{any_bytes}
 
--- a step from what a past explains leads to a later past
-one_step : (s : declared_step.Step) (r : declared_reply.Reply) (old new : Told) → StepReplies s r old.shown new.shown
-    → (past : Past) → IsExplainedNow old.shown past → (later : Past) × IsStep s r (state_with old past) (state_with new later)
-one_step (step.Lock owner n range mode) r old new h past explained = h past
-one_step (step.Unlock owner id) r old new h past explained = h past
-one_step (step.Begin owner plan) r old new h past explained = h past
-one_step (step.Commit tx ops) r old new h past explained = h past
-one_step (step.Read owner n range) r old new h past explained = h past
-one_step step.CloseGroup r old new h past explained = h past
-one_step step.MarkQuiesced r old new h past explained = h past
-one_step (step.StartSync moment) r old new h past explained = h past explained
-one_step step.SyncStep r old new h past explained = h past
-
--- and that past is the one after the step
 module _ (keeps : Type 0) (s : declared_step.Step) (r : declared_reply.Reply) (old new : Told) where
+  -- the later past of a step is the one after it
   pub turns : StepReplies s r old.shown new.shown → StepsOver s r old new → (keeps → Leads r old new) → (past : Past) → TurnsTo keeps s r old new past
   turns replies over leads past = record {
     step = stepped;
@@ -39,7 +26,7 @@ module _ (keeps : Type 0) (s : declared_step.Step) (r : declared_reply.Reply) (o
     where
       stepped : IsExplainedNow old.shown past → IsStep s r (state_with old past) (state_after s r old new past)
       stepped x =
-          let one = one_step s r old new replies past x in
+          let one = replies past (λ starts. x) in
           let is = told_past ⊥ [] s r (state_with old past) (state_with new one.0) one.1 in
           subst (λ (later : Past). IsStep s r (state_with old past) (state_with new later)) is one.1
 

@@ -9,6 +9,7 @@ use Rattle.base.specs.declared.step.Reply.TheVariants as reply
 use Rattle.base.specs.disk.Calls.{counted}
 use Rattle.base.specs.disk.Disk.{Disk}
 use Rattle.base.specs.disk.SyncOrder.{DeviceCall}
+use Rattle.base.specs.steps.Runs.{reply_of}
 use Rattle.device_model.specs.declared.device.SectorDevice.{Ghosts}
 use Rattle.sync.specs.declared.run.SyncRun.{SyncRun}
 use Rattle.sync.specs.Calls.{IsNextCall, MakesCall, refusal_of}
@@ -21,6 +22,10 @@ use Rattle.pool_core.specs.States.{device_of}
 abbrev pub answer_in : declared_reply.Reply → Result (Unit {0}) PoolError
 answer_in (reply.Refused e) = Err e
 answer_in _ = Ok tt
+
+-- and an answer that is a reply or a refusal, as a reply
+abbrev pub reply_in : Result declared_reply.Reply PoolError → declared_reply.Reply
+reply_in answer = reply_of (λ (r : declared_reply.Reply). r) answer
 
 -- the refused calls of a device after some replies
 abbrev pub counted_in_turn : List declared_reply.Reply → RefusedCalls → RefusedCalls

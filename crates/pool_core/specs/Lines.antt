@@ -15,7 +15,7 @@ abbrev pub middle_of : Middle → line.Middle
 middle_of m = record { group = m.group.0; quiesced = m.quiesced }
 
 abbrev pub line_of : Groups → Line
-line_of g = record { synced = g.synced.0; syncing = option_map (λ s. s.0) g.syncing; middle = option_map middle_of g.middle; open_group = g.«open».0 }
+line_of g = record { synced = g.synced.0; syncing = option_map (λ s. s.0) g.syncing; middle = option_map middle_of g.middle; open_group = g.open_group.0 }
 
 -- the line behind a synced group: the next one is open
 abbrev pub line_behind : ℕ → Line
@@ -34,7 +34,7 @@ is_last_open l = is_some l.middle || nat_le last_number l.open_group
 
 -- the open group is closed, and this one is open; or it can't be, and all stands
 abbrev pub ClosesOpen : Group → Groups → Groups → Type 0
-ClosesOpen group old new = (group.0 ≡ old.«open».0 + 1) × (line_of new ≡ line_after_close (line_of old)) × (is_last_open (line_of old) ≡ false)
+ClosesOpen group old new = (group.0 ≡ old.open_group.0 + 1) × (line_of new ≡ line_after_close (line_of old)) × (is_last_open (line_of old) ≡ false)
 
 abbrev pub RefusesClose : PoolError → Groups → Groups → Type 0
 RefusesClose e old new = (e ≡ NotReady) × (new ≡ old) × (is_last_open (line_of old) ≡ true)

@@ -23,9 +23,9 @@ pub struct Groups {
     pub synced: Group,
     pub syncing: Option<Group>,
     pub middle: Option<Middle>,
-    pub open: Group,
-    ghost open_group: { IsGroup open.0 },
-    ghost middle_group: { ForSome middle (λ m. IsGroup m.group.0) },
+    pub open_group: Group,
+    ghost open_fits: { IsGroup open_group.0 },
+    ghost middle_fits: { ForSome middle (λ m. IsGroup m.group.0) },
 }
 
 impl Groups {
@@ -42,7 +42,7 @@ impl Groups {
             synced,
             syncing: None,
             middle: None,
-            open: Group(synced.0 + 1),
+            open_group: Group(synced.0 + 1),
         }
     }
 
@@ -59,15 +59,15 @@ impl Groups {
         ensures refused { IfErr result (λ e. RefusesClose e self.old self.new) }
         ensures closed { IfOk result (λ group. ClosesOpen group self.old self.new) }
     {
-        if self.middle.is_some() || self.open.0 >= LAST_NUMBER {
+        if self.middle.is_some() || self.open_group.0 >= LAST_NUMBER {
             return Err(PoolError::NotReady);
         }
         self.middle = Some(Middle {
-            group: self.open,
+            group: self.open_group,
             quiesced: false,
         });
-        self.open = Group(self.open.0 + 1);
-        Ok(self.open)
+        self.open_group = Group(self.open_group.0 + 1);
+        Ok(self.open_group)
     }
 
     /// The quiescing group.

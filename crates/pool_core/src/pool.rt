@@ -223,13 +223,14 @@ impl Pool {
         is_held_in_use(held, &self.transactions)
     }
 
-    pub(crate) fn begin(&mut self, owner: Owner, plan: Plan) -> Result<(TxId, Group), PoolError>
-        ensures step { Begins owner plan result (pool_shown self.old) (pool_shown self.new) }
+    pub(crate) fn begin(&mut self, owner: Owner, plan: &Plan) -> Result<(TxId, Group), PoolError>
+        ensures step { Begins owner plan.now result (pool_shown self.old) (pool_shown self.new) }
         ensures kept { KeepsTree self.old self.new }
     {
         self.check_begin(owner, plan.as_slice())?;
         let tx = TxId(self.next_tx);
-        let group = self.groups.open;
+        let group = self.groups.open_group;
+        let plan = plan.try_clone(self.alloc)?;
         self.transactions.push(OpenTransaction {
             tx,
             group,

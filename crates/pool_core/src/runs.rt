@@ -1,11 +1,12 @@
 //! Steps as values, one after another.
 
-ghost use Rattle.std.specs.Prelude.{◌≡◌, IfErr, IfOk, IsTrue, MatchResult, OnErr, vec_len};
-ghost use Rattle.std.specs.Result.{ForOk};
+ghost use Rattle.std.specs.Prelude.{◌≡◌, IfErr, IfOk, IsTrue, OnErr, vec_len};
+ghost use Rattle.base.specs.steps.Runs as runs;
 ghost use Rattle.base.specs.steps.Runs.{Run};
-ghost use Rattle.pool_core.specs.Calls.{CallsDevice, answer_in, counted_in_turn};
+ghost use Rattle.pool_core.specs.Calls.{CallsDevice, answer_in, counted_in_turn, reply_in};
 ghost use Rattle.pool_core.specs.ExplainedRuns.{RunsOn};
 ghost use Rattle.pool_core.specs.Holds.{HoldsOn, Leads};
+ghost use Rattle.pool_core.specs.Progresses.{plain_progress};
 ghost use Rattle.pool_core.specs.States.{CountsRefused, refused_calls, shown, told};
 ghost use Rattle.pool_core.specs.StepReplies.{StepReplies};
 ghost use Rattle.pool_core.specs.Turns.{MakesStep, Turns};
@@ -23,45 +24,41 @@ impl<D: SectorDevice> PoolState<D> {
         ensures calls { CallsDevice step result self.old self.new }
         ensures count { CountsRefused (answer_in result) self.old self.new }
     {
+        match self.try_step(step) {
+            Ok(reply) => reply,
+            Err(error) => Reply::Refused(error),
+        }
+    }
+
+    // The reply of a step that is not refused.
+    fn try_step(&mut self, step: Step) -> Result<Reply, PoolError>
+        ensures { MakesStep step (reply_in result) self.old self.new }
+    {
         match step {
-            Step::Lock(owner, object, range, mode) => reply(
-                self.lock(owner, object, range, mode),
-                Reply::Locked,
-            ),
-            Step::Unlock(owner, id) => match self.unlock(owner, id) {
-                Ok(()) => Reply::Done,
-                Err(error) => Reply::Refused(error),
-            },
-            Step::Begin(owner, plan) => match self.begin(owner, plan) {
-                Ok((tx, group)) => Reply::Began(tx, group),
-                Err(error) => Reply::Refused(error),
-            },
-            Step::Commit(tx, ops) => reply(self.commit(tx, ops), Reply::Committed),
-            Step::Read(owner, object, range) => reply(
-                self.read(owner, object, range),
-                Reply::Bytes,
-            ),
-            Step::CloseGroup => reply(self.close_group(), Reply::Opened),
-            Step::MarkQuiesced => reply(self.mark_quiesced(), Reply::Quiesced),
-            Step::StartSync(moment) => reply(self.start_sync(moment), Reply::Syncing),
-            Step::SyncStep => match self.sync_step() {
-                Ok(Progress::More) => Reply::More,
-                Ok(Progress::Synced(group)) => Reply::Synced(group),
-                Err(error) => Reply::Refused(error),
-            },
+            Step::Lock(owner, object, range, mode) => self
+                .lock(owner, object, range, mode)
+                .map(Reply::Locked),
+            Step::Unlock(owner, id) => self.unlock(owner, id).map(|()| Reply::Done),
+            Step::Begin(owner, plan) => self
+                .begin(owner, &plan)
+                .map(|(tx, group)| Reply::Began(tx, group)),
+            Step::Commit(tx, ops) => self.commit(tx, ops).map(Reply::Committed),
+            Step::Read(owner, object, range) => self.read(owner, object, range).map(Reply::Bytes),
+            Step::CloseGroup => self.close_group().map(Reply::Opened),
+            Step::MarkQuiesced => self.mark_quiesced().map(Reply::Quiesced),
+            Step::StartSync(moment) => self.start_sync(moment).map(Reply::Syncing),
+            Step::SyncStep => self.sync_step().map(progress_reply),
         }
     }
 }
 
-// What a step's answer is told as.
-fn reply<T, F: FnOnce(T) -> Reply>(answer: Result<T, PoolError>, told: F) -> Reply
-    requires { ForOk answer (F.pre told) }
-    ensures { MatchResult answer
-        (λ value. F.post told value result) (λ e. result ≡ Reply.Refused e) }
+// What a step of a sync answers, as a reply.
+fn progress_reply(progress: Progress) -> Reply
+    ensures { result ≡ runs.progress_reply (plain_progress progress) }
 {
-    match answer {
-        Ok(value) => told(value),
-        Err(error) => Reply::Refused(error),
+    match progress {
+        Progress::More => Reply::More,
+        Progress::Synced(group) => Reply::Synced(group),
     }
 }
 

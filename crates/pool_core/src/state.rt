@@ -101,7 +101,7 @@ impl<D: SectorDevice> PoolState<D> {
         self.pool.unlock(owner, id)
     }
 
-    /// Opens a transaction of the open group that keeps to a plan.
+    /// Opens a transaction of the open group that keeps to a plan, of which it takes a copy.
     ///
     /// # Errors
     /// In this order: `Suspended`; `NotReady` where an older group is unsynced; `BadRange` where the plan has no shape, or
@@ -109,8 +109,8 @@ impl<D: SectorDevice> PoolState<D> {
     /// 4,008 bytes; `NotLocked` where a range of it does not lie in one writer lock of the owner; `Busy` where one overlaps
     /// a range of an open transaction; `TooMany` where 64 transactions are open or the next name would pass 2^60;
     /// `NoMemory`.
-    pub fn begin(&mut self, owner: Owner, plan: Plan) -> Result<(TxId, Group), PoolError>
-        ensures step { Begins owner plan result (shown self.old) (shown self.new) }
+    pub fn begin(&mut self, owner: Owner, plan: &Plan) -> Result<(TxId, Group), PoolError>
+        ensures step { Begins owner plan.now result (shown self.old) (shown self.new) }
         ensures unmoved { MovesNothing result self.old self.new }
     {
         self.pool.begin(owner, plan)

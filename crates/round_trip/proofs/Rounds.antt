@@ -32,16 +32,7 @@ no_chain now u none block is = none u.log_address is.in_area is.sealed.kind_is
 still_none : (r : declared_reply.Reply) (old new : Told) (past : Past) → IsHeld (held_with old past) → Leads r old new → HasNoLogBlock old.now → HasNoLogBlock new.now
 still_none (reply.Synced group) old new past held leads none =
     steps_write_no_log (reply.Synced group) (held_with old past) (held_with (record new { pointers = leads.0 }) past) held (leads.2 past past) none
-still_none (reply.Syncing group) old new past held leads none = steps_write_no_log (reply.Syncing group) (held_with old past) (held_with new past) held (leads past past) none
-still_none reply.More old new past held leads none = steps_write_no_log reply.More (held_with old past) (held_with new past) held (leads past past) none
-still_none (reply.Refused e) old new past held leads none = steps_write_no_log (reply.Refused e) (held_with old past) (held_with new past) held (leads past past) none
-still_none reply.Done old new past held leads none = steps_write_no_log reply.Done (held_with old past) (held_with new past) held (leads past past) none
-still_none (reply.Locked id) old new past held leads none = steps_write_no_log (reply.Locked id) (held_with old past) (held_with new past) held (leads past past) none
-still_none (reply.Began tx group) old new past held leads none = steps_write_no_log (reply.Began tx group) (held_with old past) (held_with new past) held (leads past past) none
-still_none (reply.Committed receipt) old new past held leads none = steps_write_no_log (reply.Committed receipt) (held_with old past) (held_with new past) held (leads past past) none
-still_none (reply.Bytes all) old new past held leads none = steps_write_no_log (reply.Bytes all) (held_with old past) (held_with new past) held (leads past past) none
-still_none (reply.Opened group) old new past held leads none = steps_write_no_log (reply.Opened group) (held_with old past) (held_with new past) held (leads past past) none
-still_none (reply.Quiesced group) old new past held leads none = steps_write_no_log (reply.Quiesced group) (held_with old past) (held_with new past) held (leads past past) none
+still_none r old new past held leads none = steps_write_no_log r (held_with old past) (held_with new past) held (leads past past) none
 
 -- what steps lead to from a past with which the device holds what it should, where no block is a log block
 record Led (ss : List declared_step.Step) (rs : List declared_reply.Reply) (old new : Told) (past : Past) : Type 0 where

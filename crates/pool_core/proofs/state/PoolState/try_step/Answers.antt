@@ -1,0 +1,31 @@
+use Rattle.std.proofs.Common.{refl, rules}
+use Rattle.pool_core.specs.StepAnswers.{admitted_numbers, group_number, lock_number, receipt_numbers}
+use Rattle.pool_core.proofs.MadeSteps.{plain_step, start_step, read_moves_nothing, still_step, sync_step}
+use Rattle.pool_core.proofs.state.PoolState.try_step.Goals as goal
+
+pub returns-in-Lock : goal.returns-in-Lock
+returns-in-Lock g c = rw c.in-Lock.is (still_step lock_number _ (λ r x y h. h) refl (λ b. refl) (λ r d. d) c.lock.ensures.step c.lock.ensures.unmoved c.map.ensures.cases)
+
+pub returns-in-Unlock : goal.returns-in-Unlock
+returns-in-Unlock g c = rw c.in-Unlock.is (plain_step c.map-in-Unlock.result (λ r x y h. h) refl (λ b. refl) (λ r d. d) c.unlock.ensures.step c.unlock.ensures.unmoved (search rules))
+
+pub returns-in-Begin : goal.returns-in-Begin
+returns-in-Begin g c = rw c.in-Begin.is (still_step admitted_numbers c.map-in-Begin.result (λ r x y h. h) refl (λ b. refl) (λ r d. d) c.begin.ensures.step c.begin.ensures.unmoved (search rules))
+
+pub returns-in-Commit : goal.returns-in-Commit
+returns-in-Commit g c = rw c.in-Commit.is (still_step receipt_numbers _ (λ r x y h. h) refl (λ b. refl) (λ r d. d) c.commit.ensures.step c.commit.ensures.unmoved c.map-in-Commit.ensures.cases)
+
+pub returns-in-CloseGroup : goal.returns-in-CloseGroup
+returns-in-CloseGroup g c = rw c.in-CloseGroup.is (still_step group_number _ (λ r x y h. h) refl (λ b. refl) (λ r d. d) c.close_group.ensures.step c.close_group.ensures.unmoved c.map-in-CloseGroup.ensures.cases)
+
+pub returns-in-MarkQuiesced : goal.returns-in-MarkQuiesced
+returns-in-MarkQuiesced g c = rw c.in-MarkQuiesced.is (still_step group_number _ (λ r x y h. h) refl (λ b. refl) (λ r d. d) c.mark_quiesced.ensures.step c.mark_quiesced.ensures.unmoved c.map-in-MarkQuiesced.ensures.cases)
+
+pub returns-in-Read : goal.returns-in-Read
+returns-in-Read g c = rw c.in-Read.is (plain_step _ (λ r x y h. h) refl (λ b. refl) (λ r d. d) c.read.ensures.step (read_moves_nothing c.read.ensures.no_call) c.map-in-Read.ensures.cases)
+
+pub returns-in-StartSync : goal.returns-in-StartSync
+returns-in-StartSync g c = rw c.in-StartSync.is (start_step _ c.start_sync.ensures.step c.start_sync.ensures.held c.start_sync.ensures.leads c.start_sync.ensures.no_call c.map-in-StartSync.ensures.cases)
+
+pub returns-in-SyncStep : goal.returns-in-SyncStep
+returns-in-SyncStep g c = rw c.in-SyncStep.is (sync_step _ _ c.sync_step.ensures.step c.sync_step.ensures.leads c.sync_step.ensures.called c.sync_step.ensures.count c.map-in-SyncStep.ensures.cases)
