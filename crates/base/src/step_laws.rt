@@ -4,6 +4,7 @@ ghost use Rattle.base.specs.steps.Additions.{PastsAreTold, PastsGrow};
 ghost use Rattle.base.specs.steps.Locks.{BusyIsUnsound};
 ghost use Rattle.base.specs.steps.ExactNow.{StepsKeepTables, RunsKeepTables, LogStepsKeepTables, NewPoolsAreExplained};
 ghost use Rattle.base.specs.stored.HeldMounts.{MountsAgree, HeldMounts, IdleMounts, StepsWriteNoLog};
+ghost use Rattle.base.specs.steps.Space.{SyncsFit};
 ghost use Rattle.base.specs.steps.SyncEnds.{SuspendedPoolsRefuse, SuspendedPoolsStay, SyncsEndOnTime};
 
 /// Each step keeps what is shown of a pool exact, and its entries a history that leads to its contents.
@@ -75,4 +76,9 @@ pub fn steps_write_no_log()
 /// A lock is refused as busy exactly where granting it would leave the held locks unsound (`zfs_rlock.c`).
 pub fn busy_is_unsound()
     ensures { BusyIsUnsound }
+{}
+
+/// A sync writes no more blocks than its operations are estimated at (`dmu_tx.c`), whatever is synced and stored before it.
+pub fn syncs_fit()
+    ensures { SyncsFit }
 {}
