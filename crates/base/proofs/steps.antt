@@ -10,6 +10,7 @@ pub mod KeptLog
 pub mod KeptWrites
 pub mod KeptFlushes
 pub mod KeptTables
+pub mod Reservations
 pub mod SyncEnds
 pub mod SeenStates
 pub mod SeenGroups

@@ -1,9 +1,10 @@
 -- Sums over lists: of two terms, over two lists in either order, and over numbers of which few count.
-use Rattle.std.proofs.Common.{◌≡◌, ℕ, ◌≢◌, zero, suc, ◌+◌, ◌-◌, ◌<◌, ◌≤◌, Bool, true, false, ◌||◌, List, [], ◌∷◌, refl, ap, sym, ◌∙◌, arith, ◌⊎◌, inl, inr}
-use Rattle.std.specs.Prelude.{cond, sum_by}
+use Rattle.std.proofs.Common.{◌≡◌, ℕ, ◌≢◌, zero, suc, ◌+◌, ◌-◌, ◌<◌, ◌≤◌, Bool, true, false, ◌||◌, List, [], ◌∷◌, length, get_or, set, refl, ap, sym, ◌∙◌, arith, ◌⊎◌, inl, inr}
+use Rattle.std.specs.Prelude.{Some, slice_get, filter, cond, sum_by}
 use Rattle.std.specs.List.{list_any, range_with_len, count_by}
 use Rattle.std.proofs.lemmas.Bool.{cases_eq}
-use Rattle.std.proofs.lemmas.List.Sums.{sum_by-cons}
+use Rattle.std.proofs.lemmas.List.{length-set, get_or-set_other}
+use Rattle.std.proofs.lemmas.List.Sums.{sum_by-cons, sum_by-set}
 
 -- a test counts as one where it passes
 abbrev pub as_one : Bool → ℕ
@@ -29,6 +30,33 @@ module _ {X : Type 0} where
       go : (a b : Bool) (n all : ℕ) → all ≡ as_one a + n → as_one b ≤ n → as_one (a || b) ≤ all
       go true b n all e h = omega arith
       go false b n all e h = omega arith
+
+  pub sum_by-filter : (p : X → Bool) (f : X → ℕ) (xs : List X) → sum_by f (filter p xs) ≡ sum_by (λ x. cond (p x) (f x) 0) xs
+  sum_by-filter p f [] = refl
+  sum_by-filter p f (x ∷ xs) = go (p x) refl (sum_by-filter p f xs)
+    where
+      go : (b : Bool) → p x ≡ b → sum_by f (filter p xs) ≡ sum_by (λ y. cond (p y) (f y) 0) xs → sum_by f (cond b (x ∷ filter p xs) (filter p xs)) ≡ sum_by (λ y. cond (p y) (f y) 0) (x ∷ xs)
+      go true is rest =
+          let one : cond (p x) (f x) 0 ≡ f x = ap (λ b. cond b (f x) 0) is in
+          omega (arith, rest, sum_by-cons f x (filter p xs), sum_by-cons (λ y. cond (p y) (f y) 0) x xs)
+      go false is rest =
+          let one : cond (p x) (f x) 0 ≡ 0 = ap (λ b. cond b (f x) 0) is in
+          omega (arith, rest, sum_by-cons (λ y. cond (p y) (f y) 0) x xs)
+
+  -- elements that stand for different places of a list of numbers, each for no more than its number
+  pub apart_within : (place f : X → ℕ) (xs : List X) (numbers : List ℕ)
+      → ((i : ℕ) (x : X) → slice_get xs i ≡ Some x → (place x < length numbers) × (f x ≤ get_or numbers (place x) 0))
+      → ((i j : ℕ) (x y : X) → i < j → slice_get xs i ≡ Some x → slice_get xs j ≡ Some y → place x ≡ place y → ⊥) → sum_by f xs ≤ sum_by (λ n. n) numbers
+  apart_within place f [] numbers each apart = omega arith
+  apart_within place f (x ∷ xs) numbers each apart =
+      let here : (place x < length numbers) × (f x ≤ get_or numbers (place x) 0) = each zero x refl in
+      let rest : sum_by f xs ≤ sum_by (λ n. n) (set numbers (place x) 0) = apart_within place f xs (set numbers (place x) 0)
+          (λ i y at.
+          let there : (place y < length numbers) × (f y ≤ get_or numbers (place y) 0) = each (suc i) y at in
+          let same : get_or (set numbers (place x) 0) (place y) 0 ≡ get_or numbers (place y) 0 = get_or-set_other numbers (place x) (place y) 0 0 (λ e. apart zero (suc i) x y (omega arith) refl at (sym e)) in
+          (omega (arith, length-set numbers (place x) 0), omega arith))
+          (λ i j y z below at_i at_j. apart (suc i) (suc j) y z (omega arith) at_i at_j) in
+      omega (arith, sum_by-cons f x xs, sum_by-set (λ n. n) numbers (place x) 0 0 here.0)
 
 pub sum_by-sum_by : {X Y : Type 0} (f : X → Y → ℕ) (xs : List X) (ys : List Y) → sum_by (λ x. sum_by (f x) ys) xs ≡ sum_by (λ y. sum_by (λ x. f x y) xs) ys
 sum_by-sum_by f [] ys = sym (sum_by-none (λ y. 0) ys (λ y. refl))
