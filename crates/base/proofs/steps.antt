@@ -11,6 +11,8 @@ pub mod KeptWrites
 pub mod KeptFlushes
 pub mod KeptTables
 pub mod Reservations
+pub mod KeptCharges
+pub mod KeptRoom
 pub mod SyncEnds
 pub mod SeenStates
 pub mod SeenGroups

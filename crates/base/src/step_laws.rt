@@ -4,7 +4,7 @@ ghost use Rattle.base.specs.steps.Additions.{PastsAreTold, PastsGrow};
 ghost use Rattle.base.specs.steps.Locks.{BusyIsUnsound};
 ghost use Rattle.base.specs.steps.ExactNow.{StepsKeepTables, RunsKeepTables, LogStepsKeepTables, NewPoolsAreExplained};
 ghost use Rattle.base.specs.stored.HeldMounts.{MountsAgree, HeldMounts, IdleMounts, StepsWriteNoLog};
-ghost use Rattle.base.specs.steps.Space.{SyncsFit, GroupsFit, SyncsHaveRoom};
+ghost use Rattle.base.specs.steps.Space.{SyncsFit, GroupsFit, SyncsHaveRoom, ChargedStepsKeepRoom};
 ghost use Rattle.base.specs.steps.SyncEnds.{SuspendedPoolsRefuse, SuspendedPoolsStay, SyncsEndOnTime};
 
 /// Each step keeps what is shown of a pool exact, and its entries a history that leads to its contents.
@@ -91,4 +91,9 @@ pub fn groups_fit()
 /// Where the tables are exact and no sync runs, the free blocks suffice for the sync of the quiesced group.
 pub fn syncs_have_room()
     ensures { SyncsHaveRoom }
+{}
+
+/// Each step that charges, reserves or takes blocks keeps the charges exact and the free blocks enough for what is reserved.
+pub fn charged_steps_keep_room()
+    ensures { ChargedStepsKeepRoom }
 {}

@@ -78,7 +78,8 @@ module _ (l : Line) (admissions : List Admission) (entries : List Entry) (aborte
 pub groups_fit : GroupsFit
 groups_fit = group_fits
 
-none-taken : (o : Option SyncPlan) → is_some o ≡ false → length (taken_of o) ≡ 0
+-- while no sync runs, none has taken blocks
+pub none-taken : (o : Option SyncPlan) → is_some o ≡ false → length (taken_of o) ≡ 0
 none-taken None none = refl
 none-taken (Some plan) none = absurd (true≢false none)
 
@@ -91,7 +92,7 @@ reserved_within s group above below =
     subst (λ g. reserved_of s g ≤ reserved_total s) there (get_or-le-sum_by (reserved_of s) (unsynced_groups s.line) (group - (s.line.synced + 1)) 0 inside)
 
 -- the quiesced group is the one behind the synced group while no sync runs
-quiesced-next : (l : Line) (group : ℕ) → IsLine l → l.syncing ≡ None → quiesced_group l ≡ Some group → (l.synced < group) × (group ≤ l.open_group)
+pub quiesced-next : (l : Line) (group : ℕ) → IsLine l → l.syncing ≡ None → quiesced_group l ≡ Some group → (l.synced < group) × (group ≤ l.open_group)
 quiesced-next l group x idle quiesced =
     let middle : l.middle ≡ Some (record { group = group; quiesced = true }) = quiesced_is l group quiesced in
     let next : group ≡ before_middle l + 1 = subst (λ o. IfSome o (λ (m : Middle). m.group ≡ before_middle l + 1)) middle x.middle in

@@ -4,6 +4,7 @@ use Rattle.std.specs.Prelude.{Some, slice_get, filter, cond, sum_by}
 use Rattle.std.specs.List.{list_any, range_with_len, count_by}
 use Rattle.std.proofs.lemmas.Bool.{cases_eq}
 use Rattle.std.proofs.lemmas.List.{length-set, get_or-set_other}
+use Rattle.base.proofs.common.KeptLists.{none_at, Some-injective}
 use Rattle.std.proofs.lemmas.List.Sums.{sum_by-cons, sum_by-set}
 
 -- a test counts as one where it passes
@@ -42,6 +43,27 @@ module _ {X : Type 0} where
       go false is rest =
           let one : cond (p x) (f x) 0 ≡ 0 = ap (λ b. cond b (f x) 0) is in
           omega (arith, rest, sum_by-cons (λ y. cond (p y) (f y) 0) x xs)
+
+  -- two functions that agree on a list's elements have the same sum; where they differ at one place, the sums differ by that
+  pub sum_by-same : (f g : X → ℕ) (xs : List X) → ((i : ℕ) (x : X) → slice_get xs i ≡ Some x → f x ≡ g x) → sum_by f xs ≡ sum_by g xs
+  sum_by-same f g [] agree = refl
+  sum_by-same f g (x ∷ xs) agree =
+      let here : f x ≡ g x = agree zero x refl in
+      let rest : sum_by f xs ≡ sum_by g xs = sum_by-same f g xs (λ i y at. agree (suc i) y at) in
+      omega (arith, sum_by-cons f x xs, sum_by-cons g x xs)
+
+  pub sum_by-one_other : (f g : X → ℕ) (xs : List X) (k : ℕ) (x : X) → slice_get xs k ≡ Some x → ((i : ℕ) (y : X) → i ≢ k → slice_get xs i ≡ Some y → f y ≡ g y)
+      → sum_by f xs + g x ≡ sum_by g xs + f x
+  sum_by-one_other f g [] k x at agree = absurd (none_at k x at)
+  sum_by-one_other f g (y ∷ ys) zero x at agree =
+      let rest : sum_by f ys ≡ sum_by g ys = sum_by-same f g ys (λ i z at_i. agree (suc i) z (λ e. absurd (omega arith)) at_i) in
+      let one : f y ≡ f x = ap f (Some-injective at) in
+      let other : g y ≡ g x = ap g (Some-injective at) in
+      omega (arith, sum_by-cons f y ys, sum_by-cons g y ys)
+  sum_by-one_other f g (y ∷ ys) (suc k) x at agree =
+      let here : f y ≡ g y = agree zero y (λ e. absurd (omega arith)) refl in
+      let rest : sum_by f ys + g x ≡ sum_by g ys + f x = sum_by-one_other f g ys k x at (λ i z ne at_i. agree (suc i) z (λ e. ne (omega arith)) at_i) in
+      omega (arith, sum_by-cons f y ys, sum_by-cons g y ys)
 
   -- elements that stand for different places of a list of numbers, each for no more than its number
   pub apart_within : (place f : X → ℕ) (xs : List X) (numbers : List ℕ)
