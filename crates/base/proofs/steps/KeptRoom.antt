@@ -12,11 +12,16 @@ use Rattle.std.specs.FinMap.{nat_cmp-IsAntisymmetric}
 use Rattle.std.specs.FinSet as set
 use Rattle.std.specs.FinSet.{FinSet, same_set, contains-empty, contains-insert, contains-remove, contains-difference, contains-union, len-insert, len-remove}
 use Rattle.base.specs.declared.error.PoolError.{PoolError}
+use Rattle.base.specs.declared.operation.Op.{Op}
 use Rattle.base.specs.declared.operation.Shape.{Shape}
+use Rattle.base.specs.formats.Limits.{last_number, kept_back}
+use Rattle.base.specs.formats.Records.{Record}
 use Rattle.base.specs.history.Plans.{shape_of, estimate_of, charge_of}
 use Rattle.base.specs.history.Past.{Past}
+use Rattle.base.specs.tree.Places.{has_block}
+use Rattle.base.specs.tree.Syncs.{written_places}
 use Rattle.base.specs.steps.Locks.{is_in}
-use Rattle.base.specs.steps.Groups.{Line, IsLine, Admission, MayHold}
+use Rattle.base.specs.steps.Groups.{Line, IsLine, Admission, MayHold, open_transactions}
 use Rattle.base.specs.steps.Charges.{transactions_of, charge_sum, estimate_sum}
 use Rattle.base.specs.steps.Shown.{Shown, SyncPlan, dirty_of, reserved_of, dirty_total, reserved_total, unsynced_groups, free_count, taken_of, available}
 use Rattle.base.specs.steps.Refusals as refusal
@@ -132,5 +137,190 @@ module _ (s : State) (groups : AreGroupsExact s.shown s.past) (x : IsReserved s)
         };
       }
 
+  -- an abort
+  abort_state : (tx : ℕ) (a : Admission) → refusal.transaction_of tx s.shown ≡ Some a → IsReserved (steps.state_after_abort tx a s)
+  abort_state tx a is_open =
+      let found = found_at (λ (b : Admission). b.tx == tx) s.shown.transactions a is_open in
+      let at_open : slice_get (open_transactions s.past.admissions s.past.entries s.past.aborted) found.0 ≡ Some a = subst (λ ts. slice_get ts found.0 ≡ Some a) groups.transactions found.1 in
+      let member = open_is s.shown.line s.past.admissions s.past.entries s.past.aborted groups.members found.0 a at_open in
+      let named : a.tx ≡ tx = eqb-true a.tx tx found.2 in
+      let at : slice_get s.past.admissions tx ≡ Some a = subst (λ t. slice_get s.past.admissions t ≡ Some a) named member.0 in
+      let kept : is_in tx s.past.aborted ≡ false = subst (λ t. is_in t s.past.aborted ≡ false) named member.2 in
+      let may : MayHold s.shown.line a.group = groups.members.holding found.0 a at_open in
+      let above : (s.shown.line.synced < a.group) × (a.group ≤ s.shown.line.open_group) = held_above s.shown.line a.group groups.line may in
+      let dirty = total-insert s.shown.dirty a.group (dirty_of s.shown a.group - charge_of a.plan) (s.shown.line.synced + 1) (s.shown.line.open_group - s.shown.line.synced) (omega arith) (omega arith) in
+      let reserved = total-insert s.shown.reserved a.group (reserved_of s.shown a.group - estimate_of a.plan) (s.shown.line.synced + 1) (s.shown.line.open_group - s.shown.line.synced) (omega arith) (omega arith) in
+      let within : dirty_total s.shown ≤ s.shown.dirty_max = x.charges.within in
+      let room : reserved_total s.shown ≤ free_count s.shown + length (taken_of s.shown.sync) = x.blocks.room in
+      record {
+        charges = record {
+          limit = x.charges.limit;
+          dirty = aborted-sums (λ b. charge_of b.plan) s.shown.line.synced s.past.admissions s.past.aborted s.shown.dirty x.charges.dirty a tx groups.members.numbered at kept;
+          reserved = aborted-sums (λ b. estimate_of b.plan) s.shown.line.synced s.past.admissions s.past.aborted s.shown.reserved x.charges.reserved a tx groups.members.numbered at kept;
+          within = omega (arith, dirty);
+        };
+        blocks = record {
+          taken = if-weaker s.shown.line.syncing (λ g. length (taken_of s.shown.sync) ≤ reserved_of s.shown g)
+              (λ g. length (taken_of s.shown.sync) ≤ amount (finite.insert s.shown.reserved a.group (reserved_of s.shown a.group - estimate_of a.plan)) g)
+              (λ g is h.
+              let later : (g < a.group) × (a.group ≤ s.shown.line.open_group) = held_above (record s.shown.line { synced = g; syncing = None }) a.group (line_sync s.shown.line g groups.line is) may in
+              let same = amount-insert_other s.shown.reserved a.group (reserved_of s.shown a.group - estimate_of a.plan) g (λ e. absurd (omega arith)) in
+              omega (arith, same, h)) x.blocks.taken;
+          room = omega (arith, reserved);
+        };
+      }
+
+  -- the close of a group: the one that opens has no transactions yet
+  close_state : IsReserved (steps.with_line (steps.line_after_close s.shown.line) s)
+  close_state =
+      let l : Line = s.shown.line in
+      let above : (l.synced < l.open_group) × (l.open_group ≤ l.open_group) = held_above l l.open_group groups.line (inl refl) in
+      let below : (i : ℕ) (a : Admission) → slice_get s.past.admissions i ≡ Some a → a.group < l.open_group + 1 = λ i a at. (let known : a.group ≤ l.open_group = groups.members.known i a at in omega arith) in
+      let no_dirt : dirty_of s.shown (l.open_group + 1) ≡ 0 = x.charges.dirty (l.open_group + 1) (omega arith) ∙ sum-above (λ b. charge_of b.plan) s.past.admissions s.past.aborted (l.open_group + 1) below in
+      let none : reserved_of s.shown (l.open_group + 1) ≡ 0 = x.charges.reserved (l.open_group + 1) (omega arith) ∙ sum-above (λ b. estimate_of b.plan) s.past.admissions s.past.aborted (l.open_group + 1) below in
+      let dirty = total-close s.shown.dirty l.synced l.open_group above.0 no_dirt in
+      let reserved = total-close s.shown.reserved l.synced l.open_group above.0 none in
+      let within : dirty_total s.shown ≤ s.shown.dirty_max = x.charges.within in
+      let room : reserved_total s.shown ≤ free_count s.shown + length (taken_of s.shown.sync) = x.blocks.room in
+      record {
+        charges = record { limit = x.charges.limit; dirty = x.charges.dirty; reserved = x.charges.reserved; within = omega (arith, dirty) };
+        blocks = record { taken = x.blocks.taken; room = omega (arith, reserved) };
+      }
+
+  -- the start of a sync takes what its group has reserved, or less
+  start_state : (now : List ℕ) (group : ℕ) (plan : SyncPlan) → IsSyncExact s.shown → refusal.quiesced_group s.shown.line ≡ Some group → s.shown.line.syncing ≡ None → steps.TakesForEach now s group plan
+      → IsReserved (steps.state_after_start group plan s)
+  start_state now group plan sync quiesced idle takes =
+      let above : (s.shown.line.synced < group) × (group ≤ s.shown.line.open_group) = quiesced-next s.shown.line group groups.line idle quiesced in
+      let ops : List Op = steps.ops_of_group group s.past.entries in
+      let written : length (written_places ops takes.synced (has_block now s.shown.root)) ≤ estimate_of (map shape_of ops) = syncs_fit ops takes.synced (has_block now s.shown.root) in
+      let fits : estimate_of (map shape_of ops) ≤ estimate_sum (transactions_of group s.past.admissions s.past.aborted) = groups_fit s.shown.line s.past.admissions s.past.entries s.past.aborted group groups.members in
+      let reserved : reserved_of s.shown group ≡ estimate_sum (transactions_of group s.past.admissions s.past.aborted) = x.charges.reserved group above.0 in
+      let each : length plan.taken ≡ length (written_places ops takes.synced (has_block now s.shown.root)) = takes.each in
+      let none : length (taken_of s.shown.sync) ≡ 0 = none-taken s.shown.sync (sync.running ∙ ap (λ o. is_some o) idle) in
+      let room : reserved_total s.shown ≤ free_count s.shown + length (taken_of s.shown.sync) = x.blocks.room in
+      let left = difference-len s.shown.free plan.taken in
+      record {
+        charges = record { limit = x.charges.limit; dirty = x.charges.dirty; reserved = x.charges.reserved; within = x.charges.within };
+        blocks = record { taken = omega (arith, written, each); room = omega (arith, left) };
+      }
+
+  -- a step of a sync before its last
+  step_state : (plan : SyncPlan) → s.shown.sync ≡ Some plan → IsReserved (steps.state_after_step plan s)
+  step_state plan running = record {
+    charges = record { limit = x.charges.limit; dirty = x.charges.dirty; reserved = x.charges.reserved; within = x.charges.within };
+    blocks = record {
+      taken = subst (λ o. IfSome s.shown.line.syncing (λ g. length (taken_of o) ≤ reserved_of s.shown g)) running x.blocks.taken;
+      room = subst (λ o. reserved_total s.shown ≤ free_count s.shown + length (taken_of o)) running x.blocks.room;
+    };
+  }
+
+  -- its last step
+  end_state : (group : ℕ) (plan : SyncPlan) → s.shown.line.syncing ≡ Some group → s.shown.sync ≡ Some plan → IsReserved (steps.state_after_sync group plan s)
+  end_state group plan syncing running =
+      let l : Line = s.shown.line in
+      let next : group ≡ l.synced + 1 = subst (λ o. IfSome o (λ n. n ≡ l.synced + 1)) syncing groups.line.syncing in
+      let below : (group < l.open_group) × (l.open_group ≤ l.open_group) = held_above (record l { synced = group; syncing = None }) l.open_group (line_sync l group groups.line syncing) (inl refl) in
+      let dirty = total-synced s.shown.dirty l.synced group l.open_group next below.0 in
+      let reserved = total-synced s.shown.reserved l.synced group l.open_group next below.0 in
+      let within : dirty_total s.shown ≤ s.shown.dirty_max = x.charges.within in
+      let taken : length plan.taken ≤ reserved_of s.shown group =
+      subst (λ o. IfSome o (λ g. length plan.taken ≤ reserved_of s.shown g)) syncing (subst (λ o. IfSome s.shown.line.syncing (λ g. length (taken_of o) ≤ reserved_of s.shown g)) running x.blocks.taken) in
+      let room : reserved_total s.shown ≤ free_count s.shown + length plan.taken = subst (λ o. reserved_total s.shown ≤ free_count s.shown + length (taken_of o)) running x.blocks.room in
+      let more = union-len s.shown.free (steps.returned_addresses plan s.shown.log) in
+      record {
+        charges = record {
+          limit = x.charges.limit;
+          dirty = synced-sums (λ b. charge_of b.plan) l.synced s.past.admissions s.past.aborted s.shown.dirty x.charges.dirty group next;
+          reserved = synced-sums (λ b. estimate_of b.plan) l.synced s.past.admissions s.past.aborted s.shown.reserved x.charges.reserved group next;
+          within = omega (arith, dirty);
+        };
+        blocks = record { taken = tt; room = omega (arith, reserved, more) };
+      }
+
+  -- a write of the log, which is refused where no block more than those kept back is available
+  log_state : (taken rest : List Record) (address : ℕ) → 0 < available s.shown → IsReserved (steps.state_after_log_write taken rest address s)
+  log_state taken rest address some =
+      let room : reserved_total s.shown ≤ free_count s.shown + length (taken_of s.shown.sync) = x.blocks.room in
+      let left = remove-len s.shown.free address in
+      record {
+        charges = record { limit = x.charges.limit; dirty = x.charges.dirty; reserved = x.charges.reserved; within = x.charges.within };
+        blocks = record { taken = x.blocks.taken; room = omega (arith, left) };
+      }
+
+suspended_state : (s : State) → IsReserved s → IsReserved (steps.suspended_state s)
+suspended_state s x = record {
+  charges = record { limit = x.charges.limit; dirty = x.charges.dirty; reserved = x.charges.reserved; within = x.charges.within };
+  blocks = record { taken = x.blocks.taken; room = x.blocks.room };
+}
+
+by_answer : {A : Type 0} (answer : Result A PoolError) (r : Option PoolError) (old new : State) (does : A → Type 0) (own : PoolError → Type 0)
+    → ((a : A) → r ≡ None → does a → IsReserved new) → ((e : PoolError) → r ≡ None → own e → IsReserved new) → IsReserved old → Answers r answer old new does own → IsReserved new
+by_answer answer (Some f) old new does own done refused x h = subst IsReserved (sym h.1) x
+by_answer (Ok a) None old new does own done refused x h = done a refl h
+by_answer (Err e) None old new does own done refused x h = refused e refl h
+
+progress_state : (progress : SyncProgress) (group : ℕ) (plan : SyncPlan) (old new : State) → AreGroupsExact old.shown old.past → IsReserved old → old.shown.line.syncing ≡ Some group → old.shown.sync ≡ Some plan
+    → steps.IsProgress group progress plan old new → IsReserved new
+progress_state More group plan old new groups x syncing running h = subst IsReserved (sym h.1) (step_state old groups x plan running)
+progress_state (Synced g) group plan old new groups x syncing running h = subst IsReserved (sym h.2) (end_state old groups x group plan syncing running)
+
+module _ (old new : State) (groups : AreGroupsExact old.shown old.past) (sync : IsSyncExact old.shown) (x : IsReserved old) where
+  same : new ≡ old → IsReserved new
+  same e = subst IsReserved (sym e) x
+
+  begin_step : (owner : ℕ) (plan : List Shape) (answer : Result (ℕ × ℕ) PoolError) → steps.WholeBegin owner plan answer old new → IsReserved new
+  begin_step owner plan answer h = by_answer answer (refusal.whole_begin_refusal owner plan old.shown) old new _ _
+      (λ a none d.
+      let fits : dirty_total old.shown + charge_of plan ≤ old.shown.dirty_max =
+      ltb-false old.shown.dirty_max (dirty_total old.shown + charge_of plan) (no_refusal (refusal.whole_begin_tests owner plan old.shown) none 6 _ refl) in
+      let free : refusal.blocks_wanted old.shown.contents plan ≤ available old.shown =
+      ltb-false (available old.shown) (refusal.blocks_wanted old.shown.contents plan) (no_refusal (refusal.whole_begin_tests owner plan old.shown) none 7 _ refl) in
+      subst IsReserved (sym d.1) (begin_state old groups x (steps.next_admission owner plan old.shown) groups.next refl fits (omega arith)))
+      (λ e none own. same own.1) x h
+
+  abort_step : (tx : ℕ) (answer : Result (Unit {0}) PoolError) → steps.Abort tx answer old new → IsReserved new
+  abort_step tx answer h = by_answer answer (refusal.abort_refusal tx old.shown) old new _ _
+      (λ u none d. subst IsReserved (sym d.2) (abort_state old groups x tx d.0 d.1)) (λ e none own. absurd own) x h
+
+  close_step : (answer : Result ℕ PoolError) → steps.WholeCloseGroup answer old new → IsReserved new
+  close_step answer h = by_answer answer (refusal.whole_close_refusal old.shown) old new _ _
+      (λ g none d. subst IsReserved (sym d.1) (close_state old groups x)) (λ e none own. absurd own) x h
+
+  start_step : (now : List ℕ) (moment : ℕ) (answer : Result ℕ PoolError) → steps.WholeStartSync (Unit {0}) now moment answer old new → IsReserved new
+  start_step now moment answer h = by_answer answer (refusal.start_refusal old.shown) old new _ _
+      (λ group none d.
+      let idle : old.shown.line.syncing ≡ None =
+      none_there old.shown.line.syncing (or_parts (is_none (refusal.quiesced_group old.shown.line)) (is_some old.shown.line.syncing) (no_refusal (refusal.start_tests old.shown) none 1 _ refl)).1 in
+      subst IsReserved (sym d.4) (start_state old groups x now group d.0 sync d.1 idle (d.3 tt)))
+      (λ e none own. same own.1) x h
+
+  sync_step : (answer : Result SyncProgress PoolError) → steps.SyncStep answer old new → IsReserved new
+  sync_step answer h = by_answer answer (refusal.sync_step_refusal old.shown) old new _ _
+      (λ progress none d. progress_state progress d.0 d.1 old new groups x d.2 d.3 d.4)
+      (λ e none own. subst IsReserved (sym own.1) (suspended_state old x)) x h
+
+  log_step : (answer : Result ℕ PoolError) → steps.LogWrite answer old new → IsReserved new
+  log_step answer h = by_answer answer (refusal.log_write_refusal old.shown) old new _ _
+      (λ count none d. subst IsReserved (sym d.5) (log_state old groups x d.0 d.1 d.2 (some none)))
+      (λ e none own. elim own as (λ _. IsReserved new) [
+        | inl wants ↦ same wants.1
+        | inr wrote ↦ subst IsReserved (sym wrote.1.4) (suspended_state (steps.state_after_log_write wrote.1.0 wrote.1.1 wrote.1.2 old) (log_state old groups x wrote.1.0 wrote.1.1 wrote.1.2 (some none)))
+      ]) x h
+    where
+      some : refusal.log_write_refusal old.shown ≡ None → 0 < available old.shown
+      some none =
+          let enough : kept_back + 1 ≤ available old.shown = ltb-false (available old.shown) (kept_back + 1)
+              (or_parts (nat_lt (available old.shown) (kept_back + 1)) (nat_le last_number old.shown.log.next.number) (no_refusal (refusal.log_write_tests old.shown) none 2 _ refl)).0 in
+          omega arith
+
+  by_kind : IsChargedStep old new → IsReserved new
+  by_kind (inl h) = begin_step h.0 h.1 h.2 h.3
+  by_kind (inr (inl h)) = abort_step h.0 h.1 h.2
+  by_kind (inr (inr (inl h))) = close_step h.0 h.1
+  by_kind (inr (inr (inr (inl h)))) = start_step h.0 h.1 h.2 h.3
+  by_kind (inr (inr (inr (inr (inl h))))) = sync_step h.0 h.1
+  by_kind (inr (inr (inr (inr (inr h))))) = log_step h.0 h.1
+
 pub charged_steps_keep_room : ChargedStepsKeepRoom
-charged_steps_keep_room old new step groups sync x = ?
+charged_steps_keep_room old new step groups sync x = by_kind old new groups sync x step
