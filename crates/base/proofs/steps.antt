@@ -12,7 +12,7 @@ pub mod KeptFlushes
 pub mod KeptTables
 pub mod Reservations
 pub mod KeptCharges
-pub mod KeptRoom
+pub mod KeptReserves
 pub mod SyncEnds
 pub mod SeenStates
 pub mod SeenGroups

@@ -15,6 +15,7 @@ mod pool_name;
 mod range;
 mod refused;
 mod seen_laws;
+pub mod space_laws;
 mod status;
 mod step;
 mod step_laws;
@@ -54,10 +55,8 @@ pub use seen_laws::{
 pub use status::Status;
 pub use step::{Reply, Step};
 pub use step_laws::{
-    busy_is_unsound, charged_steps_keep_room, groups_fit, held_pools_mount, idle_pools_mount, log_steps_keep_tables, mounts_agree,
+    busy_is_unsound, held_pools_mount, idle_pools_mount, log_steps_keep_tables, mounts_agree,
     new_pools_are_explained, pasts_are_told, pasts_grow, runs_keep_tables, steps_keep_tables,
     steps_write_no_log, suspended_pools_refuse, suspended_pools_stay, syncs_end_on_time,
-    syncs_fit,
-    syncs_have_room,
 };
 pub use version::Version;

@@ -4,7 +4,6 @@ ghost use Rattle.base.specs.steps.Additions.{PastsAreTold, PastsGrow};
 ghost use Rattle.base.specs.steps.Locks.{BusyIsUnsound};
 ghost use Rattle.base.specs.steps.ExactNow.{StepsKeepTables, RunsKeepTables, LogStepsKeepTables, NewPoolsAreExplained};
 ghost use Rattle.base.specs.stored.HeldMounts.{MountsAgree, HeldMounts, IdleMounts, StepsWriteNoLog};
-ghost use Rattle.base.specs.steps.Space.{SyncsFit, GroupsFit, SyncsHaveRoom, ChargedStepsKeepRoom};
 ghost use Rattle.base.specs.steps.SyncEnds.{SuspendedPoolsRefuse, SuspendedPoolsStay, SyncsEndOnTime};
 
 /// Each step keeps what is shown of a pool exact, and its entries a history that leads to its contents.
@@ -76,24 +75,4 @@ pub fn steps_write_no_log()
 /// A lock is refused as busy exactly where granting it would leave the held locks unsound (`zfs_rlock.c`).
 pub fn busy_is_unsound()
     ensures { BusyIsUnsound }
-{}
-
-/// A sync writes no more blocks than its operations are estimated at (`dmu_tx.c`), whatever is synced and stored before it.
-pub fn syncs_fit()
-    ensures { SyncsFit }
-{}
-
-/// The operations that a group committed are estimated at no more than its open and committed transactions.
-pub fn groups_fit()
-    ensures { GroupsFit }
-{}
-
-/// Where the tables are exact and no sync runs, the free blocks suffice for the sync of the quiesced group.
-pub fn syncs_have_room()
-    ensures { SyncsHaveRoom }
-{}
-
-/// Each step that charges, reserves or takes blocks keeps the charges exact and the free blocks enough for what is reserved.
-pub fn charged_steps_keep_room()
-    ensures { ChargedStepsKeepRoom }
 {}

@@ -1,8 +1,8 @@
 -- A begin, an abort and the end of a sync keep exact what each unsynced group is charged and has reserved.
-use Rattle.std.proofs.Common.{◌≡◌, ℕ, ◌≢◌, zero, suc, ◌+◌, ◌-◌, ◌<◌, ◌≤◌, Bool, true, false, not, ◌&&◌, ◌||◌, List, [], ◌∷◌, ◌++◌, length, refl, ap, sym, subst, ◌∙◌, ◌⊎◌, inl, inr, arith}
-use Rattle.std.specs.Prelude.{Option, Some, None, unwrap_or, slice_get, filter, cond, sum_by, ◌==◌}
+use Rattle.std.proofs.Common.{◌≡◌, ℕ, ◌≢◌, zero, suc, ◌+◌, ◌-◌, ◌<◌, ◌≤◌, Bool, true, false, not, ◌&&◌, ◌||◌, List, [], ◌∷◌, ◌++◌, length, refl, ap, sym, ◌∙◌, inl, inr, arith}
+use Rattle.std.specs.Prelude.{Some, None, unwrap_or, slice_get, filter, cond, sum_by, ◌==◌}
 use Rattle.std.specs.List.{range_with_len}
-use Rattle.std.specs.Ordering.{nat_cmp, eq_by_cmp}
+use Rattle.std.specs.Ordering.{nat_cmp}
 use Rattle.std.specs.Cmp.{unsigned_tied}
 use Rattle.std.specs.FinMap as finite
 use Rattle.std.specs.FinMap.{FinMap, get-insert, get-remove}
@@ -56,9 +56,9 @@ pub total-insert : (amounts : FinMap nat_cmp ℕ) (group value low count : ℕ) 
 total-insert amounts group value low count from to =
     let place : slice_get (range_with_len low count) (group - low) ≡ Some group = range-at low count (group - low) (omega arith) ∙ ap (λ (n : ℕ). Some n) (let back : low + (group - low) ≡ group = omega arith in back) in
     let moved : sum_by (amount (finite.insert amounts group value)) (range_with_len low count) + amount amounts group
-        ≡ sum_by (amount amounts) (range_with_len low count) + amount (finite.insert amounts group value) group =
+    ≡ sum_by (amount amounts) (range_with_len low count) + amount (finite.insert amounts group value) group =
     sum_by-one_other (amount (finite.insert amounts group value)) (amount amounts) (range_with_len low count) (group - low) group place
-        (λ i n ne at. amount-insert_other amounts group value n (λ e. ne (let is : n ≡ low + i = (at-range low count i n at).0 in omega arith))) in
+    (λ i n ne at. amount-insert_other amounts group value n (λ e. ne (let is : n ≡ low + i = (at-range low count i n at).0 in omega arith))) in
     moved ∙ ap (λ n. sum_by (amount amounts) (range_with_len low count) + n) (amount-insert_same amounts group value)
 
 -- a transaction is of a group, and was not aborted
@@ -84,7 +84,7 @@ module _ (weight : Admission → ℕ) (admissions : List Admission) (aborted : L
       let now : sum_by weight (transactions_of group admissions (aborted ++ tx ∷ [])) ≡ sum_by after admissions = sum_by-filter (is_counted group (aborted ++ tx ∷ [])) weight admissions in
       let then : sum_by weight (transactions_of group admissions aborted) ≡ sum_by before admissions = sum_by-filter (is_counted group aborted) weight admissions in
       let moved : sum_by after admissions + before a ≡ sum_by before admissions + after a = sum_by-one_other after before admissions tx a at
-          (λ i b ne at_b. ap (λ m. cond ((b.group == group) && not m) (weight b) 0) (others b.tx (λ e. ne (sym (numbered i b at_b) ∙ e)))) in
+      (λ i b ne at_b. ap (λ m. cond ((b.group == group) && not m) (weight b) 0) (others b.tx (λ e. ne (sym (numbered i b at_b) ∙ e)))) in
       let none : after a ≡ 0 = ap (λ m. cond ((a.group == group) && not m) (weight a) 0) gone ∙ never (a.group == group) in
       let one : before a ≡ cond (a.group == group) (weight a) 0 = ap (λ m. cond ((a.group == group) && not m) (weight a) 0) (ap (λ t. is_in t aborted) named ∙ kept) ∙ ever (a.group == group) in
       omega arith
@@ -126,36 +126,36 @@ module _ (weight : Admission → ℕ) (synced : ℕ) (admissions : List Admissio
       → AreSums weight synced (admissions ++ a ∷ []) aborted (finite.insert amounts a.group (amount amounts a.group + weight a))
   begun-sums a kept group above = elim (cases_eq group a.group)
       as (λ _. amount (finite.insert amounts a.group (amount amounts a.group + weight a)) group ≡ sum_by weight (transactions_of group (admissions ++ a ∷ []) aborted)) [
-    | inl e ↦ (
-        let now : amount (finite.insert amounts a.group (amount amounts a.group + weight a)) group ≡ amount amounts a.group + weight a =
-        ap (λ g. amount (finite.insert amounts a.group (amount amounts a.group + weight a)) g) e ∙ amount-insert_same amounts a.group (amount amounts a.group + weight a) in
-        let then : amount amounts a.group ≡ sum_by weight (transactions_of group admissions aborted) = ap (λ g. amount amounts g) (sym e) ∙ sums group above in
-        let one : cond (a.group == group) (weight a) 0 ≡ weight a = ap (λ b. cond b (weight a) 0) (eq-eqb a.group group (sym e)) in
-        omega (arith, sum-begun weight admissions aborted a group kept))
-    | inr ne ↦ (
-        let now : amount (finite.insert amounts a.group (amount amounts a.group + weight a)) group ≡ amount amounts group = amount-insert_other amounts a.group (amount amounts a.group + weight a) group ne in
-        let then : amount amounts group ≡ sum_by weight (transactions_of group admissions aborted) = sums group above in
-        let one : cond (a.group == group) (weight a) 0 ≡ 0 = ap (λ b. cond b (weight a) 0) (ne_eqb a.group group (λ e. ne (sym e))) in
-        omega (arith, sum-begun weight admissions aborted a group kept))
-  ]
+        | inl e ↦ (
+            let now : amount (finite.insert amounts a.group (amount amounts a.group + weight a)) group ≡ amount amounts a.group + weight a =
+            ap (λ g. amount (finite.insert amounts a.group (amount amounts a.group + weight a)) g) e ∙ amount-insert_same amounts a.group (amount amounts a.group + weight a) in
+            let then : amount amounts a.group ≡ sum_by weight (transactions_of group admissions aborted) = ap (λ g. amount amounts g) (sym e) ∙ sums group above in
+            let one : cond (a.group == group) (weight a) 0 ≡ weight a = ap (λ b. cond b (weight a) 0) (eq-eqb a.group group (sym e)) in
+            omega (arith, sum-begun weight admissions aborted a group kept))
+        | inr ne ↦ (
+            let now : amount (finite.insert amounts a.group (amount amounts a.group + weight a)) group ≡ amount amounts group = amount-insert_other amounts a.group (amount amounts a.group + weight a) group ne in
+            let then : amount amounts group ≡ sum_by weight (transactions_of group admissions aborted) = sums group above in
+            let one : cond (a.group == group) (weight a) 0 ≡ 0 = ap (λ b. cond b (weight a) 0) (ne_eqb a.group group (λ e. ne (sym e))) in
+            omega (arith, sum-begun weight admissions aborted a group kept))
+      ]
 
   -- one that is given up takes from it
   pub aborted-sums : (a : Admission) (tx : ℕ) → ((i : ℕ) (b : Admission) → slice_get admissions i ≡ Some b → b.tx ≡ i) → slice_get admissions tx ≡ Some a → is_in tx aborted ≡ false
       → AreSums weight synced admissions (aborted ++ tx ∷ []) (finite.insert amounts a.group (amount amounts a.group - weight a))
   aborted-sums a tx numbered at kept group above = elim (cases_eq group a.group)
       as (λ _. amount (finite.insert amounts a.group (amount amounts a.group - weight a)) group ≡ sum_by weight (transactions_of group admissions (aborted ++ tx ∷ []))) [
-    | inl e ↦ (
-        let now : amount (finite.insert amounts a.group (amount amounts a.group - weight a)) group ≡ amount amounts a.group - weight a =
-        ap (λ g. amount (finite.insert amounts a.group (amount amounts a.group - weight a)) g) e ∙ amount-insert_same amounts a.group (amount amounts a.group - weight a) in
-        let then : amount amounts a.group ≡ sum_by weight (transactions_of group admissions aborted) = ap (λ g. amount amounts g) (sym e) ∙ sums group above in
-        let one : cond (a.group == group) (weight a) 0 ≡ weight a = ap (λ b. cond b (weight a) 0) (eq-eqb a.group group (sym e)) in
-        omega (arith, sum-aborted weight admissions aborted a tx group numbered at kept))
-    | inr ne ↦ (
-        let now : amount (finite.insert amounts a.group (amount amounts a.group - weight a)) group ≡ amount amounts group = amount-insert_other amounts a.group (amount amounts a.group - weight a) group ne in
-        let then : amount amounts group ≡ sum_by weight (transactions_of group admissions aborted) = sums group above in
-        let one : cond (a.group == group) (weight a) 0 ≡ 0 = ap (λ b. cond b (weight a) 0) (ne_eqb a.group group (λ e. ne (sym e))) in
-        omega (arith, sum-aborted weight admissions aborted a tx group numbered at kept))
-  ]
+        | inl e ↦ (
+            let now : amount (finite.insert amounts a.group (amount amounts a.group - weight a)) group ≡ amount amounts a.group - weight a =
+            ap (λ g. amount (finite.insert amounts a.group (amount amounts a.group - weight a)) g) e ∙ amount-insert_same amounts a.group (amount amounts a.group - weight a) in
+            let then : amount amounts a.group ≡ sum_by weight (transactions_of group admissions aborted) = ap (λ g. amount amounts g) (sym e) ∙ sums group above in
+            let one : cond (a.group == group) (weight a) 0 ≡ weight a = ap (λ b. cond b (weight a) 0) (eq-eqb a.group group (sym e)) in
+            omega (arith, sum-aborted weight admissions aborted a tx group numbered at kept))
+        | inr ne ↦ (
+            let now : amount (finite.insert amounts a.group (amount amounts a.group - weight a)) group ≡ amount amounts group = amount-insert_other amounts a.group (amount amounts a.group - weight a) group ne in
+            let then : amount amounts group ≡ sum_by weight (transactions_of group admissions aborted) = sums group above in
+            let one : cond (a.group == group) (weight a) 0 ≡ 0 = ap (λ b. cond b (weight a) 0) (ne_eqb a.group group (λ e. ne (sym e))) in
+            omega (arith, sum-aborted weight admissions aborted a tx group numbered at kept))
+      ]
 
   -- a group that is synced has no amount any more
   pub synced-sums : (next : ℕ) → next ≡ synced + 1 → AreSums weight next admissions aborted (finite.remove amounts next)
@@ -187,7 +187,7 @@ total-synced amounts synced group open_group next below =
     ∙ ap (λ g. sum_by (amount amounts) (range_with_len g (suc (open_group - group)))) (sym next)
     ∙ sum_by-cons (amount amounts) group (range_with_len (group + 1) (open_group - group))
     ∙ ap (λ n. amount amounts group + n) (sum_by-same (amount amounts) (amount (finite.remove amounts group)) (range_with_len (group + 1) (open_group - group))
-        (λ i g at. sym (amount-remove_other amounts group g (λ e. let is : g ≡ group + 1 + i = (at-range (group + 1) (open_group - group) i g at).0 in absurd (omega arith)))))
+    (λ i g at. sym (amount-remove_other amounts group g (λ e. let is : g ≡ group + 1 + i = (at-range (group + 1) (open_group - group) i g at).0 in absurd (omega arith)))))
 
 -- a group above those of all admissions has no sum
 pub sum-above : (weight : Admission → ℕ) (admissions : List Admission) (aborted : List ℕ) (group : ℕ) → ((i : ℕ) (a : Admission) → slice_get admissions i ≡ Some a → a.group < group)
@@ -195,7 +195,7 @@ pub sum-above : (weight : Admission → ℕ) (admissions : List Admission) (abor
 sum-above weight admissions aborted group below =
     sum_by-filter (is_counted group aborted) weight admissions
     ∙ sum_by-same (λ a. cond (is_counted group aborted a) (weight a) 0) (λ (a : Admission). 0) admissions
-        (λ i a at. ap (λ b. cond (b && not (is_in a.tx aborted)) (weight a) 0) (ne_eqb a.group group (λ e. let lower : a.group < group = below i a at in absurd (omega arith))))
+    (λ i a at. ap (λ b. cond (b && not (is_in a.tx aborted)) (weight a) 0) (ne_eqb a.group group (λ e. let lower : a.group < group = below i a at in absurd (omega arith))))
     ∙ sum_by-none (λ (a : Admission). 0) admissions (λ a. refl)
 
 -- an amount is no less where some group has more

@@ -1,27 +1,24 @@
 -- What is reserved for a group suffices for its sync: its operations are its transactions', each once, and the free blocks cover what is reserved.
-use Rattle.std.proofs.Common.{◌≡◌, ℕ, zero, suc, ◌+◌, ◌-◌, ◌<◌, ◌≤◌, Bool, true, false, not, ◌&&◌, List, [], ◌∷◌, ◌++◌, length, get_or, map, refl, ap, sym, subst, ◌∙◌, arith}
-use Rattle.std.specs.Prelude.{Option, Some, None, IfSome, is_some, option_map, unwrap_or, slice_get, filter, cond, sum_by, ◌==◌, if◌then◌else◌}
-use Rattle.std.specs.List.{flat_map, range_with_len}
-use Rattle.std.proofs.lemmas.Bool.{ne_eqb, eq-eqb, eqb-true, true≢false}
+use Rattle.std.proofs.Common.{◌≡◌, ℕ, ◌+◌, ◌-◌, ◌<◌, ◌≤◌, Bool, true, false, not, ◌&&◌, List, [], ◌∷◌, length, get_or, map, refl, ap, sym, subst, ◌∙◌, arith}
+use Rattle.std.specs.Prelude.{Option, Some, None, IfSome, is_some, option_map, unwrap_or, slice_get, cond, sum_by, ◌==◌}
+use Rattle.std.specs.List.{flat_map}
+use Rattle.std.proofs.lemmas.Bool.{ne_eqb, eq-eqb, true≢false}
 use Rattle.std.proofs.lemmas.List.{map-append}
 use Rattle.std.proofs.lemmas.List.Folds.{fold-map}
 use Rattle.std.proofs.lemmas.List.FromFn.{get_or-range_with_len, length-range_with_len}
 use Rattle.std.proofs.lemmas.List.Sums.{sum_by-append, sum_by-cons, get_or-le-sum_by}
 use Rattle.std.proofs.lemmas.Option.{slice_get_within, slice_get-map, get_or_from_slice_get}
-use Rattle.base.specs.declared.operation.Op.{Op}
 use Rattle.base.specs.history.Plans.{shape_of, estimate_of_shape, estimate_of}
 use Rattle.base.specs.history.History.{Entry, entries_in}
-use Rattle.base.specs.history.Past.{Past}
 use Rattle.base.specs.tree.Syncs.{written_places}
 use Rattle.base.specs.steps.Locks.{is_in}
-use Rattle.base.specs.steps.Groups.{Line, Middle, IsLine, Admission, AreMembers, is_committed, before_middle, before_open}
+use Rattle.base.specs.steps.Groups.{Line, Middle, IsLine, Admission, AreMembers, before_middle, before_open}
 use Rattle.base.specs.steps.Charges.{transactions_of, estimate_sum}
 use Rattle.base.specs.steps.Shown.{Shown, SyncPlan, reserved_of, reserved_total, unsynced_groups, free_count, taken_of}
 use Rattle.base.specs.steps.Refusals.{quiesced_group}
 use Rattle.base.specs.steps.Steps.{ops_of_group}
-use Rattle.base.specs.steps.Exact.{IsExact, HasReservedBlocks}
 use Rattle.base.specs.steps.Space.{GroupsFit, SyncsHaveRoom}
-use Rattle.base.proofs.common.KeptLists.{at_filter, pair_filter, any_at, any_none, none_any, Some-injective}
+use Rattle.base.proofs.common.KeptLists.{at_filter, pair_filter, any_at, any_none}
 use Rattle.base.proofs.steps.KeptGroups.{quiesced_is}
 use Rattle.base.proofs.tree.Sums.{sum_by-filter, apart_within}
 use Rattle.base.proofs.tree.Estimates.{syncs_fit}

@@ -1,6 +1,6 @@
 -- A sync writes at most as many blocks as its operations are estimated at: each block is one that some operation may change.
-use Rattle.std.proofs.Common.{◌≡◌, ℕ, ◌≢◌, zero, suc, ◌+◌, ◌-◌, ◌*◌, ◌/◌, ◌<◌, ◌≤◌, Bool, true, false, not, ◌&&◌, ◌||◌, List, [], ◌∷◌, ◌++◌, length, map, filter, refl, ap, sym, ◌∙◌, subst, arith, length-append}
-use Rattle.std.specs.Prelude.{◌==◌, nat_lt, nat_le, sum_by, cond, if◌then◌else◌}
+use Rattle.std.proofs.Common.{◌≡◌, ℕ, ◌≢◌, ◌+◌, ◌*◌, ◌/◌, ◌<◌, ◌≤◌, Bool, true, false, not, ◌&&◌, List, [], ◌∷◌, ◌++◌, length, map, filter, refl, sym, ◌∙◌, arith, length-append}
+use Rattle.std.specs.Prelude.{◌==◌, nat_lt, nat_le, sum_by, if◌then◌else◌}
 use Rattle.std.specs.Option.{option_map_or}
 use Rattle.std.specs.FinMap as finite
 use Rattle.std.specs.List.{list_any, flat_map, range_with_len, count_by}
@@ -132,7 +132,7 @@ module _ (ops : List Op) (synced : Contents) (had : Place → Bool) where
       → length (map (λ r. Data n r) (filter (syncs.is_record_dirty ops synced had n) records) ++ (if syncs.is_indirect_written ops synced had n then Indirect n ∷ [] else [])) ≤ sum_by (λ op. object_part records op n) ops
   object-count n records =
       let both : length (map (λ r. Data n r) (filter (syncs.is_record_dirty ops synced had n) records) ++ (if syncs.is_indirect_written ops synced had n then Indirect n ∷ [] else []))
-          ≡ length (map (λ r. Data n r) (filter (syncs.is_record_dirty ops synced had n) records)) + length (if syncs.is_indirect_written ops synced had n then Indirect n ∷ [] else []) =
+      ≡ length (map (λ r. Data n r) (filter (syncs.is_record_dirty ops synced had n) records)) + length (if syncs.is_indirect_written ops synced had n then Indirect n ∷ [] else []) =
       length-append (map (λ r. Data n r) (filter (syncs.is_record_dirty ops synced had n) records)) (if syncs.is_indirect_written ops synced had n then Indirect n ∷ [] else []) in
       let of_records : length (map (λ r. Data n r) (filter (syncs.is_record_dirty ops synced had n) records)) ≡ count_by (syncs.is_record_dirty ops synced had n) records =
       length-map (filter (syncs.is_record_dirty ops synced had n) records) (λ r. Data n r) ∙ length-filter (syncs.is_record_dirty ops synced had n) records in
@@ -243,7 +243,7 @@ module _ (start : ℕ → ℕ) (size : ℕ) (own : (m d : ℕ) → start d ≤ m
       none : (d : ℕ) → a ≤ d → d < a + many → d ≢ m / entry_count → count_by (λ n. m == n) (range_with_len (start d) size) ≡ 0
       none d from to other =
           let most : count_by (λ n. m == n) (range_with_len (start d) size) ≤ 0 = count_within (λ n. m == n) 0 0 (start d) size
-              (λ n low high is. let same : m ≡ n = eqb-true m n is in absurd (other (own m d (omega arith) (omega arith)))) in
+          (λ n low high is. let same : m ≡ n = eqb-true m n is in absurd (other (own m d (omega arith) (omega arith)))) in
           omega arith
 
   no-directory : (directories : List ℕ) → sum_by (λ d. count_by (λ (n : ℕ). false) (range_with_len (start d) size)) directories ≡ 0
@@ -286,10 +286,10 @@ pub syncs_fit : SyncsFit
 syncs_fit ops synced had =
     let part : Op → ℕ = part_of (λ d. entry_count * d) entry_count own-directory 0 pointer_count 0 object_count 0 pointer_count in
     let written = three-parts (syncs.places_of_object ops synced had) (λ d. Directory d) (syncs.is_directory_written ops synced had) (if syncs.is_root_written ops synced had then Root ∷ [] else [])
-        (range_with_len 0 object_count) (range_with_len 0 pointer_count)
-        (λ op. sum_by (object_part record_numbers op) (range_with_len 0 object_count)) (directory_part object_numbers (range_with_len 0 pointer_count)) root_part ops
-        (objects-count ops synced had (range_with_len 0 object_count)) (directory-count ops synced had (range_with_len 0 pointer_count))
-        (last-count ops synced had) in
+    (range_with_len 0 object_count) (range_with_len 0 pointer_count)
+    (λ op. sum_by (object_part record_numbers op) (range_with_len 0 object_count)) (directory_part object_numbers (range_with_len 0 pointer_count)) root_part ops
+    (objects-count ops synced had (range_with_len 0 object_count)) (directory-count ops synced had (range_with_len 0 pointer_count))
+    (last-count ops synced had) in
     let each : sum_by part ops ≤ sum_by (λ op. estimate_of_shape (shape_of op)) ops = sum_by-le-sum_by part (λ op. estimate_of_shape (shape_of op)) ops (one-operation (λ d. entry_count * d) entry_count own-directory 0 pointer_count 0 object_count 0 pointer_count) in
     let shapes : estimate_of (map shape_of ops) ≡ sum_by (λ op. estimate_of_shape (shape_of op)) ops = fold-map (λ n x. n + estimate_of_shape x) shape_of 0 ops in
     in-turn (length (syncs.written_places ops synced had)) (sum_by part ops) (sum_by (λ op. estimate_of_shape (shape_of op)) ops) (estimate_of (map shape_of ops)) written each shapes

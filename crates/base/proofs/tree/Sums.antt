@@ -1,5 +1,5 @@
 -- Sums over lists: of two terms, over two lists in either order, and over numbers of which few count.
-use Rattle.std.proofs.Common.{◌≡◌, ℕ, ◌≢◌, zero, suc, ◌+◌, ◌-◌, ◌<◌, ◌≤◌, Bool, true, false, ◌||◌, List, [], ◌∷◌, length, get_or, set, refl, ap, sym, ◌∙◌, arith, ◌⊎◌, inl, inr}
+use Rattle.std.proofs.Common.{◌≡◌, ℕ, ◌≢◌, zero, suc, ◌+◌, ◌-◌, ◌<◌, ◌≤◌, Bool, true, false, ◌||◌, List, [], ◌∷◌, length, get_or, set, refl, ap, sym, ◌∙◌, arith, inl, inr}
 use Rattle.std.specs.Prelude.{Some, slice_get, filter, cond, sum_by}
 use Rattle.std.specs.List.{list_any, range_with_len, count_by}
 use Rattle.std.proofs.lemmas.Bool.{cases_eq}
@@ -73,11 +73,11 @@ module _ {X : Type 0} where
   apart_within place f (x ∷ xs) numbers each apart =
       let here : (place x < length numbers) × (f x ≤ get_or numbers (place x) 0) = each zero x refl in
       let rest : sum_by f xs ≤ sum_by (λ n. n) (set numbers (place x) 0) = apart_within place f xs (set numbers (place x) 0)
-          (λ i y at.
-          let there : (place y < length numbers) × (f y ≤ get_or numbers (place y) 0) = each (suc i) y at in
-          let same : get_or (set numbers (place x) 0) (place y) 0 ≡ get_or numbers (place y) 0 = get_or-set_other numbers (place x) (place y) 0 0 (λ e. apart zero (suc i) x y (omega arith) refl at (sym e)) in
-          (omega (arith, length-set numbers (place x) 0), omega arith))
-          (λ i j y z below at_i at_j. apart (suc i) (suc j) y z (omega arith) at_i at_j) in
+      (λ i y at.
+      let there : (place y < length numbers) × (f y ≤ get_or numbers (place y) 0) = each (suc i) y at in
+      let same : get_or (set numbers (place x) 0) (place y) 0 ≡ get_or numbers (place y) 0 = get_or-set_other numbers (place x) (place y) 0 0 (λ e. apart zero (suc i) x y (omega arith) refl at (sym e)) in
+      (omega (arith, length-set numbers (place x) 0), omega arith))
+      (λ i j y z below at_i at_j. apart (suc i) (suc j) y z (omega arith) at_i at_j) in
       omega (arith, sum_by-cons f x xs, sum_by-set (λ n. n) numbers (place x) 0 0 here.0)
 
 pub sum_by-sum_by : {X Y : Type 0} (f : X → Y → ℕ) (xs : List X) (ys : List Y) → sum_by (λ x. sum_by (f x) ys) xs ≡ sum_by (λ y. sum_by (λ x. f x y) xs) ys
@@ -112,6 +112,6 @@ count_within p low w a (suc count) within =
     go true is later all e =
         let here : (low ≤ a) × (a < low + w) = within a (omega arith) (omega arith) is in
         let rest : count_by p (range_with_len (a + 1) count) ≤ (low + w) - (a + 1) = later (a + 1) ((low + w) - (a + 1))
-            (λ i from to passes. (from, let there : (low ≤ i) × (i < low + w) = within i (omega arith) (omega arith) passes in omega arith)) in
+        (λ i from to passes. (from, let there : (low ≤ i) × (i < low + w) = within i (omega arith) (omega arith) passes in omega arith)) in
         omega arith
     go false is later all e = let rest : count_by p (range_with_len (a + 1) count) ≤ w = later low w (λ i from to passes. within i (omega arith) (omega arith) passes) in omega arith

@@ -1,12 +1,9 @@
--- A begin, an abort, the close of a group, the start and the steps of a sync and a write of the log keep room for what is reserved.
-use Rattle.std.proofs.Common.{◌≡◌, ℕ, ◌≢◌, suc, ◌+◌, ◌-◌, ◌<◌, ◌≤◌, Bool, true, false, not, ◌&&◌, ◌||◌, List, [], ◌∷◌, ◌++◌, length, map, refl, ap, sym, subst, ◌∙◌, ◌⊎◌, inl, inr, arith}
-use Rattle.std.specs.Prelude.{Option, Some, None, Result, Ok, Err, IfSome, is_some, is_none, unwrap_or, slice_get, cond, sum_by, nat_lt, nat_le, ◌==◌}
-use Rattle.std.specs.List.{range_with_len}
+-- Each step keeps what is charged and reserved exact, and free blocks enough for it.
+use Rattle.std.proofs.Common.{◌≡◌, ℕ, ◌+◌, ◌-◌, ◌<◌, ◌≤◌, Bool, true, false, not, ◌&&◌, ◌||◌, List, [], ◌∷◌, length, map, refl, ap, sym, subst, ◌∙◌, inl, inr, arith}
+use Rattle.std.specs.Prelude.{Option, Some, None, Result, Ok, Err, IfSome, is_some, is_none, unwrap_or, slice_get, cond, nat_lt, nat_le, ◌==◌}
 use Rattle.std.specs.Ordering.{nat_cmp, eq_by_cmp}
 use Rattle.std.proofs.lemmas.Cmp.{nat_cmp_total}
-use Rattle.std.proofs.lemmas.Bool.{cases_eq, ltb-false, or_parts, ne_eqb, eqb-true}
-use Rattle.std.proofs.lemmas.List.Sums.{sum_by-cons}
-use Rattle.std.proofs.lemmas.Option.{slice_get_within}
+use Rattle.std.proofs.lemmas.Bool.{ltb-false, or_parts, ne_eqb, eqb-true}
 use Rattle.std.specs.FinMap as finite
 use Rattle.std.specs.FinMap.{nat_cmp-IsAntisymmetric}
 use Rattle.std.specs.FinSet as set
@@ -14,27 +11,30 @@ use Rattle.std.specs.FinSet.{FinSet, same_set, contains-empty, contains-insert, 
 use Rattle.base.specs.declared.error.PoolError.{PoolError}
 use Rattle.base.specs.declared.operation.Op.{Op}
 use Rattle.base.specs.declared.operation.Shape.{Shape}
+use Rattle.base.specs.declared.range.Mode.{Mode}
+use Rattle.base.specs.declared.range.Mode.TheVariants.{Writer}
 use Rattle.base.specs.formats.Limits.{last_number, kept_back}
 use Rattle.base.specs.formats.Records.{Record}
-use Rattle.base.specs.history.Plans.{shape_of, estimate_of, charge_of}
-use Rattle.base.specs.history.Past.{Past}
+use Rattle.base.specs.history.Plans.{NumberRange, shape_of, estimate_of, charge_of}
 use Rattle.base.specs.tree.Places.{has_block}
 use Rattle.base.specs.tree.Syncs.{written_places}
-use Rattle.base.specs.steps.Locks.{is_in}
-use Rattle.base.specs.steps.Groups.{Line, IsLine, Admission, MayHold, open_transactions}
-use Rattle.base.specs.steps.Charges.{transactions_of, charge_sum, estimate_sum}
-use Rattle.base.specs.steps.Shown.{Shown, SyncPlan, dirty_of, reserved_of, dirty_total, reserved_total, unsynced_groups, free_count, taken_of, available}
+use Rattle.base.specs.steps.Locks.{Grant, is_in}
+use Rattle.base.specs.steps.Groups.{Line, Admission, MayHold, open_transactions}
+use Rattle.base.specs.steps.Charges.{transactions_of, estimate_sum}
+use Rattle.base.specs.steps.Shown.{SyncPlan, dirty_of, reserved_of, dirty_total, reserved_total, unsynced_groups, free_count, taken_of, available}
 use Rattle.base.specs.steps.Refusals as refusal
 use Rattle.base.specs.steps.Steps as steps
 use Rattle.base.specs.steps.Steps.{State, SyncProgress, More, Synced, Answers}
-use Rattle.base.specs.steps.Exact.{AreGroupsExact, AreChargesExact, IsSyncExact, HasReservedBlocks}
-use Rattle.base.specs.steps.Space.{IsReserved, IsChargedStep, ChargedStepsKeepRoom}
+use Rattle.base.specs.steps.Exact.{AreGroupsExact, IsSyncExact}
+use Rattle.base.specs.steps.Space.{HasReserves, ChargedStepsKeepReserves, UnchargedStepsKeepReserves, NewPoolsHaveReserves}
+use Rattle.base.specs.steps.Space.IsChargedStep.{Begins, Aborts, Closes, Starts, Syncs, WritesLog}
+use Rattle.base.specs.steps.Space.IsUnchargedStep.{Locks, LocksAppend, Unlocks, Commits, Reads, Lengths, Digests, Quiesces, FlushesLog}
 use Rattle.base.proofs.common.KeptLists.{any_none, found_at}
-use Rattle.base.proofs.history.CommitOrder.{no_refusal, ok-none}
-use Rattle.base.proofs.tree.Sums.{sum_by-same}
+use Rattle.base.proofs.history.CommitOrder.{no_refusal}
+use Rattle.base.proofs.tree.Sums.{sum_by-none}
 use Rattle.base.proofs.tree.Estimates.{syncs_fit}
-use Rattle.base.proofs.steps.KeptGroups.{open_is, held_above, line_sync, quiesced_is, none_there}
-use Rattle.base.proofs.steps.KeptCharges.{amount, amount-insert_same, amount-insert_other, amount-remove_other, amount-more, total-insert, total-close, total-synced, sum-above, begun-sums, aborted-sums, synced-sums}
+use Rattle.base.proofs.steps.KeptGroups.{open_is, held_above, line_sync, none_there}
+use Rattle.base.proofs.steps.KeptCharges.{amount, amount-insert_other, amount-more, total-insert, total-close, total-synced, sum-above, begun-sums, aborted-sums, synced-sums}
 use Rattle.base.proofs.steps.Reservations.{groups_fit, none-taken, quiesced-next}
 
 -- a set without numbers, and with more numbers
@@ -71,17 +71,17 @@ remove-len numbers n = less-one (set.contains numbers n) (set.len numbers) (set.
 difference-len : (numbers : FinSet nat_cmp) (taken : List ℕ) → set.len numbers ≤ set.len (set.difference numbers (set.from_list taken)) + length taken
 difference-len numbers [] =
     let same : set.difference numbers (set.from_list []) ≡ numbers = same_set nat_cmp_total nat_cmp-IsAntisymmetric (set.difference numbers (set.from_list [])) numbers
-        (λ q. contains-difference nat_cmp_total numbers (set.from_list []) q ∙ ap (λ b. set.contains numbers q && not b) (contains-empty nat_cmp q) ∙ and-true (set.contains numbers q)) in
+    (λ q. contains-difference nat_cmp_total numbers (set.from_list []) q ∙ ap (λ b. set.contains numbers q && not b) (contains-empty nat_cmp q) ∙ and-true (set.contains numbers q)) in
     let long : set.len (set.difference numbers (set.from_list [])) ≡ set.len numbers = ap (λ (t : FinSet nat_cmp). set.len t) same in
     omega arith
 difference-len numbers (n ∷ taken) =
     let left : FinSet nat_cmp = set.difference numbers (set.from_list taken) in
     let same : set.difference numbers (set.from_list (n ∷ taken)) ≡ set.remove left n = same_set nat_cmp_total nat_cmp-IsAntisymmetric (set.difference numbers (set.from_list (n ∷ taken))) (set.remove left n)
-        (λ q. contains-difference nat_cmp_total numbers (set.from_list (n ∷ taken)) q
-        ∙ ap (λ b. set.contains numbers q && not b) (contains-insert nat_cmp_total (set.from_list taken) n q)
-        ∙ difference-insert (set.contains numbers q) (eq_by_cmp nat_cmp q n) (set.contains (set.from_list {R = nat_cmp} taken) q)
-        ∙ ap (λ b. not (eq_by_cmp nat_cmp q n) && b) (sym (contains-difference nat_cmp_total numbers (set.from_list taken) q))
-        ∙ sym (contains-remove nat_cmp_total left n q)) in
+    (λ q. contains-difference nat_cmp_total numbers (set.from_list (n ∷ taken)) q
+    ∙ ap (λ b. set.contains numbers q && not b) (contains-insert nat_cmp_total (set.from_list taken) n q)
+    ∙ difference-insert (set.contains numbers q) (eq_by_cmp nat_cmp q n) (set.contains (set.from_list {R = nat_cmp} taken) q)
+    ∙ ap (λ b. not (eq_by_cmp nat_cmp q n) && b) (sym (contains-difference nat_cmp_total numbers (set.from_list taken) q))
+    ∙ sym (contains-remove nat_cmp_total left n q)) in
     let long : set.len (set.difference numbers (set.from_list (n ∷ taken))) ≡ set.len (set.remove left n) = ap (λ (t : FinSet nat_cmp). set.len t) same in
     let one : set.len left ≤ set.len (set.remove left n) + 1 = remove-len left n in
     let rest : set.len numbers ≤ set.len left + length taken = difference-len numbers taken in
@@ -90,17 +90,17 @@ difference-len numbers (n ∷ taken) =
 union-len : (numbers : FinSet nat_cmp) (more : List ℕ) → set.len numbers ≤ set.len (set.union numbers (set.from_list more))
 union-len numbers [] =
     let same : set.union numbers (set.from_list []) ≡ numbers = same_set nat_cmp_total nat_cmp-IsAntisymmetric (set.union numbers (set.from_list [])) numbers
-        (λ q. contains-union nat_cmp_total numbers (set.from_list []) q ∙ ap (λ b. set.contains numbers q || b) (contains-empty nat_cmp q) ∙ or-false (set.contains numbers q)) in
+    (λ q. contains-union nat_cmp_total numbers (set.from_list []) q ∙ ap (λ b. set.contains numbers q || b) (contains-empty nat_cmp q) ∙ or-false (set.contains numbers q)) in
     let long : set.len (set.union numbers (set.from_list [])) ≡ set.len numbers = ap (λ (t : FinSet nat_cmp). set.len t) same in
     omega arith
 union-len numbers (n ∷ more) =
     let all : FinSet nat_cmp = set.union numbers (set.from_list more) in
     let same : set.union numbers (set.from_list (n ∷ more)) ≡ set.insert all n = same_set nat_cmp_total nat_cmp-IsAntisymmetric (set.union numbers (set.from_list (n ∷ more))) (set.insert all n)
-        (λ q. contains-union nat_cmp_total numbers (set.from_list (n ∷ more)) q
-        ∙ ap (λ b. set.contains numbers q || b) (contains-insert nat_cmp_total (set.from_list more) n q)
-        ∙ union-insert (set.contains numbers q) (eq_by_cmp nat_cmp q n) (set.contains (set.from_list {R = nat_cmp} more) q)
-        ∙ ap (λ b. eq_by_cmp nat_cmp q n || b) (sym (contains-union nat_cmp_total numbers (set.from_list more) q))
-        ∙ sym (contains-insert nat_cmp_total all n q)) in
+    (λ q. contains-union nat_cmp_total numbers (set.from_list (n ∷ more)) q
+    ∙ ap (λ b. set.contains numbers q || b) (contains-insert nat_cmp_total (set.from_list more) n q)
+    ∙ union-insert (set.contains numbers q) (eq_by_cmp nat_cmp q n) (set.contains (set.from_list {R = nat_cmp} more) q)
+    ∙ ap (λ b. eq_by_cmp nat_cmp q n || b) (sym (contains-union nat_cmp_total numbers (set.from_list more) q))
+    ∙ sym (contains-insert nat_cmp_total all n q)) in
     let long : set.len (set.union numbers (set.from_list (n ∷ more))) ≡ set.len (set.insert all n) = ap (λ (t : FinSet nat_cmp). set.len t) same in
     let one : set.len all ≤ set.len (set.insert all n) = more-one (set.contains all n) (set.len all) (set.len (set.insert all n)) (len-insert nat_cmp_total all n) in
     let rest : set.len numbers ≤ set.len all = union-len numbers more in
@@ -110,13 +110,13 @@ if-weaker : {A : Type 0} (o : Option A) (P Q : A → Type 0) → ((a : A) → o 
 if-weaker None P Q weaker h = tt
 if-weaker (Some a) P Q weaker h = weaker a refl h
 
-module _ (s : State) (groups : AreGroupsExact s.shown s.past) (x : IsReserved s) where
+module _ (s : State) (groups : AreGroupsExact s.shown s.past) (x : HasReserves s) where
   -- a begin
   begin_state : (a : Admission) → a.tx ≡ length s.past.admissions → a.group ≡ s.shown.line.open_group → dirty_total s.shown + charge_of a.plan ≤ s.shown.dirty_max → estimate_of a.plan ≤ available s.shown
-      → IsReserved (steps.state_after_charged_admission a s)
+      → HasReserves (steps.state_after_charged_admission a s)
   begin_state a named in_open fits free =
       let kept : is_in a.tx s.past.aborted ≡ false = any_none (λ t. a.tx == t) s.past.aborted
-          (λ i t at. ne_eqb a.tx t (λ same. let below : t < length s.past.admissions = (groups.members.never_committed i t at).0 in absurd (omega arith))) in
+      (λ i t at. ne_eqb a.tx t (λ same. let below : t < length s.past.admissions = (groups.members.never_committed i t at).0 in absurd (omega arith))) in
       let above : (s.shown.line.synced < a.group) × (a.group ≤ s.shown.line.open_group) = held_above s.shown.line a.group groups.line (inl in_open) in
       let dirty = total-insert s.shown.dirty a.group (dirty_of s.shown a.group + charge_of a.plan) (s.shown.line.synced + 1) (s.shown.line.open_group - s.shown.line.synced) (omega arith) (omega arith) in
       let reserved = total-insert s.shown.reserved a.group (reserved_of s.shown a.group + estimate_of a.plan) (s.shown.line.synced + 1) (s.shown.line.open_group - s.shown.line.synced) (omega arith) (omega arith) in
@@ -138,7 +138,7 @@ module _ (s : State) (groups : AreGroupsExact s.shown s.past) (x : IsReserved s)
       }
 
   -- an abort
-  abort_state : (tx : ℕ) (a : Admission) → refusal.transaction_of tx s.shown ≡ Some a → IsReserved (steps.state_after_abort tx a s)
+  abort_state : (tx : ℕ) (a : Admission) → refusal.transaction_of tx s.shown ≡ Some a → HasReserves (steps.state_after_abort tx a s)
   abort_state tx a is_open =
       let found = found_at (λ (b : Admission). b.tx == tx) s.shown.transactions a is_open in
       let at_open : slice_get (open_transactions s.past.admissions s.past.entries s.past.aborted) found.0 ≡ Some a = subst (λ ts. slice_get ts found.0 ≡ Some a) groups.transactions found.1 in
@@ -171,7 +171,7 @@ module _ (s : State) (groups : AreGroupsExact s.shown s.past) (x : IsReserved s)
       }
 
   -- the close of a group: the one that opens has no transactions yet
-  close_state : IsReserved (steps.with_line (steps.line_after_close s.shown.line) s)
+  close_state : HasReserves (steps.with_line (steps.line_after_close s.shown.line) s)
   close_state =
       let l : Line = s.shown.line in
       let above : (l.synced < l.open_group) × (l.open_group ≤ l.open_group) = held_above l l.open_group groups.line (inl refl) in
@@ -189,7 +189,7 @@ module _ (s : State) (groups : AreGroupsExact s.shown s.past) (x : IsReserved s)
 
   -- the start of a sync takes what its group has reserved, or less
   start_state : (now : List ℕ) (group : ℕ) (plan : SyncPlan) → IsSyncExact s.shown → refusal.quiesced_group s.shown.line ≡ Some group → s.shown.line.syncing ≡ None → steps.TakesForEach now s group plan
-      → IsReserved (steps.state_after_start group plan s)
+      → HasReserves (steps.state_after_start group plan s)
   start_state now group plan sync quiesced idle takes =
       let above : (s.shown.line.synced < group) × (group ≤ s.shown.line.open_group) = quiesced-next s.shown.line group groups.line idle quiesced in
       let ops : List Op = steps.ops_of_group group s.past.entries in
@@ -206,7 +206,7 @@ module _ (s : State) (groups : AreGroupsExact s.shown s.past) (x : IsReserved s)
       }
 
   -- a step of a sync before its last
-  step_state : (plan : SyncPlan) → s.shown.sync ≡ Some plan → IsReserved (steps.state_after_step plan s)
+  step_state : (plan : SyncPlan) → s.shown.sync ≡ Some plan → HasReserves (steps.state_after_step plan s)
   step_state plan running = record {
     charges = record { limit = x.charges.limit; dirty = x.charges.dirty; reserved = x.charges.reserved; within = x.charges.within };
     blocks = record {
@@ -216,7 +216,7 @@ module _ (s : State) (groups : AreGroupsExact s.shown s.past) (x : IsReserved s)
   }
 
   -- its last step
-  end_state : (group : ℕ) (plan : SyncPlan) → s.shown.line.syncing ≡ Some group → s.shown.sync ≡ Some plan → IsReserved (steps.state_after_sync group plan s)
+  end_state : (group : ℕ) (plan : SyncPlan) → s.shown.line.syncing ≡ Some group → s.shown.sync ≡ Some plan → HasReserves (steps.state_after_sync group plan s)
   end_state group plan syncing running =
       let l : Line = s.shown.line in
       let next : group ≡ l.synced + 1 = subst (λ o. IfSome o (λ n. n ≡ l.synced + 1)) syncing groups.line.syncing in
@@ -239,7 +239,7 @@ module _ (s : State) (groups : AreGroupsExact s.shown s.past) (x : IsReserved s)
       }
 
   -- a write of the log, which is refused where no block more than those kept back is available
-  log_state : (taken rest : List Record) (address : ℕ) → 0 < available s.shown → IsReserved (steps.state_after_log_write taken rest address s)
+  log_state : (taken rest : List Record) (address : ℕ) → 0 < available s.shown → HasReserves (steps.state_after_log_write taken rest address s)
   log_state taken rest address some =
       let room : reserved_total s.shown ≤ free_count s.shown + length (taken_of s.shown.sync) = x.blocks.room in
       let left = remove-len s.shown.free address in
@@ -248,79 +248,151 @@ module _ (s : State) (groups : AreGroupsExact s.shown s.past) (x : IsReserved s)
         blocks = record { taken = x.blocks.taken; room = omega (arith, left) };
       }
 
-suspended_state : (s : State) → IsReserved s → IsReserved (steps.suspended_state s)
+suspended_state : (s : State) → HasReserves s → HasReserves (steps.suspended_state s)
 suspended_state s x = record {
   charges = record { limit = x.charges.limit; dirty = x.charges.dirty; reserved = x.charges.reserved; within = x.charges.within };
   blocks = record { taken = x.blocks.taken; room = x.blocks.room };
 }
 
 by_answer : {A : Type 0} (answer : Result A PoolError) (r : Option PoolError) (old new : State) (does : A → Type 0) (own : PoolError → Type 0)
-    → ((a : A) → r ≡ None → does a → IsReserved new) → ((e : PoolError) → r ≡ None → own e → IsReserved new) → IsReserved old → Answers r answer old new does own → IsReserved new
-by_answer answer (Some f) old new does own done refused x h = subst IsReserved (sym h.1) x
+    → ((a : A) → r ≡ None → does a → HasReserves new) → ((e : PoolError) → r ≡ None → own e → HasReserves new) → HasReserves old → Answers r answer old new does own → HasReserves new
+by_answer answer (Some f) old new does own done refused x h = subst HasReserves (sym h.1) x
 by_answer (Ok a) None old new does own done refused x h = done a refl h
 by_answer (Err e) None old new does own done refused x h = refused e refl h
 
-progress_state : (progress : SyncProgress) (group : ℕ) (plan : SyncPlan) (old new : State) → AreGroupsExact old.shown old.past → IsReserved old → old.shown.line.syncing ≡ Some group → old.shown.sync ≡ Some plan
-    → steps.IsProgress group progress plan old new → IsReserved new
-progress_state More group plan old new groups x syncing running h = subst IsReserved (sym h.1) (step_state old groups x plan running)
-progress_state (Synced g) group plan old new groups x syncing running h = subst IsReserved (sym h.2) (end_state old groups x group plan syncing running)
+progress_state : (progress : SyncProgress) (group : ℕ) (plan : SyncPlan) (old new : State) → AreGroupsExact old.shown old.past → HasReserves old → old.shown.line.syncing ≡ Some group → old.shown.sync ≡ Some plan
+    → steps.IsProgress group progress plan old new → HasReserves new
+progress_state More group plan old new groups x syncing running h = subst HasReserves (sym h.1) (step_state old groups x plan running)
+progress_state (Synced g) group plan old new groups x syncing running h = subst HasReserves (sym h.2) (end_state old groups x group plan syncing running)
 
-module _ (old new : State) (groups : AreGroupsExact old.shown old.past) (sync : IsSyncExact old.shown) (x : IsReserved old) where
-  same : new ≡ old → IsReserved new
-  same e = subst IsReserved (sym e) x
+abbrev stays : (old new : State) → HasReserves old → new ≡ old → HasReserves new
+stays old new x e = subst HasReserves (sym e) x
 
-  begin_step : (owner : ℕ) (plan : List Shape) (answer : Result (ℕ × ℕ) PoolError) → steps.WholeBegin owner plan answer old new → IsReserved new
+module _ (old new : State) (groups : AreGroupsExact old.shown old.past) (sync : IsSyncExact old.shown) (x : HasReserves old) where
+  begin_step : (owner : ℕ) (plan : List Shape) (answer : Result (ℕ × ℕ) PoolError) → steps.WholeBegin owner plan answer old new → HasReserves new
   begin_step owner plan answer h = by_answer answer (refusal.whole_begin_refusal owner plan old.shown) old new _ _
       (λ a none d.
       let fits : dirty_total old.shown + charge_of plan ≤ old.shown.dirty_max =
       ltb-false old.shown.dirty_max (dirty_total old.shown + charge_of plan) (no_refusal (refusal.whole_begin_tests owner plan old.shown) none 6 _ refl) in
       let free : refusal.blocks_wanted old.shown.contents plan ≤ available old.shown =
       ltb-false (available old.shown) (refusal.blocks_wanted old.shown.contents plan) (no_refusal (refusal.whole_begin_tests owner plan old.shown) none 7 _ refl) in
-      subst IsReserved (sym d.1) (begin_state old groups x (steps.next_admission owner plan old.shown) groups.next refl fits (omega arith)))
-      (λ e none own. same own.1) x h
+      subst HasReserves (sym d.1) (begin_state old groups x (steps.next_admission owner plan old.shown) groups.next refl fits (omega arith)))
+      (λ e none own. stays old new x own.1) x h
 
-  abort_step : (tx : ℕ) (answer : Result (Unit {0}) PoolError) → steps.Abort tx answer old new → IsReserved new
+  abort_step : (tx : ℕ) (answer : Result (Unit {0}) PoolError) → steps.Abort tx answer old new → HasReserves new
   abort_step tx answer h = by_answer answer (refusal.abort_refusal tx old.shown) old new _ _
-      (λ u none d. subst IsReserved (sym d.2) (abort_state old groups x tx d.0 d.1)) (λ e none own. absurd own) x h
+      (λ u none d. subst HasReserves (sym d.2) (abort_state old groups x tx d.0 d.1)) (λ e none own. absurd own) x h
 
-  close_step : (answer : Result ℕ PoolError) → steps.WholeCloseGroup answer old new → IsReserved new
+  close_step : (answer : Result ℕ PoolError) → steps.WholeCloseGroup answer old new → HasReserves new
   close_step answer h = by_answer answer (refusal.whole_close_refusal old.shown) old new _ _
-      (λ g none d. subst IsReserved (sym d.1) (close_state old groups x)) (λ e none own. absurd own) x h
+      (λ g none d. subst HasReserves (sym d.1) (close_state old groups x)) (λ e none own. absurd own) x h
 
-  start_step : (now : List ℕ) (moment : ℕ) (answer : Result ℕ PoolError) → steps.WholeStartSync (Unit {0}) now moment answer old new → IsReserved new
+  start_step : (now : List ℕ) (moment : ℕ) (answer : Result ℕ PoolError) → steps.WholeStartSync (Unit {0}) now moment answer old new → HasReserves new
   start_step now moment answer h = by_answer answer (refusal.start_refusal old.shown) old new _ _
       (λ group none d.
       let idle : old.shown.line.syncing ≡ None =
       none_there old.shown.line.syncing (or_parts (is_none (refusal.quiesced_group old.shown.line)) (is_some old.shown.line.syncing) (no_refusal (refusal.start_tests old.shown) none 1 _ refl)).1 in
-      subst IsReserved (sym d.4) (start_state old groups x now group d.0 sync d.1 idle (d.3 tt)))
-      (λ e none own. same own.1) x h
+      subst HasReserves (sym d.4) (start_state old groups x now group d.0 sync d.1 idle (d.3 tt)))
+      (λ e none own. stays old new x own.1) x h
 
-  sync_step : (answer : Result SyncProgress PoolError) → steps.SyncStep answer old new → IsReserved new
+  sync_step : (answer : Result SyncProgress PoolError) → steps.SyncStep answer old new → HasReserves new
   sync_step answer h = by_answer answer (refusal.sync_step_refusal old.shown) old new _ _
       (λ progress none d. progress_state progress d.0 d.1 old new groups x d.2 d.3 d.4)
-      (λ e none own. subst IsReserved (sym own.1) (suspended_state old x)) x h
+      (λ e none own. subst HasReserves (sym own.1) (suspended_state old x)) x h
 
-  log_step : (answer : Result ℕ PoolError) → steps.LogWrite answer old new → IsReserved new
+  log_step : (answer : Result ℕ PoolError) → steps.LogWrite answer old new → HasReserves new
   log_step answer h = by_answer answer (refusal.log_write_refusal old.shown) old new _ _
-      (λ count none d. subst IsReserved (sym d.5) (log_state old groups x d.0 d.1 d.2 (some none)))
-      (λ e none own. elim own as (λ _. IsReserved new) [
-        | inl wants ↦ same wants.1
-        | inr wrote ↦ subst IsReserved (sym wrote.1.4) (suspended_state (steps.state_after_log_write wrote.1.0 wrote.1.1 wrote.1.2 old) (log_state old groups x wrote.1.0 wrote.1.1 wrote.1.2 (some none)))
+      (λ count none d. subst HasReserves (sym d.5) (log_state old groups x d.0 d.1 d.2 (some none)))
+      (λ e none own. elim own as (λ _. HasReserves new) [
+        | inl wants ↦ stays old new x wants.1
+        | inr wrote ↦ subst HasReserves (sym wrote.1.4) (suspended_state (steps.state_after_log_write wrote.1.0 wrote.1.1 wrote.1.2 old) (log_state old groups x wrote.1.0 wrote.1.1 wrote.1.2 (some none)))
       ]) x h
     where
       some : refusal.log_write_refusal old.shown ≡ None → 0 < available old.shown
       some none =
           let enough : kept_back + 1 ≤ available old.shown = ltb-false (available old.shown) (kept_back + 1)
-              (or_parts (nat_lt (available old.shown) (kept_back + 1)) (nat_le last_number old.shown.log.next.number) (no_refusal (refusal.log_write_tests old.shown) none 2 _ refl)).0 in
+          (or_parts (nat_lt (available old.shown) (kept_back + 1)) (nat_le last_number old.shown.log.next.number) (no_refusal (refusal.log_write_tests old.shown) none 2 _ refl)).0 in
           omega arith
 
-  by_kind : IsChargedStep old new → IsReserved new
-  by_kind (inl h) = begin_step h.0 h.1 h.2 h.3
-  by_kind (inr (inl h)) = abort_step h.0 h.1 h.2
-  by_kind (inr (inr (inl h))) = close_step h.0 h.1
-  by_kind (inr (inr (inr (inl h)))) = start_step h.0 h.1 h.2 h.3
-  by_kind (inr (inr (inr (inr (inl h))))) = sync_step h.0 h.1
-  by_kind (inr (inr (inr (inr (inr h))))) = log_step h.0 h.1
+module _ (old new : State) (x : HasReserves old) where
+  -- what the other steps add
+  grant_state : (g : Grant) → HasReserves (steps.state_after_grant g old)
+  grant_state g = record {
+    charges = record { limit = x.charges.limit; dirty = x.charges.dirty; reserved = x.charges.reserved; within = x.charges.within };
+    blocks = record { taken = x.blocks.taken; room = x.blocks.room };
+  }
 
-pub charged_steps_keep_room : ChargedStepsKeepRoom
-charged_steps_keep_room old new step groups sync x = by_kind old new groups sync x step
+  lock_step : (owner : ℕ) (range : NumberRange) (mode : Mode) (answer : Result ℕ PoolError) → steps.Lock owner range mode answer old new → HasReserves new
+  lock_step owner range mode answer h = by_answer answer (refusal.lock_refusal owner range mode old.shown) old new _ _
+      (λ id none d. subst HasReserves (sym d.1) (grant_state (steps.next_grant owner range mode old.shown))) (λ e none own. stays old new x own.1) x h
+
+  append_step : (owner n : ℕ) (answer : Result (ℕ × ℕ × ℕ) PoolError) → steps.LockAppend owner n answer old new → HasReserves new
+  append_step owner n answer h = by_answer answer (refusal.append_refusal owner n old.shown) old new _ _
+      (λ a none d. subst HasReserves (sym d.1) (grant_state (steps.next_grant owner (refusal.append_range n old.shown) Writer old.shown))) (λ e none own. stays old new x own.1) x h
+
+  unlock_step : (owner id : ℕ) (answer : Result (Unit {0}) PoolError) → steps.Unlock owner id answer old new → HasReserves new
+  unlock_step owner id answer h = by_answer answer (refusal.unlock_refusal owner id old.shown) old new _ _
+      (λ u none d. subst HasReserves (sym d) (record {
+        charges = record { limit = x.charges.limit; dirty = x.charges.dirty; reserved = x.charges.reserved; within = x.charges.within };
+        blocks = record { taken = x.blocks.taken; room = x.blocks.room };
+      })) (λ e none own. absurd own) x h
+
+  commit_step : (tx : ℕ) (ops : List Op) (answer : Result (ℕ × ℕ) PoolError) → steps.WholeCommit tx ops answer old new → HasReserves new
+  commit_step tx ops answer h = by_answer answer (refusal.whole_commit_refusal tx ops old.shown) old new _ _
+      (λ receipt none d. subst HasReserves (sym d.6) (record {
+        charges = record { limit = x.charges.limit; dirty = x.charges.dirty; reserved = x.charges.reserved; within = x.charges.within };
+        blocks = record { taken = x.blocks.taken; room = x.blocks.room };
+      })) (λ e none own. stays old new x own.1) x h
+
+  read_step : (owner : ℕ) (range : NumberRange) (answer : Result (List ℕ) PoolError) → steps.WholeRead ⊥ owner range answer old new → HasReserves new
+  read_step owner range answer h = by_answer answer (refusal.read_refusal owner range old.shown) old new _ _ (λ bytes none d. stays old new x d.1) (λ e none own. stays old new x own.1) x h
+
+  length_step : (n : ℕ) (answer : Result ℕ PoolError) → steps.Length n answer old new → HasReserves new
+  length_step n answer h = by_answer answer (refusal.length_refusal n old.shown) old new _ _ (λ count none d. stays old new x d.1) (λ e none own. absurd own) x h
+
+  digest_step : (answer : Result (List ℕ) PoolError) → steps.Digest ⊥ answer old new → HasReserves new
+  digest_step answer h = by_answer answer (refusal.digest_refusal old.shown) old new _ _ (λ digest none d. stays old new x d.1) (λ e none own. stays old new x own.1) x h
+
+  quiesce_step : (answer : Result ℕ PoolError) → steps.MarkQuiesced answer old new → HasReserves new
+  quiesce_step answer h = by_answer answer (refusal.quiesce_refusal old.shown) old new _ _
+      (λ group none d. subst HasReserves (sym d.1) (record {
+        charges = record { limit = x.charges.limit; dirty = x.charges.dirty; reserved = x.charges.reserved; within = x.charges.within };
+        blocks = record { taken = x.blocks.taken; room = x.blocks.room };
+      })) (λ e none own. absurd own) x h
+
+  flush_step : (answer : Result (Unit {0}) PoolError) → steps.LogFlush answer old new → HasReserves new
+  flush_step answer h = by_answer answer (refusal.log_flush_refusal old.shown) old new _ _
+      (λ u none d. subst HasReserves (sym d) (record {
+        charges = record { limit = x.charges.limit; dirty = x.charges.dirty; reserved = x.charges.reserved; within = x.charges.within };
+        blocks = record { taken = x.blocks.taken; room = x.blocks.room };
+      })) (λ e none own. subst HasReserves (sym own.1) (suspended_state old x)) x h
+
+pub charged_steps_keep_reserves : ChargedStepsKeepReserves
+charged_steps_keep_reserves old new (Begins owner plan answer h) groups sync x = begin_step old new groups sync x owner plan answer h
+charged_steps_keep_reserves old new (Aborts tx answer h) groups sync x = abort_step old new groups sync x tx answer h
+charged_steps_keep_reserves old new (Closes answer h) groups sync x = close_step old new groups sync x answer h
+charged_steps_keep_reserves old new (Starts now moment answer h) groups sync x = start_step old new groups sync x now moment answer h
+charged_steps_keep_reserves old new (Syncs answer h) groups sync x = sync_step old new groups sync x answer h
+charged_steps_keep_reserves old new (WritesLog answer h) groups sync x = log_step old new groups sync x answer h
+
+pub uncharged_steps_keep_reserves : UnchargedStepsKeepReserves
+uncharged_steps_keep_reserves old new (Locks owner range mode answer h) x = lock_step old new x owner range mode answer h
+uncharged_steps_keep_reserves old new (LocksAppend owner n answer h) x = append_step old new x owner n answer h
+uncharged_steps_keep_reserves old new (Unlocks owner id answer h) x = unlock_step old new x owner id answer h
+uncharged_steps_keep_reserves old new (Commits tx ops answer h) x = commit_step old new x tx ops answer h
+uncharged_steps_keep_reserves old new (Reads owner range answer h) x = read_step old new x owner range answer h
+uncharged_steps_keep_reserves old new (Lengths n answer h) x = length_step old new x n answer h
+uncharged_steps_keep_reserves old new (Digests answer h) x = digest_step old new x answer h
+uncharged_steps_keep_reserves old new (Quiesces answer h) x = quiesce_step old new x answer h
+uncharged_steps_keep_reserves old new (FlushesLog answer h) x = flush_step old new x answer h
+
+pub new_pools_have_reserves : NewPoolsHaveReserves
+new_pools_have_reserves u blocks contents created dirty_max s i =
+    let no_dirt : (g : ℕ) → dirty_of s g ≡ 0 = λ g. ap (λ o. unwrap_or o 0) (i.dirty g) in
+    let none : (g : ℕ) → reserved_of s g ≡ 0 = λ g. ap (λ o. unwrap_or o 0) (i.reserved g) in
+    let dirty : dirty_total s ≡ 0 = sum_by-none (dirty_of s) (unsynced_groups s.line) no_dirt in
+    let reserved : reserved_total s ≡ 0 = sum_by-none (reserved_of s) (unsynced_groups s.line) none in
+    record {
+      charges = record { limit = i.limit; dirty = λ g above. no_dirt g; reserved = λ g above. none g; within = omega (arith, dirty) };
+      blocks = record { taken = subst (λ (l : Line). IfSome l.syncing (λ g. length (taken_of s.sync) ≤ reserved_of s g)) (sym i.line) tt; room = omega (arith, reserved) };
+    }
