@@ -12,6 +12,7 @@ pub mod KeptFlushes
 pub mod KeptTables
 pub mod Reservations
 pub mod KeptCharges
+pub mod FreeCounts
 pub mod KeptReserves
 pub mod SyncEnds
 pub mod SeenStates

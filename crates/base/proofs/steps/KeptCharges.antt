@@ -122,9 +122,9 @@ AreSums weight synced admissions aborted amounts = (group : ℕ) → synced < gr
 
 module _ (weight : Admission → ℕ) (synced : ℕ) (admissions : List Admission) (aborted : List ℕ) (amounts : FinMap nat_cmp ℕ) (sums : AreSums weight synced admissions aborted amounts) where
   -- one more transaction adds to the amount of its group
-  pub begun-sums : (a : Admission) → is_in a.tx aborted ≡ false
+  pub begun_sums : (a : Admission) → is_in a.tx aborted ≡ false
       → AreSums weight synced (admissions ++ a ∷ []) aborted (finite.insert amounts a.group (amount amounts a.group + weight a))
-  begun-sums a kept group above = elim (cases_eq group a.group)
+  begun_sums a kept group above = elim (cases_eq group a.group)
       as (λ _. amount (finite.insert amounts a.group (amount amounts a.group + weight a)) group ≡ sum_by weight (transactions_of group (admissions ++ a ∷ []) aborted)) [
         | inl e ↦ (
             let now : amount (finite.insert amounts a.group (amount amounts a.group + weight a)) group ≡ amount amounts a.group + weight a =
@@ -140,9 +140,9 @@ module _ (weight : Admission → ℕ) (synced : ℕ) (admissions : List Admissio
       ]
 
   -- one that is given up takes from it
-  pub aborted-sums : (a : Admission) (tx : ℕ) → ((i : ℕ) (b : Admission) → slice_get admissions i ≡ Some b → b.tx ≡ i) → slice_get admissions tx ≡ Some a → is_in tx aborted ≡ false
+  pub aborted_sums : (a : Admission) (tx : ℕ) → ((i : ℕ) (b : Admission) → slice_get admissions i ≡ Some b → b.tx ≡ i) → slice_get admissions tx ≡ Some a → is_in tx aborted ≡ false
       → AreSums weight synced admissions (aborted ++ tx ∷ []) (finite.insert amounts a.group (amount amounts a.group - weight a))
-  aborted-sums a tx numbered at kept group above = elim (cases_eq group a.group)
+  aborted_sums a tx numbered at kept group above = elim (cases_eq group a.group)
       as (λ _. amount (finite.insert amounts a.group (amount amounts a.group - weight a)) group ≡ sum_by weight (transactions_of group admissions (aborted ++ tx ∷ []))) [
         | inl e ↦ (
             let now : amount (finite.insert amounts a.group (amount amounts a.group - weight a)) group ≡ amount amounts a.group - weight a =
@@ -158,8 +158,8 @@ module _ (weight : Admission → ℕ) (synced : ℕ) (admissions : List Admissio
       ]
 
   -- a group that is synced has no amount any more
-  pub synced-sums : (next : ℕ) → next ≡ synced + 1 → AreSums weight next admissions aborted (finite.remove amounts next)
-  synced-sums next is group above = amount-remove_other amounts next group (λ e. absurd (omega arith)) ∙ sums group (omega arith)
+  pub synced_sums : (next : ℕ) → next ≡ synced + 1 → AreSums weight next admissions aborted (finite.remove amounts next)
+  synced_sums next is group above = amount-remove_other amounts next group (λ e. absurd (omega arith)) ∙ sums group (omega arith)
 
 -- one group more in a row, and the first one less
 total-more : (f : ℕ → ℕ) (low count : ℕ) → sum_by f (range_with_len low (suc count)) ≡ sum_by f (range_with_len low count) + f (low + count)
@@ -199,8 +199,8 @@ sum-above weight admissions aborted group below =
     ∙ sum_by-none (λ (a : Admission). 0) admissions (λ a. refl)
 
 -- an amount is no less where some group has more
-pub amount-more : (amounts : FinMap nat_cmp ℕ) (group more other : ℕ) → amount amounts other ≤ amount (finite.insert amounts group (amount amounts group + more)) other
-amount-more amounts group more other = elim (cases_eq other group) as (λ _. amount amounts other ≤ amount (finite.insert amounts group (amount amounts group + more)) other) [
+pub amount_more : (amounts : FinMap nat_cmp ℕ) (group more other : ℕ) → amount amounts other ≤ amount (finite.insert amounts group (amount amounts group + more)) other
+amount_more amounts group more other = elim (cases_eq other group) as (λ _. amount amounts other ≤ amount (finite.insert amounts group (amount amounts group + more)) other) [
   | inl e ↦ (
       let now : amount (finite.insert amounts group (amount amounts group + more)) other ≡ amount amounts group + more =
       ap (λ g. amount (finite.insert amounts group (amount amounts group + more)) g) e ∙ amount-insert_same amounts group (amount amounts group + more) in

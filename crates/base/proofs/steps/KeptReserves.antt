@@ -1,13 +1,8 @@
 -- Each step keeps what is charged and reserved exact, and free blocks enough for it.
-use Rattle.std.proofs.Common.{◌≡◌, ℕ, ◌+◌, ◌-◌, ◌<◌, ◌≤◌, Bool, true, false, not, ◌&&◌, ◌||◌, List, [], ◌∷◌, length, map, refl, ap, sym, subst, ◌∙◌, inl, inr, arith}
-use Rattle.std.specs.Prelude.{Option, Some, None, Result, Ok, Err, IfSome, is_some, is_none, unwrap_or, slice_get, cond, nat_lt, nat_le, ◌==◌}
-use Rattle.std.specs.Ordering.{nat_cmp, eq_by_cmp}
-use Rattle.std.proofs.lemmas.Cmp.{nat_cmp_total}
+use Rattle.std.proofs.Common.{◌≡◌, ℕ, ◌+◌, ◌-◌, ◌<◌, ◌≤◌, false, not, List, [], ◌∷◌, ◌++◌, length, map, refl, ap, sym, subst, ◌∙◌, inl, inr, arith}
+use Rattle.std.specs.Prelude.{Option, Some, None, Result, Ok, Err, IfSome, is_some, is_none, unwrap_or, slice_get, filter, nat_lt, nat_le, ◌==◌}
 use Rattle.std.proofs.lemmas.Bool.{ltb-false, or_parts, ne_eqb, eqb-true}
 use Rattle.std.specs.FinMap as finite
-use Rattle.std.specs.FinMap.{nat_cmp-IsAntisymmetric}
-use Rattle.std.specs.FinSet as set
-use Rattle.std.specs.FinSet.{FinSet, same_set, contains-empty, contains-insert, contains-remove, contains-difference, contains-union, len-insert, len-remove}
 use Rattle.base.specs.declared.error.PoolError.{PoolError}
 use Rattle.base.specs.declared.operation.Op.{Op}
 use Rattle.base.specs.declared.operation.Shape.{Shape}
@@ -16,16 +11,17 @@ use Rattle.base.specs.declared.range.Mode.TheVariants.{Writer}
 use Rattle.base.specs.formats.Limits.{last_number, kept_back}
 use Rattle.base.specs.formats.Records.{Record}
 use Rattle.base.specs.history.Plans.{NumberRange, shape_of, estimate_of, charge_of}
+use Rattle.base.specs.history.Past.{Past}
 use Rattle.base.specs.tree.Places.{has_block}
 use Rattle.base.specs.tree.Syncs.{written_places}
 use Rattle.base.specs.steps.Locks.{Grant, is_in}
 use Rattle.base.specs.steps.Groups.{Line, Admission, MayHold, open_transactions}
 use Rattle.base.specs.steps.Charges.{transactions_of, estimate_sum}
-use Rattle.base.specs.steps.Shown.{SyncPlan, dirty_of, reserved_of, dirty_total, reserved_total, unsynced_groups, free_count, taken_of, available}
+use Rattle.base.specs.steps.Shown.{Shown, SyncPlan, dirty_of, reserved_of, dirty_total, reserved_total, unsynced_groups, free_count, taken_of, available}
 use Rattle.base.specs.steps.Refusals as refusal
 use Rattle.base.specs.steps.Steps as steps
 use Rattle.base.specs.steps.Steps.{State, SyncProgress, More, Synced, Answers}
-use Rattle.base.specs.steps.Exact.{AreGroupsExact, IsSyncExact}
+use Rattle.base.specs.steps.Exact.{AreGroupsExact, AreChargesExact, IsSyncExact}
 use Rattle.base.specs.steps.Space.{HasReserves, ChargedStepsKeepReserves, UnchargedStepsKeepReserves, NewPoolsHaveReserves}
 use Rattle.base.specs.steps.Space.IsChargedStep.{Begins, Aborts, Closes, Starts, Syncs, WritesLog}
 use Rattle.base.specs.steps.Space.IsUnchargedStep.{Locks, LocksAppend, Unlocks, Commits, Reads, Lengths, Digests, Quiesces, FlushesLog}
@@ -33,82 +29,35 @@ use Rattle.base.proofs.common.KeptLists.{any_none, found_at}
 use Rattle.base.proofs.history.CommitOrder.{no_refusal}
 use Rattle.base.proofs.tree.Sums.{sum_by-none}
 use Rattle.base.proofs.tree.Estimates.{syncs_fit}
+use Rattle.base.proofs.steps.FreeCounts.{removed_len, difference_len, union_len}
 use Rattle.base.proofs.steps.KeptGroups.{open_is, held_above, line_sync, none_there}
-use Rattle.base.proofs.steps.KeptCharges.{amount, amount-insert_other, amount-more, total-insert, total-close, total-synced, sum-above, begun-sums, aborted-sums, synced-sums}
-use Rattle.base.proofs.steps.Reservations.{groups_fit, none-taken, quiesced-next}
+use Rattle.base.proofs.steps.KeptCharges.{amount, amount-insert_other, amount_more, total-insert, total-close, total-synced, sum-above, begun_sums, aborted_sums, synced_sums}
+use Rattle.base.proofs.steps.Reservations.{groups_fit, none-taken, quiesced_next}
 
--- a set without numbers, and with more numbers
-difference-insert : (a b c : Bool) → (a && not (b || c)) ≡ (not b && (a && not c))
-difference-insert true true c = refl
-difference-insert true false c = refl
-difference-insert false true c = refl
-difference-insert false false c = refl
+-- what holds of an option's value holds more weakly
+if_weaker : {A : Type 0} (o : Option A) (P Q : A → Type 0) → ((a : A) → o ≡ Some a → P a → Q a) → IfSome o P → IfSome o Q
+if_weaker None P Q weaker h = tt
+if_weaker (Some a) P Q weaker h = weaker a refl h
 
-union-insert : (a b c : Bool) → (a || (b || c)) ≡ (b || (a || c))
-union-insert true true c = refl
-union-insert true false c = refl
-union-insert false b c = refl
+-- the charges and the reserves stay where nothing of them changes
+same_charges : (s t : Shown) (p q : Past) → AreChargesExact s p
+    → AreChargesExact (record t { dirty_max = s.dirty_max; line = record t.line { synced = s.line.synced; open_group = s.line.open_group }; dirty = s.dirty; reserved = s.reserved })
+    (record q { dirty_max = p.dirty_max; admissions = p.admissions; aborted = p.aborted })
+same_charges s t p q x = record { limit = x.limit; dirty = x.dirty; reserved = x.reserved; within = x.within }
 
-and-true : (b : Bool) → (b && not false) ≡ b
-and-true true = refl
-and-true false = refl
-
-or-false : (b : Bool) → (b || false) ≡ b
-or-false true = refl
-or-false false = refl
-
-less-one : (b : Bool) (n m : ℕ) → m ≡ cond b (n - 1) n → n ≤ m + 1
-less-one true n m e = omega arith
-less-one false n m e = omega arith
-
-more-one : (b : Bool) (n m : ℕ) → m ≡ cond b n (n + 1) → n ≤ m
-more-one true n m e = omega arith
-more-one false n m e = omega arith
-
-remove-len : (numbers : FinSet nat_cmp) (n : ℕ) → set.len numbers ≤ set.len (set.remove numbers n) + 1
-remove-len numbers n = less-one (set.contains numbers n) (set.len numbers) (set.len (set.remove numbers n)) (len-remove nat_cmp_total numbers n)
-
-difference-len : (numbers : FinSet nat_cmp) (taken : List ℕ) → set.len numbers ≤ set.len (set.difference numbers (set.from_list taken)) + length taken
-difference-len numbers [] =
-    let same : set.difference numbers (set.from_list []) ≡ numbers = same_set nat_cmp_total nat_cmp-IsAntisymmetric (set.difference numbers (set.from_list [])) numbers
-    (λ q. contains-difference nat_cmp_total numbers (set.from_list []) q ∙ ap (λ b. set.contains numbers q && not b) (contains-empty nat_cmp q) ∙ and-true (set.contains numbers q)) in
-    let long : set.len (set.difference numbers (set.from_list [])) ≡ set.len numbers = ap (λ (t : FinSet nat_cmp). set.len t) same in
-    omega arith
-difference-len numbers (n ∷ taken) =
-    let left : FinSet nat_cmp = set.difference numbers (set.from_list taken) in
-    let same : set.difference numbers (set.from_list (n ∷ taken)) ≡ set.remove left n = same_set nat_cmp_total nat_cmp-IsAntisymmetric (set.difference numbers (set.from_list (n ∷ taken))) (set.remove left n)
-    (λ q. contains-difference nat_cmp_total numbers (set.from_list (n ∷ taken)) q
-    ∙ ap (λ b. set.contains numbers q && not b) (contains-insert nat_cmp_total (set.from_list taken) n q)
-    ∙ difference-insert (set.contains numbers q) (eq_by_cmp nat_cmp q n) (set.contains (set.from_list {R = nat_cmp} taken) q)
-    ∙ ap (λ b. not (eq_by_cmp nat_cmp q n) && b) (sym (contains-difference nat_cmp_total numbers (set.from_list taken) q))
-    ∙ sym (contains-remove nat_cmp_total left n q)) in
-    let long : set.len (set.difference numbers (set.from_list (n ∷ taken))) ≡ set.len (set.remove left n) = ap (λ (t : FinSet nat_cmp). set.len t) same in
-    let one : set.len left ≤ set.len (set.remove left n) + 1 = remove-len left n in
-    let rest : set.len numbers ≤ set.len left + length taken = difference-len numbers taken in
-    omega arith
-
-union-len : (numbers : FinSet nat_cmp) (more : List ℕ) → set.len numbers ≤ set.len (set.union numbers (set.from_list more))
-union-len numbers [] =
-    let same : set.union numbers (set.from_list []) ≡ numbers = same_set nat_cmp_total nat_cmp-IsAntisymmetric (set.union numbers (set.from_list [])) numbers
-    (λ q. contains-union nat_cmp_total numbers (set.from_list []) q ∙ ap (λ b. set.contains numbers q || b) (contains-empty nat_cmp q) ∙ or-false (set.contains numbers q)) in
-    let long : set.len (set.union numbers (set.from_list [])) ≡ set.len numbers = ap (λ (t : FinSet nat_cmp). set.len t) same in
-    omega arith
-union-len numbers (n ∷ more) =
-    let all : FinSet nat_cmp = set.union numbers (set.from_list more) in
-    let same : set.union numbers (set.from_list (n ∷ more)) ≡ set.insert all n = same_set nat_cmp_total nat_cmp-IsAntisymmetric (set.union numbers (set.from_list (n ∷ more))) (set.insert all n)
-    (λ q. contains-union nat_cmp_total numbers (set.from_list (n ∷ more)) q
-    ∙ ap (λ b. set.contains numbers q || b) (contains-insert nat_cmp_total (set.from_list more) n q)
-    ∙ union-insert (set.contains numbers q) (eq_by_cmp nat_cmp q n) (set.contains (set.from_list {R = nat_cmp} more) q)
-    ∙ ap (λ b. eq_by_cmp nat_cmp q n || b) (sym (contains-union nat_cmp_total numbers (set.from_list more) q))
-    ∙ sym (contains-insert nat_cmp_total all n q)) in
-    let long : set.len (set.union numbers (set.from_list (n ∷ more))) ≡ set.len (set.insert all n) = ap (λ (t : FinSet nat_cmp). set.len t) same in
-    let one : set.len all ≤ set.len (set.insert all n) = more-one (set.contains all n) (set.len all) (set.len (set.insert all n)) (len-insert nat_cmp_total all n) in
-    let rest : set.len numbers ≤ set.len all = union-len numbers more in
-    omega arith
-
-if-weaker : {A : Type 0} (o : Option A) (P Q : A → Type 0) → ((a : A) → o ≡ Some a → P a → Q a) → IfSome o P → IfSome o Q
-if-weaker None P Q weaker h = tt
-if-weaker (Some a) P Q weaker h = weaker a refl h
+same_reserves : (s t : State) → HasReserves s
+    → HasReserves (record {
+      shown = record t.shown {
+        dirty_max = s.shown.dirty_max;
+        line = record t.shown.line { synced = s.shown.line.synced; syncing = s.shown.line.syncing; open_group = s.shown.line.open_group };
+        dirty = s.shown.dirty;
+        reserved = s.shown.reserved;
+        free = s.shown.free;
+        sync = s.shown.sync;
+      };
+      past = record t.past { dirty_max = s.past.dirty_max; admissions = s.past.admissions; aborted = s.past.aborted };
+    })
+same_reserves s t x = record { charges = record { limit = x.charges.limit; dirty = x.charges.dirty; reserved = x.charges.reserved; within = x.charges.within }; blocks = record { taken = x.blocks.taken; room = x.blocks.room } }
 
 module _ (s : State) (groups : AreGroupsExact s.shown s.past) (x : HasReserves s) where
   -- a begin
@@ -125,14 +74,14 @@ module _ (s : State) (groups : AreGroupsExact s.shown s.past) (x : HasReserves s
       record {
         charges = record {
           limit = x.charges.limit;
-          dirty = begun-sums (λ b. charge_of b.plan) s.shown.line.synced s.past.admissions s.past.aborted s.shown.dirty x.charges.dirty a kept;
-          reserved = begun-sums (λ b. estimate_of b.plan) s.shown.line.synced s.past.admissions s.past.aborted s.shown.reserved x.charges.reserved a kept;
+          dirty = begun_sums (λ b. charge_of b.plan) s.shown.line.synced s.past.admissions s.past.aborted s.shown.dirty x.charges.dirty a kept;
+          reserved = begun_sums (λ b. estimate_of b.plan) s.shown.line.synced s.past.admissions s.past.aborted s.shown.reserved x.charges.reserved a kept;
           within = omega (arith, dirty);
         };
         blocks = record {
-          taken = if-weaker s.shown.line.syncing (λ g. length (taken_of s.shown.sync) ≤ reserved_of s.shown g)
+          taken = if_weaker s.shown.line.syncing (λ g. length (taken_of s.shown.sync) ≤ reserved_of s.shown g)
               (λ g. length (taken_of s.shown.sync) ≤ amount (finite.insert s.shown.reserved a.group (reserved_of s.shown a.group + estimate_of a.plan)) g)
-              (λ g is h. let more = amount-more s.shown.reserved a.group (estimate_of a.plan) g in omega (arith, more, h)) x.blocks.taken;
+              (λ g is h. let more = amount_more s.shown.reserved a.group (estimate_of a.plan) g in omega (arith, more, h)) x.blocks.taken;
           room = omega (arith, reserved);
         };
       }
@@ -155,12 +104,12 @@ module _ (s : State) (groups : AreGroupsExact s.shown s.past) (x : HasReserves s
       record {
         charges = record {
           limit = x.charges.limit;
-          dirty = aborted-sums (λ b. charge_of b.plan) s.shown.line.synced s.past.admissions s.past.aborted s.shown.dirty x.charges.dirty a tx groups.members.numbered at kept;
-          reserved = aborted-sums (λ b. estimate_of b.plan) s.shown.line.synced s.past.admissions s.past.aborted s.shown.reserved x.charges.reserved a tx groups.members.numbered at kept;
+          dirty = aborted_sums (λ b. charge_of b.plan) s.shown.line.synced s.past.admissions s.past.aborted s.shown.dirty x.charges.dirty a tx groups.members.numbered at kept;
+          reserved = aborted_sums (λ b. estimate_of b.plan) s.shown.line.synced s.past.admissions s.past.aborted s.shown.reserved x.charges.reserved a tx groups.members.numbered at kept;
           within = omega (arith, dirty);
         };
         blocks = record {
-          taken = if-weaker s.shown.line.syncing (λ g. length (taken_of s.shown.sync) ≤ reserved_of s.shown g)
+          taken = if_weaker s.shown.line.syncing (λ g. length (taken_of s.shown.sync) ≤ reserved_of s.shown g)
               (λ g. length (taken_of s.shown.sync) ≤ amount (finite.insert s.shown.reserved a.group (reserved_of s.shown a.group - estimate_of a.plan)) g)
               (λ g is h.
               let later : (g < a.group) × (a.group ≤ s.shown.line.open_group) = held_above (record s.shown.line { synced = g; syncing = None }) a.group (line_sync s.shown.line g groups.line is) may in
@@ -191,7 +140,7 @@ module _ (s : State) (groups : AreGroupsExact s.shown s.past) (x : HasReserves s
   start_state : (now : List ℕ) (group : ℕ) (plan : SyncPlan) → IsSyncExact s.shown → refusal.quiesced_group s.shown.line ≡ Some group → s.shown.line.syncing ≡ None → steps.TakesForEach now s group plan
       → HasReserves (steps.state_after_start group plan s)
   start_state now group plan sync quiesced idle takes =
-      let above : (s.shown.line.synced < group) × (group ≤ s.shown.line.open_group) = quiesced-next s.shown.line group groups.line idle quiesced in
+      let above : (s.shown.line.synced < group) × (group ≤ s.shown.line.open_group) = quiesced_next s.shown.line group groups.line idle quiesced in
       let ops : List Op = steps.ops_of_group group s.past.entries in
       let written : length (written_places ops takes.synced (has_block now s.shown.root)) ≤ estimate_of (map shape_of ops) = syncs_fit ops takes.synced (has_block now s.shown.root) in
       let fits : estimate_of (map shape_of ops) ≤ estimate_sum (transactions_of group s.past.admissions s.past.aborted) = groups_fit s.shown.line s.past.admissions s.past.entries s.past.aborted group groups.members in
@@ -199,16 +148,16 @@ module _ (s : State) (groups : AreGroupsExact s.shown s.past) (x : HasReserves s
       let each : length plan.taken ≡ length (written_places ops takes.synced (has_block now s.shown.root)) = takes.each in
       let none : length (taken_of s.shown.sync) ≡ 0 = none-taken s.shown.sync (sync.running ∙ ap (λ o. is_some o) idle) in
       let room : reserved_total s.shown ≤ free_count s.shown + length (taken_of s.shown.sync) = x.blocks.room in
-      let left = difference-len s.shown.free plan.taken in
+      let left = difference_len s.shown.free plan.taken in
       record {
-        charges = record { limit = x.charges.limit; dirty = x.charges.dirty; reserved = x.charges.reserved; within = x.charges.within };
+        charges = same_charges s.shown (steps.state_after_start group plan s).shown s.past s.past x.charges;
         blocks = record { taken = omega (arith, written, each); room = omega (arith, left) };
       }
 
   -- a step of a sync before its last
   step_state : (plan : SyncPlan) → s.shown.sync ≡ Some plan → HasReserves (steps.state_after_step plan s)
   step_state plan running = record {
-    charges = record { limit = x.charges.limit; dirty = x.charges.dirty; reserved = x.charges.reserved; within = x.charges.within };
+    charges = same_charges s.shown (steps.state_after_step plan s).shown s.past s.past x.charges;
     blocks = record {
       taken = subst (λ o. IfSome s.shown.line.syncing (λ g. length (taken_of o) ≤ reserved_of s.shown g)) running x.blocks.taken;
       room = subst (λ o. reserved_total s.shown ≤ free_count s.shown + length (taken_of o)) running x.blocks.room;
@@ -227,12 +176,12 @@ module _ (s : State) (groups : AreGroupsExact s.shown s.past) (x : HasReserves s
       let taken : length plan.taken ≤ reserved_of s.shown group =
       subst (λ o. IfSome o (λ g. length plan.taken ≤ reserved_of s.shown g)) syncing (subst (λ o. IfSome s.shown.line.syncing (λ g. length (taken_of o) ≤ reserved_of s.shown g)) running x.blocks.taken) in
       let room : reserved_total s.shown ≤ free_count s.shown + length plan.taken = subst (λ o. reserved_total s.shown ≤ free_count s.shown + length (taken_of o)) running x.blocks.room in
-      let more = union-len s.shown.free (steps.returned_addresses plan s.shown.log) in
+      let more = union_len s.shown.free (steps.returned_addresses plan s.shown.log) in
       record {
         charges = record {
           limit = x.charges.limit;
-          dirty = synced-sums (λ b. charge_of b.plan) l.synced s.past.admissions s.past.aborted s.shown.dirty x.charges.dirty group next;
-          reserved = synced-sums (λ b. estimate_of b.plan) l.synced s.past.admissions s.past.aborted s.shown.reserved x.charges.reserved group next;
+          dirty = synced_sums (λ b. charge_of b.plan) l.synced s.past.admissions s.past.aborted s.shown.dirty x.charges.dirty group next;
+          reserved = synced_sums (λ b. estimate_of b.plan) l.synced s.past.admissions s.past.aborted s.shown.reserved x.charges.reserved group next;
           within = omega (arith, dirty);
         };
         blocks = record { taken = tt; room = omega (arith, reserved, more) };
@@ -242,18 +191,16 @@ module _ (s : State) (groups : AreGroupsExact s.shown s.past) (x : HasReserves s
   log_state : (taken rest : List Record) (address : ℕ) → 0 < available s.shown → HasReserves (steps.state_after_log_write taken rest address s)
   log_state taken rest address some =
       let room : reserved_total s.shown ≤ free_count s.shown + length (taken_of s.shown.sync) = x.blocks.room in
-      let left = remove-len s.shown.free address in
+      let left = removed_len s.shown.free address in
       record {
-        charges = record { limit = x.charges.limit; dirty = x.charges.dirty; reserved = x.charges.reserved; within = x.charges.within };
+        charges = same_charges s.shown (steps.state_after_log_write taken rest address s).shown s.past s.past x.charges;
         blocks = record { taken = x.blocks.taken; room = omega (arith, left) };
       }
 
 suspended_state : (s : State) → HasReserves s → HasReserves (steps.suspended_state s)
-suspended_state s x = record {
-  charges = record { limit = x.charges.limit; dirty = x.charges.dirty; reserved = x.charges.reserved; within = x.charges.within };
-  blocks = record { taken = x.blocks.taken; room = x.blocks.room };
-}
+suspended_state s x = same_reserves s (steps.suspended_state s) x
 
+-- a step refused by its tests leaves all; else it does what it does, or is refused for a reason of its own
 by_answer : {A : Type 0} (answer : Result A PoolError) (r : Option PoolError) (old new : State) (does : A → Type 0) (own : PoolError → Type 0)
     → ((a : A) → r ≡ None → does a → HasReserves new) → ((e : PoolError) → r ≡ None → own e → HasReserves new) → HasReserves old → Answers r answer old new does own → HasReserves new
 by_answer answer (Some f) old new does own done refused x h = subst HasReserves (sym h.1) x
@@ -265,7 +212,8 @@ progress_state : (progress : SyncProgress) (group : ℕ) (plan : SyncPlan) (old 
 progress_state More group plan old new groups x syncing running h = subst HasReserves (sym h.1) (step_state old groups x plan running)
 progress_state (Synced g) group plan old new groups x syncing running h = subst HasReserves (sym h.2) (end_state old groups x group plan syncing running)
 
-abbrev stays : (old new : State) → HasReserves old → new ≡ old → HasReserves new
+-- where a step leaves all
+stays : (old new : State) → HasReserves old → new ≡ old → HasReserves new
 stays old new x e = subst HasReserves (sym e) x
 
 module _ (old new : State) (groups : AreGroupsExact old.shown old.past) (sync : IsSyncExact old.shown) (x : HasReserves old) where
@@ -315,34 +263,24 @@ module _ (old new : State) (groups : AreGroupsExact old.shown old.past) (sync : 
           omega arith
 
 module _ (old new : State) (x : HasReserves old) where
-  -- what the other steps add
-  grant_state : (g : Grant) → HasReserves (steps.state_after_grant g old)
-  grant_state g = record {
-    charges = record { limit = x.charges.limit; dirty = x.charges.dirty; reserved = x.charges.reserved; within = x.charges.within };
-    blocks = record { taken = x.blocks.taken; room = x.blocks.room };
-  }
-
   lock_step : (owner : ℕ) (range : NumberRange) (mode : Mode) (answer : Result ℕ PoolError) → steps.Lock owner range mode answer old new → HasReserves new
   lock_step owner range mode answer h = by_answer answer (refusal.lock_refusal owner range mode old.shown) old new _ _
-      (λ id none d. subst HasReserves (sym d.1) (grant_state (steps.next_grant owner range mode old.shown))) (λ e none own. stays old new x own.1) x h
+      (λ id none d. subst HasReserves (sym d.1) (same_reserves old (steps.state_after_grant (steps.next_grant owner range mode old.shown) old) x)) (λ e none own. stays old new x own.1) x h
 
   append_step : (owner n : ℕ) (answer : Result (ℕ × ℕ × ℕ) PoolError) → steps.LockAppend owner n answer old new → HasReserves new
   append_step owner n answer h = by_answer answer (refusal.append_refusal owner n old.shown) old new _ _
-      (λ a none d. subst HasReserves (sym d.1) (grant_state (steps.next_grant owner (refusal.append_range n old.shown) Writer old.shown))) (λ e none own. stays old new x own.1) x h
+      (λ a none d. subst HasReserves (sym d.1) (same_reserves old (steps.state_after_grant (steps.next_grant owner (refusal.append_range n old.shown) Writer old.shown) old) x)) (λ e none own. stays old new x own.1) x h
 
   unlock_step : (owner id : ℕ) (answer : Result (Unit {0}) PoolError) → steps.Unlock owner id answer old new → HasReserves new
   unlock_step owner id answer h = by_answer answer (refusal.unlock_refusal owner id old.shown) old new _ _
-      (λ u none d. subst HasReserves (sym d) (record {
-        charges = record { limit = x.charges.limit; dirty = x.charges.dirty; reserved = x.charges.reserved; within = x.charges.within };
-        blocks = record { taken = x.blocks.taken; room = x.blocks.room };
-      })) (λ e none own. absurd own) x h
+      (λ u none d. subst HasReserves (sym d) (same_reserves old (record {
+        shown = record old.shown { locks = filter (λ (g : Grant). not (g.id == id)) old.shown.locks };
+        past = record old.past { let_go = old.past.let_go ++ id ∷ [] };
+      }) x)) (λ e none own. absurd own) x h
 
   commit_step : (tx : ℕ) (ops : List Op) (answer : Result (ℕ × ℕ) PoolError) → steps.WholeCommit tx ops answer old new → HasReserves new
   commit_step tx ops answer h = by_answer answer (refusal.whole_commit_refusal tx ops old.shown) old new _ _
-      (λ receipt none d. subst HasReserves (sym d.6) (record {
-        charges = record { limit = x.charges.limit; dirty = x.charges.dirty; reserved = x.charges.reserved; within = x.charges.within };
-        blocks = record { taken = x.blocks.taken; room = x.blocks.room };
-      })) (λ e none own. stays old new x own.1) x h
+      (λ receipt none d. subst HasReserves (sym d.6) (same_reserves old (steps.state_after_commit tx d.0.group ops d.1 old) x)) (λ e none own. stays old new x own.1) x h
 
   read_step : (owner : ℕ) (range : NumberRange) (answer : Result (List ℕ) PoolError) → steps.WholeRead ⊥ owner range answer old new → HasReserves new
   read_step owner range answer h = by_answer answer (refusal.read_refusal owner range old.shown) old new _ _ (λ bytes none d. stays old new x d.1) (λ e none own. stays old new x own.1) x h
@@ -355,17 +293,11 @@ module _ (old new : State) (x : HasReserves old) where
 
   quiesce_step : (answer : Result ℕ PoolError) → steps.MarkQuiesced answer old new → HasReserves new
   quiesce_step answer h = by_answer answer (refusal.quiesce_refusal old.shown) old new _ _
-      (λ group none d. subst HasReserves (sym d.1) (record {
-        charges = record { limit = x.charges.limit; dirty = x.charges.dirty; reserved = x.charges.reserved; within = x.charges.within };
-        blocks = record { taken = x.blocks.taken; room = x.blocks.room };
-      })) (λ e none own. absurd own) x h
+      (λ group none d. subst HasReserves (sym d.1) (same_reserves old (steps.with_line (steps.line_after_quiesce group old.shown.line) old) x)) (λ e none own. absurd own) x h
 
   flush_step : (answer : Result (Unit {0}) PoolError) → steps.LogFlush answer old new → HasReserves new
   flush_step answer h = by_answer answer (refusal.log_flush_refusal old.shown) old new _ _
-      (λ u none d. subst HasReserves (sym d) (record {
-        charges = record { limit = x.charges.limit; dirty = x.charges.dirty; reserved = x.charges.reserved; within = x.charges.within };
-        blocks = record { taken = x.blocks.taken; room = x.blocks.room };
-      })) (λ e none own. subst HasReserves (sym own.1) (suspended_state old x)) x h
+      (λ u none d. subst HasReserves (sym d) (same_reserves old (steps.state_after_log_flush old) x)) (λ e none own. subst HasReserves (sym own.1) (suspended_state old x)) x h
 
 pub charged_steps_keep_reserves : ChargedStepsKeepReserves
 charged_steps_keep_reserves old new (Begins owner plan answer h) groups sync x = begin_step old new groups sync x owner plan answer h

@@ -89,8 +89,8 @@ reserved_within s group above below =
     subst (λ g. reserved_of s g ≤ reserved_total s) there (get_or-le-sum_by (reserved_of s) (unsynced_groups s.line) (group - (s.line.synced + 1)) 0 inside)
 
 -- the quiesced group is the one behind the synced group while no sync runs
-pub quiesced-next : (l : Line) (group : ℕ) → IsLine l → l.syncing ≡ None → quiesced_group l ≡ Some group → (l.synced < group) × (group ≤ l.open_group)
-quiesced-next l group x idle quiesced =
+pub quiesced_next : (l : Line) (group : ℕ) → IsLine l → l.syncing ≡ None → quiesced_group l ≡ Some group → (l.synced < group) × (group ≤ l.open_group)
+quiesced_next l group x idle quiesced =
     let middle : l.middle ≡ Some (record { group = group; quiesced = true }) = quiesced_is l group quiesced in
     let next : group ≡ before_middle l + 1 = subst (λ o. IfSome o (λ (m : Middle). m.group ≡ before_middle l + 1)) middle x.middle in
     let behind : l.open_group ≡ group + 1 = subst (λ o. l.open_group ≡ before_open o l + 1) middle x.open_group in
@@ -99,7 +99,7 @@ quiesced-next l group x idle quiesced =
 
 pub syncs_have_room : SyncsHaveRoom
 syncs_have_room s past group synced had_block x room idle quiesced =
-    let at : (s.line.synced < group) × (group ≤ s.line.open_group) = quiesced-next s.line group x.groups.line idle quiesced in
+    let at : (s.line.synced < group) × (group ≤ s.line.open_group) = quiesced_next s.line group x.groups.line idle quiesced in
     let written : length (written_places (ops_of_group group past.entries) synced had_block) ≤ estimate_of (map shape_of (ops_of_group group past.entries)) = syncs_fit (ops_of_group group past.entries) synced had_block in
     let fits : estimate_of (map shape_of (ops_of_group group past.entries)) ≤ estimate_sum (transactions_of group past.admissions past.aborted) = group_fits s.line past.admissions past.entries past.aborted group x.groups.members in
     let reserved : reserved_of s group ≡ estimate_sum (transactions_of group past.admissions past.aborted) = x.charges.reserved group at.0 in
