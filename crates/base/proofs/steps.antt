@@ -12,6 +12,10 @@ pub mod KeptLog
 pub mod KeptWrites
 pub mod KeptFlushes
 pub mod KeptTables
+pub mod Reservations
+pub mod KeptCharges
+pub mod FreeCounts
+pub mod KeptReserves
 pub mod SyncEnds
 pub mod SeenStates
 pub mod SeenGroups

@@ -6,3 +6,5 @@ pub mod FreedBlocks
 pub mod WrittenRecords
 pub mod BuiltPlaces
 pub mod OneTree
+pub mod Sums
+pub mod Estimates

@@ -16,3 +16,4 @@ pub mod Seen
 pub mod SeenLaws
 pub mod ExactNow
 pub mod SyncEnds
+pub mod Space

@@ -15,6 +15,7 @@ mod pool_name;
 mod range;
 mod refused;
 mod seen_laws;
+pub mod space_laws;
 mod status;
 mod step;
 mod step_laws;

@@ -1,0 +1,295 @@
+-- A sync writes at most as many blocks as its operations are estimated at: each block is one that some operation may change.
+use Rattle.std.proofs.Common.{◌≡◌, ℕ, ◌≢◌, ◌+◌, ◌*◌, ◌/◌, ◌<◌, ◌≤◌, Bool, true, false, not, ◌&&◌, List, [], ◌∷◌, ◌++◌, length, map, filter, refl, sym, ◌∙◌, arith, length-append}
+use Rattle.std.specs.Prelude.{◌==◌, nat_lt, nat_le, sum_by, if◌then◌else◌}
+use Rattle.std.specs.Option.{option_map_or}
+use Rattle.std.specs.FinMap as finite
+use Rattle.std.specs.List.{list_any, flat_map, range_with_len, count_by}
+use Rattle.std.proofs.lemmas.Bool.{and_parts, not-true, eqb-true, ne_eqb, ltb-true, leb-false, true≢false}
+use Rattle.std.proofs.lemmas.List.{length-map}
+use Rattle.std.proofs.lemmas.List.Sums.{length-filter, sum_by-le-sum_by, sum_by-cons}
+use Rattle.std.proofs.lemmas.List.Folds.{fold-map}
+use Rattle.std.proofs.lemmas.List.Concat.{length-flat_map}
+use Rattle.base.specs.declared.operation.Op.{Op}
+use Rattle.base.specs.declared.operation.Op.TheVariants.{Create, Remove, Write, SetLength, SetName}
+use Rattle.base.specs.formats.Limits.{object_count, record_size, pointer_count, entry_count}
+use Rattle.base.specs.history.Contents.{Contents, length_of}
+use Rattle.base.specs.history.Plans.{shape_of, records_touched, estimate_of_shape, estimate_of}
+use Rattle.base.specs.tree.Places.{Place}
+use Rattle.base.specs.tree.Places.Place.{Root, Directory, Indirect, Data}
+use Rattle.base.specs.tree.Syncs.{RecordState, Unchanged, Dirty, Hole, is_record_touched, state_after_cut, state_after_op, contents_after, contents_after_all, record_state, is_on, is_change_of, is_rename, is_dirty, record_numbers, object_numbers}
+use Rattle.base.specs.tree.Syncs as syncs
+use Rattle.base.specs.steps.Space.{SyncsFit}
+use Rattle.base.proofs.common.KeptLists.{any_at, any_found}
+use Rattle.base.proofs.tree.Sums.{as_one, sum_by-plus, sum_by-none, sum_by-sum_by, any_within_count, one_within, count_within}
+
+-- whether a cut to a new length goes through a record
+abbrev is_record_cut : ℕ → ℕ → Bool
+is_record_cut r new = not (nat_le new (record_size * r)) && nat_lt new (record_size * (r + 1))
+
+-- whether an operation may make record r of object n dirty
+abbrev may_dirty : ℕ → ℕ → Op → Bool
+may_dirty n r (Create m) = false
+may_dirty n r (Remove m) = false
+may_dirty n r (Write m offset bytes) = (m.0 == n) && is_record_touched r offset (length bytes)
+may_dirty n r (SetLength m new) = (m.0 == n) && is_record_cut r new
+may_dirty n r (SetName bytes) = false
+
+hole_dirty : (b : Bool) (state : RecordState) → as_one (is_dirty (if b then Hole else state)) ≤ as_one (is_dirty state) + 0
+hole_dirty true state = omega arith
+hole_dirty false state = omega arith
+
+write_dirty : (b : Bool) (state : RecordState) → as_one (is_dirty (if b then Dirty else state)) ≤ as_one (is_dirty state) + as_one b
+write_dirty true state = omega arith
+write_dirty false state = omega arith
+
+cut_dirty : (same shorter past low : Bool) (state : RecordState)
+    → as_one (is_dirty (if same && shorter then (if past then Hole else (if low then Dirty else state)) else state)) ≤ as_one (is_dirty state) + as_one (same && (not past && low))
+cut_dirty true true true low state = omega arith
+cut_dirty true true false true state = omega arith
+cut_dirty true true false false state = omega arith
+cut_dirty true false past low state = omega arith
+cut_dirty false shorter past low state = omega arith
+
+-- a record is dirty after an operation where it was before, or where the operation may make it so
+one_dirty : (n r : ℕ) (op : Op) (c : Contents) (state : RecordState) → as_one (is_dirty (state_after_op n r op c state)) ≤ as_one (is_dirty state) + as_one (may_dirty n r op)
+one_dirty n r (Create m) c state = hole_dirty (m.0 == n) state
+one_dirty n r (Remove m) c state = hole_dirty (m.0 == n) state
+one_dirty n r (Write m offset bytes) c state = write_dirty ((m.0 == n) && is_record_touched r offset (length bytes)) state
+one_dirty n r (SetLength m new) c state =
+    cut_dirty (m.0 == n) (option_map_or (λ old. nat_lt new old) (length_of c n) false) (nat_le new (record_size * r)) (nat_lt new (record_size * (r + 1))) state
+one_dirty n r (SetName bytes) c state = omega arith
+
+all_dirty : (n r : ℕ) (ops : List Op) (c : Contents) (state : RecordState) → as_one (is_dirty (record_state n r ops c state)) ≤ as_one (is_dirty state) + count_by (may_dirty n r) ops
+all_dirty n r [] c state = omega arith
+all_dirty n r (op ∷ ops) c state =
+    let first : as_one (is_dirty (state_after_op n r op c state)) ≤ as_one (is_dirty state) + as_one (may_dirty n r op) = one_dirty n r op c state in
+    let rest : as_one (is_dirty (record_state n r ops (contents_after op c) (state_after_op n r op c state))) ≤ as_one (is_dirty (state_after_op n r op c state)) + count_by (may_dirty n r) ops =
+    all_dirty n r ops (contents_after op c) (state_after_op n r op c state) in
+    omega (arith, sum_by-cons (λ o. as_one (may_dirty n r o)) op ops)
+
+-- both tests count no more than the first
+both_within : (a b : Bool) → as_one (a && b) ≤ as_one a
+both_within true true = omega arith
+both_within true false = omega arith
+both_within false b = omega arith
+
+count_implied : (a b : Bool) → (a ≡ true → b ≡ true) → as_one a ≤ as_one b
+count_implied true b follows = let is : b ≡ true = follows refl in rw is (omega arith)
+count_implied false b follows = omega arith
+
+-- an operation on an object is no rename
+on_object : (n : ℕ) (op : Op) → is_on n op ≡ true → not (is_rename op) ≡ true
+on_object n (Create m) is = refl
+on_object n (Remove m) is = refl
+on_object n (Write m offset bytes) is = refl
+on_object n (SetLength m new) is = refl
+on_object n (SetName bytes) is = is
+
+length-one : {A : Type 0} (b : Bool) (x : A) → length (if b then x ∷ [] else []) ≡ as_one b
+length-one true x = refl
+length-one false x = refl
+
+-- the blocks of three parts, each of which has a bound by operations
+module _ {X O : Type 0} (places : ℕ → List X) (directory : ℕ → X) (is_written : ℕ → Bool) (last : List X) where
+  three_parts : (objects directories : List ℕ) (first second third : O → ℕ) (ops : List O)
+      → sum_by (λ n. length (places n)) objects ≤ sum_by first ops → count_by is_written directories ≤ sum_by second ops → length last ≤ sum_by third ops
+      → length (flat_map places objects ++ map directory (filter is_written directories) ++ last) ≤ sum_by (λ op. first op + second op + third op) ops
+  three_parts objects directories first second third ops h k l =
+      let whole : length (flat_map places objects ++ map directory (filter is_written directories) ++ last) ≡ length (flat_map places objects ++ map directory (filter is_written directories)) + length last =
+      length-append (flat_map places objects ++ map directory (filter is_written directories)) last in
+      let before : length (flat_map places objects ++ map directory (filter is_written directories)) ≡ length (flat_map places objects) + length (map directory (filter is_written directories)) =
+      length-append (flat_map places objects) (map directory (filter is_written directories)) in
+      let one : length (flat_map places objects) ≡ sum_by (λ n. length (places n)) objects = length-flat_map places objects in
+      let two : length (map directory (filter is_written directories)) ≡ count_by is_written directories = length-map (filter is_written directories) directory ∙ length-filter is_written directories in
+      let outer : sum_by (λ op. first op + second op + third op) ops ≡ sum_by (λ op. first op + second op) ops + sum_by third ops = sum_by-plus (λ op. first op + second op) third ops in
+      let inner : sum_by (λ op. first op + second op) ops ≡ sum_by first ops + sum_by second ops = sum_by-plus first second ops in
+      omega arith
+
+-- how many blocks of an object an operation may change: records that it may make dirty, and the indirect block
+abbrev object_part : List ℕ → Op → ℕ → ℕ
+object_part records op n = count_by (λ r. may_dirty n r op) records + as_one (is_change_of n op)
+
+-- in how many of a list's directories an operation's object is
+abbrev directory_part : (ℕ → List ℕ) → List ℕ → Op → ℕ
+directory_part below directories op = sum_by (λ d. count_by (λ n. is_on n op) (below d)) directories
+
+-- an operation on any object may change the root
+abbrev root_part : Op → ℕ
+root_part op = as_one (not (is_rename op))
+
+-- what operations may change, against what a sync writes
+module _ (ops : List Op) (synced : Contents) (had : Place → Bool) where
+  dirty_within : (n : ℕ) (records : List ℕ) → count_by (syncs.is_record_dirty ops synced had n) records ≤ sum_by (λ op. count_by (λ r. may_dirty n r op) records) ops
+  dirty_within n records =
+      let each : count_by (syncs.is_record_dirty ops synced had n) records ≤ sum_by (λ r. count_by (may_dirty n r) ops) records =
+      sum_by-le-sum_by (λ r. as_one (syncs.is_record_dirty ops synced had n r)) (λ r. count_by (may_dirty n r) ops) records
+      (λ r. let whole : as_one (syncs.is_record_dirty ops synced had n r) ≤ 0 + count_by (may_dirty n r) ops = all_dirty n r ops synced Unchanged in omega arith) in
+      let turned : sum_by (λ r. count_by (may_dirty n r) ops) records ≡ sum_by (λ op. count_by (λ r. may_dirty n r op) records) ops =
+      sum_by-sum_by (λ r op. as_one (may_dirty n r op)) records ops in
+      omega arith
+
+  object_within : (n : ℕ) (records : List ℕ)
+      → length (map (λ r. Data n r) (filter (syncs.is_record_dirty ops synced had n) records) ++ (if syncs.is_indirect_written ops synced had n then Indirect n ∷ [] else [])) ≤ sum_by (λ op. object_part records op n) ops
+  object_within n records =
+      let both : length (map (λ r. Data n r) (filter (syncs.is_record_dirty ops synced had n) records) ++ (if syncs.is_indirect_written ops synced had n then Indirect n ∷ [] else []))
+      ≡ length (map (λ r. Data n r) (filter (syncs.is_record_dirty ops synced had n) records)) + length (if syncs.is_indirect_written ops synced had n then Indirect n ∷ [] else []) =
+      length-append (map (λ r. Data n r) (filter (syncs.is_record_dirty ops synced had n) records)) (if syncs.is_indirect_written ops synced had n then Indirect n ∷ [] else []) in
+      let of_records : length (map (λ r. Data n r) (filter (syncs.is_record_dirty ops synced had n) records)) ≡ count_by (syncs.is_record_dirty ops synced had n) records =
+      length-map (filter (syncs.is_record_dirty ops synced had n) records) (λ r. Data n r) ∙ length-filter (syncs.is_record_dirty ops synced had n) records in
+      let dirty : count_by (syncs.is_record_dirty ops synced had n) records ≤ sum_by (λ op. count_by (λ r. may_dirty n r op) records) ops = dirty_within n records in
+      let indirect : length (if syncs.is_indirect_written ops synced had n then Indirect n ∷ [] else []) ≡ as_one (syncs.is_indirect_written ops synced had n) = length-one (syncs.is_indirect_written ops synced had n) (Indirect n) in
+      let changed : as_one (syncs.is_indirect_written ops synced had n) ≤ as_one (list_any (is_change_of n) ops) = both_within (list_any (is_change_of n) ops) (list_any (syncs.has_record_after ops synced had n) record_numbers) in
+      let counted : as_one (list_any (is_change_of n) ops) ≤ count_by (is_change_of n) ops = any_within_count (is_change_of n) ops in
+      let sum : sum_by (λ op. object_part records op n) ops ≡ sum_by (λ op. count_by (λ r. may_dirty n r op) records) ops + count_by (is_change_of n) ops =
+      sum_by-plus (λ op. count_by (λ r. may_dirty n r op) records) (λ op. as_one (is_change_of n op)) ops in
+      omega arith
+
+  objects_within : (objects : List ℕ) → sum_by (λ n. length (syncs.places_of_object ops synced had n)) objects ≤ sum_by (λ op. sum_by (object_part record_numbers op) objects) ops
+  objects_within objects =
+      let each : sum_by (λ n. length (syncs.places_of_object ops synced had n)) objects ≤ sum_by (λ n. sum_by (λ op. object_part record_numbers op n) ops) objects =
+      sum_by-le-sum_by (λ n. length (syncs.places_of_object ops synced had n)) (λ n. sum_by (λ op. object_part record_numbers op n) ops) objects (λ n. object_within n record_numbers) in
+      let turned : sum_by (λ n. sum_by (λ op. object_part record_numbers op n) ops) objects ≡ sum_by (λ op. sum_by (object_part record_numbers op) objects) ops =
+      sum_by-sum_by (λ n op. object_part record_numbers op n) objects ops in
+      omega arith
+
+  directories_within : (directories : List ℕ) → count_by (syncs.is_directory_written ops synced had) directories ≤ sum_by (directory_part object_numbers directories) ops
+  directories_within directories =
+      let each : count_by (syncs.is_directory_written ops synced had) directories ≤ sum_by (λ d. sum_by (λ op. count_by (λ n. is_on n op) (object_numbers d)) ops) directories =
+      sum_by-le-sum_by (λ d. as_one (syncs.is_directory_written ops synced had d)) (λ d. sum_by (λ op. count_by (λ n. is_on n op) (object_numbers d)) ops) directories (λ d. one d (object_numbers d)) in
+      let turned : sum_by (λ d. sum_by (λ op. count_by (λ n. is_on n op) (object_numbers d)) ops) directories ≡ sum_by (directory_part object_numbers directories) ops =
+      sum_by-sum_by (λ d op. count_by (λ n. is_on n op) (object_numbers d)) directories ops in
+      omega arith
+    where
+      one : (d : ℕ) (numbers : List ℕ) → as_one (list_any (λ n. list_any (is_on n) ops) numbers && list_any (λ n. finite.contains_key (contents_after_all ops synced).objects n) (object_numbers d)) ≤ sum_by (λ op. count_by (λ n. is_on n op) numbers) ops
+      one d numbers =
+          let touched : as_one (list_any (λ n. list_any (is_on n) ops) numbers && list_any (λ n. finite.contains_key (contents_after_all ops synced).objects n) (object_numbers d)) ≤ as_one (list_any (λ n. list_any (is_on n) ops) numbers) =
+          both_within (list_any (λ n. list_any (is_on n) ops) numbers) (list_any (λ n. finite.contains_key (contents_after_all ops synced).objects n) (object_numbers d)) in
+          let some : as_one (list_any (λ n. list_any (is_on n) ops) numbers) ≤ count_by (λ n. list_any (is_on n) ops) numbers = any_within_count (λ n. list_any (is_on n) ops) numbers in
+          let counted : count_by (λ n. list_any (is_on n) ops) numbers ≤ sum_by (λ n. count_by (is_on n) ops) numbers =
+          sum_by-le-sum_by (λ n. as_one (list_any (is_on n) ops)) (λ n. count_by (is_on n) ops) numbers (λ n. any_within_count (is_on n) ops) in
+          let turned : sum_by (λ n. count_by (is_on n) ops) numbers ≡ sum_by (λ op. count_by (λ n. is_on n op) numbers) ops = sum_by-sum_by (λ n op. as_one (is_on n op)) numbers ops in
+          omega arith
+
+  root_within : (directories : List ℕ) (b : Bool) → as_one (list_any (syncs.is_directory_touched ops synced had) directories && b) ≤ sum_by root_part ops
+  root_within directories b =
+      let touched : as_one (list_any (syncs.is_directory_touched ops synced had) directories && b) ≤ as_one (list_any (syncs.is_directory_touched ops synced had) directories) =
+      both_within (list_any (syncs.is_directory_touched ops synced had) directories) b in
+      let some : as_one (list_any (syncs.is_directory_touched ops synced had) directories) ≤ as_one (list_any (λ op. not (is_rename op)) ops) =
+      count_implied (list_any (syncs.is_directory_touched ops synced had) directories) (list_any (λ op. not (is_rename op)) ops) one in
+      let counted : as_one (list_any (λ op. not (is_rename op)) ops) ≤ sum_by root_part ops = any_within_count (λ op. not (is_rename op)) ops in
+      omega arith
+    where
+      one : list_any (syncs.is_directory_touched ops synced had) directories ≡ true → list_any (λ op. not (is_rename op)) ops ≡ true
+      one is =
+          let d = any_found (syncs.is_directory_touched ops synced had) directories is in
+          let n = any_found (λ n. list_any (is_on n) ops) (object_numbers d.1) d.3 in
+          let op = any_found (is_on n.1) ops n.3 in
+          any_at (λ o. not (is_rename o)) ops op.0 op.1 op.2 (on_object n.1 op.1 op.3)
+
+  last_within : length (if syncs.is_root_written ops synced had then Root ∷ [] else []) ≤ sum_by root_part ops
+  last_within =
+      let one : length (if syncs.is_root_written ops synced had then Root ∷ [] else []) ≡ as_one (syncs.is_root_written ops synced had) = length-one (syncs.is_root_written ops synced had) Root in
+      let counted : as_one (syncs.is_root_written ops synced had) ≤ sum_by root_part ops =
+      root_within (range_with_len 0 pointer_count) (list_any (λ n. finite.contains_key (contents_after_all ops synced).objects n) (range_with_len 0 object_count)) in
+      omega arith
+
+-- a write touches no more records than are counted for it, and a cut goes through one at most
+write_records : (offset count a many : ℕ) → count_by (λ r. is_record_touched r offset count) (range_with_len a many) ≤ records_touched offset count
+write_records offset count a many = count_within (λ r. is_record_touched r offset count) (offset / record_size) (records_touched offset count) a many within
+  where
+    within : (r : ℕ) → a ≤ r → r < a + many → is_record_touched r offset count ≡ true → (offset / record_size ≤ r) × (r < offset / record_size + records_touched offset count)
+    within r from to touched =
+        let parts : (nat_lt offset (record_size * (r + 1)) ≡ true) × (nat_lt (record_size * r) (offset + count) ≡ true) = and_parts (nat_lt offset (record_size * (r + 1))) (nat_lt (record_size * r) (offset + count)) touched in
+        let before : offset < record_size * (r + 1) = ltb-true offset (record_size * (r + 1)) parts.0 in
+        let behind : record_size * r < offset + count = ltb-true (record_size * r) (offset + count) parts.1 in
+        (omega arith, omega arith)
+
+cut_records : (new a many : ℕ) → count_by (λ r. is_record_cut r new) (range_with_len a many) ≤ 1
+cut_records new a many = count_within (λ r. is_record_cut r new) (new / record_size) 1 a many within
+  where
+    within : (r : ℕ) → a ≤ r → r < a + many → is_record_cut r new ≡ true → (new / record_size ≤ r) × (r < new / record_size + 1)
+    within r from to cut =
+        let parts : (not (nat_le new (record_size * r)) ≡ true) × (nat_lt new (record_size * (r + 1)) ≡ true) = and_parts (not (nat_le new (record_size * r))) (nat_lt new (record_size * (r + 1))) cut in
+        let behind : record_size * r < new = leb-false new (record_size * r) (not-true (nat_le new (record_size * r)) parts.0) in
+        let before : new < record_size * (r + 1) = ltb-true new (record_size * (r + 1)) parts.1 in
+        (omega arith, omega arith)
+
+-- what is counted under a test that fails, and under any test
+under-false : (b : Bool) (t : ℕ → Bool) (records : List ℕ) → b ≡ false → count_by (λ r. b && t r) records + as_one b ≡ 0
+under-false true t records is = absurd (true≢false is)
+under-false false t records is = let none : count_by (λ (r : ℕ). false) records ≡ 0 = sum_by-none (λ (r : ℕ). 0) records (λ r. refl) in omega arith
+
+under-any : (b : Bool) (t : ℕ → Bool) (records : List ℕ) (w : ℕ) → count_by t records ≤ w → count_by (λ r. b && t r) records + as_one b ≤ w + 1
+under-any true t records w h = omega arith
+under-any false t records w h = let none : count_by (λ (r : ℕ). false) records ≡ 0 = sum_by-none (λ (r : ℕ). 0) records (λ r. refl) in omega arith
+
+-- of all objects an operation on one changes only that one's records and indirect block
+one_object : (m : ℕ) (t : ℕ → Bool) (records : List ℕ) (w a many : ℕ) → count_by t records ≤ w
+    → sum_by (λ n. count_by (λ r. (m == n) && t r) records + as_one (m == n)) (range_with_len a many) ≤ w + 1
+one_object m t records w a many h = one_within (λ n. count_by (λ r. (m == n) && t r) records + as_one (m == n)) m (w + 1) a many
+    (λ n from to other. under-false (m == n) t records (ne_eqb m n (λ e. other (sym e)))) (λ from. under-any (m == m) t records w h)
+
+no-object : (records objects : List ℕ) → sum_by (λ (n : ℕ). count_by (λ (r : ℕ). false) records + as_one false) objects ≡ 0
+no-object records objects = sum_by-none (λ (n : ℕ). count_by (λ (r : ℕ). false) records + as_one false) objects
+    (λ n. let none : count_by (λ (r : ℕ). false) records ≡ 0 = sum_by-none (λ (r : ℕ). 0) records (λ r. refl) in omega arith)
+
+-- what one operation may change, over records, objects and directories that are numbers in a row
+module _ (start : ℕ → ℕ) (size : ℕ) (own : (m d : ℕ) → start d ≤ m → m < start d + size → d ≡ m / entry_count) where
+  -- an object is in one directory
+  one_directory : (m a many : ℕ) → sum_by (λ d. count_by (λ n. m == n) (range_with_len (start d) size)) (range_with_len a many) ≤ 1
+  one_directory m a many = one_within (λ d. count_by (λ n. m == n) (range_with_len (start d) size)) (m / entry_count) 1 a many none
+      (λ from. count_within (λ n. m == n) m 1 (start (m / entry_count)) size (λ n low high is. let same : m ≡ n = eqb-true m n is in (omega arith, omega arith)))
+    where
+      none : (d : ℕ) → a ≤ d → d < a + many → d ≢ m / entry_count → count_by (λ n. m == n) (range_with_len (start d) size) ≡ 0
+      none d from to other =
+          let most : count_by (λ n. m == n) (range_with_len (start d) size) ≤ 0 = count_within (λ n. m == n) 0 0 (start d) size
+          (λ n low high is. let same : m ≡ n = eqb-true m n is in absurd (other (own m d (omega arith) (omega arith)))) in
+          omega arith
+
+  no-directory : (directories : List ℕ) → sum_by (λ d. count_by (λ (n : ℕ). false) (range_with_len (start d) size)) directories ≡ 0
+  no-directory directories = sum_by-none (λ d. count_by (λ (n : ℕ). false) (range_with_len (start d) size)) directories (λ d. sum_by-none (λ (n : ℕ). 0) (range_with_len (start d) size) (λ n. refl))
+
+  module _ (a records b objects c directories : ℕ) where
+    abbrev part_of : Op → ℕ
+    part_of op = sum_by (object_part (range_with_len a records) op) (range_with_len b objects) + directory_part (λ d. range_with_len (start d) size) (range_with_len c directories) op + root_part op
+
+    one_operation : (op : Op) → part_of op ≤ estimate_of_shape (shape_of op)
+    one_operation (Create m) =
+        let none = no-object (range_with_len a records) (range_with_len b objects) in
+        let one = one_directory m.0 c directories in
+        omega (arith, none, one)
+    one_operation (Remove m) =
+        let none = no-object (range_with_len a records) (range_with_len b objects) in
+        let one = one_directory m.0 c directories in
+        omega (arith, none, one)
+    one_operation (Write m offset bytes) =
+        let most = one_object m.0 (λ r. is_record_touched r offset (length bytes)) (range_with_len a records) (records_touched offset (length bytes)) b objects (write_records offset (length bytes) a records) in
+        let one = one_directory m.0 c directories in
+        omega (arith, most, one)
+    one_operation (SetLength m new) =
+        let most = one_object m.0 (λ r. is_record_cut r new) (range_with_len a records) 1 b objects (cut_records new a records) in
+        let one = one_directory m.0 c directories in
+        omega (arith, most, one)
+    one_operation (SetName bytes) =
+        let none = no-object (range_with_len a records) (range_with_len b objects) in
+        let nothing = no-directory (range_with_len c directories) in
+        omega (arith, none, nothing)
+
+-- a number of a directory's is divided back to the directory
+own_directory : (m d : ℕ) → entry_count * d ≤ m → m < entry_count * d + entry_count → d ≡ m / entry_count
+own_directory m d from to = omega arith
+
+within_both : (a b c d : ℕ) → a ≤ b → b ≤ c → d ≡ c → a ≤ d
+within_both a b c d h k e = omega arith
+
+pub syncs_fit : SyncsFit
+syncs_fit ops synced had =
+    let part : Op → ℕ = part_of (λ d. entry_count * d) entry_count own_directory 0 pointer_count 0 object_count 0 pointer_count in
+    let written = three_parts (syncs.places_of_object ops synced had) (λ d. Directory d) (syncs.is_directory_written ops synced had) (if syncs.is_root_written ops synced had then Root ∷ [] else [])
+    (range_with_len 0 object_count) (range_with_len 0 pointer_count)
+    (λ op. sum_by (object_part record_numbers op) (range_with_len 0 object_count)) (directory_part object_numbers (range_with_len 0 pointer_count)) root_part ops
+    (objects_within ops synced had (range_with_len 0 object_count)) (directories_within ops synced had (range_with_len 0 pointer_count))
+    (last_within ops synced had) in
+    let each : sum_by part ops ≤ sum_by (λ op. estimate_of_shape (shape_of op)) ops = sum_by-le-sum_by part (λ op. estimate_of_shape (shape_of op)) ops (one_operation (λ d. entry_count * d) entry_count own_directory 0 pointer_count 0 object_count 0 pointer_count) in
+    let shapes : estimate_of (map shape_of ops) ≡ sum_by (λ op. estimate_of_shape (shape_of op)) ops = fold-map (λ n x. n + estimate_of_shape x) shape_of 0 ops in
+    within_both (length (syncs.written_places ops synced had)) (sum_by part ops) (sum_by (λ op. estimate_of_shape (shape_of op)) ops) (estimate_of (map shape_of ops)) written each shapes
