@@ -15,7 +15,7 @@ pub fn groups_fit()
     ensures { GroupsFit }
 {}
 
-/// Where the tables are exact and no sync runs, the free blocks suffice for the sync of the quiesced group.
+/// Where what is charged and reserved is exact, and covered by free blocks, these suffice for the sync of the quiesced group.
 pub fn syncs_have_room()
     ensures { SyncsHaveRoom }
 {}

@@ -98,12 +98,12 @@ quiesced_next l group x idle quiesced =
     (omega arith, omega arith)
 
 pub syncs_have_room : SyncsHaveRoom
-syncs_have_room s past group synced had_block x room idle quiesced =
-    let at : (s.line.synced < group) × (group ≤ s.line.open_group) = quiesced_next s.line group x.groups.line idle quiesced in
-    let written : length (written_places (ops_of_group group past.entries) synced had_block) ≤ estimate_of (map shape_of (ops_of_group group past.entries)) = syncs_fit (ops_of_group group past.entries) synced had_block in
-    let fits : estimate_of (map shape_of (ops_of_group group past.entries)) ≤ estimate_sum (transactions_of group past.admissions past.aborted) = group_fits s.line past.admissions past.entries past.aborted group x.groups.members in
-    let reserved : reserved_of s group ≡ estimate_sum (transactions_of group past.admissions past.aborted) = x.charges.reserved group at.0 in
-    let part : reserved_of s group ≤ reserved_total s = reserved_within s group at.0 at.1 in
-    let none : length (taken_of s.sync) ≡ 0 = none-taken s.sync (x.sync.running ∙ ap (λ o. is_some o) idle) in
-    let enough : reserved_total s ≤ free_count s + length (taken_of s.sync) = room.room in
+syncs_have_room s group synced had_block groups sync x idle quiesced =
+    let at : (s.shown.line.synced < group) × (group ≤ s.shown.line.open_group) = quiesced_next s.shown.line group groups.line idle quiesced in
+    let written : length (written_places (ops_of_group group s.past.entries) synced had_block) ≤ estimate_of (map shape_of (ops_of_group group s.past.entries)) = syncs_fit (ops_of_group group s.past.entries) synced had_block in
+    let fits : estimate_of (map shape_of (ops_of_group group s.past.entries)) ≤ estimate_sum (transactions_of group s.past.admissions s.past.aborted) = group_fits s.shown.line s.past.admissions s.past.entries s.past.aborted group groups.members in
+    let reserved : reserved_of s.shown group ≡ estimate_sum (transactions_of group s.past.admissions s.past.aborted) = x.charges.reserved group at.0 in
+    let part : reserved_of s.shown group ≤ reserved_total s.shown = reserved_within s.shown group at.0 at.1 in
+    let none : length (taken_of s.shown.sync) ≡ 0 = none-taken s.shown.sync (sync.running ∙ ap (λ o. is_some o) idle) in
+    let enough : reserved_total s.shown ≤ free_count s.shown + length (taken_of s.shown.sync) = x.blocks.room in
     omega arith

@@ -8,7 +8,7 @@ use Rattle.base.specs.declared.range.Mode.{Mode}
 use Rattle.base.specs.formats.Uberblocks.{Uberblock}
 use Rattle.base.specs.history.Plans.{NumberRange, shape_of, estimate_of}
 use Rattle.base.specs.history.History.{Entry}
-use Rattle.base.specs.history.Past.{Past, new_past}
+use Rattle.base.specs.history.Past.{new_past}
 use Rattle.base.specs.tree.Places.{Place}
 use Rattle.base.specs.tree.Syncs.{written_places}
 use Rattle.base.specs.steps.Groups.{Line, Admission, AreMembers}
@@ -17,7 +17,7 @@ use Rattle.base.specs.steps.Shown.{Shown, free_count}
 use Rattle.base.specs.steps.Refusals.{quiesced_group}
 use Rattle.base.specs.steps.Steps.{State, SyncProgress, Lock, LockAppend, Unlock, WholeBegin, WholeCommit, Abort, WholeRead, Length, Digest, WholeCloseGroup, MarkQuiesced, WholeStartSync, SyncStep, LogWrite, LogFlush, ops_of_group}
 use Rattle.base.specs.crash.Imports.{IsImported}
-use Rattle.base.specs.steps.Exact.{IsExact, AreGroupsExact, AreChargesExact, IsSyncExact, HasReservedBlocks}
+use Rattle.base.specs.steps.Exact.{AreGroupsExact, AreChargesExact, IsSyncExact, HasReservedBlocks}
 
 -- a sync writes no more blocks than the estimates of its operations add up to, whatever the synced contents and the tree are
 abbrev pub SyncsFit : Type 0
@@ -28,15 +28,16 @@ abbrev pub GroupsFit : Type 0
 GroupsFit = (l : Line) (admissions : List Admission) (entries : List Entry) (aborted : List ℕ) (group : ℕ) → AreMembers l admissions entries aborted
     → estimate_of (map shape_of (ops_of_group group entries)) ≤ estimate_sum (transactions_of group admissions aborted)
 
--- where the tables are exact and no sync runs, the free blocks suffice for the sync of the quiesced group
-abbrev pub SyncsHaveRoom : Type 0
-SyncsHaveRoom = (s : Shown) (past : Past) (group : ℕ) (synced : Contents) (had_block : Place → Bool) → IsExact s past → HasReservedBlocks s
-    → s.line.syncing ≡ None → quiesced_group s.line ≡ Some group → length (written_places (ops_of_group group past.entries) synced had_block) ≤ free_count s
-
 -- what is charged and reserved is exact, and the free blocks suffice for it
 pub record HasReserves (s : State) : Type 0 where
   pub charges : AreChargesExact s.shown s.past
   pub blocks : HasReservedBlocks s.shown
+
+-- with such reserves, and while no sync runs, the free blocks suffice for the sync of the quiesced group
+abbrev pub SyncsHaveRoom : Type 0
+SyncsHaveRoom = (s : State) (group : ℕ) (synced : Contents) (had_block : Place → Bool) → AreGroupsExact s.shown s.past → IsSyncExact s.shown → HasReserves s
+    → s.shown.line.syncing ≡ None → quiesced_group s.shown.line ≡ Some group
+    → length (written_places (ops_of_group group s.past.entries) synced had_block) ≤ free_count s.shown
 
 -- the steps that charge, reserve or take, whatever they answer; a sync starts over a device that keeps the disk model
 pub data IsChargedStep (old new : State) : Type 0 where
@@ -47,7 +48,7 @@ pub data IsChargedStep (old new : State) : Type 0 where
   Syncs : (answer : Result SyncProgress PoolError) → SyncStep answer old new → IsChargedStep old new
   WritesLog : (answer : Result ℕ PoolError) → LogWrite answer old new → IsChargedStep old new
 
--- the other steps, over a device of which nothing is known
+-- the other steps, over a device of which nothing is known; name, status and durable, which only tell, change nothing
 pub data IsUnchargedStep (old new : State) : Type 0 where
   Locks : (owner : ℕ) → (range : NumberRange) → (mode : Mode) → (answer : Result ℕ PoolError) → Lock owner range mode answer old new → IsUnchargedStep old new
   LocksAppend : (owner n : ℕ) → (answer : Result (ℕ × ℕ × ℕ) PoolError) → LockAppend owner n answer old new → IsUnchargedStep old new
