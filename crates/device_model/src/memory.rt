@@ -35,7 +35,7 @@ use std::marker::Model;
 ///
 /// It notes every write, and its disk over time is read from these notes. Contracts see it as that disk, the counts of
 /// its refused calls, and its fault plan.
-#[derive(Drop)]
+#[derive(Debug, Drop)]
 pub struct MemDevice {
     alloc: Global,
     sectors: u64,

@@ -11,14 +11,14 @@ use base::{OBJECT_COUNT, ObjectId, Op, PoolError, PoolName};
 use std::alloc::{AllocError, Global};
 
 /// The place of one object: whether it is there, and its bytes. Where it is not there the bytes mean nothing: room may be taken for it before.
-#[derive(Debug, Drop)]
+#[derive(Debug, Drop, PartialEq, Eq)]
 pub struct Slot {
     pub present: bool,
     pub bytes: Vec<u8>,
 }
 
 /// The name of a pool, and a slot for each object number.
-#[derive(Drop)]
+#[derive(Debug, Drop, PartialEq, Eq)]
 pub struct Contents {
     pub name: PoolName,
     pub slots: Vec<Slot>,

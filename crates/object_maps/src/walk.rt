@@ -40,7 +40,7 @@ use std::alloc::Global;
 const PAYLOAD: usize = 64;
 
 /// What a load of a tree gives: a slot for each object number, and the pointers.
-#[derive(Drop)]
+#[derive(Debug, Drop, PartialEq, Eq)]
 pub struct Loaded {
     pub slots: Vec<Slot>,
     pub tree: Tree,
