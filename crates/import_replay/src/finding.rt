@@ -1,13 +1,13 @@
 //! The pool that a device has: its active uberblock, and its name.
 
 ghost use Rattle.std.specs.Prelude.{◌≡◌, ◌<◌, ◌≤◌, ◌+◌, ◌*◌, ◌⊎◌, IfErr, IfOk, IsTrue, OnOk, length, vec_len};
-ghost use Rattle.base.specs.disk.Calls.{counted};
 ghost use Rattle.base.specs.disk.Disk.{bytes_of, put};
 ghost use Rattle.base.specs.formats.Fields.{part};
 ghost use Rattle.base.specs.formats.Geometry.{IsGeometry, slot_place};
 ghost use Rattle.base.specs.formats.Labels.{HasNoCandidate};
 ghost use Rattle.base.specs.crash.Mount.{HasPool};
 ghost use Rattle.base.specs.formats.Uberblocks.{IsActive};
+ghost use Rattle.device_model.specs.Reading.{OnlyReads};
 ghost use Rattle.uberblocks.specs.Slots.{IsWithinLimits, fields_of};
 ghost use Rattle.labels.specs.Choices.{AreRead, IsRead};
 ghost use Rattle.import_replay.specs.ImportRefusals.{IsFindRefusal, IsReason};
@@ -40,9 +40,7 @@ pub(crate) fn find_pool<D: SectorDevice>(
 ) -> Result<Found, PoolError>
     requires sized { D.size device.old ≡ geometry }
     requires geometry { IsGeometry geometry }
-    ensures size { D.size device.new ≡ D.size device.old }
-    ensures disk { IsTrue D.keeps_model → D.disk device.new ≡ D.disk device.old }
-    ensures count { D.refused device.new ≡ counted result (D.refused device.old) }
+    ensures reads { OnlyReads D.SectorDevice result device.old device.new }
     ensures refused { IfErr result IsFindRefusal }
     ensures limits { IfOk result (λ f. IsWithinLimits (fields_of f.uberblock)) }
     ensures pool { IsTrue D.keeps_model → IfOk result
@@ -69,9 +67,7 @@ fn read_uberblock<D: SectorDevice>(
     geometry: Geometry,
 ) -> Result<Uberblock, PoolError>
     requires { D.size device.old ≡ geometry }
-    ensures size { D.size device.new ≡ D.size device.old }
-    ensures disk { IsTrue D.keeps_model → D.disk device.new ≡ D.disk device.old }
-    ensures count { D.refused device.new ≡ counted result (D.refused device.old) }
+    ensures reads { OnlyReads D.SectorDevice result device.old device.new }
     ensures refused { IfErr result IsFindRefusal }
     ensures limits { IfOk result (λ u. IsWithinLimits (fields_of u)) }
     ensures active { IsTrue D.keeps_model → IfOk result
@@ -103,9 +99,7 @@ fn read_array<D: SectorDevice>(
     requires sized { D.size device.old ≡ geometry }
     requires label { label < 4 }
     requires ring { length ring.old ≡ 524288 }
-    ensures size { D.size device.new ≡ D.size device.old }
-    ensures disk { IsTrue D.keeps_model → D.disk device.new ≡ D.disk device.old }
-    ensures count { D.refused device.new ≡ counted result (D.refused device.old) }
+    ensures reads { OnlyReads D.SectorDevice result device.old device.new }
     ensures refused { IfErr result (λ e. e ≡ PoolError.Read) }
     ensures length { length ring.new ≡ 524288 }
     ensures within { slot_place geometry label 0 + 131072 ≤ geometry }
@@ -125,9 +119,7 @@ fn read_name<D: SectorDevice>(
     uberblock: &Uberblock,
 ) -> Result<(PoolName, Stage), PoolError>
     requires { D.size device.old ≡ geometry }
-    ensures size { D.size device.new ≡ D.size device.old }
-    ensures disk { IsTrue D.keeps_model → D.disk device.new ≡ D.disk device.old }
-    ensures count { D.refused device.new ≡ counted result (D.refused device.old) }
+    ensures reads { OnlyReads D.SectorDevice result device.old device.new }
     ensures refused { IfErr result IsFindRefusal }
     ensures name { IsTrue D.keeps_model → IfOk result
         (λ r. HasName (bytes_of (D.disk device.old).now)
@@ -178,9 +170,7 @@ fn read_configs<D: SectorDevice>(
     geometry: Geometry,
 ) -> Result<[Option<LabelConfig>; 4], PoolError>
     requires { D.size device.old ≡ geometry }
-    ensures size { D.size device.new ≡ D.size device.old }
-    ensures disk { IsTrue D.keeps_model → D.disk device.new ≡ D.disk device.old }
-    ensures count { D.refused device.new ≡ counted result (D.refused device.old) }
+    ensures reads { OnlyReads D.SectorDevice result device.old device.new }
     ensures refused { IfErr result (λ e. e ≡ PoolError.Read) }
     ensures configs { IsTrue D.keeps_model
         → IfOk result (AreRead (bytes_of (D.disk device.old).now)) }
@@ -200,9 +190,7 @@ fn read_config<D: SectorDevice>(
 ) -> Result<Option<LabelConfig>, PoolError>
     requires sized { D.size device.old ≡ geometry }
     requires label { label < 4 }
-    ensures size { D.size device.new ≡ D.size device.old }
-    ensures disk { IsTrue D.keeps_model → D.disk device.new ≡ D.disk device.old }
-    ensures count { D.refused device.new ≡ counted result (D.refused device.old) }
+    ensures reads { OnlyReads D.SectorDevice result device.old device.new }
     ensures refused { IfErr result (λ e. e ≡ PoolError.Read) }
     ensures config { IsTrue D.keeps_model
         → IfOk result (IsRead (bytes_of (D.disk device.old).now) label) }

@@ -237,7 +237,7 @@ fn open_pool<D: SectorDevice>(
     ensures refused { IfErr result IsOpenRefusal }
     ensures mounted { IfOk result
         (IsMountedFrom (fields_of found.uberblock) found.name loaded.slots.items loaded.tree dirty_max) }
-    ensures kept { IsTrue D.keeps_model
+    ensures same_blocks { IsTrue D.keeps_model
         → OnOk result (HasSameBlocks geometry (bytes_of (D.disk device.old).now)
         (bytes_of (D.disk device.new).now)) }
     ensures full { IfErr result (λ e. e ≡ PoolError.NoSpace
@@ -254,7 +254,7 @@ fn open_pool<D: SectorDevice>(
         e (D.disk device.old) (D.disk device.new)) }
     ensures labelled { IsTrue D.keeps_model
         → IfOk result (IsImportLabelled (D.disk device.new) moment) }
-    ensures others { IsTrue D.keeps_model
+    ensures other_slots { IsTrue D.keeps_model
         → OnOk result (HasOtherSlots geometry (found.uberblock.group.0 + 4)
         (bytes_of (D.disk device.old).now) (bytes_of (D.disk device.new).now)) }
     ensures settled { IsTrue D.keeps_model → OnOk result ((D.disk device.new).now.unflushed ≡ []) }

@@ -75,7 +75,7 @@ returns-then-is_past_last-clause-reason g c = λ keeps.
     let long : length image ≡ size = g.met.D.SectorDevice.sized keeps c.args.device.now ∙ c.requires.sized in
     let flushed : bytes_of (g.D.SectorDevice.disk c.flush.new.self).now ≡ image =
     (flushed_clean (g.D.SectorDevice.disk c.args.device.now) (g.D.SectorDevice.disk c.flush.new.self) (c.in_ok-flush.ensures.disk keeps)).1 in
-    let found : bytes_of (g.D.SectorDevice.disk c.find_pool.new.device).now ≡ image = ap (λ (d : Disk). bytes_of d.now) (c.find_pool.ensures.disk keeps) ∙ flushed in
+    let found : bytes_of (g.D.SectorDevice.disk c.find_pool.new.device).now ≡ image = ap (λ (d : Disk). bytes_of d.now) (c.find_pool.ensures.reads.disk keeps) ∙ flushed in
     let pool : HasPool image u name = subst (λ (b : List ℕ). HasPool b u name) flushed (c.in_ok-found.ensures.pool keeps) in
     let held : HoldsTree image (frame_at u size) (pointers_of tree) (objects_of slots) =
     subst (λ (b : List ℕ). HoldsTree b (frame_at u size) (pointers_of tree) (objects_of slots)) found
@@ -120,8 +120,8 @@ returns-clause-imported g c = λ keeps.
     let long : length image ≡ size = g.met.D.SectorDevice.sized keeps c.args.device.now ∙ c.requires.sized in
     let flushed : bytes_of (g.D.SectorDevice.disk c.flush.new.self).now ≡ image =
     (flushed_clean (g.D.SectorDevice.disk c.args.device.now) (g.D.SectorDevice.disk c.flush.new.self) (c.in_ok-flush.ensures.disk keeps)).1 in
-    let found : bytes_of (g.D.SectorDevice.disk c.find_pool.new.device).now ≡ image = ap (λ (d : Disk). bytes_of d.now) (c.find_pool.ensures.disk keeps) ∙ flushed in
-    let loaded : bytes_of (g.D.SectorDevice.disk c.load.new.device).now ≡ image = ap (λ (d : Disk). bytes_of d.now) (c.load.ensures.disk keeps) ∙ found in
+    let found : bytes_of (g.D.SectorDevice.disk c.find_pool.new.device).now ≡ image = ap (λ (d : Disk). bytes_of d.now) (c.find_pool.ensures.reads.disk keeps) ∙ flushed in
+    let loaded : bytes_of (g.D.SectorDevice.disk c.load.new.device).now ≡ image = ap (λ (d : Disk). bytes_of d.now) (c.load.ensures.reads.disk keeps) ∙ found in
     let pool : HasPool image u name = subst (λ (b : List ℕ). HasPool b u name) flushed (c.in_ok-found.ensures.pool keeps) in
     let framed : HoldsTree (bytes_of (g.D.SectorDevice.disk c.find_pool.new.device).now) (frame_at u size) (pointers_of tree) (objects_of slots) =
     subst (λ (f : Frame). HoldsTree (bytes_of (g.D.SectorDevice.disk c.find_pool.new.device).now) f (pointers_of tree) (objects_of slots)) (c.new-frame.ensures ∙ ap (frame_with u) c.blocks-count.ensures)
@@ -130,7 +130,7 @@ returns-clause-imported g c = λ keeps.
     subst (λ (b : List ℕ). HoldsTree b (frame_at u size) (pointers_of tree) (objects_of slots)) found framed in
     let sized = ok_both c.open_pool.result (IsMountedFrom u name slots tree dirty_max) (λ (m : Mounted). m.geometry ≡ size) c.open_pool.ensures.mounted c.open_pool.ensures.geometry in
     let all = ok_both c.open_pool.result (λ (m : Mounted). IsMountedFrom u name slots tree dirty_max m × (m.geometry ≡ size))
-    (λ (m : Mounted). HasSameBlocks size (bytes_of (g.D.SectorDevice.disk c.load.new.device).now) now) sized (ok_on c.open_pool.result _ (c.open_pool.ensures.kept keeps)) in
+    (λ (m : Mounted). HasSameBlocks size (bytes_of (g.D.SectorDevice.disk c.load.new.device).now) now) sized (ok_on c.open_pool.result _ (c.open_pool.ensures.same_blocks keeps)) in
     ok_weaker c.open_pool.result _ _ (λ m h. is_import size u name slots tree dirty_max m h.0.0 h.0.1 image now long pool c.in_ok-loaded.ensures.root c.requires.limit held
     (subst (λ (b : List ℕ). HasSameBlocks size b now) loaded h.1)) all
 
@@ -144,7 +144,7 @@ returns-in_err-loaded-clause-reason g c = λ keeps.
     let long : length image ≡ size = g.met.D.SectorDevice.sized keeps c.args.device.now ∙ c.requires.sized in
     let flushed : bytes_of (g.D.SectorDevice.disk c.flush.new.self).now ≡ image =
     (flushed_clean (g.D.SectorDevice.disk c.args.device.now) (g.D.SectorDevice.disk c.flush.new.self) (c.in_ok-flush.ensures.disk keeps)).1 in
-    let found : bytes_of (g.D.SectorDevice.disk c.find_pool.new.device).now ≡ image = ap (λ (d : Disk). bytes_of d.now) (c.find_pool.ensures.disk keeps) ∙ flushed in
+    let found : bytes_of (g.D.SectorDevice.disk c.find_pool.new.device).now ≡ image = ap (λ (d : Disk). bytes_of d.now) (c.find_pool.ensures.reads.disk keeps) ∙ flushed in
     let pool : HasPool image u name = subst (λ (b : List ℕ). HasPool b u name) flushed (c.in_ok-found.ensures.pool keeps) in
     passed_on c.from_residual-in_err-loaded.result x (IsReason image) c.from_residual-in_err-loaded.ensures.1
     (reason-load image x c.in_err-loaded.ensures.cause (λ kind address is. record {
@@ -168,7 +168,7 @@ returns-clause-reason g c = λ keeps.
     let long : length image ≡ size = g.met.D.SectorDevice.sized keeps c.args.device.now ∙ c.requires.sized in
     let flushed : bytes_of (g.D.SectorDevice.disk c.flush.new.self).now ≡ image =
     (flushed_clean (g.D.SectorDevice.disk c.args.device.now) (g.D.SectorDevice.disk c.flush.new.self) (c.in_ok-flush.ensures.disk keeps)).1 in
-    let found : bytes_of (g.D.SectorDevice.disk c.find_pool.new.device).now ≡ image = ap (λ (d : Disk). bytes_of d.now) (c.find_pool.ensures.disk keeps) ∙ flushed in
+    let found : bytes_of (g.D.SectorDevice.disk c.find_pool.new.device).now ≡ image = ap (λ (d : Disk). bytes_of d.now) (c.find_pool.ensures.reads.disk keeps) ∙ flushed in
     let pool : HasPool image u name = subst (λ (b : List ℕ). HasPool b u name) flushed (c.in_ok-found.ensures.pool keeps) in
     let held : HoldsTree image (frame_at u size) (pointers_of tree) (objects_of slots) =
     subst (λ (b : List ℕ). HoldsTree b (frame_at u size) (pointers_of tree) (objects_of slots)) found
@@ -190,7 +190,7 @@ returns-clause-stopped g c = λ keeps.
     let long : length image ≡ size = g.met.D.SectorDevice.sized keeps c.args.device.now ∙ c.requires.sized in
     let flushed : bytes_of (g.D.SectorDevice.disk c.flush.new.self).now ≡ image =
     (flushed_clean (g.D.SectorDevice.disk c.args.device.now) (g.D.SectorDevice.disk c.flush.new.self) (c.in_ok-flush.ensures.disk keeps)).1 in
-    let found : bytes_of (g.D.SectorDevice.disk c.find_pool.new.device).now ≡ image = ap (λ (d : Disk). bytes_of d.now) (c.find_pool.ensures.disk keeps) ∙ flushed in
+    let found : bytes_of (g.D.SectorDevice.disk c.find_pool.new.device).now ≡ image = ap (λ (d : Disk). bytes_of d.now) (c.find_pool.ensures.reads.disk keeps) ∙ flushed in
     let pool : HasPool image u name = subst (λ (b : List ℕ). HasPool b u name) flushed (c.in_ok-found.ensures.pool keeps) in
     let held : HoldsTree image (frame_at u size) (pointers_of tree) (objects_of slots) =
     subst (λ (b : List ℕ). HoldsTree b (frame_at u size) (pointers_of tree) (objects_of slots)) found
@@ -203,7 +203,7 @@ returns-clause-stopped g c = λ keeps.
     let even : Bool = is_even c.in_ok-found.found.first in
     let first : HasFirstStage image u.guid u.group name even = subst (λ (b : List ℕ). HasFirstStage b u.guid u.group name even) flushed (c.in_ok-found.ensures.first keeps) in
     err_weaker c.open_pool.result _ _
-    (λ e h is. stopped_import size old mid before new u name slots tree c.args.moment even e long (c.in_ok-flush.ensures.disk keeps) (c.load.ensures.disk keeps ∙ c.find_pool.ensures.disk keeps) pool first held
+    (λ e h is. stopped_import size old mid before new u name slots tree c.args.moment even e long (c.in_ok-flush.ensures.disk keeps) (c.load.ensures.reads.disk keeps ∙ c.find_pool.ensures.reads.disk keeps) pool first held
     c.in_ok-loaded.ensures.root (sym c.if-is_past_last.ensures) (h is))
     (c.open_pool.ensures.stopped keeps)
 
@@ -221,11 +221,11 @@ returns-clause-written g c = λ keeps.
     let even : Bool = is_even c.in_ok-found.found.first in
     let long : length (bytes_of old.now) ≡ size = g.met.D.SectorDevice.sized keeps c.args.device.now ∙ c.requires.sized in
     let same_long : length (bytes_of new.now) ≡ size =
-    g.met.D.SectorDevice.sized keeps c.open_pool.new.device ∙ c.open_pool.ensures.size ∙ c.load.ensures.size ∙ c.find_pool.ensures.size ∙ c.flush.ensures.size ∙ c.requires.sized in
+    g.met.D.SectorDevice.sized keeps c.open_pool.new.device ∙ c.open_pool.ensures.size ∙ c.load.ensures.reads.size ∙ c.find_pool.ensures.reads.size ∙ c.flush.ensures.size ∙ c.requires.sized in
     let flushes = c.in_ok-flush.ensures.disk keeps in
     let flushed : bytes_of mid.now ≡ bytes_of old.now = (flushed_clean old mid flushes).1 in
-    let same : before ≡ mid = c.load.ensures.disk keeps ∙ c.find_pool.ensures.disk keeps in
+    let same : before ≡ mid = c.load.ensures.reads.disk keeps ∙ c.find_pool.ensures.reads.disk keeps in
     let pool : HasPool (bytes_of old.now) u name = subst (λ (b : List ℕ). HasPool b u name) flushed (c.in_ok-found.ensures.pool keeps) in
     let first : HasFirstStage (bytes_of old.now) u.guid u.group name even = subst (λ (b : List ℕ). HasFirstStage b u.guid u.group name even) flushed (c.in_ok-found.ensures.first keeps) in
     ok_written old before mid new size u name slots tree c.args.dirty_max c.args.moment even c.open_pool.result same flushes long same_long pool.active first c.in_ok-loaded.ensures.root
-    c.open_pool.ensures.mounted c.open_pool.ensures.geometry (c.open_pool.ensures.synced keeps) (c.open_pool.ensures.labelled keeps) (c.open_pool.ensures.others keeps) (c.open_pool.ensures.settled keeps)
+    c.open_pool.ensures.mounted c.open_pool.ensures.geometry (c.open_pool.ensures.synced keeps) (c.open_pool.ensures.labelled keeps) (c.open_pool.ensures.other_slots keeps) (c.open_pool.ensures.settled keeps)
