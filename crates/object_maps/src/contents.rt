@@ -106,7 +106,16 @@ impl Contents {
             contents_of c ≡ record { name = name; objects = finite.empty }) }
     {
         let slots = empty_slots(alloc)?;
-        Ok(Contents { name, slots })
+        Ok(Contents::of(name, slots))
+    }
+
+    /// The contents with this name and the objects of these slots.
+    pub fn of(name: PoolName, slots: Vec<Slot>) -> Self
+        requires { vec_len slots ≡ 5292 }
+        ensures name { result.name ≡ name }
+        ensures slots { result.slots ≡ slots }
+    {
+        Contents { name, slots }
     }
 
     /// The bytes of an object, if it is there.

@@ -6,7 +6,7 @@
 
 ghost use Rattle.std.specs.Prelude.{◌≡◌, ◌≢◌, ℕ, ◌+◌, ◌*◌, ◌<◌, ◌≤◌, ◌↔◌, List, IfOk, IfErr, OnOk, IfSome, IsTrue, Some, true, drop, get_or, length, replicate, vec_len};
 ghost use Rattle.std.specs.FinMap as finite;
-ghost use Rattle.base.specs.formats.Limits.{object_count, max_length};
+ghost use Rattle.base.specs.formats.Limits.{object_count};
 ghost use Rattle.base.specs.formats.Fields.{number_at, pointer_at, pointer_in, entry_in, entry_present, entry_length, entry_pointer, no_pointer};
 ghost use Rattle.base.specs.disk.Disk.{bytes_of};
 ghost use Rattle.base.specs.formats.Geometry.{block_address, IsBlockAddress};
@@ -18,7 +18,7 @@ ghost use Rattle.device_model.specs.Reading.{OnlyReads};
 ghost use Rattle.checked_blocks.proofs.NamedBlocks.{IsNamed};
 ghost use Rattle.object_maps.specs.Pointers.{pointers_of, objects_of, pointer_of_list};
 ghost use Rattle.object_maps.specs.Kinds.{kind_number};
-ghost use Rattle.object_maps.specs.Loading.{IsLoadRefusal, IsLoadedRecord, AreLoadedRecords, IsZeroRecord, IsLoadedObject, IsLoadedDirectory, AreLoadedDirectories, IsLoadedTree};
+ghost use Rattle.object_maps.specs.Loading.{IsLoadRefusal, IsObjectContent, IsLoadedRecord, AreLoadedRecords, IsZeroRecord, IsLoadedObject, IsLoadedDirectory, AreLoadedDirectories, IsLoadedTree};
 ghost use Rattle.base.specs.declared.pointer.Pointer.{Pointer};
 ghost use Rattle.base.specs.tree.Places.{IsPlace, walk_index_of, walk_index_of_indirect, pointer_of};
 ghost use Rattle.base.specs.tree.Places.Place.{Directory, Data};
@@ -225,10 +225,10 @@ pub fn load<D: SectorDevice>(
     ensures root { IfOk result (λ l. l.tree.root ≡ root) }
     ensures placed { IfOk result (λ l. ArePlaced (frame.now.blocks) (pointers_of l.tree)) }
     ensures bounded { IfOk result (λ l. (n : ℕ) → IfSome (finite.get (objects_of l.slots.items) n)
-        (λ bytes. (n < object_count) × (length bytes ≤ max_length))) }
+        (λ bytes. (n < object_count) × IsObjectContent bytes)) }
 
     // It is the one that the image holds.
-    ensures held { IsTrue D.keeps_model → IfOk result (λ l.
+    ensures tree { IsTrue D.keeps_model → IfOk result (λ l.
         HoldsTree (bytes_of (D.disk device.old).now)
         frame.now (pointers_of l.tree) (objects_of l.slots.items)) }
 

@@ -80,7 +80,7 @@ returns-then-is_past_last-clause-reason g c = λ keeps.
     let held : HoldsTree image (frame_at u size) (pointers_of tree) (objects_of slots) =
     subst (λ (b : List ℕ). HoldsTree b (frame_at u size) (pointers_of tree) (objects_of slots)) found
     (subst (λ (f : Frame). HoldsTree (bytes_of (g.D.SectorDevice.disk c.find_pool.new.device).now) f (pointers_of tree) (objects_of slots)) (c.new-frame.ensures ∙ ap (frame_with u) c.blocks-count.ensures)
-    (c.in_ok-loaded.ensures.held keeps)) in
+    (c.in_ok-loaded.ensures.tree keeps)) in
     reason-many image (u, name, sound_pool size u name tree slots image long held c.in_ok-loaded.ensures.root pool, sym c.if-is_past_last.ensures)
 
 pub returns-clause-bounded : goal.returns-clause-bounded
@@ -125,7 +125,7 @@ returns-clause-imported g c = λ keeps.
     let pool : HasPool image u name = subst (λ (b : List ℕ). HasPool b u name) flushed (c.in_ok-found.ensures.pool keeps) in
     let framed : HoldsTree (bytes_of (g.D.SectorDevice.disk c.find_pool.new.device).now) (frame_at u size) (pointers_of tree) (objects_of slots) =
     subst (λ (f : Frame). HoldsTree (bytes_of (g.D.SectorDevice.disk c.find_pool.new.device).now) f (pointers_of tree) (objects_of slots)) (c.new-frame.ensures ∙ ap (frame_with u) c.blocks-count.ensures)
-    (c.in_ok-loaded.ensures.held keeps) in
+    (c.in_ok-loaded.ensures.tree keeps) in
     let held : HoldsTree image (frame_at u size) (pointers_of tree) (objects_of slots) =
     subst (λ (b : List ℕ). HoldsTree b (frame_at u size) (pointers_of tree) (objects_of slots)) found framed in
     let sized = ok_both c.open_pool.result (IsMountedFrom u name slots tree dirty_max) (λ (m : Mounted). m.geometry ≡ size) c.open_pool.ensures.mounted c.open_pool.ensures.geometry in
@@ -173,7 +173,7 @@ returns-clause-reason g c = λ keeps.
     let held : HoldsTree image (frame_at u size) (pointers_of tree) (objects_of slots) =
     subst (λ (b : List ℕ). HoldsTree b (frame_at u size) (pointers_of tree) (objects_of slots)) found
     (subst (λ (f : Frame). HoldsTree (bytes_of (g.D.SectorDevice.disk c.find_pool.new.device).now) f (pointers_of tree) (objects_of slots)) (c.new-frame.ensures ∙ ap (frame_with u) c.blocks-count.ensures)
-    (c.in_ok-loaded.ensures.held keeps)) in
+    (c.in_ok-loaded.ensures.tree keeps)) in
     let sound : HasSoundPool image u name = sound_pool size u name tree slots image long held c.in_ok-loaded.ensures.root pool in
     err_weaker c.open_pool.result _ (IsReason image)
     (λ e h. reason-open image e h.0 (λ is. (u, name, sound, sym c.if-is_past_last.ensures, all_blocks size u tree slots image long held c.in_ok-loaded.ensures.root (h.1 is))))
@@ -195,7 +195,7 @@ returns-clause-stopped g c = λ keeps.
     let held : HoldsTree image (frame_at u size) (pointers_of tree) (objects_of slots) =
     subst (λ (b : List ℕ). HoldsTree b (frame_at u size) (pointers_of tree) (objects_of slots)) found
     (subst (λ (f : Frame). HoldsTree (bytes_of (g.D.SectorDevice.disk c.find_pool.new.device).now) f (pointers_of tree) (objects_of slots)) (c.new-frame.ensures ∙ ap (frame_with u) c.blocks-count.ensures)
-    (c.in_ok-loaded.ensures.held keeps)) in
+    (c.in_ok-loaded.ensures.tree keeps)) in
     let old = g.D.SectorDevice.disk c.args.device.now in
     let mid = g.D.SectorDevice.disk c.flush.new.self in
     let before = g.D.SectorDevice.disk c.load.new.device in

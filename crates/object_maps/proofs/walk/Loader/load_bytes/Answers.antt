@@ -15,6 +15,7 @@ use Rattle.base.specs.tree.Places.{walk_index_of_indirect}
 use Rattle.object_maps.proofs.WalkOrder.{sound_more}
 use Rattle.object_maps.proofs.WalkFaults.{missing_fault}
 use Rattle.object_maps.proofs.WalkParts.{tells_behind, object_none, data_linked, indirect_sound, indirect_fault}
+use Rattle.object_maps.proofs.Judged.{all_bytes}
 use Rattle.object_maps.proofs.walk.Loader.load_bytes.Goals as goal
 
 pub returns-then-is_none-clause-loaded : goal.returns-then-is_none-clause-loaded
@@ -22,7 +23,7 @@ returns-then-is_none-clause-loaded g c = λ image shows.
     subst (λ (l : List Pointer). IsLoadedObject g.D.SectorDevice.keeps_model image c.args.self.now.frame.now c.args.number (Some c.args.bytes.now) c.args.indirect.now l)
     (sym c.new.ensures.items)
     (hole_loaded g.D.SectorDevice.keeps_model image c.args.self.now.frame.now c.args.number c.args.indirect.now c.args.bytes.now
-    (c.if-is_none.ensures.0 refl) c.requires.bound c.requires.zeros)
+    (c.if-is_none.ensures.0 refl) (c.requires.bound, all_bytes c.args.bytes.now c.type_inv.bytes) c.requires.zeros)
 
 -- the records that are read stand in the Vec
 pub load_records-requires-clause-records : goal.load_records-requires-clause-records
@@ -52,7 +53,7 @@ returns-clause-loaded g c = λ image shows.
     let opens = λ (keeps : IsTrue keeps_model). subst (λ (l : List ℕ). OpensAt image frame (Indirect c.args.number) c.args.indirect.now l) (sym c.payload_of-payload.ensures.payload) (read.opens image shows keeps) in
     subst (λ (l : List Pointer). IsLoadedObject keeps_model image frame c.args.number (Some c.load_records.new.bytes) c.args.indirect.now l) (sym items)
     (object_loaded keeps_model image frame c.args.number c.args.indirect.now new c.load_records.new.bytes c.payload_of-payload.result.now
-    read.placed opens c.read_pointers.ensures (omega (arith, c.load_records.auto.bytes, c.requires.bound)) all)
+    read.placed opens c.read_pointers.ensures (omega (arith, c.load_records.auto.bytes, c.requires.bound), all_bytes c.load_records.new.bytes c.type_inv.bytes) all)
 
 pub returns-then-is_none-clause-walked : goal.returns-then-is_none-clause-walked
 returns-then-is_none-clause-walked g c = λ keeps image top shows indirect.
