@@ -5,6 +5,7 @@ ghost use Rattle.base.specs.disk.Disk.{bytes_of, put};
 ghost use Rattle.base.specs.formats.Fields.{part};
 ghost use Rattle.base.specs.formats.Geometry.{IsGeometry, slot_place};
 ghost use Rattle.base.specs.formats.Labels.{HasNoCandidate};
+ghost use Rattle.base.specs.formats.Names.{IsName};
 ghost use Rattle.base.specs.crash.Mount.{HasPool};
 ghost use Rattle.base.specs.formats.Uberblocks.{IsActive};
 ghost use Rattle.device_model.specs.Reading.{OnlyReads};
@@ -30,6 +31,8 @@ pub(crate) struct Found {
     pub name: PoolName,
     /// The pair of labels that an import may write first.
     pub first: Stage,
+    ghost limits: { IsWithinLimits (fields_of uberblock) },
+    ghost named: { IsName name },
 }
 
 // The pool of a device: its active uberblock, and the name of the config that is chosen for it.
@@ -42,7 +45,6 @@ pub(crate) fn find_pool<D: SectorDevice>(
     requires geometry { IsGeometry geometry }
     ensures reads { OnlyReads D.SectorDevice result device.old device.new }
     ensures refused { IfErr result IsFindRefusal }
-    ensures limits { IfOk result (λ f. IsWithinLimits (fields_of f.uberblock)) }
     ensures pool { IsTrue D.keeps_model → IfOk result
         (λ f. HasPool (bytes_of (D.disk device.old).now) (fields_of f.uberblock) f.name) }
     ensures first { IsTrue D.keeps_model → IfOk result
@@ -129,6 +131,7 @@ fn read_name<D: SectorDevice>(
         uberblock.now.guid uberblock.now.group.0 r.0 (is_even r.1)) }
     ensures none { IsTrue D.keeps_model → IfErr result
         (LacksName (bytes_of (D.disk device.old).now) uberblock.now.guid uberblock.now.group.0) }
+    ensures grammar { IfOk result (λ r. IsName r.0) }
 {
     let configs = read_configs(device, geometry)?;
     choose_name(&configs, uberblock)
@@ -146,7 +149,8 @@ fn choose_name(
         (is_even r.1)) }
     ensures none { IfErr result (λ e. e ≡ PoolError.NoPool
         → HasNoCandidate configs.now uberblock.now.guid uberblock.now.group.0) }
-    ensures refused { IfErr result (λ e. (e ≡ PoolError.NoMemory) ⊎ (e ≡ PoolError.NoPool)) }
+    ensures refused { IfErr result (λ e. e ≡ PoolError.NoPool) }
+    ensures grammar { IfOk result (λ r. IsName r.0) }
 {
     let chosen = choose(configs, uberblock.guid, uberblock.group)?;
     let first = if is_kept_in_odd(configs, chosen) {
@@ -154,14 +158,15 @@ fn choose_name(
     } else {
         Stage::Odd
     };
-    Ok((copy_name(chosen.name())?, first))
+    Ok((copy_name(chosen.name()), first))
 }
 
-pub(crate) fn copy_name(name: &PoolName) -> Result<PoolName, PoolError>
-    ensures same { IfOk result (λ n. n ≡ name.now) }
-    ensures refused { IfErr result (λ e. e ≡ PoolError.NoMemory) }
+// A copy of a name, in place as the name is: it takes no memory.
+pub(crate) fn copy_name(name: &PoolName) -> PoolName
+    ensures copy { result ≡ name.now }
+    ensures name { IsName result }
 {
-    Ok(name.clone()?)
+    PoolName::new(name.as_slice()).unwrap()
 }
 
 // What the four labels hold.

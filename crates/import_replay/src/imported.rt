@@ -29,7 +29,6 @@ ghost use Rattle.import_replay.specs.Labelled.{HasOtherSlots};
 ghost use Rattle.import_replay.specs.LabelSyncs.{HasSameBlocks, after_calls, is_even};
 ghost use Rattle.import_replay.specs.Mounts.{IsImport, IsMountedFrom, frame_of_import, shown_of_import};
 
-use crate::bounds::see_bytes;
 use crate::finding::{Found, copy_name, find_pool};
 use crate::free_blocks::{free_set, take_lowest};
 use crate::imported_pool::Imported;
@@ -197,9 +196,6 @@ fn mount_pool<D: SectorDevice>(
         found.uberblock.group,
     );
     let loaded = load(alloc, device, &frame, found.uberblock.root)?;
-    // The name is one, and the objects hold bytes, as their types say.
-    let _name = found.name.as_slice();
-    see_bytes(loaded.slots.as_slice());
     if is_past_last(&found.uberblock) {
         return Err(PoolError::TooMany);
     }
@@ -226,7 +222,6 @@ fn open_pool<D: SectorDevice>(
 ) -> Result<Mounted, PoolError>
     requires sized { D.size device.old ≡ geometry }
     requires geometry { IsGeometry geometry }
-    requires limits { IsWithinLimits (fields_of found.uberblock) }
     requires within { numbers.is_past_last found.uberblock.group.0 found.uberblock.import_number
         ≡ false }
     requires placed { ArePlaced (block_count geometry) (pointers_of loaded.tree) }
@@ -274,7 +269,7 @@ fn open_pool<D: SectorDevice>(
         next.guid,
         next.group,
         geometry.size(),
-        copy_name(&found.name)?,
+        copy_name(&found.name),
     );
     sync_labels(alloc, device, geometry, &next, &config, found.first)?;
     Ok(Mounted {
@@ -283,10 +278,7 @@ fn open_pool<D: SectorDevice>(
         guid: next.guid,
         group: next.group,
         import_number: next.import_number,
-        contents: Contents {
-            name: found.name,
-            slots: loaded.slots,
-        },
+        contents: Contents::of(found.name, loaded.slots),
         tree: loaded.tree,
         free,
         log_address: next.log_address,

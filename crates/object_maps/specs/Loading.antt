@@ -4,7 +4,7 @@ use Rattle.std.specs.List.{list_all}
 use Rattle.base.specs.declared.error.PoolError.{PoolError}
 use Rattle.base.specs.declared.error.PoolError.TheVariants.{NoMemory, Read, Damaged}
 use Rattle.base.specs.declared.pointer.Pointer.{Pointer}
-use Rattle.base.specs.formats.Limits.{max_length, pointer_count, entry_count}
+use Rattle.base.specs.formats.Limits.{object_count, max_length, pointer_count, entry_count}
 use Rattle.base.specs.formats.Fields.{pointer_in, entry_in, no_pointer}
 use Rattle.base.specs.disk.Disk.{Disk, bytes_of}
 use Rattle.base.specs.formats.Blocks.{Frame}
@@ -47,6 +47,10 @@ IndirectStands image frame n indirect records =
 -- the content of an object: no more than its greatest length, and bytes
 abbrev pub IsObjectContent : List ℕ → Type 0
 IsObjectContent content = (length content ≤ max_length) × (list_all (λ b. nat_lt b 256) content ≡ true)
+
+-- object n, with its content, is within the limits of a pool
+abbrev pub IsLimitedObject : ℕ → List ℕ → Type 0
+IsLimitedObject n content = (n < object_count) × (length content ≤ max_length) × (list_all (λ b. nat_lt b 256) content ≡ true)
 
 -- object n, with these pointers to its indirect block and its records
 pub record IsLoadedObject (keeps : Bool) (image : List ℕ) (frame : Frame) (n : ℕ) (object : Option (List ℕ)) (indirect : Pointer) (records : List Pointer) : Type 0 where

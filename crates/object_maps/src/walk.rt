@@ -18,7 +18,7 @@ ghost use Rattle.device_model.specs.Reading.{OnlyReads};
 ghost use Rattle.checked_blocks.proofs.NamedBlocks.{IsNamed};
 ghost use Rattle.object_maps.specs.Pointers.{pointers_of, objects_of, pointer_of_list};
 ghost use Rattle.object_maps.specs.Kinds.{kind_number};
-ghost use Rattle.object_maps.specs.Loading.{IsLoadRefusal, IsObjectContent, IsLoadedRecord, AreLoadedRecords, IsZeroRecord, IsLoadedObject, IsLoadedDirectory, AreLoadedDirectories, IsLoadedTree};
+ghost use Rattle.object_maps.specs.Loading.{IsLimitedObject, IsLoadRefusal, IsLoadedRecord, AreLoadedRecords, IsZeroRecord, IsLoadedObject, IsLoadedDirectory, AreLoadedDirectories, IsLoadedTree};
 ghost use Rattle.base.specs.declared.pointer.Pointer.{Pointer};
 ghost use Rattle.base.specs.tree.Places.{IsPlace, walk_index_of, walk_index_of_indirect, pointer_of};
 ghost use Rattle.base.specs.tree.Places.Place.{Directory, Data};
@@ -225,7 +225,7 @@ pub fn load<D: SectorDevice>(
     ensures root { IfOk result (λ l. l.tree.root ≡ root) }
     ensures placed { IfOk result (λ l. ArePlaced (frame.now.blocks) (pointers_of l.tree)) }
     ensures bounded { IfOk result (λ l. (n : ℕ) → IfSome (finite.get (objects_of l.slots.items) n)
-        (λ bytes. (n < object_count) × IsObjectContent bytes)) }
+        (IsLimitedObject n)) }
 
     // It is the one that the image holds.
     ensures tree { IsTrue D.keeps_model → IfOk result (λ l.
