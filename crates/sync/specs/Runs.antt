@@ -1,4 +1,4 @@
--- How many device calls a sync has, and how it goes on.
+-- How many device calls a sync has, and how it counts those that it made.
 use Rattle.std.specs.Prelude.{ℕ, ◌≡◌, ◌+◌, ◌<◌, ◌↔◌, All, List, Option, Some, None, Result, IfOk, if◌then◌else◌, is_ok, vec_len}
 use Rattle.base.specs.declared.error.PoolError.{PoolError}
 use Rattle.base.specs.formats.Geometry.{IsGeometry, block_count}
@@ -30,7 +30,7 @@ pub record SameSync (old new : SyncRun) : Type 0 where
   pub stages : new.stages ≡ old.stages
 
 -- it has made one call more, which is told as the last exactly where it is, or as many where that was refused
-pub record GoesOn (old : SyncRun) (result : Result SyncCall PoolError) (new : SyncRun) : Type 0 where
+pub record CountsCall (old : SyncRun) (result : Result SyncCall PoolError) (new : SyncRun) : Type 0 where
   pub same : SameSync old new
   pub done : new.done ≡ (if is_ok result then old.done + 1 else old.done)
   pub last : IfOk result (λ call. (call ≡ Last) ↔ (new.done ≡ call_count new))

@@ -52,7 +52,7 @@ impl SyncRun {
     ghost use Rattle.sync.specs.CallOrder.{call_said};
     ghost use Rattle.sync.specs.Calls.{HasCall, IsNextCall, MakesCall, MakesNextCall, TargetFits, calls_of, plain_answer, refusal_of};
     ghost use Rattle.sync.specs.Made.{KeepsWritten};
-    ghost use Rattle.sync.specs.Runs.{GoesOn, HasPlaces, call_count, other_calls};
+    ghost use Rattle.sync.specs.Runs.{CountsCall, HasPlaces, call_count, other_calls};
 
     /// A sync that has made no call yet: it writes these blocks, then this uberblock into this slot of each label, and with
     /// label stages their configs.
@@ -106,7 +106,7 @@ impl SyncRun {
         requires left { self.old.done < call_count self.old }
         ensures size { D.size device.new ≡ D.size device.old }
         ensures count { D.refused device.new ≡ counted result (D.refused device.old) }
-        ensures goes_on { GoesOn self.old result self.new }
+        ensures counts { CountsCall self.old result self.new }
         ensures called { MakesNextCall (IsTrue D.keeps_model) self.old (plain_answer result)
             (D.disk device.old) (D.disk device.new) }
         ensures written { IsTrue D.keeps_model

@@ -41,8 +41,8 @@ loop-run-preserved g c =
     let u : Uberblock = fields_of c.args.uberblock.now in
     record {
       sized = c.next.ensures.size ∙ i.sized;
-      run = sync_goes_on c.args.geometry config u c.args.first c.loop-run.run c.next.new.self c.next.ensures.goes_on.same i.run;
-      left = sync_left c.loop-run.run c.next.new.self c.next.ensures.goes_on.same i.left c.in_ok-next.ensures.goes_on.done (λ at_end. let other = sym c.in-More.is ∙ c.in_ok-next.ensures.goes_on.last.1 at_end in cc);
+      run = sync_goes_on c.args.geometry config u c.args.first c.loop-run.run c.next.new.self c.next.ensures.counts.same i.run;
+      left = sync_left c.loop-run.run c.next.new.self c.next.ensures.counts.same i.left c.in_ok-next.ensures.counts.done (λ at_end. let other = sym c.in-More.is ∙ c.in_ok-next.ensures.counts.last.1 at_end in cc);
       count = c.in_ok-next.ensures.count ∙ i.count;
       blocks = λ keeps.
           let old = g.D.SectorDevice.disk c.loop-run.device in
@@ -52,7 +52,7 @@ loop-run-preserved g c =
           (call_keeps c.args.geometry config u c.args.first c.loop-run.run old new c.requires.geometry i.run long call.call (call.made keeps));
       called = λ keeps.
           after_next c.args.geometry config u c.args.first c.loop-run.run i.run (g.D.SectorDevice.disk c.args.device.now) (g.D.SectorDevice.disk c.loop-run.device) (g.D.SectorDevice.disk c.next.new.device)
-          call.call call.next (i.called keeps) (call.made keeps) c.next.new.self.done c.in_ok-next.ensures.goes_on.done;
+          call.call call.next (i.called keeps) (call.made keeps) c.next.new.self.done c.in_ok-next.ensures.counts.done;
       made = λ keeps.
           (c.next.ensures.written keeps).made (distinct_blocks c.args.geometry config u c.args.first c.loop-run.run i.run) (bytes_of (g.D.SectorDevice.disk c.args.device.now).now) (i.made keeps);
     }
@@ -73,10 +73,10 @@ returns-clause-synced g c = λ keeps.
     let call = c.in_ok-next.ensures.called in
     let config : Config = c.args.config.now in
     let u : Uberblock = fields_of c.args.uberblock.now in
-    let all : c.next.new.self.done ≡ call_count c.next.new.self = c.in_ok-next.ensures.goes_on.last.0 c.in_default.is in
-    let run = sync_goes_on c.args.geometry config u c.args.first c.loop-run.run c.next.new.self c.next.ensures.goes_on.same i.run in
+    let all : c.next.new.self.done ≡ call_count c.next.new.self = c.in_ok-next.ensures.counts.last.0 c.in_default.is in
+    let run = sync_goes_on c.args.geometry config u c.args.first c.loop-run.run c.next.new.self c.next.ensures.counts.same i.run in
     after_next c.args.geometry config u c.args.first c.loop-run.run i.run (g.D.SectorDevice.disk c.args.device.now) (g.D.SectorDevice.disk c.loop-run.device) (g.D.SectorDevice.disk c.next.new.device)
-    call.call call.next (i.called keeps) (call.made keeps) c.next.new.self.done c.in_ok-next.ensures.goes_on.done
+    call.call call.next (i.called keeps) (call.made keeps) c.next.new.self.done c.in_ok-next.ensures.counts.done
     ∙ ap (λ (l : List DeviceCall). after_calls c.args.geometry config u l (g.D.SectorDevice.disk c.args.device.now)) (whole c.args.geometry config u c.args.first c.next.new.self run all)
 
 pub returns-clause-labelled : goal.returns-clause-labelled
@@ -84,8 +84,8 @@ returns-clause-labelled g c = λ keeps.
     let i = c.loop-run.invariant in
     let config : Config = c.args.config.now in
     let u : Uberblock = fields_of c.args.uberblock.now in
-    let all : c.next.new.self.done ≡ call_count c.next.new.self = c.in_ok-next.ensures.goes_on.last.0 c.in_default.is in
-    let run = sync_goes_on c.args.geometry config u c.args.first c.loop-run.run c.next.new.self c.next.ensures.goes_on.same i.run in
+    let all : c.next.new.self.done ≡ call_count c.next.new.self = c.in_ok-next.ensures.counts.last.0 c.in_default.is in
+    let run = sync_goes_on c.args.geometry config u c.args.first c.loop-run.run c.next.new.self c.next.ensures.counts.same i.run in
     let base : List ℕ = bytes_of (g.D.SectorDevice.disk c.args.device.now).now in
     hold_labels c.args.geometry config u c.args.first c.next.new.self run base (bytes_of (g.D.SectorDevice.disk c.next.new.device).now)
     ((c.next.ensures.written keeps).made (distinct_blocks c.args.geometry config u c.args.first c.loop-run.run i.run) base (i.made keeps)) all
@@ -95,8 +95,8 @@ returns-clause-other_slots g c = λ keeps.
     let i = c.loop-run.invariant in
     let config : Config = c.args.config.now in
     let u : Uberblock = fields_of c.args.uberblock.now in
-    let all : c.next.new.self.done ≡ call_count c.next.new.self = c.in_ok-next.ensures.goes_on.last.0 c.in_default.is in
-    let run = sync_goes_on c.args.geometry config u c.args.first c.loop-run.run c.next.new.self c.next.ensures.goes_on.same i.run in
+    let all : c.next.new.self.done ≡ call_count c.next.new.self = c.in_ok-next.ensures.counts.last.0 c.in_default.is in
+    let run = sync_goes_on c.args.geometry config u c.args.first c.loop-run.run c.next.new.self c.next.ensures.counts.same i.run in
     let base : List ℕ = bytes_of (g.D.SectorDevice.disk c.args.device.now).now in
     other_slots c.args.geometry config u c.args.first c.next.new.self run base (bytes_of (g.D.SectorDevice.disk c.next.new.device).now)
     ((c.next.ensures.written keeps).made (distinct_blocks c.args.geometry config u c.args.first c.loop-run.run i.run) base (i.made keeps)) all c.requires.geometry
