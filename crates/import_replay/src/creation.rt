@@ -11,7 +11,6 @@ ghost use Rattle.import_replay.specs.Labelled.{HoldConfig, IsLabelled};
 ghost use Rattle.import_replay.specs.Outside.{WritesAndFlushes, WritesPoolBytes};
 
 use base::{FIRST_GROUP, Group, Pointer, PoolError, PoolName, WRITTEN_VERSION};
-use checked_blocks::Block;
 use device_model::SectorDevice;
 use labels::{Geometry, LabelConfig};
 use uberblocks::{Uberblock, slot};

@@ -1,6 +1,6 @@
 //! The pool that a device has: its active uberblock, and its name.
 
-ghost use Rattle.std.specs.Prelude.{◌≡◌, ◌<◌, ◌≤◌, ◌+◌, ◌*◌, ◌⊎◌, IfErr, IfOk, IsTrue, OnOk, length, vec_len};
+ghost use Rattle.std.specs.Prelude.{◌≡◌, ◌<◌, ◌≤◌, ◌+◌, ◌*◌, IfErr, IfOk, IsTrue, OnOk, length, vec_len};
 ghost use Rattle.base.specs.disk.Disk.{bytes_of, put};
 ghost use Rattle.base.specs.formats.Fields.{part};
 ghost use Rattle.base.specs.formats.Geometry.{IsGeometry, slot_place};

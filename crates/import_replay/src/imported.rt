@@ -1,7 +1,6 @@
 //! The import of a pool: what its image mounts, and a sync that makes the image the run's own.
 
-ghost use Rattle.std.specs.Prelude.{◌≡◌, ◌<◌, ◌+◌, ◌*◌, ◌≤◌, ◌^◌, ◌⊎◌, ℕ, [], true, false, IfErr, IfOk, IfSome, IsTrue, OnOk, length, vec_len};
-ghost use Rattle.std.specs.FinMap as finite;
+ghost use Rattle.std.specs.Prelude.{◌≡◌, ◌<◌, ◌+◌, ◌≤◌, ◌^◌, ◌⊎◌, ℕ, [], true, false, IfErr, IfOk, IsTrue, OnOk};
 ghost use Rattle.base.specs.disk.Calls.{counted, with_refusal};
 ghost use Rattle.base.specs.disk.Disk.{bytes_of, certain, disk_size};
 ghost use Rattle.base.specs.steps.Exact.{AreFree, IsBounded};
@@ -9,7 +8,6 @@ ghost use Rattle.base.specs.steps.ExactNow.{IsExplainedNow};
 ghost use Rattle.base.specs.formats.Geometry.{IsGeometry, block_count};
 ghost use Rattle.base.specs.crash.Imports as numbers;
 ghost use Rattle.base.specs.crash.Imports.{IsImportOf, is_dirty_max_allowed};
-ghost use Rattle.base.specs.formats.Limits.{max_length, object_count};
 ghost use Rattle.base.specs.crash.Mount.{IsChainOf};
 ghost use Rattle.base.specs.history.Past.{new_past};
 ghost use Rattle.base.specs.tree.PlacedTrees.{ArePlaced, HoldsTree};
@@ -19,8 +17,7 @@ ghost use Rattle.base.specs.formats.Uberblocks as image;
 ghost use Rattle.base.specs.formats.Uberblocks.{IsActive};
 ghost use Rattle.uberblocks.specs.Slots.{IsWithinLimits, fields_of};
 ghost use Rattle.object_maps.specs.ContentsShown.{contents_of};
-ghost use Rattle.object_maps.specs.Loading.{IsLoadRefusal};
-ghost use Rattle.object_maps.specs.Pointers.{objects_of, pointers_of};
+ghost use Rattle.object_maps.specs.Pointers.{pointers_of};
 ghost use Rattle.import_replay.specs.ImportRefusals.{CanImport, IsImportRefusal, IsMountRefusal, IsOpenRefusal, IsReadingRefusal, IsReason, IsSyncRefusal};
 ghost use Rattle.import_replay.specs.FreeBlocks.{AreAllNamed};
 ghost use Rattle.import_replay.specs.ImportStops.{IsImportStopped, IsOpenStopped};
@@ -34,9 +31,7 @@ use crate::free_blocks::{free_set, take_lowest};
 use crate::imported_pool::Imported;
 use crate::label_sync::sync_labels;
 use crate::mounted::Mounted;
-use base::{
-    GREATEST_DIRTY_MAX, Group, LAST_NUMBER, LEAST_DIRTY_MAX, Pointer, PoolError, WRITTEN_VERSION,
-};
+use base::{GREATEST_DIRTY_MAX, Group, LAST_NUMBER, LEAST_DIRTY_MAX, PoolError, WRITTEN_VERSION};
 use checked_blocks::Frame;
 use device_model::SectorDevice;
 use labels::{Geometry, LabelConfig};

@@ -1,7 +1,7 @@
 //! The device calls of a sync, one at a time: its blocks and a flush, for a new name or an import the configs of two
 //! labels and a flush, the uberblock in each label and a flush, and then the other two labels.
 
-ghost use Rattle.std.specs.Prelude.{◌≡◌, ◌<◌, ◌+◌, ◌≤◌, ◌↔◌, All, IfErr, IfOk, IsTrue, if◌then◌else◌, is_ok, vec_len};
+ghost use Rattle.std.specs.Prelude.{◌≡◌, ◌<◌, ◌+◌, All, IfErr, IfOk, IsTrue, if◌then◌else◌, vec_len};
 ghost use Rattle.base.specs.formats.Geometry.{IsGeometry, block_count};
 ghost use Rattle.tree_plans.specs.declared.planner.PlannedBlock.{PlannedBlock};
 
@@ -45,14 +45,13 @@ pub struct SyncRun {
 }
 
 impl SyncRun {
-    ghost use Rattle.std.specs.Prelude.{ℕ, List, [], length};
-    ghost use Rattle.base.specs.disk.Disk.{bytes_of};
+    ghost use Rattle.std.specs.Prelude.{[], length};
     ghost use Rattle.base.specs.disk.SyncOrder.{DeviceCall};
     ghost use Rattle.base.specs.disk.Calls.{counted};
     ghost use Rattle.sync.specs.CallOrder.{call_said};
     ghost use Rattle.sync.specs.Calls.{HasCall, IsNextCall, MakesCall, MakesNextCall, TargetFits, calls_of, plain_answer, refusal_of};
     ghost use Rattle.sync.specs.Made.{KeepsWritten};
-    ghost use Rattle.sync.specs.Runs.{CountsCall, HasPlaces, call_count, other_calls};
+    ghost use Rattle.sync.specs.Runs.{CountsCall, HasPlaces, call_count};
 
     /// A sync that has made no call yet: it writes these blocks, then this uberblock into this slot of each label, and with
     /// label stages their configs.
