@@ -5,3 +5,4 @@ pub mod Notes
 pub mod Memory
 pub mod KeptBytes
 pub mod NotedWrites
+pub mod Reading

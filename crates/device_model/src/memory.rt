@@ -35,7 +35,7 @@ use std::marker::Model;
 ///
 /// It notes every write, and its disk over time is read from these notes. Contracts see it as that disk, the counts of
 /// its refused calls, and its fault plan.
-#[derive(Drop)]
+#[derive(Debug, Drop)]
 pub struct MemDevice {
     alloc: Global,
     sectors: u64,
@@ -141,7 +141,7 @@ impl MemDevice {
 impl SectorDevice for MemDevice {
     ghost use Rattle.base.specs.disk.Calls.{IsOnDevice, Writes, Flushes, counted};
     ghost use Rattle.device_model.specs.NotedWrites.{IsNoted, IsUnnoted};
-    ghost use Rattle.device_model.specs.Plans.{KeepsPlans};
+    ghost use Rattle.device_model.specs.Plans.{FailsAsPlanned, KeepsPlans};
 
     ghost keeps_model = { true };
 
@@ -164,13 +164,11 @@ impl SectorDevice for MemDevice {
         ensures refusal { IfErr result (λ e. e ≡ PoolError.Read) }
         ensures bytes { OnOk result
             (into.new ≡ part (bytes_of self.old.disk.now) at (length into.old)) }
-        ensures kept { OnErr result (into.new ≡ into.old) }
+        ensures unchanged { OnErr result (into.new ≡ into.old) }
         ensures disk { self.new.disk ≡ self.old.disk }
 
         // It fails as planned, and only then.
-        ensures planned { IsErr result ↔ (self.old.read_fails ≡ 1) }
-        ensures unnoted { self.new.unnoted ≡ self.old.unnoted }
-        ensures plans { KeepsPlans Fault.Read self.old self.new }
+        ensures planned { FailsAsPlanned Fault.Read result self.old self.new }
     {
         if fires(&mut self.reads) {
             self.refused.count(PoolError::Read);
@@ -215,9 +213,7 @@ impl SectorDevice for MemDevice {
         ensures disk { Flushes self.old.disk result self.new.disk }
 
         // It fails as planned, and only then.
-        ensures planned { IsErr result ↔ (self.old.flush_fails ≡ 1) }
-        ensures unnoted { self.new.unnoted ≡ self.old.unnoted }
-        ensures plans { KeepsPlans Fault.Flush self.old self.new }
+        ensures planned { FailsAsPlanned Fault.Flush result self.old self.new }
     {
         if fires(&mut self.flushes) {
             self.refused.count(PoolError::Flush);

@@ -15,7 +15,7 @@ use std::alloc::{AllocError, Global};
 /// A write: its byte place, the bytes that were there, the bytes handed, whether it answered Ok, what a crash left of
 /// it, and whether a good flush or a crash came between it and the next write. The bytes that were there are let go at
 /// that flush or crash, since none takes the write back any more.
-#[derive(Drop)]
+#[derive(Debug, Drop)]
 pub struct Note {
     pub place: u64,
     pub old: NotedBytes,

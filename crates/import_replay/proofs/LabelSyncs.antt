@@ -103,13 +103,13 @@ sync_refused (UberblockCall label) e is = inl is
 sync_refused Flush e is = inr is
 
 -- after a call that was not the last, there are calls left
-pub sync_left : (old new : SyncRun) (last : Bool) → SameSync old new → old.done < call_count old → new.done ≡ old.done + 1 → IsTrue last ↔ (new.done ≡ call_count new) → last ≡ false
+pub sync_left : (old new : SyncRun) → SameSync old new → old.done < call_count old → new.done ≡ old.done + 1 → (new.done ≡ call_count new → ⊥)
     → new.done < call_count new
-sync_left old new last same left done told not_last = by_place (cases_eq new.done (call_count new))
+sync_left old new same left done not_last = by_place (cases_eq new.done (call_count new))
   where
     count : call_count new ≡ call_count old
     count = ap (λ b. vec_len b + other_calls new.stages) same.blocks ∙ ap (λ (s : Option LabelStages). vec_len old.blocks + other_calls s) same.stages
 
     by_place : (new.done ≡ call_count new) ⊎ (new.done ≢ call_count new) → new.done < call_count new
-    by_place (inl at_end) = absurd (false≢true (subst (λ b. IsTrue b) not_last (told.1 at_end)))
+    by_place (inl at_end) = absurd (not_last at_end)
     by_place (inr before) = omega (arith, count, before, done, left)

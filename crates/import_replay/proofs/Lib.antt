@@ -10,7 +10,7 @@ pub mod LabelSyncs
 pub mod SyncedLabels
 pub mod ImportedLabels
 pub mod WrittenImports
-pub mod ByteObjects
 pub mod MountedPools
+pub mod ReadPools
 pub mod StoppedImports
 pub mod ShownMounts

@@ -1,7 +1,8 @@
 -- The pool that an import gives, from what it found, loaded and wrote.
-use Rattle.std.proofs.Common.{◌≡◌, ◌≢◌, ◌⊎◌, inl, inr, ℕ, ◌+◌, ◌≤◌, true, false, List, [], length, Some, None, refl, sym, subst, ap, ◌∙◌, arith}
-use Rattle.std.specs.Prelude.{nat_lt}
+use Rattle.std.proofs.Common.{◌≡◌, ◌≢◌, ◌⊎◌, inl, inr, ℕ, ◌+◌, ◌<◌, ◌≤◌, true, false, List, [], length, Some, None, refl, sym, subst, ap, ◌∙◌, arith}
+use Rattle.std.specs.Prelude.{IfSome, nat_lt}
 use Rattle.std.specs.Ordering.{nat_cmp}
+use Rattle.std.specs.FinMap as finite
 use Rattle.std.specs.FinMap.{FinMap, get-empty}
 use Rattle.std.specs.FinSet as set
 use Rattle.std.specs.FinSet.{FinSet}
@@ -14,7 +15,8 @@ use Rattle.base.specs.formats.Fields.{part}
 use Rattle.base.specs.formats.Geometry.{IsBlockAddress, block_count, block_size}
 use Rattle.base.specs.crash.Imports.{IsFirstLogBlock, IsImported, IsImportOf, is_dirty_max_allowed, is_past_last}
 use Rattle.base.specs.formats.Labels.{Config}
-use Rattle.base.specs.formats.Limits.{last_number}
+use Rattle.base.specs.formats.Limits.{last_number, object_count}
+use Rattle.base.specs.formats.Names.{IsName}
 use Rattle.base.specs.crash.Mount.{HasPool, IsChainOf, IsUsed, Mounts}
 use Rattle.base.specs.history.Past.{new_past}
 use Rattle.base.specs.tree.PlacedTrees.{HoldsTree, IsPlaced}
@@ -30,7 +32,9 @@ use Rattle.base.proofs.tree.PlannedTrees.{holds-elsewhere}
 use Rattle.uberblocks.proofs.Stands.{actives_agree}
 use Rattle.object_maps.specs.declared.contents.Slot.{Slot}
 use Rattle.object_maps.specs.declared.tree.Tree.{Tree}
+use Rattle.object_maps.specs.declared.contents.Contents as declared
 use Rattle.object_maps.specs.ContentsShown.{contents_of}
+use Rattle.object_maps.specs.Loading.{IsLimitedObject}
 use Rattle.object_maps.specs.Pointers.{objects_of, pointers_of}
 use Rattle.import_replay.specs.FreeBlocks.{AreAllNamed, HasTakenLowest, IsNamed}
 use Rattle.import_replay.specs.ImportRefusals.{HasAllBlocks, HasSoundPool}
@@ -75,6 +79,14 @@ sound_pool size u name tree slots image long held root pool = record {
   objects = objects_of slots;
   tree = subst (λ (n : ℕ). IsTree image (frame_at u n) u.root (objects_of slots)) (sym long)
       (subst (λ (p : Pointer). IsTree image (frame_at u size) p (objects_of slots)) root (holds-tree image (frame_at u size) (pointers_of tree) (objects_of slots) held));
+}
+
+-- contents of objects that were loaded are within the limits of a pool
+pub is_bounded : (c : declared.Contents) (slots : List Slot) → c.slots.items ≡ slots → IsName c.name
+    → ((n : ℕ) → IfSome (finite.get (objects_of slots) n) (IsLimitedObject n)) → IsBounded (contents_of c)
+is_bounded c slots is named within = record {
+  name = named;
+  objects = subst (λ (l : List Slot). (n : ℕ) → IfSome (finite.get (objects_of l) n) (IsLimitedObject n)) (sym is) within;
 }
 
 -- the lowest block that its pointers do not name is the first log block

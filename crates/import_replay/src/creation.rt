@@ -1,17 +1,16 @@
 //! A new pool.
 
 ghost use Rattle.std.specs.Prelude.{◌≡◌, ◌⊎◌, IfErr, IfOk, IsTrue, List, MatchResult, OnOk, [], ℕ};
-ghost use Rattle.base.specs.disk.Calls.{counted, with_refusal};
+ghost use Rattle.base.specs.disk.Calls.{with_refusal};
 ghost use Rattle.base.specs.disk.Disk.{CrashLeaves, Disk, bytes_of};
 ghost use Rattle.base.specs.formats.Geometry.{IsGeometry};
 ghost use Rattle.import_replay.specs.Cleared.{AreTailsCleared, IsCleared, zeros};
 ghost use Rattle.import_replay.specs.CreateRefusals.{CanCreate, IsCreateRefusal};
 ghost use Rattle.import_replay.specs.Creations.{IsCreatedOn, IsNewPool, first_config};
 ghost use Rattle.import_replay.specs.Labelled.{HoldConfig, IsLabelled};
-ghost use Rattle.import_replay.specs.Outside.{WritesPoolBytes};
+ghost use Rattle.import_replay.specs.Outside.{WritesAndFlushes, WritesPoolBytes};
 
 use base::{FIRST_GROUP, Group, Pointer, PoolError, PoolName, WRITTEN_VERSION};
-use checked_blocks::Block;
 use device_model::SectorDevice;
 use labels::{Geometry, LabelConfig};
 use uberblocks::{Uberblock, slot};
@@ -79,9 +78,7 @@ fn initialize<D: SectorDevice>(
 ) -> Result<(), PoolError>
     requires size { D.size device.old ≡ geometry }
     requires geometry { IsGeometry geometry }
-    ensures size { D.size device.new ≡ D.size device.old }
-    ensures count { D.refused device.new ≡ counted result (D.refused device.old) }
-    ensures named { IfErr result (λ e. (e ≡ PoolError.Write) ⊎ (e ≡ PoolError.Flush)) }
+    ensures calls { WritesAndFlushes D.SectorDevice result device.old device.new }
     ensures outside { IsTrue D.keeps_model → (start : Disk)
         → WritesPoolBytes geometry start (D.disk device.old)
         → WritesPoolBytes geometry start (D.disk device.new) }
@@ -101,9 +98,7 @@ fn initialize<D: SectorDevice>(
 fn clear_labels<D: SectorDevice>(device: &mut D, geometry: Geometry) -> Result<(), PoolError>
     requires size { D.size device.old ≡ geometry }
     requires geometry { IsGeometry geometry }
-    ensures size { D.size device.new ≡ D.size device.old }
-    ensures count { D.refused device.new ≡ counted result (D.refused device.old) }
-    ensures named { IfErr result (λ e. (e ≡ PoolError.Write) ⊎ (e ≡ PoolError.Flush)) }
+    ensures calls { WritesAndFlushes D.SectorDevice result device.old device.new }
     ensures outside { IsTrue D.keeps_model → (start : Disk)
         → WritesPoolBytes geometry start (D.disk device.old)
         → WritesPoolBytes geometry start (D.disk device.new) }
@@ -126,9 +121,7 @@ fn zero_tail() -> [u8; TAIL_SIZE]
 fn clear_blocks<D: SectorDevice>(device: &mut D, geometry: Geometry) -> Result<(), PoolError>
     requires size { D.size device.old ≡ geometry }
     requires geometry { IsGeometry geometry }
-    ensures size { D.size device.new ≡ D.size device.old }
-    ensures count { D.refused device.new ≡ counted result (D.refused device.old) }
-    ensures named { IfErr result (λ e. (e ≡ PoolError.Write) ⊎ (e ≡ PoolError.Flush)) }
+    ensures calls { WritesAndFlushes D.SectorDevice result device.old device.new }
     ensures outside { IsTrue D.keeps_model → (start : Disk)
         → WritesPoolBytes geometry start (D.disk device.old)
         → WritesPoolBytes geometry start (D.disk device.new) }
@@ -151,9 +144,7 @@ fn write_configs<D: SectorDevice>(
 ) -> Result<(), PoolError>
     requires size { D.size device.old ≡ geometry }
     requires geometry { IsGeometry geometry }
-    ensures size { D.size device.new ≡ D.size device.old }
-    ensures count { D.refused device.new ≡ counted result (D.refused device.old) }
-    ensures named { IfErr result (λ e. (e ≡ PoolError.Write) ⊎ (e ≡ PoolError.Flush)) }
+    ensures calls { WritesAndFlushes D.SectorDevice result device.old device.new }
     ensures outside { IsTrue D.keeps_model → (start : Disk)
         → WritesPoolBytes geometry start (D.disk device.old)
         → WritesPoolBytes geometry start (D.disk device.new) }
@@ -179,9 +170,7 @@ fn write_uberblocks<D: SectorDevice>(
 ) -> Result<(), PoolError>
     requires size { D.size device.old ≡ geometry }
     requires geometry { IsGeometry geometry }
-    ensures size { D.size device.new ≡ D.size device.old }
-    ensures count { D.refused device.new ≡ counted result (D.refused device.old) }
-    ensures named { IfErr result (λ e. (e ≡ PoolError.Write) ⊎ (e ≡ PoolError.Flush)) }
+    ensures calls { WritesAndFlushes D.SectorDevice result device.old device.new }
     ensures outside { IsTrue D.keeps_model → (start : Disk)
         → WritesPoolBytes geometry start (D.disk device.old)
         → WritesPoolBytes geometry start (D.disk device.new) }

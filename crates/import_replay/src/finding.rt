@@ -1,13 +1,14 @@
 //! The pool that a device has: its active uberblock, and its name.
 
-ghost use Rattle.std.specs.Prelude.{◌≡◌, ◌<◌, ◌≤◌, ◌+◌, ◌*◌, ◌⊎◌, IfErr, IfOk, IsTrue, OnOk, length, vec_len};
-ghost use Rattle.base.specs.disk.Calls.{counted};
+ghost use Rattle.std.specs.Prelude.{◌≡◌, ◌<◌, ◌≤◌, ◌+◌, ◌*◌, IfErr, IfOk, IsTrue, OnOk, length, vec_len};
 ghost use Rattle.base.specs.disk.Disk.{bytes_of, put};
 ghost use Rattle.base.specs.formats.Fields.{part};
 ghost use Rattle.base.specs.formats.Geometry.{IsGeometry, slot_place};
 ghost use Rattle.base.specs.formats.Labels.{HasNoCandidate};
+ghost use Rattle.base.specs.formats.Names.{IsName};
 ghost use Rattle.base.specs.crash.Mount.{HasPool};
 ghost use Rattle.base.specs.formats.Uberblocks.{IsActive};
+ghost use Rattle.device_model.specs.Reading.{OnlyReads};
 ghost use Rattle.uberblocks.specs.Slots.{IsWithinLimits, fields_of};
 ghost use Rattle.labels.specs.Choices.{AreRead, IsRead};
 ghost use Rattle.import_replay.specs.ImportRefusals.{IsFindRefusal, IsReason};
@@ -30,6 +31,8 @@ pub(crate) struct Found {
     pub name: PoolName,
     /// The pair of labels that an import may write first.
     pub first: Stage,
+    ghost limits: { IsWithinLimits (fields_of uberblock) },
+    ghost named: { IsName name },
 }
 
 // The pool of a device: its active uberblock, and the name of the config that is chosen for it.
@@ -40,11 +43,8 @@ pub(crate) fn find_pool<D: SectorDevice>(
 ) -> Result<Found, PoolError>
     requires sized { D.size device.old ≡ geometry }
     requires geometry { IsGeometry geometry }
-    ensures size { D.size device.new ≡ D.size device.old }
-    ensures disk { IsTrue D.keeps_model → D.disk device.new ≡ D.disk device.old }
-    ensures count { D.refused device.new ≡ counted result (D.refused device.old) }
+    ensures reads { OnlyReads D.SectorDevice result device.old device.new }
     ensures refused { IfErr result IsFindRefusal }
-    ensures limits { IfOk result (λ f. IsWithinLimits (fields_of f.uberblock)) }
     ensures pool { IsTrue D.keeps_model → IfOk result
         (λ f. HasPool (bytes_of (D.disk device.old).now) (fields_of f.uberblock) f.name) }
     ensures first { IsTrue D.keeps_model → IfOk result
@@ -69,9 +69,7 @@ fn read_uberblock<D: SectorDevice>(
     geometry: Geometry,
 ) -> Result<Uberblock, PoolError>
     requires { D.size device.old ≡ geometry }
-    ensures size { D.size device.new ≡ D.size device.old }
-    ensures disk { IsTrue D.keeps_model → D.disk device.new ≡ D.disk device.old }
-    ensures count { D.refused device.new ≡ counted result (D.refused device.old) }
+    ensures reads { OnlyReads D.SectorDevice result device.old device.new }
     ensures refused { IfErr result IsFindRefusal }
     ensures limits { IfOk result (λ u. IsWithinLimits (fields_of u)) }
     ensures active { IsTrue D.keeps_model → IfOk result
@@ -103,9 +101,7 @@ fn read_array<D: SectorDevice>(
     requires sized { D.size device.old ≡ geometry }
     requires label { label < 4 }
     requires ring { length ring.old ≡ 524288 }
-    ensures size { D.size device.new ≡ D.size device.old }
-    ensures disk { IsTrue D.keeps_model → D.disk device.new ≡ D.disk device.old }
-    ensures count { D.refused device.new ≡ counted result (D.refused device.old) }
+    ensures reads { OnlyReads D.SectorDevice result device.old device.new }
     ensures refused { IfErr result (λ e. e ≡ PoolError.Read) }
     ensures length { length ring.new ≡ 524288 }
     ensures within { slot_place geometry label 0 + 131072 ≤ geometry }
@@ -125,9 +121,7 @@ fn read_name<D: SectorDevice>(
     uberblock: &Uberblock,
 ) -> Result<(PoolName, Stage), PoolError>
     requires { D.size device.old ≡ geometry }
-    ensures size { D.size device.new ≡ D.size device.old }
-    ensures disk { IsTrue D.keeps_model → D.disk device.new ≡ D.disk device.old }
-    ensures count { D.refused device.new ≡ counted result (D.refused device.old) }
+    ensures reads { OnlyReads D.SectorDevice result device.old device.new }
     ensures refused { IfErr result IsFindRefusal }
     ensures name { IsTrue D.keeps_model → IfOk result
         (λ r. HasName (bytes_of (D.disk device.old).now)
@@ -137,6 +131,7 @@ fn read_name<D: SectorDevice>(
         uberblock.now.guid uberblock.now.group.0 r.0 (is_even r.1)) }
     ensures none { IsTrue D.keeps_model → IfErr result
         (LacksName (bytes_of (D.disk device.old).now) uberblock.now.guid uberblock.now.group.0) }
+    ensures grammar { IfOk result (λ r. IsName r.0) }
 {
     let configs = read_configs(device, geometry)?;
     choose_name(&configs, uberblock)
@@ -154,7 +149,8 @@ fn choose_name(
         (is_even r.1)) }
     ensures none { IfErr result (λ e. e ≡ PoolError.NoPool
         → HasNoCandidate configs.now uberblock.now.guid uberblock.now.group.0) }
-    ensures refused { IfErr result (λ e. (e ≡ PoolError.NoMemory) ⊎ (e ≡ PoolError.NoPool)) }
+    ensures refused { IfErr result (λ e. e ≡ PoolError.NoPool) }
+    ensures grammar { IfOk result (λ r. IsName r.0) }
 {
     let chosen = choose(configs, uberblock.guid, uberblock.group)?;
     let first = if is_kept_in_odd(configs, chosen) {
@@ -162,14 +158,15 @@ fn choose_name(
     } else {
         Stage::Odd
     };
-    Ok((copy_name(chosen.name())?, first))
+    Ok((copy_name(chosen.name()), first))
 }
 
-pub(crate) fn copy_name(name: &PoolName) -> Result<PoolName, PoolError>
-    ensures same { IfOk result (λ n. n ≡ name.now) }
-    ensures refused { IfErr result (λ e. e ≡ PoolError.NoMemory) }
+// A copy of a name, in place as the name is: it takes no memory.
+pub(crate) fn copy_name(name: &PoolName) -> PoolName
+    ensures copy { result ≡ name.now }
+    ensures name { IsName result }
 {
-    Ok(name.clone()?)
+    PoolName::new(name.as_slice()).unwrap()
 }
 
 // What the four labels hold.
@@ -178,9 +175,7 @@ fn read_configs<D: SectorDevice>(
     geometry: Geometry,
 ) -> Result<[Option<LabelConfig>; 4], PoolError>
     requires { D.size device.old ≡ geometry }
-    ensures size { D.size device.new ≡ D.size device.old }
-    ensures disk { IsTrue D.keeps_model → D.disk device.new ≡ D.disk device.old }
-    ensures count { D.refused device.new ≡ counted result (D.refused device.old) }
+    ensures reads { OnlyReads D.SectorDevice result device.old device.new }
     ensures refused { IfErr result (λ e. e ≡ PoolError.Read) }
     ensures configs { IsTrue D.keeps_model
         → IfOk result (AreRead (bytes_of (D.disk device.old).now)) }
@@ -200,9 +195,7 @@ fn read_config<D: SectorDevice>(
 ) -> Result<Option<LabelConfig>, PoolError>
     requires sized { D.size device.old ≡ geometry }
     requires label { label < 4 }
-    ensures size { D.size device.new ≡ D.size device.old }
-    ensures disk { IsTrue D.keeps_model → D.disk device.new ≡ D.disk device.old }
-    ensures count { D.refused device.new ≡ counted result (D.refused device.old) }
+    ensures reads { OnlyReads D.SectorDevice result device.old device.new }
     ensures refused { IfErr result (λ e. e ≡ PoolError.Read) }
     ensures config { IsTrue D.keeps_model
         → IfOk result (IsRead (bytes_of (D.disk device.old).now) label) }

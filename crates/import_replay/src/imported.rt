@@ -1,7 +1,6 @@
 //! The import of a pool: what its image mounts, and a sync that makes the image the run's own.
 
-ghost use Rattle.std.specs.Prelude.{◌≡◌, ◌<◌, ◌+◌, ◌*◌, ◌≤◌, ◌^◌, ◌⊎◌, ℕ, [], true, false, IfErr, IfOk, IfSome, IsTrue, OnOk, length, vec_len};
-ghost use Rattle.std.specs.FinMap as finite;
+ghost use Rattle.std.specs.Prelude.{◌≡◌, ◌<◌, ◌+◌, ◌≤◌, ◌^◌, ◌⊎◌, ℕ, [], true, false, IfErr, IfOk, IsTrue, OnOk};
 ghost use Rattle.base.specs.disk.Calls.{counted, with_refusal};
 ghost use Rattle.base.specs.disk.Disk.{bytes_of, certain, disk_size};
 ghost use Rattle.base.specs.steps.Exact.{AreFree, IsBounded};
@@ -9,7 +8,6 @@ ghost use Rattle.base.specs.steps.ExactNow.{IsExplainedNow};
 ghost use Rattle.base.specs.formats.Geometry.{IsGeometry, block_count};
 ghost use Rattle.base.specs.crash.Imports as numbers;
 ghost use Rattle.base.specs.crash.Imports.{IsImportOf, is_dirty_max_allowed};
-ghost use Rattle.base.specs.formats.Limits.{max_length, object_count};
 ghost use Rattle.base.specs.crash.Mount.{IsChainOf};
 ghost use Rattle.base.specs.history.Past.{new_past};
 ghost use Rattle.base.specs.tree.PlacedTrees.{ArePlaced, HoldsTree};
@@ -19,8 +17,7 @@ ghost use Rattle.base.specs.formats.Uberblocks as image;
 ghost use Rattle.base.specs.formats.Uberblocks.{IsActive};
 ghost use Rattle.uberblocks.specs.Slots.{IsWithinLimits, fields_of};
 ghost use Rattle.object_maps.specs.ContentsShown.{contents_of};
-ghost use Rattle.object_maps.specs.Loading.{IsLoadRefusal};
-ghost use Rattle.object_maps.specs.Pointers.{objects_of, pointers_of};
+ghost use Rattle.object_maps.specs.Pointers.{pointers_of};
 ghost use Rattle.import_replay.specs.ImportRefusals.{CanImport, IsImportRefusal, IsMountRefusal, IsOpenRefusal, IsReadingRefusal, IsReason, IsSyncRefusal};
 ghost use Rattle.import_replay.specs.FreeBlocks.{AreAllNamed};
 ghost use Rattle.import_replay.specs.ImportStops.{IsImportStopped, IsOpenStopped};
@@ -29,15 +26,12 @@ ghost use Rattle.import_replay.specs.Labelled.{HasOtherSlots};
 ghost use Rattle.import_replay.specs.LabelSyncs.{HasSameBlocks, after_calls, is_even};
 ghost use Rattle.import_replay.specs.Mounts.{IsImport, IsMountedFrom, frame_of_import, shown_of_import};
 
-use crate::bounds::see_bytes;
 use crate::finding::{Found, copy_name, find_pool};
 use crate::free_blocks::{free_set, take_lowest};
 use crate::imported_pool::Imported;
 use crate::label_sync::sync_labels;
 use crate::mounted::Mounted;
-use base::{
-    GREATEST_DIRTY_MAX, Group, LAST_NUMBER, LEAST_DIRTY_MAX, Pointer, PoolError, WRITTEN_VERSION,
-};
+use base::{GREATEST_DIRTY_MAX, Group, LAST_NUMBER, LEAST_DIRTY_MAX, PoolError, WRITTEN_VERSION};
 use checked_blocks::Frame;
 use device_model::SectorDevice;
 use labels::{Geometry, LabelConfig};
@@ -197,9 +191,6 @@ fn mount_pool<D: SectorDevice>(
         found.uberblock.group,
     );
     let loaded = load(alloc, device, &frame, found.uberblock.root)?;
-    // The name is one, and the objects hold bytes, as their types say.
-    let _name = found.name.as_slice();
-    see_bytes(loaded.slots.as_slice());
     if is_past_last(&found.uberblock) {
         return Err(PoolError::TooMany);
     }
@@ -226,7 +217,6 @@ fn open_pool<D: SectorDevice>(
 ) -> Result<Mounted, PoolError>
     requires sized { D.size device.old ≡ geometry }
     requires geometry { IsGeometry geometry }
-    requires limits { IsWithinLimits (fields_of found.uberblock) }
     requires within { numbers.is_past_last found.uberblock.group.0 found.uberblock.import_number
         ≡ false }
     requires placed { ArePlaced (block_count geometry) (pointers_of loaded.tree) }
@@ -237,7 +227,7 @@ fn open_pool<D: SectorDevice>(
     ensures refused { IfErr result IsOpenRefusal }
     ensures mounted { IfOk result
         (IsMountedFrom (fields_of found.uberblock) found.name loaded.slots.items loaded.tree dirty_max) }
-    ensures kept { IsTrue D.keeps_model
+    ensures same_blocks { IsTrue D.keeps_model
         → OnOk result (HasSameBlocks geometry (bytes_of (D.disk device.old).now)
         (bytes_of (D.disk device.new).now)) }
     ensures full { IfErr result (λ e. e ≡ PoolError.NoSpace
@@ -254,7 +244,7 @@ fn open_pool<D: SectorDevice>(
         e (D.disk device.old) (D.disk device.new)) }
     ensures labelled { IsTrue D.keeps_model
         → IfOk result (IsImportLabelled (D.disk device.new) moment) }
-    ensures others { IsTrue D.keeps_model
+    ensures other_slots { IsTrue D.keeps_model
         → OnOk result (HasOtherSlots geometry (found.uberblock.group.0 + 4)
         (bytes_of (D.disk device.old).now) (bytes_of (D.disk device.new).now)) }
     ensures settled { IsTrue D.keeps_model → OnOk result ((D.disk device.new).now.unflushed ≡ []) }
@@ -274,7 +264,7 @@ fn open_pool<D: SectorDevice>(
         next.guid,
         next.group,
         geometry.size(),
-        copy_name(&found.name)?,
+        copy_name(&found.name),
     );
     sync_labels(alloc, device, geometry, &next, &config, found.first)?;
     Ok(Mounted {
@@ -283,10 +273,7 @@ fn open_pool<D: SectorDevice>(
         guid: next.guid,
         group: next.group,
         import_number: next.import_number,
-        contents: Contents {
-            name: found.name,
-            slots: loaded.slots,
-        },
+        contents: Contents::of(found.name, loaded.slots),
         tree: loaded.tree,
         free,
         log_address: next.log_address,

@@ -10,7 +10,7 @@ use base::Group;
 use device_model::SectorDevice;
 
 /// An imported pool, with the device that it lies on.
-#[derive(Drop)]
+#[derive(Debug, Drop)]
 pub struct Imported<D: SectorDevice> {
     pub device: D,
     pub mounted: Mounted,

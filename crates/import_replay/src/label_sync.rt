@@ -15,7 +15,7 @@ use base::PoolError;
 use device_model::SectorDevice;
 use labels::{Geometry, LabelConfig, Stage};
 use std::alloc::Global;
-use sync::{LabelStages, SyncRun};
+use sync::{LabelStages, SyncCall, SyncRun};
 use uberblocks::{Uberblock, slot};
 
 // Writes the labels of an import: the sync has no blocks, and both label stages.
@@ -34,7 +34,7 @@ pub(crate) fn sync_labels<D: SectorDevice>(
     ensures size { D.size device.new ≡ D.size device.old }
     ensures count { D.refused device.new ≡ counted result (D.refused device.old) }
     ensures refused { IfErr result IsSyncRefusal }
-    ensures kept { IsTrue D.keeps_model
+    ensures same_blocks { IsTrue D.keeps_model
         → OnOk result (HasSameBlocks geometry (bytes_of (D.disk device.old).now)
         (bytes_of (D.disk device.new).now)) }
     ensures synced { IsTrue D.keeps_model → OnOk result (D.disk device.new
@@ -46,13 +46,13 @@ pub(crate) fn sync_labels<D: SectorDevice>(
     ensures labelled { IsTrue D.keeps_model
         → OnOk result (HoldLabels geometry config.now (fields_of uberblock.now)
         (bytes_of (D.disk device.new).now)) }
-    ensures others { IsTrue D.keeps_model
+    ensures other_slots { IsTrue D.keeps_model
         → OnOk result (HasOtherSlots geometry uberblock.now.group.0
         (bytes_of (D.disk device.old).now) (bytes_of (D.disk device.new).now)) }
     ensures settled { IsTrue D.keeps_model → OnOk result ((D.disk device.new).now.unflushed ≡ []) }
 {
     let mut run = label_run(alloc, geometry, uberblock, config, first);
-    while !run.next(device)? {}
+    while let SyncCall::More = run.next(device)? {}
     Ok(())
 }
 

@@ -2,7 +2,6 @@
 //! there (On-Disk Specification, chapter 1).
 #![tactic(auto)]
 
-mod bounds;
 mod creation;
 mod finding;
 mod free_blocks;

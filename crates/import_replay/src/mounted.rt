@@ -12,7 +12,7 @@ use space::FreeSet;
 use std::alloc::Global;
 
 /// What an import mounted and wrote.
-#[derive(Drop)]
+#[derive(Debug, Drop, PartialEq, Eq)]
 pub struct Mounted {
     pub alloc: Global,
     pub geometry: Geometry,

@@ -45,7 +45,7 @@ fn is_kept(config: &Option<LabelConfig>, chosen: &LabelConfig) -> bool
     ensures { IsTrue result ↔ (config.now ≡ Some chosen.now) }
 {
     match config {
-        Some(config) => config.is_same(chosen),
+        Some(config) => config == chosen,
         None => false,
     }
 }

@@ -38,7 +38,7 @@ const HEAD: usize = 24;
 const MAX_FIELDS: usize = HEAD + MAX_NAME;
 
 /// What the config of a label says (On-Disk Specification, chapter 1). Contracts see it as the record of its four fields.
-#[derive(Clone, Drop)]
+#[derive(Clone, Debug, Drop, PartialEq, Eq)]
 pub struct LabelConfig {
     guid: u64,
     group: Group,
@@ -52,6 +52,13 @@ impl Model for LabelConfig {
     ghost Value = { Config };
 
     ghost view = { λ c. record { guid = c.guid; group = c.group.0; size = c.size; name = c.name } };
+
+    ghost inverse = { λ c. record {
+      guid = c.guid;
+      group = record { 0 = c.group };
+      size = c.size;
+      name = c.name;
+    } };
 }
 
 impl LabelConfig {
@@ -149,16 +156,6 @@ impl LabelConfig {
         ensures { IsTrue result ↔ ((self.now.guid ≡ guid) × (self.now.group ≤ group.0)) }
     {
         self.guid == guid && self.group <= group
-    }
-
-    /// Whether the two say the same.
-    pub(crate) fn is_same(&self, other: &LabelConfig) -> bool
-        ensures { IsTrue result ↔ (self.now ≡ other.now) }
-    {
-        self.guid == other.guid
-            && self.group == other.group
-            && self.size == other.size
-            && self.name.as_slice() == other.name.as_slice()
     }
 }
 

@@ -4,7 +4,7 @@ use Rattle.std.specs.Prelude.{Bool, IsTrue}
 use Rattle.std.proofs.lemmas.List.{ext_get_or, get_or-take, get_or-drop, get_or-replicate, get_or_past, get_or_default, length-replicate, length-take, length-take-le, length-drop, take_all, take-append-drop}
 use Rattle.std.proofs.lemmas.Bool.{cases_lt, cases_eq}
 use Rattle.base.specs.declared.pointer.Pointer.{Pointer}
-use Rattle.base.specs.formats.Limits.{max_length, record_size, pointer_count}
+use Rattle.base.specs.formats.Limits.{record_size, pointer_count}
 use Rattle.base.specs.formats.Fields.{part, pointer_in, no_pointer}
 use Rattle.base.specs.disk.Disk.{put}
 use Rattle.base.specs.formats.Geometry.{IsBlockAddress}
@@ -13,7 +13,7 @@ use Rattle.base.specs.tree.Places.Place.{Indirect, Data}
 use Rattle.base.specs.tree.Tree.{OpensAt, IsRecord, record_bytes}
 use Rattle.base.proofs.disk.Put.{length-put, part-put_same, part-put_apart}
 use Rattle.object_maps.specs.Pointers.{pointer_of_list}
-use Rattle.object_maps.specs.Loading.{IsLoadedRecord, IsZeroRecord, AreLoadedRecords, IsLoadedObject}
+use Rattle.object_maps.specs.Loading.{IsLoadedRecord, IsZeroRecord, AreLoadedRecords, IsLoadedObject, IsObjectContent}
 
 -- bytes that are all zero
 zeros-by : (xs : List ℕ) → ((i : ℕ) → i < length xs → get_or xs i 0 ≡ 0) → xs ≡ replicate (length xs) 0
@@ -136,23 +136,23 @@ records_load keeps image frame n records bytes new count so_far d within here ot
 -- an object with its indirect block and all its records
 pub object_loaded : (keeps : Bool) (image : List ℕ) (frame : Frame) (n : ℕ) (indirect : Pointer) (records : List Pointer) (bytes payload : List ℕ)
     → IsBlockAddress frame.blocks indirect.address → (IsTrue keeps → OpensAt image frame (Indirect n) indirect payload)
-    → ((r : ℕ) → r < pointer_count → pointer_of_list records r ≡ pointer_in payload r) → length bytes ≤ max_length
+    → ((r : ℕ) → r < pointer_count → pointer_of_list records r ≡ pointer_in payload r) → IsObjectContent bytes
     → AreLoadedRecords keeps image frame n records bytes pointer_count → IsLoadedObject keeps image frame n (Some bytes) indirect records
-object_loaded keeps image frame n indirect records bytes payload placed opens pointers short all = record {
+object_loaded keeps image frame n indirect records bytes payload placed opens pointers content all = record {
   placed = inr placed;
   records_placed = λ r low. (all.loaded r low).placed;
-  bounded = short;
+  bounded = content;
   stands = λ k. inr (payload, opens k, λ r low. sym (pointers r low));
   records_stand = λ k r low. (all.loaded r low).stands k;
 }
 
 -- an object with no indirect block
 pub hole_loaded : (keeps : Bool) (image : List ℕ) (frame : Frame) (n : ℕ) (indirect : Pointer) (bytes : List ℕ) → indirect ≡ no_pointer
-    → length bytes ≤ max_length → bytes ≡ replicate (length bytes) 0 → IsLoadedObject keeps image frame n (Some bytes) indirect []
-hole_loaded keeps image frame n indirect bytes none short zeros = record {
+    → IsObjectContent bytes → bytes ≡ replicate (length bytes) 0 → IsLoadedObject keeps image frame n (Some bytes) indirect []
+hole_loaded keeps image frame n indirect bytes none content zeros = record {
   placed = inl none;
   records_placed = λ r low. inl refl;
-  bounded = short;
+  bounded = content;
   stands = λ k. inl (none, λ r low. refl);
   records_stand = λ k r low. inl (refl, zero_records bytes zeros r);
 }

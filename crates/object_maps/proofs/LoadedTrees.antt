@@ -8,7 +8,7 @@ use Rattle.std.proofs.lemmas.List.Elements.{All-head, All-tail}
 use Rattle.std.proofs.lemmas.Bool.{cases_lt}
 use Rattle.std.proofs.lemmas.Option.{slice_get_past}
 use Rattle.base.specs.declared.pointer.Pointer.{Pointer}
-use Rattle.base.specs.formats.Limits.{object_count, max_length, pointer_count, entry_count}
+use Rattle.base.specs.formats.Limits.{object_count, pointer_count, entry_count}
 use Rattle.base.specs.formats.Fields.{pointer_in, entry_in, no_pointer}
 use Rattle.base.specs.formats.Geometry.{IsBlockAddress}
 use Rattle.base.specs.formats.Blocks.{Frame}
@@ -21,7 +21,7 @@ use Rattle.object_maps.specs.declared.tree.ObjectMap.{ObjectMap}
 use Rattle.object_maps.specs.ContentsShown.{object_in, object_of}
 use Rattle.object_maps.specs.Pointers.{objects_of, pointers_at, pointer_of_list, indirect_of, records_of}
 use Rattle.object_maps.specs.EmptyMaps.{IsEmptyMap}
-use Rattle.object_maps.specs.Loading.{IsLoadedAt, AreEmptyFrom, DirectoryStands, AreLoadedDirectories, IsLoadedTree}
+use Rattle.object_maps.specs.Loading.{IsLoadedAt, IsLimitedObject, IsObjectContent, AreEmptyFrom, DirectoryStands, AreLoadedDirectories, IsLoadedTree}
 use Rattle.object_maps.proofs.ContentsShown.{get-objects, absent_at}
 use Rattle.object_maps.proofs.LoadedEntries.{no_directory}
 
@@ -68,14 +68,14 @@ object_past slots n long past = get-objects slots n ∙ ap (λ (o : Option Slot)
 
 -- its objects are within their limits
 pub tree_bounded : (keeps : Bool) (image : List ℕ) (frame : Frame) (root : Pointer) (directories : List Pointer) (slots : List Slot) (maps : List ObjectMap) → length slots ≡ object_count
-    → IsLoadedTree keeps image frame root directories slots maps → (n : ℕ) → IfSome (finite.get (objects_of slots) n) (λ bytes. (n < object_count) × (length bytes ≤ max_length))
+    → IsLoadedTree keeps image frame root directories slots maps → (n : ℕ) → IfSome (finite.get (objects_of slots) n) (IsLimitedObject n)
 tree_bounded keeps image frame root directories slots maps long t n = go (cases_lt n object_count)
   where
-    both : (low : n < object_count) (o : Option (List ℕ)) → IfSome o (λ bytes. length bytes ≤ max_length) → IfSome o (λ bytes. (n < object_count) × (length bytes ≤ max_length))
+    both : (low : n < object_count) (o : Option (List ℕ)) → IfSome o IsObjectContent → IfSome o (IsLimitedObject n)
     both low None h = tt
-    both low (Some bytes) h = (low, h)
+    both low (Some bytes) h = (low, h.0, h.1)
 
-    go : (n < object_count) ⊎ (object_count ≤ n) → IfSome (finite.get (objects_of slots) n) (λ bytes. (n < object_count) × (length bytes ≤ max_length))
+    go : (n < object_count) ⊎ (object_count ≤ n) → IfSome (finite.get (objects_of slots) n) (IsLimitedObject n)
     go (inl low) = rw (get-objects slots n) (both low (object_in slots n) (object_loaded_at keeps image frame root directories slots maps t n low).bounded)
     go (inr past) = rw (object_past slots n long past) tt
 

@@ -1,13 +1,17 @@
 -- What the parts of a load say: of the objects that are loaded so far, and of the image that the device has.
-use Rattle.std.specs.Prelude.{ℕ, ◌≡◌, Bool, true, IsTrue, List, length}
+use Rattle.std.specs.Prelude.{ℕ, ◌≡◌, ◌<◌, Bool, true, IsTrue, List, length}
 use Rattle.base.specs.declared.pointer.Pointer.{Pointer}
 use Rattle.base.specs.disk.Disk.{Disk, bytes_of}
 use Rattle.base.specs.formats.Blocks.{Frame}
+use Rattle.base.specs.formats.Fields.{entry_in}
+use Rattle.base.specs.formats.Limits.{entry_count, record_size, pointer_count}
+use Rattle.base.specs.tree.Faults.{IsEntryForm, IsRecordPointerForm}
 use Rattle.object_maps.specs.declared.contents.Slot.{Slot}
 use Rattle.object_maps.specs.declared.tree.ObjectMap.{ObjectMap}
 use Rattle.object_maps.specs.declared.walk.Entry.{Entry}
 use Rattle.object_maps.specs.declared.objects.Objects.{Objects}
 use Rattle.object_maps.specs.Loading.{AreEmptyFrom, AreLoadedEntries, SameBut, Shows}
+use Rattle.object_maps.specs.Pointers.{pointer_of_list}
 
 -- what holds of the image that the device has, where it keeps the model, and of each image where it doesn't
 abbrev pub OnImage : Bool → Disk → (List ℕ → Type 0) → Type 0
@@ -29,8 +33,18 @@ KeepsOthers start count old new = SameBut start count old.slots.items new.slots.
 abbrev pub LoadsEntries : Bool → List ℕ → Frame → ℕ → List ℕ → ℕ → Objects → Objects → Type 0
 LoadsEntries keeps image frame d payload count old new = AreLoadedEntries keeps image frame d payload count old.slots.items new.slots.items old.maps.items new.maps.items
 
+-- the payload of a directory has the size of one, and each of its entries is absent and all zeros, or present and within its limits
+pub record IsEntryPayload (payload : List ℕ) : Type 0 where
+  pub size : length payload ≡ record_size
+  pub each : (k : ℕ) → k < entry_count → IsEntryForm (entry_in payload k)
+
+-- these are the pointers to the records of an object of so many bytes: from its end on there are none
+pub record AreRecordPointers (size : ℕ) (records : List Pointer) : Type 0 where
+  pub count : length records ≡ pointer_count
+  pub each : (r : ℕ) → r < pointer_count → IsRecordPointerForm size r (pointer_of_list records r)
+
 -- an object is there with the length and the pointer that its entry has
-pub record IsObjectTold (entry : Entry) (slot : Slot) (map : ObjectMap) : Type 0 where
+pub record IsObjectOf (entry : Entry) (slot : Slot) (map : ObjectMap) : Type 0 where
   pub present : slot.present ≡ true
   pub size : length slot.bytes.items ≡ entry.length
   pub indirect : map.indirect ≡ entry.pointer

@@ -1,9 +1,10 @@
 -- What a load of a tree puts into memory, and how it stands for what the image has.
-use Rattle.std.specs.Prelude.{ℕ, ◌≡◌, ◌≤◌, ◌<◌, ◌+◌, ◌*◌, ◌⊎◌, Bool, IsTrue, List, [], Option, None, IfSome, length, slice_get, replicate}
+use Rattle.std.specs.Prelude.{ℕ, ◌≡◌, ◌≤◌, ◌<◌, ◌+◌, ◌*◌, ◌⊎◌, Bool, true, IsTrue, List, [], Option, None, IfSome, length, nat_lt, slice_get, replicate}
+use Rattle.std.specs.List.{list_all}
 use Rattle.base.specs.declared.error.PoolError.{PoolError}
 use Rattle.base.specs.declared.error.PoolError.TheVariants.{NoMemory, Read, Damaged}
 use Rattle.base.specs.declared.pointer.Pointer.{Pointer}
-use Rattle.base.specs.formats.Limits.{max_length, pointer_count, entry_count}
+use Rattle.base.specs.formats.Limits.{object_count, max_length, pointer_count, entry_count}
 use Rattle.base.specs.formats.Fields.{pointer_in, entry_in, no_pointer}
 use Rattle.base.specs.disk.Disk.{Disk, bytes_of}
 use Rattle.base.specs.formats.Blocks.{Frame}
@@ -43,11 +44,19 @@ IndirectStands image frame n indirect records =
     ((indirect ≡ no_pointer) × ((r : ℕ) → r < pointer_count → pointer_of_list records r ≡ no_pointer))
     ⊎ ((payload : List ℕ) × OpensAt image frame (Indirect n) indirect payload × ((r : ℕ) → r < pointer_count → pointer_in payload r ≡ pointer_of_list records r))
 
+-- the content of an object: no more than its greatest length, and bytes
+abbrev pub IsObjectContent : List ℕ → Type 0
+IsObjectContent content = (length content ≤ max_length) × (list_all (λ b. nat_lt b 256) content ≡ true)
+
+-- object n, with its content, is within the limits of a pool
+abbrev pub IsLimitedObject : ℕ → List ℕ → Type 0
+IsLimitedObject n content = (n < object_count) × (length content ≤ max_length) × (list_all (λ b. nat_lt b 256) content ≡ true)
+
 -- object n, with these pointers to its indirect block and its records
 pub record IsLoadedObject (keeps : Bool) (image : List ℕ) (frame : Frame) (n : ℕ) (object : Option (List ℕ)) (indirect : Pointer) (records : List Pointer) : Type 0 where
   pub placed : IsPlaced frame.blocks indirect
   pub records_placed : (r : ℕ) → r < pointer_count → IsPlaced frame.blocks (pointer_of_list records r)
-  pub bounded : IfSome object (λ bytes. length bytes ≤ max_length)
+  pub bounded : IfSome object IsObjectContent
   pub stands : IsTrue keeps → IndirectStands image frame n indirect records
   pub records_stand : IsTrue keeps → (r : ℕ) → r < pointer_count → IfSome object (λ bytes. IsRecord image frame n r (pointer_of_list records r) bytes)
 

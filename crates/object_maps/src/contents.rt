@@ -11,14 +11,14 @@ use base::{OBJECT_COUNT, ObjectId, Op, PoolError, PoolName};
 use std::alloc::{AllocError, Global};
 
 /// The place of one object: whether it is there, and its bytes. Where it is not there the bytes mean nothing: room may be taken for it before.
-#[derive(Debug, Drop)]
+#[derive(Debug, Drop, PartialEq, Eq)]
 pub struct Slot {
     pub present: bool,
     pub bytes: Vec<u8>,
 }
 
 /// The name of a pool, and a slot for each object number.
-#[derive(Drop)]
+#[derive(Debug, Drop, PartialEq, Eq)]
 pub struct Contents {
     pub name: PoolName,
     pub slots: Vec<Slot>,
@@ -106,7 +106,16 @@ impl Contents {
             contents_of c ≡ record { name = name; objects = finite.empty }) }
     {
         let slots = empty_slots(alloc)?;
-        Ok(Contents { name, slots })
+        Ok(Contents::of(name, slots))
+    }
+
+    /// The contents with this name and the objects of these slots.
+    pub fn of(name: PoolName, slots: Vec<Slot>) -> Self
+        requires { vec_len slots ≡ 5292 }
+        ensures name { result.name ≡ name }
+        ensures slots { result.slots ≡ slots }
+    {
+        Contents { name, slots }
     }
 
     /// The bytes of an object, if it is there.

@@ -6,7 +6,7 @@ use crate::contents::Slot;
 use crate::tree::ObjectMap;
 
 /// A slot and the pointers for each object number.
-#[derive(Drop)]
+#[derive(Debug, Drop, PartialEq, Eq)]
 pub struct Objects {
     pub slots: Vec<Slot>,
     pub maps: Vec<ObjectMap>,

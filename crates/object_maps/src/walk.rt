@@ -6,23 +6,23 @@
 
 ghost use Rattle.std.specs.Prelude.{◌≡◌, ◌≢◌, ℕ, ◌+◌, ◌*◌, ◌<◌, ◌≤◌, ◌↔◌, List, IfOk, IfErr, OnOk, IfSome, IsTrue, Some, true, drop, get_or, length, replicate, vec_len};
 ghost use Rattle.std.specs.FinMap as finite;
-ghost use Rattle.base.specs.formats.Limits.{object_count, max_length};
+ghost use Rattle.base.specs.formats.Limits.{object_count};
 ghost use Rattle.base.specs.formats.Fields.{number_at, pointer_at, pointer_in, entry_in, entry_present, entry_length, entry_pointer, no_pointer};
-ghost use Rattle.base.specs.disk.Calls.{counted};
 ghost use Rattle.base.specs.disk.Disk.{bytes_of};
 ghost use Rattle.base.specs.formats.Geometry.{block_address, IsBlockAddress};
 ghost use Rattle.base.specs.formats.Blocks.{Opens};
 ghost use Rattle.base.specs.tree.Tree.{record_bytes};
 ghost use Rattle.base.specs.tree.Faults.{IsPointerForm, IsEntryForm, IsRecordPointerForm, IsFirstFault};
 ghost use Rattle.base.specs.tree.PlacedTrees.{HoldsTree, ArePlaced};
+ghost use Rattle.device_model.specs.Reading.{OnlyReads};
 ghost use Rattle.checked_blocks.proofs.NamedBlocks.{IsNamed};
 ghost use Rattle.object_maps.specs.Pointers.{pointers_of, objects_of, pointer_of_list};
 ghost use Rattle.object_maps.specs.Kinds.{kind_number};
-ghost use Rattle.object_maps.specs.Loading.{IsLoadRefusal, IsLoadedRecord, AreLoadedRecords, IsZeroRecord, IsLoadedObject, IsLoadedDirectory, AreLoadedDirectories, IsLoadedTree};
+ghost use Rattle.object_maps.specs.Loading.{IsLimitedObject, IsLoadRefusal, IsLoadedRecord, AreLoadedRecords, IsZeroRecord, IsLoadedObject, IsLoadedDirectory, AreLoadedDirectories, IsLoadedTree};
 ghost use Rattle.base.specs.declared.pointer.Pointer.{Pointer};
-ghost use Rattle.base.specs.tree.Places.{walk_index_of, walk_index_of_indirect, pointer_of};
+ghost use Rattle.base.specs.tree.Places.{IsPlace, walk_index_of, walk_index_of_indirect, pointer_of};
 ghost use Rattle.base.specs.tree.Places.Place.{Directory, Data};
-ghost use Rattle.object_maps.specs.Loaders.{HasNoneFrom, IsObjectTold, KeepsOthers, LoadsEntries, OnImage, OnWalk};
+ghost use Rattle.object_maps.specs.Loaders.{AreRecordPointers, HasNoneFrom, IsEntryPayload, IsObjectOf, KeepsOthers, LoadsEntries, OnImage, OnWalk};
 ghost use Rattle.object_maps.specs.Walking.{TellsBlock, TellsFault, Walks, IsDataOf, AreDataOf, IsIndirectOf, IsPayloadOf, AreDirectoriesOf, directory_index, objects_index};
 
 use crate::contents::{Slot, empty_slots};
@@ -40,7 +40,7 @@ use std::alloc::Global;
 const PAYLOAD: usize = 64;
 
 /// What a load of a tree gives: a slot for each object number, and the pointers.
-#[derive(Drop)]
+#[derive(Debug, Drop, PartialEq, Eq)]
 pub struct Loaded {
     pub slots: Vec<Slot>,
     pub tree: Tree,
@@ -218,19 +218,17 @@ pub fn load<D: SectorDevice>(
     root: Pointer,
 ) -> Result<Loaded, PoolError>
     requires fits { block_address frame.now.blocks ≤ D.size device.old }
-    ensures size { D.size device.new ≡ D.size device.old }
-    ensures disk { IsTrue D.keeps_model → D.disk device.new ≡ D.disk device.old }
-    ensures count { D.refused device.new ≡ counted result (D.refused device.old) }
+    ensures reads { OnlyReads D.SectorDevice result device.old device.new }
     ensures cause { IfErr result IsLoadRefusal }
 
     // The tree has the root, pointers to blocks of the area alone, and objects within their limits.
     ensures root { IfOk result (λ l. l.tree.root ≡ root) }
     ensures placed { IfOk result (λ l. ArePlaced (frame.now.blocks) (pointers_of l.tree)) }
     ensures bounded { IfOk result (λ l. (n : ℕ) → IfSome (finite.get (objects_of l.slots.items) n)
-        (λ bytes. (n < object_count) × (length bytes ≤ max_length))) }
+        (IsLimitedObject n)) }
 
     // It is the one that the image holds.
-    ensures held { IsTrue D.keeps_model → IfOk result (λ l.
+    ensures tree { IsTrue D.keeps_model → IfOk result (λ l.
         HoldsTree (bytes_of (D.disk device.old).now)
         frame.now (pointers_of l.tree) (objects_of l.slots.items)) }
 
@@ -265,9 +263,7 @@ impl Loader<'_> {
         buffer: &mut [u8; 4096],
     ) -> Result<(), PoolError>
         requires fits { block_address self.now.frame.now.blocks ≤ D.size device.old }
-        ensures size { D.size device.new ≡ D.size device.old }
-        ensures disk { IsTrue D.keeps_model → D.disk device.new ≡ D.disk device.old }
-        ensures count { D.refused device.new ≡ counted result (D.refused device.old) }
+        ensures reads { OnlyReads D.SectorDevice result device.old device.new }
         ensures cause { IfErr result IsLoadRefusal }
         ensures placed { OnOk result
             (IsBlockAddress self.now.frame.now.blocks pointer.now.address) }
@@ -298,9 +294,7 @@ impl Loader<'_> {
         requires directories { length directories.old ≡ 84 }
         requires no_directories { (d : ℕ) → pointer_of_list directories.old d ≡ no_pointer }
         requires empty { HasNoneFrom 0 objects.old }
-        ensures size { D.size device.new ≡ D.size device.old }
-        ensures disk { IsTrue D.keeps_model → D.disk device.new ≡ D.disk device.old }
-        ensures count { D.refused device.new ≡ counted result (D.refused device.old) }
+        ensures reads { OnlyReads D.SectorDevice result device.old device.new }
         ensures cause { IfErr result IsLoadRefusal }
         ensures loaded { OnImage D.keeps_model (D.disk device.old) (λ image. OnOk result
             (IsLoadedTree D.keeps_model image self.now.frame.now
@@ -339,9 +333,7 @@ impl Loader<'_> {
         requires fits { block_address self.now.frame.now.blocks ≤ D.size device.old }
         requires directories { length directories.now ≡ 84 }
         requires empty { HasNoneFrom 0 objects.old }
-        ensures size { D.size device.new ≡ D.size device.old }
-        ensures disk { IsTrue D.keeps_model → D.disk device.new ≡ D.disk device.old }
-        ensures count { D.refused device.new ≡ counted result (D.refused device.old) }
+        ensures reads { OnlyReads D.SectorDevice result device.old device.new }
         ensures cause { IfErr result IsLoadRefusal }
         ensures loaded { OnImage D.keeps_model (D.disk device.old) (λ image. OnOk result
             (AreLoadedDirectories D.keeps_model image self.now.frame.now
@@ -371,9 +363,7 @@ impl Loader<'_> {
         requires fits { block_address self.now.frame.now.blocks ≤ D.size device.old }
         requires in_range { directory < 84 }
         requires empty { HasNoneFrom (63 * directory) objects.old }
-        ensures size { D.size device.new ≡ D.size device.old }
-        ensures disk { IsTrue D.keeps_model → D.disk device.new ≡ D.disk device.old }
-        ensures count { D.refused device.new ≡ counted result (D.refused device.old) }
+        ensures reads { OnlyReads D.SectorDevice result device.old device.new }
         ensures cause { IfErr result IsLoadRefusal }
         ensures loaded { OnImage D.keeps_model (D.disk device.old) (λ image. OnOk result
             (IsLoadedDirectory D.keeps_model image self.now.frame.now
@@ -407,12 +397,9 @@ impl Loader<'_> {
     ) -> Result<(), PoolError>
         requires fits { block_address self.now.frame.now.blocks ≤ D.size device.old }
         requires in_range { directory < 84 }
-        requires payload { length payload.now ≡ 4032 }
-        requires entries { (k : ℕ) → k < 63 → IsEntryForm (entry_in payload.now k) }
+        requires payload { IsEntryPayload payload.now }
         requires empty { HasNoneFrom (63 * directory) objects.old }
-        ensures size { D.size device.new ≡ D.size device.old }
-        ensures disk { IsTrue D.keeps_model → D.disk device.new ≡ D.disk device.old }
-        ensures count { D.refused device.new ≡ counted result (D.refused device.old) }
+        ensures reads { OnlyReads D.SectorDevice result device.old device.new }
         ensures cause { IfErr result IsLoadRefusal }
         ensures loaded { OnImage D.keeps_model (D.disk device.old) (λ image. OnOk result
             (LoadsEntries D.keeps_model image self.now.frame.now
@@ -445,11 +432,9 @@ impl Loader<'_> {
         requires fits { block_address self.now.frame.now.blocks ≤ D.size device.old }
         requires in_range { number < 5292 }
         requires length { entry.now.length ≤ 338688 }
-        ensures size { D.size device.new ≡ D.size device.old }
-        ensures disk { IsTrue D.keeps_model → D.disk device.new ≡ D.disk device.old }
-        ensures count { D.refused device.new ≡ counted result (D.refused device.old) }
+        ensures reads { OnlyReads D.SectorDevice result device.old device.new }
         ensures cause { IfErr result IsLoadRefusal }
-        ensures told { IfOk result (λ o. IsObjectTold entry.now o.0 o.1) }
+        ensures object { IfOk result (λ o. IsObjectOf entry.now o.0 o.1) }
         ensures loaded { OnImage D.keeps_model (D.disk device.old) (λ image. IfOk result (λ o.
             IsLoadedObject D.keeps_model image self.now.frame.now
             number (Some o.0.bytes.items) o.1.indirect o.1.records.items)) }
@@ -483,9 +468,7 @@ impl Loader<'_> {
         requires in_range { number < 5292 }
         requires bound { length bytes.old ≤ 338688 }
         requires zeros { bytes.old ≡ replicate (length bytes.old) 0 }
-        ensures size { D.size device.new ≡ D.size device.old }
-        ensures disk { IsTrue D.keeps_model → D.disk device.new ≡ D.disk device.old }
-        ensures count { D.refused device.new ≡ counted result (D.refused device.old) }
+        ensures reads { OnlyReads D.SectorDevice result device.old device.new }
         ensures cause { IfErr result IsLoadRefusal }
         ensures loaded { OnImage D.keeps_model (D.disk device.old) (λ image. IfOk result (λ records.
             IsLoadedObject D.keeps_model image self.now.frame.now
@@ -524,13 +507,9 @@ impl Loader<'_> {
     ) -> Result<(), PoolError>
         requires fits { block_address self.now.frame.now.blocks ≤ D.size device.old }
         requires in_range { number < 5292 }
-        requires count { length records.now ≡ 84 }
-        requires forms { (r : ℕ) → r < 84
-            → IsRecordPointerForm (length bytes.old) r (pointer_of_list records.now r) }
+        requires records { AreRecordPointers (length bytes.old) records.now }
         requires zeros { (r : ℕ) → IsZeroRecord r bytes.old }
-        ensures size { D.size device.new ≡ D.size device.old }
-        ensures disk { IsTrue D.keeps_model → D.disk device.new ≡ D.disk device.old }
-        ensures count { D.refused device.new ≡ counted result (D.refused device.old) }
+        ensures reads { OnlyReads D.SectorDevice result device.old device.new }
         ensures cause { IfErr result IsLoadRefusal }
         ensures loaded { OnImage D.keeps_model (D.disk device.old) (λ image. OnOk result
             (AreLoadedRecords D.keeps_model image self.now.frame.now
@@ -560,12 +539,9 @@ impl Loader<'_> {
         bytes: &mut [u8],
     ) -> Result<(), PoolError>
         requires fits { block_address self.now.frame.now.blocks ≤ D.size device.old }
-        requires number { number < 5292 }
-        requires index { index < 84 }
+        requires place { IsPlace (Data number index) }
         requires within { 4032 * index < length bytes.old }
-        ensures size { D.size device.new ≡ D.size device.old }
-        ensures disk { IsTrue D.keeps_model → D.disk device.new ≡ D.disk device.old }
-        ensures count { D.refused device.new ≡ counted result (D.refused device.old) }
+        ensures reads { OnlyReads D.SectorDevice result device.old device.new }
         ensures cause { IfErr result IsLoadRefusal }
         ensures loaded { OnImage D.keeps_model (D.disk device.old) (λ image. OnOk result
             (IsLoadedRecord D.keeps_model image self.now.frame.now

@@ -4,3 +4,4 @@ pub mod Written
 pub mod Steps
 pub mod Pending
 pub mod Blocks
+pub mod KeptWrites

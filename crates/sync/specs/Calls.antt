@@ -1,5 +1,5 @@
 -- What each call of a sync does.
-use Rattle.std.specs.Prelude.{ℕ, ⊤, true, ◌≡◌, ◌+◌, ◌<◌, ◌≤◌, List, [], Option, Some, None, Result, Ok, Err, IfSome, is_some, length, slice_get, vec_len}
+use Rattle.std.specs.Prelude.{ℕ, ⊤, true, ◌≡◌, ◌+◌, ◌<◌, ◌≤◌, List, [], Option, Some, None, Result, Ok, Err, IfErr, IfSome, is_some, length, slice_get, vec_len}
 use Rattle.std.specs.Option.{option_map}
 use Rattle.base.specs.declared.error.PoolError.{PoolError}
 use Rattle.base.specs.declared.error.PoolError.TheVariants as refusal
@@ -84,6 +84,13 @@ refusal_of Flush = refusal.Flush
 -- the bytes of a call's target are as many as it has, and it lies on the device
 abbrev pub TargetFits : SyncRun → DeviceCall → Type 0
 TargetFits run call = IfSome (target_of run call) (λ t. (length t.content ≡ t.size) × (t.place + t.size ≤ run.geometry))
+
+-- The call that a sync makes next is made, on a device that keeps the model, and where it is refused, it is as what it is.
+pub record MakesNextCall (keeps : Type 0) (run : SyncRun) (answer : Result (Unit {0}) PoolError) (old new : Disk) : Type 0 where
+  pub call : DeviceCall
+  pub next : IsNextCall run call
+  pub refusal : IfErr answer (λ e. e ≡ refusal_of call)
+  pub made : keeps → MakesCall run call old answer new
 
 -- an answer without its value
 abbrev pub plain_answer : {A : Type 0} → Result A PoolError → Result (Unit {0}) PoolError

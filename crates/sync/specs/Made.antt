@@ -2,7 +2,7 @@
 use Rattle.std.specs.Prelude.{ℕ, ◌≡◌, ◌+◌, ◌*◌, ◌<◌, ◌≤◌, List, map, Option, Some, None, nat_eq, length, slice_get, slice_index}
 use Rattle.std.specs.List.{IsDistinct}
 use Rattle.base.specs.formats.Fields.{part}
-use Rattle.base.specs.disk.Disk.{Moment, IsInRange, IsTouched}
+use Rattle.base.specs.disk.Disk.{Moment, bytes_of, IsInRange, IsTouched}
 use Rattle.base.specs.formats.Geometry.{block_address, block_area, block_count, block_size}
 use Rattle.tree_plans.specs.declared.planner.PlannedBlock.{PlannedBlock}
 use Rattle.sync.specs.declared.run.SyncRun.{SyncRun}
@@ -43,6 +43,11 @@ pub record IsPending (targets : List (Option Target)) (done i : ℕ) : Type 0 wh
 -- What is not flushed are the sync's own writes, since its last flush that was done.
 abbrev pub HasPending : SyncRun → Moment → Type 0
 HasPending run m = (i : ℕ) → IsTouched m.unflushed i → IsPending (targets_of run) run.done i
+
+-- What a sync has written is all that is, and what is not flushed is its own, as before: the first where no two blocks have one place.
+pub record KeepsWritten (old new : SyncRun) (before after : Moment) : Type 0 where
+  pub made : HasDistinctBlocks old → (base : List ℕ) → HasMade base old (bytes_of before) → HasMade base new (bytes_of after)
+  pub pending : HasPending old before → HasPending new after
 
 -- Of the block area these bytes have changed: the first so many blocks stand in it, and each other byte is as in the base.
 pub record BlocksWritten (base : List ℕ) (size : ℕ) (blocks : List PlannedBlock) (done : ℕ) (image : List ℕ) : Type 0 where

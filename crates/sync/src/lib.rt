@@ -8,4 +8,4 @@ mod run;
 pub use laws::{
     blocks_are_settled, blocks_are_written, calls_are_writable, syncs_begin_with_nothing,
 };
-pub use run::{LabelStages, SyncRun};
+pub use run::{LabelStages, SyncCall, SyncRun};

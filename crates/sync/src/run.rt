@@ -1,8 +1,8 @@
 //! The device calls of a sync, one at a time: its blocks and a flush, for a new name or an import the configs of two
 //! labels and a flush, the uberblock in each label and a flush, and then the other two labels.
 
-ghost use Rattle.std.specs.Prelude.{◌≡◌, ◌<◌, ◌+◌, ◌≤◌, ◌↔◌, All, IfErr, IfOk, IsTrue, if◌then◌else◌, is_ok, vec_len};
-ghost use Rattle.base.specs.formats.Geometry.{block_count};
+ghost use Rattle.std.specs.Prelude.{◌≡◌, ◌<◌, ◌+◌, All, IfErr, IfOk, IsTrue, if◌then◌else◌, vec_len};
+ghost use Rattle.base.specs.formats.Geometry.{IsGeometry, block_count};
 ghost use Rattle.tree_plans.specs.declared.planner.PlannedBlock.{PlannedBlock};
 
 use crate::call::{Call, plain_call, staged_call};
@@ -19,6 +19,15 @@ pub struct LabelStages {
     pub first: Stage,
 }
 
+/// Which call of a sync was made.
+#[derive(Clone, Copy, Debug, PartialEq, Eq)]
+pub enum SyncCall {
+    /// One that has others behind it.
+    More,
+    /// The last.
+    Last,
+}
+
 /// A sync that runs.
 #[derive(Drop)]
 pub struct SyncRun {
@@ -30,19 +39,19 @@ pub struct SyncRun {
     pub stages: Option<LabelStages>,
     /// How many device calls were made.
     pub done: usize,
+    ghost sized: { IsGeometry geometry },
     ghost slot_in_range: { slot < 128 },
     ghost placed: { All (λ (b : PlannedBlock). b.index < block_count geometry) blocks.items },
 }
 
 impl SyncRun {
-    ghost use Rattle.std.specs.Prelude.{ℕ, List, [], length};
-    ghost use Rattle.base.specs.disk.Disk.{bytes_of};
+    ghost use Rattle.std.specs.Prelude.{[], length};
     ghost use Rattle.base.specs.disk.SyncOrder.{DeviceCall};
     ghost use Rattle.base.specs.disk.Calls.{counted};
     ghost use Rattle.sync.specs.CallOrder.{call_said};
-    ghost use Rattle.sync.specs.Calls.{HasCall, IsNextCall, MakesCall, TargetFits, calls_of, plain_answer, refusal_of};
-    ghost use Rattle.sync.specs.Made.{HasDistinctBlocks, HasMade, HasPending};
-    ghost use Rattle.sync.specs.Runs.{SameSync, call_count, other_calls};
+    ghost use Rattle.sync.specs.Calls.{HasCall, IsNextCall, MakesCall, MakesNextCall, TargetFits, calls_of, plain_answer, refusal_of};
+    ghost use Rattle.sync.specs.Made.{KeepsWritten};
+    ghost use Rattle.sync.specs.Runs.{CountsCall, HasPlaces, call_count};
 
     /// A sync that has made no call yet: it writes these blocks, then this uberblock into this slot of each label, and with
     /// label stages their configs.
@@ -53,8 +62,7 @@ impl SyncRun {
         slot: usize,
         stages: Option<LabelStages>,
     ) -> Self
-        requires slot { slot < 128 }
-        requires placed { All (λ (b : PlannedBlock). b.index < block_count geometry) blocks.items }
+        requires places { HasPlaces geometry slot blocks.items }
         ensures geometry { result.geometry ≡ geometry }
         ensures blocks { result.blocks ≡ blocks }
         ensures uberblock { result.uberblock ≡ uberblock }
@@ -83,8 +91,8 @@ impl SyncRun {
         }
     }
 
-    /// Makes the next device call, the one that has this place in the order of the sync's calls, and says whether it was
-    /// the last. A call that the device refused is the next one still.
+    /// Makes the next device call, the one that has this place in the order of the sync's calls, and says whether others
+    /// are behind it. A call that the device refused is the next one still.
     ///
     /// What the sync has written, and that it has written nothing else, holds after each call: `HasMade`, where no two
     /// blocks have one place. So does that what is not flushed are its own writes since its last flush: `HasPending`. After
@@ -92,33 +100,26 @@ impl SyncRun {
     ///
     /// # Errors
     /// `Write`, `Flush`: what the call was, where the device refused it.
-    pub fn next<D: SectorDevice>(&mut self, device: &mut D) -> Result<bool, PoolError>
+    pub fn next<D: SectorDevice>(&mut self, device: &mut D) -> Result<SyncCall, PoolError>
         requires sized { D.size device.old ≡ self.old.geometry }
         requires left { self.old.done < call_count self.old }
         ensures size { D.size device.new ≡ D.size device.old }
-        ensures sync { SameSync self.old self.new }
-        ensures done { self.new.done ≡ (if is_ok result then self.old.done + 1 else self.old.done) }
-        ensures last { IfOk result (λ last. IsTrue last ↔ (self.new.done ≡ call_count self.new)) }
-        ensures there { (call : DeviceCall) × IsNextCall self.old call }
-        ensures called { IsTrue D.keeps_model → (call : DeviceCall) → IsNextCall self.old call
-            → MakesCall self.old call
-            (D.disk device.old) (plain_answer result) (D.disk device.new) }
         ensures count { D.refused device.new ≡ counted result (D.refused device.old) }
-        ensures refusal { (call : DeviceCall) → IsNextCall self.old call
-            → IfErr result (λ e. e ≡ refusal_of call) }
-        ensures kept { IsTrue D.keeps_model → HasDistinctBlocks self.old → (base : List ℕ)
-            → HasMade base self.old (bytes_of (D.disk device.old).now)
-            → HasMade base self.new (bytes_of (D.disk device.new).now) }
-        ensures pending { IsTrue D.keeps_model → HasPending self.old (D.disk device.old).now
-            → HasPending self.new (D.disk device.new).now }
+        ensures counts { CountsCall self.old result self.new }
+        ensures called { MakesNextCall (IsTrue D.keeps_model) self.old (plain_answer result)
+            (D.disk device.old) (D.disk device.new) }
+        ensures written { IsTrue D.keeps_model
+            → KeepsWritten self.old self.new (D.disk device.old).now (D.disk device.new).now }
         ensures finished { IsTrue D.keeps_model
-            → IfOk result (λ last. IsTrue last → (D.disk device.new).now.unflushed ≡ []) }
+            → IfOk result (λ call. call ≡ SyncCall.Last → (D.disk device.new).now.unflushed ≡ []) }
     {
-        // Places lie apart, as the size is one of a pool's device.
-        let _size = self.geometry.size();
         self.make(device, self.call())?;
         self.done += 1;
-        Ok(self.done == self.total())
+        if self.done == self.total() {
+            Ok(SyncCall::Last)
+        } else {
+            Ok(SyncCall::More)
+        }
     }
 
     // The call that is made next.

@@ -75,7 +75,7 @@ impl Uberblock {
     /// None where the bytes are no uberblock: the magic, the zeros or the check disagree, the version is none that is known, the
     /// group is not 4 to 2^60, or the import number or the log number is above 2^60.
     pub fn decode(bytes: &[u8; SLOT_SIZE]) -> Option<Uberblock>
-        ensures held { IfSome result (λ u. IsUberblock bytes.now (fields_of u)) }
+        ensures uberblock { IfSome result (λ u. IsUberblock bytes.now (fields_of u)) }
         ensures found { (u : Uberblock) → IsUberblock bytes.now (fields_of u) → result ≡ Some u }
         ensures none { IfNone result (HoldsNoUberblock bytes.now) }
     {
@@ -131,7 +131,7 @@ impl Uberblock {
 /// The uberblock that 1,024 bytes hold, as `Uberblock::decode` has it.
 pub(crate) fn read_slot(bytes: &[u8]) -> Option<Uberblock>
     requires { length bytes.now ≡ 1024 }
-    ensures held { IfSome result (λ u. IsUberblock bytes.now (fields_of u)) }
+    ensures uberblock { IfSome result (λ u. IsUberblock bytes.now (fields_of u)) }
     ensures found { (u : Uberblock) → IsUberblock bytes.now (fields_of u) → result ≡ Some u }
     ensures none { IfNone result (HoldsNoUberblock bytes.now) }
 {

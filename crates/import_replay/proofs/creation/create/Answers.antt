@@ -9,7 +9,7 @@ use Rattle.import_replay.proofs.creation.create.Goals as goal
 pub returns-in-Ok-initialize-clause-created : goal.returns-in-Ok-initialize-clause-created
 returns-in-Ok-initialize-clause-created g c = λ keeps.
     created_from c.in-Ok.geometry _ c.args.name.now c.args.guid c.args.moment (subst IsGeometry (sym c.in-Ok.ensures.size) (c.in-Ok.ensures.ok.0 refl))
-    (g.met.D.SectorDevice.sized keeps c.initialize.new.device ∙ c.initialize.ensures.size ∙ sym c.sectors.ensures ∙ sym c.in-Ok.ensures.size)
+    (g.met.D.SectorDevice.sized keeps c.initialize.new.device ∙ c.initialize.ensures.calls.size ∙ sym c.sectors.ensures ∙ sym c.in-Ok.ensures.size)
     (subst (λ (l : List ℕ). IsLabelled c.in-Ok.geometry l c.args.guid c.args.moment (bytes_of (g.D.SectorDevice.disk c.initialize.new.device).now)) c.in-Some.ensures.name.0 (c.in-Ok-initialize.ensures.labels keeps))
 
 pub returns-in-Ok-initialize-clause-settled : goal.returns-in-Ok-initialize-clause-settled
@@ -20,5 +20,5 @@ pub returns-in-Ok-initialize-clause-written : goal.returns-in-Ok-initialize-clau
 returns-in-Ok-initialize-clause-written g c = λ keeps.
     settled_from (λ (image : List ℕ). IsNewPool image c.args.name.now c.args.guid c.args.moment) (g.D.SectorDevice.disk c.initialize.new.device).now (c.in-Ok-initialize.ensures.settled keeps)
     (new_pool_from c.in-Ok.geometry _ c.args.name.now c.args.guid c.args.moment (subst IsGeometry (sym c.in-Ok.ensures.size) (c.in-Ok.ensures.ok.0 refl))
-    (g.met.D.SectorDevice.sized keeps c.initialize.new.device ∙ c.initialize.ensures.size ∙ sym c.sectors.ensures ∙ sym c.in-Ok.ensures.size)
+    (g.met.D.SectorDevice.sized keeps c.initialize.new.device ∙ c.initialize.ensures.calls.size ∙ sym c.sectors.ensures ∙ sym c.in-Ok.ensures.size)
     (subst (λ (l : List ℕ). IsLabelled c.in-Ok.geometry l c.args.guid c.args.moment (bytes_of (g.D.SectorDevice.disk c.initialize.new.device).now)) c.in-Some.ensures.name.0 (c.in-Ok-initialize.ensures.labels keeps)))

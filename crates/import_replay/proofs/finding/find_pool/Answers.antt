@@ -22,7 +22,7 @@ returns-in_err-name-clause-reason g c = λ keeps.
     let x = c.in_err-name.field-0.0 in
     passed_on c.from_residual-in_err-name.result x (IsReason image) c.from_residual-in_err-name.ensures.1
     (reason-name image (fields_of u) x c.in_err-name.ensures.refused (c.in_ok-uberblock.ensures.active keeps)
-    (subst (λ (d : Disk). LacksName (bytes_of d.now) u.guid u.group.0 x) (c.read_uberblock.ensures.disk keeps) (c.in_err-name.ensures.none keeps)))
+    (subst (λ (d : Disk). LacksName (bytes_of d.now) u.guid u.group.0 x) (c.read_uberblock.ensures.reads.disk keeps) (c.in_err-name.ensures.none keeps)))
 
 pub returns-clause-pool : goal.returns-clause-pool
 returns-clause-pool g c = λ keeps.
@@ -30,7 +30,7 @@ returns-clause-pool g c = λ keeps.
     let u = c.in_ok-uberblock.uberblock in
     let long : length image ≡ c.args.geometry = g.met.D.SectorDevice.sized keeps c.args.device.now ∙ c.requires.sized in
     let name : HasName image u.guid u.group.0 c.in_ok-name.name =
-    subst (λ (d : Disk). HasName (bytes_of d.now) u.guid u.group.0 c.in_ok-name.name) (c.read_uberblock.ensures.disk keeps) (c.in_ok-name.ensures.name keeps) in
+    subst (λ (d : Disk). HasName (bytes_of d.now) u.guid u.group.0 c.in_ok-name.name) (c.read_uberblock.ensures.reads.disk keeps) (c.in_ok-name.ensures.name keeps) in
     record {
       geometry = subst (λ n. IsGeometry n) (sym long) c.requires.geometry;
       active = c.in_ok-uberblock.ensures.active keeps;
@@ -41,4 +41,4 @@ returns-clause-pool g c = λ keeps.
 pub returns-clause-first : goal.returns-clause-first
 returns-clause-first g c = λ keeps.
     let u = c.in_ok-uberblock.uberblock in
-    subst (λ (d : Disk). HasFirstStage (bytes_of d.now) u.guid u.group.0 c.in_ok-name.name (is_even c.in_ok-name.first)) (c.read_uberblock.ensures.disk keeps) (c.in_ok-name.ensures.first keeps)
+    subst (λ (d : Disk). HasFirstStage (bytes_of d.now) u.guid u.group.0 c.in_ok-name.name (is_even c.in_ok-name.first)) (c.read_uberblock.ensures.reads.disk keeps) (c.in_ok-name.ensures.first keeps)

@@ -14,9 +14,9 @@ loop-label-preserved g c =
     let ring : List ℕ = c.loop-label.ring.items in
     let new : List ℕ = c.read_array.new.ring in
     record {
-      sized = c.read_array.ensures.size ∙ i.sized;
-      disk = λ keeps. c.read_array.ensures.disk keeps ∙ i.disk keeps;
-      count = c.in_ok-read_array.ensures.count ∙ i.count;
+      sized = c.read_array.ensures.reads.size ∙ i.sized;
+      disk = λ keeps. c.read_array.ensures.reads.disk keeps ∙ i.disk keeps;
+      count = c.in_ok-read_array.ensures.reads.count ∙ i.count;
       long = i.long;
       arrays = λ keeps k below.
           let image : List ℕ = bytes_of (g.D.SectorDevice.disk c.args.device.now).now in

@@ -1,4 +1,6 @@
-use Rattle.std.proofs.Common.{◌≡◌, ◌+◌, ◌∙◌, refl, sym, subst, ℕ, Bool, List, vec_len, arith}
+use Rattle.std.proofs.Common.{◌≡◌, ◌+◌, ◌∙◌, refl, sym, subst, ap, ℕ, Bool, List, vec_len, arith}
+use Rattle.std.specs.Global.{Vec}
+use Rattle.object_maps.specs.declared.contents.Slot.{Slot}
 use Rattle.std.specs.Ordering.{nat_cmp}
 use Rattle.std.specs.FinSet.{FinSet}
 use Rattle.object_maps.specs.declared.tree.Tree.{Tree}
@@ -21,8 +23,8 @@ use Rattle.import_replay.proofs.MountedPools.{group-within, import-within, label
 use Rattle.import_replay.proofs.Reasons.{not_both, passed_on}
 use Rattle.import_replay.proofs.imported.open_pool.Goals as goal
 
-pub invariant_of-result-2-clause-tree_placed : goal.invariant_of-result-2-clause-tree_placed
-invariant_of-result-2-clause-tree_placed g c = ∣ c.requires.placed ∣₁
+pub invariant_of-result-clause-tree_placed : goal.invariant_of-result-clause-tree_placed
+invariant_of-result-clause-tree_placed g c = ∣ c.requires.placed ∣₁
 
 pub returns-clause-mounted : goal.returns-clause-mounted
 returns-clause-mounted g c =
@@ -37,8 +39,8 @@ returns-clause-mounted g c =
       group = refl;
       import_number = refl;
       within = c.requires.within;
-      name_is = refl;
-      slots_are = refl;
+      name_is = c.of.ensures.name;
+      slots_are = ap (λ (v : Vec Slot). v.items) c.of.ensures.slots;
       tree_is = refl;
       limit = refl;
       log = subst (λ (a : ℕ). HasTakenLowest (pointers_of tree) (block_count c.args.geometry) a (free_of c.take_lowest.new.free.flags.items)) (sym c.block_address.ensures.address) taken;
@@ -55,18 +57,18 @@ returns-in_err-log_block-clause-full g c =
     passed_on c.from_residual-in_err-log_block.result c.in_err-log_block.field-0.0 (λ (e : PoolError). e ≡ NoSpace → AreAllNamed (pointers_of tree) size)
     c.from_residual-in_err-log_block.ensures.1 (λ is. named)
 
-pub invariant_of-result-2-clause-group_fits : goal.invariant_of-result-2-clause-group_fits
-invariant_of-result-2-clause-group_fits g c =
+pub invariant_of-result-clause-group_fits : goal.invariant_of-result-clause-group_fits
+invariant_of-result-clause-group_fits g c =
     let within = group-within c.args.found.uberblock.group.0 c.args.found.uberblock.import_number c.requires.within in
     (omega arith, omega (arith, within))
 
-pub invariant_of-result-2-clause-import_fits : goal.invariant_of-result-2-clause-import_fits
-invariant_of-result-2-clause-import_fits g c = import-within c.args.found.uberblock.group.0 c.args.found.uberblock.import_number c.requires.within
+pub invariant_of-result-clause-import_fits : goal.invariant_of-result-clause-import_fits
+invariant_of-result-clause-import_fits g c = import-within c.args.found.uberblock.group.0 c.args.found.uberblock.import_number c.requires.within
 
 pub returns-clause-labelled : goal.returns-clause-labelled
 returns-clause-labelled g c = λ keeps.
     let u = c.args.found.uberblock in
-    let config : Config = record { guid = u.guid; group = u.group.0 + 4; size = c.args.geometry; name = c.args.found.name } in
+    let config : Config = record { guid = u.guid; group = u.group.0 + 4; size = c.args.geometry; name = c.of.result.name } in
     let next : Uberblock = record {
       version = written_version;
       group = u.group.0 + 4;
@@ -78,7 +80,7 @@ returns-clause-labelled g c = λ keeps.
       log_number = 0;
     } in
     labels_same c.args.geometry _ config _ next _
-    (c.new-config.ensures ∙ (λ i. record config { size = c.size.ensures.size i; name = c.in_ok-copy_name.ensures.same i }))
+    (c.new-config.ensures ∙ (λ i. record config { size = c.size.ensures.size i; name = (c.copy_name.ensures.copy ∙ sym c.of.ensures.name) i }))
     (λ i. record next { root = sym c.requires.root i })
     (c.in_ok-sync_labels.ensures.labelled keeps)
 
@@ -113,5 +115,5 @@ returns-in_err-sync_labels-clause-stopped g c = λ keeps.
       free = left;
       log = subst (λ (a : ℕ). HasTakenLowest (pointers_of tree) (block_count size) a left) (sym c.block_address.ensures.address) taken;
       stopped = stopped_same size _ config _ (next_uberblock u c.args.moment c.block_address.result) (import_calls 0 even) x old new
-          (c.new-config.ensures ∙ (λ i. record config { size = c.size.ensures.size i; name = c.in_ok-copy_name.ensures.same i })) refl (c.in_err-sync_labels.ensures.stopped keeps);
+          (c.new-config.ensures ∙ (λ i. record config { size = c.size.ensures.size i; name = c.copy_name.ensures.copy i })) refl (c.in_err-sync_labels.ensures.stopped keeps);
     })

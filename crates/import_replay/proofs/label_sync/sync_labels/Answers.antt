@@ -1,4 +1,4 @@
-use Rattle.std.proofs.Common.{◌≡◌, ◌∙◌, ℕ, List, length, ap}
+use Rattle.std.proofs.Common.{◌≡◌, ◌∙◌, ℕ, List, length, ap, sym}
 use Rattle.base.specs.declared.error.PoolError.{PoolError}
 use Rattle.base.specs.disk.Disk.{bytes_of}
 use Rattle.base.specs.formats.Labels.{Config}
@@ -17,66 +17,66 @@ use Rattle.import_replay.proofs.label_sync.sync_labels.Goals as goal
 pub returns-in_err-next-clause-refused : goal.returns-in_err-next-clause-refused
 returns-in_err-next-clause-refused g c =
     let x = c.in_err-next.field-0.0 in
-    let call = c.next.ensures.there in
-    passed_on c.from_residual.result x IsSyncRefusal c.from_residual.ensures.1 (sync_refused call.0 x (c.in_err-next.ensures.refusal call.0 call.1))
+    let call = c.in_err-next.ensures.called in
+    passed_on c.from_residual.result x IsSyncRefusal c.from_residual.ensures.1 (sync_refused call.call x call.refusal)
 
 pub returns-in_err-next-clause-stopped : goal.returns-in_err-next-clause-stopped
 returns-in_err-next-clause-stopped g c = λ keeps.
     let i = c.loop-run.invariant in
     let x = c.in_err-next.field-0.0 in
-    let call = c.next.ensures.there in
+    let call = c.in_err-next.ensures.called in
     let config : Config = c.args.config.now in
     let u : Uberblock = fields_of c.args.uberblock.now in
     let start = g.D.SectorDevice.disk c.args.device.now in
     let old = g.D.SectorDevice.disk c.loop-run.device in
     let new = g.D.SectorDevice.disk c.next.new.device in
     passed_on c.from_residual.result x (λ (e : PoolError). IsStoppedSync c.args.geometry config u (import_calls 0 (is_even c.args.first)) e start new) c.from_residual.ensures.1
-    (stopped_at c.args.geometry config u c.args.first c.loop-run.run i.run start old new call.0 x call.1 (i.called keeps) (c.in_err-next.ensures.called keeps call.0 call.1) (c.in_err-next.ensures.refusal call.0 call.1))
+    (stopped_at c.args.geometry config u c.args.first c.loop-run.run i.run start old new call.call x call.next (i.called keeps) (call.made keeps) call.refusal)
 
 pub loop-run-preserved : goal.loop-run-preserved
 loop-run-preserved g c =
     let i = c.loop-run.invariant in
-    let call = c.next.ensures.there in
+    let call = c.in_ok-next.ensures.called in
     let config : Config = c.args.config.now in
     let u : Uberblock = fields_of c.args.uberblock.now in
     record {
       sized = c.next.ensures.size ∙ i.sized;
-      run = sync_goes_on c.args.geometry config u c.args.first c.loop-run.run c.next.new.self c.next.ensures.sync i.run;
-      left = sync_left c.loop-run.run c.next.new.self c.in_ok-next.field-0 c.next.ensures.sync i.left c.in_ok-next.ensures.done c.in_ok-next.ensures.last c.if-not-branch.true;
+      run = sync_goes_on c.args.geometry config u c.args.first c.loop-run.run c.next.new.self c.next.ensures.counts.same i.run;
+      left = sync_left c.loop-run.run c.next.new.self c.next.ensures.counts.same i.left c.in_ok-next.ensures.counts.done (λ at_end. let other = sym c.in-More.is ∙ c.in_ok-next.ensures.counts.last.1 at_end in cc);
       count = c.in_ok-next.ensures.count ∙ i.count;
       blocks = λ keeps.
           let old = g.D.SectorDevice.disk c.loop-run.device in
           let new = g.D.SectorDevice.disk c.next.new.device in
           let long : length (bytes_of old.now) ≡ c.args.geometry = g.met.D.SectorDevice.sized keeps c.loop-run.device ∙ i.sized in
           blocks_then c.args.geometry (bytes_of (g.D.SectorDevice.disk c.args.device.now).now) (bytes_of old.now) (bytes_of new.now) (i.blocks keeps)
-          (call_keeps c.args.geometry config u c.args.first c.loop-run.run old new c.requires.geometry i.run long call.0 (c.in_ok-next.ensures.called keeps call.0 call.1));
+          (call_keeps c.args.geometry config u c.args.first c.loop-run.run old new c.requires.geometry i.run long call.call (call.made keeps));
       called = λ keeps.
           after_next c.args.geometry config u c.args.first c.loop-run.run i.run (g.D.SectorDevice.disk c.args.device.now) (g.D.SectorDevice.disk c.loop-run.device) (g.D.SectorDevice.disk c.next.new.device)
-          call.0 call.1 (i.called keeps) (c.in_ok-next.ensures.called keeps call.0 call.1) c.next.new.self.done c.in_ok-next.ensures.done;
+          call.call call.next (i.called keeps) (call.made keeps) c.next.new.self.done c.in_ok-next.ensures.counts.done;
       made = λ keeps.
-          c.next.ensures.kept keeps (distinct_blocks c.args.geometry config u c.args.first c.loop-run.run i.run) (bytes_of (g.D.SectorDevice.disk c.args.device.now).now) (i.made keeps);
+          (c.next.ensures.written keeps).made (distinct_blocks c.args.geometry config u c.args.first c.loop-run.run i.run) (bytes_of (g.D.SectorDevice.disk c.args.device.now).now) (i.made keeps);
     }
 
-pub returns-clause-kept : goal.returns-clause-kept
-returns-clause-kept g c = λ keeps.
+pub returns-clause-same_blocks : goal.returns-clause-same_blocks
+returns-clause-same_blocks g c = λ keeps.
     let i = c.loop-run.invariant in
-    let call = c.next.ensures.there in
+    let call = c.in_ok-next.ensures.called in
     let old = g.D.SectorDevice.disk c.loop-run.device in
     let new = g.D.SectorDevice.disk c.next.new.device in
     let long : length (bytes_of old.now) ≡ c.args.geometry = g.met.D.SectorDevice.sized keeps c.loop-run.device ∙ i.sized in
     blocks_then c.args.geometry (bytes_of (g.D.SectorDevice.disk c.args.device.now).now) (bytes_of old.now) (bytes_of new.now) (i.blocks keeps)
-    (call_keeps c.args.geometry c.args.config.now (fields_of c.args.uberblock.now) c.args.first c.loop-run.run old new c.requires.geometry i.run long call.0 (c.in_ok-next.ensures.called keeps call.0 call.1))
+    (call_keeps c.args.geometry c.args.config.now (fields_of c.args.uberblock.now) c.args.first c.loop-run.run old new c.requires.geometry i.run long call.call (call.made keeps))
 
 pub returns-clause-synced : goal.returns-clause-synced
 returns-clause-synced g c = λ keeps.
     let i = c.loop-run.invariant in
-    let call = c.next.ensures.there in
+    let call = c.in_ok-next.ensures.called in
     let config : Config = c.args.config.now in
     let u : Uberblock = fields_of c.args.uberblock.now in
-    let all : c.next.new.self.done ≡ call_count c.next.new.self = c.in_ok-next.ensures.last.0 c.if-not-branch.false in
-    let run = sync_goes_on c.args.geometry config u c.args.first c.loop-run.run c.next.new.self c.next.ensures.sync i.run in
+    let all : c.next.new.self.done ≡ call_count c.next.new.self = c.in_ok-next.ensures.counts.last.0 c.in_default.is in
+    let run = sync_goes_on c.args.geometry config u c.args.first c.loop-run.run c.next.new.self c.next.ensures.counts.same i.run in
     after_next c.args.geometry config u c.args.first c.loop-run.run i.run (g.D.SectorDevice.disk c.args.device.now) (g.D.SectorDevice.disk c.loop-run.device) (g.D.SectorDevice.disk c.next.new.device)
-    call.0 call.1 (i.called keeps) (c.in_ok-next.ensures.called keeps call.0 call.1) c.next.new.self.done c.in_ok-next.ensures.done
+    call.call call.next (i.called keeps) (call.made keeps) c.next.new.self.done c.in_ok-next.ensures.counts.done
     ∙ ap (λ (l : List DeviceCall). after_calls c.args.geometry config u l (g.D.SectorDevice.disk c.args.device.now)) (whole c.args.geometry config u c.args.first c.next.new.self run all)
 
 pub returns-clause-labelled : goal.returns-clause-labelled
@@ -84,19 +84,19 @@ returns-clause-labelled g c = λ keeps.
     let i = c.loop-run.invariant in
     let config : Config = c.args.config.now in
     let u : Uberblock = fields_of c.args.uberblock.now in
-    let all : c.next.new.self.done ≡ call_count c.next.new.self = c.in_ok-next.ensures.last.0 c.if-not-branch.false in
-    let run = sync_goes_on c.args.geometry config u c.args.first c.loop-run.run c.next.new.self c.next.ensures.sync i.run in
+    let all : c.next.new.self.done ≡ call_count c.next.new.self = c.in_ok-next.ensures.counts.last.0 c.in_default.is in
+    let run = sync_goes_on c.args.geometry config u c.args.first c.loop-run.run c.next.new.self c.next.ensures.counts.same i.run in
     let base : List ℕ = bytes_of (g.D.SectorDevice.disk c.args.device.now).now in
     hold_labels c.args.geometry config u c.args.first c.next.new.self run base (bytes_of (g.D.SectorDevice.disk c.next.new.device).now)
-    (c.next.ensures.kept keeps (distinct_blocks c.args.geometry config u c.args.first c.loop-run.run i.run) base (i.made keeps)) all
+    ((c.next.ensures.written keeps).made (distinct_blocks c.args.geometry config u c.args.first c.loop-run.run i.run) base (i.made keeps)) all
 
-pub returns-clause-others : goal.returns-clause-others
-returns-clause-others g c = λ keeps.
+pub returns-clause-other_slots : goal.returns-clause-other_slots
+returns-clause-other_slots g c = λ keeps.
     let i = c.loop-run.invariant in
     let config : Config = c.args.config.now in
     let u : Uberblock = fields_of c.args.uberblock.now in
-    let all : c.next.new.self.done ≡ call_count c.next.new.self = c.in_ok-next.ensures.last.0 c.if-not-branch.false in
-    let run = sync_goes_on c.args.geometry config u c.args.first c.loop-run.run c.next.new.self c.next.ensures.sync i.run in
+    let all : c.next.new.self.done ≡ call_count c.next.new.self = c.in_ok-next.ensures.counts.last.0 c.in_default.is in
+    let run = sync_goes_on c.args.geometry config u c.args.first c.loop-run.run c.next.new.self c.next.ensures.counts.same i.run in
     let base : List ℕ = bytes_of (g.D.SectorDevice.disk c.args.device.now).now in
     other_slots c.args.geometry config u c.args.first c.next.new.self run base (bytes_of (g.D.SectorDevice.disk c.next.new.device).now)
-    (c.next.ensures.kept keeps (distinct_blocks c.args.geometry config u c.args.first c.loop-run.run i.run) base (i.made keeps)) all c.requires.geometry
+    ((c.next.ensures.written keeps).made (distinct_blocks c.args.geometry config u c.args.first c.loop-run.run i.run) base (i.made keeps)) all c.requires.geometry

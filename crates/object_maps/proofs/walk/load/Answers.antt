@@ -33,8 +33,8 @@ returns-clause-bounded g c =
     let long : length objects.slots.items ≡ 5292 = omega (arith, objects.all_slots, objects.slots.ok.0) in
     tree_bounded g.D.SectorDevice.keeps_model image c.args.frame.now c.args.root _ _ _ long tree
 
-pub returns-clause-held : goal.returns-clause-held
-returns-clause-held g c =
+pub returns-clause-tree : goal.returns-clause-tree
+returns-clause-tree g c =
     let image : List ℕ = bytes_of (g.D.SectorDevice.disk c.args.device.now).now in
     let objects : Objects = c.load_tree.new.objects in
     let tree = standing_tree g.D.SectorDevice.keeps_model image c.args.frame.now c.args.root c.load_tree.new.directories c.in_ok-directories.directories.items

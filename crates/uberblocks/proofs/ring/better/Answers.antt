@@ -22,8 +22,8 @@ returns-then-slot-position c = inr (record {
 pub returns-in-Some : goal.returns-in-Some
 returns-in-Some c =
     let size : 1024 * c.args.position + 1024 - 1024 * c.args.position ≡ 1024 = omega arith in
-    let held = subst (λ (n : ℕ). IsUberblock (part c.args.ring.now (1024 * c.args.position) n) (fields_of c.in-Some.found)) size c.in-Some.ensures.held in
-    let same : c.read_u64.result ≡ c.in-Some.found.group.0 = c.read_u64.ensures ∙ c.in-Some.ensures.held.group in
+    let held = subst (λ (n : ℕ). IsUberblock (part c.args.ring.now (1024 * c.args.position) n) (fields_of c.in-Some.found)) size c.in-Some.ensures.uberblock in
+    let same : c.read_u64.result ≡ c.in-Some.found.group.0 = c.read_u64.ensures ∙ c.in-Some.ensures.uberblock.group in
     let here = ap slot_of (sym same) ∙ sym c.slot.ensures ∙ c.if-slot-position.false in
     inl (record {
       found = c.in-Some.found;

@@ -7,8 +7,8 @@ use Rattle.uberblocks.proofs.SlotReads.{IsFormed, IsFormed-read, IsUberblock-for
 use Rattle.uberblocks.proofs.uberblock.read_slot.Goals as goal
 use Rattle.uberblocks.proofs.uberblock.read_slot.Goals.{else-has_magic-via-then-has_magic+then-is_clear+then-is_within_limits+else-is_sealed, else-has_magic-via-then-has_magic+then-is_clear+else-is_within_limits, else-has_magic-via-then-has_magic+else-is_clear, else-has_magic-via-else-has_magic}
 
-pub returns-then-is_sealed-clause-held : goal.returns-then-is_sealed-clause-held
-returns-then-is_sealed-clause-held c =
+pub returns-then-is_sealed-clause-uberblock : goal.returns-then-is_sealed-clause-uberblock
+returns-then-is_sealed-clause-uberblock c =
     let same = c.read_fields-uberblock.ensures in
     let formed : IsFormed c.args.bytes.now = record {
       magic = c.has_magic.ensures.0 c.if-has_magic.true;

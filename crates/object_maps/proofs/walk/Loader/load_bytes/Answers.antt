@@ -15,6 +15,7 @@ use Rattle.base.specs.tree.Places.{walk_index_of_indirect}
 use Rattle.object_maps.proofs.WalkOrder.{sound_more}
 use Rattle.object_maps.proofs.WalkFaults.{missing_fault}
 use Rattle.object_maps.proofs.WalkParts.{tells_behind, object_none, data_linked, indirect_sound, indirect_fault}
+use Rattle.object_maps.proofs.Judged.{all_bytes}
 use Rattle.object_maps.proofs.walk.Loader.load_bytes.Goals as goal
 
 pub returns-then-is_none-clause-loaded : goal.returns-then-is_none-clause-loaded
@@ -22,16 +23,19 @@ returns-then-is_none-clause-loaded g c = λ image shows.
     subst (λ (l : List Pointer). IsLoadedObject g.D.SectorDevice.keeps_model image c.args.self.now.frame.now c.args.number (Some c.args.bytes.now) c.args.indirect.now l)
     (sym c.new.ensures.items)
     (hole_loaded g.D.SectorDevice.keeps_model image c.args.self.now.frame.now c.args.number c.args.indirect.now c.args.bytes.now
-    (c.if-is_none.ensures.0 refl) c.requires.bound c.requires.zeros)
+    (c.if-is_none.ensures.0 refl) (c.requires.bound, all_bytes c.args.bytes.now c.type_inv.bytes) c.requires.zeros)
 
 -- the records that are read stand in the Vec
-pub load_records-requires-clause-forms : goal.load_records-requires-clause-forms
-load_records-requires-clause-forms g c = λ r low.
+pub load_records-requires-clause-records : goal.load_records-requires-clause-records
+load_records-requires-clause-records g c =
     let new : List Pointer = c.read_pointers.new.pointers in
-    let items : c.deref.result.now ≡ new = c.deref.ensures.value ∙ take_at new (drop (length new) c.in_ok-records.records.items) c.in_ok-records.records.len
-    (c.read_pointers.auto.pointers ∙ c.deref_mut.ensures.len) in
-    subst (λ (p : Pointer). IsRecordPointerForm (length c.args.bytes.now) r p) (sym (ap (λ (l : List Pointer). pointer_of_list l r) items ∙ c.read_pointers.ensures r low))
-    (c.if-not-are_records.ensures.0 refl r low)
+    let long = c.read_pointers.auto.pointers ∙ c.deref_mut.ensures.len in
+    let items : c.deref.result.now ≡ new = c.deref.ensures.value ∙ take_at new (drop (length new) c.in_ok-records.records.items) c.in_ok-records.records.len long in
+    record {
+      count = ap (λ (l : List Pointer). length l) items ∙ long ∙ c.in_ok-records.ensures.len;
+      each = λ r low. subst (λ (p : Pointer). IsRecordPointerForm (length c.args.bytes.now) r p) (sym (ap (λ (l : List Pointer). pointer_of_list l r) items ∙ c.read_pointers.ensures r low))
+          (c.if-not-are_records.ensures.0 refl r low);
+    }
 
 pub load_records-requires-clause-zeros : goal.load_records-requires-clause-zeros
 load_records-requires-clause-zeros g c = zero_records c.args.bytes.now c.requires.zeros
@@ -43,13 +47,13 @@ returns-clause-loaded g c = λ image shows.
     let new : List Pointer = c.read_pointers.new.pointers in
     let items = take_at new (drop (length new) c.in_ok-records.records.items) c.in_ok-records.records.len (c.read_pointers.auto.pointers ∙ c.deref_mut.ensures.len) in
     let read = c.in_ok-read_block.ensures in
-    let same = still_shows keeps_model (g.D.SectorDevice.disk c.args.device.now) (g.D.SectorDevice.disk c.read_block.new.device) image read.disk shows in
+    let same = still_shows keeps_model (g.D.SectorDevice.disk c.args.device.now) (g.D.SectorDevice.disk c.read_block.new.device) image read.reads.disk shows in
     let all = subst (λ (l : List Pointer). AreLoadedRecords keeps_model image frame c.args.number l c.load_records.new.bytes 84) (c.deref.ensures.value ∙ items)
     (c.in_ok-load_records.ensures.loaded image same) in
     let opens = λ (keeps : IsTrue keeps_model). subst (λ (l : List ℕ). OpensAt image frame (Indirect c.args.number) c.args.indirect.now l) (sym c.payload_of-payload.ensures.payload) (read.opens image shows keeps) in
     subst (λ (l : List Pointer). IsLoadedObject keeps_model image frame c.args.number (Some c.load_records.new.bytes) c.args.indirect.now l) (sym items)
     (object_loaded keeps_model image frame c.args.number c.args.indirect.now new c.load_records.new.bytes c.payload_of-payload.result.now
-    read.placed opens c.read_pointers.ensures (omega (arith, c.load_records.auto.bytes, c.requires.bound)) all)
+    read.placed opens c.read_pointers.ensures (omega (arith, c.load_records.auto.bytes, c.requires.bound), all_bytes c.load_records.new.bytes c.type_inv.bytes) all)
 
 pub returns-then-is_none-clause-walked : goal.returns-then-is_none-clause-walked
 returns-then-is_none-clause-walked g c = λ keeps image top shows indirect.
@@ -85,7 +89,7 @@ returns-in_err-load_records-clause-walked g c = λ keeps image top shows indirec
     let sound = indirect_sound image frame top c.args.number (length c.args.bytes.now) c.args.indirect.now payload c.requires.in_range indirect opens (c.if-not-are_records.ensures.0 refl) in
     rw (p.1, p.2) (tells_behind image frame top (walk_index_of_indirect c.args.number) (walk_index_of_indirect c.args.number + 1) (walk_index_of_indirect c.args.number + 1)
     c.in_err-load_records.field-0.0 (omega arith) refl sound
-    (c.in_err-load_records.ensures.walked keeps image top (ap (λ (d : Disk). bytes_of d.now) (c.in_ok-read_block.ensures.disk keeps) ∙ shows) linked))
+    (c.in_err-load_records.ensures.walked keeps image top (ap (λ (d : Disk). bytes_of d.now) (c.in_ok-read_block.ensures.reads.disk keeps) ∙ shows) linked))
 
 pub returns-clause-walked : goal.returns-clause-walked
 returns-clause-walked g c = λ keeps image top shows indirect.
@@ -100,4 +104,4 @@ returns-clause-walked g c = λ keeps image top shows indirect.
     (λ r low. ap (λ (l : List Pointer). pointer_of_list l r) items ∙ c.read_pointers.ensures r low) in
     let sound = indirect_sound image frame top c.args.number (length c.args.bytes.now) c.args.indirect.now payload c.requires.in_range indirect opens (c.if-not-are_records.ensures.0 refl) in
     sound_more image frame top (walk_index_of_indirect c.args.number) (walk_index_of_indirect c.args.number + 1) (walk_index_of_indirect c.args.number + 85) sound
-    (c.in_ok-load_records.ensures.walked keeps image top (ap (λ (d : Disk). bytes_of d.now) (c.in_ok-read_block.ensures.disk keeps) ∙ shows) linked)
+    (c.in_ok-load_records.ensures.walked keeps image top (ap (λ (d : Disk). bytes_of d.now) (c.in_ok-read_block.ensures.reads.disk keeps) ∙ shows) linked)

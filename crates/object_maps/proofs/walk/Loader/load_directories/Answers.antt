@@ -31,9 +31,9 @@ loop-index-preserved g c =
     let call = c.in_ok-load_directory.ensures in
     let within : c.loop-index.index < length c.args.directories.now = omega (arith, c.requires.directories, c.loop-index-test.true) in
     record {
-      size = call.size ∙ i.size;
-      disk = λ keeps. call.disk keeps ∙ i.disk keeps;
-      count = call.count ∙ i.count;
+      size = call.reads.size ∙ i.size;
+      disk = λ keeps. call.reads.disk keeps ∙ i.disk keeps;
+      count = call.reads.count ∙ i.count;
       empty = empty_behind c.loop-index.index c.loop-index.objects.slots.items c.load_directory.new.objects.slots.items c.loop-index.objects.maps.items c.load_directory.new.objects.maps.items i.empty call.others;
       sound = λ keeps image top shows all.
           sound_more image c.args.self.now.frame.now top 1 (1 + 5356 * c.loop-index.index) (1 + 5356 * (c.loop-index.index + 1)) (i.sound keeps image top shows all)

@@ -15,7 +15,7 @@ returns-clause-loaded g c = λ image shows.
     let keeps_model = g.D.SectorDevice.keeps_model in
     let frame = c.args.self.now.frame.now in
     let read = c.in_ok-read_block.ensures in
-    let same = still_shows keeps_model (g.D.SectorDevice.disk c.args.device.now) (g.D.SectorDevice.disk c.read_block.new.device) image read.disk shows in
+    let same = still_shows keeps_model (g.D.SectorDevice.disk c.args.device.now) (g.D.SectorDevice.disk c.read_block.new.device) image read.reads.disk shows in
     let opens = λ (keeps : IsTrue keeps_model). subst (λ (l : List ℕ). OpensAt image frame (Directory c.args.directory) c.args.pointer.now l) (sym c.payload_of-payload.ensures.payload)
     (read.opens image shows keeps) in
     on_ok_weaker c.load_entries.result
@@ -50,6 +50,6 @@ returns-clause-walked g c = λ keeps image top shows at named.
     (c.in_ok-read_block.ensures.opens image (λ k. shows) keeps) in
     let here = sound_at image frame top (Directory c.args.directory) c.args.pointer.now payload at opens (c.if-not-are_entries.ensures.0 refl) in
     MatchResult-weaker c.load_entries.result
-    (c.load_entries.ensures.walked keeps image top (ap (λ (d : Disk). bytes_of d.now) (c.in_ok-read_block.ensures.disk keeps) ∙ shows)
+    (c.load_entries.ensures.walked keeps image top (ap (λ (d : Disk). bytes_of d.now) (c.in_ok-read_block.ensures.reads.disk keeps) ∙ shows)
     (record { pointer = c.args.pointer.now; at = at; opens = opens }))
     (λ x. directory_sound image frame top c.args.directory c.requires.in_range here) (λ e. directory_tells image frame top c.args.directory e c.requires.in_range here)

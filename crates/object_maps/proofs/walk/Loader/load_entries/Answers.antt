@@ -14,7 +14,7 @@ pub loop-index-preserved-then-entry-ne1 : goal.loop-index-preserved-then-entry-n
 loop-index-preserved-then-entry-ne1 g c =
     let i = c.loop-index.invariant in
     let entry : List ℕ = entry_in c.args.payload.now c.loop-index.index in
-    let absent = entry_absent entry (c.requires.entries c.loop-index.index c.loop-index-test.true) (λ p. c.if-entry-ne1.true (c.read_entry-entry.ensures.present ∙ p)) in
+    let absent = entry_absent entry (c.requires.payload.each c.loop-index.index c.loop-index-test.true) (λ p. c.if-entry-ne1.true (c.read_entry-entry.ensures.present ∙ p)) in
     record {
       size = i.size;
       disk = i.disk;
@@ -28,7 +28,7 @@ loop-index-preserved-then-entry-ne1 g c =
 pub load_object-requires-clause-length : goal.load_object-requires-clause-length
 load_object-requires-clause-length g c =
     let entry = c.read_entry-entry.ensures in
-    rw entry.length (entry_short (entry_in c.args.payload.now c.loop-index.index) (c.requires.entries c.loop-index.index c.loop-index-test.true) (sym entry.present ∙ c.if-entry-ne1.false))
+    rw entry.length (entry_short (entry_in c.args.payload.now c.loop-index.index) (c.requires.payload.each c.loop-index.index c.loop-index-test.true) (sym entry.present ∙ c.if-entry-ne1.false))
 
 pub loop-index-preserved : goal.loop-index-preserved
 loop-index-preserved g c =
@@ -38,25 +38,25 @@ loop-index-preserved g c =
     let payload : List ℕ = c.args.payload.now in
     let k : ℕ = c.loop-index.index in
     let is_present : entry_present (entry_in payload k) ≡ 1 = sym entry.present ∙ c.if-entry-ne1.false in
-    let most : entry_length (entry_in payload k) ≤ max_length = entry_short (entry_in payload k) (c.requires.entries k c.loop-index-test.true) is_present in
-    let size : entry_length (entry_in payload k) ≡ length c.in_ok-slot.slot.bytes.items = sym entry.length ∙ sym call.told.size in
+    let most : entry_length (entry_in payload k) ≤ max_length = entry_short (entry_in payload k) (c.requires.payload.each k c.loop-index-test.true) is_present in
+    let size : entry_length (entry_in payload k) ≡ length c.in_ok-slot.slot.bytes.items = sym entry.length ∙ sym call.object.size in
     let slots_are = c.loop-index.objects.all_slots in
     let maps_are = c.loop-index.objects.all_maps in
     let slot_in : 63 * c.args.directory + k < length c.loop-index.objects.slots.items = omega (arith, c.requires.in_range, c.loop-index-test.true, c.loop-index.objects.slots.ok.0, slots_are) in
     let map_in : 63 * c.args.directory + k < length c.loop-index.objects.maps.items = omega (arith, c.requires.in_range, c.loop-index-test.true, c.loop-index.objects.maps.ok.0, maps_are) in
     record {
-      size = call.size ∙ i.size;
-      disk = λ keeps. call.disk keeps ∙ i.disk keeps;
-      count = call.count ∙ i.count;
+      size = call.reads.size ∙ i.size;
+      disk = λ keeps. call.reads.disk keeps ∙ i.disk keeps;
+      count = call.reads.count ∙ i.count;
       sound = λ keeps image top shows of_directory.
           object_more image c.args.self.now.frame.now top c.args.directory k c.loop-index-test.true (i.sound keeps image top shows of_directory)
           (call.walked keeps image top (ap (λ (d : Disk). bytes_of d.now) (i.disk keeps) ∙ shows)
           (linked_entry image c.args.self.now.frame.now top c.args.directory k payload c.read_entry-entry.result.pointer c.read_entry-entry.result.length
           c.loop-index-test.true of_directory entry.pointer entry.length));
       loaded = λ image shows. entries_put g.D.SectorDevice.keeps_model image c.args.self.now.frame.now c.args.directory payload k
-          c.args.objects.now.slots.items c.loop-index.objects.slots.items c.args.objects.now.maps.items c.loop-index.objects.maps.items c.in_ok-slot.slot c.in_ok-slot.map (i.loaded image shows) slot_in map_in call.told.present
+          c.args.objects.now.slots.items c.loop-index.objects.slots.items c.args.objects.now.maps.items c.loop-index.objects.maps.items c.in_ok-slot.slot c.in_ok-slot.map (i.loaded image shows) slot_in map_in call.object.present
           (call.loaded image (still_shows g.D.SectorDevice.keeps_model (g.D.SectorDevice.disk c.args.device.now) (g.D.SectorDevice.disk c.loop-index.device) image i.disk shows))
-          is_present size (omega (arith, size, most)) (sym entry.pointer ∙ sym call.told.indirect);
+          is_present size (omega (arith, size, most)) (sym entry.pointer ∙ sym call.object.indirect);
     }
 
 pub returns-clause-loaded : goal.returns-clause-loaded

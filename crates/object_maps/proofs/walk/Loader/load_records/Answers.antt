@@ -11,7 +11,7 @@ use Rattle.object_maps.proofs.walk.Loader.load_records.Goals as goal
 pub loop-index-preserved-then-is_none : goal.loop-index-preserved-then-is_none
 loop-index-preserved-then-is_none g c =
     let i = c.loop-index.invariant in
-    let within : c.loop-index.index < length c.args.records.now = omega (arith, c.requires.count, c.loop-index-test.true) in
+    let within : c.loop-index.index < length c.args.records.now = omega (arith, c.requires.records.count, c.loop-index-test.true) in
     record {
       size = i.size;
       disk = i.disk;
@@ -26,11 +26,11 @@ pub loop-index-preserved : goal.loop-index-preserved
 loop-index-preserved g c =
     let i = c.loop-index.invariant in
     let call = c.in_ok-load_record.ensures in
-    let within : c.loop-index.index < length c.args.records.now = omega (arith, c.requires.count, c.loop-index-test.true) in
+    let within : c.loop-index.index < length c.args.records.now = omega (arith, c.requires.records.count, c.loop-index-test.true) in
     record {
-      size = call.size ∙ i.size;
-      disk = λ keeps. call.disk keeps ∙ i.disk keeps;
-      count = call.count ∙ i.count;
+      size = call.reads.size ∙ i.size;
+      disk = λ keeps. call.reads.disk keeps ∙ i.disk keeps;
+      count = call.reads.count ∙ i.count;
       sound = λ keeps image top shows all.
           sound_then image c.args.self.now.frame.now top (walk_index_of_indirect c.args.number + 1) (walk_index_of_indirect c.args.number + 1 + c.loop-index.index) _ _
           (walk_index_of_indirect c.args.number + 1 + (c.loop-index.index + 1)) refl (omega arith) (i.sound keeps image top shows all)
@@ -57,7 +57,7 @@ pub returns-in_err-load_record-clause-walked : goal.returns-in_err-load_record-c
 returns-in_err-load_record-clause-walked g c = λ keeps image top shows all.
     let p = err_from_is_err_and c.from_residual.result c.from_residual.ensures.1 in
     let i = c.loop-index.invariant in
-    let within : c.loop-index.index < length c.args.records.now = omega (arith, c.requires.count, c.loop-index-test.true) in
+    let within : c.loop-index.index < length c.args.records.now = omega (arith, c.requires.records.count, c.loop-index-test.true) in
     rw (p.1, p.2) (tells_behind image c.args.self.now.frame.now top (walk_index_of_indirect c.args.number + 1) (walk_index_of_indirect c.args.number + 1 + c.loop-index.index) _
     c.in_err-load_record.field-0.0 (omega arith) refl (i.sound keeps image top shows all)
     (c.in_err-load_record.ensures.walked keeps image top (ap (λ (d : Disk). bytes_of d.now) (i.disk keeps) ∙ shows)

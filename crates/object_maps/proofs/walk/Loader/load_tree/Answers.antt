@@ -21,7 +21,7 @@ returns-clause-loaded g c = λ image shows.
     let keeps_model = g.D.SectorDevice.keeps_model in
     let frame = c.args.self.now.frame.now in
     let read = c.in_ok-read_block.ensures in
-    let same = still_shows keeps_model (g.D.SectorDevice.disk c.args.device.now) (g.D.SectorDevice.disk c.read_block.new.device) image read.disk shows in
+    let same = still_shows keeps_model (g.D.SectorDevice.disk c.args.device.now) (g.D.SectorDevice.disk c.read_block.new.device) image read.reads.disk shows in
     let opens = λ (keeps : IsTrue keeps_model). subst (λ (l : List ℕ). OpensAt image frame Root c.args.root.now l) (sym c.payload_of-payload.ensures.payload)
     (read.opens image shows keeps) in
     on_ok_weaker c.load_directories.result
@@ -54,5 +54,5 @@ returns-clause-fault g c = λ keeps image shows.
     let opens = subst (λ (l : List ℕ). OpensAt image frame Root c.args.root.now l) (sym c.payload_of-payload.ensures.payload) (c.in_ok-read_block.ensures.opens image (λ k. shows) keeps) in
     IfErr-weaker c.load_directories.result (TellsFault image frame root 1) (TellsFault image frame root 0)
     (λ e. tells_behind image frame root 0 1 1 e (omega arith) refl (root_sound image frame root payload opens (c.if-not-have_form.ensures.0 refl)))
-    (told_by image frame root 1 (directory_index 84) c.load_directories.result (c.load_directories.ensures.walked keeps image root (ap (λ (d : Disk). bytes_of d.now) (c.in_ok-read_block.ensures.disk keeps) ∙ shows)
+    (told_by image frame root 1 (directory_index 84) c.load_directories.result (c.load_directories.ensures.walked keeps image root (ap (λ (d : Disk). bytes_of d.now) (c.in_ok-read_block.ensures.reads.disk keeps) ∙ shows)
     (directories_linked image frame root payload c.read_pointers.new.pointers opens c.read_pointers.ensures)))
