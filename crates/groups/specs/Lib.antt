@@ -1,0 +1,2 @@
+pub mod CountedLines
+pub mod GroupFields
