@@ -1,5 +1,5 @@
 -- The line of groups with its holds, one for each open transaction of a group (`txg.c`): what each call makes of it, and when it is refused.
-use Rattle.std.specs.Prelude.{ℕ, ◌≡◌, ◌+◌, ◌-◌, ◌==◌, ◌||◌, Bool, true, false, not, Option, Some, None, IsSomeAnd, is_some, is_none, nat_le, if◌then◌else◌}
+use Rattle.std.specs.Prelude.{ℕ, ◌≡◌, ◌+◌, ◌-◌, ◌==◌, ◌||◌, Bool, false, not, Some, None, is_some, is_none, nat_le, if◌then◌else◌}
 use Rattle.std.specs.Option.{option_map_or}
 use Rattle.base.specs.formats.Limits.{last_number}
 use Rattle.base.specs.steps.Groups.{Line, Middle, IsLine}
