@@ -1,6 +1,7 @@
 -- The line of groups with its holds, one for each open transaction of a group (`txg.c`): what each call makes of it, and when it is refused.
-use Rattle.std.specs.Prelude.{ℕ, ◌≡◌, ◌+◌, ◌-◌, ◌==◌, ◌||◌, Bool, false, not, Some, None, is_some, is_none, nat_le, if◌then◌else◌}
+use Rattle.std.specs.Prelude.{ℕ, ◌≡◌, ◌+◌, ◌-◌, ◌==◌, ◌||◌, Bool, false, not, Option, Some, None, is_some, is_none, nat_le, option_map, if◌then◌else◌}
 use Rattle.std.specs.Option.{option_map_or}
+use Rattle.base.specs.declared.names.Group.{Group}
 use Rattle.base.specs.formats.Limits.{last_number}
 use Rattle.base.specs.steps.Groups.{Line, Middle, IsLine}
 use Rattle.base.specs.steps.Refusals.{quiescing_group, quiesced_group}
@@ -16,6 +17,12 @@ pub record CountedLine : Type 0 where
 pub record IsCounted (l : CountedLine) : Type 0 where
   pub line : IsLine l.line
   pub quiesced : quiescing_group l.line ≡ None → l.middle_holds ≡ 0
+
+abbrev pub number_of : Group → ℕ
+number_of group = group.0
+
+abbrev pub middle_group : Line → Option ℕ
+middle_group l = option_map (λ (m : Middle). m.group) l.middle
 
 -- the holds of a group
 abbrev pub holds_of : CountedLine → ℕ → ℕ

@@ -4,13 +4,10 @@ use Rattle.std.specs.Option.{option_map_or}
 use Rattle.base.specs.declared.names.Group.{Group}
 use Rattle.base.specs.steps.Groups as line
 use Rattle.base.specs.steps.Groups.{IsLine}
-use Rattle.groups.specs.CountedLines.{CountedLine}
+use Rattle.groups.specs.CountedLines.{CountedLine, number_of}
 use Rattle.groups.specs.declared.line.Middle.{Middle}
 use Rattle.groups.specs.declared.line.Middle.TheVariants.{Quiescing, Quiesced}
 use Rattle.groups.specs.declared.line.Groups.TheInside.{Inside}
-
-abbrev pub number_of : Group → ℕ
-number_of group = group.0
 
 abbrev pub group_of : ℕ → Group
 group_of number = record { 0 = number }

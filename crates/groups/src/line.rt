@@ -22,6 +22,8 @@ ghost use Rattle.groups.specs.CountedLines.{
   is_finish_refused,
   is_quiesce_refused,
   is_start_refused,
+  middle_group,
+  number_of,
 };
 
 use base::{Group, LAST_NUMBER, PoolError};
@@ -89,14 +91,14 @@ impl Groups {
 
     /// The group that is syncing.
     pub fn syncing(&self) -> Option<Group>
-        ensures { option_map (λ group. group.0) result ≡ self.now.line.syncing }
+        ensures { option_map number_of result ≡ self.now.line.syncing }
     {
         self.syncing
     }
 
     /// The group that quiesces, or is quiesced and waits.
     pub fn middle(&self) -> Option<Group>
-        ensures { option_map (λ group. group.0) result ≡ option_map (λ m. m.group) self.now.line.middle }
+        ensures { option_map number_of result ≡ middle_group self.now.line }
     {
         match self.middle {
             Some(Middle::Quiescing(group, _)) | Some(Middle::Quiesced(group)) => Some(group),
