@@ -1,0 +1,3 @@
+pub mod GroupSums
+pub mod ThreeSums
+pub mod DirtyCalls

@@ -1,0 +1,2 @@
+pub mod DirtyBytes
+pub mod DirtyFields
