@@ -9,6 +9,10 @@ use Rattle.std.specs.FinMap.{FinMap, get-insert, get-remove, get-empty, same_map
 use Rattle.throttle.specs.DirtyBytes.{entry_of, with_sum}
 use Rattle.throttle.specs.DirtyFields.{sums_from}
 
+pub unwrap_or-entry_of : (n : ℕ) → unwrap_or (entry_of n) 0 ≡ n
+unwrap_or-entry_of zero = refl
+unwrap_or-entry_of (suc n) = refl
+
 get-with_sum : (g n : ℕ) (m : FinMap nat_cmp ℕ) (q : ℕ) → finite.get (with_sum g n m) q ≡ cond (eq_by_cmp nat_cmp q g) (entry_of n) (finite.get m q)
 unfolding with_sum
 get-with_sum g zero m q = get-remove nat_cmp_total m g q

@@ -9,11 +9,7 @@ use Rattle.std.specs.FinMap.{FinMap, get-empty}
 use Rattle.throttle.specs.DirtyBytes.{MayBeUnsynced, AreWithinLimit, sum_of, total_of, entry_of, with_sum}
 use Rattle.throttle.specs.DirtyFields.{sums_from, dirty_bytes_of, three_total}
 use Rattle.throttle.specs.declared.dirty.Dirty.TheInside.{Inside}
-use Rattle.throttle.proofs.GroupSums.{get-with_sum_own, get-with_sum_other, get-removed, get-removed_other, get-before, get-past, get-at, same_sums}
-
-unwrap_or-entry_of : (n : ℕ) → unwrap_or (entry_of n) 0 ≡ n
-unwrap_or-entry_of zero = refl
-unwrap_or-entry_of (suc n) = refl
+use Rattle.throttle.proofs.GroupSums.{unwrap_or-entry_of, get-with_sum_own, get-with_sum_other, get-removed, get-removed_other, get-before, get-past, get-at, same_sums}
 
 -- of three numbers one is another
 pub three_total-set : (ns : List ℕ) (i n : ℕ) → length ns ≡ 3 → i < 3 → three_total (list_set ns i n) + get_or ns i 0 ≡ three_total ns + n

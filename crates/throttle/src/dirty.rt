@@ -1,5 +1,6 @@
-//! The dirty bytes of the unsynced groups: a sum for each, all within a limit (the throttle of `txg.c`). A transaction is
-//! charged before it begins. Its group's sum has the charge until the transaction is given up or the group is synced.
+//! The dirty bytes of the unsynced groups: a sum for each and a limit for all (as `dsl_pool.c` of OpenZFS sums them by
+//! group; that a charge past the limit is refused at once is this project's rule). A transaction is charged before it
+//! begins. Its group's sum has the charge until the transaction is given up or the group is synced.
 //!
 //! Three groups at most are unsynced, one that is syncing, one in the middle and the open one, and they are numbered one
 //! after another. So there are three sums, from that of the group after the synced one on, and no memory is taken.

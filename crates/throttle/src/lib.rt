@@ -2,5 +2,7 @@
 #![tactic(auto)]
 
 mod dirty;
+mod laws;
 
 pub use dirty::Dirty;
+pub use laws::{admits_are_entered, cancels_undo_admits, totals_agree};
