@@ -1,12 +1,16 @@
 -- What each call of the dirty bytes does to their three sums and to the total.
 use Rattle.std.proofs.Common.{◌≡◌, ℕ, ◌+◌, ◌-◌, ◌<◌, ◌≤◌, [], ◌∷◌, length, get_or, refl, ap, sym, subst, ◌∙◌, arith, ◌⊎◌, false}
-use Rattle.std.specs.Prelude.{set as list_set}
+use Rattle.std.specs.Prelude.{unwrap_or, set as list_set}
+use Rattle.std.specs.Ordering.{nat_cmp}
+use Rattle.std.specs.FinMap as finite
+use Rattle.std.specs.FinMap.{FinMap}
 use Rattle.std.proofs.lemmas.Bool.{ltb-false}
 use Rattle.std.proofs.lemmas.List.{length-set}
 use Rattle.base.specs.declared.names.Group.{Group}
 use Rattle.throttle.specs.DirtyBytes.{DirtyBytes, MayBeUnsynced, sum_of, total_of, with_sum, is_throttled, after_admit, after_cancel, after_synced}
 use Rattle.throttle.specs.DirtyFields.{dirty_bytes_of, three_total, IsWithinLimit}
 use Rattle.throttle.specs.declared.dirty.Dirty.TheInside.{Inside}
+use Rattle.throttle.proofs.GroupSums.{unwrap_or-entry_of, get-with_sum_own}
 use Rattle.throttle.proofs.ThreeSums.{three_total-set, sum-within_three, sum_of-unsynced, sum_of-other, total_of-three, sums_from-set, sums_from-synced}
 
 -- the fields with another sum at the place of a group, and with the sums moved up
@@ -41,6 +45,10 @@ module _ (d : Inside) (x : IsWithinLimit d) (group : ℕ) (may : MayBeUnsynced (
   sum_at-within : sum_at d group ≤ three_total d.sums
   sum_at-within = sum-within_three d.sums (group - d.synced.0 - 1) x.three place-low
 
+-- a sum that is set is read back
+sum_of-with : (group n : ℕ) (sums : FinMap nat_cmp ℕ) → unwrap_or (finite.get (with_sum group n sums) group) 0 ≡ n
+sum_of-with group n sums = ap (λ o. unwrap_or o 0) (get-with_sum_own group n sums) ∙ unwrap_or-entry_of n
+
 -- of the value that the fields stand for
 module _ (d : Inside) (x : IsWithinLimit d) (v : DirtyBytes) (is : dirty_bytes_of d ≡ v) where
   pub sum_of-at : (group : ℕ) → MayBeUnsynced v group → sum_of v group ≡ sum_at d group
@@ -69,6 +77,9 @@ module _ (d : Inside) (x : IsWithinLimit d) (v : DirtyBytes) (is : dirty_bytes_o
     pub admitted : dirty_bytes_of (with_place d group (sum_at d group + charge)) ≡ after_admit group charge v
     admitted = rw (sum_of-at group may) (changed (sum_at d group + charge))
 
+    pub sum-admitted : sum_of (dirty_bytes_of (with_place d group (sum_at d group + charge))) group ≡ sum_of v group + charge
+    sum-admitted = ap (λ w. sum_of w group) admitted ∙ sum_of-with group (sum_of v group + charge) v.sums
+
     pub total-admitted : total_of (dirty_bytes_of (with_place d group (sum_at d group + charge))) ≡ total_of v + charge
     total-admitted = let set : total_of (dirty_bytes_of (with_place d group (sum_at d group + charge))) + sum_at d group ≡ total_of v + (sum_at d group + charge) = total-changed (sum_at d group + charge) in
         omega (arith, set)
@@ -86,8 +97,8 @@ module _ (d : Inside) (x : IsWithinLimit d) (v : DirtyBytes) (is : dirty_bytes_o
           omega (arith, set, limit, total);
     }
 
-    pub sum-admitted : is_throttled charge v ≡ false → sum_at d group + charge ≤ d.limit
-    sum-admitted fits =
+    pub sum-within : is_throttled charge v ≡ false → sum_at d group + charge ≤ d.limit
+    sum-within fits =
         let total : total_of v ≡ three_total d.sums = total_of-fields in
         let within : sum_at d group ≤ three_total d.sums = sum_at-within d x group own in
         let limit : total_of v + charge ≤ d.limit = low fits in
@@ -96,6 +107,12 @@ module _ (d : Inside) (x : IsWithinLimit d) (v : DirtyBytes) (is : dirty_bytes_o
     -- a charge that ends
     pub canceled : dirty_bytes_of (with_place d group (sum_at d group - charge)) ≡ after_cancel group charge v
     canceled = rw (sum_of-at group may) (changed (sum_at d group - charge))
+
+    pub sum-canceled : charge ≤ sum_of v group → sum_of (dirty_bytes_of (with_place d group (sum_at d group - charge))) group + charge ≡ sum_of v group
+    sum-canceled low =
+        let left : sum_of (dirty_bytes_of (with_place d group (sum_at d group - charge))) group ≡ sum_of v group - charge =
+        ap (λ w. sum_of w group) canceled ∙ sum_of-with group (sum_of v group - charge) v.sums in
+        omega (arith, left, low)
 
     pub total-canceled : charge ≤ sum_of v group → total_of (dirty_bytes_of (with_place d group (sum_at d group - charge))) + charge ≡ total_of v
     total-canceled low = let set : total_of (dirty_bytes_of (with_place d group (sum_at d group - charge))) + sum_at d group ≡ total_of v + (sum_at d group - charge) = total-changed (sum_at d group - charge) in

@@ -95,6 +95,7 @@ impl Dirty {
         ensures error { IfErr result (λ e. e ≡ PoolError.Throttled) }
         ensures unchanged { OnErr result (self.new ≡ self.old) }
         ensures admitted { OnOk result (self.new ≡ after_admit group.0 charge self.old) }
+        ensures sum { OnOk result (sum_of self.new group.0 ≡ sum_of self.old group.0 + charge) }
         ensures total { OnOk result (total_of self.new ≡ total_of self.old + charge) }
     {
         if self.is_throttled(charge) {
@@ -109,6 +110,7 @@ impl Dirty {
         requires unsynced { MayBeUnsynced self.old group.0 }
         requires charged { charge ≤ sum_of self.old group.0 }
         ensures canceled { self.new ≡ after_cancel group.0 charge self.old }
+        ensures sum { sum_of self.new group.0 + charge ≡ sum_of self.old group.0 }
         ensures total { total_of self.new + charge ≡ total_of self.old }
     {
         self.sums[place(self.synced, group)] -= charge;
