@@ -47,7 +47,7 @@ impl Model for Dirty {
 }
 
 impl Dirty {
-    /// Nothing is charged yet.
+    /// Nothing is charged yet. The limit is in bytes; that of a pool is from `LEAST_DIRTY_MAX` to `GREATEST_DIRTY_MAX`.
     pub fn new(limit: u64, synced: Group) -> Self
         ensures { result ≡ dirty_behind limit synced.0 }
     {
@@ -58,7 +58,7 @@ impl Dirty {
         }
     }
 
-    /// The bytes that are charged to all groups.
+    /// The bytes that are charged to all groups together.
     pub fn total(&self) -> u64
         ensures total { result ≡ total_of self.now }
         ensures within { AreWithinLimit self.now }
