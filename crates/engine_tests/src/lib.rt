@@ -12,7 +12,11 @@ mod codec;
 #[cfg(test)]
 mod devices;
 #[cfg(test)]
+mod dirty_bytes;
+#[cfg(test)]
 mod free_blocks;
+#[cfg(test)]
+mod group_lines;
 #[cfg(test)]
 mod imports;
 #[cfg(test)]

@@ -1,0 +1,3 @@
+pub mod HoldCounts
+pub mod ExactHolds
+pub mod NamesApart

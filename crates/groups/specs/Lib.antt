@@ -1,0 +1,3 @@
+pub mod CountedLines
+pub mod GroupFields
+pub mod Laws

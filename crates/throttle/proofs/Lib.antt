@@ -1,0 +1,4 @@
+pub mod GroupSums
+pub mod ThreeSums
+pub mod DirtyCalls
+pub mod SumLaws

@@ -1,0 +1,3 @@
+pub mod DirtyBytes
+pub mod DirtyFields
+pub mod Laws
