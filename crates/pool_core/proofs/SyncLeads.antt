@@ -164,16 +164,16 @@ failed_running pool r next is same done =
 
 -- The running sync of a pool made its next call.
 module _ (pool : Pool) (r : RunningSync) (next : SyncRun) (before after : Disk) (is : pool.sync ≡ Some r) (same : SameSync r.run next) (sized : length (bytes_of before.now) ≡ pool.geometry)
-    (size : r.run.geometry ≡ pool.geometry) (there : (call : DeviceCall) × IsNextCall r.run call) where
+    (size : r.run.geometry ≡ pool.geometry) (call : DeviceCall) (at : IsNextCall r.run call) where
   abbrev pointers : Place → Pointer
   pointers = pointers_after r.root r.directories.items r.maps pool.tree
 
   abbrev IsMade : Type 0
-  IsMade = (call : DeviceCall) → IsNextCall r.run call → MakesCall r.run call before (Ok tt) after
+  IsMade = MakesCall r.run call before (Ok tt) after
 
   pub advanced : next.done ≡ r.run.done + 1 → IsMade → Advances r.group.0 (bytes_of before.now) (bytes_of after.now) (made_by pointers r.run) (made_by pointers next)
   advanced done makes =
-      call_advances r.run next same pointers r.no_stages done before after (sized ∙ sym size) r.group.0 (pool.uberblock r is).slot there.0 there.1 (makes there.0 there.1)
+      call_advances r.run next same pointers r.no_stages done before after (sized ∙ sym size) r.group.0 (pool.uberblock r is).slot call at makes
 
   pub synced_told : (new : Pool) → next.done ≡ r.run.done + 1 → next.done ≡ call_count next → IsMade → new.sync ≡ None → SamePlaces (pointers_of new.tree) pointers
       → Leads (reply.Synced r.group) (pool_told pool (bytes_of before.now)) (pool_told new (bytes_of after.now))

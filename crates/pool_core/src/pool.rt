@@ -44,7 +44,7 @@ use object_maps::{Contents, ObjectMap, Tree};
 use space::FreeSet;
 use std::alloc::Global;
 use std::collections::BTreeMap;
-use sync::SyncRun;
+use sync::{SyncCall, SyncRun};
 use tree_plans::{Committed, PlanSource, PlannedBlock, TreePlan, dirty_objects, plan};
 use uberblocks::{Uberblock, slot};
 
@@ -487,7 +487,7 @@ impl Pool {
             return Err(PoolError::NotReady);
         };
         match running.run.next(device) {
-            Ok(true) => {
+            Ok(SyncCall::Last) => {
                 let Some(synced) = self.sync.take() else {
                     unreachable!();
                 };
@@ -496,7 +496,7 @@ impl Pool {
                 self.finish_tree(synced);
                 Ok(Progress::Synced(group))
             }
-            Ok(false) => Ok(Progress::More),
+            Ok(SyncCall::More) => Ok(Progress::More),
             Err(error) => {
                 self.suspended = true;
                 Err(error)

@@ -1,6 +1,5 @@
 use Rattle.std.proofs.Common.{◌≡◌, ◌∙◌, ◌<◌, ◌-◌, ap, map, sym, subst, refl, true, Some, None}
 use Rattle.std.specs.Prelude.{Option, Result, option_map}
-use Rattle.std.proofs.lemmas.Bool.{true≢false}
 use Rattle.std.proofs.lemmas.Result.{err_from_is_err_and}
 use Rattle.base.specs.formats.Geometry.{block_address, block_count}
 use Rattle.tree_plans.specs.declared.planner.PlannedBlock.{PlannedBlock}
@@ -48,13 +47,13 @@ finish_tree-requires-clause-placed g c =
     let same = kept_sync c.in-Some-take.synced _ c.in-Some-take.ensures.value in
     subst (λ (r : RunningSync). ∥ ArePlaced (block_count pool.geometry) (tree_after r pool.tree) ∥₁) (sym same) (pool.planned c.in-Some.running c.in-Some.is)
 
-pub invariant_of-self-in-Ok-false : goal.invariant_of-self-in-Ok-false
-invariant_of-self-in-Ok-false g c =
+pub invariant_of-self-in-Ok-More : goal.invariant_of-self-in-Ok-More
+invariant_of-self-in-Ok-More g c =
     let pool = c.args.self.now in
     let is = c.in-Some.is in
     let was = pool.running c.in-Some.running is in
-    let told = c.in-Ok-false.ensures in
-    let left = more_left c.in-Some.running.run c.next.new.self told.sync told.done was.1 (λ e. true≢false (sym (told.last.1 e) ∙ c.in-Ok-false.field-0-test)) in
+    let told = c.in-Ok-More.ensures in
+    let left = more_left c.in-Some.running.run c.next.new.self told.counts.same told.counts.done was.1 (λ e. let other = sym c.in-Ok-More.field-0-is ∙ told.counts.last.1 e in cc) in
     record {
       free_sized = pool.free_sized;
       import_fits = pool.import_fits;
@@ -62,11 +61,11 @@ invariant_of-self-in-Ok-false g c =
       next_ordinal_fits = pool.next_ordinal_fits;
       plans_built = pool.plans_built;
       running = λ x e. let same = kept_sync _ x e in (
-        ap (λ (r : RunningSync). r.run.geometry) (sym same) ∙ told.sync.geometry ∙ was.0,
+        ap (λ (r : RunningSync). r.run.geometry) (sym same) ∙ told.counts.same.geometry ∙ was.0,
         subst (λ (r : RunningSync). r.run.done < call_count r.run) same left.1,
       );
       uberblock = λ x e. subst (λ (r : RunningSync). WritesUberblock (uberblock_with pool.guid pool.import_number pool.log_address r.group.0 r.moment r.root) r.run) (kept_sync _ x e)
-          (same_uberblock c.in-Some.running.run c.next.new.self told.sync _ (pool.uberblock c.in-Some.running is));
+          (same_uberblock c.in-Some.running.run c.next.new.self told.counts.same _ (pool.uberblock c.in-Some.running is));
       planned = λ x e. subst (λ (r : RunningSync). ∥ ArePlaced (block_count pool.geometry) (tree_after r pool.tree) ∥₁) (kept_sync _ x e) (pool.planned c.in-Some.running is);
       sync_line = ap (λ (o : Option RunningSync). option_map (λ (r : RunningSync). r.group.0) o) (sym is) ∙ pool.sync_line;
       pending_built = pool.pending_built;
@@ -79,7 +78,7 @@ invariant_of-self-in-Err g c =
     let is = c.in-Some.is in
     let was = pool.running c.in-Some.running is in
     let told = c.in-Err.ensures in
-    let left = left_as_before c.in-Some.running.run c.next.new.self told.sync told.done was.1 in
+    let left = left_as_before c.in-Some.running.run c.next.new.self told.counts.same told.counts.done was.1 in
     record {
       free_sized = pool.free_sized;
       import_fits = pool.import_fits;
@@ -87,11 +86,11 @@ invariant_of-self-in-Err g c =
       next_ordinal_fits = pool.next_ordinal_fits;
       plans_built = pool.plans_built;
       running = λ x e. let same = kept_sync _ x e in (
-        ap (λ (r : RunningSync). r.run.geometry) (sym same) ∙ told.sync.geometry ∙ was.0,
+        ap (λ (r : RunningSync). r.run.geometry) (sym same) ∙ told.counts.same.geometry ∙ was.0,
         subst (λ (r : RunningSync). r.run.done < call_count r.run) same left,
       );
       uberblock = λ x e. subst (λ (r : RunningSync). WritesUberblock (uberblock_with pool.guid pool.import_number pool.log_address r.group.0 r.moment r.root) r.run) (kept_sync _ x e)
-          (same_uberblock c.in-Some.running.run c.next.new.self told.sync _ (pool.uberblock c.in-Some.running is));
+          (same_uberblock c.in-Some.running.run c.next.new.self told.counts.same _ (pool.uberblock c.in-Some.running is));
       planned = λ x e. subst (λ (r : RunningSync). ∥ ArePlaced (block_count pool.geometry) (tree_after r pool.tree) ∥₁) (kept_sync _ x e) (pool.planned c.in-Some.running is);
       sync_line = ap (λ (o : Option RunningSync). option_map (λ (r : RunningSync). r.group.0) o) (sym is) ∙ pool.sync_line;
       pending_built = pool.pending_built;
@@ -103,28 +102,28 @@ returns-in-Some-take-clause-step g c =
     let pool = c.args.self.now in
     let s = pool_shown pool in
     let is = c.in-Some.is in
-    let told = c.in-Ok-true.ensures in
+    let told = c.in-Ok-Last.ensures in
     let plan : SyncPlan = plan_of pool.log_address c.in-Some.running in
     let syncing = sym pool.sync_line ∙ ap (λ (o : Option RunningSync). option_map (λ (r : RunningSync). r.group.0) o) is in
     let same = kept_sync c.in-Some-take.synced _ c.in-Some-take.ensures.value in
     let running = ap (λ (o : Option RunningSync). option_map (plan_of pool.log_address) o) is in
     step_synced s _ c.in-Some.running.group.0 c.in-Some-take.synced.group.0 plan c.in_ok-check_running.ensures syncing running
-    (one_left c.in-Some.running.run c.next.new.self told.sync told.done (told.last.0 c.in-Ok-true.field-0-test)) (ap (λ (r : RunningSync). r.group.0) same) refl refl refl
+    (one_left c.in-Some.running.run c.next.new.self told.counts.same told.counts.done (told.counts.last.0 c.in-Ok-Last.field-0-is)) (ap (λ (r : RunningSync). r.group.0) same) refl refl refl
     (c.finish_tree.ensures.shown ∙ rw (c.finish_sync.ensures, c.take.ensures.after) (λ k. shown_after_tree (same k) (record s { line = line_after_sync (same k).group.0 s.line; sync = None })))
 
-pub returns-in-Ok-false-clause-step : goal.returns-in-Ok-false-clause-step
-returns-in-Ok-false-clause-step g c =
+pub returns-in-Ok-More-clause-step : goal.returns-in-Ok-More-clause-step
+returns-in-Ok-More-clause-step g c =
     let pool = c.args.self.now in
     let s = pool_shown pool in
     let is = c.in-Some.is in
     let was = pool.running c.in-Some.running is in
-    let told = c.in-Ok-false.ensures in
+    let told = c.in-Ok-More.ensures in
     let plan : SyncPlan = plan_of pool.log_address c.in-Some.running in
     let syncing = sym pool.sync_line ∙ ap (λ (o : Option RunningSync). option_map (λ (r : RunningSync). r.group.0) o) is in
     let running = ap (λ (o : Option RunningSync). option_map (plan_of pool.log_address) o) is in
-    let left = more_left c.in-Some.running.run c.next.new.self told.sync told.done was.1 (λ e. true≢false (sym (told.last.1 e) ∙ c.in-Ok-false.field-0-test)) in
-    let steps = one_less c.in-Some.running.run c.next.new.self told.sync told.done in
-    let taken = same_taken c.in-Some.running.run c.next.new.self told.sync in
+    let left = more_left c.in-Some.running.run c.next.new.self told.counts.same told.counts.done was.1 (λ e. let other = sym c.in-Ok-More.field-0-is ∙ told.counts.last.1 e in cc) in
+    let steps = one_less c.in-Some.running.run c.next.new.self told.counts.same told.counts.done in
+    let taken = same_taken c.in-Some.running.run c.next.new.self told.counts.same in
     step_more s _ c.in-Some.running.group.0 plan c.in_ok-check_running.ensures syncing running left.0
     (λ k. record s { sync = Some (record plan { steps_left = steps k; taken = taken k }) })
 
@@ -137,12 +136,12 @@ returns-in-Err-clause-step g c =
     let plan : SyncPlan = plan_of pool.log_address c.in-Some.running in
     let syncing = sym pool.sync_line ∙ ap (λ (o : Option RunningSync). option_map (λ (r : RunningSync). r.group.0) o) is in
     let running = ap (λ (o : Option RunningSync). option_map (plan_of pool.log_address) o) is in
-    let steps = as_many c.in-Some.running.run c.next.new.self told.sync told.done in
-    let taken = same_taken c.in-Some.running.run c.next.new.self told.sync in
+    let steps = as_many c.in-Some.running.run c.next.new.self told.counts.same told.counts.done in
+    let taken = same_taken c.in-Some.running.run c.next.new.self told.counts.same in
     let same : Some (record plan { steps_left = call_count c.next.new.self - c.next.new.self.done; taken = map (λ (b : PlannedBlock). block_address b.index) c.next.new.self.blocks.items }) ≡ s.sync =
     (λ k. Some (record plan { steps_left = steps k; taken = taken k })) ∙ sym running in
     step_failed s _ c.in-Some.running.group.0 plan c.in-Err.error c.in_ok-check_running.ensures syncing
-    (refused_as told.there.0 c.in-Err.error (told.refusal told.there.0 told.there.1))
+    (refused_as told.called.call c.in-Err.error told.called.refusal)
     (λ k. record s { suspended = true; sync = same k })
 
 pub returns-in_err-check_running-clause-leads : goal.returns-in_err-check_running-clause-leads
@@ -158,26 +157,26 @@ returns-in-Some-take-clause-leads g c = λ keeps.
     let pool = c.args.self.now in
     let is = c.in-Some.is in
     let was = pool.running c.in-Some.running is in
-    let told = c.in-Ok-true.ensures in
+    let told = c.in-Ok-Last.ensures in
     let same = kept_sync c.in-Some-take.synced _ c.in-Some-take.ensures.value in
     let sized = g.met.D.SectorDevice.sized keeps c.args.device.now ∙ c.requires in
     leads_as (reply.Synced c.in-Some.running.group) (reply.Synced c.in-Some-take.synced.group) (pool_told pool (bytes_of (g.D.SectorDevice.disk c.args.device.now).now))
     (pool_told c.finish_tree.new.self (bytes_of (g.D.SectorDevice.disk c.next.new.device).now)) (ap (λ (r : RunningSync). reply.Synced r.group) (sym same))
-    (synced_told pool c.in-Some.running c.next.new.self (g.D.SectorDevice.disk c.args.device.now) (g.D.SectorDevice.disk c.next.new.device) is told.sync sized was.0 told.there
-    c.finish_tree.new.self told.done (told.last.0 c.in-Ok-true.field-0-test) (told.called keeps) (c.finish_tree.ensures.sync ∙ c.take.ensures.after)
+    (synced_told pool c.in-Some.running c.next.new.self (g.D.SectorDevice.disk c.args.device.now) (g.D.SectorDevice.disk c.next.new.device) is told.counts.same sized was.0 told.called.call told.called.next
+    c.finish_tree.new.self told.counts.done (told.counts.last.0 c.in-Ok-Last.field-0-is) (told.called.made keeps) (c.finish_tree.ensures.sync ∙ c.take.ensures.after)
     (subst (λ (r : RunningSync). SamePlaces (pointers_of c.finish_tree.new.self.tree) (tree_after r pool.tree)) same c.finish_tree.ensures.pointers))
 
-pub returns-in-Ok-false-clause-leads : goal.returns-in-Ok-false-clause-leads
-returns-in-Ok-false-clause-leads g c = λ keeps past later.
+pub returns-in-Ok-More-clause-leads : goal.returns-in-Ok-More-clause-leads
+returns-in-Ok-More-clause-leads g c = λ keeps past later.
     let pool = c.args.self.now in
     let r = c.in-Some.running in
     let is = c.in-Some.is in
     let size = (pool.running r is).0 in
-    let told = c.in-Ok-false.ensures in
+    let told = c.in-Ok-More.ensures in
     let sized = g.met.D.SectorDevice.sized keeps c.args.device.now ∙ c.requires in
     let before = g.D.SectorDevice.disk c.args.device.now in
     let after = g.D.SectorDevice.disk c.next.new.device in
-    let advances = advanced pool r c.next.new.self before after is told.sync sized size told.there told.done (told.called keeps) in
+    let advances = advanced pool r c.next.new.self before after is told.counts.same sized size told.called.call told.called.next told.counts.done (told.called.made keeps) in
     (made_by (tree_after r pool.tree) c.next.new.self, record { before = made_by (tree_after r pool.tree) r.run; running = was_running pool r is; group = r.group.0; syncing = was_syncing pool r is; advances = advances }, refl, refl)
 
 pub returns-in-Err-clause-leads : goal.returns-in-Err-clause-leads
@@ -188,7 +187,7 @@ returns-in-Err-clause-leads g c = λ keeps past later.
     let told = c.in-Err.ensures in
     let before = g.D.SectorDevice.disk c.args.device.now in
     let after = g.D.SectorDevice.disk c.next.new.device in
-    (failed_call r.run told.there.0 c.in-Err.error before after (told.called keeps told.there.0 told.there.1), refl, failed_running pool r c.next.new.self is told.sync told.done)
+    (failed_call r.run told.called.call c.in-Err.error before after (told.called.made keeps), refl, failed_running pool r c.next.new.self is told.counts.same told.counts.done)
 
 pub returns-in_err-check_running-clause-called : goal.returns-in_err-check_running-clause-called
 returns-in_err-check_running-clause-called g c = rw c.in_err-check_running.ensures.1 refl
@@ -198,21 +197,21 @@ returns-in_default-clause-called g c = rw (c.in_ok-check_running.ensures, c.in_d
 
 pub returns-in-Some-take-clause-called : goal.returns-in-Some-take-clause-called
 returns-in-Some-take-clause-called g c =
-    let told = c.in-Ok-true.ensures in
+    let told = c.in-Ok-Last.ensures in
     rw (c.in_ok-check_running.ensures, c.in-Some.is)
-    (record { call = told.there.0; next = told.there.1; refusal = tt; made = λ keeps. told.called keeps told.there.0 told.there.1 })
+    (record { call = told.called.call; next = told.called.next; refusal = tt; made = λ keeps. told.called.made keeps })
 
-pub returns-in-Ok-false-clause-called : goal.returns-in-Ok-false-clause-called
-returns-in-Ok-false-clause-called g c =
-    let told = c.in-Ok-false.ensures in
+pub returns-in-Ok-More-clause-called : goal.returns-in-Ok-More-clause-called
+returns-in-Ok-More-clause-called g c =
+    let told = c.in-Ok-More.ensures in
     rw (c.in_ok-check_running.ensures, c.in-Some.is)
-    (record { call = told.there.0; next = told.there.1; refusal = tt; made = λ keeps. told.called keeps told.there.0 told.there.1 })
+    (record { call = told.called.call; next = told.called.next; refusal = tt; made = λ keeps. told.called.made keeps })
 
 pub returns-in-Err-clause-called : goal.returns-in-Err-clause-called
 returns-in-Err-clause-called g c =
     let told = c.in-Err.ensures in
     rw (c.in_ok-check_running.ensures, c.in-Some.is)
-    (record { call = told.there.0; next = told.there.1; refusal = told.refusal told.there.0 told.there.1; made = λ keeps. told.called keeps told.there.0 told.there.1 })
+    (record { call = told.called.call; next = told.called.next; refusal = told.called.refusal; made = λ keeps. told.called.made keeps })
 
 pub returns-in_err-check_running-clause-count : goal.returns-in_err-check_running-clause-count
 returns-in_err-check_running-clause-count g c =
