@@ -1,6 +1,6 @@
 -- Operations that create and write leave each record that they don't write, and each object that they are not on.
 use Rattle.std.proofs.Common.{◌≡◌, ℕ, ◌≢◌, ◌+◌, ◌-◌, ◌*◌, ◌<◌, ◌≤◌, List, [], ◌∷◌, ◌++◌, length, get_or, drop, replicate, Option, Some, None, Result, Ok, refl, ap, sym, ◌∙◌, subst, arith, inl, inr, ◌⊎◌, Bool, true, false, length-append, length-take}
-use Rattle.std.specs.Prelude.{All, option_map, ◌==◌, ◌&&◌, nat_lt}
+use Rattle.std.specs.Prelude.{All, IfSome, unwrap_or, option_map, ◌==◌, ◌&&◌, nat_lt}
 use Rattle.std.proofs.lemmas.Bool.{cases_eq, cases_lt, eq-eqb, lt-ltb, and_from, true≢false}
 use Rattle.std.proofs.lemmas.List.{ext_get_or, length-replicate, get_or-take, get_or-drop, get_or_append_left, get_or-append_right, get_or_past}
 use Rattle.std.proofs.lemmas.List.Elements.{All-head, All-tail}
@@ -17,7 +17,7 @@ use Rattle.base.specs.tree.Syncs.{is_on, is_record_touched}
 use Rattle.base.specs.steps.Stage.{is_shape_built}
 use Rattle.base.specs.tree.Tree.{record_bytes}
 use Rattle.base.specs.tree.PlacedTrees.{padded_record}
-use Rattle.base.specs.tree.PlannedTrees.{SameEntry, SameRecord}
+use Rattle.base.specs.tree.PlannedTrees.{SameEntry}
 use Rattle.base.proofs.common.Sequences.{parted}
 use Rattle.base.proofs.history.Objects.{reached, get-stored_same, get-stored_other}
 use Rattle.base.proofs.history.Writes.{length-bytes_after_write, overwritten_apart}
@@ -84,9 +84,13 @@ untouched-record r offset new bytes untouched = same-record r bytes (bytes_after
     side k from to (inl behind) = inl (omega arith)
     side k from to (inr before) = inr (omega arith)
 
+-- record r of an object that is there has the same bytes as before, where no object has none, and the object is no shorter
+abbrev pub SameBytes : ℕ → Option (List ℕ) → Option (List ℕ) → Type 0
+SameBytes r before after = IfSome after (λ bytes. (padded_record r (unwrap_or before []) ≡ padded_record r bytes) × (length (unwrap_or before []) ≤ length bytes))
+
 -- a record stays, and its object is not lost
 abbrev pub RecordStays : ℕ → Option (List ℕ) → Option (List ℕ) → Type 0
-RecordStays r before after = SameRecord r before after × (after ≡ None → before ≡ None)
+RecordStays r before after = SameBytes r before after × (after ≡ None → before ≡ None)
 
 stays-refl : (r : ℕ) (o : Option (List ℕ)) → RecordStays r o o
 stays-refl r None = (tt, λ e. e)
@@ -94,7 +98,7 @@ stays-refl r (Some x) = ((refl, omega arith), λ e. e)
 
 stays-then : (r : ℕ) (a b c : Option (List ℕ)) → RecordStays r a b → RecordStays r b c → RecordStays r a c
 stays-then r a b None first second = (tt, λ e. first.1 (second.1 e))
-stays-then r a None (Some z) first second = (subst (λ (o : Option (List ℕ)). SameRecord r o (Some z)) (sym (first.1 refl)) second.0, λ e. first.1 (second.1 e))
+stays-then r a None (Some z) first second = (subst (λ (o : Option (List ℕ)). SameBytes r o (Some z)) (sym (first.1 refl)) second.0, λ e. first.1 (second.1 e))
 stays-then r a (Some y) (Some z) first second =
     let longer = first.0.1 in
     let still = second.0.1 in
@@ -149,7 +153,7 @@ module _ (n : ℕ) where
         (all-stay ops p.0 after (All-tail (LeavesRecord n r) op ops all) p.2)
 
     -- a record that no write touches has the same bytes, also where its object is created
-    pub untouched-stays : (ops : List Op) (before after : Contents) → All (LeavesRecord n r) ops → apply_all ops before ≡ Ok after → SameRecord r (map.get before.objects n) (map.get after.objects n)
+    pub untouched-stays : (ops : List Op) (before after : Contents) → All (LeavesRecord n r) ops → apply_all ops before ≡ Ok after → SameBytes r (map.get before.objects n) (map.get after.objects n)
     untouched-stays ops before after all h = (all-stay ops before after all h).0
 
   abbrev SameObject : Option (List ℕ) → Option (List ℕ) → Type 0
