@@ -8,6 +8,8 @@ use Rattle.std.proofs.lemmas.List.Elements.{All-nil, All-cons, All-head, All-tai
 use Rattle.std.specs.FinMap as finite
 use Rattle.base.specs.declared.error.PoolError.{PoolError}
 use Rattle.base.specs.declared.operation.Op.{Op}
+use Rattle.base.specs.declared.record_state.RecordState.{RecordState}
+use Rattle.base.specs.declared.record_state.RecordState.TheVariants.{Unchanged, Dirty, Hole}
 use Rattle.base.specs.declared.operation.Op.TheVariants.{Create, Remove, Write, SetLength, SetName}
 use Rattle.base.specs.formats.Limits.{object_count, max_length, record_size, pointer_count, entry_count}
 use Rattle.base.specs.history.Sequences.{in_turn}
@@ -16,7 +18,7 @@ use Rattle.base.specs.history.Plans.{IsRange, touched, ranges}
 use Rattle.base.specs.history.History.{Entry, IsWithin, apply_all, entries_in}
 use Rattle.base.specs.tree.Places.{Place}
 use Rattle.base.specs.tree.Places.Place.{Root, Directory, Indirect, Data}
-use Rattle.base.specs.tree.Syncs.{RecordState, Unchanged, Dirty, Hole, is_record_touched, state_after_op, contents_after, record_state, contents_after_all, is_on, is_change_of, has_block_after, record_numbers, object_numbers}
+use Rattle.base.specs.tree.Syncs.{is_record_touched, state_after_op, contents_after, record_state, contents_after_all, is_on, is_change_of, has_block_after, record_numbers, object_numbers}
 use Rattle.base.specs.tree.Syncs as syncs
 use Rattle.base.specs.tree.PlannedPlaces.{object_places, has_changed, written_by}
 use Rattle.base.specs.history.Past.{Past}
@@ -265,7 +267,7 @@ module _ (ops : List Op) (synced after : Contents) (had : Place → Bool) (takes
     (dirty : (n r : ℕ) → n < object_count → r < pointer_count → is_dirty n r ≡ list_any (writes_record n r) ops)
     (changes : (n : ℕ) → n < object_count → is_changed n ≡ list_any (is_on n) ops) where
   -- a record is dirty by its state just where it is told so
-  told-dirty : (n r : ℕ) → n < object_count → r < pointer_count → syncs.is_record_dirty ops synced had n r ≡ is_dirty n r
+  told-dirty : (n r : ℕ) → n < object_count → r < pointer_count → syncs.is_record_written (syncs.group_changes ops synced had) n r ≡ is_dirty n r
   told-dirty n r low below = dirty-where_written n r ops synced after built takes_place ∙ sym (dirty n r low below)
 
   -- an object that changes its records has a dirty one
@@ -277,28 +279,28 @@ module _ (ops : List Op) (synced after : Contents) (had : Place → Bool) (takes
       (dirty n found.0 low found.1 ∙ any_at (writes_record n found.0) ops one.0 one.1 one.2 found.2)
 
   -- and one with a dirty record changes them, and then has a block
-  dirty-changed : (n : ℕ) → n < object_count → list_any (is_dirty n) record_numbers ≡ true → syncs.is_indirect_written ops synced had n ≡ true
+  dirty-changed : (n : ℕ) → n < object_count → list_any (is_dirty n) record_numbers ≡ true → syncs.is_indirect_written (syncs.group_changes ops synced had) n ≡ true
   dirty-changed n low any =
       let one = any_found (is_dirty n) record_numbers any in
       let r = one.1 in
       let below : r < pointer_count = (let to = (in-range 0 pointer_count one.0 r one.2).1 in omega (arith, to)) in
       let written : list_any (writes_record n r) ops ≡ true = sym (dirty n r low below) ∙ one.3 in
-      and_from (list_any (is_change_of n) ops) (list_any (syncs.has_record_after ops synced had n) record_numbers)
+      and_from (list_any (is_change_of n) ops) (list_any (syncs.has_record_after (syncs.group_changes ops synced had) n) record_numbers)
       (any-weaker (writes_record n r) (is_change_of n) ops (writes-change n r) written)
-      (any_at (syncs.has_record_after ops synced had n) record_numbers one.0 r one.2
+      (any_at (syncs.has_record_after (syncs.group_changes ops synced had) n) record_numbers one.0 r one.2
       (dirty-has_block (record_state n r ops synced Unchanged) (had (Data n r)) (told-dirty n r low below ∙ one.3)))
 
   -- the indirect block is written just where a record is
-  told-indirect : (n : ℕ) → n < object_count → syncs.is_indirect_written ops synced had n ≡ list_any (is_dirty n) record_numbers
-  told-indirect n low = one_truth (syncs.is_indirect_written ops synced had n) (list_any (is_dirty n) record_numbers)
-      (λ is. changed-dirty n low (and_parts (list_any (is_change_of n) ops) (list_any (syncs.has_record_after ops synced had n) record_numbers) is).0)
+  told-indirect : (n : ℕ) → n < object_count → syncs.is_indirect_written (syncs.group_changes ops synced had) n ≡ list_any (is_dirty n) record_numbers
+  told-indirect n low = one_truth (syncs.is_indirect_written (syncs.group_changes ops synced had) n) (list_any (is_dirty n) record_numbers)
+      (λ is. changed-dirty n low (and_parts (list_any (is_change_of n) ops) (list_any (syncs.has_record_after (syncs.group_changes ops synced had) n) record_numbers) is).0)
       (dirty-changed n low)
 
-  told-records : (n : ℕ) → n < object_count → filter (syncs.is_record_dirty ops synced had n) record_numbers ≡ filter (is_dirty n) record_numbers
-  told-records n low = filter_same (syncs.is_record_dirty ops synced had n) (is_dirty n) record_numbers
+  told-records : (n : ℕ) → n < object_count → filter (syncs.is_record_written (syncs.group_changes ops synced had) n) record_numbers ≡ filter (is_dirty n) record_numbers
+  told-records n low = filter_same (syncs.is_record_written (syncs.group_changes ops synced had) n) (is_dirty n) record_numbers
       (λ i r at. told-dirty n r low (let to = (in-range 0 pointer_count i r at).1 in omega (arith, to)))
 
-  told-object : (n : ℕ) → n < object_count → syncs.places_of_object ops synced had n ≡ object_places is_dirty n
+  told-object : (n : ℕ) → n < object_count → syncs.places_of_object (syncs.group_changes ops synced had) n ≡ object_places is_dirty n
   told-object n low = (λ k. map (λ r. Data n r) (told-records n low k) ++ (if told-indirect n low k then Indirect n ∷ [] else []))
 
   -- the objects of a directory are below the last number
@@ -306,7 +308,7 @@ module _ (ops : List Op) (synced after : Contents) (had : Place → Bool) (takes
   in-directory d i n low at = let to = (in-range (entry_count * d) entry_count i n at).1 in omega (arith, low, to)
 
   -- a directory is touched just where an object of it changes
-  told-touched : (d : ℕ) → d < pointer_count → syncs.is_directory_touched ops synced had d ≡ has_changed is_changed d
+  told-touched : (d : ℕ) → d < pointer_count → syncs.is_directory_touched (syncs.group_changes ops synced had) d ≡ has_changed is_changed d
   told-touched d low = any-same (λ n. list_any (is_on n) ops) is_changed (object_numbers d) (λ i n at. sym (changes n (in-directory d i n low at)))
 
   -- whether an object is there after the operations
@@ -317,32 +319,32 @@ module _ (ops : List Op) (synced after : Contents) (had : Place → Bool) (takes
   on-present n any = ap (λ (c : Contents). is_some (finite.get c.objects n)) (contents-reached ops synced after takes_place) ∙ there-after n ops synced after built takes_place any
 
   -- where one is touched, an object of it is there
-  touched-present : (d : ℕ) → syncs.is_directory_touched ops synced had d ≡ true → (i n : ℕ) × (slice_get (object_numbers d) i ≡ Some n) × (present n ≡ true)
+  touched-present : (d : ℕ) → syncs.is_directory_touched (syncs.group_changes ops synced had) d ≡ true → (i n : ℕ) × (slice_get (object_numbers d) i ≡ Some n) × (present n ≡ true)
   touched-present d is =
       let one = any_found (λ n. list_any (is_on n) ops) (object_numbers d) is in
       (one.0, one.1, one.2, on-present one.1 one.3)
 
-  told-directory : (d : ℕ) → d < pointer_count → syncs.is_directory_written ops synced had d ≡ has_changed is_changed d
-  told-directory d low = and-decided (syncs.is_directory_touched ops synced had d) (list_any present (object_numbers d))
+  told-directory : (d : ℕ) → d < pointer_count → syncs.is_directory_written (syncs.group_changes ops synced had) d ≡ has_changed is_changed d
+  told-directory d low = and-decided (syncs.is_directory_touched (syncs.group_changes ops synced had) d) (list_any present (object_numbers d))
       (λ is. let one = touched-present d is in any_at present (object_numbers d) one.0 one.1 one.2 one.3) ∙ told-touched d low
 
-  told-root : syncs.is_root_written ops synced had ≡ list_any (has_changed is_changed) (range_with_len 0 pointer_count)
-  told-root = and-decided (list_any (syncs.is_directory_touched ops synced had) (range_with_len 0 pointer_count)) (list_any present (range_with_len 0 object_count))
+  told-root : syncs.is_root_written (syncs.group_changes ops synced had) ≡ list_any (has_changed is_changed) (range_with_len 0 pointer_count)
+  told-root = and-decided (list_any (syncs.is_directory_touched (syncs.group_changes ops synced had)) (range_with_len 0 pointer_count)) (list_any present (range_with_len 0 object_count))
       (λ is.
-      let one = any_found (syncs.is_directory_touched ops synced had) (range_with_len 0 pointer_count) is in
+      let one = any_found (syncs.is_directory_touched (syncs.group_changes ops synced had)) (range_with_len 0 pointer_count) is in
       let d = one.1 in
       let low : d < pointer_count = (let to = (in-range 0 pointer_count one.0 d one.2).1 in omega (arith, to)) in
       let object = touched-present d one.3 in
       any-in_range present 0 object_count object.1 (omega arith) (in-directory d object.0 object.1 low object.2) object.3)
-      ∙ any-same (syncs.is_directory_touched ops synced had) (has_changed is_changed) (range_with_len 0 pointer_count)
+      ∙ any-same (syncs.is_directory_touched (syncs.group_changes ops synced had)) (has_changed is_changed) (range_with_len 0 pointer_count)
       (λ i d at. told-touched d (let to = (in-range 0 pointer_count i d at).1 in omega (arith, to)))
 
-  told-objects : flat_map (syncs.places_of_object ops synced had) (range_with_len 0 object_count) ≡ flat_map (object_places is_dirty) (range_with_len 0 object_count)
-  told-objects = flat_map-same (syncs.places_of_object ops synced had) (object_places is_dirty) (range_with_len 0 object_count)
+  told-objects : flat_map (syncs.places_of_object (syncs.group_changes ops synced had)) (range_with_len 0 object_count) ≡ flat_map (object_places is_dirty) (range_with_len 0 object_count)
+  told-objects = flat_map-same (syncs.places_of_object (syncs.group_changes ops synced had)) (object_places is_dirty) (range_with_len 0 object_count)
       (λ i n at. told-object n (let to = (in-range 0 object_count i n at).1 in omega (arith, to)))
 
-  told-directories : filter (syncs.is_directory_written ops synced had) (range_with_len 0 pointer_count) ≡ filter (has_changed is_changed) (range_with_len 0 pointer_count)
-  told-directories = filter_same (syncs.is_directory_written ops synced had) (has_changed is_changed) (range_with_len 0 pointer_count)
+  told-directories : filter (syncs.is_directory_written (syncs.group_changes ops synced had)) (range_with_len 0 pointer_count) ≡ filter (has_changed is_changed) (range_with_len 0 pointer_count)
+  told-directories = filter_same (syncs.is_directory_written (syncs.group_changes ops synced had)) (has_changed is_changed) (range_with_len 0 pointer_count)
       (λ i d at. told-directory d (let to = (in-range 0 pointer_count i d at).1 in omega (arith, to)))
 
   -- What the sync writes: each record that is dirty with the indirect block of its object, the directory of each object that changes, and the root.

@@ -67,7 +67,7 @@ same-record r xs ys each = ext_get_or 0 (padded_record r xs) (padded_record r ys
         get_or-padded_record r xs k below ∙ each (record_size * r + k) (omega arith) (omega arith) ∙ sym (get_or-padded_record r ys k below)
 
 -- a write that does not touch a record lies before it or behind it
-write-apart : (r offset count : ℕ) → is_record_touched r offset count ≡ false → (record_size * (r + 1) ≤ offset) ⊎ (offset + count ≤ record_size * r)
+pub write-apart : (r offset count : ℕ) → is_record_touched r offset count ≡ false → (record_size * (r + 1) ≤ offset) ⊎ (offset + count ≤ record_size * r)
 write-apart r offset count untouched = elim (cases_lt offset (record_size * (r + 1))) [
   | inr behind ↦ inl behind
   | inl low ↦ elim (cases_lt (record_size * r) (offset + count)) [
