@@ -134,23 +134,23 @@ module _ (s : Progress) (t : Tree) (after : FinMap nat_cmp (List ℕ)) (objects 
   indirect_was n old e = ap indirect_in e
 
   -- a record of an object that is planned
-  record_planned : (before : FinMap nat_cmp (List ℕ)) → IsCoveredBy objects before after → AreChanges objects after → (n r : ℕ) (m : ObjectMap) (f : IsPlannedFrom s t.maps.items after objects n m)
+  record_planned : (before : FinMap nat_cmp (List ℕ)) → IsCoveredBy objects (pointers_before t) before after → AreChanges objects after → (n r : ℕ) (m : ObjectMap) (f : IsPlannedFrom s t.maps.items after objects n m)
       → r < 84 → entry_of planned n ≡ Some m → (b : Bool) → slice_index_or f.dirty.flags r false ≡ b → IsRecordPlanned s n r (unwrap_or (finite.get after n) []) b (record_in f.old r) (record_in m r)
       → IsPlannedAt s.blocks s.frame (pointers_before t) new before after (Data n r)
   record_planned before covered changes n r m f low e true flag written =
       let marked : is_marked objects n r ≡ true = ap (λ (o : Option DirtyRecords). option_map_or (λ (dirty : DirtyRecords). slice_index_or dirty.flags r false) o false) f.dirty_is ∙ flag in
-      inr (if_some (λ (bytes : List ℕ). 4032 * r < length bytes) (λ (bytes : List ℕ). (4032 * r < length bytes) × IsNewAt s.blocks s.frame (Data n r) (new (Data n r)) (padded_record r bytes)) (finite.get after n)
+      inr (inl (if_some (λ (bytes : List ℕ). 4032 * r < length bytes) (λ (bytes : List ℕ). (4032 * r < length bytes) × IsNewAt s.blocks s.frame (Data n r) (new (Data n r)) (padded_record r bytes)) (finite.get after n)
       (λ bytes is begins. (
         begins,
         subst (λ (p : Pointer). IsNewAt s.blocks s.frame (Data n r) p (padded_record r bytes)) (sym (data_now n r m e))
             (subst (λ (b : List ℕ). IsNewAt s.blocks s.frame (Data n r) (record_in m r) (padded_record r b)) (ap (λ (o : Option (List ℕ)). unwrap_or o []) is) written.block),
       ))
-      (changes.within n r f.low low marked))
+      (changes.within n r f.low low marked)))
   record_planned before covered changes n r m f low e false flag same =
       let unmarked : is_marked objects n r ≡ false = ap (λ (o : Option DirtyRecords). option_map_or (λ (dirty : DirtyRecords). slice_index_or dirty.flags r false) o false) f.dirty_is ∙ flag in
       inl (data_now n r m e ∙ same ∙ sym (data_was n r f.old f.old_is), covered.records n r f.low low unmarked)
 
-  data_planned : (before : FinMap nat_cmp (List ℕ)) → IsCoveredBy objects before after → AreChanges objects after → (n r : ℕ) → n < object_count → r < 84
+  data_planned : (before : FinMap nat_cmp (List ℕ)) → IsCoveredBy objects (pointers_before t) before after → AreChanges objects after → (n r : ℕ) → n < object_count → r < 84
       → (o : Option ObjectMap) → entry_of planned n ≡ o → IsPlannedAt s.blocks s.frame (pointers_before t) new before after (Data n r)
   data_planned before covered changes n r low below None e = inl (data_kept n r e, covered.records n r low below (not_marked n r low e))
   data_planned before covered changes n r low below (Some m) e =
@@ -161,11 +161,11 @@ module _ (s : Progress) (t : Tree) (after : FinMap nat_cmp (List ℕ)) (objects 
   indirect_planned before n None e = inl (indirect_kept n e, λ r low. data_kept n r e)
   indirect_planned before n (Some m) e =
       let f = w.objects_planned.each n m e in
-      inr (
+      inr (inl (
         f.planned.payload,
         subst (λ (p : Pointer). IsNewAt s.blocks s.frame (Indirect n) p f.planned.payload) (sym (indirect_now n m e)) f.planned.indirect.block,
         λ r low. f.planned.pointers r low ∙ sym (data_now n r m e),
-      )
+      ))
 
   -- an object that is not there has no indirect block after the plan either
   no_others : AreChanges objects after → HasNoOthers (pointers_before t) after → (n : ℕ) → n < object_count → finite.get after n ≡ None → (o : Option ObjectMap) → entry_of planned n ≡ o → new (Indirect n) ≡ no_pointer
@@ -178,18 +178,18 @@ module _ (s : Progress) (t : Tree) (after : FinMap nat_cmp (List ℕ)) (objects 
   not_planned n none None e = e
   not_planned n none (Some m) e = let f = w.objects_planned.each n m e in absurd (none_some (entry_of objects n) none (ap is_some f.dirty_is))
 
-  directory_planned : (before : FinMap nat_cmp (List ℕ)) → IsCoveredBy objects before after → AreChanges objects after → HasNoOthers (pointers_before t) after → (d : ℕ) → d < 84
+  directory_planned : (before : FinMap nat_cmp (List ℕ)) → IsCoveredBy objects (pointers_before t) before after → AreChanges objects after → HasNoOthers (pointers_before t) after → (d : ℕ) → d < 84
       → (b : Bool) → is_directory_touched objects d ≡ b → IsDirectoryPlanned s t.maps.items planned after d b (slice_index_or t.directories.items d no_pointer) (slice_index_or directories d no_pointer)
       → IsPlannedAt s.blocks s.frame (pointers_before t) new before after (Directory d)
   directory_planned before covered changes absent d low true e p =
-      inr (
+      inr (inl (
         p.0,
         p.1.block,
         λ k below.
             let there : 63 * d + k < object_count = omega (arith, low, below) in
             entry_for (entry_in p.0 k) (new (Indirect (63 * d + k))) (finite.get after (63 * d + k)) (p.2 k below)
             (λ none. no_others changes absent (63 * d + k) there none (entry_of planned (63 * d + k)) refl) (changes.sizes (63 * d + k)),
-      )
+      ))
   directory_planned before covered changes absent d low false e same =
       inl (
         same,
@@ -202,7 +202,7 @@ module _ (s : Progress) (t : Tree) (after : FinMap nat_cmp (List ℕ)) (objects 
       )
 
   root_planned : (before : FinMap nat_cmp (List ℕ)) → (b : Bool) → is_any_touched objects ≡ b → IsRootPlanned s directories b t.root root → IsPlannedAt s.blocks s.frame (pointers_before t) new before after Root
-  root_planned before true e p = inr (p.0, p.1.block, p.2)
+  root_planned before true e p = inr (inl (p.0, p.1.block, p.2))
   root_planned before false e same = inl (same, λ d low. kept d low (is_directory_touched objects d) refl (w.directories_planned d low))
     where
       none : (os : List (ObjectId × DirtyRecords)) → is_any_touched os ≡ false → (d : ℕ) → is_directory_touched os d ≡ false
@@ -215,7 +215,7 @@ module _ (s : Progress) (t : Tree) (after : FinMap nat_cmp (List ℕ)) (objects 
       kept d low false is same = same
 
   -- each place is planned
-  pub tree_planned : (before : FinMap nat_cmp (List ℕ)) → IsCoveredBy objects before after → AreChanges objects after → HasNoOthers (pointers_before t) after
+  pub tree_planned : (before : FinMap nat_cmp (List ℕ)) → IsCoveredBy objects (pointers_before t) before after → AreChanges objects after → HasNoOthers (pointers_before t) after
       → IsTreePlan s.blocks s.frame (pointers_before t) (pointers_from root directories (planned_map t.maps.items planned)) before after
   tree_planned before covered changes absent Root low = root_planned before (is_any_touched objects) refl w.root_planned
   tree_planned before covered changes absent (Directory d) low = directory_planned before covered changes absent d low (is_directory_touched objects d) refl (w.directories_planned d low)

@@ -12,7 +12,7 @@ use Rattle.base.specs.formats.Geometry.{block_count}
 use Rattle.base.specs.formats.Versions.{written_version}
 use Rattle.base.specs.formats.Blocks.{Frame}
 use Rattle.base.specs.tree.Places.{Place, IsPlace}
-use Rattle.base.specs.tree.Places.Place.{Indirect}
+use Rattle.base.specs.tree.Places.Place.{Indirect, Data}
 use Rattle.base.specs.tree.PlannedTrees.{SameEntry, SameRecord}
 use Rattle.tree_plans.specs.declared.planner.DirtyRecords.{DirtyRecords}
 use Rattle.tree_plans.specs.Pointers.{entry_of}
@@ -22,8 +22,8 @@ abbrev pub is_marked : List (ObjectId × DirtyRecords) → ℕ → ℕ → Bool
 is_marked objects n r = option_map_or (λ (dirty : DirtyRecords). slice_index_or dirty.flags r false) (entry_of objects n) false
 
 -- what is not marked is as before: records that are not dirty, and the entries of objects that do not change
-pub record IsCoveredBy (objects : List (ObjectId × DirtyRecords)) (before after : FinMap nat_cmp (List ℕ)) : Type 0 where
-  pub records : (n r : ℕ) → n < object_count → r < pointer_count → is_marked objects n r ≡ false → SameRecord r (finite.get before n) (finite.get after n)
+pub record IsCoveredBy (objects : List (ObjectId × DirtyRecords)) (pointers : Place → Pointer) (before after : FinMap nat_cmp (List ℕ)) : Type 0 where
+  pub records : (n r : ℕ) → n < object_count → r < pointer_count → is_marked objects n r ≡ false → SameRecord (pointers (Data n r)) r (finite.get before n) (finite.get after n)
   pub entries : (n : ℕ) → n < object_count → is_some (entry_of objects n) ≡ false → SameEntry (finite.get before n) (finite.get after n)
 
 -- the objects that change are there, each dirty record begins within its object, and no object is too long

@@ -40,7 +40,7 @@ pub record TakesBlocks (source : PlanSource) (objects : BTreeMap ObjectId DirtyR
 -- The tree after a plan: what becomes of each of its places, whatever objects were there before of which the dirty records cover all that
 -- changes. Each pointer is to a block of the area, where that held before, and each block of the plan is behind a pointer.
 pub record MakesTree (source : PlanSource) (objects : BTreeMap ObjectId DirtyRecords) (plan : TreePlan) : Type 0 where
-  pub planned : (before : FinMap nat_cmp (List ℕ)) → IsCoveredBy objects.entries before (objects_after source) → AreChanges objects.entries (objects_after source)
+  pub planned : (before : FinMap nat_cmp (List ℕ)) → IsCoveredBy objects.entries (pointers_before source.tree.now) before (objects_after source) → AreChanges objects.entries (objects_after source)
       → HasNoOthers (pointers_before source.tree.now) (objects_after source)
       → IsTreePlan (map new_block plan.blocks.items) (written_frame source.guid source.geometry source.group.0) (pointers_before source.tree.now) (planned_pointers source.tree.now plan) before (objects_after source)
   pub placed : ArePlaced (block_count source.geometry) (pointers_before source.tree.now) → ArePlaced (block_count source.geometry) (planned_pointers source.tree.now plan)
