@@ -6,7 +6,7 @@ use Rattle.std.proofs.lemmas.List.{take_more}
 use Rattle.base.specs.declared.names.ObjectId.{ObjectId}
 use Rattle.base.specs.declared.operation.Op.{Op}
 use Rattle.tree_plans.specs.declared.planner.Committed.{Committed}
-use Rattle.tree_plans.specs.declared.planner.DirtyRecords.{DirtyRecords}
+use Rattle.tree_plans.specs.declared.changes.ObjectChanges.{ObjectChanges}
 use Rattle.tree_plans.specs.Pointers.{entry_of}
 use Rattle.tree_plans.specs.Changes.{is_marked}
 use Rattle.tree_plans.specs.Marks.{Marks, changes, pending_ops, touches}
@@ -25,7 +25,7 @@ any_append : (p : Op → Bool) (xs ys : List Op) → list_any p (xs ++ ys) ≡ (
 any_append p [] ys = refl
 any_append p (x ∷ xs) ys = elim (p x) as (λ b. (b || list_any p (xs ++ ys)) ≡ ((b || list_any p xs) || list_any p ys)) [ true ↦ refl | false ↦ any_append p xs ys ]
 
-pub marks_append : (xs ys : List Op) (a b c : List (ObjectId × DirtyRecords)) → Marks xs a b → Marks ys b c → Marks (xs ++ ys) a c
+pub marks_append : (xs ys : List Op) (a b c : List (ObjectId × ObjectChanges)) → Marks xs a b → Marks ys b c → Marks (xs ++ ys) a c
 marks_append xs ys a b c m k = record {
   there = λ n. k.there n ∙ ap (λ t. list_any (changes n) ys || t) (m.there n) ∙ or_moved (list_any (changes n) xs) (list_any (changes n) ys) (is_some (entry_of a n))
       ∙ ap (λ t. t || is_some (entry_of a n)) (sym (any_append (changes n) xs ys));

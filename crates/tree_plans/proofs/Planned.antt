@@ -22,7 +22,7 @@ use Rattle.base.specs.tree.PlannedTrees.{IsNewAt, IsPlannedAt, IsTreePlan, NewBl
 use Rattle.space.specs.FreeSets.{addresses_from, free_from}
 use Rattle.object_maps.specs.declared.tree.ObjectMap.{ObjectMap}
 use Rattle.object_maps.specs.declared.tree.Tree.{Tree}
-use Rattle.tree_plans.specs.declared.planner.DirtyRecords.{DirtyRecords}
+use Rattle.tree_plans.specs.declared.changes.ObjectChanges.{ObjectChanges}
 use Rattle.tree_plans.specs.declared.planner.PlannedBlock.{PlannedBlock}
 use Rattle.tree_plans.specs.Pointers.{entry_of, record_in, planned_map, pointers_from, pointers_before}
 use Rattle.tree_plans.specs.Plans.{Progress, IsRecordPlanned, Goes, HasTaken, IsAmong, IsOf, address_of, new_block}
@@ -62,7 +62,7 @@ abbrev data_in : ℕ → Option ObjectMap → Pointer
 data_in r o = option_map_or (λ (m : ObjectMap). record_in m r) o no_pointer
 
 -- no object of a directory that is not touched changes
-untouched : (objects : List (ObjectId × DirtyRecords)) (d n : ℕ) → n / 63 ≡ d → is_directory_touched objects d ≡ false → entry_of objects n ≡ None
+untouched : (objects : List (ObjectId × ObjectChanges)) (d n : ℕ) → n / 63 ≡ d → is_directory_touched objects d ≡ false → entry_of objects n ≡ None
 untouched [] d n e none = refl
 untouched (o ∷ objects) d n e none =
     elim (n == o.0.0) as (λ t. (n == o.0.0) ≡ t → entry_of (o ∷ objects) n ≡ None) [
@@ -94,7 +94,7 @@ if_some : {A : Type 0} (P Q : A → Type 0) (o : Option A) → ((a : A) → o �
 if_some P Q None f p = p
 if_some P Q (Some a) f p = f a refl p
 
-module _ (s : Progress) (t : Tree) (after : FinMap nat_cmp (List ℕ)) (objects : List (ObjectId × DirtyRecords)) (planned : List (ObjectId × ObjectMap)) (directories : List Pointer) (root : Pointer)
+module _ (s : Progress) (t : Tree) (after : FinMap nat_cmp (List ℕ)) (objects : List (ObjectId × ObjectChanges)) (planned : List (ObjectId × ObjectMap)) (directories : List Pointer) (root : Pointer)
     (w : IsWalked s t after objects planned directories root) where
   abbrev new : Place → Pointer
   new = pointers_from root directories (planned_map t.maps.items planned)
@@ -103,7 +103,7 @@ module _ (s : Progress) (t : Tree) (after : FinMap nat_cmp (List ℕ)) (objects 
   not_marked : (n r : ℕ) → n < object_count → entry_of planned n ≡ None → is_marked objects n r ≡ false
   not_marked n r low none = go (entry_of objects n) refl
     where
-      go : (o : Option DirtyRecords) → entry_of objects n ≡ o → option_map_or (λ (dirty : DirtyRecords). slice_index_or dirty.flags r false) o false ≡ false
+      go : (o : Option ObjectChanges) → entry_of objects n ≡ o → option_map_or (λ (dirty : ObjectChanges). slice_index_or dirty.flags r false) o false ≡ false
       go None e = refl
       go (Some dirty) e = elim (slice_index_or dirty.flags r false) as (λ f. slice_index_or dirty.flags r false ≡ f → f ≡ false) [
         | true ↦ λ flag.
@@ -138,7 +138,7 @@ module _ (s : Progress) (t : Tree) (after : FinMap nat_cmp (List ℕ)) (objects 
       → r < 84 → entry_of planned n ≡ Some m → (b : Bool) → slice_index_or f.dirty.flags r false ≡ b → IsRecordPlanned s n r (unwrap_or (finite.get after n) []) b (record_in f.old r) (record_in m r)
       → IsPlannedAt s.blocks s.frame (pointers_before t) new before after (Data n r)
   record_planned before covered changes n r m f low e true flag written =
-      let marked : is_marked objects n r ≡ true = ap (λ (o : Option DirtyRecords). option_map_or (λ (dirty : DirtyRecords). slice_index_or dirty.flags r false) o false) f.dirty_is ∙ flag in
+      let marked : is_marked objects n r ≡ true = ap (λ (o : Option ObjectChanges). option_map_or (λ (dirty : ObjectChanges). slice_index_or dirty.flags r false) o false) f.dirty_is ∙ flag in
       inr (inl (if_some (λ (bytes : List ℕ). 4032 * r < length bytes) (λ (bytes : List ℕ). (4032 * r < length bytes) × IsNewAt s.blocks s.frame (Data n r) (new (Data n r)) (padded_record r bytes)) (finite.get after n)
       (λ bytes is begins. (
         begins,
@@ -147,7 +147,7 @@ module _ (s : Progress) (t : Tree) (after : FinMap nat_cmp (List ℕ)) (objects 
       ))
       (changes.within n r f.low low marked)))
   record_planned before covered changes n r m f low e false flag same =
-      let unmarked : is_marked objects n r ≡ false = ap (λ (o : Option DirtyRecords). option_map_or (λ (dirty : DirtyRecords). slice_index_or dirty.flags r false) o false) f.dirty_is ∙ flag in
+      let unmarked : is_marked objects n r ≡ false = ap (λ (o : Option ObjectChanges). option_map_or (λ (dirty : ObjectChanges). slice_index_or dirty.flags r false) o false) f.dirty_is ∙ flag in
       inl (data_now n r m e ∙ same ∙ sym (data_was n r f.old f.old_is), covered.records n r f.low low unmarked)
 
   data_planned : (before : FinMap nat_cmp (List ℕ)) → IsCoveredBy objects (pointers_before t) before after → AreChanges objects after → (n r : ℕ) → n < object_count → r < 84
@@ -205,7 +205,7 @@ module _ (s : Progress) (t : Tree) (after : FinMap nat_cmp (List ℕ)) (objects 
   root_planned before true e p = inr (inl (p.0, p.1.block, p.2))
   root_planned before false e same = inl (same, λ d low. kept d low (is_directory_touched objects d) refl (w.directories_planned d low))
     where
-      none : (os : List (ObjectId × DirtyRecords)) → is_any_touched os ≡ false → (d : ℕ) → is_directory_touched os d ≡ false
+      none : (os : List (ObjectId × ObjectChanges)) → is_any_touched os ≡ false → (d : ℕ) → is_directory_touched os d ≡ false
       none [] e d = refl
       none (o ∷ os) e d = absurd (some_touched (suc (length os)) e (omega arith))
 

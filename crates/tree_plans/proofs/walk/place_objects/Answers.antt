@@ -2,7 +2,7 @@ use Rattle.std.proofs.Common.{◌≡◌, List, [], ◌∷◌, ◌++◌, None, So
 use Rattle.std.specs.Cmp.{unsigned_tied}
 use Rattle.std.proofs.lemmas.List.{append-nil}
 use Rattle.base.specs.declared.names.ObjectId.{ObjectId}
-use Rattle.tree_plans.specs.declared.planner.DirtyRecords.{DirtyRecords}
+use Rattle.tree_plans.specs.declared.changes.ObjectChanges.{ObjectChanges}
 use Rattle.tree_plans.specs.Changes.{is_marked}
 use Rattle.tree_plans.specs.Pointers.{entry_of}
 use Rattle.tree_plans.proofs.Progress.{goes_twice}
@@ -14,12 +14,12 @@ use Rattle.tree_plans.proofs.walk.place_objects.Goals as goal
 
 pub loop-id-preserved : goal.loop-id-preserved
 loop-id-preserved c =
-    let all : List (ObjectId × DirtyRecords) = c.args.objects.now.entries in
-    let done : List (ObjectId × DirtyRecords) = c.loop-id.invariant.done in
-    let e : ObjectId × DirtyRecords = (c.in-Some.id.now, c.in-Some.dirty.now) in
-    let rest : List (ObjectId × DirtyRecords) = c.next.new.self in
-    let split : all ≡ done ++ (e ∷ rest) = c.loop-id.invariant.split ∙ ap (λ (l : List (ObjectId × DirtyRecords)). done ++ l) c.in-Some.ensures.steps in
-    let found : entry_of all e.0.0 ≡ Some e.1 = next_of (λ (x : ObjectId × DirtyRecords). entry_of all x.0.0 ≡ Some x.1) all done rest e split (found_of _ (λ a b. unsigned_tied a.0 b.0) c.args.objects.now c.iter-id-items.ensures.found) in
+    let all : List (ObjectId × ObjectChanges) = c.args.objects.now.entries in
+    let done : List (ObjectId × ObjectChanges) = c.loop-id.invariant.done in
+    let e : ObjectId × ObjectChanges = (c.in-Some.id.now, c.in-Some.dirty.now) in
+    let rest : List (ObjectId × ObjectChanges) = c.next.new.self in
+    let split : all ≡ done ++ (e ∷ rest) = c.loop-id.invariant.split ∙ ap (λ (l : List (ObjectId × ObjectChanges)). done ++ l) c.in-Some.ensures.steps in
+    let found : entry_of all e.0.0 ≡ Some e.1 = next_of (λ (x : ObjectId × ObjectChanges). entry_of all x.0.0 ≡ Some x.1) all done rest e split (found_of _ (λ a b. unsigned_tied a.0 b.0) c.args.objects.now c.iter-id-items.ensures.found) in
     let new : entry_of done e.0.0 ≡ None = next_is_new _ (λ a b. unsigned_tied a.0 b.0) all done rest e split c.iter-id-items.ensures.ordered in
     let unplanned = c.loop-id.invariant.are_of e.0.0 new in
     record {
@@ -40,9 +40,9 @@ loop-id-preserved c =
 
 pub returns-clause-planned : goal.returns-clause-planned
 returns-clause-planned c =
-    let all : List (ObjectId × DirtyRecords) = c.args.objects.now.entries in
-    let done : List (ObjectId × DirtyRecords) = c.loop-id.invariant.done in
-    let whole : done ≡ all = sym (append-nil done) ∙ ap (λ (l : List (ObjectId × DirtyRecords)). done ++ l) (sym c.in-None.ensures.steps.0) ∙ sym c.loop-id.invariant.split in
+    let all : List (ObjectId × ObjectChanges) = c.args.objects.now.entries in
+    let done : List (ObjectId × ObjectChanges) = c.loop-id.invariant.done in
+    let whole : done ≡ all = sym (append-nil done) ∙ ap (λ (l : List (ObjectId × ObjectChanges)). done ++ l) (sym c.in-None.ensures.steps.0) ∙ sym c.loop-id.invariant.split in
     record {
       goes = c.loop-id.invariant.goes;
       planned = rw whole at c.loop-id.invariant.planned;
@@ -53,11 +53,11 @@ returns-clause-planned c =
 
 pub returns-in_err-place_changed-clause-full : goal.returns-in_err-place_changed-clause-full
 returns-in_err-place_changed-clause-full c =
-    let all : List (ObjectId × DirtyRecords) = c.args.objects.now.entries in
-    let done : List (ObjectId × DirtyRecords) = c.loop-id.invariant.done in
-    let e : ObjectId × DirtyRecords = (c.in-Some.id.now, c.in-Some.dirty.now) in
-    let rest : List (ObjectId × DirtyRecords) = c.next.new.self in
-    let split : all ≡ done ++ (e ∷ rest) = c.loop-id.invariant.split ∙ ap (λ (l : List (ObjectId × DirtyRecords)). done ++ l) c.in-Some.ensures.steps in
-    let found : entry_of all e.0.0 ≡ Some e.1 = next_of (λ (x : ObjectId × DirtyRecords). entry_of all x.0.0 ≡ Some x.1) all done rest e split (found_of _ (λ a b. unsigned_tied a.0 b.0) c.args.objects.now c.iter-id-items.ensures.found) in
+    let all : List (ObjectId × ObjectChanges) = c.args.objects.now.entries in
+    let done : List (ObjectId × ObjectChanges) = c.loop-id.invariant.done in
+    let e : ObjectId × ObjectChanges = (c.in-Some.id.now, c.in-Some.dirty.now) in
+    let rest : List (ObjectId × ObjectChanges) = c.next.new.self in
+    let split : all ≡ done ++ (e ∷ rest) = c.loop-id.invariant.split ∙ ap (λ (l : List (ObjectId × ObjectChanges)). done ++ l) c.in-Some.ensures.steps in
+    let found : entry_of all e.0.0 ≡ Some e.1 = next_of (λ (x : ObjectId × ObjectChanges). entry_of all x.0.0 ≡ Some x.1) all done rest e split (found_of _ (λ a b. unsigned_tied a.0 b.0) c.args.objects.now c.iter-id-items.ensures.found) in
     handed_on c.from_residual.result _ _ c.from_residual.ensures.1 (λ within no_space. lacks_object _ (λ a b. less_below a.0 b.0) _ _ _ c.args.source.now.tree.now.maps.items c.loop-id.maps.entries 5292 all done rest e split c.iter-id-items.ensures.ordered within
     c.loop-id.invariant.goes (c.loop-id.invariant.adds within) (c.in_err-place_changed.ensures.full all found no_space))

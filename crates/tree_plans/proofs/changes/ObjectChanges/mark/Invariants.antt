@@ -1,7 +1,7 @@
 use Rattle.std.proofs.Common.{◌≡◌, ℕ, ◌<◌, ◌≤◌, ◌||◌, false, length}
 use Rattle.std.specs.Prelude.{slice_index_or}
 use Rattle.base.specs.tree.Syncs.{is_record_touched}
-use Rattle.tree_plans.proofs.planner.DirtyRecords.mark.Given as goal
+use Rattle.tree_plans.proofs.planner.ObjectChanges.mark.Given as goal
 
 abbrev pub invariant-loop-index : goal.invariant-loop-index
 invariant-loop-index l = record {
