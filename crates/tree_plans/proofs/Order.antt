@@ -29,8 +29,9 @@ use Rattle.base.proofs.common.KeptLists.{any_found, filter_same}
 use Rattle.base.proofs.tree.WrittenPlaces.{any-same, in-range}
 use Rattle.base.specs.tree.PlannedTrees.{NewBlock}
 use Rattle.object_maps.specs.declared.tree.ObjectMap.{ObjectMap}
+use Rattle.object_maps.specs.declared.tree.Tree.{Tree}
 use Rattle.tree_plans.specs.declared.changes.ObjectChanges.{ObjectChanges}
-use Rattle.tree_plans.specs.Pointers.{IsPut, entry_of, planned_map, pointers_from, record_in}
+use Rattle.tree_plans.specs.Pointers.{IsPut, entry_of, planned_map, pointers_before, pointers_from, record_in}
 use Rattle.tree_plans.specs.Changes.{AreInRange, group_of, names_block, state_at, state_in}
 use Rattle.tree_plans.specs.declared.planner.PlannedBlock.{PlannedBlock}
 use Rattle.tree_plans.specs.Plans.{AreRecordsPlanned, IsRecordPlanned, Progress, address_of, indirect_state, is_dirty_in, is_indirect_written_in, new_block, state_above}
@@ -194,6 +195,15 @@ indirect-told s n bytes changes was records long planned =
     told : (b : Bool) → is_dirty (if b then Dirty else Hole) ≡ b
     told true = refl
     told false = refl
+
+-- the records' pointers of a tree in memory
+pub data_before : (t : Tree) (n : ℕ) (was : ObjectMap) → slice_get t.maps.items n ≡ Some was → (r : ℕ) → pointers_before t (Data n r) ≡ record_in was r
+data_before t n was is r = ap (λ (o : Option ObjectMap). option_map_or (λ (m : ObjectMap). record_in m r) o no_pointer) is
+
+-- no address of an object that no operation is on
+pub absent_addresses : (objects : List (ObjectId × ObjectChanges)) (pointers : Place → Pointer) (after : FinMap nat_cmp (List ℕ)) (n : ℕ) (o : Option ObjectMap) → entry_of objects n ≡ None
+    → object_addresses (group_of objects pointers after) n o ≡ []
+absent_addresses objects pointers after n o none = none_written (group_of objects pointers after) n o (absent-written objects pointers after n none) (absent-indirect_written objects pointers after n none)
 
 -- an object that is put has the pointers that are put
 pub map_put : (maps : List ObjectMap) (old new : List (ObjectId × ObjectMap)) (id : ObjectId) (m : ObjectMap) → IsPut old id m new → planned_map maps new id.0 ≡ Some m

@@ -1,6 +1,6 @@
 -- What becomes of a place, and what comes back of it, as its state says.
-use Rattle.std.proofs.Common.{◌≡◌, ℕ, ◌<◌, ◌&&◌, inl, inr, ◌⊎◌, Bool, true, false, List, length, map, refl, ap}
-use Rattle.std.specs.Prelude.{slice_index_or, if◌then◌else◌}
+use Rattle.std.proofs.Common.{◌≡◌, ℕ, ◌<◌, ◌&&◌, inl, inr, ◌⊎◌, Bool, true, false, not, List, length, map, refl, sym, ◌∙◌, ap}
+use Rattle.std.specs.Prelude.{IsTrue, slice_index_or, if◌then◌else◌}
 use Rattle.std.specs.List.{list_any}
 use Rattle.base.specs.declared.pointer.Pointer.{Pointer}
 use Rattle.base.specs.declared.names.ObjectId.{ObjectId}
@@ -14,19 +14,26 @@ use Rattle.base.specs.tree.Tree.{record_bytes}
 use Rattle.checked_blocks.specs.Sealing.{padded}
 use Rattle.space.specs.declared.free_set.FreeSet.{FreeSet}
 use Rattle.tree_plans.specs.declared.place.BlockPlace.{BlockPlace}
-use Rattle.tree_plans.specs.declared.place.BlockPlace.TheVariants.{Data, Indirect}
+use Rattle.tree_plans.specs.declared.place.BlockPlace.TheVariants.{Data, Directory, Indirect, Root}
 use Rattle.tree_plans.specs.declared.place.RecordPlace.{RecordPlace}
 use Rattle.tree_plans.specs.declared.planner.PlannedBlock.{PlannedBlock}
 use Rattle.tree_plans.specs.declared.planner.Planner.{Planner}
 use Rattle.tree_plans.specs.Order.{Adds, address_if}
-use Rattle.tree_plans.specs.Parts.{ClearsPlace, ExtendsPlan, PlansIndirect, PlansRecord, TakesBlock, blocks_of}
-use Rattle.tree_plans.specs.Plans.{FreesOnly, HasBecome, PlaceFrees, indirect_state, new_block, place_of, progress_of}
+use Rattle.tree_plans.specs.Parts.{ClearsPlace, ExtendsPlan, PlansDirectory, PlansIndirect, PlansRecord, PlansRoot, TakesBlock, blocks_of, directory_before, maps_before, objects_after}
+use Rattle.tree_plans.specs.Plans.{FreesOnly, HasBecome, PlaceFrees, indirect_state, new_block, place_of, progress_of, state_above}
+use Rattle.tree_plans.specs.Walks.{AreEntriesWritten, has_object, has_objects, is_any_touched, root_state}
+use Rattle.tree_plans.specs.declared.changes.ObjectChanges.{ObjectChanges}
+use Rattle.tree_plans.specs.declared.walk.PlanSource.{PlanSource}
+use Rattle.object_maps.specs.declared.tree.ObjectMap.{ObjectMap}
+use Rattle.std.specs.BTreeMap.{BTreeMap}
+use Rattle.std.specs.Ordering.{nat_cmp}
+use Rattle.std.specs.FinMap.{FinMap}
 use Rattle.tree_plans.specs.Uses.{UsesOnly}
 use Rattle.tree_plans.specs.Changes.{names_block}
 use Rattle.tree_plans.proofs.Payloads.{padded-full}
 use Rattle.tree_plans.proofs.Order.{adds_if, adds_none, adds_not}
 use Rattle.tree_plans.proofs.Progress.{goes_nowhere}
-use Rattle.tree_plans.proofs.Walks.{frees_weaker}
+use Rattle.tree_plans.proofs.Walks.{frees_weaker, not-is_empty}
 
 -- what a plan has done at a place in a state
 pub record IsDone (free : FreeSet) (place : BlockPlace) (state : RecordState) (was : Pointer) (Fits : List ℕ → Type 0) (old new : Planner) (pointer : Pointer) : Type 0 where
@@ -76,7 +83,7 @@ pub record_done : (free : FreeSet) (place : RecordPlace) (bytes : List ℕ) (was
 record_done free place bytes was state old new pointer done = record { goes = done.goes; planned = done.planned; frees = done.frees; uses = done.uses; adds = done.adds }
 
 -- an indirect block
-abbrev FitsRecords : List Pointer → List ℕ → Type 0
+abbrev pub FitsRecords : List Pointer → List ℕ → Type 0
 FitsRecords records payload = (r : ℕ) → r < 84 → pointer_in payload r ≡ slice_index_or records r no_pointer
 
 indirect_done : (free : FreeSet) (id : ObjectId) (records : List Pointer) (was : Pointer) (is_changed : Bool) (old new : Planner) (pointer : Pointer)
@@ -98,3 +105,25 @@ pub indirect_taken : (free : FreeSet) (id : ObjectId) (records : List Pointer) (
 indirect_taken free id records was is_changed payload old new pointer some long fits done =
     indirect_done free id records was is_changed old new pointer
     (taken _ (Indirect id) _ was (FitsRecords records) payload (state_if _ Dirty Hole Dirty (inl (some, refl))) (rw (padded-full payload long) fits) old new pointer done) done.frees
+
+-- the state of a place above the records, as it is computed
+pub state_told : (touched left found : Bool) (result state : RecordState) → result ≡ state_above touched found → found ≡ left → result ≡ state → state_above touched left ≡ state
+state_told touched left found result state computed same is = ap (state_above touched) (sym same) ∙ sym computed ∙ is
+
+-- a directory
+pub directory_done : (source : PlanSource) (maps : BTreeMap ObjectId ObjectMap) (index : ℕ) (touched : Bool) (was : Pointer) (old new : Planner) (pointer : Pointer) → was ≡ directory_before source index
+    → IsDone source.free.now (Directory index) (state_above touched (has_object (objects_after source) index)) was (AreEntriesWritten (maps_before source) maps.entries (objects_after source) index 63) old new pointer
+    → PlansDirectory source maps index touched old new pointer
+directory_done source maps index touched was old new pointer is done =
+    record { goes = done.goes; planned = rw (← is) done.planned; frees = rw (← is) done.frees; uses = done.uses; adds = done.adds }
+
+-- the root
+pub root_told : (objects : List (ObjectId × ObjectChanges)) (after : FinMap nat_cmp (List ℕ)) (empty found : Bool) (result state : RecordState) → result ≡ state_above (not empty) found
+    → (IsTrue empty → length objects ≡ 0) × (length objects ≡ 0 → IsTrue empty) → found ≡ has_objects after → result ≡ state → root_state objects after ≡ state
+root_told objects after empty found result state computed none same is =
+    state_told (is_any_touched objects) (has_objects after) found result state (computed ∙ ap (λ (b : Bool). state_above b found) (not-is_empty (length objects) empty none)) same is
+
+pub root_done : (source : PlanSource) (objects : BTreeMap ObjectId ObjectChanges) (directories : List Pointer) (old new : Planner) (pointer : Pointer)
+    → IsDone source.free.now Root (root_state objects.entries (objects_after source)) source.tree.now.root (FitsRecords directories) old new pointer
+    → PlansRoot source objects directories old new pointer
+root_done source objects directories old new pointer done = record { goes = done.goes; planned = done.planned; frees = done.frees; uses = done.uses; adds = done.adds }

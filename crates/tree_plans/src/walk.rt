@@ -14,7 +14,7 @@
 //! Each block takes the lowest free place behind the one before it. No flag of the free set changes here, so a plan that is
 //! refused has changed nothing.
 
-ghost use Rattle.std.specs.Prelude.{◌≡◌, ◌<◌, [], List, Some, false, length, vec_len, IfOk, IfErr, OnOk};
+ghost use Rattle.std.specs.Prelude.{◌≡◌, ◌<◌, ◌||◌, [], List, Some, false, length, vec_len, IfOk, IfErr, OnOk};
 ghost use Rattle.base.specs.declared.error.PoolError.TheVariants as error;
 ghost use Rattle.base.specs.declared.names.ObjectId.{ObjectId};
 ghost use Rattle.base.specs.formats.Geometry.{block_count};
@@ -27,7 +27,7 @@ ghost use Rattle.tree_plans.specs.Plans.{IsWant, state_above};
 ghost use Rattle.tree_plans.specs.Pointers.{entry_of};
 ghost use Rattle.tree_plans.specs.Room.{changed_blocks, count_if, directory_blocks, object_blocks, tree_blocks};
 ghost use Rattle.tree_plans.specs.TreePlans.{GivesBack, MakesTree, TakesBlocks, free_addresses, places_written};
-ghost use Rattle.tree_plans.specs.Walks.{has_object, has_objects, is_directory_touched, root_state};
+ghost use Rattle.tree_plans.specs.Walks.{has_object, has_objects, is_directory_touched, is_emptied, root_state};
 
 use crate::changes::ObjectChanges;
 use crate::payload::{directory_payload, payload_of};
@@ -65,6 +65,24 @@ fn has_any_object(contents: &Contents) -> bool
     ensures { result ≡ has_objects (contents_of contents.now).objects }
 {
     (0..POINTER_COUNT).any(|directory| has_object_in(contents, directory))
+}
+
+// Whether the operations leave no object.
+fn is_emptied(objects: &BTreeMap<ObjectId, ObjectChanges>, contents: &Contents) -> bool
+    ensures { result ≡ is_emptied objects.now.entries (contents_of contents.now).objects }
+{
+    !objects.is_empty() && !has_any_object(contents)
+}
+
+// Whether something of a directory changes: an object of it, or all are gone, so that the root has no block either.
+fn is_replaced(
+    objects: &BTreeMap<ObjectId, ObjectChanges>,
+    emptied: bool,
+    directory: usize,
+) -> bool
+    ensures { result ≡ (emptied || is_directory_touched objects.now.entries directory) }
+{
+    emptied || is_touched(objects, directory)
 }
 
 // What the sync does with a place above the records, where something below it changes, and something is left there.
@@ -272,11 +290,10 @@ fn place_directories(
     ensures kept { OnOk result (objects.now.entries ≡ [] → planner.new ≡ planner.old) }
     ensures refused { IfErr result IsWant }
 {
-    // Where no object is left the root has no block, and no directory keeps one.
-    let is_emptied = !objects.is_empty() && !has_any_object(source.contents);
+    let emptied = is_emptied(objects, source.contents);
     let mut directories = Vec::with_capacity(source.alloc, POINTER_COUNT)?;
     for index in 0..POINTER_COUNT {
-        let touched = is_emptied || is_touched(objects, index);
+        let touched = is_replaced(objects, emptied, index);
         let pointer = place_directory(planner, source, maps, index, touched)?;
         directories.push_reserved(pointer);
     }

@@ -2,8 +2,9 @@ use Rattle.std.proofs.Common.{◌≡◌, ◌++◌, [], List, flat_map}
 use Rattle.base.specs.declared.names.ObjectId.{ObjectId}
 use Rattle.object_maps.specs.ContentsShown.{contents_of}
 use Rattle.tree_plans.specs.declared.changes.ObjectChanges.{ObjectChanges}
-use Rattle.tree_plans.specs.Changes.{AreInRange, is_marked}
+use Rattle.tree_plans.specs.Changes.{AreInRange}
 use Rattle.tree_plans.specs.Order.{Adds, object_addresses}
+use Rattle.tree_plans.specs.Parts.{group_in}
 use Rattle.tree_plans.specs.Pointers.{planned_map}
 use Rattle.tree_plans.specs.Plans.{Goes, progress_of}
 use Rattle.tree_plans.specs.Walks.{AreObjectsPlanned, ObjectsFree}
@@ -24,5 +25,5 @@ invariant-loop-id l = record {
   are_of : AreOf done l.maps.entries;
   uses : ObjectsUse (progress_of l.fn.planner).blocks (progress_of l.planner).blocks l.maps.entries;
   adds : AreInRange l.objects.entries → Adds (progress_of l.fn.planner).blocks (progress_of l.planner).blocks
-      (flat_map (λ (e : ObjectId × ObjectChanges). object_addresses (is_marked l.objects.entries e.0.0) (planned_map l.source.tree.now.maps.items l.maps.entries e.0.0)) done);
+      (flat_map (λ (e : ObjectId × ObjectChanges). object_addresses (group_in l.source l.objects.entries) e.0.0 (planned_map l.source.tree.now.maps.items l.maps.entries e.0.0)) done);
 }
