@@ -416,7 +416,7 @@ module _ (objects : List (ObjectId × ObjectChanges)) (pointers : Place → Poin
   or_emptied any false touched true follows = absurd (let no_way : false ≡ true = follows refl in cc)
 
   -- a directory with an object is one of those with an object
-  left-left : (d : ℕ) → d < 84 → has_object after d ≡ true → has_objects after ≡ true
+  pub left-left : (d : ℕ) → d < 84 → has_object after d ≡ true → has_objects after ≡ true
   left-left d low is = passes_at (has_object after) 0 84 d (omega arith) (omega (arith, low)) is
 
   pub directory-written : (d : ℕ) → d < 84 → is_directory_written whole_group d ≡ is_directory_dirty objects after d

@@ -108,15 +108,15 @@ state-resized s r new x (Some y) p h is =
     let longer = ltb-false new (length y) not_shorter in
     state-kept s r x y (resize new y) (λ k from to. longer-resize new y longer k) (λ low. omega (arith, low, longer, length-resize new y)) is))
 
-bytes-created : (o p : Option (List ℕ)) → created o ≡ Ok p → bytes_or_none p ≡ []
+pub bytes-created : (o p : Option (List ℕ)) → created o ≡ Ok p → bytes_or_none p ≡ []
 bytes-created None p h = let is : Some [] ≡ p = cc in ap bytes_or_none (sym is)
 bytes-created (Some x) p h = cc
 
-bytes-removed : (o p : Option (List ℕ)) → removed o ≡ Ok p → p ≡ None
+pub bytes-removed : (o p : Option (List ℕ)) → removed o ≡ Ok p → p ≡ None
 bytes-removed None p h = cc
 bytes-removed (Some x) p h = let is : None ≡ p = cc in sym is
 
-bytes-changed : (f : List ℕ → List ℕ) (o p : Option (List ℕ)) → changed f o ≡ Ok p → (y : List ℕ) × (o ≡ Some y) × (p ≡ Some (f y))
+pub bytes-changed : (f : List ℕ → List ℕ) (o p : Option (List ℕ)) → changed f o ≡ Ok p → (y : List ℕ) × (o ≡ Some y) × (p ≡ Some (f y))
 bytes-changed f None p h = cc
 bytes-changed f (Some y) p h = let is : Some (f y) ≡ p = cc in (y, refl, sym is)
 
@@ -149,7 +149,7 @@ or-off false b none = none
 
 module _ (n : ℕ) where
   -- what an operation on an object does there, and that it leaves the others
-  at-object : (m : ℕ) (f : Option (List ℕ) → Result (Option (List ℕ)) PoolError) (c d : Contents) → (m == n) ≡ true → at_object m f c ≡ Ok d → f (map.get c.objects n) ≡ Ok (map.get d.objects n)
+  pub at-object : (m : ℕ) (f : Option (List ℕ) → Result (Option (List ℕ)) PoolError) (c d : Contents) → (m == n) ≡ true → at_object m f c ≡ Ok d → f (map.get c.objects n) ≡ Ok (map.get d.objects n)
   at-object m f c d same h = go (reached m f c d h)
     where
       go : (o : Option (List ℕ)) × (f (map.get c.objects m) ≡ Ok o) × (with_object c m o ≡ d) → f (map.get c.objects n) ≡ Ok (map.get d.objects n)
@@ -158,7 +158,7 @@ module _ (n : ℕ) where
           let after : map.get d.objects n ≡ o = ap (λ (x : Contents). map.get x.objects n) (sym is) ∙ ap (λ (i : ℕ). map.get (stored c.objects m o) i) (sym here) ∙ get-stored_same c.objects m o in
           ap (λ (i : ℕ). f (map.get c.objects i)) (sym here) ∙ first ∙ ap (λ (q : Option (List ℕ)). Ok q) (sym after)
 
-  elsewhere : (m : ℕ) (f : Option (List ℕ) → Result (Option (List ℕ)) PoolError) (c d : Contents) → (m == n) ≡ false → at_object m f c ≡ Ok d → map.get c.objects n ≡ map.get d.objects n
+  pub elsewhere : (m : ℕ) (f : Option (List ℕ) → Result (Option (List ℕ)) PoolError) (c d : Contents) → (m == n) ≡ false → at_object m f c ≡ Ok d → map.get c.objects n ≡ map.get d.objects n
   elsewhere m f c d other h = at_object-leaves (λ o p. o ≡ p) m n f c d h (λ o. refl) (λ e. absurd (true≢false (sym (eq-eqb m n e) ∙ other)))
 
   -- an operation that is not on an object leaves it

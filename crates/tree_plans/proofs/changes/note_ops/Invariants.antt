@@ -1,6 +1,7 @@
-use Rattle.std.proofs.Common.{take}
-use Rattle.tree_plans.specs.Marks.{Marks}
-use Rattle.tree_plans.proofs.dirty.note_ops.Given as goal
+use Rattle.std.proofs.Common.{List, take, ◌++◌}
+use Rattle.base.specs.declared.operation.Op.{Op}
+use Rattle.tree_plans.specs.Marks.{AreToldSoFar}
+use Rattle.tree_plans.proofs.changes.note_ops.Given as goal
 
 abbrev pub invariant-loop-op : goal.invariant-loop-op
-invariant-loop-op l = Marks (take l.op-index l.ops) l.fn.objects.entries l.objects.entries
+invariant-loop-op l = (done : List Op) → AreToldSoFar done l.lengths l.fn.objects.entries → AreToldSoFar (done ++ take l.op-index l.ops) l.lengths l.objects.entries

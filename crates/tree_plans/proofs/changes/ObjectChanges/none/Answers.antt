@@ -1,5 +1,5 @@
-use Rattle.tree_plans.proofs.Marked.{no_flags}
-use Rattle.tree_plans.proofs.planner.ObjectChanges.none.Goals as goal
+use Rattle.tree_plans.proofs.Marked.{row_of}
+use Rattle.tree_plans.proofs.changes.ObjectChanges.none.Goals as goal
 
-pub returns : goal.returns
-returns c = λ r. no_flags 84 r
+pub returns-clause-records : goal.returns-clause-records
+returns-clause-records c = λ r. row_of 84 r _
