@@ -4,7 +4,7 @@ use Rattle.std.specs.Prelude.{All, filter, get_or, is_some, nat_lt, option_map, 
 use Rattle.std.specs.List.{flat_map, list_any}
 use Rattle.std.specs.Option.{option_map_or}
 use Rattle.std.specs.FinMap as finite
-use Rattle.std.proofs.lemmas.Bool.{eqb-true}
+use Rattle.std.proofs.lemmas.Bool.{eqb-true, le-ltb}
 use Rattle.std.proofs.lemmas.List.{take_more}
 use Rattle.std.proofs.lemmas.List.Elements.{All-cons, All-head, All-nil, All-tail}
 use Rattle.base.specs.declared.error.PoolError.{PoolError}
@@ -70,7 +70,7 @@ state-by_length n r (Write m offset bytes) c size s is = refl
 state-by_length n r (SetLength m new) c size s is = ap (λ (b : Bool). if (m.0 == n) && b then state_after_cut r new s else s) (ap (nat_lt new) is ∙ by (finite.get c.objects n))
   where
     by : (o : Option (List ℕ)) → nat_lt new (length (unwrap_or o [])) ≡ option_map_or (λ old. nat_lt new old) (option_map length o) false
-    by None = refl
+    by None = le-ltb new 0 (omega arith)
     by (Some y) = refl
 state-by_length n r (SetName bytes) c size s is = refl
 

@@ -396,8 +396,12 @@ module _ (s : Progress) (t : Tree) (after : FinMap nat_cmp (List ℕ)) (objects 
   replaced address among = elim (w.frees address among) [
     | inl o ↦ object_replaced address o (entry_of planned o.number) refl
     | inr more ↦ elim more [
-      | inl d ↦ record { place = Directory d.number; in_range = d.low; is_of = d.is_of;
-          is_new = become_new (Directory d.number) (directory_state objects after d.number) (slice_index_or t.directories.items d.number no_pointer) (slice_index_or directories d.number no_pointer) _ d.replaced (w.directories_planned d.number d.low) }
+      | inl d ↦ record {
+        place = Directory d.number;
+        in_range = d.low;
+        is_of = d.is_of;
+        is_new = become_new (Directory d.number) (directory_state objects after d.number) (slice_index_or t.directories.items d.number no_pointer) (slice_index_or directories d.number no_pointer) _ d.replaced (w.directories_planned d.number d.low);
+      }
       | inr r ↦ record { place = Root; in_range = tt; is_of = r.1; is_new = become_new Root (root_state objects after) t.root root _ r.0 w.root_planned }
     ]
   ]

@@ -222,8 +222,7 @@ impl Planner {
         ensures refused { IfErr result IsWant }
     {
         let records = self.place_records(free, id, bytes, old, changes)?;
-        let indirect =
-            self.place_indirect(free, id, &records, &old.indirect, changes.is_changed)?;
+        let indirect = self.place_indirect(free, id, &records, &old.indirect, changes.is_changed)?;
         Ok(ObjectMap { indirect, records })
     }
 }

@@ -75,11 +75,7 @@ fn is_emptied(objects: &BTreeMap<ObjectId, ObjectChanges>, contents: &Contents) 
 }
 
 // Whether something of a directory changes: an object of it, or all are gone, so that the root has no block either.
-fn is_replaced(
-    objects: &BTreeMap<ObjectId, ObjectChanges>,
-    emptied: bool,
-    directory: usize,
-) -> bool
+fn is_replaced(objects: &BTreeMap<ObjectId, ObjectChanges>, emptied: bool, directory: usize) -> bool
     ensures { result ≡ (emptied || is_directory_touched objects.now.entries directory) }
 {
     emptied || is_touched(objects, directory)
@@ -206,7 +202,7 @@ fn place_root(
         (PlansRoot source.now objects.now directories.now planner.old planner.new) }
     ensures full { IfErr result
         (TellsLack source.now.free.now planner.old
-            (count_if (is_dirty (root_state objects.now.entries (objects_after source.now))))) }
+        (count_if (is_dirty (root_state objects.now.entries (objects_after source.now))))) }
     ensures kept { OnOk result (objects.now.entries ≡ [] → planner.new ≡ planner.old) }
     ensures refused { IfErr result IsWant }
 {
@@ -215,7 +211,12 @@ fn place_root(
         RecordState::Unchanged => Ok(*root),
         RecordState::Hole => Ok(planner.clear(root)?),
         RecordState::Dirty => {
-            planner.place(source.free, BlockPlace::Root, &payload_of(directories), root)
+            planner.place(
+                source.free,
+                BlockPlace::Root,
+                &payload_of(directories),
+                root,
+            )
         }
     }
 }
@@ -232,7 +233,7 @@ fn place_objects(
         (PlansObjects source.now objects.now planner.old planner.new) }
     ensures full { IfErr result (λ e. AreInRange objects.now.entries
         → TellsLack source.now.free.now planner.old
-            (changed_blocks (group_in source.now objects.now.entries)) e) }
+        (changed_blocks (group_in source.now objects.now.entries)) e) }
     ensures kept { OnOk result (objects.now.entries ≡ [] → planner.new ≡ planner.old) }
     ensures refused { IfErr result IsWant }
 {
@@ -259,7 +260,7 @@ fn place_changed(
     ensures full { IfErr result (λ e. (objects : List (ObjectId × ObjectChanges))
         → entry_of objects id.0 ≡ Some changes.now
         → TellsLack source.now.free.now planner.old
-            (object_blocks (group_in source.now objects) id.0) e) }
+        (object_blocks (group_in source.now objects) id.0) e) }
     ensures refused { IfErr result IsWant }
 {
     if id.0 >= OBJECT_COUNT {
@@ -286,7 +287,7 @@ fn place_directories(
         source.now objects.now maps.now planner.old planner.new directories.items) }
     ensures full { IfErr result
         (TellsLack source.now.free.now planner.old
-            (directory_blocks objects.now.entries (objects_after source.now))) }
+        (directory_blocks objects.now.entries (objects_after source.now))) }
     ensures kept { OnOk result (objects.now.entries ≡ [] → planner.new ≡ planner.old) }
     ensures refused { IfErr result IsWant }
 {
