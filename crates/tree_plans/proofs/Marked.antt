@@ -38,15 +38,6 @@ row_of zero r a = refl
 row_of (suc count) zero a = refl
 row_of (suc count) (suc r) a = row_of count r a
 
--- what is told of each object, after the entry of one is put
-pub put-told : {A : Type 0} (Told : ℕ → Option ObjectChanges → A) (Is : ℕ → Bool → A) (old new : List (ObjectId × ObjectChanges)) (id : ObjectId) (changes : ObjectChanges) → IsPut old id changes new
-    → Told id.0 (Some changes) ≡ Is id.0 true → ((n : ℕ) → Told n (entry_of old n) ≡ Is n false) → (n : ℕ) → Told n (entry_of new n) ≡ Is n (id.0 == n)
-put-told Told Is old new id changes put here others n = ap (Told n) (put n) ∙ by (id.0 == n) refl
-  where
-    by : (b : Bool) → (id.0 == n) ≡ b → Told n (cond b (Some changes) (entry_of old n)) ≡ Is n b
-    by true is = let same : id.0 ≡ n = eqb-true id.0 n is in rw same at here
-    by false is = others n
-
 -- a longer run of operations
 any-append : (p : Op → Bool) (xs ys : List Op) → list_any p (xs ++ ys) ≡ (list_any p xs || list_any p ys)
 any-append p [] ys = refl
@@ -125,13 +116,6 @@ front_ranges (x ∷ xs) op all =
     let rest = front_ranges xs op (All-tail IsRange (touched x) (ranges (xs ++ op ∷ [])) all) in
     (All-cons IsRange (touched x) (ranges xs) (All-head IsRange (touched x) (ranges (xs ++ op ∷ [])) all) rest.0, rest.1)
 
--- nothing is told before the first operation
-pub told_none : (lengths : List ℕ) (objects : List (ObjectId × ObjectChanges)) → objects ≡ [] → AreToldSoFar [] lengths objects
-told_none lengths objects none = rw none (record {
-  changes = record { there = λ n. refl; changed = λ n. refl; states = λ before after h within are n r low. refl };
-  sizes = λ before after h within are n. are n ∙ (let e : before ≡ after = cc in ap (λ (c : Contents). size_of c n) e);
-})
-
 -- one operation more
 pub told_more : (done : List Op) (op : Op) (lengths : List ℕ) (old new : List (ObjectId × ObjectChanges)) → AreToldSoFar done lengths old → NotesOp op lengths old new → AreToldSoFar (done ++ op ∷ []) lengths new
 told_more done op lengths old new told noted = record {
@@ -153,76 +137,6 @@ told_more done op lengths old new told noted = record {
       let parts = front_ranges done op within in
       noted.sizes parts.1 n ∙ ap (length_with n op) (told.sizes before p.0 p.1 parts.0 are n) ∙ length-after n op p.0 after (one_only op p.0 after p.2);
 }
-
--- an operation that is on no object
-pub noted_none : (name : List ℕ) (lengths : List ℕ) (objects : List (ObjectId × ObjectChanges)) → NotesOp (SetName name) lengths objects objects
-noted_none name lengths objects = record { there = λ n. refl; changed = λ n. refl; states = λ n r low. refl; sizes = λ range n. refl }
-
--- the entry of an object is put, after an operation on it
-module _ (lengths : List ℕ) (old new : List (ObjectId × ObjectChanges)) (id : ObjectId) (was changes : ObjectChanges) (put : IsPut old id changes new)
-    (records : (r : ℕ) → state_at was r ≡ state_in old id.0 r) (is_changed : was.is_changed ≡ is_changed_in old id.0) (size : was.length ≡ length_in lengths old id.0) where
-  abbrev told_state : ℕ → ℕ → Option ObjectChanges → RecordState
-  told_state r n o = option_map_or (λ (c : ObjectChanges). state_at c r) o Unchanged
-
-  abbrev told_changed : ℕ → Option ObjectChanges → Bool
-  told_changed n o = option_map_or (λ (c : ObjectChanges). c.is_changed) o false
-
-  abbrev told_length : ℕ → Option ObjectChanges → ℕ
-  told_length n o = option_map_or (λ (c : ObjectChanges). c.length) o (get_or lengths n 0)
-
-  there_put : (n : ℕ) → is_some (entry_of new n) ≡ ((id.0 == n) || is_some (entry_of old n))
-  there_put = put-told (λ n o. is_some o) (λ n b. b || is_some (entry_of old n)) old new id changes put refl (λ n. refl)
-
-  -- it is created or removed
-  cleared_states : ((r : ℕ) → r < 84 → state_at changes r ≡ Hole) → (n r : ℕ) → r < 84 → state_in new n r ≡ (if id.0 == n then Hole else state_in old n r)
-  cleared_states holes n r low = put-told (told_state r) (λ n b. if b then Hole else state_in old n r) old new id changes put (holes r low) (λ n. refl) n
-
-  cleared_changed : changes.is_changed ≡ was.is_changed → (n : ℕ) → is_changed_in new n ≡ is_changed_in old n
-  cleared_changed same n = put-told told_changed (λ n b. is_changed_in old n) old new id changes put (same ∙ is_changed) (λ n. refl) n
-
-  cleared_sizes : changes.length ≡ 0 → (n : ℕ) → length_in lengths new n ≡ (if id.0 == n then 0 else length_in lengths old n)
-  cleared_sizes none n = put-told told_length (λ n b. if b then 0 else length_in lengths old n) old new id changes put none (λ n. refl) n
-
-  pub noted_create : ((r : ℕ) → r < 84 → state_at changes r ≡ Hole) → changes.is_changed ≡ was.is_changed → changes.length ≡ 0 → NotesOp (Create id) lengths old new
-  noted_create holes same none = record { there = there_put; changed = cleared_changed same; states = cleared_states holes; sizes = λ range. cleared_sizes none }
-
-  pub noted_remove : ((r : ℕ) → r < 84 → state_at changes r ≡ Hole) → changes.is_changed ≡ was.is_changed → changes.length ≡ 0 → NotesOp (Remove id) lengths old new
-  noted_remove holes same none = record { there = there_put; changed = cleared_changed same; states = cleared_states holes; sizes = λ range. cleared_sizes none }
-
-  -- it is written or gets a length
-  changed_put : changes.is_changed ≡ true → (n : ℕ) → is_changed_in new n ≡ ((id.0 == n) || is_changed_in old n)
-  changed_put is n = put-told told_changed (λ n b. b || is_changed_in old n) old new id changes put is (λ n. refl) n
-
-  pub noted_write : (offset : ℕ) (bytes : List ℕ) → ((r : ℕ) → r < 84 → state_at changes r ≡ (if is_record_touched r offset (length bytes) then Dirty else state_at was r)) → changes.is_changed ≡ true
-      → (offset + length bytes ≤ 338688 → changes.length ≡ max was.length (offset + length bytes)) → NotesOp (Write id offset bytes) lengths old new
-  noted_write offset bytes states is sizes = record {
-    there = there_put;
-    changed = changed_put is;
-    states = λ n r low. put-told (told_state r) (λ n b. if b && is_record_touched r offset (length bytes) then Dirty else state_in old n r) old new id changes put
-        (states r low ∙ ap (λ (s : RecordState). if is_record_touched r offset (length bytes) then Dirty else s) (records r)) (λ n. refl) n;
-    sizes = λ range n. put-told told_length (λ n b. if b then max (length_in lengths old n) (offset + length bytes) else length_in lengths old n) old new id changes put
-        (sizes range.within ∙ ap (λ (k : ℕ). max k (offset + length bytes)) size) (λ n. refl) n;
-  }
-
-  pub noted_length : (length_after : ℕ) → ((r : ℕ) → r < 84 → state_at changes r ≡ (if nat_lt length_after was.length then state_after_cut r length_after (state_at was r) else state_at was r)) → changes.is_changed ≡ true
-      → changes.length ≡ length_after → NotesOp (SetLength id length_after) lengths old new
-  noted_length length_after states is now = record {
-    there = there_put;
-    changed = changed_put is;
-    states = λ n r low. put-told (told_state r) (λ n b. if b && nat_lt length_after (length_in lengths old n) then state_after_cut r length_after (state_in old n r) else state_in old n r) old new id changes put
-        (states r low ∙ (λ k. if nat_lt length_after (size k) then state_after_cut r length_after (records r k) else records r k)) (λ n. refl) n;
-    sizes = λ range n. put-told told_length (λ n b. if b then length_after else length_in lengths old n) old new id changes put now (λ n. refl) n;
-  }
-
--- transactions one after another
-pub pending_append : (group : ℕ) (xs ys : List Committed) → pending_ops group (xs ++ ys) ≡ pending_ops group xs ++ pending_ops group ys
-pending_append group [] ys = refl
-pending_append group (x ∷ xs) ys =
-    elim (x.group.0 == group) as (λ b. flat_map (λ (c : Committed). c.ops) (cond b (x ∷ filter (λ (c : Committed). c.group.0 == group) (xs ++ ys)) (filter (λ (c : Committed). c.group.0 == group) (xs ++ ys)))
-    ≡ flat_map (λ (c : Committed). c.ops) (cond b (x ∷ filter (λ (c : Committed). c.group.0 == group) xs) (filter (λ (c : Committed). c.group.0 == group) xs)) ++ pending_ops group ys) [
-      | true ↦ ap (λ l. x.ops ++ l) (pending_append group xs ys) ∙ sym (append_assoc x.ops (pending_ops group xs) (pending_ops group ys))
-      | false ↦ pending_append group xs ys
-    ]
 
 pub front_more : {A : Type 0} (xs : List A) (i : ℕ) (x : A) → i < length xs → x ≡ slice_index_or xs i x → take (i + 1) xs ≡ take i xs ++ x ∷ []
 front_more xs i x low is = take_more xs i x low ∙ ap (λ a. take i xs ++ a ∷ []) (sym is)

@@ -1,10 +1,10 @@
 -- What the state of a record says after the operations of a group: an unchanged record has the bytes from before, a dirty one is there, and a hole has zeros.
-use Rattle.std.proofs.Common.{◌≡◌, ℕ, zero, ◌+◌, ◌*◌, ◌<◌, ◌≤◌, Bool, true, false, ◌&&◌, ◌||◌, List, [], ◌∷◌, length, get_or, take, drop, replicate, Option, Some, None, Result, Ok, Err, refl, ap, sym, ◌∙◌, subst, arith, ◌⊎◌, inl, inr, length-take, length-drop}
+use Rattle.std.proofs.Common.{◌≡◌, ℕ, zero, ◌≢◌, ◌+◌, ◌-◌, ◌*◌, ◌<◌, ◌≤◌, Bool, true, false, ◌&&◌, ◌||◌, List, [], ◌∷◌, ◌++◌, length, get_or, take, drop, replicate, Option, Some, None, Result, Ok, Err, refl, ap, sym, ◌∙◌, subst, arith, ◌⊎◌, inl, inr, length-append, length-take}
 use Rattle.std.specs.Prelude.{◌==◌, nat_lt, nat_le, option_map, unwrap_or, is_some, if◌then◌else◌}
 use Rattle.std.specs.List.{list_any}
 use Rattle.std.specs.Option.{option_map_or}
-use Rattle.std.proofs.lemmas.Bool.{and_parts, or_parts, cases_Bool, cases_lt, eqb-true, leb-true, leb-false, ltb-true, ltb-false, eq-eqb, false≢true, true≢false}
-use Rattle.std.proofs.lemmas.List.{ext_get_or, length-replicate, get_or-take, get_or-drop, get_or_past}
+use Rattle.std.proofs.lemmas.Bool.{and_from, and_parts, or_parts, cases_Bool, cases_eq, cases_lt, eqb-true, leb-true, leb-false, lt-ltb, ltb-true, ltb-false, eq-eqb, false≢true, true≢false}
+use Rattle.std.proofs.lemmas.List.{ext_get_or, length-replicate, get_or_append_left, get_or-append_right, get_or-take, get_or-drop, get_or_past}
 use Rattle.std.specs.Ordering.{nat_cmp}
 use Rattle.std.specs.FinMap as map
 use Rattle.std.specs.FinMap.{FinMap}
@@ -31,7 +31,45 @@ use Rattle.base.proofs.common.Sequences.{parted}
 use Rattle.base.proofs.history.Objects.{reached, get-stored_same, get-stored_other}
 use Rattle.base.proofs.history.Writes.{length-bytes_after_write, length-resize, get_or-resize, overwritten_apart}
 use Rattle.base.proofs.tree.PlacedTrees.{absent-data, record_at}
-use Rattle.base.proofs.tree.UntouchedRecords.{same-record, write-apart, at_object-leaves}
+
+-- padding to a size
+length-padded : (size : ℕ) (xs : List ℕ) → length xs ≤ size → length (xs ++ replicate (size - length xs) 0) ≡ size
+length-padded size xs fits = omega (arith, fits, length-append xs (replicate (size - length xs) 0), length-replicate {A = ℕ} (size - length xs) 0)
+
+get_or-padded : (size : ℕ) (xs : List ℕ) (k : ℕ) → get_or (xs ++ replicate (size - length xs) 0) k 0 ≡ get_or xs k 0
+get_or-padded size xs k = elim (cases_lt k (length xs)) as (λ _. get_or (xs ++ replicate (size - length xs) 0) k 0 ≡ get_or xs k 0) [
+  | inl before ↦ get_or_append_left xs (replicate (size - length xs) 0) 0 k before
+  | inr behind ↦ get_or-append_right xs (replicate (size - length xs) 0) (length xs) k 0 refl behind
+      ∙ get_or-zeros (size - length xs) (k - length xs) ∙ sym (get_or_past xs k 0 behind)
+]
+
+length-padded_record : (r : ℕ) (bytes : List ℕ) → length (padded_record r bytes) ≡ record_size
+length-padded_record r bytes = length-padded record_size (record_bytes r bytes) (omega (arith, length-take record_size (drop (record_size * r) bytes)))
+
+-- the bytes of a padded record
+get_or-padded_record : (r : ℕ) (bytes : List ℕ) (k : ℕ) → k < record_size → get_or (padded_record r bytes) k 0 ≡ get_or bytes (record_size * r + k) 0
+get_or-padded_record r bytes k below =
+    get_or-padded record_size (record_bytes r bytes) k ∙ get_or-take record_size (drop (record_size * r) bytes) k 0 below ∙ get_or-drop (record_size * r) bytes k 0
+
+-- records are equal where their bytes are
+same-record : (r : ℕ) (xs ys : List ℕ) → ((k : ℕ) → record_size * r ≤ k → k < record_size * (r + 1) → get_or xs k 0 ≡ get_or ys k 0) → padded_record r xs ≡ padded_record r ys
+same-record r xs ys each = ext_get_or 0 (padded_record r xs) (padded_record r ys) (length-padded_record r xs ∙ sym (length-padded_record r ys)) at
+  where
+    at : (k : ℕ) → k < length (padded_record r xs) → get_or (padded_record r xs) k 0 ≡ get_or (padded_record r ys) k 0
+    at k inside =
+        let below : k < record_size = subst (λ (n : ℕ). k < n) (length-padded_record r xs) inside in
+        get_or-padded_record r xs k below ∙ each (record_size * r + k) (omega arith) (omega arith) ∙ sym (get_or-padded_record r ys k below)
+
+-- a write that does not touch a record lies before it or behind it
+write-apart : (r offset count : ℕ) → is_record_touched r offset count ≡ false → (record_size * (r + 1) ≤ offset) ⊎ (offset + count ≤ record_size * r)
+write-apart r offset count untouched = elim (cases_lt offset (record_size * (r + 1))) [
+  | inr behind ↦ inl behind
+  | inl low ↦ elim (cases_lt (record_size * r) (offset + count)) [
+    | inr before ↦ inr before
+    | inl high ↦ absurd (true≢false (sym (and_from (nat_lt offset (record_size * (r + 1))) (nat_lt (record_size * r) (offset + count))
+        (lt-ltb offset (record_size * (r + 1)) low) (lt-ltb (record_size * r) (offset + count) high)) ∙ untouched))
+  ]
+]
 
 -- the bytes of an object, where no object has none
 abbrev bytes_or_none : Option (List ℕ) → List ℕ
@@ -146,6 +184,19 @@ zero-record r (Some y) zeros = ext_get_or 0 (record_bytes r y) (replicate (lengt
 or-off : (a b : Bool) → b ≡ false → (a || b) ≡ a
 or-off true b none = refl
 or-off false b none = none
+
+-- what a step on one object leaves of any object
+at_object-leaves : (R : Option (List ℕ) → Option (List ℕ) → Type 0) (m n : ℕ) (f : Option (List ℕ) → Result (Option (List ℕ)) PoolError) (c d : Contents) → at_object m f c ≡ Ok d
+    → ((o : Option (List ℕ)) → R o o) → (m ≡ n → (o p : Option (List ℕ)) → f o ≡ Ok p → R o p) → R (map.get c.objects n) (map.get d.objects n)
+at_object-leaves R m n f c d h same each = go (cases_eq m n) (reached m f c d h)
+  where
+    go : (m ≡ n) ⊎ (m ≢ n) → (o : Option (List ℕ)) × (f (map.get c.objects m) ≡ Ok o) × (with_object c m o ≡ d) → R (map.get c.objects n) (map.get d.objects n)
+    go (inl e) (o, first, is) =
+        let after : map.get d.objects n ≡ o = ap (λ (x : Contents). map.get x.objects n) (sym is) ∙ ap (λ (i : ℕ). map.get (stored c.objects m o) i) (sym e) ∙ get-stored_same c.objects m o in
+        subst (λ (p : Option (List ℕ)). R (map.get c.objects n) p) (sym after) (subst (λ (i : ℕ). R (map.get c.objects i) o) e (each e (map.get c.objects m) o first))
+    go (inr ne) (o, first, is) =
+        let after : map.get d.objects n ≡ map.get c.objects n = ap (λ (x : Contents). map.get x.objects n) (sym is) ∙ get-stored_other c.objects m o n (λ e. ne (sym e)) in
+        subst (λ (p : Option (List ℕ)). R (map.get c.objects n) p) (sym after) (same (map.get c.objects n))
 
 module _ (n : ℕ) where
   -- what an operation on an object does there, and that it leaves the others

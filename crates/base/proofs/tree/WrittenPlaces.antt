@@ -1,17 +1,23 @@
 -- Where two tell the same of the records and objects of a tree, a sync writes the same places for both.
-use Rattle.std.proofs.Common.{◌≡◌, ℕ, zero, suc, ◌+◌, ◌*◌, ◌<◌, ◌≤◌, Bool, ◌&&◌, ◌||◌, List, [], ◌∷◌, ◌++◌, map, filter, Some, Ok, refl, ap, sym, ◌∙◌, arith}
-use Rattle.std.specs.Prelude.{slice_get, is_some, if◌then◌else◌}
+use Rattle.std.proofs.Common.{◌≡◌, ℕ, zero, suc, ◌+◌, ◌*◌, ◌<◌, ◌≤◌, Bool, ◌&&◌, ◌||◌, List, [], ◌∷◌, ◌++◌, map, filter, Some, Ok, refl, ap, sym, subst, ◌∙◌, arith}
+use Rattle.std.specs.Prelude.{All, ◌==◌, slice_get, is_some, if◌then◌else◌}
 use Rattle.std.specs.List.{list_any, flat_map, range_with_len}
+use Rattle.std.proofs.lemmas.List.Elements.{All-nil, All-append}
 use Rattle.std.specs.FinMap as finite
 use Rattle.base.specs.declared.operation.Op.{Op}
 use Rattle.base.specs.declared.record_state.RecordState.TheVariants.{Unchanged}
 use Rattle.base.specs.formats.Limits.{object_count, pointer_count, entry_count}
 use Rattle.base.specs.history.Contents.{Contents}
-use Rattle.base.specs.history.History.{apply_all}
+use Rattle.base.specs.history.History.{Entry, IsWithin, apply_all, entries_in}
+use Rattle.base.specs.history.Past.{Past}
+use Rattle.base.specs.history.Plans.{IsRange, NumberRange, ranges, touched}
+use Rattle.base.specs.steps.ExactNow.{IsExplainedNow}
+use Rattle.base.specs.steps.Shown.{Shown}
+use Rattle.base.specs.steps.Steps.{ops_of_group}
 use Rattle.base.specs.tree.Places.{Place}
 use Rattle.base.specs.tree.Places.Place.{Root, Directory, Indirect, Data}
 use Rattle.base.specs.tree.Syncs.{GroupChanges, record_state, is_on, is_change_of, is_dirty, has_block_after, record_numbers, object_numbers, is_record_written, has_record_after, is_indirect_written, is_directory_touched, is_directory_written, is_root_written, places_of_object, written_by, written_places}
-use Rattle.base.proofs.common.KeptLists.{none_at, filter_same, Some-injective}
+use Rattle.base.proofs.common.KeptLists.{All-at, none_at, at_filter, filter_same, Some-injective}
 use Rattle.base.proofs.tree.RecordStates.{contents-after_all}
 
 -- two functions that agree on a list's elements make the same of it, and so do two tests
@@ -103,3 +109,19 @@ written-places told ops synced after had takes_place are = written_by-same _ tol
   touched = λ n low. sym (are.touched n low);
   present = λ n low. ap (λ (c : Contents). is_some (finite.get c.objects n)) (contents-after_all ops synced after takes_place) ∙ sym (are.present n low);
 })
+
+-- the ranges of operations one after another
+ranges-append : (xs ys : List Op) → ranges (xs ++ ys) ≡ ranges xs ++ ranges ys
+ranges-append [] ys = refl
+ranges-append (x ∷ xs) ys = ap (λ (l : List NumberRange). touched x ∷ l) (ranges-append xs ys)
+
+entries-ranges : (es : List Entry) → ((i : ℕ) (e : Entry) → slice_get es i ≡ Some e → IsWithin e) → All IsRange (ranges (flat_map (λ (e : Entry). e.ops) es))
+entries-ranges [] each = All-nil IsRange
+entries-ranges (e ∷ es) each = subst (λ (l : List NumberRange). All IsRange l) (sym (ranges-append e.ops (flat_map (λ (x : Entry). x.ops) es)))
+    (All-append IsRange (ranges e.ops) (ranges (flat_map (λ (x : Entry). x.ops) es)) (each zero e refl) (entries-ranges es (λ i x at. each (suc i) x at)))
+
+-- of a past that explains the pool, the operations of each group have ranges that may be locked
+pub group-ranges : (s : Shown) (p : Past) → IsExplainedNow s p → (group : ℕ) → All IsRange (ranges (ops_of_group group p.entries))
+group-ranges s p explained group = entries-ranges (entries_in group p.entries) (λ i e at.
+    let one = at_filter (λ (x : Entry). x.group == group) p.entries i e at in
+    All-at IsWithin p.entries one.0 e explained.history.within one.1)
