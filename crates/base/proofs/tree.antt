@@ -1,10 +1,9 @@
 pub mod SoundTrees
 pub mod PlacedTrees
 pub mod PlannedTrees
-pub mod UntouchedRecords
+pub mod RecordStates
 pub mod FreedBlocks
-pub mod WrittenRecords
-pub mod BuiltPlaces
+pub mod WrittenPlaces
 pub mod OneTree
 pub mod Sums
 pub mod Estimates

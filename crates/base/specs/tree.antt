@@ -4,4 +4,3 @@ pub mod PlacedTrees
 pub mod PlannedTrees
 pub mod Faults
 pub mod Syncs
-pub mod PlannedPlaces

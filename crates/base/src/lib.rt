@@ -13,6 +13,7 @@ mod piece;
 mod pointer;
 mod pool_name;
 mod range;
+mod record_state;
 mod refused;
 mod seen_laws;
 pub mod space_laws;
@@ -46,6 +47,7 @@ pub use piece::Piece;
 pub use pointer::Pointer;
 pub use pool_name::{MAX_NAME, PoolName, is_name};
 pub use range::{Mode, ObjectRange, Range};
+pub use record_state::RecordState;
 pub use refused::RefusedCalls;
 pub use seen_laws::{
     begins_are_seen, commits_are_seen, contents_are_between, durable_is_known, groups_go_up,

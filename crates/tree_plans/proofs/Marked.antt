@@ -1,47 +1,142 @@
--- The marks that operations leave, one after another.
-use Rattle.std.proofs.Common.{◌≡◌, ◌==◌, ℕ, zero, suc, ◌+◌, ◌<◌, ◌||◌, Bool, true, false, cond, List, [], ◌∷◌, ◌++◌, length, take, refl, sym, ◌∙◌, ap, append_assoc}
-use Rattle.std.specs.Prelude.{slice_index_or, is_some, replicate, filter}
+-- What operations do to the objects, one after another, is what the definitions say.
+use Rattle.std.proofs.Common.{◌≡◌, ◌==◌, ℕ, zero, suc, ◌+◌, ◌<◌, ◌≤◌, ◌&&◌, ◌||◌, max, Bool, true, false, cond, List, [], ◌∷◌, ◌++◌, length, take, Option, Some, None, Result, Ok, refl, sym, subst, ◌∙◌, ap, append_assoc, arith}
+use Rattle.std.specs.Prelude.{All, filter, get_or, is_some, nat_lt, option_map, replicate, slice_index_or, unwrap_or, if◌then◌else◌}
 use Rattle.std.specs.List.{flat_map, list_any}
+use Rattle.std.specs.Option.{option_map_or}
+use Rattle.std.specs.FinMap as finite
+use Rattle.std.proofs.lemmas.Bool.{eqb-true, le-ltb}
 use Rattle.std.proofs.lemmas.List.{take_more}
+use Rattle.std.proofs.lemmas.List.Elements.{All-cons, All-head, All-nil, All-tail}
+use Rattle.base.specs.declared.error.PoolError.{PoolError}
 use Rattle.base.specs.declared.names.ObjectId.{ObjectId}
 use Rattle.base.specs.declared.operation.Op.{Op}
+use Rattle.base.specs.declared.operation.Op.TheVariants.{Create, Remove, Write, SetLength, SetName}
+use Rattle.base.specs.declared.record_state.RecordState.{RecordState}
+use Rattle.base.specs.declared.record_state.RecordState.TheVariants.{Unchanged, Dirty, Hole}
+use Rattle.base.specs.history.Contents.{Contents, apply, bytes_after_write, changed, created, removed, resize}
+use Rattle.base.specs.history.History.{apply_all}
+use Rattle.base.specs.history.Plans.{IsRange, ranges, touched}
+use Rattle.base.specs.history.Sequences.{in_turn}
+use Rattle.base.specs.tree.Syncs.{contents_after, contents_after_all, is_change_of, is_on, is_record_touched, record_state, state_after_cut, state_after_op}
+use Rattle.base.proofs.common.Sequences.{joined, parted}
+use Rattle.base.proofs.history.Writes.{length-bytes_after_write, length-resize}
+use Rattle.base.proofs.tree.RecordStates.{at-object, bytes-changed, bytes-created, bytes-removed, contents-after_all, elsewhere}
+use Rattle.tree_plans.specs.declared.changes.ObjectChanges.{ObjectChanges}
 use Rattle.tree_plans.specs.declared.planner.Committed.{Committed}
-use Rattle.tree_plans.specs.declared.planner.DirtyRecords.{DirtyRecords}
-use Rattle.tree_plans.specs.Pointers.{entry_of}
-use Rattle.tree_plans.specs.Changes.{is_marked}
-use Rattle.tree_plans.specs.Marks.{Marks, changes, pending_ops, touches}
+use Rattle.tree_plans.specs.Pointers.{IsPut, entry_of}
+use Rattle.tree_plans.specs.Changes.{is_changed_in, state_at, state_in}
+use Rattle.tree_plans.specs.Marks.{AreChangesOf, AreToldSoFar, HaveLengths, NotesOp, length_in, length_with, pending_ops, state_with}
 
-pub no_flags : (n r : ℕ) → slice_index_or (replicate n false) r false ≡ false
-no_flags zero r = refl
-no_flags (suc n) zero = refl
-no_flags (suc n) (suc r) = no_flags n r
+-- a value in a row of equal ones
+pub in_row : {A : Type 0} (count r : ℕ) (a d : A) → r < count → slice_index_or (replicate count a) r d ≡ a
+in_row zero r a d low = absurd (omega (arith, low))
+in_row (suc count) zero a d low = refl
+in_row (suc count) (suc r) a d low = in_row count r a d (omega (arith, low))
 
-or_moved : (a b c : Bool) → (b || (a || c)) ≡ ((a || b) || c)
-or_moved true true c = refl
-or_moved true false c = refl
-or_moved false b c = refl
+pub row_of : {A : Type 0} (count r : ℕ) (a : A) → slice_index_or (replicate count a) r a ≡ a
+row_of zero r a = refl
+row_of (suc count) zero a = refl
+row_of (suc count) (suc r) a = row_of count r a
 
-any_append : (p : Op → Bool) (xs ys : List Op) → list_any p (xs ++ ys) ≡ (list_any p xs || list_any p ys)
-any_append p [] ys = refl
-any_append p (x ∷ xs) ys = elim (p x) as (λ b. (b || list_any p (xs ++ ys)) ≡ ((b || list_any p xs) || list_any p ys)) [ true ↦ refl | false ↦ any_append p xs ys ]
+-- a longer run of operations
+any-append : (p : Op → Bool) (xs ys : List Op) → list_any p (xs ++ ys) ≡ (list_any p xs || list_any p ys)
+any-append p [] ys = refl
+any-append p (x ∷ xs) ys = elim (p x) as (λ b. (b || list_any p (xs ++ ys)) ≡ ((b || list_any p xs) || list_any p ys)) [ true ↦ refl | false ↦ any-append p xs ys ]
 
-pub marks_append : (xs ys : List Op) (a b c : List (ObjectId × DirtyRecords)) → Marks xs a b → Marks ys b c → Marks (xs ++ ys) a c
-marks_append xs ys a b c m k = record {
-  there = λ n. k.there n ∙ ap (λ t. list_any (changes n) ys || t) (m.there n) ∙ or_moved (list_any (changes n) xs) (list_any (changes n) ys) (is_some (entry_of a n))
-      ∙ ap (λ t. t || is_some (entry_of a n)) (sym (any_append (changes n) xs ys));
-  marked = λ n r low. k.marked n r low ∙ ap (λ t. list_any (touches n r) ys || t) (m.marked n r low) ∙ or_moved (list_any (touches n r) xs) (list_any (touches n r) ys) (is_marked a n r)
-      ∙ ap (λ t. t || is_marked a n r) (sym (any_append (touches n r) xs ys));
+or_swapped : (a b : Bool) → (b || a) ≡ (a || (b || false))
+or_swapped true true = refl
+or_swapped true false = refl
+or_swapped false true = refl
+or_swapped false false = refl
+
+state-append : (n r : ℕ) (xs : List Op) (op : Op) (c : Contents) (s : RecordState) → record_state n r (xs ++ op ∷ []) c s ≡ state_after_op n r op (contents_after_all xs c) (record_state n r xs c s)
+state-append n r [] op c s = refl
+state-append n r (x ∷ xs) op c s = state-append n r xs op (contents_after x c) (state_after_op n r x c s)
+
+-- the state after an operation, by the length of the object
+state-by_length : (n r : ℕ) (op : Op) (c : Contents) (size : ℕ) (s : RecordState) → size ≡ length (unwrap_or (finite.get c.objects n) []) → state_with n r op size s ≡ state_after_op n r op c s
+state-by_length n r (Create m) c size s is = refl
+state-by_length n r (Remove m) c size s is = refl
+state-by_length n r (Write m offset bytes) c size s is = refl
+state-by_length n r (SetLength m new) c size s is = ap (λ (b : Bool). if (m.0 == n) && b then state_after_cut r new s else s) (ap (nat_lt new) is ∙ by (finite.get c.objects n))
+  where
+    by : (o : Option (List ℕ)) → nat_lt new (length (unwrap_or o [])) ≡ option_map_or (λ old. nat_lt new old) (option_map length o) false
+    by None = le-ltb new 0 (omega arith)
+    by (Some y) = refl
+state-by_length n r (SetName bytes) c size s is = refl
+
+-- the length after an operation that takes place
+abbrev size_of : Contents → ℕ → ℕ
+size_of c n = length (unwrap_or (finite.get c.objects n) [])
+
+either_size : (b : Bool) (x y z : ℕ) → (b ≡ true → x ≡ z) → (b ≡ false → y ≡ z) → (if b then x else y) ≡ z
+either_size true x y z first second = first refl
+either_size false x y z first second = second refl
+
+length-after : (n : ℕ) (op : Op) (c d : Contents) → apply op c ≡ Ok d → length_with n op (size_of c n) ≡ size_of d n
+length-after n (Create m) c d h = either_size (m.0 == n) 0 (size_of c n) (size_of d n)
+    (λ same. ap (λ (l : List ℕ). length l) (sym (bytes-created (finite.get c.objects n) (finite.get d.objects n) (at-object n m.0 created c d same h))))
+    (λ other. ap (λ (o : Option (List ℕ)). length (unwrap_or o [])) (elsewhere n m.0 created c d other h))
+length-after n (Remove m) c d h = either_size (m.0 == n) 0 (size_of c n) (size_of d n)
+    (λ same. ap (λ (o : Option (List ℕ)). length (unwrap_or o [])) (sym (bytes-removed (finite.get c.objects n) (finite.get d.objects n) (at-object n m.0 removed c d same h))))
+    (λ other. ap (λ (o : Option (List ℕ)). length (unwrap_or o [])) (elsewhere n m.0 removed c d other h))
+length-after n (Write m offset bytes) c d h = either_size (m.0 == n) (max (size_of c n) (offset + length bytes)) (size_of c n) (size_of d n)
+    (λ same.
+    let to = bytes-changed (bytes_after_write offset bytes) (finite.get c.objects n) (finite.get d.objects n) (at-object n m.0 (changed (bytes_after_write offset bytes)) c d same h) in
+    ap (λ (o : Option (List ℕ)). max (length (unwrap_or o [])) (offset + length bytes)) to.1 ∙ sym (length-bytes_after_write offset bytes to.0) ∙ ap (λ (o : Option (List ℕ)). length (unwrap_or o [])) (sym to.2))
+    (λ other. ap (λ (o : Option (List ℕ)). length (unwrap_or o [])) (elsewhere n m.0 (changed (bytes_after_write offset bytes)) c d other h))
+length-after n (SetLength m new) c d h = either_size (m.0 == n) new (size_of c n) (size_of d n)
+    (λ same.
+    let to = bytes-changed (resize new) (finite.get c.objects n) (finite.get d.objects n) (at-object n m.0 (changed (resize new)) c d same h) in
+    sym (length-resize new to.0) ∙ ap (λ (o : Option (List ℕ)). length (unwrap_or o [])) (sym to.2))
+    (λ other. ap (λ (o : Option (List ℕ)). length (unwrap_or o [])) (elsewhere n m.0 (changed (resize new)) c d other h))
+length-after n (SetName bytes) c d h = let e : record { name = bytes; objects = c.objects } ≡ d = cc in ap (λ (x : Contents). size_of x n) e
+
+-- operations that take place one after another do so up to each of them
+apart : (xs ys : List Op) (a c : Contents) → apply_all (xs ++ ys) a ≡ Ok c → (b : Contents) × (apply_all xs a ≡ Ok b) × (apply_all ys b ≡ Ok c)
+apart [] ys a c h = (a, refl, h)
+apart (x ∷ xs) ys a c h =
+    let p = parted (apply x a) (in_turn apply (xs ++ ys)) c h in
+    let q = apart xs ys p.0 c p.2 in
+    (q.0, joined (apply x a) (in_turn apply xs) p.0 q.0 p.1 q.1, q.2)
+
+one_only : (op : Op) (b c : Contents) → apply_all (op ∷ []) b ≡ Ok c → apply op b ≡ Ok c
+one_only op b c h =
+    let p = parted (apply op b) (in_turn apply []) c h in
+    let e : p.0 ≡ c = (let f = p.2 in cc) in
+    p.1 ∙ ap (λ (x : Contents). Ok x) e
+
+ranges-append : (xs ys : List Op) → ranges (xs ++ ys) ≡ ranges xs ++ ranges ys
+ranges-append [] ys = refl
+ranges-append (x ∷ xs) ys = ap (λ l. touched x ∷ l) (ranges-append xs ys)
+
+front_ranges : (xs : List Op) (op : Op) → All IsRange (ranges (xs ++ op ∷ [])) → All IsRange (ranges xs) × IsRange (touched op)
+front_ranges [] op all = (All-nil IsRange, All-head IsRange (touched op) [] all)
+front_ranges (x ∷ xs) op all =
+    let rest = front_ranges xs op (All-tail IsRange (touched x) (ranges (xs ++ op ∷ [])) all) in
+    (All-cons IsRange (touched x) (ranges xs) (All-head IsRange (touched x) (ranges (xs ++ op ∷ [])) all) rest.0, rest.1)
+
+-- one operation more
+pub told_more : (done : List Op) (op : Op) (lengths : List ℕ) (old new : List (ObjectId × ObjectChanges)) → AreToldSoFar done lengths old → NotesOp op lengths old new → AreToldSoFar (done ++ op ∷ []) lengths new
+told_more done op lengths old new told noted = record {
+  changes = record {
+    there = λ n. noted.there n ∙ ap (λ (b : Bool). is_on n op || b) (told.changes.there n) ∙ or_swapped (list_any (is_on n) done) (is_on n op) ∙ sym (any-append (is_on n) done (op ∷ []));
+    changed = λ n. noted.changed n ∙ ap (λ (b : Bool). is_change_of n op || b) (told.changes.changed n) ∙ or_swapped (list_any (is_change_of n) done) (is_change_of n op) ∙ sym (any-append (is_change_of n) done (op ∷ []));
+    states = λ before after h within are n r low.
+        let p = apart done (op ∷ []) before after h in
+        let parts = front_ranges done op within in
+        let middle : contents_after_all done before ≡ p.0 = contents-after_all done before p.0 p.1 in
+        noted.states n r low
+        ∙ ap (λ (s : RecordState). state_with n r op (length_in lengths old n) s) (told.changes.states before p.0 p.1 parts.0 are n r low)
+        ∙ state-by_length n r op p.0 (length_in lengths old n) (record_state n r done before Unchanged) (told.sizes before p.0 p.1 parts.0 are n)
+        ∙ ap (λ (c : Contents). state_after_op n r op c (record_state n r done before Unchanged)) (sym middle)
+        ∙ sym (state-append n r done op before Unchanged);
+  };
+  sizes = λ before after h within are n.
+      let p = apart done (op ∷ []) before after h in
+      let parts = front_ranges done op within in
+      noted.sizes parts.1 n ∙ ap (length_with n op) (told.sizes before p.0 p.1 parts.0 are n) ∙ length-after n op p.0 after (one_only op p.0 after p.2);
 }
-
--- transactions one after another
-pub pending_append : (group : ℕ) (xs ys : List Committed) → pending_ops group (xs ++ ys) ≡ pending_ops group xs ++ pending_ops group ys
-pending_append group [] ys = refl
-pending_append group (x ∷ xs) ys =
-    elim (x.group.0 == group) as (λ b. flat_map (λ (c : Committed). c.ops) (cond b (x ∷ filter (λ (c : Committed). c.group.0 == group) (xs ++ ys)) (filter (λ (c : Committed). c.group.0 == group) (xs ++ ys)))
-    ≡ flat_map (λ (c : Committed). c.ops) (cond b (x ∷ filter (λ (c : Committed). c.group.0 == group) xs) (filter (λ (c : Committed). c.group.0 == group) xs)) ++ pending_ops group ys) [
-      | true ↦ ap (λ l. x.ops ++ l) (pending_append group xs ys) ∙ sym (append_assoc x.ops (pending_ops group xs) (pending_ops group ys))
-      | false ↦ pending_append group xs ys
-    ]
 
 pub front_more : {A : Type 0} (xs : List A) (i : ℕ) (x : A) → i < length xs → x ≡ slice_index_or xs i x → take (i + 1) xs ≡ take i xs ++ x ∷ []
 front_more xs i x low is = take_more xs i x low ∙ ap (λ a. take i xs ++ a ∷ []) (sym is)

@@ -1,11 +1,15 @@
 -- The blocks of a plan stand in the order of their places.
-use Rattle.std.proofs.Common.{◌≡◌, ◌==◌, ℕ, zero, suc, ◌+◌, ◌*◌, ◌/◌, ◌≤◌, ◌<◌, inl, inr, Bool, true, false, cond, ◌||◌, List, [], ◌∷◌, ◌++◌, length, map, filter, Option, Ordering, Less, Equal, Greater, Some, None, refl, sym, ◌∙◌, ap, append_assoc, arith, nat_lt, ltb-true, if◌then◌else◌}
+use Rattle.std.proofs.Common.{◌≡◌, ◌==◌, ℕ, zero, suc, ◌+◌, ◌*◌, ◌/◌, ◌≤◌, ◌<◌, inl, inr, Bool, true, false, not, cond, ◌&&◌, ◌||◌, List, [], ◌∷◌, ◌++◌, length, map, filter, Option, Ordering, Less, Equal, Greater, Some, None, refl, sym, ◌∙◌, ap, append_assoc, arith, nat_lt, ltb-true, if◌then◌else◌}
 use Rattle.std.specs.Prelude.{slice_get, slice_index_or, is_some}
 use Rattle.std.specs.List.{AllByRecursion, list_any, flat_map, range_with_len}
 use Rattle.std.specs.List.Sorted.{IsStrictlySortedBy}
 use Rattle.std.specs.Map.{keys_of}
 use Rattle.std.specs.Option.{option_map_or}
 use Rattle.std.specs.Ordering.{nat_cmp}
+use Rattle.std.specs.FinMap as finite
+use Rattle.std.specs.FinMap.{FinMap}
+use Rattle.std.specs.Cmp.Derive.{one_truth}
+use Rattle.std.proofs.Math.Bool.{and-false}
 use Rattle.std.proofs.lemmas.Bool.{cases_lt, cases_eq, eq-eqb, eqb-true, ne_eqb}
 use Rattle.std.proofs.lemmas.List.{append-nil, map-append, map-id}
 use Rattle.std.proofs.lemmas.List.Elements.{filter-append}
@@ -17,18 +21,23 @@ use Rattle.base.specs.declared.names.ObjectId.{ObjectId}
 use Rattle.base.specs.formats.Fields.{no_pointer}
 use Rattle.base.specs.tree.Places.{Place}
 use Rattle.base.specs.tree.Places.Place.{Root, Directory, Indirect, Data}
-use Rattle.base.specs.tree.PlannedPlaces.{has_changed, object_places, written_by}
+use Rattle.base.specs.declared.record_state.RecordState.{RecordState}
+use Rattle.base.specs.declared.record_state.RecordState.TheVariants.{Unchanged, Dirty, Hole}
+use Rattle.base.specs.tree.Syncs.{GroupChanges, has_block_after, has_record_after, is_dirty, is_directory_written, is_indirect_written, is_record_written, is_root_written, object_numbers, places_of_object, record_numbers, written_by}
+use Rattle.base.specs.tree.Syncs as told
+use Rattle.base.proofs.common.KeptLists.{any_found, filter_same}
+use Rattle.base.proofs.tree.WrittenPlaces.{any-same, in-range}
 use Rattle.base.specs.tree.PlannedTrees.{NewBlock}
 use Rattle.object_maps.specs.declared.tree.ObjectMap.{ObjectMap}
-use Rattle.tree_plans.specs.declared.planner.DirtyRecords.{DirtyRecords}
-use Rattle.tree_plans.specs.Pointers.{IsPut, entry_of, planned_map, pointers_from, record_in}
-use Rattle.tree_plans.specs.Changes.{AreInRange, is_marked}
+use Rattle.object_maps.specs.declared.tree.Tree.{Tree}
+use Rattle.tree_plans.specs.declared.changes.ObjectChanges.{ObjectChanges}
+use Rattle.tree_plans.specs.Pointers.{IsPut, entry_of, planned_map, pointers_before, pointers_from, record_in}
+use Rattle.tree_plans.specs.Changes.{AreInRange, group_of, names_block, state_at, state_in}
 use Rattle.tree_plans.specs.declared.planner.PlannedBlock.{PlannedBlock}
-use Rattle.tree_plans.specs.Plans.{address_of, new_block}
-use Rattle.tree_plans.specs.Walks.{is_any_touched, is_directory_touched}
+use Rattle.tree_plans.specs.Plans.{AreRecordsPlanned, IsRecordPlanned, Progress, address_of, indirect_state, is_dirty_in, is_indirect_written_in, new_block, state_above}
+use Rattle.tree_plans.specs.Walks.{has_object, has_objects, is_any_touched, is_directory_dirty, is_directory_replaced, is_directory_touched, root_state}
 use Rattle.tree_plans.specs.Order.{Adds, AreInOrder, address_if, addresses_of, addresses_where, all_addresses, object_addresses}
 use Rattle.tree_plans.proofs.Progress.{addresses-push, front_of, last_of}
-use Rattle.tree_plans.proofs.Walks.{any_flag}
 
 -- blocks that are added one after another
 pub adds_none : (s : List NewBlock) → Adds s s []
@@ -103,10 +112,11 @@ no_addresses : (p : ℕ → Bool) (f : ℕ → Pointer) (count : ℕ) → ((r : 
 unfolding addresses_where
 no_addresses p f count none = ap (map (λ i. (f i).address)) (none_passes p none _)
 
-pub none_dirty : (p : ℕ → Bool) (o : Option ObjectMap) → ((r : ℕ) → p r ≡ false) → object_addresses p o ≡ []
+pub none_written : (group : GroupChanges) (n : ℕ) (o : Option ObjectMap) → ((r : ℕ) → is_record_written group n r ≡ false) → is_indirect_written group n ≡ false → object_addresses group n o ≡ []
 unfolding object_addresses
-none_dirty p o none = ap (λ (l : List ℕ). l ++ address_if (list_any p (range_with_len 0 84)) (option_map_or (λ (m : ObjectMap). m.indirect) o no_pointer)) (no_addresses p _ 84 none)
-    ∙ ap (λ (b : Bool). address_if b (option_map_or (λ (m : ObjectMap). m.indirect) o no_pointer)) (none_of p none (range_with_len 0 84))
+none_written group n o none not_written =
+    ap (λ (l : List ℕ). l ++ address_if (is_indirect_written group n) (option_map_or (λ (m : ObjectMap). m.indirect) o no_pointer)) (no_addresses (is_record_written group n) _ 84 none)
+    ∙ ap (λ (b : Bool). address_if b (option_map_or (λ (m : ObjectMap). m.indirect) o no_pointer)) not_written
 
 -- a number of a range that passes
 pub passes_at : (p : ℕ → Bool) (a n k : ℕ) → a ≤ k → k < a + n → p k ≡ true → list_any p (range_with_len a n) ≡ true
@@ -120,43 +130,80 @@ passes_at p a (suc n) k low high is = elim (cases_eq a k) [
     or_true true = refl
     or_true false = refl
 
--- the marks of an object are the flags of its entry
-pub flagged : (objects : List (ObjectId × DirtyRecords)) (n : ℕ) (dirty : DirtyRecords) → entry_of objects n ≡ Some dirty → (r : ℕ) → is_marked objects n r ≡ slice_index_or dirty.flags r false
-flagged objects n dirty is r = ap (λ (o : Option DirtyRecords). option_map_or (λ (dirty : DirtyRecords). slice_index_or dirty.flags r false) o false) is
+-- what is told of an object by its entry, and of one that has none
+module _ (objects : List (ObjectId × ObjectChanges)) (pointers : Place → Pointer) (after : FinMap nat_cmp (List ℕ)) (n : ℕ) where
+  abbrev entry_group : GroupChanges
+  entry_group = group_of objects pointers after
 
-pub some_flag : (flags : List Bool) → list_any (λ (dirty : Bool). dirty) flags ≡ true → (r : ℕ) × (r < length flags) × (slice_index_or flags r false ≡ true)
-some_flag [] e = absurd (cc)
-some_flag (true ∷ flags) e = (0, omega arith, refl)
-some_flag (false ∷ flags) e = let h = some_flag flags e in (suc h.0, (let low = h.1 in omega arith), h.2)
+  pub entry-state : (changes : ObjectChanges) → entry_of objects n ≡ Some changes → (r : ℕ) → state_in objects n r ≡ state_at changes r
+  entry-state changes is r = ap (λ (o : Option ObjectChanges). option_map_or (λ (c : ObjectChanges). state_at c r) o Unchanged) is
+
+  pub entry-written : (changes : ObjectChanges) → entry_of objects n ≡ Some changes → is_record_written entry_group n ≡ is_dirty_in changes
+  entry-written changes is = λ k r. is_dirty (entry-state changes is r k)
+
+  pub entry-indirect : (changes : ObjectChanges) (was : ObjectMap) → entry_of objects n ≡ Some changes → ((r : ℕ) → pointers (Data n r) ≡ record_in was r) → is_indirect_written entry_group n ≡ is_indirect_written_in changes was
+  entry-indirect changes was is pointers_are =
+      (λ k. option_map_or (λ (c : ObjectChanges). c.is_changed) (is k) false
+      && list_any (λ r. has_block_after (entry-state changes is r k) (names_block (pointers_are r k))) record_numbers)
+
+  pub absent-written : entry_of objects n ≡ None → (r : ℕ) → is_record_written entry_group n r ≡ false
+  absent-written none r = ap (λ (o : Option ObjectChanges). is_dirty (option_map_or (λ (c : ObjectChanges). state_at c r) o Unchanged)) none
+
+  pub absent-indirect_written : entry_of objects n ≡ None → is_indirect_written entry_group n ≡ false
+  absent-indirect_written none = ap (λ (o : Option ObjectChanges). option_map_or (λ (c : ObjectChanges). c.is_changed) o false && list_any (has_record_after entry_group n) record_numbers) none
 
 -- an object that is gone over
-pub object_skipped : (objects : List (ObjectId × DirtyRecords)) (n : ℕ) (dirty : DirtyRecords) (o : Option ObjectMap) (s : List NewBlock) → entry_of objects n ≡ Some dirty
-    → list_any (λ (dirty : Bool). dirty) dirty.flags ≡ false → Adds s s (object_addresses (is_marked objects n) o)
-object_skipped objects n dirty o s is none =
-    adds_none s ∙ ap (λ (l : List ℕ). addresses_of s ++ l) (sym (none_dirty (is_marked objects n) o (λ r. flagged objects n dirty is r ∙ unmarked r)))
-  where
-    unmarked : (r : ℕ) → slice_index_or dirty.flags r false ≡ false
-    unmarked r = elim (slice_index_or dirty.flags r false) as (λ b. slice_index_or dirty.flags r false ≡ b → b ≡ false) [
-      | true ↦ λ flag. let some = any_flag dirty.flags r flag in absurd (cc)
-      | false ↦ λ flag. refl
-    ] refl
-
--- an object with a dirty record
-object_written : (p : ℕ → Bool) (flags : List Bool) (m : ObjectMap) (s t : List NewBlock) → length flags ≡ 84 → ((r : ℕ) → p r ≡ slice_index_or flags r false) → list_any (λ (dirty : Bool). dirty) flags ≡ true
-    → Adds s t (addresses_where (λ r. slice_index_or flags r false) (λ r. record_in m r) 84 ++ m.indirect.address ∷ []) → Adds s t (object_addresses p (Some m))
+pub object_added : (group : GroupChanges) (n : ℕ) (changes : ObjectChanges) (was m : ObjectMap) (o : Option ObjectMap) (s t : List NewBlock) → o ≡ Some m
+    → is_record_written group n ≡ is_dirty_in changes → is_indirect_written group n ≡ is_indirect_written_in changes was
+    → Adds s t (addresses_where (is_dirty_in changes) (λ r. record_in m r) 84 ++ address_if (is_indirect_written_in changes was) m.indirect) → Adds s t (object_addresses group n o)
 unfolding object_addresses
-object_written p flags m s t long same some added =
-    let h = some_flag flags some in
-    let any : list_any p (range_with_len 0 84) ≡ true = passes_at p 0 84 h.0 (omega arith) (let low = h.1 in omega (arith, long)) (same h.0 ∙ h.2) in
-    let flags_are : (λ (r : ℕ). slice_index_or flags r false) ≡ p = λ k r. sym (same r) k in
-    added ∙ ap (λ (q : ℕ → Bool). addresses_of s ++ (addresses_where q (λ r. record_in m r) 84 ++ m.indirect.address ∷ [])) flags_are
-    ∙ ap (λ (b : Bool). addresses_of s ++ (addresses_where p (λ r. record_in m r) 84 ++ address_if b m.indirect)) (sym any)
+object_added group n changes was m o s t there records indirect added =
+    added ∙ ap (λ (q : ℕ → Bool). addresses_of s ++ (addresses_where q (λ r. record_in m r) 84 ++ address_if (is_indirect_written_in changes was) m.indirect)) (sym records)
+    ∙ ap (λ (b : Bool). addresses_of s ++ (addresses_where (is_record_written group n) (λ r. record_in m r) 84 ++ address_if b m.indirect)) (sym indirect)
+    ∙ ap (λ (q : Option ObjectMap). addresses_of s ++ (addresses_where (is_record_written group n) (λ r. option_map_or (λ (m : ObjectMap). record_in m r) q no_pointer) 84
+    ++ address_if (is_indirect_written group n) (option_map_or (λ (m : ObjectMap). m.indirect) q no_pointer))) (sym there)
 
-pub object_added : (objects : List (ObjectId × DirtyRecords)) (n : ℕ) (dirty : DirtyRecords) (m : ObjectMap) (o : Option ObjectMap) (s t : List NewBlock) → entry_of objects n ≡ Some dirty → o ≡ Some m
-    → length dirty.flags ≡ 84 → list_any (λ (dirty : Bool). dirty) dirty.flags ≡ true
-    → Adds s t (addresses_where (λ r. slice_index_or dirty.flags r false) (λ r. record_in m r) 84 ++ m.indirect.address ∷ []) → Adds s t (object_addresses (is_marked objects n) o)
-object_added objects n dirty m o s t is there long some added =
-    object_written (is_marked objects n) dirty.flags m s t long (flagged objects n dirty is) some added ∙ ap (λ (q : Option ObjectMap). addresses_of s ++ object_addresses (is_marked objects n) q) (sym there)
+-- the records after a plan that have a block are those that the states say
+names_none : names_block no_pointer ≡ false
+names_none = refl
+
+pub record-names_block : (s : Progress) (n r : ℕ) (bytes : List ℕ) (state : RecordState) (old new : Pointer) → IsRecordPlanned s n r bytes state old new → names_block new ≡ has_block_after state (names_block old)
+record-names_block s n r bytes Unchanged old new same = ap names_block same
+record-names_block s n r bytes Dirty old new h =
+    let area = h.1.in_area in
+    let positive : (new.address == 0) ≡ false = ne_eqb new.address 0 (λ zero_is. let is = area.2 in omega (arith, zero_is, is)) in
+    rw positive refl
+record-names_block s n r bytes Hole old new h = ap names_block h.none
+
+any-range : (p : ℕ → Bool) (q : Pointer → Bool) (xs : List Pointer) (a : ℕ) → ((k : ℕ) → k < length xs → q (slice_index_or xs k no_pointer) ≡ p (a + k)) → list_any q xs ≡ list_any p (range_with_len a (length xs))
+any-range p q [] a same = refl
+any-range p q (x ∷ xs) a same =
+    let first : q x ≡ p a = same 0 (omega arith) ∙ ap p (let e : a + 0 ≡ a = omega arith in e) in
+    (λ k. first k || any-range p q xs (a + 1) (λ i low. same (suc i) (omega (arith, low)) ∙ ap p (let e : a + suc i ≡ a + 1 + i = omega arith in e)) k)
+
+-- an indirect block is written where its object's changes say so
+pub indirect-told : (s : Progress) (n : ℕ) (bytes : List ℕ) (changes : ObjectChanges) (was : ObjectMap) (records : List Pointer) → length records ≡ 84 → AreRecordsPlanned s n bytes changes was 84 records
+    → is_dirty (indirect_state changes.is_changed records) ≡ is_indirect_written_in changes was
+indirect-told s n bytes changes was records long planned =
+    let any : list_any names_block records ≡ list_any (λ r. has_block_after (state_at changes r) (names_block (record_in was r))) (range_with_len 0 84) =
+    any-range (λ r. has_block_after (state_at changes r) (names_block (record_in was r))) names_block records 0
+    (λ k low. record-names_block s n k bytes (state_at changes k) (record_in was k) (slice_index_or records k no_pointer) (planned k (omega (arith, low, long)))
+    ∙ ap (λ (i : ℕ). has_block_after (state_at changes i) (names_block (record_in was i))) (let e : k ≡ 0 + k = omega arith in e))
+    ∙ ap (λ (c : ℕ). list_any (λ r. has_block_after (state_at changes r) (names_block (record_in was r))) (range_with_len 0 c)) long in
+    told (changes.is_changed && list_any names_block records) ∙ ap (λ (b : Bool). changes.is_changed && b) any
+  where
+    told : (b : Bool) → is_dirty (if b then Dirty else Hole) ≡ b
+    told true = refl
+    told false = refl
+
+-- the records' pointers of a tree in memory
+pub data_before : (t : Tree) (n : ℕ) (was : ObjectMap) → slice_get t.maps.items n ≡ Some was → (r : ℕ) → pointers_before t (Data n r) ≡ record_in was r
+data_before t n was is r = ap (λ (o : Option ObjectMap). option_map_or (λ (m : ObjectMap). record_in m r) o no_pointer) is
+
+-- no address of an object that no operation is on
+pub absent_addresses : (objects : List (ObjectId × ObjectChanges)) (pointers : Place → Pointer) (after : FinMap nat_cmp (List ℕ)) (n : ℕ) (o : Option ObjectMap) → entry_of objects n ≡ None
+    → object_addresses (group_of objects pointers after) n o ≡ []
+absent_addresses objects pointers after n o none = none_written (group_of objects pointers after) n o (absent-written objects pointers after n none) (absent-indirect_written objects pointers after n none)
 
 -- an object that is put has the pointers that are put
 pub map_put : (maps : List ObjectMap) (old new : List (ObjectId × ObjectMap)) (id : ObjectId) (m : ObjectMap) → IsPut old id m new → planned_map maps new id.0 ≡ Some m
@@ -173,12 +220,12 @@ same_elsewhere {X} F G n (x ∷ done) none same =
       | false ↦ λ is e. rw (same x.0.0 is, same_elsewhere F G n done e same) refl
     ] refl none
 
-pub objects_added : {X : Type 0} (d : ℕ → ℕ → Bool) (maps : List ObjectMap) (old new : List (ObjectId × ObjectMap)) (first s t : List NewBlock) (done : List (ObjectId × X)) (e : ObjectId × X)
+pub objects_added : {X : Type 0} (g : GroupChanges) (maps : List ObjectMap) (old new : List (ObjectId × ObjectMap)) (first s t : List NewBlock) (done : List (ObjectId × X)) (e : ObjectId × X)
     → entry_of done e.0.0 ≡ None → ((n : ℕ) → (e.0.0 == n) ≡ false → entry_of new n ≡ entry_of old n)
-    → Adds first s (flat_map (λ (x : ObjectId × X). object_addresses (d x.0.0) (planned_map maps old x.0.0)) done) → Adds s t (object_addresses (d e.0.0) (planned_map maps new e.0.0))
-    → Adds first t (flat_map (λ (x : ObjectId × X). object_addresses (d x.0.0) (planned_map maps new x.0.0)) (done ++ e ∷ []))
-objects_added {X} d maps old new first s t done e fresh others before more =
-    let F : List (ObjectId × ObjectMap) → ℕ → List ℕ = λ planned n. object_addresses (d n) (planned_map maps planned n) in
+    → Adds first s (flat_map (λ (x : ObjectId × X). object_addresses g x.0.0 (planned_map maps old x.0.0)) done) → Adds s t (object_addresses g e.0.0 (planned_map maps new e.0.0))
+    → Adds first t (flat_map (λ (x : ObjectId × X). object_addresses g x.0.0 (planned_map maps new x.0.0)) (done ++ e ∷ []))
+objects_added {X} g maps old new first s t done e fresh others before more =
+    let F : List (ObjectId × ObjectMap) → ℕ → List ℕ = λ planned n. object_addresses g n (planned_map maps planned n) in
     let same : (k : ℕ) → (e.0.0 == k) ≡ false → F old k ≡ F new k = λ k other. let h = others k other in rw h refl in
     adds_twice first s t _ _ before more
     ∙ ap (λ (l : List ℕ). addresses_of first ++ (l ++ F new e.0.0)) (same_elsewhere (F old) (F new) e.0.0 done fresh same)
@@ -251,16 +298,17 @@ module _ (R : ObjectId → ObjectId → Ordering) (less : (a b : ObjectId) → R
   all_from_none [] = tt
   all_from_none (y ∷ ys) = (omega arith, all_from_none ys)
 
-  pub all_added : (count : ℕ) (maps : List ObjectMap) (planned : List (ObjectId × ObjectMap)) (objects done : List (ObjectId × DirtyRecords)) (s t : List NewBlock)
+  pub all_added : (count : ℕ) (g : GroupChanges) (maps : List ObjectMap) (planned : List (ObjectId × ObjectMap)) (objects done : List (ObjectId × ObjectChanges)) (s t : List NewBlock)
       → done ≡ objects → IsStrictlySortedBy R (keys_of objects) → ((n : ℕ) → is_some (entry_of objects n) ≡ true → n < count)
-      → Adds s t (flat_map (λ (e : ObjectId × DirtyRecords). object_addresses (is_marked objects e.0.0) (planned_map maps planned e.0.0)) done)
-      → Adds s t (all_addresses (is_marked objects) (planned_map maps planned) count)
+      → ((n : ℕ) → entry_of objects n ≡ None → object_addresses g n (planned_map maps planned n) ≡ [])
+      → Adds s t (flat_map (λ (e : ObjectId × ObjectChanges). object_addresses g e.0.0 (planned_map maps planned e.0.0)) done)
+      → Adds s t (all_addresses g (planned_map maps planned) count)
   unfolding all_addresses
-  all_added count maps planned objects done s t whole sorted within added =
-      added ∙ ap (λ (l : List (ObjectId × DirtyRecords)). addresses_of s ++ flat_map (λ (e : ObjectId × DirtyRecords). object_addresses (is_marked objects e.0.0) (planned_map maps planned e.0.0)) l) whole
-      ∙ ap (λ (l : List ℕ). addresses_of s ++ l) (all_numbers (λ n. object_addresses (is_marked objects n) (planned_map maps planned n)) count 0 count objects (omega arith)
+  all_added count g maps planned objects done s t whole sorted within nothing added =
+      added ∙ ap (λ (l : List (ObjectId × ObjectChanges)). addresses_of s ++ flat_map (λ (e : ObjectId × ObjectChanges). object_addresses g e.0.0 (planned_map maps planned e.0.0)) l) whole
+      ∙ ap (λ (l : List ℕ). addresses_of s ++ l) (all_numbers (λ n. object_addresses g n (planned_map maps planned n)) count 0 count objects (omega arith)
       (rising_of 0 count objects (all_from_none (keys_of objects)) sorted within)
-      (λ n low absent. none_dirty (is_marked objects n) (planned_map maps planned n) (λ r. ap (λ (o : Option DirtyRecords). option_map_or (λ (dirty : DirtyRecords). slice_index_or dirty.flags r false) o false) absent)))
+      (λ n low absent. nothing n absent))
 
 -- whether an object of a directory changes, by the numbers of the directory and by the keys
 either_of : (p q : ℕ → Bool) (xs : List ℕ) → list_any (λ n. p n || q n) xs ≡ (list_any p xs || list_any q xs)
@@ -294,11 +342,11 @@ changed_among {X} xs p is (e ∷ es) =
     either o true = refl
     either o false = refl
 
-pub has_changed-touched : (objects : List (ObjectId × DirtyRecords)) (d : ℕ) → has_changed (λ n. is_some (entry_of objects n)) d ≡ is_directory_touched objects d
-has_changed-touched objects d = changed_among (range_with_len (63 * d) 63) (λ k. (k / 63) == d) (λ k. is_number k d) objects
+pub entries-touched : (objects : List (ObjectId × ObjectChanges)) (d : ℕ) → list_any (λ n. is_some (entry_of objects n)) (object_numbers d) ≡ is_directory_touched objects d
+entries-touched objects d = changed_among (range_with_len (63 * d) 63) (λ k. (k / 63) == d) (λ k. is_number k d) objects
 
 -- an object changes exactly where a directory of it does
-pub any_directory : (count : ℕ) (objects : List (ObjectId × DirtyRecords)) → ((n : ℕ) → is_some (entry_of objects n) ≡ true → n / 63 < count) → list_any (is_directory_touched objects) (range_with_len 0 count) ≡ is_any_touched objects
+pub any_directory : (count : ℕ) (objects : List (ObjectId × ObjectChanges)) → ((n : ℕ) → is_some (entry_of objects n) ≡ true → n / 63 < count) → list_any (is_directory_touched objects) (range_with_len 0 count) ≡ is_any_touched objects
 any_directory count [] within = none_of (λ n. false) (λ n. refl) (range_with_len 0 count)
 any_directory count (e ∷ es) within =
     let number : (e.0.0 == e.0.0) ≡ true = eq-eqb e.0.0 e.0.0 refl in
@@ -329,9 +377,9 @@ module _ (root : Pointer) (directories : List Pointer) (map_of : ℕ → Option 
       last true = refl
       last false = refl
 
-  of_objects : (d : ℕ → ℕ → Bool) (count : ℕ) → map address_at (flat_map (object_places d) (range_with_len 0 count)) ≡ all_addresses d map_of count
+  of_objects : (g : GroupChanges) (count : ℕ) → map address_at (flat_map (places_of_object g) (range_with_len 0 count)) ≡ all_addresses g map_of count
   unfolding all_addresses object_addresses addresses_where
-  of_objects d count = map-flat_map address_at (object_places d) (λ n. object_addresses (d n) (map_of n)) (λ n. of_object n _ _) (range_with_len 0 count)
+  of_objects g count = map-flat_map address_at (places_of_object g) (λ n. object_addresses g n (map_of n)) (λ n. of_object n _ _) (range_with_len 0 count)
 
   of_directories : (touched : ℕ → Bool) (count : ℕ) → map address_at (map (λ d. Directory d) (filter touched (range_with_len 0 count))) ≡ addresses_where touched directory_at count
   unfolding addresses_where
@@ -341,35 +389,84 @@ module _ (root : Pointer) (directories : List Pointer) (map_of : ℕ → Option 
   of_root true = refl
   of_root false = refl
 
-  of_all : (d : ℕ → ℕ → Bool) (touched : ℕ → Bool) (count directory_count : ℕ) (b : Bool)
-      → map address_at (flat_map (object_places d) (range_with_len 0 count) ++ map (λ k. Directory k) (filter touched (range_with_len 0 directory_count)) ++ (if b then Root ∷ [] else []))
-      ≡ all_addresses d map_of count ++ addresses_where touched directory_at directory_count ++ address_if b root
-  of_all d touched count directory_count b =
-      let objects = flat_map (object_places d) (range_with_len 0 count) in
-      let middle = map (λ k. Directory k) (filter touched (range_with_len 0 directory_count)) in
+  of_all : (g : GroupChanges) (written : ℕ → Bool) (count directory_count : ℕ) (b : Bool)
+      → map address_at (flat_map (places_of_object g) (range_with_len 0 count) ++ map (λ k. Directory k) (filter written (range_with_len 0 directory_count)) ++ (if b then Root ∷ [] else []))
+      ≡ all_addresses g map_of count ++ addresses_where written directory_at directory_count ++ address_if b root
+  of_all g written count directory_count b =
+      let objects = flat_map (places_of_object g) (range_with_len 0 count) in
+      let middle = map (λ k. Directory k) (filter written (range_with_len 0 directory_count)) in
       let top : List Place = if b then Root ∷ [] else [] in
-      map-append address_at (objects ++ middle) top ∙ ap (λ l. l ++ map address_at top) (map-append address_at objects middle ∙ ap (λ l. l ++ map address_at middle) (of_objects d count)
-      ∙ ap (λ l. all_addresses d map_of count ++ l) (of_directories touched directory_count))
-      ∙ ap (λ l. all_addresses d map_of count ++ addresses_where touched directory_at directory_count ++ l) (of_root b)
+      map-append address_at (objects ++ middle) top ∙ ap (λ l. l ++ map address_at top) (map-append address_at objects middle ∙ ap (λ l. l ++ map address_at middle) (of_objects g count)
+      ∙ ap (λ l. all_addresses g map_of count ++ l) (of_directories written directory_count))
+      ∙ ap (λ l. all_addresses g map_of count ++ addresses_where written directory_at directory_count ++ l) (of_root b)
 
--- of a whole walk, the blocks are those of the places that change, in their order
-pub tree_in_order : (maps : List ObjectMap) (planned : List (ObjectId × ObjectMap)) (directories : List Pointer) (root : Pointer) (objects : List (ObjectId × DirtyRecords)) (first one two three : List NewBlock)
-    → first ≡ [] → AreInRange objects → Adds first one (all_addresses (is_marked objects) (planned_map maps planned) 5292)
-    → Adds one two (addresses_where (is_directory_touched objects) (λ d. slice_index_or directories d no_pointer) 84) → Adds two three (address_if (is_any_touched objects) root)
-    → AreInOrder (addresses_of three) (pointers_from root directories (planned_map maps planned)) objects
-unfolding AreInOrder
-tree_in_order maps planned directories root objects first one two three none within a b c =
-    let same : is_directory_touched objects ≡ has_changed (λ n. is_some (entry_of objects n)) = λ k d. sym (has_changed-touched objects d) k in
-    let any : is_any_touched objects ≡ list_any (is_directory_touched objects) (range_with_len 0 84) = sym (any_directory 84 objects (λ n there. let low = within n there in omega arith)) in
-    let whole : (ℕ → Bool) → Bool → List ℕ = λ h t. all_addresses (is_marked objects) (planned_map maps planned) 5292 ++ addresses_where h (λ d. slice_index_or directories d no_pointer) 84 ++ address_if t root in
-    adds_twice first two three _ _ (adds_twice first one two _ _ a b) c
-    ∙ ap (λ (l : List NewBlock). addresses_of l ++ whole (is_directory_touched objects) (is_any_touched objects)) none
-    ∙ ap (λ t. whole (is_directory_touched objects) t) any
-    ∙ ap (λ (h : ℕ → Bool). whole h (list_any h (range_with_len 0 84))) same
-    ∙ sym (of_all root directories (planned_map maps planned) (is_marked objects) (has_changed (λ n. is_some (entry_of objects n))) 5292 84 _)
+-- of a whole walk, the directories and the root that are written are those that the definitions write
+module _ (objects : List (ObjectId × ObjectChanges)) (pointers : Place → Pointer) (after : FinMap nat_cmp (List ℕ)) where
+  abbrev whole_group : GroupChanges
+  whole_group = group_of objects pointers after
+
+  dirty_above : (touched left : Bool) → is_dirty (state_above touched left) ≡ (touched && left)
+  dirty_above true true = refl
+  dirty_above true false = refl
+  dirty_above false left = refl
+
+  or_emptied : (any all touched left : Bool) → (left ≡ true → all ≡ true) → (((any && not all) || touched) && left) ≡ (touched && left)
+  or_emptied any all touched false follows = and-false ((any && not all) || touched) ∙ sym (and-false touched)
+  or_emptied any true touched true follows = ap (λ (b : Bool). (b || touched) && true) (and-false any)
+  or_emptied any false touched true follows = absurd (let no_way : false ≡ true = follows refl in cc)
+
+  -- a directory with an object is one of those with an object
+  pub left-left : (d : ℕ) → d < 84 → has_object after d ≡ true → has_objects after ≡ true
+  left-left d low is = passes_at (has_object after) 0 84 d (omega arith) (omega (arith, low)) is
+
+  pub directory-written : (d : ℕ) → d < 84 → is_directory_written whole_group d ≡ is_directory_dirty objects after d
+  directory-written d low =
+      ap (λ (b : Bool). b && has_object after d) (entries-touched objects d)
+      ∙ sym (dirty_above (is_directory_replaced objects after d) (has_object after d) ∙ or_emptied (is_any_touched objects) (has_objects after) (is_directory_touched objects d) (has_object after d) (left-left d low))
+
+  -- an object that is there is one of a directory's
+  left-any : list_any (λ n. finite.contains_key after n) (range_with_len 0 5292) ≡ has_objects after
+  left-any = one_truth (list_any (λ n. finite.contains_key after n) (range_with_len 0 5292)) (has_objects after)
+      (λ is.
+      let one = any_found (λ n. finite.contains_key after n) (range_with_len 0 5292) is in
+      let n = one.1 in
+      let low : n < 5292 = (let to = (in-range 0 5292 one.0 n one.2).1 in omega (arith, to)) in
+      left-left (n / 63) (omega (arith, low)) (passes_at (λ k. finite.contains_key after k) (63 * (n / 63)) 63 n (omega arith) (omega arith) one.3))
+      (λ is.
+      let one = any_found (has_object after) (range_with_len 0 84) is in
+      let d = one.1 in
+      let low : d < 84 = (let to = (in-range 0 84 one.0 d one.2).1 in omega (arith, to)) in
+      let two = any_found (λ n. finite.contains_key after n) (object_numbers d) one.3 in
+      let to = (in-range (63 * d) 63 two.0 two.1 two.2).1 in
+      passes_at (λ n. finite.contains_key after n) 0 5292 two.1 (omega arith) (omega (arith, low, to)) two.3)
+
+  pub root-written : AreInRange objects → is_root_written whole_group ≡ is_dirty (root_state objects after)
+  root-written within =
+      (λ k. any-same (told.is_directory_touched whole_group) (is_directory_touched objects) (range_with_len 0 84) (λ i d at. entries-touched objects d) k && left-any k)
+      ∙ ap (λ (b : Bool). b && has_objects after) (any_directory 84 objects (λ n there. let low = within n there in omega (arith, low)))
+      ∙ sym (dirty_above (is_any_touched objects) (has_objects after))
+
+  -- the same directories
+  pub written-directories : filter (is_directory_written whole_group) (range_with_len 0 84) ≡ filter (is_directory_dirty objects after) (range_with_len 0 84)
+  written-directories = filter_same (is_directory_written whole_group) (is_directory_dirty objects after) (range_with_len 0 84) (λ i d at. directory-written d (let to = (in-range 0 84 i d at).1 in omega (arith, to)))
+
+  -- the blocks of a whole walk are those of the places that are written, in their order
+  pub tree_in_order : (maps : List ObjectMap) (planned : List (ObjectId × ObjectMap)) (directories : List Pointer) (root : Pointer) (first one two three : List NewBlock)
+      → first ≡ [] → AreInRange objects → Adds first one (all_addresses whole_group (planned_map maps planned) 5292)
+      → Adds one two (addresses_where (is_directory_dirty objects after) (λ d. slice_index_or directories d no_pointer) 84) → Adds two three (address_if (is_dirty (root_state objects after)) root)
+      → AreInOrder (addresses_of three) (pointers_from root directories (planned_map maps planned)) whole_group
+  unfolding AreInOrder addresses_where
+  tree_in_order maps planned directories root first one two three none within a b c =
+      let of : List ℕ → List ℕ = λ l. map (λ d. (slice_index_or directories d no_pointer).address) l in
+      let all : List ℕ = all_addresses whole_group (planned_map maps planned) 5292 in
+      adds_twice first two three _ _ (adds_twice first one two _ _ a b) c
+      ∙ ap (λ (l : List NewBlock). addresses_of l ++ (all ++ of (filter (is_directory_dirty objects after) (range_with_len 0 84)) ++ address_if (is_dirty (root_state objects after)) root)) none
+      ∙ ap (λ (l : List ℕ). all ++ of l ++ address_if (is_dirty (root_state objects after)) root) (sym written-directories)
+      ∙ ap (λ (t : Bool). all ++ of (filter (is_directory_written whole_group) (range_with_len 0 84)) ++ address_if t root) (sym (root-written within))
+      ∙ sym (of_all root directories (planned_map maps planned) whole_group (is_directory_written whole_group) 5292 84 (is_root_written whole_group))
 
 -- told of the blocks as they are planned
-pub planned_in_order : (blocks : List PlannedBlock) (pointers : Place → Pointer) (objects : List (ObjectId × DirtyRecords)) → AreInOrder (addresses_of (map new_block blocks)) pointers objects
-    → map address_of blocks ≡ map (λ (place : Place). (pointers place).address) (written_by (is_marked objects) (λ n. is_some (entry_of objects n)))
+pub planned_in_order : (blocks : List PlannedBlock) (pointers : Place → Pointer) (group : GroupChanges) → AreInOrder (addresses_of (map new_block blocks)) pointers group
+    → map address_of blocks ≡ map (λ (place : Place). (pointers place).address) (written_by group)
 unfolding AreInOrder
-planned_in_order blocks pointers objects in_order = sym (map-map (λ (b : NewBlock). b.address) new_block blocks) ∙ in_order
+planned_in_order blocks pointers group in_order = sym (map-map (λ (b : NewBlock). b.address) new_block blocks) ∙ in_order

@@ -1,31 +1,129 @@
--- A record of an object takes a block where it is dirty, and stays otherwise.
-use Rattle.std.proofs.Common.{◌≡◌, ℕ, inl, Bool, true, false, List, refl}
+-- What becomes of a place, and what comes back of it, as its state says.
+use Rattle.std.proofs.Common.{◌≡◌, ℕ, ◌<◌, ◌&&◌, inl, inr, ◌⊎◌, Bool, true, false, not, List, length, map, refl, sym, ◌∙◌, ap}
+use Rattle.std.specs.Prelude.{IsTrue, slice_index_or, if◌then◌else◌}
+use Rattle.std.specs.List.{list_any}
 use Rattle.base.specs.declared.pointer.Pointer.{Pointer}
+use Rattle.base.specs.declared.names.ObjectId.{ObjectId}
+use Rattle.base.specs.formats.Fields.{no_pointer, pointer_in}
+use Rattle.base.specs.declared.record_state.RecordState.{RecordState}
+use Rattle.base.specs.declared.record_state.RecordState.TheVariants.{Unchanged, Dirty, Hole}
+use Rattle.base.specs.tree.PlacedTrees.{padded_record}
+use Rattle.base.specs.tree.PlannedTrees.{NewBlock}
+use Rattle.base.specs.tree.Syncs.{is_dirty}
 use Rattle.base.specs.tree.Tree.{record_bytes}
+use Rattle.checked_blocks.specs.Sealing.{padded}
 use Rattle.space.specs.declared.free_set.FreeSet.{FreeSet}
-use Rattle.tree_plans.specs.declared.place.BlockPlace.TheVariants.{Data}
+use Rattle.tree_plans.specs.declared.place.BlockPlace.{BlockPlace}
+use Rattle.tree_plans.specs.declared.place.BlockPlace.TheVariants.{Data, Directory, Indirect, Root}
 use Rattle.tree_plans.specs.declared.place.RecordPlace.{RecordPlace}
+use Rattle.tree_plans.specs.declared.planner.PlannedBlock.{PlannedBlock}
 use Rattle.tree_plans.specs.declared.planner.Planner.{Planner}
-use Rattle.tree_plans.specs.Parts.{PlansRecord, TakesBlock}
-use Rattle.tree_plans.proofs.Order.{adds_if, adds_not}
+use Rattle.tree_plans.specs.Order.{Adds, address_if}
+use Rattle.tree_plans.specs.Parts.{ClearsPlace, ExtendsPlan, PlansDirectory, PlansIndirect, PlansRecord, PlansRoot, TakesBlock, blocks_of, directory_before, maps_before, objects_after}
+use Rattle.tree_plans.specs.Plans.{FreesOnly, HasBecome, PlaceFrees, indirect_state, new_block, place_of, progress_of, state_above}
+use Rattle.tree_plans.specs.Walks.{AreEntriesWritten, has_object, has_objects, is_any_touched, root_state}
+use Rattle.tree_plans.specs.declared.changes.ObjectChanges.{ObjectChanges}
+use Rattle.tree_plans.specs.declared.walk.PlanSource.{PlanSource}
+use Rattle.object_maps.specs.declared.tree.ObjectMap.{ObjectMap}
+use Rattle.std.specs.BTreeMap.{BTreeMap}
+use Rattle.std.specs.Ordering.{nat_cmp}
+use Rattle.std.specs.FinMap.{FinMap}
+use Rattle.tree_plans.specs.Uses.{UsesOnly}
+use Rattle.tree_plans.specs.Changes.{names_block}
+use Rattle.tree_plans.proofs.Payloads.{padded-full}
+use Rattle.tree_plans.proofs.Order.{adds_if, adds_none, adds_not}
 use Rattle.tree_plans.proofs.Progress.{goes_nowhere}
-use Rattle.tree_plans.proofs.Walks.{frees_weaker}
+use Rattle.tree_plans.proofs.Walks.{frees_weaker, not-is_empty}
 
-pub record_kept : (free : FreeSet) (place : RecordPlace) (bytes : List ℕ) (was : Pointer) (dirty : Bool) → dirty ≡ false → (planner : Planner) → PlansRecord free place bytes was dirty planner planner was
-record_kept free place bytes was dirty clean planner = record {
+-- what a plan has done at a place in a state
+pub record IsDone (free : FreeSet) (place : BlockPlace) (state : RecordState) (was : Pointer) (Fits : List ℕ → Type 0) (old new : Planner) (pointer : Pointer) : Type 0 where
+  pub goes : ExtendsPlan free old new
+  pub planned : HasBecome (progress_of new) (place_of place) state was pointer Fits
+  pub frees : PlaceFrees old.freed.items new.freed.items state was
+  pub uses : UsesOnly (blocks_of old) (blocks_of new) pointer.address
+  pub adds : Adds (blocks_of old) (blocks_of new) (address_if (is_dirty state) pointer)
+
+-- it stays as it was
+pub kept : (free : FreeSet) (place : BlockPlace) (state : RecordState) (was : Pointer) (Fits : List ℕ → Type 0) → state ≡ Unchanged → (planner : Planner) → IsDone free place state was Fits planner planner was
+kept free place state was Fits is planner = record {
   goes = goes_nowhere _ _;
-  planned = rw clean refl;
+  planned = rw is refl;
   frees = λ address among. inl among;
   uses = λ address taken. inl taken;
-  adds = adds_not _ _ was clean;
+  adds = adds_not _ _ was (rw is refl);
 }
 
-pub record_taken : (free : FreeSet) (place : RecordPlace) (bytes payload : List ℕ) (was : Pointer) (dirty : Bool) → dirty ≡ true → payload ≡ record_bytes place.index bytes
-    → (old new : Planner) (pointer : Pointer) → TakesBlock free (Data place.id place.index) payload was old new pointer → PlansRecord free place bytes was dirty old new pointer
-record_taken free place bytes payload was dirty is cut old new pointer taken = record {
-  goes = taken.goes;
-  planned = rw (is, ← cut) taken.written;
-  frees = frees_weaker _ _ _ _ is taken.frees;
-  uses = taken.uses;
-  adds = adds_if _ _ _ pointer is taken.adds;
+-- it has no block any more
+pub cleared : (free : FreeSet) (place : BlockPlace) (state : RecordState) (was : Pointer) (Fits : List ℕ → Type 0) → state ≡ Hole → (old new : Planner) (pointer : Pointer) → ClearsPlace was old new pointer
+    → IsDone free place state was Fits old new pointer
+cleared free place state was Fits is old new pointer done =
+    let same : blocks_of new ≡ blocks_of old = ap (λ (l : List PlannedBlock). map new_block l) (ap (λ b. b.items) done.none_taken) in
+    record {
+      goes = done.goes free;
+      planned = rw is done.cleared;
+      frees = frees_weaker _ _ _ state (rw is refl) done.frees;
+      uses = λ address taken. inl (rw same at taken);
+      adds = rw (is, same) (adds_none (blocks_of old));
+    }
+
+-- it has a new block
+pub taken : (free : FreeSet) (place : BlockPlace) (state : RecordState) (was : Pointer) (Fits : List ℕ → Type 0) (payload : List ℕ) → state ≡ Dirty → Fits (padded payload)
+    → (old new : Planner) (pointer : Pointer) → TakesBlock free place payload was old new pointer → IsDone free place state was Fits old new pointer
+taken free place state was Fits payload is fits old new pointer done = record {
+  goes = done.goes;
+  planned = rw is (padded payload, done.written, fits);
+  frees = frees_weaker _ _ _ state (rw is refl) done.frees;
+  uses = done.uses;
+  adds = adds_if _ _ _ pointer (rw is refl) done.adds;
 }
+
+-- a record of an object
+pub record_done : (free : FreeSet) (place : RecordPlace) (bytes : List ℕ) (was : Pointer) (state : RecordState) (old new : Planner) (pointer : Pointer)
+    → IsDone free (Data place.id place.index) state was (λ payload. payload ≡ padded_record place.index bytes) old new pointer → PlansRecord free place bytes was state old new pointer
+record_done free place bytes was state old new pointer done = record { goes = done.goes; planned = done.planned; frees = done.frees; uses = done.uses; adds = done.adds }
+
+-- an indirect block
+abbrev pub FitsRecords : List Pointer → List ℕ → Type 0
+FitsRecords records payload = (r : ℕ) → r < 84 → pointer_in payload r ≡ slice_index_or records r no_pointer
+
+indirect_done : (free : FreeSet) (id : ObjectId) (records : List Pointer) (was : Pointer) (is_changed : Bool) (old new : Planner) (pointer : Pointer)
+    → IsDone free (Indirect id) (indirect_state is_changed records) was (FitsRecords records) old new pointer → FreesOnly old.freed.items new.freed.items was
+    → PlansIndirect free id records was is_changed old new pointer
+indirect_done free id records was is_changed old new pointer done only = record { goes = done.goes; planned = done.planned; frees = only; uses = done.uses; adds = done.adds }
+
+state_if : (b : Bool) (s t u : RecordState) → ((b ≡ true) × (s ≡ u)) ⊎ ((b ≡ false) × (t ≡ u)) → (if b then s else t) ≡ u
+state_if b s t u (inl h) = rw (h.0, h.1) refl
+state_if b s t u (inr h) = rw (h.0, h.1) refl
+
+pub indirect_cleared : (free : FreeSet) (id : ObjectId) (records : List Pointer) (was : Pointer) (is_changed : Bool) (old new : Planner) (pointer : Pointer) → (is_changed && list_any names_block records) ≡ false
+    → ClearsPlace was old new pointer → PlansIndirect free id records was is_changed old new pointer
+indirect_cleared free id records was is_changed old new pointer no_block done =
+    indirect_done free id records was is_changed old new pointer (cleared _ (Indirect id) _ was (FitsRecords records) (state_if _ Dirty Hole Hole (inr (no_block, refl))) old new pointer done) done.frees
+
+pub indirect_taken : (free : FreeSet) (id : ObjectId) (records : List Pointer) (was : Pointer) (is_changed : Bool) (payload : List ℕ) (old new : Planner) (pointer : Pointer) → (is_changed && list_any names_block records) ≡ true
+    → length payload ≡ 4032 → FitsRecords records payload → TakesBlock free (Indirect id) payload was old new pointer → PlansIndirect free id records was is_changed old new pointer
+indirect_taken free id records was is_changed payload old new pointer some long fits done =
+    indirect_done free id records was is_changed old new pointer
+    (taken _ (Indirect id) _ was (FitsRecords records) payload (state_if _ Dirty Hole Dirty (inl (some, refl))) (rw (padded-full payload long) fits) old new pointer done) done.frees
+
+-- the state of a place above the records, as it is computed
+pub state_told : (touched left found : Bool) (result state : RecordState) → result ≡ state_above touched found → found ≡ left → result ≡ state → state_above touched left ≡ state
+state_told touched left found result state computed same is = ap (state_above touched) (sym same) ∙ sym computed ∙ is
+
+-- a directory
+pub directory_done : (source : PlanSource) (maps : BTreeMap ObjectId ObjectMap) (index : ℕ) (touched : Bool) (was : Pointer) (old new : Planner) (pointer : Pointer) → was ≡ directory_before source index
+    → IsDone source.free.now (Directory index) (state_above touched (has_object (objects_after source) index)) was (AreEntriesWritten (maps_before source) maps.entries (objects_after source) index 63) old new pointer
+    → PlansDirectory source maps index touched old new pointer
+directory_done source maps index touched was old new pointer is done =
+    record { goes = done.goes; planned = rw (← is) done.planned; frees = rw (← is) done.frees; uses = done.uses; adds = done.adds }
+
+-- the root
+pub root_told : (objects : List (ObjectId × ObjectChanges)) (after : FinMap nat_cmp (List ℕ)) (empty found : Bool) (result state : RecordState) → result ≡ state_above (not empty) found
+    → (IsTrue empty → length objects ≡ 0) × (length objects ≡ 0 → IsTrue empty) → found ≡ has_objects after → result ≡ state → root_state objects after ≡ state
+root_told objects after empty found result state computed none same is =
+    state_told (is_any_touched objects) (has_objects after) found result state (computed ∙ ap (λ (b : Bool). state_above b found) (not-is_empty (length objects) empty none)) same is
+
+pub root_done : (source : PlanSource) (objects : BTreeMap ObjectId ObjectChanges) (directories : List Pointer) (old new : Planner) (pointer : Pointer)
+    → IsDone source.free.now Root (root_state objects.entries (objects_after source)) source.tree.now.root (FitsRecords directories) old new pointer
+    → PlansRoot source objects directories old new pointer
+root_done source objects directories old new pointer done = record { goes = done.goes; planned = done.planned; frees = done.frees; uses = done.uses; adds = done.adds }

@@ -1,18 +1,20 @@
 -- What a whole walk makes of a tree, place by place.
-use Rattle.std.proofs.Common.{◌≡◌, ◌≢◌, ◌==◌, ℕ, suc, ◌+◌, ◌*◌, ◌/◌, ◌<◌, ◌≤◌, inl, inr, Bool, true, false, not, ◌||◌, List, [], ◌∷◌, ◌++◌, length, map, take, Option, Some, None, refl, sym, ◌∙◌, ap, subst, arith}
-use Rattle.std.specs.Prelude.{slice_get, slice_index_or, is_some, unwrap_or, All, IfSome}
+use Rattle.std.proofs.Common.{◌≡◌, ◌≢◌, ◌==◌, ℕ, zero, suc, ◌+◌, ◌*◌, ◌/◌, ◌<◌, ◌≤◌, inl, inr, Bool, true, false, not, ◌&&◌, ◌||◌, ◌⊎◌, List, [], ◌∷◌, ◌++◌, length, map, take, Option, Some, None, refl, sym, ◌∙◌, ap, subst, arith}
+use Rattle.std.specs.Prelude.{slice_get, slice_index_or, is_some, unwrap_or, All, IfSome, if◌then◌else◌}
+use Rattle.std.specs.List.{list_any}
 use Rattle.std.specs.Option.{option_map_or}
 use Rattle.std.specs.Ordering.{nat_cmp}
 use Rattle.std.specs.FinMap as finite
 use Rattle.std.specs.FinMap.{FinMap}
-use Rattle.std.proofs.lemmas.Bool.{eq-eqb, eqb-true}
+use Rattle.std.proofs.lemmas.Bool.{cases_Bool, eq-eqb, eqb-true, false_from_ne_true, false≢true, or_parts, true≢false}
+use Rattle.std.proofs.Math.Bool.{and-false}
 use Rattle.std.proofs.lemmas.List.{take_at}
 use Rattle.std.proofs.lemmas.Option.{slice_get-get_or}
 use Rattle.std.proofs.lemmas.Map.Entries.{place_from_lookup}
 use Rattle.base.specs.declared.pointer.Pointer.{Pointer}
 use Rattle.base.specs.declared.names.ObjectId.{ObjectId}
 use Rattle.base.specs.formats.Limits.{object_count, max_length}
-use Rattle.base.specs.formats.Fields.{no_pointer, entry_in}
+use Rattle.base.specs.formats.Fields.{no_pointer, entry_in, pointer_in}
 use Rattle.base.specs.formats.Geometry.{IsBlockAddress, block_address}
 use Rattle.base.specs.formats.Blocks.{Frame}
 use Rattle.base.specs.tree.Places.{Place, IsPlace}
@@ -22,12 +24,16 @@ use Rattle.base.specs.tree.PlannedTrees.{IsNewAt, IsPlannedAt, IsTreePlan, NewBl
 use Rattle.space.specs.FreeSets.{addresses_from, free_from}
 use Rattle.object_maps.specs.declared.tree.ObjectMap.{ObjectMap}
 use Rattle.object_maps.specs.declared.tree.Tree.{Tree}
-use Rattle.tree_plans.specs.declared.planner.DirtyRecords.{DirtyRecords}
+use Rattle.tree_plans.specs.declared.changes.ObjectChanges.{ObjectChanges}
 use Rattle.tree_plans.specs.declared.planner.PlannedBlock.{PlannedBlock}
 use Rattle.tree_plans.specs.Pointers.{entry_of, record_in, planned_map, pointers_from, pointers_before}
-use Rattle.tree_plans.specs.Plans.{Progress, IsRecordPlanned, Goes, HasTaken, IsAmong, IsOf, address_of, new_block}
-use Rattle.tree_plans.specs.Walks.{IsEntryWritten, IsPlannedFrom, IsOfObject, IsDirectoryPlanned, IsRootPlanned, IsWalked, is_any_touched, is_directory_touched}
-use Rattle.tree_plans.specs.Changes.{AreBornBefore, AreChanges, HasNoOthers, IsCoveredBy, is_marked}
+use Rattle.tree_plans.specs.Plans.{Progress, HasBecome, IsRecordPlanned, Goes, HasTaken, IsAmong, IsOf, address_of, indirect_state, new_block, replaces, state_above}
+use Rattle.tree_plans.specs.Walks.{IsEntryWritten, IsPlannedFrom, IsOfObject, IsDirectoryPlanned, IsRootPlanned, IsWalked, directory_state, has_object, has_objects, is_any_touched, is_directory_replaced, is_directory_touched, is_emptied, root_state}
+use Rattle.tree_plans.specs.Changes.{AreBornBefore, AreChanges, AreTreePointers, IsCoveredBy, names_block, state_at, state_in}
+use Rattle.base.specs.declared.record_state.RecordState.{RecordState}
+use Rattle.base.specs.declared.record_state.RecordState.TheVariants.{Unchanged, Dirty, Hole}
+use Rattle.base.proofs.common.KeptLists.{any_none, none_any}
+use Rattle.tree_plans.proofs.Order.{entry-state, left-left, passes_at}
 
 -- the addresses that a plan has taken
 pub taken_lowest : (flags : List Bool) (start : Progress) (blocks : List PlannedBlock) (next : ℕ) (freed : List ℕ) (frame : Frame) → start.next ≡ 0 → start.blocks ≡ []
@@ -62,7 +68,7 @@ abbrev data_in : ℕ → Option ObjectMap → Pointer
 data_in r o = option_map_or (λ (m : ObjectMap). record_in m r) o no_pointer
 
 -- no object of a directory that is not touched changes
-untouched : (objects : List (ObjectId × DirtyRecords)) (d n : ℕ) → n / 63 ≡ d → is_directory_touched objects d ≡ false → entry_of objects n ≡ None
+untouched : (objects : List (ObjectId × ObjectChanges)) (d n : ℕ) → n / 63 ≡ d → is_directory_touched objects d ≡ false → entry_of objects n ≡ None
 untouched [] d n e none = refl
 untouched (o ∷ objects) d n e none =
     elim (n == o.0.0) as (λ t. (n == o.0.0) ≡ t → entry_of (o ∷ objects) n ≡ None) [
@@ -77,6 +83,21 @@ untouched (o ∷ objects) d n e none =
     rest : (a b : Bool) → (a || b) ≡ false → b ≡ false
     rest true b no_one = absurd (cc)
     rest false b no_one = no_one
+
+-- a pointer that names no block
+named_zero : (p : Pointer) → names_block p ≡ false → p.address ≡ 0
+named_zero p e = elim (cases_Bool (p.address == 0)) as (λ _. p.address ≡ 0) [ inl is ↦ eqb-true p.address 0 is | inr other ↦ absurd (true≢false (ap not (sym other) ∙ e)) ]
+
+-- an element of a list
+get_below : {A : Type 0} (xs : List A) (i : ℕ) (x : A) → slice_get xs i ≡ Some x → i < length xs
+get_below [] i x e = absurd (cc)
+get_below (y ∷ xs) zero x e = omega arith
+get_below (y ∷ xs) (suc i) x e = let low = get_below xs i x e in omega (arith, low)
+
+get_or-slice_get : {A : Type 0} (xs : List A) (i : ℕ) (x d : A) → slice_get xs i ≡ Some x → x ≡ slice_index_or xs i d
+get_or-slice_get [] i x d e = absurd (cc)
+get_or-slice_get (y ∷ xs) zero x d e = cc
+get_or-slice_get (y ∷ xs) (suc i) x d e = get_or-slice_get xs i x d e
 
 -- an entry as it is written is the object's
 entry_for : (entry : List ℕ) (indirect : Pointer) (o : Option (List ℕ)) → IsEntryWritten entry indirect o → (o ≡ None → indirect ≡ no_pointer) → IfSome o (λ bytes. length bytes ≤ max_length) → IsEntryFor entry indirect o
@@ -94,26 +115,26 @@ if_some : {A : Type 0} (P Q : A → Type 0) (o : Option A) → ((a : A) → o �
 if_some P Q None f p = p
 if_some P Q (Some a) f p = f a refl p
 
-module _ (s : Progress) (t : Tree) (after : FinMap nat_cmp (List ℕ)) (objects : List (ObjectId × DirtyRecords)) (planned : List (ObjectId × ObjectMap)) (directories : List Pointer) (root : Pointer)
+module _ (s : Progress) (t : Tree) (after : FinMap nat_cmp (List ℕ)) (objects : List (ObjectId × ObjectChanges)) (planned : List (ObjectId × ObjectMap)) (directories : List Pointer) (root : Pointer)
     (w : IsWalked s t after objects planned directories root) where
   abbrev new : Place → Pointer
   new = pointers_from root directories (planned_map t.maps.items planned)
 
-  -- a record that is marked belongs to an object that is planned
-  not_marked : (n r : ℕ) → n < object_count → entry_of planned n ≡ None → is_marked objects n r ≡ false
-  not_marked n r low none = go (entry_of objects n) refl
+  -- an object that operations are on is planned
+  not_touched : (n : ℕ) → n < object_count → entry_of planned n ≡ None → entry_of objects n ≡ None
+  not_touched n low none = go (entry_of objects n) refl
     where
-      go : (o : Option DirtyRecords) → entry_of objects n ≡ o → option_map_or (λ (dirty : DirtyRecords). slice_index_or dirty.flags r false) o false ≡ false
+      go : (o : Option ObjectChanges) → entry_of objects n ≡ o → o ≡ None
       go None e = refl
-      go (Some dirty) e = elim (slice_index_or dirty.flags r false) as (λ f. slice_index_or dirty.flags r false ≡ f → f ≡ false) [
-        | true ↦ λ flag.
-            let p = place_from_lookup (λ (id : ObjectId). n == id.0) objects dirty e in
-            let same : n ≡ p.1.0 = eqb-true n p.1.0 p.3 in
-            let there = w.objects_planned.all p.0 p.1 dirty p.2 (rw (← same) low) r flag in
-            let none_there : is_some (entry_of planned n) ≡ true = rw (← same) at there in
-            absurd (none_some (entry_of planned n) none none_there)
-        | false ↦ λ flag. refl
-      ] refl
+      go (Some changes) e =
+          let p = place_from_lookup (λ (id : ObjectId). n == id.0) objects changes e in
+          let same : n ≡ p.1.0 = eqb-true n p.1.0 p.3 in
+          let there = w.objects_planned.all p.0 p.1 changes p.2 (rw (← same) low) in
+          let none_there : is_some (entry_of planned n) ≡ true = rw (← same) at there in
+          absurd (none_some (entry_of planned n) none none_there)
+
+  unchanged_there : (n r : ℕ) → n < object_count → entry_of planned n ≡ None → state_in objects n r ≡ Unchanged
+  unchanged_there n r low none = ap (λ (o : Option ObjectChanges). option_map_or (λ (c : ObjectChanges). state_at c r) o Unchanged) (not_touched n low none)
 
   data_kept : (n r : ℕ) → entry_of planned n ≡ None → new (Data n r) ≡ pointers_before t (Data n r)
   data_kept n r e = ap (data_in r) (planned_not t.maps.items planned n e)
@@ -133,164 +154,241 @@ module _ (s : Progress) (t : Tree) (after : FinMap nat_cmp (List ℕ)) (objects 
   indirect_was : (n : ℕ) (old : ObjectMap) → slice_get t.maps.items n ≡ Some old → pointers_before t (Indirect n) ≡ old.indirect
   indirect_was n old e = ap indirect_in e
 
-  -- a record of an object that is planned
-  record_planned : (before : FinMap nat_cmp (List ℕ)) → IsCoveredBy objects before after → AreChanges objects after → (n r : ℕ) (m : ObjectMap) (f : IsPlannedFrom s t.maps.items after objects n m)
-      → r < 84 → entry_of planned n ≡ Some m → (b : Bool) → slice_index_or f.dirty.flags r false ≡ b → IsRecordPlanned s n r (unwrap_or (finite.get after n) []) b (record_in f.old r) (record_in m r)
-      → IsPlannedAt s.blocks s.frame (pointers_before t) new before after (Data n r)
-  record_planned before covered changes n r m f low e true flag written =
-      let marked : is_marked objects n r ≡ true = ap (λ (o : Option DirtyRecords). option_map_or (λ (dirty : DirtyRecords). slice_index_or dirty.flags r false) o false) f.dirty_is ∙ flag in
-      inr (if_some (λ (bytes : List ℕ). 4032 * r < length bytes) (λ (bytes : List ℕ). (4032 * r < length bytes) × IsNewAt s.blocks s.frame (Data n r) (new (Data n r)) (padded_record r bytes)) (finite.get after n)
-      (λ bytes is begins. (
-        begins,
-        subst (λ (p : Pointer). IsNewAt s.blocks s.frame (Data n r) p (padded_record r bytes)) (sym (data_now n r m e))
-            (subst (λ (b : List ℕ). IsNewAt s.blocks s.frame (Data n r) (record_in m r) (padded_record r b)) (ap (λ (o : Option (List ℕ)). unwrap_or o []) is) written.block),
-      ))
-      (changes.within n r f.low low marked))
-  record_planned before covered changes n r m f low e false flag same =
-      let unmarked : is_marked objects n r ≡ false = ap (λ (o : Option DirtyRecords). option_map_or (λ (dirty : DirtyRecords). slice_index_or dirty.flags r false) o false) f.dirty_is ∙ flag in
-      inl (data_now n r m e ∙ same ∙ sym (data_was n r f.old f.old_is), covered.records n r f.low low unmarked)
+  module _ (before : FinMap nat_cmp (List ℕ)) (covered : IsCoveredBy objects (pointers_before t) before after) (changes : AreChanges objects after) (whole : AreTreePointers objects (pointers_before t) after) where
+    abbrev Planned : Place → Type 0
+    Planned = IsPlannedAt s.blocks s.frame (pointers_before t) new before after
 
-  data_planned : (before : FinMap nat_cmp (List ℕ)) → IsCoveredBy objects before after → AreChanges objects after → (n r : ℕ) → n < object_count → r < 84
-      → (o : Option ObjectMap) → entry_of planned n ≡ o → IsPlannedAt s.blocks s.frame (pointers_before t) new before after (Data n r)
-  data_planned before covered changes n r low below None e = inl (data_kept n r e, covered.records n r low below (not_marked n r low e))
-  data_planned before covered changes n r low below (Some m) e =
-      let f = w.objects_planned.each n m e in
-      record_planned before covered changes n r m f below e (slice_index_or f.dirty.flags r false) refl (f.planned.records r below)
+    -- a record of an object that is planned
+    record_planned : (n r : ℕ) (m : ObjectMap) (f : IsPlannedFrom s t.maps.items after objects n m) → r < 84 → entry_of planned n ≡ Some m
+        → (state : RecordState) → state_in objects n r ≡ state → IsRecordPlanned s n r (unwrap_or (finite.get after n) []) state (record_in f.old r) (record_in m r) → Planned (Data n r)
+    record_planned n r m f low e Unchanged is same = inl (data_now n r m e ∙ same ∙ sym (data_was n r f.old f.old_is), covered.records n r f.low low is)
+    record_planned n r m f low e Dirty is (payload, written, fits) =
+        inr (inl (if_some (λ (bytes : List ℕ). 4032 * r < length bytes) (λ (bytes : List ℕ). (4032 * r < length bytes) × IsNewAt s.blocks s.frame (Data n r) (new (Data n r)) (padded_record r bytes)) (finite.get after n)
+        (λ bytes there begins. (
+          begins,
+          subst (λ (p : Pointer). IsNewAt s.blocks s.frame (Data n r) p (padded_record r bytes)) (sym (data_now n r m e))
+              (subst (λ (b : List ℕ). IsNewAt s.blocks s.frame (Data n r) (record_in m r) b) (fits ∙ ap (λ (o : Option (List ℕ)). padded_record r (unwrap_or o [])) there) written.block),
+        ))
+        (changes.within n r f.low low is)))
+    record_planned n r m f low e Hole is gone = inr (inr (data_now n r m e ∙ gone.none, covered.holes n r f.low low is))
 
-  indirect_planned : (before : FinMap nat_cmp (List ℕ)) (n : ℕ) (o : Option ObjectMap) → entry_of planned n ≡ o → IsPlannedAt s.blocks s.frame (pointers_before t) new before after (Indirect n)
-  indirect_planned before n None e = inl (indirect_kept n e, λ r low. data_kept n r e)
-  indirect_planned before n (Some m) e =
-      let f = w.objects_planned.each n m e in
-      inr (
-        f.planned.payload,
-        subst (λ (p : Pointer). IsNewAt s.blocks s.frame (Indirect n) p f.planned.payload) (sym (indirect_now n m e)) f.planned.indirect.block,
-        λ r low. f.planned.pointers r low ∙ sym (data_now n r m e),
-      )
+    data_planned : (n r : ℕ) → n < object_count → r < 84 → (o : Option ObjectMap) → entry_of planned n ≡ o → Planned (Data n r)
+    data_planned n r low below None e = inl (data_kept n r e, covered.records n r low below (unchanged_there n r low e))
+    data_planned n r low below (Some m) e =
+        let f = w.objects_planned.each n m e in
+        let state : state_in objects n r ≡ state_at f.changes r = entry-state objects (pointers_before t) after n f.changes f.changes_are r in
+        record_planned n r m f below e (state_at f.changes r) state (f.planned.records r below)
 
-  -- an object that is not there has no indirect block after the plan either
-  no_others : AreChanges objects after → HasNoOthers (pointers_before t) after → (n : ℕ) → n < object_count → finite.get after n ≡ None → (o : Option ObjectMap) → entry_of planned n ≡ o → new (Indirect n) ≡ no_pointer
-  no_others changes absent n low none None e = indirect_kept n e ∙ absent n low none
-  no_others changes absent n low none (Some m) e =
-      let f = w.objects_planned.each n m e in
-      absurd (none_some (finite.get after n) none (changes.there n low (ap is_some f.dirty_is)))
+    -- no record of an object has a block, where its indirect block is not written
+    none_below : (n : ℕ) (m : ObjectMap) (f : IsPlannedFrom s t.maps.items after objects n m) → entry_of planned n ≡ Some m → (f.changes.is_changed && list_any names_block m.records.items) ≡ false
+        → (r : ℕ) → r < 84 → record_in m r ≡ no_pointer
+    none_below n m f e none r low = elim (cases_Bool f.changes.is_changed) as (λ _. record_in m r ≡ no_pointer) [
+      | inr untouched_is ↦
+          let hole : state_in objects n r ≡ Hole = changes.holes n r f.low low (ap is_some f.changes_are) (inl (ap (λ (o : Option ObjectChanges). option_map_or (λ (c : ObjectChanges). c.is_changed) o false) f.changes_are ∙ untouched_is)) in
+          let state : state_at f.changes r ≡ Hole = sym (entry-state objects (pointers_before t) after n f.changes f.changes_are r) ∙ hole in
+          hole_cleared n r m f low state
+      | inl changed_is ↦ by_state changed_is (state_at f.changes r) refl (f.planned.records r low)
+    ]
+      where
+        hole_cleared : (n r : ℕ) (m : ObjectMap) (f : IsPlannedFrom s t.maps.items after objects n m) → r < 84 → state_at f.changes r ≡ Hole → record_in m r ≡ no_pointer
+        hole_cleared n r m f low state =
+            let done : IsRecordPlanned s n r (unwrap_or (finite.get after n) []) Hole (record_in f.old r) (record_in m r) = rw state at (f.planned.records r low) in
+            done.none
 
-  not_planned : (n : ℕ) → entry_of objects n ≡ None → (o : Option ObjectMap) → entry_of planned n ≡ o → entry_of planned n ≡ None
-  not_planned n none None e = e
-  not_planned n none (Some m) e = let f = w.objects_planned.each n m e in absurd (none_some (entry_of objects n) none (ap is_some f.dirty_is))
+        no_names : f.changes.is_changed ≡ true → names_block (record_in m r) ≡ false
+        no_names changed_is =
+            let all : list_any names_block m.records.items ≡ false = sym (ap (λ (b : Bool). b && list_any names_block m.records.items) changed_is) ∙ none in
+            none_any names_block m.records.items r (record_in m r) all (slice_get-get_or m.records.items r no_pointer (let long = f.planned.count in omega (arith, low, long)))
 
-  directory_planned : (before : FinMap nat_cmp (List ℕ)) → IsCoveredBy objects before after → AreChanges objects after → HasNoOthers (pointers_before t) after → (d : ℕ) → d < 84
-      → (b : Bool) → is_directory_touched objects d ≡ b → IsDirectoryPlanned s t.maps.items planned after d b (slice_index_or t.directories.items d no_pointer) (slice_index_or directories d no_pointer)
-      → IsPlannedAt s.blocks s.frame (pointers_before t) new before after (Directory d)
-  directory_planned before covered changes absent d low true e p =
-      inr (
-        p.0,
-        p.1.block,
-        λ k below.
-            let there : 63 * d + k < object_count = omega (arith, low, below) in
-            entry_for (entry_in p.0 k) (new (Indirect (63 * d + k))) (finite.get after (63 * d + k)) (p.2 k below)
-            (λ none. no_others changes absent (63 * d + k) there none (entry_of planned (63 * d + k)) refl) (changes.sizes (63 * d + k)),
-      )
-  directory_planned before covered changes absent d low false e same =
-      inl (
-        same,
-        λ k below.
-            let n : ℕ = 63 * d + k in
-            let there : 63 * d + k < object_count = omega (arith, low, below) in
-            let of : (63 * d + k) / 63 ≡ d = omega (arith, below) in
-            let none : entry_of objects (63 * d + k) ≡ None = untouched objects d (63 * d + k) of e in
-            (indirect_kept (63 * d + k) (not_planned (63 * d + k) none (entry_of planned (63 * d + k)) refl), covered.entries (63 * d + k) there (ap is_some none)),
-      )
+        by_state : f.changes.is_changed ≡ true → (state : RecordState) → state_at f.changes r ≡ state → IsRecordPlanned s n r (unwrap_or (finite.get after n) []) state (record_in f.old r) (record_in m r) → record_in m r ≡ no_pointer
+        by_state changed_is Unchanged is same =
+            let was : pointers_before t (Data n r) ≡ record_in f.old r = data_was n r f.old f.old_is in
+            let zero_is : (record_in m r).address ≡ 0 = named_zero (record_in m r) (no_names changed_is) in
+            same ∙ sym was ∙ whole.named n r f.low low (ap (λ (p : Pointer). p.address) (was ∙ sym same) ∙ zero_is)
+        by_state changed_is Dirty is h =
+            let zero_is : (record_in m r).address ≡ 0 = named_zero (record_in m r) (no_names changed_is) in
+            let area = h.1.in_area.2 in absurd (omega (arith, zero_is, area))
+        by_state changed_is Hole is gone = gone.none
 
-  root_planned : (before : FinMap nat_cmp (List ℕ)) → (b : Bool) → is_any_touched objects ≡ b → IsRootPlanned s directories b t.root root → IsPlannedAt s.blocks s.frame (pointers_before t) new before after Root
-  root_planned before true e p = inr (p.0, p.1.block, p.2)
-  root_planned before false e same = inl (same, λ d low. kept d low (is_directory_touched objects d) refl (w.directories_planned d low))
-    where
-      none : (os : List (ObjectId × DirtyRecords)) → is_any_touched os ≡ false → (d : ℕ) → is_directory_touched os d ≡ false
-      none [] e d = refl
-      none (o ∷ os) e d = absurd (some_touched (suc (length os)) e (omega arith))
+    indirect_planned : (n : ℕ) (o : Option ObjectMap) → entry_of planned n ≡ o → Planned (Indirect n)
+    indirect_planned n None e = inl (indirect_kept n e, λ r low. data_kept n r e)
+    indirect_planned n (Some m) e =
+        let f = w.objects_planned.each n m e in
+        by_choice n m f e (f.changes.is_changed && list_any names_block m.records.items) refl f.planned.indirect
+      where
+        by_choice : (n : ℕ) (m : ObjectMap) (f : IsPlannedFrom s t.maps.items after objects n m) → entry_of planned n ≡ Some m → (b : Bool) → (f.changes.is_changed && list_any names_block m.records.items) ≡ b
+            → HasBecome s (Indirect n) (if b then Dirty else Hole) f.old.indirect m.indirect (λ payload. (r : ℕ) → r < 84 → pointer_in payload r ≡ slice_index_or m.records.items r no_pointer) → Planned (Indirect n)
+        by_choice n m f e true is (payload, written, fits) = inr (inl (
+          payload,
+          subst (λ (p : Pointer). IsNewAt s.blocks s.frame (Indirect n) p payload) (sym (indirect_now n m e)) written.block,
+          λ r low. fits r low ∙ sym (data_now n r m e),
+        ))
+        by_choice n m f e false is gone = inr (inr (indirect_now n m e ∙ gone.none, λ r low. data_now n r m e ∙ none_below n m f e is r low))
 
-      kept : (d : ℕ) → d < 84 → (b : Bool) → is_directory_touched objects d ≡ b → IsDirectoryPlanned s t.maps.items planned after d b (slice_index_or t.directories.items d no_pointer) (slice_index_or directories d no_pointer)
-          → slice_index_or directories d no_pointer ≡ slice_index_or t.directories.items d no_pointer
-      kept d low true is p = let no : is_directory_touched objects d ≡ false = none objects e d in absurd (cc)
-      kept d low false is same = same
+    -- an object that is not there has no indirect block after the plan
+    no_others : (n : ℕ) → n < object_count → finite.get after n ≡ None → (o : Option ObjectMap) → entry_of planned n ≡ o → new (Indirect n) ≡ no_pointer
+    no_others n low none None e = indirect_kept n e ∙ whole.absent n low (not_touched n low e) none
+    no_others n low none (Some m) e =
+        let f = w.objects_planned.each n m e in
+        by_choice n m f e none (f.changes.is_changed && list_any names_block m.records.items) refl f.planned.indirect
+      where
+        no_names : (n : ℕ) (m : ObjectMap) (f : IsPlannedFrom s t.maps.items after objects n m) → finite.get after n ≡ None → (i : ℕ) (p : Pointer) → slice_get m.records.items i ≡ Some p → names_block p ≡ false
+        no_names n m f none i p at =
+            let low : i < 84 = (let long = f.planned.count in let below = get_below m.records.items i p at in omega (arith, long, below)) in
+            let hole : state_in objects n i ≡ Hole = changes.holes n i f.low low (ap is_some f.changes_are) (inr none) in
+            let state : state_at f.changes i ≡ Hole = sym (entry-state objects (pointers_before t) after n f.changes f.changes_are i) ∙ hole in
+            let done : IsRecordPlanned s n i (unwrap_or (finite.get after n) []) Hole (record_in f.old i) (record_in m i) = rw state at (f.planned.records i low) in
+            ap names_block (get_or-slice_get m.records.items i p no_pointer at) ∙ ap names_block done.none
 
-  -- each place is planned
-  pub tree_planned : (before : FinMap nat_cmp (List ℕ)) → IsCoveredBy objects before after → AreChanges objects after → HasNoOthers (pointers_before t) after
-      → IsTreePlan s.blocks s.frame (pointers_before t) (pointers_from root directories (planned_map t.maps.items planned)) before after
-  tree_planned before covered changes absent Root low = root_planned before (is_any_touched objects) refl w.root_planned
-  tree_planned before covered changes absent (Directory d) low = directory_planned before covered changes absent d low (is_directory_touched objects d) refl (w.directories_planned d low)
-  tree_planned before covered changes absent (Indirect n) low = indirect_planned before n (entry_of planned n) refl
-  tree_planned before covered changes absent (Data n r) low = data_planned before covered changes n r low.0 low.1 (entry_of planned n) refl
+        by_choice : (n : ℕ) (m : ObjectMap) (f : IsPlannedFrom s t.maps.items after objects n m) → entry_of planned n ≡ Some m → finite.get after n ≡ None → (b : Bool) → (f.changes.is_changed && list_any names_block m.records.items) ≡ b
+            → HasBecome s (Indirect n) (if b then Dirty else Hole) f.old.indirect m.indirect (λ payload. (r : ℕ) → r < 84 → pointer_in payload r ≡ slice_index_or m.records.items r no_pointer) → new (Indirect n) ≡ no_pointer
+        by_choice n m f e none true is h =
+            let all : list_any names_block m.records.items ≡ false = any_none names_block m.records.items (no_names n m f none) in
+            absurd (false≢true (sym (ap (λ (b : Bool). f.changes.is_changed && b) all ∙ and-false f.changes.is_changed) ∙ is))
+        by_choice n m f e none false is gone = indirect_now n m e ∙ gone.none
+
+    not_planned : (n : ℕ) → entry_of objects n ≡ None → (o : Option ObjectMap) → entry_of planned n ≡ o → entry_of planned n ≡ None
+    not_planned n none None e = e
+    not_planned n none (Some m) e = let f = w.objects_planned.each n m e in absurd (none_some (entry_of objects n) none (ap is_some f.changes_are))
+
+    -- no object of a directory is there
+    none_left : (d k : ℕ) → k < 63 → has_object after d ≡ false → finite.get after (63 * d + k) ≡ None
+    none_left d k low none = absent_by (finite.get after (63 * d + k)) (false_from_ne_true (is_some (finite.get after (63 * d + k))) (λ there.
+        false≢true (sym none ∙ passes_at (λ n. finite.contains_key after n) (63 * d) 63 (63 * d + k) (omega arith) (omega (arith, low)) there)))
+      where
+        absent_by : (o : Option (List ℕ)) → is_some o ≡ false → o ≡ None
+        absent_by None e = refl
+        absent_by (Some x) e = absurd (true≢false e)
+
+    directory_planned : (d : ℕ) → d < 84 → (touched left : Bool) → is_directory_replaced objects after d ≡ touched → has_object after d ≡ left
+        → IsDirectoryPlanned s t.maps.items planned after d (state_above touched left) (slice_index_or t.directories.items d no_pointer) (slice_index_or directories d no_pointer) → Planned (Directory d)
+    directory_planned d low true true e there p =
+        inr (inl (
+          p.0,
+          p.1.block,
+          λ k below.
+              let in_tree : 63 * d + k < object_count = omega (arith, low, below) in
+              entry_for (entry_in p.0 k) (new (Indirect (63 * d + k))) (finite.get after (63 * d + k)) (p.2 k below)
+              (λ none. no_others (63 * d + k) in_tree none (entry_of planned (63 * d + k)) refl) (changes.sizes (63 * d + k)),
+        ))
+    directory_planned d low true false e none gone =
+        inr (inr (
+          gone.none,
+          λ k below.
+              let in_tree : 63 * d + k < object_count = omega (arith, low, below) in
+              let absent = none_left d k below none in
+              (absent, no_others (63 * d + k) in_tree absent (entry_of planned (63 * d + k)) refl),
+        ))
+    directory_planned d low false left e there same =
+        inl (
+          same,
+          λ k below.
+              let in_tree : 63 * d + k < object_count = omega (arith, low, below) in
+              let of : (63 * d + k) / 63 ≡ d = omega (arith, below) in
+              let not_here : is_directory_touched objects d ≡ false = (or_parts (is_emptied objects after) (is_directory_touched objects d) e).1 in
+              let none : entry_of objects (63 * d + k) ≡ None = untouched objects d (63 * d + k) of not_here in
+              (indirect_kept (63 * d + k) (not_planned (63 * d + k) none (entry_of planned (63 * d + k)) refl), covered.entries (63 * d + k) in_tree none),
+        )
+
+    root_planned : (touched left : Bool) → is_any_touched objects ≡ touched → has_objects after ≡ left → IsRootPlanned s directories (state_above touched left) t.root root → Planned Root
+    root_planned true true e there p = inr (inl (p.0, p.1.block, p.2))
+    root_planned true false e none gone = inr (inr (gone.none, λ d low. emptied d low (w.directories_planned d low)))
+      where
+        all_emptied : is_emptied objects after ≡ true
+        all_emptied = (λ k. e k && not (none k))
+
+        emptied : (d : ℕ) → d < 84 → IsDirectoryPlanned s t.maps.items planned after d (directory_state objects after d) (slice_index_or t.directories.items d no_pointer) (slice_index_or directories d no_pointer)
+            → slice_index_or directories d no_pointer ≡ no_pointer
+        emptied d low p =
+            let no_object : has_object after d ≡ false = false_from_ne_true (has_object after d) (λ there. false≢true (sym none ∙ left-left objects (pointers_before t) after d low there)) in
+            let state : directory_state objects after d ≡ Hole = (λ k. state_above (all_emptied k || is_directory_touched objects d) (no_object k)) in
+            let gone : IsDirectoryPlanned s t.maps.items planned after d Hole (slice_index_or t.directories.items d no_pointer) (slice_index_or directories d no_pointer) = rw state at p in
+            gone.none
+    root_planned false left e there same = inl (same, λ d low. kept_directory d low (w.directories_planned d low))
+      where
+        none : (os : List (ObjectId × ObjectChanges)) → is_any_touched os ≡ false → (d : ℕ) → is_directory_touched os d ≡ false
+        none [] e d = refl
+        none (o ∷ os) e d = absurd (some_touched (suc (length os)) e (omega arith))
+
+        kept_directory : (d : ℕ) → d < 84 → IsDirectoryPlanned s t.maps.items planned after d (directory_state objects after d) (slice_index_or t.directories.items d no_pointer) (slice_index_or directories d no_pointer)
+            → slice_index_or directories d no_pointer ≡ slice_index_or t.directories.items d no_pointer
+        kept_directory d low p =
+            let state : directory_state objects after d ≡ Unchanged = (λ k. state_above ((e k && not (has_objects after)) || none objects e d k) (has_object after d)) in
+            let same : IsDirectoryPlanned s t.maps.items planned after d Unchanged (slice_index_or t.directories.items d no_pointer) (slice_index_or directories d no_pointer) = rw state at p in
+            same
+
+    -- each place is planned
+    pub tree_planned : IsTreePlan s.blocks s.frame (pointers_before t) (pointers_from root directories (planned_map t.maps.items planned)) before after
+    tree_planned Root low = root_planned (is_any_touched objects) (has_objects after) refl refl w.root_planned
+    tree_planned (Directory d) low = directory_planned d low (is_directory_replaced objects after d) (has_object after d) refl refl (w.directories_planned d low)
+    tree_planned (Indirect n) low = indirect_planned n (entry_of planned n) refl
+    tree_planned (Data n r) low = data_planned n r low.0 low.1 (entry_of planned n) refl
 
   -- the pointers after the plan are to blocks of the area, where those before it are
-  record_placed : (n r : ℕ) (bytes : List ℕ) (b : Bool) (old now : Pointer) → IsRecordPlanned s n r bytes b old now → IsPlaced s.frame.blocks old → IsPlaced s.frame.blocks now
-  record_placed n r bytes true old now written was = inr written.in_area
-  record_placed n r bytes false old now same was = rw same was
+  become_placed : (place : Place) (state : RecordState) (old now : Pointer) (Fits : List ℕ → Type 0) → HasBecome s place state old now Fits → IsPlaced s.frame.blocks old → IsPlaced s.frame.blocks now
+  become_placed place Unchanged old now Fits same was = rw same was
+  become_placed place Dirty old now Fits h was = inr h.1.in_area
+  become_placed place Hole old now Fits gone was = inl gone.none
 
   data_placed : ArePlaced s.frame.blocks (pointers_before t) → (n r : ℕ) → n < object_count → r < 84 → (o : Option ObjectMap) → entry_of planned n ≡ o → IsPlaced s.frame.blocks (new (Data n r))
   data_placed old n r low below None e = subst (λ (p : Pointer). IsPlaced s.frame.blocks p) (sym (data_kept n r e)) (old (Data n r) (low, below))
   data_placed old n r low below (Some m) e =
       let f = w.objects_planned.each n m e in
       let was : IsPlaced s.frame.blocks (record_in f.old r) = subst (λ (p : Pointer). IsPlaced s.frame.blocks p) (data_was n r f.old f.old_is) (old (Data n r) (low, below)) in
-      subst (λ (p : Pointer). IsPlaced s.frame.blocks p) (sym (data_now n r m e)) (record_placed n r _ _ _ _ (f.planned.records r below) was)
+      subst (λ (p : Pointer). IsPlaced s.frame.blocks p) (sym (data_now n r m e)) (become_placed (Data n r) (state_at f.changes r) (record_in f.old r) (record_in m r) _ (f.planned.records r below) was)
 
   indirect_placed : ArePlaced s.frame.blocks (pointers_before t) → (n : ℕ) → n < object_count → (o : Option ObjectMap) → entry_of planned n ≡ o → IsPlaced s.frame.blocks (new (Indirect n))
   indirect_placed old n low None e = subst (λ (p : Pointer). IsPlaced s.frame.blocks p) (sym (indirect_kept n e)) (old (Indirect n) low)
   indirect_placed old n low (Some m) e =
       let f = w.objects_planned.each n m e in
-      subst (λ (p : Pointer). IsPlaced s.frame.blocks p) (sym (indirect_now n m e)) (inr f.planned.indirect.in_area)
-
-  directory_placed : (d : ℕ) (b : Bool) (old now : Pointer) → IsDirectoryPlanned s t.maps.items planned after d b old now → IsPlaced s.frame.blocks old → IsPlaced s.frame.blocks now
-  directory_placed d true old now p was = inr p.1.in_area
-  directory_placed d false old now same was = rw same was
-
-  root_placed : (b : Bool) (old now : Pointer) → IsRootPlanned s directories b old now → IsPlaced s.frame.blocks old → IsPlaced s.frame.blocks now
-  root_placed true old now p was = inr p.1.in_area
-  root_placed false old now same was = rw same was
+      let was : IsPlaced s.frame.blocks f.old.indirect = subst (λ (p : Pointer). IsPlaced s.frame.blocks p) (indirect_was n f.old f.old_is) (old (Indirect n) low) in
+      subst (λ (p : Pointer). IsPlaced s.frame.blocks p) (sym (indirect_now n m e))
+      (become_placed (Indirect n) (indirect_state f.changes.is_changed m.records.items) f.old.indirect m.indirect _ f.planned.indirect was)
 
   pub tree_placed : ArePlaced s.frame.blocks (pointers_before t) → ArePlaced s.frame.blocks (pointers_from root directories (planned_map t.maps.items planned))
-  tree_placed old Root low = root_placed _ _ _ w.root_planned (old Root tt)
-  tree_placed old (Directory d) low = directory_placed d _ _ _ (w.directories_planned d low) (old (Directory d) low)
+  tree_placed old Root low = become_placed Root (root_state objects after) t.root root _ w.root_planned (old Root tt)
+  tree_placed old (Directory d) low = become_placed (Directory d) (directory_state objects after d) (slice_index_or t.directories.items d no_pointer) (slice_index_or directories d no_pointer) _ (w.directories_planned d low) (old (Directory d) low)
   tree_placed old (Indirect n) low = indirect_placed old n low (entry_of planned n) refl
   tree_placed old (Data n r) low = data_placed old n r low.0 low.1 (entry_of planned n) refl
 
-  -- what comes back is the block of a place that has a new one
+  -- what comes back is the block of a place that has a new one, or none
+  abbrev IsNew : Pointer → Type 0
+  IsNew pointer = (pointer.birth ≡ s.frame.group) ⊎ (pointer ≡ no_pointer)
+
   record IsReplaced (address : ℕ) : Type 0 where
     place : Place
     in_range : IsPlace place
     is_of : IsOf (pointers_before t place) address
-    born : (new place).birth ≡ s.frame.group
+    is_new : IsNew (new place)
 
-  born_record : (n r : ℕ) (bytes : List ℕ) (b : Bool) (old now : Pointer) → b ≡ true → IsRecordPlanned s n r bytes b old now → now.birth ≡ s.frame.group
-  born_record n r bytes true old now e written = written.block.birth
-  born_record n r bytes false old now e same = absurd (cc)
+  become_new : (place : Place) (state : RecordState) (old now : Pointer) (Fits : List ℕ → Type 0) → replaces state ≡ true → HasBecome s place state old now Fits → IsNew now
+  become_new place Unchanged old now Fits e same = absurd (false≢true e)
+  become_new place Dirty old now Fits e h = inl h.1.block.birth
+  become_new place Hole old now Fits e gone = inr gone.none
 
-  born_directory : (d : ℕ) (b : Bool) (old now : Pointer) → b ≡ true → IsDirectoryPlanned s t.maps.items planned after d b old now → now.birth ≡ s.frame.group
-  born_directory d true old now e p = p.1.block.birth
-  born_directory d false old now e same = absurd (cc)
-
-  born_root : (b : Bool) (old now : Pointer) → b ≡ true → IsRootPlanned s directories b old now → now.birth ≡ s.frame.group
-  born_root true old now e p = p.1.block.birth
-  born_root false old now e same = absurd (cc)
+  replaces_choice : (b : Bool) → replaces (if b then Dirty else Hole) ≡ true
+  replaces_choice true = refl
+  replaces_choice false = refl
 
   object_replaced : (address : ℕ) → (o : IsOfObject t.maps.items objects planned address) → (m : Option ObjectMap) → entry_of planned o.number ≡ m → IsReplaced address
   object_replaced address o None e = absurd (none_some (entry_of planned o.number) e o.there)
   object_replaced address o (Some m) e =
       let f = w.objects_planned.each o.number m e in
-      let dirty : o.dirty ≡ f.dirty = let p = o.dirty_is in let q = f.dirty_is in cc in
+      let same : o.changes ≡ f.changes = let p = o.changes_are in let q = f.changes_are in cc in
       elim o.is_of [
         | inl of ↦ record {
           place = Data o.number of.index;
           in_range = (o.low, of.low);
           is_of = subst (λ (p : Pointer). IsOf p address) (sym (data_was o.number of.index o.old o.old_is)) of.was;
-          born = subst (λ (p : Pointer). p.birth ≡ s.frame.group) (sym (data_now o.number of.index m e))
-              (born_record o.number of.index _ _ _ _ (rw (← dirty) of.dirty_is) (f.planned.records of.index of.low));
+          is_new = subst IsNew (sym (data_now o.number of.index m e))
+              (become_new (Data o.number of.index) (state_at f.changes of.index) (record_in f.old of.index) (record_in m of.index) _ (rw (← same) of.replaced) (f.planned.records of.index of.low));
         }
         | inr of ↦ record {
           place = Indirect o.number;
           in_range = o.low;
           is_of = subst (λ (p : Pointer). IsOf p address) (sym (indirect_was o.number o.old o.old_is)) of;
-          born = subst (λ (p : Pointer). p.birth ≡ s.frame.group) (sym (indirect_now o.number m e)) f.planned.indirect.block.birth;
+          is_new = subst IsNew (sym (indirect_now o.number m e))
+              (become_new (Indirect o.number) (indirect_state f.changes.is_changed m.records.items) f.old.indirect m.indirect _ (replaces_choice (f.changes.is_changed && list_any names_block m.records.items)) f.planned.indirect);
         }
       ]
 
@@ -298,8 +396,13 @@ module _ (s : Progress) (t : Tree) (after : FinMap nat_cmp (List ℕ)) (objects 
   replaced address among = elim (w.frees address among) [
     | inl o ↦ object_replaced address o (entry_of planned o.number) refl
     | inr more ↦ elim more [
-      | inl d ↦ record { place = Directory d.number; in_range = d.low; is_of = d.is_of; born = born_directory d.number _ _ _ d.touched (w.directories_planned d.number d.low) }
-      | inr r ↦ record { place = Root; in_range = tt; is_of = r.1; born = born_root _ _ _ r.0 w.root_planned }
+      | inl d ↦ record {
+        place = Directory d.number;
+        in_range = d.low;
+        is_of = d.is_of;
+        is_new = become_new (Directory d.number) (directory_state objects after d.number) (slice_index_or t.directories.items d.number no_pointer) (slice_index_or directories d.number no_pointer) _ d.replaced (w.directories_planned d.number d.low);
+      }
+      | inr r ↦ record { place = Root; in_range = tt; is_of = r.1; is_new = become_new Root (root_state objects after) t.root root _ r.0 w.root_planned }
     ]
   ]
 
@@ -309,9 +412,10 @@ module _ (s : Progress) (t : Tree) (after : FinMap nat_cmp (List ℕ)) (objects 
       elim (old r.place r.in_range) [ inl none ↦ absurd (r.is_of.0 none) | inr area ↦ rw (← r.is_of.1) area ]
 
   -- and each block that is replaced comes back
-  freed_record : (n r : ℕ) (bytes : List ℕ) (b : Bool) (old now : Pointer) → IsRecordPlanned s n r bytes b old now → now ≢ old → old ≢ no_pointer → IsAmong s.freed old.address
-  freed_record n r bytes true old now written ne there = written.freed there
-  freed_record n r bytes false old now same ne there = absurd (ne same)
+  become_freed : (place : Place) (state : RecordState) (old now : Pointer) (Fits : List ℕ → Type 0) → HasBecome s place state old now Fits → now ≢ old → old ≢ no_pointer → IsAmong s.freed old.address
+  become_freed place Unchanged old now Fits same ne there = absurd (ne same)
+  become_freed place Dirty old now Fits h ne there = h.1.freed there
+  become_freed place Hole old now Fits gone ne there = gone.freed there
 
   freed_data : (n r : ℕ) → r < 84 → (o : Option ObjectMap) → entry_of planned n ≡ o → new (Data n r) ≢ pointers_before t (Data n r) → pointers_before t (Data n r) ≢ no_pointer → IsAmong s.freed (pointers_before t (Data n r)).address
   freed_data n r low None e ne there = absurd (ne (data_kept n r e))
@@ -319,40 +423,38 @@ module _ (s : Progress) (t : Tree) (after : FinMap nat_cmp (List ℕ)) (objects 
       let f = w.objects_planned.each n m e in
       let was = data_was n r f.old f.old_is in
       subst (λ (p : Pointer). IsAmong s.freed p.address) (sym was)
-      (freed_record n r _ _ _ _ (f.planned.records r low) (λ same. ne (data_now n r m e ∙ same ∙ sym was)) (λ none. there (was ∙ none)))
+      (become_freed (Data n r) (state_at f.changes r) (record_in f.old r) (record_in m r) _ (f.planned.records r low) (λ same. ne (data_now n r m e ∙ same ∙ sym was)) (λ none. there (was ∙ none)))
 
   freed_indirect : (n : ℕ) → (o : Option ObjectMap) → entry_of planned n ≡ o → new (Indirect n) ≢ pointers_before t (Indirect n) → pointers_before t (Indirect n) ≢ no_pointer → IsAmong s.freed (pointers_before t (Indirect n)).address
   freed_indirect n None e ne there = absurd (ne (indirect_kept n e))
   freed_indirect n (Some m) e ne there =
       let f = w.objects_planned.each n m e in
       let was = indirect_was n f.old f.old_is in
-      subst (λ (p : Pointer). IsAmong s.freed p.address) (sym was) (f.planned.indirect.freed (λ none. there (was ∙ none)))
-
-  freed_directory : (d : ℕ) (b : Bool) (old now : Pointer) → IsDirectoryPlanned s t.maps.items planned after d b old now → now ≢ old → old ≢ no_pointer → IsAmong s.freed old.address
-  freed_directory d true old now p ne there = p.1.freed there
-  freed_directory d false old now same ne there = absurd (ne same)
-
-  freed_root : (b : Bool) (old now : Pointer) → IsRootPlanned s directories b old now → now ≢ old → old ≢ no_pointer → IsAmong s.freed old.address
-  freed_root true old now p ne there = p.1.freed there
-  freed_root false old now same ne there = absurd (ne same)
+      subst (λ (p : Pointer). IsAmong s.freed p.address) (sym was)
+      (become_freed (Indirect n) (indirect_state f.changes.is_changed m.records.items) f.old.indirect m.indirect _ f.planned.indirect (λ same. ne (indirect_now n m e ∙ same ∙ sym was)) (λ none. there (was ∙ none)))
 
   freed_at : (place : Place) → IsPlace place → new place ≢ pointers_before t place → pointers_before t place ≢ no_pointer → IsAmong s.freed (pointers_before t place).address
-  freed_at Root low ne there = freed_root _ _ _ w.root_planned ne there
-  freed_at (Directory d) low ne there = freed_directory d _ _ _ (w.directories_planned d low) ne there
+  freed_at Root low ne there = become_freed Root (root_state objects after) t.root root _ w.root_planned ne there
+  freed_at (Directory d) low ne there = become_freed (Directory d) (directory_state objects after d) (slice_index_or t.directories.items d no_pointer) (slice_index_or directories d no_pointer) _ (w.directories_planned d low) ne there
   freed_at (Indirect n) low ne there = freed_indirect n (entry_of planned n) refl ne there
   freed_at (Data n r) low ne there = freed_data n r low.1 (entry_of planned n) refl ne there
+
+  differs : AreBornBefore s.frame.group (pointers_before t) → (place : Place) → IsPlace place → pointers_before t place ≢ no_pointer → IsNew (new place) → new place ≢ pointers_before t place
+  differs older place in_range there (inl born) same =
+      let before = older place in_range in
+      let birth : (pointers_before t place).birth ≡ s.frame.group = ap (λ (p : Pointer). p.birth) (sym same) ∙ born in
+      omega (arith, before, birth)
+  differs older place in_range there (inr none) same = there (sym same ∙ none)
 
   pub all_freed : AreBornBefore s.frame.group (pointers_before t) → AreFreed (pointers_before t) (pointers_from root directories (planned_map t.maps.items planned)) s.freed
   all_freed older = record {
     all = freed_at;
-    no_others = λ i address e. let r = replaced address (i, e) in
-        (r.place, r.in_range, (λ same. let before = older r.place r.in_range in let born : (pointers_before t r.place).birth ≡ s.frame.group = ap (λ (p : Pointer). p.birth) (sym same) ∙ r.born in omega arith), r.is_of.1, r.is_of.0);
+    no_others = λ i address e. let r = replaced address (i, e) in (r.place, r.in_range, differs older r.place r.in_range r.is_of.0 r.is_new, r.is_of.1, r.is_of.0);
   }
 
-  -- the root is written exactly where an object changes
-  pub root_cases : (is_any_touched objects ≡ false → root ≡ t.root) × (is_any_touched objects ≡ true → root.birth ≡ s.frame.group)
-  root_cases = ((λ e. kept_root _ _ _ e w.root_planned), (λ e. born_root _ _ _ e w.root_planned))
-    where
-      kept_root : (b : Bool) (old now : Pointer) → b ≡ false → IsRootPlanned s directories b old now → now ≡ old
-      kept_root true old now e p = absurd (cc)
-      kept_root false old now e same = same
+  -- the root stays where no operation is on an object, and else is new or none
+  pub root_cases : (is_any_touched objects ≡ false → root ≡ t.root) × (is_any_touched objects ≡ true → IsNew root)
+  root_cases = (
+    (λ e. let same : IsRootPlanned s directories Unchanged t.root root = rw (ap (λ (b : Bool). state_above b (has_objects after)) e) at w.root_planned in same),
+    (λ e. become_new Root (root_state objects after) t.root root _ (ap (λ (b : Bool). replaces (state_above b (has_objects after))) e ∙ replaces_choice (has_objects after)) w.root_planned),
+  )

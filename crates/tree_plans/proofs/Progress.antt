@@ -2,20 +2,23 @@
 use Rattle.std.proofs.Common.{◌≡◌, ◌≢◌, ℕ, zero, suc, ◌+◌, ◌<◌, ◌⊎◌, inl, inr, Bool, true, false, List, [], ◌∷◌, ◌++◌, length, map, ◌≤◌, Some, refl, sym, ◌∙◌, ap, append_assoc, arith}
 use Rattle.std.specs.Prelude.{slice_get, slice_index_or}
 use Rattle.base.specs.declared.pointer.Pointer.{Pointer}
-use Rattle.base.specs.formats.Fields.{no_pointer, part, pointer_in}
+use Rattle.base.specs.formats.Fields.{no_pointer, part}
 use Rattle.base.specs.formats.Geometry.{block_address}
 use Rattle.base.specs.formats.Blocks.{Frame, IsBlock}
 use Rattle.base.specs.tree.Places.{Place, kind_of, number_of_place}
-use Rattle.base.specs.tree.Places.Place.{Indirect}
+use Rattle.base.specs.tree.Places.Place.{Data, Indirect}
 use Rattle.base.specs.tree.PlannedTrees.{NewBlock, IsNewAt}
 use Rattle.space.specs.FreeSets.{free_from}
 use Rattle.tree_plans.specs.declared.planner.PlannedBlock.{PlannedBlock}
 use Rattle.std.proofs.lemmas.Bool.{cases_lt}
 use Rattle.object_maps.specs.declared.tree.ObjectMap.{ObjectMap}
 use Rattle.tree_plans.specs.Pointers.{record_in}
-use Rattle.tree_plans.specs.Plans.{Progress, Keeps, IsAmong, Goes, IsWritten, IsRecordPlanned, AreRecordsPlanned, RecordFrees, RecordsFree, FreesOnly, ObjectFrees, IsObjectPlanned, new_block}
-use Rattle.checked_blocks.specs.Sealing.{padded}
-use Rattle.tree_plans.proofs.Payloads.{padded-full}
+use Rattle.tree_plans.specs.Plans.{Progress, Keeps, IsAmong, Goes, HasBecome, IsCleared, IsWritten, IsRecordPlanned, AreRecordsPlanned, IsIndirectPlanned, PlaceFrees, RecordsFree, FreesOnly, ObjectFrees, IsObjectPlanned, indirect_state, new_block}
+use Rattle.tree_plans.specs.Changes.{state_at}
+use Rattle.tree_plans.specs.declared.changes.ObjectChanges.{ObjectChanges}
+use Rattle.base.specs.declared.record_state.RecordState.{RecordState}
+use Rattle.base.specs.declared.record_state.RecordState.TheVariants.{Unchanged, Dirty, Hole}
+use Rattle.base.specs.tree.PlacedTrees.{padded_record}
 
 pub new_blocks-push : (blocks : List PlannedBlock) (b : PlannedBlock) → map new_block (blocks ++ b ∷ []) ≡ map new_block blocks ++ new_block b ∷ []
 new_blocks-push [] b = refl
@@ -61,6 +64,11 @@ goes_on flags next index blocks after block freed released frame pushed here low
   freed = kept;
 }
 
+-- none is taken, and one comes back
+pub goes_back : (flags : List Bool) (next : ℕ) (blocks : List NewBlock) (freed released : List ℕ) (frame : Frame) → Keeps freed released
+    → Goes flags (record { next = next; blocks = blocks; freed = freed; frame = frame }) (record { next = next; blocks = blocks; freed = released; frame = frame })
+goes_back flags next blocks freed released frame kept = record { frame = refl; taken = λ h. h; blocks = λ i b e. e; freed = kept }
+
 -- and it stands at its place
 pub written_at : (s : Progress) (blocks : List NewBlock) (block : NewBlock) (index kind number : ℕ) (place : Place) (old new : Pointer) (payload : List ℕ)
     → s.blocks ≡ blocks ++ block ∷ [] → block.address ≡ block_address index → index < s.frame.blocks → new.address ≡ block_address index → new.birth ≡ s.frame.group
@@ -99,9 +107,16 @@ written_stays g w = record {
   freed = λ there. let f = w.freed there in (f.0, g.freed f.0 _ f.1);
 }
 
-pub record_stays : {flags : List Bool} {s t : Progress} (n r : ℕ) (bytes : List ℕ) (dirty : Bool) (old new : Pointer) → Goes flags s t → IsRecordPlanned s n r bytes dirty old new → IsRecordPlanned t n r bytes dirty old new
-record_stays n r bytes true old new g w = written_stays g w
-record_stays n r bytes false old new g e = e
+pub cleared_stays : {flags : List Bool} {s t : Progress} {old new : Pointer} → Goes flags s t → IsCleared s old new → IsCleared t old new
+cleared_stays g c = record { none = c.none; freed = λ there. let f = c.freed there in (f.0, g.freed f.0 _ f.1) }
+
+pub become_stays : {flags : List Bool} {s t : Progress} (place : Place) (state : RecordState) (old new : Pointer) (Fits : List ℕ → Type 0) → Goes flags s t → HasBecome s place state old new Fits → HasBecome t place state old new Fits
+become_stays place Unchanged old new Fits g h = h
+become_stays place Dirty old new Fits g h = (h.0, written_stays g h.1, h.2)
+become_stays place Hole old new Fits g h = cleared_stays g h
+
+pub record_stays : {flags : List Bool} {s t : Progress} (n r : ℕ) (bytes : List ℕ) (state : RecordState) (old new : Pointer) → Goes flags s t → IsRecordPlanned s n r bytes state old new → IsRecordPlanned t n r bytes state old new
+record_stays n r bytes state old new g h = become_stays (Data n r) state old new (λ payload. payload ≡ padded_record r bytes) g h
 
 pub last_of : {A : Type 0} (xs : List A) (a d : A) → slice_index_or (xs ++ a ∷ []) (length xs) d ≡ a
 last_of [] a d = refl
@@ -127,46 +142,44 @@ each_push P xs a d i long each here r low = go (cases_lt r i)
         rw (e, last_of xs a d) (rw f here)
 
 -- one record more is planned
-pub records_push : {flags : List Bool} {s t : Progress} (n : ℕ) (bytes : List ℕ) (dirty : List Bool) (old : ObjectMap) (i : ℕ) (records : List Pointer) (was new : Pointer)
-    → Goes flags s t → length records ≡ i → was ≡ record_in old i → AreRecordsPlanned s n bytes dirty old i records → IsRecordPlanned t n i bytes (slice_index_or dirty i false) was new
-    → AreRecordsPlanned t n bytes dirty old (i + 1) (records ++ new ∷ [])
-records_push {s = s} {t = t} n bytes dirty old i records was new g long is each here =
-    each_push (λ r p. IsRecordPlanned t n r bytes (slice_index_or dirty r false) (record_in old r) p) records new no_pointer i long
-    (λ r low. record_stays n r bytes (slice_index_or dirty r false) (record_in old r) (slice_index_or records r no_pointer) g (each r low)) (rw (← is) here)
+pub records_push : {flags : List Bool} {s t : Progress} (n : ℕ) (bytes : List ℕ) (changes : ObjectChanges) (old : ObjectMap) (i : ℕ) (records : List Pointer) (state : RecordState) (was new : Pointer)
+    → Goes flags s t → length records ≡ i → was ≡ record_in old i → state ≡ state_at changes i → AreRecordsPlanned s n bytes changes old i records → IsRecordPlanned t n i bytes state was new
+    → AreRecordsPlanned t n bytes changes old (i + 1) (records ++ new ∷ [])
+records_push {s = s} {t = t} n bytes changes old i records state was new g long is state_is each here =
+    each_push (λ r p. IsRecordPlanned t n r bytes (state_at changes r) (record_in old r) p) records new no_pointer i long
+    (λ r low. record_stays n r bytes (state_at changes r) (record_in old r) (slice_index_or records r no_pointer) g (each r low)) (rw (← is, ← state_is) here)
 
-pub frees_push : (first old new : List ℕ) (dirty : List Bool) (map : ObjectMap) (i : ℕ) (was : Pointer) → was ≡ record_in map i → RecordsFree first old dirty map i → RecordFrees old new (slice_index_or dirty i false) was
-    → RecordsFree first new dirty map (i + 1)
-frees_push first old new dirty map i was is frees more address among =
+pub frees_push : (first old new : List ℕ) (changes : ObjectChanges) (map : ObjectMap) (i : ℕ) (state : RecordState) (was : Pointer) → was ≡ record_in map i → state ≡ state_at changes i → RecordsFree first old changes map i
+    → PlaceFrees old new state was → RecordsFree first new changes map (i + 1)
+frees_push first old new changes map i state was is state_is frees more address among =
     elim (more address among) [
-      | inl before ↦ elim (frees address before) [ inl at_first ↦ inl at_first | inr of ↦ inr (record { index = of.index; low = (let low = of.low in omega arith); dirty_is = of.dirty_is; was = of.was }) ]
-      | inr here ↦ inr (record { index = i; low = omega arith; dirty_is = here.0; was = rw (← is) here.1 })
+      | inl before ↦ elim (frees address before) [ inl at_first ↦ inl at_first | inr of ↦ inr (record { index = of.index; low = (let low = of.low in omega arith); replaced = of.replaced; was = of.was }) ]
+      | inr here ↦ inr (record { index = i; low = omega arith; replaced = rw (← state_is) here.0; was = rw (← is) here.1 })
     ]
 
-pub records_stay : {flags : List Bool} {s t : Progress} (n : ℕ) (bytes : List ℕ) (dirty : List Bool) (old : ObjectMap) (count : ℕ) (records : List Pointer)
-    → Goes flags s t → AreRecordsPlanned s n bytes dirty old count records → AreRecordsPlanned t n bytes dirty old count records
-records_stay n bytes dirty old count records g each r low = record_stays n r bytes (slice_index_or dirty r false) (record_in old r) (slice_index_or records r no_pointer) g (each r low)
+pub records_stay : {flags : List Bool} {s t : Progress} (n : ℕ) (bytes : List ℕ) (changes : ObjectChanges) (old : ObjectMap) (count : ℕ) (records : List Pointer)
+    → Goes flags s t → AreRecordsPlanned s n bytes changes old count records → AreRecordsPlanned t n bytes changes old count records
+records_stay n bytes changes old count records g each r low = record_stays n r bytes (state_at changes r) (record_in old r) (slice_index_or records r no_pointer) g (each r low)
 
 -- an object whose records are planned, and then its indirect block
-pub object_planned : {flags : List Bool} {s t : Progress} (n : ℕ) (bytes : List ℕ) (dirty : List Bool) (old new : ObjectMap) (payload : List ℕ)
-    → Goes flags s t → AreRecordsPlanned s n bytes dirty old 84 new.records.items → IsWritten t (Indirect n) old.indirect new.indirect (padded payload) → length payload ≡ 4032
-    → ((r : ℕ) → r < 84 → pointer_in payload r ≡ record_in new r) → IsObjectPlanned t n bytes dirty old new
-object_planned n bytes dirty old new payload g records indirect long pointers = record {
-  records = records_stay n bytes dirty old 84 new.records.items g records;
-  payload = padded payload;
+pub object_planned : {flags : List Bool} {s t : Progress} (n : ℕ) (bytes : List ℕ) (changes : ObjectChanges) (old new : ObjectMap)
+    → Goes flags s t → length new.records.items ≡ 84 → AreRecordsPlanned s n bytes changes old 84 new.records.items
+    → IsIndirectPlanned t n changes.is_changed new.records.items old.indirect new.indirect → IsObjectPlanned t n bytes changes old new
+object_planned n bytes changes old new g count records indirect = record {
+  count = count;
+  records = records_stay n bytes changes old 84 new.records.items g records;
   indirect = indirect;
-  pointers = λ r low. rw (padded-full payload long) (pointers r low);
 }
 
-pub object_stays : {flags : List Bool} {s t : Progress} (n : ℕ) (bytes : List ℕ) (dirty : List Bool) (old new : ObjectMap) → Goes flags s t → IsObjectPlanned s n bytes dirty old new → IsObjectPlanned t n bytes dirty old new
-object_stays n bytes dirty old new g p = record {
-  records = records_stay n bytes dirty old 84 new.records.items g p.records;
-  payload = p.payload;
-  indirect = written_stays g p.indirect;
-  pointers = p.pointers;
+pub object_stays : {flags : List Bool} {s t : Progress} (n : ℕ) (bytes : List ℕ) (changes : ObjectChanges) (old new : ObjectMap) → Goes flags s t → IsObjectPlanned s n bytes changes old new → IsObjectPlanned t n bytes changes old new
+object_stays n bytes changes old new g p = record {
+  count = p.count;
+  records = records_stay n bytes changes old 84 new.records.items g p.records;
+  indirect = become_stays (Indirect n) (indirect_state changes.is_changed new.records.items) old.indirect new.indirect _ g p.indirect;
 }
 
-pub object_frees : (first old new : List ℕ) (dirty : List Bool) (map : ObjectMap) → RecordsFree first old dirty map 84 → FreesOnly old new map.indirect → ObjectFrees first new dirty map
-object_frees first old new dirty map records indirect address among =
+pub object_frees : (first old new : List ℕ) (changes : ObjectChanges) (map : ObjectMap) → RecordsFree first old changes map 84 → FreesOnly old new map.indirect → ObjectFrees first new changes map
+object_frees first old new changes map records indirect address among =
     elim (indirect address among) [
       | inl before ↦ elim (records address before) [ inl at_first ↦ inl at_first | inr of ↦ inr (inl of) ]
       | inr here ↦ inr (inr here)

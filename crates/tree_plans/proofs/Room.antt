@@ -1,7 +1,9 @@
 -- A plan that is refused for want of blocks: they are not free.
-use Rattle.std.proofs.Common.{◌≡◌, ℕ, zero, suc, ◌+◌, ◌-◌, ◌≤◌, ◌<◌, Bool, true, false, List, [], ◌∷◌, ◌++◌, length, map, filter, Option, Ordering, Less, Some, refl, sym, ◌∙◌, ap, arith, if◌then◌else◌, Result, IfErr, IsErrAnd}
+use Rattle.std.proofs.Common.{◌≡◌, ℕ, zero, suc, ◌+◌, ◌-◌, ◌≤◌, ◌<◌, Bool, true, false, List, [], ◌∷◌, ◌++◌, length, map, filter, Option, Ordering, Less, Some, None, refl, sym, ◌∙◌, ap, arith, if◌then◌else◌, Result, IfErr, IsErrAnd}
 use Rattle.std.specs.Prelude.{slice_index_or, is_some}
 use Rattle.std.specs.List.{list_any, flat_map, range_with_len}
+use Rattle.std.specs.Ordering.{nat_cmp}
+use Rattle.std.specs.FinMap.{FinMap}
 use Rattle.std.specs.List.Sorted.{IsStrictlySortedBy}
 use Rattle.std.specs.Map.{keys_of}
 use Rattle.std.specs.Option.{option_map_or}
@@ -14,18 +16,20 @@ use Rattle.base.specs.declared.names.ObjectId.{ObjectId}
 use Rattle.base.specs.formats.Fields.{no_pointer}
 use Rattle.base.specs.tree.Places.{Place}
 use Rattle.base.specs.tree.Places.Place.{Root, Directory, Indirect, Data}
-use Rattle.base.specs.tree.PlannedPlaces.{has_changed, object_places, written_by}
+use Rattle.base.specs.declared.record_state.RecordState.{RecordState}
+use Rattle.base.specs.declared.record_state.RecordState.TheVariants.{Dirty}
+use Rattle.base.specs.tree.Syncs.{GroupChanges, is_dirty, is_directory_written, is_indirect_written, is_record_written, is_root_written, places_of_object, written_by}
 use Rattle.base.specs.tree.PlannedTrees.{NewBlock}
 use Rattle.object_maps.specs.declared.tree.ObjectMap.{ObjectMap}
 use Rattle.space.specs.FreeSets.{addresses_from, free_from}
-use Rattle.tree_plans.specs.declared.planner.DirtyRecords.{DirtyRecords}
+use Rattle.tree_plans.specs.declared.changes.ObjectChanges.{ObjectChanges}
 use Rattle.tree_plans.specs.Pointers.{entry_of, planned_map, record_in}
-use Rattle.tree_plans.specs.Changes.{AreInRange, is_marked}
-use Rattle.tree_plans.specs.Plans.{Goes, Progress}
-use Rattle.tree_plans.specs.Walks.{is_any_touched, is_directory_touched}
+use Rattle.tree_plans.specs.Changes.{AreInRange, group_of}
+use Rattle.tree_plans.specs.Plans.{Goes, Progress, is_dirty_in, is_indirect_written_in}
+use Rattle.tree_plans.specs.Walks.{is_directory_dirty, root_state}
 use Rattle.tree_plans.specs.Order.{Adds, address_if, addresses_of, addresses_where, all_addresses, object_addresses}
-use Rattle.tree_plans.specs.Room.{Lacks, all_blocks, count_if, count_where, object_blocks, tree_blocks}
-use Rattle.tree_plans.proofs.Order.{adds_twice, addresses_more, all_from_none, all_numbers, any_directory, flagged, has_changed-touched, none_of, none_passes, passes_at, rising_of, some_flag}
+use Rattle.tree_plans.specs.Room.{Lacks, all_blocks, count_if, count_where, needed_blocks, object_blocks, tree_blocks}
+use Rattle.tree_plans.proofs.Order.{absent-indirect_written, absent-written, adds_twice, addresses_more, all_from_none, all_numbers, none_passes, rising_of, root-written, written-directories}
 use Rattle.tree_plans.proofs.Progress.{goes_twice}
 
 -- no free block is left for the next one
@@ -85,9 +89,9 @@ lacks_at flags s t p f index count b low is goes adds lacks =
     lacks_behind flags s t (addresses_where p f index) (count_if b) (count_where p count) goes adds (omega (arith, below, next, rest)) lacks
 
 -- the addresses of an object are as many as the places that it has to write
-object_length : (d : ℕ → ℕ → Bool) (n : ℕ) (o : Option ObjectMap) → length (object_addresses (d n) o) ≡ object_blocks d n
+object_length : (g : GroupChanges) (n : ℕ) (o : Option ObjectMap) → length (object_addresses g n o) ≡ object_blocks g n
 unfolding object_addresses object_blocks addresses_where
-object_length d n o = by (filter (d n) (range_with_len 0 84)) (list_any (d n) (range_with_len 0 84))
+object_length g n o = by (filter (is_record_written g n) (range_with_len 0 84)) (is_indirect_written g n)
   where
     last : (b : Bool) (p : Pointer) → length (address_if b p) ≡ length (if b then Indirect n ∷ [] else [])
     last true p = refl
@@ -107,107 +111,110 @@ flat_length f g same (x ∷ xs) =
     let rest = flat_length f g same xs in
     omega (arith, one, two, here, rest)
 
-all_length : (d : ℕ → ℕ → Bool) (map_of : ℕ → Option ObjectMap) (count : ℕ) → length (all_addresses d map_of count) ≡ all_blocks d count
+all_length : (g : GroupChanges) (map_of : ℕ → Option ObjectMap) (count : ℕ) → length (all_addresses g map_of count) ≡ all_blocks g count
 unfolding all_addresses all_blocks object_blocks
-all_length d map_of count = flat_length (λ n. object_addresses (d n) (map_of n)) (object_places d) (λ n. object_length d n (map_of n)) (range_with_len 0 count)
+all_length g map_of count = flat_length (λ n. object_addresses g n (map_of n)) (places_of_object g) (λ n. object_length g n (map_of n)) (range_with_len 0 count)
 
-with_any : (d : ℕ → ℕ → Bool) (n : ℕ) → list_any (d n) (range_with_len 0 84) ≡ true → object_blocks d n ≡ count_where (d n) 84 + 1
+-- the records of an object that are written, and its indirect block behind them
+blocks_are : (g : GroupChanges) (n : ℕ) → object_blocks g n ≡ count_where (is_record_written g n) 84 + count_if (is_indirect_written g n)
 unfolding object_blocks count_where
-with_any d n any =
-    length-append (map (λ r. Data n r) (filter (d n) (range_with_len 0 84))) (if list_any (d n) (range_with_len 0 84) then Indirect n ∷ [] else [])
-    ∙ ap (λ (k : ℕ). k + length (if list_any (d n) (range_with_len 0 84) then Indirect n ∷ [] else [])) (length-map (filter (d n) (range_with_len 0 84)) (λ r. Data n r))
-    ∙ ap (λ (b : Bool). length (filter (d n) (range_with_len 0 84)) + length (if b then Indirect n ∷ [] else [])) any
+blocks_are g n =
+    length-append (map (λ r. Data n r) (filter (is_record_written g n) (range_with_len 0 84))) (if is_indirect_written g n then Indirect n ∷ [] else [])
+    ∙ ap (λ (k : ℕ). k + length (if is_indirect_written g n then Indirect n ∷ [] else [])) (length-map (filter (is_record_written g n) (range_with_len 0 84)) (λ r. Data n r))
+    ∙ ap (λ (k : ℕ). length (filter (is_record_written g n) (range_with_len 0 84)) + k) (last (is_indirect_written g n))
+  where
+    last : (b : Bool) → length (if b then Indirect n ∷ [] else []) ≡ count_if b
+    last true = refl
+    last false = refl
 
--- an object with a dirty record: its records, and its indirect block behind them
-pub object_most : (objects : List (ObjectId × DirtyRecords)) (n : ℕ) (dirty : DirtyRecords) → entry_of objects n ≡ Some dirty → length dirty.flags ≡ 84 → list_any (λ (dirty : Bool). dirty) dirty.flags ≡ true
-    → count_where (λ r. slice_index_or dirty.flags r false) 84 + 1 ≡ object_blocks (is_marked objects) n
-object_most objects n dirty is long some =
-    let p : ℕ → Bool = is_marked objects n in
-    let h = some_flag dirty.flags some in
-    let any : list_any p (range_with_len 0 84) ≡ true = passes_at p 0 84 h.0 (omega arith) (let low = h.1 in omega (arith, long)) (flagged objects n dirty is h.0 ∙ h.2) in
-    let flags_are : (λ (r : ℕ). slice_index_or dirty.flags r false) ≡ p = λ k r. sym (flagged objects n dirty is r) k in
-    ap (λ (q : ℕ → Bool). count_where q 84 + 1) flags_are ∙ sym (with_any (is_marked objects) n any)
+pub object_needs : (g : GroupChanges) (n : ℕ) (changes : ObjectChanges) (was : ObjectMap) → is_record_written g n ≡ is_dirty_in changes → is_indirect_written g n ≡ is_indirect_written_in changes was
+    → needed_blocks changes was ≡ object_blocks g n
+object_needs g n changes was records indirect = sym (blocks_are g n ∙ ap (λ (q : ℕ → Bool). count_where q 84 + count_if (is_indirect_written g n)) records ∙ ap (λ (b : Bool). count_where (is_dirty_in changes) 84 + count_if b) indirect)
 
 -- an object is refused, where those below it are done
 module _ (R : ObjectId → ObjectId → Ordering) (less : (a b : ObjectId) → R a b ≡ Less → a.0 < b.0) where
-  entries_length : (count : ℕ) (objects : List (ObjectId × DirtyRecords)) → IsStrictlySortedBy R (keys_of objects) → ((n : ℕ) → is_some (entry_of objects n) ≡ true → n < count)
-      → length (flat_map (λ (e : ObjectId × DirtyRecords). object_places (is_marked objects) e.0.0) objects) ≡ all_blocks (is_marked objects) count
+  entries_length : (count : ℕ) (g : GroupChanges) (objects : List (ObjectId × ObjectChanges)) → IsStrictlySortedBy R (keys_of objects) → ((n : ℕ) → is_some (entry_of objects n) ≡ true → n < count)
+      → ((n : ℕ) → entry_of objects n ≡ None → places_of_object g n ≡ [])
+      → length (flat_map (λ (e : ObjectId × ObjectChanges). places_of_object g e.0.0) objects) ≡ all_blocks g count
   unfolding all_blocks
-  entries_length count objects sorted within = ap (λ (l : List Place). length l)
-      (all_numbers (object_places (is_marked objects)) count 0 count objects (omega arith) (rising_of R less 0 count objects (all_from_none R less (keys_of objects)) sorted within)
-      (λ n low absent. no_places (is_marked objects) n (λ r. ap (λ (o : Option DirtyRecords). option_map_or (λ (dirty : DirtyRecords). slice_index_or dirty.flags r false) o false) absent)))
-    where
-      no_places : (d : ℕ → ℕ → Bool) (n : ℕ) → ((r : ℕ) → d n r ≡ false) → object_places d n ≡ []
-      no_places d n none = rw (none_passes (d n) none (range_with_len 0 84), none_of (d n) none (range_with_len 0 84)) refl
+  entries_length count g objects sorted within nothing = ap (λ (l : List Place). length l)
+      (all_numbers (places_of_object g) count 0 count objects (omega arith) (rising_of R less 0 count objects (all_from_none R less (keys_of objects)) sorted within)
+      (λ n low absent. nothing n absent))
 
-  pub lacks_object : (flags : List Bool) (s t : Progress) (maps : List ObjectMap) (planned : List (ObjectId × ObjectMap)) (count : ℕ) (objects done rest : List (ObjectId × DirtyRecords)) (e : ObjectId × DirtyRecords)
-      → objects ≡ done ++ (e ∷ rest) → IsStrictlySortedBy R (keys_of objects) → ((n : ℕ) → is_some (entry_of objects n) ≡ true → n < count) → Goes flags s t
-      → Adds s.blocks t.blocks (flat_map (λ (x : ObjectId × DirtyRecords). object_addresses (is_marked objects x.0.0) (planned_map maps planned x.0.0)) done)
-      → Lacks flags t (object_blocks (is_marked objects) e.0.0) → Lacks flags s (all_blocks (is_marked objects) count)
+  pub lacks_object : (flags : List Bool) (s t : Progress) (g : GroupChanges) (maps : List ObjectMap) (planned : List (ObjectId × ObjectMap)) (count : ℕ) (objects done rest : List (ObjectId × ObjectChanges)) (e : ObjectId × ObjectChanges)
+      → objects ≡ done ++ (e ∷ rest) → IsStrictlySortedBy R (keys_of objects) → ((n : ℕ) → is_some (entry_of objects n) ≡ true → n < count)
+      → ((n : ℕ) → entry_of objects n ≡ None → places_of_object g n ≡ []) → Goes flags s t
+      → Adds s.blocks t.blocks (flat_map (λ (x : ObjectId × ObjectChanges). object_addresses g x.0.0 (planned_map maps planned x.0.0)) done)
+      → Lacks flags t (object_blocks g e.0.0) → Lacks flags s (all_blocks g count)
   unfolding object_blocks
-  lacks_object flags s t maps planned count objects done rest e split sorted within goes adds lacks =
-      let d : ℕ → ℕ → Bool = is_marked objects in
-      let F : ObjectId × DirtyRecords → List ℕ = λ x. object_addresses (d x.0.0) (planned_map maps planned x.0.0) in
-      let G : ObjectId × DirtyRecords → List Place = λ x. object_places d x.0.0 in
-      let all : length (flat_map G objects) ≡ all_blocks d count = entries_length count objects sorted within in
-      let before : length (flat_map F done) ≡ length (flat_map G done) = flat_length F G (λ x. object_length d x.0.0 (planned_map maps planned x.0.0)) done in
+  lacks_object flags s t g maps planned count objects done rest e split sorted within nothing goes adds lacks =
+      let F : ObjectId × ObjectChanges → List ℕ = λ x. object_addresses g x.0.0 (planned_map maps planned x.0.0) in
+      let G : ObjectId × ObjectChanges → List Place = λ x. places_of_object g x.0.0 in
+      let all : length (flat_map G objects) ≡ all_blocks g count = entries_length count g objects sorted within nothing in
+      let before : length (flat_map F done) ≡ length (flat_map G done) = flat_length F G (λ x. object_length g x.0.0 (planned_map maps planned x.0.0)) done in
       let sum : length (flat_map G objects) ≡ length (flat_map G done) + (length (G e) + length (flat_map G rest)) =
-      ap (λ (l : List (ObjectId × DirtyRecords)). length (flat_map G l)) split ∙ ap (λ (l : List Place). length l) (flat_map-append G done (e ∷ rest))
+      ap (λ (l : List (ObjectId × ObjectChanges)). length (flat_map G l)) split ∙ ap (λ (l : List Place). length l) (flat_map-append G done (e ∷ rest))
       ∙ length-append (flat_map G done) (G e ++ flat_map G rest) ∙ ap (λ (k : ℕ). length (flat_map G done) + k) (length-append (G e) (flat_map G rest)) in
-      lacks_behind flags s t (flat_map F done) (length (G e)) (all_blocks d count) goes adds (omega (arith, all, before, sum)) lacks
+      lacks_behind flags s t (flat_map F done) (length (G e)) (all_blocks g count) goes adds (omega (arith, all, before, sum)) lacks
+
+-- an object that no operation is on has no place that is written
+pub no_places : (objects : List (ObjectId × ObjectChanges)) (pointers : Place → Pointer) (after : FinMap nat_cmp (List ℕ)) (n : ℕ) → entry_of objects n ≡ None → places_of_object (group_of objects pointers after) n ≡ []
+no_places objects pointers after n none =
+    (λ k. map (λ r. Data n r) (none_passes (is_record_written (group_of objects pointers after) n) (absent-written objects pointers after n none) (range_with_len 0 84) k)
+    ++ (if absent-indirect_written objects pointers after n none k then Indirect n ∷ [] else []))
 
 -- the places of a whole walk
-parts : (d : ℕ → ℕ → Bool) (touched : ℕ → Bool) (count directory_count : ℕ) (b : Bool)
-    → length (flat_map (object_places d) (range_with_len 0 count) ++ map (λ k. Directory k) (filter touched (range_with_len 0 directory_count)) ++ (if b then Root ∷ [] else []))
-    ≡ all_blocks d count + (count_where touched directory_count + count_if b)
+parts : (g : GroupChanges) (written : ℕ → Bool) (count directory_count : ℕ) (b : Bool)
+    → length (flat_map (places_of_object g) (range_with_len 0 count) ++ map (λ k. Directory k) (filter written (range_with_len 0 directory_count)) ++ (if b then Root ∷ [] else []))
+    ≡ all_blocks g count + (count_where written directory_count + count_if b)
 unfolding all_blocks count_where
-parts d touched count directory_count b =
-    let objects = flat_map (object_places d) (range_with_len 0 count) in
-    let middle : List Place = map (λ k. Directory k) (filter touched (range_with_len 0 directory_count)) in
+parts g written count directory_count b =
+    let objects = flat_map (places_of_object g) (range_with_len 0 count) in
+    let middle : List Place = map (λ k. Directory k) (filter written (range_with_len 0 directory_count)) in
     let top : List Place = if b then Root ∷ [] else [] in
     let ends : length top ≡ count_if b = last b in
     let one = length-append (objects ++ middle) top in
     let two = length-append objects middle in
-    let three : length middle ≡ length (filter touched (range_with_len 0 directory_count)) = length-map (filter touched (range_with_len 0 directory_count)) (λ k. Directory k) in
+    let three : length middle ≡ length (filter written (range_with_len 0 directory_count)) = length-map (filter written (range_with_len 0 directory_count)) (λ k. Directory k) in
     omega (arith, ends, one, two, three)
   where
     last : (b : Bool) → (let top : List Place = if b then Root ∷ [] else [] in length top) ≡ count_if b
     last true = refl
     last false = refl
 
-tree_length : (objects : List (ObjectId × DirtyRecords)) → AreInRange objects
-    → tree_blocks objects ≡ all_blocks (is_marked objects) 5292 + (count_where (is_directory_touched objects) 84 + count_if (is_any_touched objects))
-unfolding tree_blocks
-tree_length objects within =
-    let same : is_directory_touched objects ≡ has_changed (λ n. is_some (entry_of objects n)) = λ k d. sym (has_changed-touched objects d) k in
-    let any : is_any_touched objects ≡ list_any (is_directory_touched objects) (range_with_len 0 84) = sym (any_directory 84 objects (λ n there. let low = within n there in omega arith)) in
-    let whole : (ℕ → Bool) → Bool → ℕ = λ h t. all_blocks (is_marked objects) 5292 + (count_where h 84 + count_if t) in
-    parts (is_marked objects) (has_changed (λ n. is_some (entry_of objects n))) 5292 84 _
-    ∙ sym (ap (λ t. whole (is_directory_touched objects) t) any ∙ ap (λ (h : ℕ → Bool). whole h (list_any h (range_with_len 0 84))) same)
+module _ (flags : List Bool) (objects : List (ObjectId × ObjectChanges)) (pointers : Place → Pointer) (after : FinMap nat_cmp (List ℕ)) (within : AreInRange objects) where
+  abbrev group : GroupChanges
+  group = group_of objects pointers after
 
-module _ (flags : List Bool) (objects : List (ObjectId × DirtyRecords)) (within : AreInRange objects) where
   abbrev all : ℕ
-  all = tree_blocks objects
+  all = tree_blocks group
+
+  tree_length : tree_blocks group ≡ all_blocks group 5292 + (count_where (is_directory_dirty objects after) 84 + count_if (is_dirty (root_state objects after)))
+  unfolding tree_blocks count_where
+  tree_length =
+      parts group (is_directory_written group) 5292 84 (is_root_written group)
+      ∙ ap (λ (l : List ℕ). all_blocks group 5292 + (length l + count_if (is_root_written group))) (written-directories objects pointers after)
+      ∙ ap (λ (t : Bool). all_blocks group 5292 + (length (filter (is_directory_dirty objects after) (range_with_len 0 84)) + count_if t)) (root-written objects pointers after within)
 
   -- the objects of a walk are refused, or its directories behind them, or its root behind these
-  pub objects_lack : (s : Progress) → Lacks flags s (all_blocks (is_marked objects) 5292) → Lacks flags s all
-  objects_lack s lacks = let sum = tree_length objects within in lacks_more flags s (all_blocks (is_marked objects) 5292) all (omega (arith, sum)) lacks
+  pub objects_lack : (s : Progress) → Lacks flags s (all_blocks group 5292) → Lacks flags s all
+  objects_lack s lacks = let sum = tree_length in lacks_more flags s (all_blocks group 5292) all (omega (arith, sum)) lacks
 
-  pub directories_lack : (s t : Progress) (map_of : ℕ → Option ObjectMap) → Goes flags s t → Adds s.blocks t.blocks (all_addresses (is_marked objects) map_of 5292)
-      → Lacks flags t (count_where (is_directory_touched objects) 84) → Lacks flags s all
+  pub directories_lack : (s t : Progress) (map_of : ℕ → Option ObjectMap) → Goes flags s t → Adds s.blocks t.blocks (all_addresses group map_of 5292)
+      → Lacks flags t (count_where (is_directory_dirty objects after) 84) → Lacks flags s all
   directories_lack s t map_of goes adds lacks =
-      let sum = tree_length objects within in
-      let first = all_length (is_marked objects) map_of 5292 in
-      lacks_behind flags s t (all_addresses (is_marked objects) map_of 5292) (count_where (is_directory_touched objects) 84) all goes adds (omega (arith, sum, first)) lacks
+      let sum = tree_length in
+      let first = all_length group map_of 5292 in
+      lacks_behind flags s t (all_addresses group map_of 5292) (count_where (is_directory_dirty objects after) 84) all goes adds (omega (arith, sum, first)) lacks
 
-  pub root_lacks : (r s t : Progress) (map_of : ℕ → Option ObjectMap) (pointers : ℕ → Pointer) → Goes flags r s → Adds r.blocks s.blocks (all_addresses (is_marked objects) map_of 5292)
-      → Goes flags s t → Adds s.blocks t.blocks (addresses_where (is_directory_touched objects) pointers 84) → Lacks flags t (count_if (is_any_touched objects)) → Lacks flags r all
-  root_lacks r s t map_of pointers goes adds goes_on adds_more lacks =
-      let sum = tree_length objects within in
-      let first = all_length (is_marked objects) map_of 5292 in
-      let second = where_length (is_directory_touched objects) pointers 84 in
-      let counted = length-append (all_addresses (is_marked objects) map_of 5292) (addresses_where (is_directory_touched objects) pointers 84) in
-      lacks_behind flags r t (all_addresses (is_marked objects) map_of 5292 ++ addresses_where (is_directory_touched objects) pointers 84) (count_if (is_any_touched objects)) all
+  pub root_lacks : (r s t : Progress) (map_of : ℕ → Option ObjectMap) (directories : ℕ → Pointer) → Goes flags r s → Adds r.blocks s.blocks (all_addresses group map_of 5292)
+      → Goes flags s t → Adds s.blocks t.blocks (addresses_where (is_directory_dirty objects after) directories 84) → Lacks flags t (count_if (is_dirty (root_state objects after))) → Lacks flags r all
+  root_lacks r s t map_of directories goes adds goes_on adds_more lacks =
+      let sum = tree_length in
+      let first = all_length group map_of 5292 in
+      let second = where_length (is_directory_dirty objects after) directories 84 in
+      let counted = length-append (all_addresses group map_of 5292) (addresses_where (is_directory_dirty objects after) directories 84) in
+      lacks_behind flags r t (all_addresses group map_of 5292 ++ addresses_where (is_directory_dirty objects after) directories 84) (count_if (is_dirty (root_state objects after))) all
       (goes_twice goes goes_on) (adds_twice r.blocks s.blocks t.blocks _ _ adds adds_more) (omega (arith, sum, first, second, counted)) lacks
 
 -- a plan begins with no block
@@ -218,11 +225,15 @@ lacks_in_all flags next blocks count at_first none lacks =
     let no_blocks : length blocks ≡ 0 = ap (λ (l : List NewBlock). length l) none in
     omega (arith, h, no_blocks)
 
-pub plan_lacks : (flags : List Bool) (next : ℕ) (blocks : List NewBlock) (objects : List (ObjectId × DirtyRecords)) → next ≡ 0 → blocks ≡ []
-    → (addresses_of blocks ++ free_from next flags ≡ addresses_from 0 flags → length (addresses_from 0 flags) < length blocks + tree_blocks objects)
-    → length (addresses_from 0 flags) < length (written_by (is_marked objects) (λ n. is_some (entry_of objects n)))
+pub plan_lacks : (flags : List Bool) (next : ℕ) (blocks : List NewBlock) (g : GroupChanges) → next ≡ 0 → blocks ≡ []
+    → (addresses_of blocks ++ free_from next flags ≡ addresses_from 0 flags → length (addresses_from 0 flags) < length blocks + tree_blocks g)
+    → length (addresses_from 0 flags) < length (written_by g)
 unfolding tree_blocks
-plan_lacks flags next blocks objects at_first none lacks = lacks_in_all flags next blocks _ at_first none lacks
+plan_lacks flags next blocks g at_first none lacks = lacks_in_all flags next blocks _ at_first none lacks
+
+-- a place that takes one block is refused for want of it
+pub lacks_here : (flags : List Bool) (s : Progress) (state : RecordState) → state ≡ Dirty → free_from s.next flags ≡ [] → Lacks flags s (count_if (is_dirty state))
+lacks_here flags s state is none = rw is (lacks_one flags s none)
 
 -- an error is handed on
 pub handed_on : {A : Type 0} (r : Result A PoolError) (x : PoolError) (P : PoolError → Type 0) → IsErrAnd r (λ e. e ≡ x) → P x → IfErr r P

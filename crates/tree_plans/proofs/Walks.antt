@@ -13,27 +13,16 @@ use Rattle.std.specs.FinMap.{FinMap}
 use Rattle.std.proofs.lemmas.Bool.{eq-eqb, eqb-true}
 use Rattle.base.specs.declared.pointer.Pointer.{Pointer}
 use Rattle.base.specs.declared.names.ObjectId.{ObjectId}
+use Rattle.base.specs.declared.record_state.RecordState.{RecordState}
 use Rattle.base.specs.formats.Limits.{object_count}
-use Rattle.base.specs.formats.Fields.{no_pointer, pointer_in}
-use Rattle.base.specs.tree.Places.Place.{Root, Directory}
-use Rattle.checked_blocks.specs.Sealing.{padded}
+use Rattle.base.specs.formats.Fields.{no_pointer}
+use Rattle.base.specs.tree.Places.Place.{Directory}
 use Rattle.object_maps.specs.declared.tree.ObjectMap.{ObjectMap}
-use Rattle.tree_plans.specs.declared.planner.DirtyRecords.{DirtyRecords}
+use Rattle.tree_plans.specs.declared.changes.ObjectChanges.{ObjectChanges}
 use Rattle.tree_plans.specs.Pointers.{IsPut, entry_of}
-use Rattle.tree_plans.specs.Plans.{Progress, Goes, IsWritten, FreesOnly, RecordFrees, ObjectFrees, IsAmong, IsOf}
-use Rattle.tree_plans.specs.Walks.{AreDirectoriesPlanned, AreEntriesWritten, AreObjectsPlanned, DirectoriesFree, IsDirectoryPlanned, IsOfDirectory, IsOfObject, IsPlannedFrom, IsRootPlanned, ObjectsFree, is_any_touched, is_directory_touched}
-use Rattle.tree_plans.proofs.Payloads.{padded-full}
-use Rattle.tree_plans.proofs.Progress.{each_push, object_stays, written_stays}
-
--- a flag that is true is one of them
-pub any_flag : (flags : List Bool) (r : ℕ) → slice_index_or flags r false ≡ true → list_any (λ (dirty : Bool). dirty) flags ≡ true
-any_flag [] r is = is
-any_flag (f ∷ flags) zero is = rw is refl
-any_flag (f ∷ flags) (suc r) is = rw (any_flag flags r is) (or_true f)
-  where
-    or_true : (b : Bool) → (b || true) ≡ true
-    or_true true = refl
-    or_true false = refl
+use Rattle.tree_plans.specs.Plans.{Progress, Goes, FreesOnly, PlaceFrees, ObjectFrees, IsAmong, IsOf, replaces}
+use Rattle.tree_plans.specs.Walks.{AreDirectoriesPlanned, AreEntriesWritten, AreObjectsPlanned, DirectoriesFree, IsDirectoryPlanned, IsOfDirectory, IsOfObject, IsPlannedFrom, ObjectsFree, directory_state, root_state}
+use Rattle.tree_plans.proofs.Progress.{become_stays, each_push, object_stays}
 
 -- what is pushed is what was there, or the new one
 pub push_cases : {A : Type 0} (xs : List A) (a b : A) (i : ℕ) → slice_get (xs ++ a ∷ []) i ≡ Some b → (slice_get xs i ≡ Some b) ⊎ (a ≡ b)
@@ -47,43 +36,42 @@ some_either true a o e = refl
 some_either false a o (inl e) = absurd (cc)
 some_either false a o (inr e) = e
 
-module _ {flags : List Bool} {s t : Progress} (maps : List ObjectMap) (after : FinMap nat_cmp (List ℕ)) (objects : List (ObjectId × DirtyRecords)) where
+module _ {flags : List Bool} {s t : Progress} (maps : List ObjectMap) (after : FinMap nat_cmp (List ℕ)) (objects : List (ObjectId × ObjectChanges)) where
   pub from_stays : (n : ℕ) (m : ObjectMap) → Goes flags s t → IsPlannedFrom s maps after objects n m → IsPlannedFrom t maps after objects n m
   from_stays n m g f = record {
     low = f.low;
-    dirty = f.dirty;
-    dirty_is = f.dirty_is;
+    changes = f.changes;
+    changes_are = f.changes_are;
     old = f.old;
     old_is = f.old_is;
-    planned = object_stays n (unwrap_or (finite.get after n) []) f.dirty.flags f.old m g f.planned;
+    planned = object_stays n (unwrap_or (finite.get after n) []) f.changes f.old m g f.planned;
   }
 
-  pub objects_stay : (done : List (ObjectId × DirtyRecords)) (planned : List (ObjectId × ObjectMap)) → Goes flags s t → AreObjectsPlanned s maps after objects done planned → AreObjectsPlanned t maps after objects done planned
+  pub objects_stay : (done : List (ObjectId × ObjectChanges)) (planned : List (ObjectId × ObjectMap)) → Goes flags s t → AreObjectsPlanned s maps after objects done planned → AreObjectsPlanned t maps after objects done planned
   objects_stay done planned g a = record { each = λ n m e. from_stays n m g (a.each n m e); all = a.all }
 
--- an object with no dirty record is gone over
-pub object_passed : (s : Progress) (maps : List ObjectMap) (after : FinMap nat_cmp (List ℕ)) (objects done : List (ObjectId × DirtyRecords)) (planned : List (ObjectId × ObjectMap)) (id : ObjectId) (dirty : DirtyRecords)
-    → (id.0 < object_count → (r : ℕ) → slice_index_or dirty.flags r false ≡ true → ⊥) → AreObjectsPlanned s maps after objects done planned → AreObjectsPlanned s maps after objects (done ++ (id, dirty) ∷ []) planned
-object_passed s maps after objects done planned id dirty none a = record {
+-- an object that has no place in the tree is gone over
+pub object_passed : (s : Progress) (maps : List ObjectMap) (after : FinMap nat_cmp (List ℕ)) (objects done : List (ObjectId × ObjectChanges)) (planned : List (ObjectId × ObjectMap)) (id : ObjectId) (changes : ObjectChanges)
+    → (id.0 < object_count → ⊥) → AreObjectsPlanned s maps after objects done planned → AreObjectsPlanned s maps after objects (done ++ (id, changes) ∷ []) planned
+object_passed s maps after objects done planned id changes none a = record {
   each = a.each;
-  all = λ i other flags at low r flag. elim (push_cases done (id, dirty) (other, flags) i at) [
-    | inl before ↦ a.all i other flags before low r flag
+  all = λ i other more at low. elim (push_cases done (id, changes) (other, more) i at) [
+    | inl before ↦ a.all i other more before low
     | inr e ↦
-        let same : id ≡ other = ap (λ (p : ObjectId × DirtyRecords). p.0) e in
-        let alike : dirty ≡ flags = ap (λ (p : ObjectId × DirtyRecords). p.1) e in
-        absurd (none (rw same low) r (rw alike flag))
+        let same : id ≡ other = ap (λ (p : ObjectId × ObjectChanges). p.0) e in
+        absurd (none (rw same low))
   ];
 }
 
 -- an object is planned
-pub object_put : {flags : List Bool} {s t : Progress} (maps : List ObjectMap) (after : FinMap nat_cmp (List ℕ)) (objects done : List (ObjectId × DirtyRecords)) (old new : List (ObjectId × ObjectMap)) (id : ObjectId) (dirty : DirtyRecords) (m : ObjectMap)
-    → Goes flags s t → IsPut old id m new → IsPlannedFrom t maps after objects id.0 m → AreObjectsPlanned s maps after objects done old → AreObjectsPlanned t maps after objects (done ++ (id, dirty) ∷ []) new
-object_put {flags} {s} {t} maps after objects done old new id dirty m g put here a = record {
+pub object_put : {flags : List Bool} {s t : Progress} (maps : List ObjectMap) (after : FinMap nat_cmp (List ℕ)) (objects done : List (ObjectId × ObjectChanges)) (old new : List (ObjectId × ObjectMap)) (id : ObjectId) (changes : ObjectChanges) (m : ObjectMap)
+    → Goes flags s t → IsPut old id m new → IsPlannedFrom t maps after objects id.0 m → AreObjectsPlanned s maps after objects done old → AreObjectsPlanned t maps after objects (done ++ (id, changes) ∷ []) new
+object_put {flags} {s} {t} maps after objects done old new id changes m g put here a = record {
   each = λ n other e. found n other (id.0 == n) refl (sym (put n) ∙ e);
-  all = λ i other flags at low r flag. ap is_some (put other.0) ∙ some_either (id.0 == other.0) m (entry_of old other.0)
-      (elim (push_cases done (id, dirty) (other, flags) i at) [
-        | inl before ↦ inr (a.all i other flags before low r flag)
-        | inr e ↦ inl (eq-eqb id.0 other.0 (ap (λ (p : ObjectId × DirtyRecords). p.0.0) e))
+  all = λ i other more at low. ap is_some (put other.0) ∙ some_either (id.0 == other.0) m (entry_of old other.0)
+      (elim (push_cases done (id, changes) (other, more) i at) [
+        | inl before ↦ inr (a.all i other more before low)
+        | inr e ↦ inl (eq-eqb id.0 other.0 (ap (λ (p : ObjectId × ObjectChanges). p.0.0) e))
       ]);
 }
   where
@@ -94,10 +82,10 @@ object_put {flags} {s} {t} maps after objects done old new id dirty m g put here
         rw (← same, ← m_is) here
     found n other false e is = from_stays maps after objects n other g (a.each n other is)
 
-pub objects_free_put : (first freed released : List ℕ) (maps : List ObjectMap) (objects : List (ObjectId × DirtyRecords)) (old new : List (ObjectId × ObjectMap)) (id : ObjectId) (dirty : DirtyRecords) (was m : ObjectMap)
-    → IsPut old id m new → id.0 < object_count → entry_of objects id.0 ≡ Some dirty → slice_get maps id.0 ≡ Some was → ObjectFrees freed released dirty.flags was
+pub objects_free_put : (first freed released : List ℕ) (maps : List ObjectMap) (objects : List (ObjectId × ObjectChanges)) (old new : List (ObjectId × ObjectMap)) (id : ObjectId) (changes : ObjectChanges) (was m : ObjectMap)
+    → IsPut old id m new → id.0 < object_count → entry_of objects id.0 ≡ Some changes → slice_get maps id.0 ≡ Some was → ObjectFrees freed released changes was
     → ObjectsFree first freed maps objects old → ObjectsFree first released maps objects new
-objects_free_put first freed released maps objects old new id dirty was m put low dirty_is was_is more frees address among =
+objects_free_put first freed released maps objects old new id changes was m put low changes_are was_is more frees address among =
     elim (more address among) [
       | inl before ↦ elim (frees address before) [
         | inl at_first ↦ inl at_first
@@ -105,8 +93,8 @@ objects_free_put first freed released maps objects old new id dirty was m put lo
           number = of.number;
           low = of.low;
           there = ap is_some (put of.number) ∙ some_either (id.0 == of.number) m (entry_of old of.number) (inr of.there);
-          dirty = of.dirty;
-          dirty_is = of.dirty_is;
+          changes = of.changes;
+          changes_are = of.changes_are;
           old = of.old;
           old_is = of.old_is;
           is_of = of.is_of;
@@ -116,8 +104,8 @@ objects_free_put first freed released maps objects old new id dirty was m put lo
         number = id.0;
         low = low;
         there = ap is_some (put id.0) ∙ some_either (id.0 == id.0) m (entry_of old id.0) (inl (eq-eqb id.0 id.0 refl));
-        dirty = dirty;
-        dirty_is = dirty_is;
+        changes = changes;
+        changes_are = changes_are;
         old = was;
         old_is = was_is;
         is_of = here;
@@ -125,58 +113,34 @@ objects_free_put first freed released maps objects old new id dirty was m put lo
     ]
 
 -- directories
-pub directory_kept : (s : Progress) (maps : List ObjectMap) (planned : List (ObjectId × ObjectMap)) (after : FinMap nat_cmp (List ℕ)) (d : ℕ) (touched : Bool) (old : Pointer)
-    → touched ≡ false → IsDirectoryPlanned s maps planned after d touched old old
-directory_kept s maps planned after d touched old e = rw e refl
-
-pub directory_written : (s : Progress) (maps : List ObjectMap) (planned : List (ObjectId × ObjectMap)) (after : FinMap nat_cmp (List ℕ)) (d : ℕ) (touched : Bool) (old new : Pointer) (payload : List ℕ)
-    → touched ≡ true → IsWritten s (Directory d) old new (padded payload) → length payload ≡ 4032 → AreEntriesWritten maps planned after d 63 payload → IsDirectoryPlanned s maps planned after d touched old new
-directory_written s maps planned after d touched old new payload e written long entries =
-    let full : padded payload ≡ payload = padded-full payload long in
-    rw e (payload, (rw full at written), entries)
-
-directory_stays : {flags : List Bool} {s t : Progress} (maps : List ObjectMap) (planned : List (ObjectId × ObjectMap)) (after : FinMap nat_cmp (List ℕ)) (d : ℕ) (touched : Bool) (old new : Pointer)
-    → Goes flags s t → IsDirectoryPlanned s maps planned after d touched old new → IsDirectoryPlanned t maps planned after d touched old new
-directory_stays maps planned after d true old new g p = (p.0, written_stays g p.1, p.2)
-directory_stays maps planned after d false old new g p = p
-
-pub directories_stay : {flags : List Bool} {s t : Progress} (maps : List ObjectMap) (planned : List (ObjectId × ObjectMap)) (after : FinMap nat_cmp (List ℕ)) (objects : List (ObjectId × DirtyRecords)) (old : List Pointer) (count : ℕ) (new : List Pointer)
+pub directories_stay : {flags : List Bool} {s t : Progress} (maps : List ObjectMap) (planned : List (ObjectId × ObjectMap)) (after : FinMap nat_cmp (List ℕ)) (objects : List (ObjectId × ObjectChanges)) (old : List Pointer) (count : ℕ) (new : List Pointer)
     → Goes flags s t → AreDirectoriesPlanned s maps planned after objects old count new → AreDirectoriesPlanned t maps planned after objects old count new
-directories_stay maps planned after objects old count new g each d low = directory_stays maps planned after d (is_directory_touched objects d) (slice_index_or old d no_pointer) (slice_index_or new d no_pointer) g (each d low)
+directories_stay maps planned after objects old count new g each d low =
+    become_stays (Directory d) (directory_state objects after d) (slice_index_or old d no_pointer) (slice_index_or new d no_pointer) (AreEntriesWritten maps planned after d 63) g (each d low)
 
-pub directories_push : {flags : List Bool} {s t : Progress} (maps : List ObjectMap) (planned : List (ObjectId × ObjectMap)) (after : FinMap nat_cmp (List ℕ)) (objects : List (ObjectId × DirtyRecords)) (old : List Pointer) (i : ℕ) (directories : List Pointer) (touched : Bool) (new : Pointer)
-    → Goes flags s t → length directories ≡ i → touched ≡ is_directory_touched objects i → AreDirectoriesPlanned s maps planned after objects old i directories
-    → IsDirectoryPlanned t maps planned after i touched (slice_index_or old i no_pointer) new → AreDirectoriesPlanned t maps planned after objects old (i + 1) (directories ++ new ∷ [])
-directories_push {s = s} {t = t} maps planned after objects old i directories touched new g long is each here =
-    each_push (λ d p. IsDirectoryPlanned t maps planned after d (is_directory_touched objects d) (slice_index_or old d no_pointer) p) directories new no_pointer i long
+pub directories_push : {flags : List Bool} {s t : Progress} (maps : List ObjectMap) (planned : List (ObjectId × ObjectMap)) (after : FinMap nat_cmp (List ℕ)) (objects : List (ObjectId × ObjectChanges)) (old : List Pointer) (i : ℕ) (directories : List Pointer) (state : RecordState) (new : Pointer)
+    → Goes flags s t → length directories ≡ i → state ≡ directory_state objects after i → AreDirectoriesPlanned s maps planned after objects old i directories
+    → IsDirectoryPlanned t maps planned after i state (slice_index_or old i no_pointer) new → AreDirectoriesPlanned t maps planned after objects old (i + 1) (directories ++ new ∷ [])
+directories_push {s = s} {t = t} maps planned after objects old i directories state new g long is each here =
+    each_push (λ d p. IsDirectoryPlanned t maps planned after d (directory_state objects after d) (slice_index_or old d no_pointer) p) directories new no_pointer i long
     (directories_stay maps planned after objects old i directories g each) (rw (← is) here)
 
-pub directories_free_push : (first old new : List ℕ) (objects : List (ObjectId × DirtyRecords)) (was : List Pointer) (i : ℕ) (touched : Bool) → touched ≡ is_directory_touched objects i
-    → DirectoriesFree first old objects was i → RecordFrees old new touched (slice_index_or was i no_pointer) → DirectoriesFree first new objects was (i + 1)
-directories_free_push first old new objects was i touched is frees more address among =
+pub directories_free_push : (first old new : List ℕ) (objects : List (ObjectId × ObjectChanges)) (after : FinMap nat_cmp (List ℕ)) (was : List Pointer) (i : ℕ) (state : RecordState) → state ≡ directory_state objects after i
+    → DirectoriesFree first old objects after was i → PlaceFrees old new state (slice_index_or was i no_pointer) → DirectoriesFree first new objects after was (i + 1)
+directories_free_push first old new objects after was i state is frees more address among =
     elim (more address among) [
-      | inl before ↦ elim (frees address before) [ inl at_first ↦ inl at_first | inr of ↦ inr (record { number = of.number; low = (let low = of.low in omega arith); touched = of.touched; is_of = of.is_of }) ]
-      | inr here ↦ inr (record { number = i; low = omega arith; touched = sym is ∙ here.0; is_of = here.1 })
+      | inl before ↦ elim (frees address before) [ inl at_first ↦ inl at_first | inr of ↦ inr (record { number = of.number; low = (let low = of.low in omega arith); replaced = of.replaced; is_of = of.is_of }) ]
+      | inr here ↦ inr (record { number = i; low = omega arith; replaced = ap replaces (sym is) ∙ here.0; is_of = here.1 })
     ]
 
--- the root
-pub root_kept : (s : Progress) (directories : List Pointer) (touched : Bool) (old : Pointer) → touched ≡ false → IsRootPlanned s directories touched old old
-root_kept s directories touched old e = rw e refl
-
-pub root_written : (s : Progress) (directories : List Pointer) (touched : Bool) (old new : Pointer) (payload : List ℕ) → touched ≡ true → IsWritten s Root old new (padded payload) → length payload ≡ 4032
-    → ((d : ℕ) → d < 84 → pointer_in payload d ≡ slice_index_or directories d no_pointer) → IsRootPlanned s directories touched old new
-root_written s directories touched old new payload e written long pointers =
-    let full : padded payload ≡ payload = padded-full payload long in
-    rw e (payload, (rw full at written), pointers)
-
-pub frees_weaker : (old new : List ℕ) (was : Pointer) (dirty : Bool) → dirty ≡ true → FreesOnly old new was → RecordFrees old new dirty was
-frees_weaker old new was dirty is only address among = elim (only address among) [ inl before ↦ inl before | inr of ↦ inr (is, of) ]
+pub frees_weaker : (old new : List ℕ) (was : Pointer) (state : RecordState) → replaces state ≡ true → FreesOnly old new was → PlaceFrees old new state was
+frees_weaker old new was state is only address among = elim (only address among) [ inl before ↦ inl before | inr of ↦ inr (is, of) ]
 
 -- what comes back of a whole walk
-pub walk_frees : (f0 f1 f2 f3 : List ℕ) (maps : List ObjectMap) (objects : List (ObjectId × DirtyRecords)) (planned : List (ObjectId × ObjectMap)) (was : List Pointer) (root : Pointer)
-    → f0 ≡ [] → ObjectsFree f0 f1 maps objects planned → DirectoriesFree f1 f2 objects was 84 → RecordFrees f2 f3 (is_any_touched objects) root
-    → (address : ℕ) → IsAmong f3 address → IsOfObject maps objects planned address ⊎ (IsOfDirectory objects was 84 address ⊎ ((is_any_touched objects ≡ true) × IsOf root address))
-walk_frees f0 f1 f2 f3 maps objects planned was root start one two three address among =
+pub walk_frees : (f0 f1 f2 f3 : List ℕ) (maps : List ObjectMap) (objects : List (ObjectId × ObjectChanges)) (after : FinMap nat_cmp (List ℕ)) (planned : List (ObjectId × ObjectMap)) (was : List Pointer) (root : Pointer)
+    → f0 ≡ [] → ObjectsFree f0 f1 maps objects planned → DirectoriesFree f1 f2 objects after was 84 → PlaceFrees f2 f3 (root_state objects after) root
+    → (address : ℕ) → IsAmong f3 address → IsOfObject maps objects planned address ⊎ (IsOfDirectory objects after was 84 address ⊎ ((replaces (root_state objects after) ≡ true) × IsOf root address))
+walk_frees f0 f1 f2 f3 maps objects after planned was root start one two three address among =
     elim (three address among) [
       | inr here ↦ inr (inr here)
       | inl before ↦ elim (two address before) [
@@ -214,16 +178,10 @@ next_of {A} P all done rest e split holds =
     longer [] = omega arith
     longer (x ∷ xs) = let h = longer xs in omega arith
 
-pub any_touched : (n : ℕ) (b : Bool) → (IsTrue b → n ≡ 0) × (n ≡ 0 → IsTrue b) → b ≡ false → not (n == 0) ≡ true
-any_touched n b iff none = elim (n == 0) as (λ t. (n == 0) ≡ t → not t ≡ true) [
-  | true ↦ λ e. let there : IsTrue b = iff.1 (eqb-true n 0 e) in absurd (cc)
-  | false ↦ λ e. refl
-] refl
-
-pub none_touched : (n : ℕ) (b : Bool) → (IsTrue b → n ≡ 0) × (n ≡ 0 → IsTrue b) → b ≡ true → not (n == 0) ≡ false
-none_touched n b iff all =
-    let none : n ≡ 0 = iff.0 (cc) in
-    rw none refl
+-- a list is empty or not
+pub not-is_empty : (n : ℕ) (b : Bool) → (IsTrue b → n ≡ 0) × (n ≡ 0 → IsTrue b) → not b ≡ not (n == 0)
+not-is_empty n true iff = let none : n ≡ 0 = iff.0 refl in rw none refl
+not-is_empty n false iff = elim (n == 0) as (λ t. (n == 0) ≡ t → true ≡ not t) [ true ↦ λ e. absurd (let h : IsTrue false = iff.1 (eqb-true n 0 e) in cc) | false ↦ λ e. refl ] refl
 
 pub unwrapped : (o : Option (Bor (List ℕ))) (d : Bor (List ℕ)) (after : Option (List ℕ)) → option_map (λ (b : Bor (List ℕ)). b.now) o ≡ after → d.now ≡ [] → (unwrap_or o d).now ≡ unwrap_or after []
 unwrapped None d after e none = none ∙ ap (λ (a : Option (List ℕ)). unwrap_or a []) e
@@ -243,7 +201,7 @@ module _ (R : ObjectId → ObjectId → Ordering) (ties : (a b : ObjectId) → i
       let q : ObjectId = record { 0 = n } in
       sym (entry_of-get new q) ∙ updates q ∙ ap (λ b. cond b (Some m) (tree.get R old q)) (ties id q) ∙ ap (λ o. cond (id.0 == n) (Some m) o) (entry_of-get old q)
 
-  pub found_of : (m : BTreeMap ObjectId DirtyRecords) → All (λ (e : ObjectId × DirtyRecords). tree.get R m e.0 ≡ Some e.1) m.entries → All (λ (e : ObjectId × DirtyRecords). entry_of m.entries e.0.0 ≡ Some e.1) m.entries
+  pub found_of : (m : BTreeMap ObjectId ObjectChanges) → All (λ (e : ObjectId × ObjectChanges). tree.get R m e.0 ≡ Some e.1) m.entries → All (λ (e : ObjectId × ObjectChanges). entry_of m.entries e.0.0 ≡ Some e.1) m.entries
   found_of m all k d low = sym (entry_of-get m (slice_index_or m.entries k d).0) ∙ all k d low
 
 pub not_empty : {A : Type 0} (done : List A) (e : A) (rest : List A) → done ++ (e ∷ rest) ≡ [] → ⊥

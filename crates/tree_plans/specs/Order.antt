@@ -1,19 +1,15 @@
 -- The order in which a plan takes its blocks: which addresses its steps take, one after another.
-use Rattle.std.specs.Prelude.{ℕ, ◌≡◌, Bool, List, [], ◌∷◌, ◌++◌, map, filter, Option, is_some, if◌then◌else◌}
-use Rattle.std.specs.List.{list_any, flat_map, range_with_len}
+use Rattle.std.specs.Prelude.{ℕ, ◌≡◌, Bool, List, [], ◌∷◌, ◌++◌, map, filter, Option, if◌then◌else◌}
+use Rattle.std.specs.List.{flat_map, range_with_len}
 use Rattle.std.specs.Option.{option_map_or}
 use Rattle.base.specs.declared.pointer.Pointer.{Pointer}
-use Rattle.base.specs.declared.names.ObjectId.{ObjectId}
 use Rattle.base.specs.formats.Limits.{pointer_count}
 use Rattle.base.specs.formats.Fields.{no_pointer}
 use Rattle.base.specs.tree.Places.{Place}
-use Rattle.base.specs.tree.PlannedPlaces.{written_by}
 use Rattle.base.specs.tree.PlannedTrees.{NewBlock}
-use Rattle.base.specs.tree.Syncs.{record_numbers}
+use Rattle.base.specs.tree.Syncs.{GroupChanges, is_indirect_written, is_record_written, written_by}
 use Rattle.object_maps.specs.declared.tree.ObjectMap.{ObjectMap}
-use Rattle.tree_plans.specs.declared.planner.DirtyRecords.{DirtyRecords}
-use Rattle.tree_plans.specs.Pointers.{entry_of, record_in}
-use Rattle.tree_plans.specs.Changes.{is_marked}
+use Rattle.tree_plans.specs.Pointers.{record_in}
 
 abbrev pub addresses_of : List NewBlock → List ℕ
 addresses_of blocks = map (λ (b : NewBlock). b.address) blocks
@@ -30,15 +26,15 @@ address_if made pointer = if made then pointer.address ∷ [] else []
 unfoldable pub addresses_where : (ℕ → Bool) → (ℕ → Pointer) → ℕ → List ℕ
 addresses_where is_marked pointers count = map (λ i. (pointers i).address) (filter is_marked (range_with_len 0 count))
 
--- of an object: the addresses of its dirty records, rising, and behind them that of its indirect block, if a record is dirty
-unfoldable pub object_addresses : (ℕ → Bool) → Option ObjectMap → List ℕ
-object_addresses is_dirty o = addresses_where is_dirty (λ r. option_map_or (λ (m : ObjectMap). record_in m r) o no_pointer) pointer_count
-    ++ address_if (list_any is_dirty record_numbers) (option_map_or (λ (m : ObjectMap). m.indirect) o no_pointer)
+-- of an object: the addresses of its dirty records, rising, and behind them that of its indirect block, if it is written
+unfoldable pub object_addresses : GroupChanges → ℕ → Option ObjectMap → List ℕ
+object_addresses group n o = addresses_where (is_record_written group n) (λ r. option_map_or (λ (m : ObjectMap). record_in m r) o no_pointer) pointer_count
+    ++ address_if (is_indirect_written group n) (option_map_or (λ (m : ObjectMap). m.indirect) o no_pointer)
 
 -- of the objects below a number, rising
-unfoldable pub all_addresses : (ℕ → ℕ → Bool) → (ℕ → Option ObjectMap) → ℕ → List ℕ
-all_addresses is_dirty map_of count = flat_map (λ n. object_addresses (is_dirty n) (map_of n)) (range_with_len 0 count)
+unfoldable pub all_addresses : GroupChanges → (ℕ → Option ObjectMap) → ℕ → List ℕ
+all_addresses group map_of count = flat_map (λ n. object_addresses group n (map_of n)) (range_with_len 0 count)
 
--- the addresses are those of the places that change, one for each, in their order
-unfoldable pub AreInOrder : List ℕ → (Place → Pointer) → List (ObjectId × DirtyRecords) → Type 0
-AreInOrder addresses pointers objects = addresses ≡ map (λ (place : Place). (pointers place).address) (written_by (is_marked objects) (λ n. is_some (entry_of objects n)))
+-- the addresses are those of the places that are written, one for each, in their order
+unfoldable pub AreInOrder : List ℕ → (Place → Pointer) → GroupChanges → Type 0
+AreInOrder addresses pointers group = addresses ≡ map (λ (place : Place). (pointers place).address) (written_by group)

@@ -10,7 +10,9 @@ use Rattle.base.specs.declared.names.ObjectId.{ObjectId}
 use Rattle.base.specs.formats.Limits.{object_count, pointer_count}
 use Rattle.base.specs.formats.Fields.{no_pointer}
 use Rattle.base.specs.stored.Stored.{AreUsed}
+use Rattle.base.specs.declared.record_state.RecordState.{RecordState}
 use Rattle.base.specs.tree.PlannedTrees.{NewBlock}
+use Rattle.base.specs.tree.Syncs.{GroupChanges, is_dirty}
 use Rattle.checked_blocks.specs.Sealing.{padded}
 use Rattle.object_maps.specs.declared.tree.ObjectMap.{ObjectMap}
 use Rattle.object_maps.specs.ContentsShown.{contents_of}
@@ -18,14 +20,14 @@ use Rattle.object_maps.specs.Pointers.{pointer_of_list}
 use Rattle.space.specs.declared.free_set.FreeSet.{FreeSet}
 use Rattle.tree_plans.specs.declared.place.BlockPlace.{BlockPlace}
 use Rattle.tree_plans.specs.declared.place.RecordPlace.{RecordPlace}
-use Rattle.tree_plans.specs.declared.planner.DirtyRecords.{DirtyRecords}
+use Rattle.tree_plans.specs.declared.changes.ObjectChanges.{ObjectChanges}
 use Rattle.tree_plans.specs.declared.planner.Planner.{Planner}
 use Rattle.tree_plans.specs.declared.walk.NewTree.{NewTree}
 use Rattle.tree_plans.specs.declared.walk.PlanSource.{PlanSource}
-use Rattle.tree_plans.specs.Pointers.{entry_of, planned_map, pointers_from, record_in}
-use Rattle.tree_plans.specs.Changes.{AreInRange, is_marked}
-use Rattle.tree_plans.specs.Plans.{AreRecordsPlanned, FreesOnly, Goes, IsObjectPlanned, IsRecordPlanned, IsWritten, ObjectFrees, RecordFrees, RecordsFree, new_block, place_of, progress_of}
-use Rattle.tree_plans.specs.Walks.{AreDirectoriesPlanned, AreObjectsPlanned, DirectoriesFree, IsDirectoryPlanned, IsRootPlanned, IsWalked, ObjectsFree, is_any_touched, is_directory_touched}
+use Rattle.tree_plans.specs.Pointers.{entry_of, planned_map, pointers_before, pointers_from, record_in}
+use Rattle.tree_plans.specs.Changes.{AreInRange, group_of}
+use Rattle.tree_plans.specs.Plans.{AreRecordsPlanned, FreesOnly, Goes, IsCleared, IsIndirectPlanned, IsObjectPlanned, IsRecordPlanned, IsWritten, ObjectFrees, PlaceFrees, RecordsFree, indirect_state, is_dirty_in, is_indirect_written_in, new_block, place_of, progress_of, state_above}
+use Rattle.tree_plans.specs.Walks.{AreDirectoriesPlanned, AreObjectsPlanned, DirectoriesFree, IsDirectoryPlanned, IsRootPlanned, IsWalked, ObjectsFree, is_directory_dirty, has_object, root_state}
 use Rattle.tree_plans.specs.Uses.{ObjectUses, ObjectsUse, PointersUse, UsesOnly}
 use Rattle.tree_plans.specs.Order.{Adds, AreInOrder, address_if, addresses_of, addresses_where, all_addresses, object_addresses}
 use Rattle.tree_plans.specs.Room.{Lacks}
@@ -42,10 +44,6 @@ ExtendsPlan free old new = Goes free.flags.items (progress_of old) (progress_of 
 abbrev pub TellsLack : FreeSet → Planner → ℕ → PoolError → Type 0
 TellsLack free planner count e = e ≡ error.NoSpace → Lacks free.flags.items (progress_of planner) count
 
--- whether record r is dirty
-abbrev pub is_dirty_in : DirtyRecords → ℕ → Bool
-is_dirty_in dirty r = slice_index_or dirty.flags r false
-
 -- the objects that a source has after its group
 abbrev pub objects_after : PlanSource → FinMap nat_cmp (List ℕ)
 objects_after source = (contents_of source.contents.now).objects
@@ -57,6 +55,10 @@ maps_before source = source.tree.now.maps.items
 abbrev pub directory_before : PlanSource → ℕ → Pointer
 directory_before source d = slice_index_or source.tree.now.directories.items d no_pointer
 
+-- what a group makes of the objects of a source
+abbrev pub group_in : PlanSource → List (ObjectId × ObjectChanges) → GroupChanges
+group_in source objects = group_of objects (pointers_before source.tree.now) (objects_after source)
+
 -- one block is taken: it stands at its place, and the one that it replaces comes back
 pub record TakesBlock (free : FreeSet) (place : BlockPlace) (payload : List ℕ) (replaced : Pointer) (old new : Planner) (pointer : Pointer) : Type 0 where
   pub goes : ExtendsPlan free old new
@@ -65,75 +67,92 @@ pub record TakesBlock (free : FreeSet) (place : BlockPlace) (payload : List ℕ)
   pub uses : UsesOnly (blocks_of old) (blocks_of new) pointer.address
   pub adds : Adds (blocks_of old) (blocks_of new) (pointer.address ∷ [])
 
--- a record of an object: it takes a block where it is dirty, and stays otherwise
-pub record PlansRecord (free : FreeSet) (place : RecordPlace) (bytes : List ℕ) (was : Pointer) (dirty : Bool) (old new : Planner) (pointer : Pointer) : Type 0 where
+-- a place has no block any more: none is taken, and the one that it had comes back
+pub record ClearsPlace (replaced : Pointer) (old new : Planner) (pointer : Pointer) : Type 0 where
+  pub goes : (free : FreeSet) → ExtendsPlan free old new
+  pub cleared : IsCleared (progress_of new) replaced pointer
+  pub frees : FreesOnly old.freed.items new.freed.items replaced
+  pub none_taken : new.blocks ≡ old.blocks
+
+-- a record of an object: it takes a block where it is dirty, and has none where it is a hole
+pub record PlansRecord (free : FreeSet) (place : RecordPlace) (bytes : List ℕ) (was : Pointer) (state : RecordState) (old new : Planner) (pointer : Pointer) : Type 0 where
   pub goes : ExtendsPlan free old new
-  pub planned : IsRecordPlanned (progress_of new) place.id.0 place.index bytes dirty was pointer
-  pub frees : RecordFrees old.freed.items new.freed.items dirty was
+  pub planned : IsRecordPlanned (progress_of new) place.id.0 place.index bytes state was pointer
+  pub frees : PlaceFrees old.freed.items new.freed.items state was
   pub uses : UsesOnly (blocks_of old) (blocks_of new) pointer.address
-  pub adds : Adds (blocks_of old) (blocks_of new) (address_if dirty pointer)
+  pub adds : Adds (blocks_of old) (blocks_of new) (address_if (is_dirty state) pointer)
 
 -- the records of an object, rising
-pub record PlansRecords (free : FreeSet) (id : ObjectId) (bytes : List ℕ) (was : ObjectMap) (dirty : DirtyRecords) (old new : Planner) (records : List Pointer) : Type 0 where
+pub record PlansRecords (free : FreeSet) (id : ObjectId) (bytes : List ℕ) (was : ObjectMap) (changes : ObjectChanges) (old new : Planner) (records : List Pointer) : Type 0 where
   pub goes : ExtendsPlan free old new
-  pub planned : AreRecordsPlanned (progress_of new) id.0 bytes dirty.flags was pointer_count records
-  pub frees : RecordsFree old.freed.items new.freed.items dirty.flags was pointer_count
+  pub planned : AreRecordsPlanned (progress_of new) id.0 bytes changes was pointer_count records
+  pub frees : RecordsFree old.freed.items new.freed.items changes was pointer_count
   pub uses : PointersUse (blocks_of old) (blocks_of new) records pointer_count
-  pub adds : Adds (blocks_of old) (blocks_of new) (addresses_where (is_dirty_in dirty) (pointer_of_list records) pointer_count)
+  pub adds : Adds (blocks_of old) (blocks_of new) (addresses_where (is_dirty_in changes) (pointer_of_list records) pointer_count)
+
+-- the indirect block over these records
+pub record PlansIndirect (free : FreeSet) (id : ObjectId) (records : List Pointer) (was : Pointer) (is_changed : Bool) (old new : Planner) (pointer : Pointer) : Type 0 where
+  pub goes : ExtendsPlan free old new
+  pub planned : IsIndirectPlanned (progress_of new) id.0 is_changed records was pointer
+  pub frees : FreesOnly old.freed.items new.freed.items was
+  pub uses : UsesOnly (blocks_of old) (blocks_of new) pointer.address
+  pub adds : Adds (blocks_of old) (blocks_of new) (address_if (is_dirty (indirect_state is_changed records)) pointer)
 
 -- an object: its records, and then its indirect block
-pub record PlansObject (free : FreeSet) (id : ObjectId) (bytes : List ℕ) (was : ObjectMap) (dirty : DirtyRecords) (old new : Planner) (map : ObjectMap) : Type 0 where
+pub record PlansObject (free : FreeSet) (id : ObjectId) (bytes : List ℕ) (was : ObjectMap) (changes : ObjectChanges) (old new : Planner) (map : ObjectMap) : Type 0 where
   pub goes : ExtendsPlan free old new
-  pub planned : IsObjectPlanned (progress_of new) id.0 bytes dirty.flags was map
-  pub frees : ObjectFrees old.freed.items new.freed.items dirty.flags was
+  pub planned : IsObjectPlanned (progress_of new) id.0 bytes changes was map
+  pub frees : ObjectFrees old.freed.items new.freed.items changes was
   pub uses : ObjectUses (blocks_of old) (blocks_of new) map
-  pub adds : Adds (blocks_of old) (blocks_of new) (addresses_where (is_dirty_in dirty) (record_in map) pointer_count ++ map.indirect.address ∷ [])
+  pub adds : Adds (blocks_of old) (blocks_of new)
+      (addresses_where (is_dirty_in changes) (record_in map) pointer_count ++ address_if (is_indirect_written_in changes was) map.indirect)
 
--- one object of a walk goes over to those that are done, where the objects of the walk have these dirty records for it
-pub record GoesOver (source : PlanSource) (id : ObjectId) (dirty : DirtyRecords) (maps : List (ObjectId × ObjectMap)) (old new : Planner) (planned_maps : List (ObjectId × ObjectMap)) : Type 0 where
+-- one object of a walk goes over to those that are done, where the objects of the walk have these changes for it
+pub record GoesOver (source : PlanSource) (id : ObjectId) (changes : ObjectChanges) (maps : List (ObjectId × ObjectMap)) (old new : Planner) (planned_maps : List (ObjectId × ObjectMap)) : Type 0 where
   pub goes : ExtendsPlan source.free.now old new
-  pub planned : (objects done : List (ObjectId × DirtyRecords)) → entry_of objects id.0 ≡ Some dirty
+  pub planned : (objects done : List (ObjectId × ObjectChanges)) → entry_of objects id.0 ≡ Some changes
       → AreObjectsPlanned (progress_of old) (maps_before source) (objects_after source) objects done maps
-      → AreObjectsPlanned (progress_of new) (maps_before source) (objects_after source) objects (done ++ ((id, dirty) ∷ [])) planned_maps
-  pub frees : (objects : List (ObjectId × DirtyRecords)) (first : List ℕ) → entry_of objects id.0 ≡ Some dirty
+      → AreObjectsPlanned (progress_of new) (maps_before source) (objects_after source) objects (done ++ ((id, changes) ∷ [])) planned_maps
+  pub frees : (objects : List (ObjectId × ObjectChanges)) (first : List ℕ) → entry_of objects id.0 ≡ Some changes
       → ObjectsFree first old.freed.items (maps_before source) objects maps
       → ObjectsFree first new.freed.items (maps_before source) objects planned_maps
   pub uses : (first : List NewBlock) → entry_of maps id.0 ≡ None → ObjectsUse first (blocks_of old) maps → ObjectsUse first (blocks_of new) planned_maps
   pub others : (n : ℕ) → (id.0 == n) ≡ false → entry_of planned_maps n ≡ entry_of maps n
-  pub adds : (objects : List (ObjectId × DirtyRecords)) → entry_of objects id.0 ≡ Some dirty → id.0 < object_count
-      → Adds (blocks_of old) (blocks_of new) (object_addresses (is_marked objects id.0) (planned_map (maps_before source) planned_maps id.0))
+  pub adds : (objects : List (ObjectId × ObjectChanges)) → entry_of objects id.0 ≡ Some changes → id.0 < object_count
+      → Adds (blocks_of old) (blocks_of new) (object_addresses (group_in source objects) id.0 (planned_map (maps_before source) planned_maps id.0))
 
--- the objects that change, rising
-pub record PlansObjects (source : PlanSource) (objects : BTreeMap ObjectId DirtyRecords) (old new : Planner) (maps : BTreeMap ObjectId ObjectMap) : Type 0 where
+-- the objects that operations are on, rising
+pub record PlansObjects (source : PlanSource) (objects : BTreeMap ObjectId ObjectChanges) (old new : Planner) (maps : BTreeMap ObjectId ObjectMap) : Type 0 where
   pub goes : ExtendsPlan source.free.now old new
   pub planned : AreObjectsPlanned (progress_of new) (maps_before source) (objects_after source) objects.entries objects.entries maps.entries
   pub frees : ObjectsFree old.freed.items new.freed.items (maps_before source) objects.entries maps.entries
   pub uses : ObjectsUse (blocks_of old) (blocks_of new) maps.entries
-  pub adds : AreInRange objects.entries → Adds (blocks_of old) (blocks_of new) (all_addresses (is_marked objects.entries) (planned_map (maps_before source) maps.entries) object_count)
+  pub adds : AreInRange objects.entries → Adds (blocks_of old) (blocks_of new) (all_addresses (group_in source objects.entries) (planned_map (maps_before source) maps.entries) object_count)
 
--- a directory: it takes a block where an object of it changes, and stays otherwise
+-- a directory: it takes a block where something of it changes and an object of it is there
 pub record PlansDirectory (source : PlanSource) (maps : BTreeMap ObjectId ObjectMap) (index : ℕ) (touched : Bool) (old new : Planner) (pointer : Pointer) : Type 0 where
   pub goes : ExtendsPlan source.free.now old new
-  pub planned : IsDirectoryPlanned (progress_of new) (maps_before source) maps.entries (objects_after source) index touched (directory_before source index) pointer
-  pub frees : RecordFrees old.freed.items new.freed.items touched (directory_before source index)
+  pub planned : IsDirectoryPlanned (progress_of new) (maps_before source) maps.entries (objects_after source) index
+      (state_above touched (has_object (objects_after source) index)) (directory_before source index) pointer
+  pub frees : PlaceFrees old.freed.items new.freed.items (state_above touched (has_object (objects_after source) index)) (directory_before source index)
   pub uses : UsesOnly (blocks_of old) (blocks_of new) pointer.address
-  pub adds : Adds (blocks_of old) (blocks_of new) (address_if touched pointer)
+  pub adds : Adds (blocks_of old) (blocks_of new) (address_if (is_dirty (state_above touched (has_object (objects_after source) index))) pointer)
 
 -- all directories, rising
-pub record PlansDirectories (source : PlanSource) (objects : BTreeMap ObjectId DirtyRecords) (maps : BTreeMap ObjectId ObjectMap) (old new : Planner) (directories : List Pointer) : Type 0 where
+pub record PlansDirectories (source : PlanSource) (objects : BTreeMap ObjectId ObjectChanges) (maps : BTreeMap ObjectId ObjectMap) (old new : Planner) (directories : List Pointer) : Type 0 where
   pub goes : ExtendsPlan source.free.now old new
   pub planned : AreDirectoriesPlanned (progress_of new) (maps_before source) maps.entries (objects_after source) objects.entries source.tree.now.directories.items pointer_count directories
-  pub frees : DirectoriesFree old.freed.items new.freed.items objects.entries source.tree.now.directories.items pointer_count
+  pub frees : DirectoriesFree old.freed.items new.freed.items objects.entries (objects_after source) source.tree.now.directories.items pointer_count
   pub uses : PointersUse (blocks_of old) (blocks_of new) directories pointer_count
-  pub adds : Adds (blocks_of old) (blocks_of new) (addresses_where (is_directory_touched objects.entries) (pointer_of_list directories) pointer_count)
+  pub adds : Adds (blocks_of old) (blocks_of new) (addresses_where (is_directory_dirty objects.entries (objects_after source)) (pointer_of_list directories) pointer_count)
 
--- the root: it takes a block where an object changes, and stays otherwise
-pub record PlansRoot (source : PlanSource) (objects : BTreeMap ObjectId DirtyRecords) (directories : List Pointer) (old new : Planner) (root : Pointer) : Type 0 where
+-- the root: it takes a block where an operation is on an object and some object is there
+pub record PlansRoot (source : PlanSource) (objects : BTreeMap ObjectId ObjectChanges) (directories : List Pointer) (old new : Planner) (root : Pointer) : Type 0 where
   pub goes : ExtendsPlan source.free.now old new
-  pub planned : IsRootPlanned (progress_of new) directories (is_any_touched objects.entries) source.tree.now.root root
-  pub frees : RecordFrees old.freed.items new.freed.items (is_any_touched objects.entries) source.tree.now.root
+  pub planned : IsRootPlanned (progress_of new) directories (root_state objects.entries (objects_after source)) source.tree.now.root root
+  pub frees : PlaceFrees old.freed.items new.freed.items (root_state objects.entries (objects_after source)) source.tree.now.root
   pub uses : UsesOnly (blocks_of old) (blocks_of new) root.address
-  pub adds : Adds (blocks_of old) (blocks_of new) (address_if (is_any_touched objects.entries) root)
+  pub adds : Adds (blocks_of old) (blocks_of new) (address_if (is_dirty (root_state objects.entries (objects_after source))) root)
 
 -- a plan that has nothing yet
 pub record HasNothing (planner : Planner) : Type 0 where
@@ -141,9 +160,9 @@ pub record HasNothing (planner : Planner) : Type 0 where
   pub planned : planner.blocks.items ≡ []
 
 -- the whole walk, from a plan that has nothing yet
-pub record PlansTree (source : PlanSource) (objects : BTreeMap ObjectId DirtyRecords) (old new : Planner) (tree : NewTree) : Type 0 where
+pub record PlansTree (source : PlanSource) (objects : BTreeMap ObjectId ObjectChanges) (old new : Planner) (tree : NewTree) : Type 0 where
   pub goes : ExtendsPlan source.free.now old new
   pub count : vec_len tree.directories ≡ pointer_count
   pub walked : IsWalked (progress_of new) source.tree.now (objects_after source) objects.entries tree.maps.entries tree.directories.items tree.root
   pub used : AreUsed (blocks_of new) (pointers_from tree.root tree.directories.items (planned_map (maps_before source) tree.maps.entries))
-  pub order : AreInRange objects.entries → AreInOrder (addresses_of (blocks_of new)) (pointers_from tree.root tree.directories.items (planned_map (maps_before source) tree.maps.entries)) objects.entries
+  pub order : AreInRange objects.entries → AreInOrder (addresses_of (blocks_of new)) (pointers_from tree.root tree.directories.items (planned_map (maps_before source) tree.maps.entries)) (group_in source objects.entries)

@@ -1,8 +1,11 @@
 -- What a plan of a sync has done so far, and what its steps do.
-use Rattle.std.specs.Prelude.{ℕ, ◌≡◌, ◌≢◌, ◌<◌, ◌⊎◌, ◌++◌, Bool, true, false, List, map, slice_get, slice_index_or, Some}
+use Rattle.std.specs.Prelude.{ℕ, ◌≡◌, ◌≢◌, ◌<◌, ◌⊎◌, ◌++◌, ◌&&◌, Bool, true, false, List, length, map, slice_get, slice_index_or, Some, if◌then◌else◌}
+use Rattle.std.specs.List.{list_any}
 use Rattle.base.specs.declared.error.PoolError.{PoolError}
 use Rattle.base.specs.declared.error.PoolError.TheVariants as error
 use Rattle.base.specs.declared.pointer.Pointer.{Pointer}
+use Rattle.base.specs.declared.record_state.RecordState.{RecordState}
+use Rattle.base.specs.declared.record_state.RecordState.TheVariants.{Unchanged, Dirty, Hole}
 use Rattle.base.specs.formats.Limits.{pointer_count}
 use Rattle.base.specs.formats.Fields.{no_pointer, pointer_in}
 use Rattle.base.specs.formats.Geometry.{block_address, block_count, IsBlockAddress}
@@ -12,13 +15,16 @@ use Rattle.base.specs.tree.Places.{Place}
 use Rattle.base.specs.tree.Places.Place.{Root as AtRoot, Directory as AtDirectory, Indirect as AtIndirect, Data as AtData}
 use Rattle.base.specs.tree.PlacedTrees.{padded_record}
 use Rattle.base.specs.tree.PlannedTrees.{NewBlock, IsNewAt}
+use Rattle.base.specs.tree.Syncs.{has_block_after, is_dirty, record_numbers}
 use Rattle.space.specs.FreeSets.{addresses_from, free_from}
 use Rattle.object_maps.specs.declared.tree.ObjectMap.{ObjectMap}
+use Rattle.tree_plans.specs.declared.changes.ObjectChanges.{ObjectChanges}
 use Rattle.tree_plans.specs.declared.planner.PlannedBlock.{PlannedBlock}
 use Rattle.tree_plans.specs.declared.planner.Planner.{Planner}
 use Rattle.tree_plans.specs.declared.place.BlockPlace.{BlockPlace}
 use Rattle.tree_plans.specs.declared.place.BlockPlace.TheVariants.{Root, Directory, Indirect, Data}
 use Rattle.tree_plans.specs.Pointers.{record_in}
+use Rattle.tree_plans.specs.Changes.{names_block, state_at}
 
 -- the address of a planned block, and the block as it is written
 abbrev pub address_of : PlannedBlock → ℕ
@@ -86,36 +92,72 @@ FreesOnly old new replaced = (address : ℕ) → IsAmong new address → IsAmong
 abbrev pub IsWant : PoolError → Type 0
 IsWant e = (e ≡ error.NoSpace) ⊎ (e ≡ error.NoMemory)
 
--- what becomes of a record of an object: it is written where it is dirty, and stays otherwise
-abbrev pub IsRecordPlanned : Progress → ℕ → ℕ → List ℕ → Bool → Pointer → Pointer → Type 0
-IsRecordPlanned s n r bytes true old new = IsWritten s (AtData n r) old new (padded_record r bytes)
-IsRecordPlanned s n r bytes false old new = new ≡ old
+-- a place has no block any more, and the block that it had comes back
+pub record IsCleared (s : Progress) (old new : Pointer) : Type 0 where
+  pub none : new ≡ no_pointer
+  pub freed : old ≢ no_pointer → IsAmong s.freed old.address
 
--- of a record, nothing comes back unless it is dirty
-abbrev pub RecordFrees : List ℕ → List ℕ → Bool → Pointer → Type 0
-RecordFrees old new dirty was = (address : ℕ) → IsAmong new address → IsAmong old address ⊎ ((dirty ≡ true) × IsOf was address)
+-- what becomes of a place by its state, where the payload of a new block fits
+abbrev pub HasBecome : Progress → Place → RecordState → Pointer → Pointer → (List ℕ → Type 0) → Type 0
+HasBecome s place Unchanged old new Fits = new ≡ old
+HasBecome s place Dirty old new Fits = (payload : List ℕ) × IsWritten s place old new payload × Fits payload
+HasBecome s place Hole old new Fits = IsCleared s old new
+
+-- whether a place in this state loses the block that it had
+abbrev pub replaces : RecordState → Bool
+replaces Unchanged = false
+replaces Dirty = true
+replaces Hole = true
+
+-- of a place, nothing comes back unless it is replaced
+abbrev pub PlaceFrees : List ℕ → List ℕ → RecordState → Pointer → Type 0
+PlaceFrees old new state was = (address : ℕ) → IsAmong new address → IsAmong old address ⊎ ((replaces state ≡ true) × IsOf was address)
+
+-- what becomes of a record of an object
+abbrev pub IsRecordPlanned : Progress → ℕ → ℕ → List ℕ → RecordState → Pointer → Pointer → Type 0
+IsRecordPlanned s n r bytes state old new = HasBecome s (AtData n r) state old new (λ payload. payload ≡ padded_record r bytes)
 
 -- what becomes of the records below a number
-abbrev pub AreRecordsPlanned : Progress → ℕ → List ℕ → List Bool → ObjectMap → ℕ → List Pointer → Type 0
-AreRecordsPlanned s n bytes dirty old count records = (r : ℕ) → r < count
-    → IsRecordPlanned s n r bytes (slice_index_or dirty r false) (record_in old r) (slice_index_or records r no_pointer)
+abbrev pub AreRecordsPlanned : Progress → ℕ → List ℕ → ObjectChanges → ObjectMap → ℕ → List Pointer → Type 0
+AreRecordsPlanned s n bytes changes old count records = (r : ℕ) → r < count
+    → IsRecordPlanned s n r bytes (state_at changes r) (record_in old r) (slice_index_or records r no_pointer)
 
--- the address is that of a dirty record below a number
-pub record IsOfRecord (dirty : List Bool) (old : ObjectMap) (count address : ℕ) : Type 0 where
+-- the address is that of a record below a number that is replaced
+pub record IsOfRecord (changes : ObjectChanges) (old : ObjectMap) (count address : ℕ) : Type 0 where
   pub index : ℕ
   pub low : index < count
-  pub dirty_is : slice_index_or dirty index false ≡ true
+  pub replaced : replaces (state_at changes index) ≡ true
   pub was : IsOf (record_in old index) address
 
-abbrev pub RecordsFree : List ℕ → List ℕ → List Bool → ObjectMap → ℕ → Type 0
-RecordsFree old new dirty was count = (address : ℕ) → IsAmong new address → IsAmong old address ⊎ IsOfRecord dirty was count address
+abbrev pub RecordsFree : List ℕ → List ℕ → ObjectChanges → ObjectMap → ℕ → Type 0
+RecordsFree old new changes was count = (address : ℕ) → IsAmong new address → IsAmong old address ⊎ IsOfRecord changes was count address
 
--- an object whose records change: its dirty records are written, and then its indirect block
-pub record IsObjectPlanned (s : Progress) (n : ℕ) (bytes : List ℕ) (dirty : List Bool) (old new : ObjectMap) : Type 0 where
-  pub records : AreRecordsPlanned s n bytes dirty old pointer_count new.records.items
-  pub payload : List ℕ
-  pub indirect : IsWritten s (AtIndirect n) old.indirect new.indirect payload
-  pub pointers : (r : ℕ) → r < pointer_count → pointer_in payload r ≡ record_in new r
+-- the state of a place above the records, where something below it changes, and something is left there
+abbrev pub state_above : Bool → Bool → RecordState
+state_above touched left = if touched then (if left then Dirty else Hole) else Unchanged
 
-abbrev pub ObjectFrees : List ℕ → List ℕ → List Bool → ObjectMap → Type 0
-ObjectFrees old new dirty was = (address : ℕ) → IsAmong new address → IsAmong old address ⊎ (IsOfRecord dirty was pointer_count address ⊎ IsOf was.indirect address)
+-- that of an object's indirect block: it is written where an operation wrote the object or set its length, and a record has a block
+abbrev pub indirect_state : Bool → List Pointer → RecordState
+indirect_state is_changed records = if is_changed && list_any names_block records then Dirty else Hole
+
+-- whether record r is dirty
+abbrev pub is_dirty_in : ObjectChanges → ℕ → Bool
+is_dirty_in changes r = is_dirty (state_at changes r)
+
+-- whether an object's indirect block is written, by its changes and the pointers that it had
+abbrev pub is_indirect_written_in : ObjectChanges → ObjectMap → Bool
+is_indirect_written_in changes was = changes.is_changed && list_any (λ r. has_block_after (state_at changes r) (names_block (record_in was r))) record_numbers
+
+-- what becomes of it
+abbrev pub IsIndirectPlanned : Progress → ℕ → Bool → List Pointer → Pointer → Pointer → Type 0
+IsIndirectPlanned s n is_changed records old new = HasBecome s (AtIndirect n) (indirect_state is_changed records) old new
+    (λ payload. (r : ℕ) → r < pointer_count → pointer_in payload r ≡ slice_index_or records r no_pointer)
+
+-- an object that operations are on: its records, and then its indirect block
+pub record IsObjectPlanned (s : Progress) (n : ℕ) (bytes : List ℕ) (changes : ObjectChanges) (old new : ObjectMap) : Type 0 where
+  pub count : length new.records.items ≡ pointer_count
+  pub records : AreRecordsPlanned s n bytes changes old pointer_count new.records.items
+  pub indirect : IsIndirectPlanned s n changes.is_changed new.records.items old.indirect new.indirect
+
+abbrev pub ObjectFrees : List ℕ → List ℕ → ObjectChanges → ObjectMap → Type 0
+ObjectFrees old new changes was = (address : ℕ) → IsAmong new address → IsAmong old address ⊎ (IsOfRecord changes was pointer_count address ⊎ IsOf was.indirect address)

@@ -1,15 +1,16 @@
 -- When the free blocks do not suffice for a plan: how many blocks its steps take, told by what changes alone.
-use Rattle.std.specs.Prelude.{ℕ, ◌<◌, ◌+◌, Bool, List, length, filter, is_some, if◌then◌else◌}
+use Rattle.std.specs.Prelude.{ℕ, ◌<◌, ◌+◌, Bool, List, length, filter, if◌then◌else◌}
 use Rattle.std.specs.List.{flat_map, range_with_len}
+use Rattle.std.specs.Ordering.{nat_cmp}
+use Rattle.std.specs.FinMap.{FinMap}
+use Rattle.object_maps.specs.declared.tree.ObjectMap.{ObjectMap}
 use Rattle.base.specs.declared.names.ObjectId.{ObjectId}
 use Rattle.base.specs.formats.Limits.{object_count, pointer_count}
-use Rattle.base.specs.tree.PlannedPlaces.{object_places, written_by}
+use Rattle.base.specs.tree.Syncs.{GroupChanges, places_of_object, written_by}
 use Rattle.space.specs.FreeSets.{addresses_from}
-use Rattle.tree_plans.specs.declared.planner.DirtyRecords.{DirtyRecords}
-use Rattle.tree_plans.specs.Pointers.{entry_of}
-use Rattle.tree_plans.specs.Changes.{is_marked}
-use Rattle.tree_plans.specs.Plans.{HasTaken, Progress}
-use Rattle.tree_plans.specs.Walks.{is_any_touched, is_directory_touched}
+use Rattle.tree_plans.specs.declared.changes.ObjectChanges.{ObjectChanges}
+use Rattle.tree_plans.specs.Plans.{HasTaken, Progress, is_dirty_in, is_indirect_written_in}
+use Rattle.tree_plans.specs.Walks.{is_directory_dirty}
 
 -- the blocks of a plan so far and so many more are more than are free
 abbrev pub Lacks : List Bool → Progress → ℕ → Type 0
@@ -23,24 +24,25 @@ count_if made = if made then 1 else 0
 unfoldable pub count_where : (ℕ → Bool) → ℕ → ℕ
 count_where is_marked count = length (filter is_marked (range_with_len 0 count))
 
--- how many blocks an object takes
-unfoldable pub object_blocks : (ℕ → ℕ → Bool) → ℕ → ℕ
-object_blocks is_dirty n = length (object_places is_dirty n)
+-- how many blocks an object takes, by its changes and the pointers that it had
+abbrev pub needed_blocks : ObjectChanges → ObjectMap → ℕ
+needed_blocks changes was = count_where (is_dirty_in changes) pointer_count + count_if (is_indirect_written_in changes was)
+
+-- and by what a group makes of it
+unfoldable pub object_blocks : GroupChanges → ℕ → ℕ
+object_blocks group n = length (places_of_object group n)
 
 -- and all objects below a number
-unfoldable pub all_blocks : (ℕ → ℕ → Bool) → ℕ → ℕ
-all_blocks is_dirty count = length (flat_map (object_places is_dirty) (range_with_len 0 count))
+unfoldable pub all_blocks : GroupChanges → ℕ → ℕ
+all_blocks group count = length (flat_map (places_of_object group) (range_with_len 0 count))
 
--- and a whole plan: one for each place that changes
-unfoldable pub tree_blocks : List (ObjectId × DirtyRecords) → ℕ
-tree_blocks objects = length (written_by (is_marked objects) (λ n. is_some (entry_of objects n)))
+-- and a whole plan: one for each place that is written
+unfoldable pub tree_blocks : GroupChanges → ℕ
+tree_blocks group = length (written_by group)
 
--- how many blocks the parts of a walk take: the objects that change, the directories with one of them, the root
-abbrev pub changed_blocks : List (ObjectId × DirtyRecords) → ℕ
-changed_blocks objects = all_blocks (is_marked objects) object_count
+-- how many blocks the parts of a walk take: the objects, the directories
+abbrev pub changed_blocks : GroupChanges → ℕ
+changed_blocks group = all_blocks group object_count
 
-abbrev pub directory_blocks : List (ObjectId × DirtyRecords) → ℕ
-directory_blocks objects = count_where (is_directory_touched objects) pointer_count
-
-abbrev pub root_blocks : List (ObjectId × DirtyRecords) → ℕ
-root_blocks objects = count_if (is_any_touched objects)
+abbrev pub directory_blocks : List (ObjectId × ObjectChanges) → FinMap nat_cmp (List ℕ) → ℕ
+directory_blocks objects after = count_where (is_directory_dirty objects after) pointer_count

@@ -1,5 +1,5 @@
 -- What a plan promises: the blocks that it takes, the tree that they make, and the blocks that come back.
-use Rattle.std.specs.Prelude.{ℕ, ◌≡◌, ◌<◌, [], true, false, List, All, length, map, slice_get, take, Some, is_some}
+use Rattle.std.specs.Prelude.{ℕ, ◌≡◌, ◌<◌, ◌⊎◌, [], true, false, List, All, length, map, slice_get, take, Some}
 use Rattle.std.specs.BTreeMap.{BTreeMap}
 use Rattle.std.specs.Ordering.{nat_cmp}
 use Rattle.std.specs.FinMap.{FinMap}
@@ -8,47 +8,48 @@ use Rattle.base.specs.formats.Geometry.{IsBlockAddress, block_count, block_size}
 use Rattle.base.specs.stored.Stored.{AreUsed}
 use Rattle.base.specs.tree.Places.{Place}
 use Rattle.base.specs.tree.PlacedTrees.{ArePlaced}
-use Rattle.base.specs.tree.PlannedPlaces.{written_by}
 use Rattle.base.specs.tree.PlannedTrees.{AreFreed, IsTreePlan, NewBlock}
+use Rattle.base.specs.tree.Syncs.{written_by}
+use Rattle.base.specs.formats.Fields.{no_pointer}
 use Rattle.space.specs.FreeSets.{addresses_from}
-use Rattle.tree_plans.specs.declared.planner.DirtyRecords.{DirtyRecords}
+use Rattle.tree_plans.specs.declared.changes.ObjectChanges.{ObjectChanges}
 use Rattle.tree_plans.specs.declared.planner.PlannedBlock.{PlannedBlock}
 use Rattle.tree_plans.specs.declared.planner.TreePlan.{TreePlan}
 use Rattle.tree_plans.specs.declared.walk.PlanSource.{PlanSource}
-use Rattle.tree_plans.specs.Changes.{AreBornBefore, AreChanges, AreInRange, HasNoOthers, IsCoveredBy, written_frame, is_marked}
-use Rattle.tree_plans.specs.Parts.{objects_after}
+use Rattle.tree_plans.specs.Changes.{AreBornBefore, AreChanges, AreInRange, AreTreePointers, IsCoveredBy, written_frame}
+use Rattle.tree_plans.specs.Parts.{group_in, objects_after}
 use Rattle.tree_plans.specs.Plans.{address_of, new_block}
-use Rattle.tree_plans.specs.Pointers.{entry_of, planned_pointers, pointers_before}
+use Rattle.tree_plans.specs.Pointers.{planned_pointers, pointers_before}
 use Rattle.tree_plans.specs.Walks.{is_any_touched}
 
--- the places that objects with these dirty records change, in the order of a walk
-abbrev pub places_written : List (ObjectId × DirtyRecords) → List Place
-places_written objects = written_by (is_marked objects) (λ n. is_some (entry_of objects n))
+-- the places of a source that the sync of a group with these changes writes, in the order of a walk
+abbrev pub places_written : PlanSource → List (ObjectId × ObjectChanges) → List Place
+places_written source objects = written_by (group_in source objects)
 
 -- the addresses of the free blocks of a source, rising
 abbrev pub free_addresses : PlanSource → List ℕ
 free_addresses source = addresses_from 0 source.free.now.flags.items
 
--- the blocks of a plan are whole, and the lowest free ones: one for each place that changes, in the order of these places
-pub record TakesBlocks (source : PlanSource) (objects : BTreeMap ObjectId DirtyRecords) (plan : TreePlan) : Type 0 where
+-- the blocks of a plan are whole, and the lowest free ones: one for each place that is written, in the order of these places
+pub record TakesBlocks (source : PlanSource) (objects : BTreeMap ObjectId ObjectChanges) (plan : TreePlan) : Type 0 where
   pub within : All (λ (b : PlannedBlock). b.index < block_count source.geometry) plan.blocks.items
   pub whole : (i : ℕ) (b : NewBlock) → slice_get (map new_block plan.blocks.items) i ≡ Some b → length b.content ≡ block_size
   pub taken : map address_of plan.blocks.items ≡ take (length plan.blocks.items) (free_addresses source)
-  pub order : AreInRange objects.entries → map address_of plan.blocks.items ≡ map (λ (place : Place). (planned_pointers source.tree.now plan place).address) (places_written objects.entries)
+  pub order : AreInRange objects.entries → map address_of plan.blocks.items ≡ map (λ (place : Place). (planned_pointers source.tree.now plan place).address) (places_written source objects.entries)
   pub none : objects.entries ≡ [] → plan.blocks.items ≡ []
 
--- The tree after a plan: what becomes of each of its places, whatever objects were there before of which the dirty records cover all that
--- changes. Each pointer is to a block of the area, where that held before, and each block of the plan is behind a pointer.
-pub record MakesTree (source : PlanSource) (objects : BTreeMap ObjectId DirtyRecords) (plan : TreePlan) : Type 0 where
-  pub planned : (before : FinMap nat_cmp (List ℕ)) → IsCoveredBy objects.entries before (objects_after source) → AreChanges objects.entries (objects_after source)
-      → HasNoOthers (pointers_before source.tree.now) (objects_after source)
+-- The tree after a plan: what becomes of each of its places, whatever objects were there before of which the changes cover all that
+-- differs. Each pointer is to a block of the area, where that held before, and each block of the plan is behind a pointer.
+pub record MakesTree (source : PlanSource) (objects : BTreeMap ObjectId ObjectChanges) (plan : TreePlan) : Type 0 where
+  pub planned : (before : FinMap nat_cmp (List ℕ)) → IsCoveredBy objects.entries (pointers_before source.tree.now) before (objects_after source) → AreChanges objects.entries (objects_after source)
+      → AreTreePointers objects.entries (pointers_before source.tree.now) (objects_after source)
       → IsTreePlan (map new_block plan.blocks.items) (written_frame source.guid source.geometry source.group.0) (pointers_before source.tree.now) (planned_pointers source.tree.now plan) before (objects_after source)
   pub placed : ArePlaced (block_count source.geometry) (pointers_before source.tree.now) → ArePlaced (block_count source.geometry) (planned_pointers source.tree.now plan)
   pub used : AreUsed (map new_block plan.blocks.items) (planned_pointers source.tree.now plan)
   pub kept_root : is_any_touched objects.entries ≡ false → plan.root ≡ source.tree.now.root
-  pub new_root : is_any_touched objects.entries ≡ true → plan.root.birth ≡ source.group.0
+  pub new_root : is_any_touched objects.entries ≡ true → (plan.root.birth ≡ source.group.0) ⊎ (plan.root ≡ no_pointer)
 
--- the blocks that come back are in the area, and are those that the plan replaces
+-- the blocks that come back are in the area, and are those that the plan replaces or clears
 pub record GivesBack (source : PlanSource) (plan : TreePlan) : Type 0 where
   pub returned : ArePlaced (block_count source.geometry) (pointers_before source.tree.now) → All (λ address. IsBlockAddress (block_count source.geometry) address) plan.freed.items
   pub freed : AreBornBefore source.group.0 (pointers_before source.tree.now) → AreFreed (pointers_before source.tree.now) (planned_pointers source.tree.now plan) plan.freed.items

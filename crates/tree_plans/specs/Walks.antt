@@ -1,6 +1,6 @@
 -- What a walk over a tree plans: objects, directories, the root.
-use Rattle.std.specs.Prelude.{ℕ, ◌≡◌, ◌<◌, ◌+◌, ◌*◌, ◌/◌, ◌==◌, ◌⊎◌, Bool, true, false, not, List, [], length, replicate, slice_get, slice_index_or, Option, Some, None, is_some, unwrap_or}
-use Rattle.std.specs.List.{list_any}
+use Rattle.std.specs.Prelude.{ℕ, ◌≡◌, ◌<◌, ◌+◌, ◌*◌, ◌/◌, ◌==◌, ◌&&◌, ◌||◌, ◌⊎◌, Bool, true, not, List, [], length, replicate, slice_get, slice_index_or, Option, Some, None, is_some, unwrap_or}
+use Rattle.std.specs.List.{list_any, range_with_len}
 use Rattle.std.specs.Option.{option_map_or}
 use Rattle.std.specs.Map.{keys_of}
 use Rattle.std.specs.Ordering.{nat_cmp}
@@ -10,12 +10,14 @@ use Rattle.base.specs.declared.pointer.Pointer.{Pointer}
 use Rattle.base.specs.declared.names.ObjectId.{ObjectId}
 use Rattle.base.specs.formats.Limits.{object_count, pointer_count, entry_count}
 use Rattle.base.specs.formats.Fields.{no_pointer, pointer_in, entry_in, entry_present, entry_length, entry_pointer}
+use Rattle.base.specs.declared.record_state.RecordState.{RecordState}
 use Rattle.base.specs.tree.Places.Place.{Root, Directory}
+use Rattle.base.specs.tree.Syncs.{is_dirty, object_numbers}
 use Rattle.object_maps.specs.declared.tree.ObjectMap.{ObjectMap}
 use Rattle.object_maps.specs.declared.tree.Tree.{Tree}
-use Rattle.tree_plans.specs.declared.planner.DirtyRecords.{DirtyRecords}
+use Rattle.tree_plans.specs.declared.changes.ObjectChanges.{ObjectChanges}
 use Rattle.tree_plans.specs.Pointers.{entry_of, planned_map}
-use Rattle.tree_plans.specs.Plans.{Progress, IsWritten, IsObjectPlanned, IsAmong, IsOf, IsOfRecord}
+use Rattle.tree_plans.specs.Plans.{HasBecome, Progress, IsObjectPlanned, IsAmong, IsOf, IsOfRecord, replaces, state_above}
 
 -- the pointer to the indirect block of an object after a plan
 abbrev pub indirect_after : List ObjectMap → List (ObjectId × ObjectMap) → ℕ → Pointer
@@ -31,71 +33,94 @@ abbrev pub AreEntriesWritten : List ObjectMap → List (ObjectId × ObjectMap) �
 AreEntriesWritten maps planned after d count payload = (k : ℕ) → k < count
     → IsEntryWritten (entry_in payload k) (indirect_after maps planned (entry_count * d + k)) (finite.get after (entry_count * d + k))
 
--- where an object comes from that is planned: its dirty records, and the pointers that it had
-pub record IsPlannedFrom (s : Progress) (maps : List ObjectMap) (after : FinMap nat_cmp (List ℕ)) (objects : List (ObjectId × DirtyRecords)) (n : ℕ) (new : ObjectMap) : Type 0 where
+-- where an object comes from that is planned: its changes, and the pointers that it had
+pub record IsPlannedFrom (s : Progress) (maps : List ObjectMap) (after : FinMap nat_cmp (List ℕ)) (objects : List (ObjectId × ObjectChanges)) (n : ℕ) (new : ObjectMap) : Type 0 where
   pub low : n < object_count
-  pub dirty : DirtyRecords
-  pub dirty_is : entry_of objects n ≡ Some dirty
+  pub changes : ObjectChanges
+  pub changes_are : entry_of objects n ≡ Some changes
   pub old : ObjectMap
   pub old_is : slice_get maps n ≡ Some old
-  pub planned : IsObjectPlanned s n (unwrap_or (finite.get after n) []) dirty.flags old new
+  pub planned : IsObjectPlanned s n (unwrap_or (finite.get after n) []) changes old new
 
--- of objects, those that were gone over and have a dirty record are planned
-pub record AreObjectsPlanned (s : Progress) (maps : List ObjectMap) (after : FinMap nat_cmp (List ℕ)) (objects done : List (ObjectId × DirtyRecords)) (planned : List (ObjectId × ObjectMap)) : Type 0 where
+-- of objects, those that were gone over are planned
+pub record AreObjectsPlanned (s : Progress) (maps : List ObjectMap) (after : FinMap nat_cmp (List ℕ)) (objects done : List (ObjectId × ObjectChanges)) (planned : List (ObjectId × ObjectMap)) : Type 0 where
   pub each : (n : ℕ) (m : ObjectMap) → entry_of planned n ≡ Some m → IsPlannedFrom s maps after objects n m
-  pub all : (i : ℕ) (id : ObjectId) (dirty : DirtyRecords) → slice_get done i ≡ Some (id, dirty) → id.0 < object_count
-      → (r : ℕ) → slice_index_or dirty.flags r false ≡ true → is_some (entry_of planned id.0) ≡ true
+  pub all : (i : ℕ) (id : ObjectId) (changes : ObjectChanges) → slice_get done i ≡ Some (id, changes) → id.0 < object_count → is_some (entry_of planned id.0) ≡ true
 
 -- an address is that of a block that a planned object replaces
-pub record IsOfObject (maps : List ObjectMap) (objects : List (ObjectId × DirtyRecords)) (planned : List (ObjectId × ObjectMap)) (address : ℕ) : Type 0 where
+pub record IsOfObject (maps : List ObjectMap) (objects : List (ObjectId × ObjectChanges)) (planned : List (ObjectId × ObjectMap)) (address : ℕ) : Type 0 where
   pub number : ℕ
   pub low : number < object_count
   pub there : is_some (entry_of planned number) ≡ true
-  pub dirty : DirtyRecords
-  pub dirty_is : entry_of objects number ≡ Some dirty
+  pub changes : ObjectChanges
+  pub changes_are : entry_of objects number ≡ Some changes
   pub old : ObjectMap
   pub old_is : slice_get maps number ≡ Some old
-  pub is_of : IsOfRecord dirty.flags old pointer_count address ⊎ IsOf old.indirect address
+  pub is_of : IsOfRecord changes old pointer_count address ⊎ IsOf old.indirect address
 
-abbrev pub ObjectsFree : List ℕ → List ℕ → List ObjectMap → List (ObjectId × DirtyRecords) → List (ObjectId × ObjectMap) → Type 0
+abbrev pub ObjectsFree : List ℕ → List ℕ → List ObjectMap → List (ObjectId × ObjectChanges) → List (ObjectId × ObjectMap) → Type 0
 ObjectsFree old new maps objects planned = (address : ℕ) → IsAmong new address → IsAmong old address ⊎ IsOfObject maps objects planned address
 
--- whether an object of a directory changes
-abbrev pub is_directory_touched : List (ObjectId × DirtyRecords) → ℕ → Bool
+-- whether an operation is on an object of a directory
+abbrev pub is_directory_touched : List (ObjectId × ObjectChanges) → ℕ → Bool
 is_directory_touched objects d = list_any (λ (id : ObjectId). (id.0 / entry_count) == d) (keys_of objects)
 
--- what becomes of a directory: it is written where an object of it changes, and stays otherwise
-abbrev pub IsDirectoryPlanned : Progress → List ObjectMap → List (ObjectId × ObjectMap) → FinMap nat_cmp (List ℕ) → ℕ → Bool → Pointer → Pointer → Type 0
-IsDirectoryPlanned s maps planned after d true old new = (payload : List ℕ) × IsWritten s (Directory d) old new payload × AreEntriesWritten maps planned after d entry_count payload
-IsDirectoryPlanned s maps planned after d false old new = new ≡ old
+-- whether an object of a directory is there, and whether one of any directory is
+abbrev pub has_object : FinMap nat_cmp (List ℕ) → ℕ → Bool
+has_object after d = list_any (λ n. finite.contains_key after n) (object_numbers d)
 
-abbrev pub AreDirectoriesPlanned : Progress → List ObjectMap → List (ObjectId × ObjectMap) → FinMap nat_cmp (List ℕ) → List (ObjectId × DirtyRecords) → List Pointer → ℕ → List Pointer → Type 0
-AreDirectoriesPlanned s maps planned after objects old count new = (d : ℕ) → d < count
-    → IsDirectoryPlanned s maps planned after d (is_directory_touched objects d) (slice_index_or old d no_pointer) (slice_index_or new d no_pointer)
+abbrev pub has_objects : FinMap nat_cmp (List ℕ) → Bool
+has_objects after = list_any (has_object after) (range_with_len 0 pointer_count)
 
--- an address is that of a directory's block that is replaced
-pub record IsOfDirectory (objects : List (ObjectId × DirtyRecords)) (old : List Pointer) (count address : ℕ) : Type 0 where
-  pub number : ℕ
-  pub low : number < count
-  pub touched : is_directory_touched objects number ≡ true
-  pub is_of : IsOf (slice_index_or old number no_pointer) address
-
-abbrev pub DirectoriesFree : List ℕ → List ℕ → List (ObjectId × DirtyRecords) → List Pointer → ℕ → Type 0
-DirectoriesFree old new objects was count = (address : ℕ) → IsAmong new address → IsAmong old address ⊎ IsOfDirectory objects was count address
-
--- what becomes of the root: it is written where an object changes, and stays otherwise
-abbrev pub IsRootPlanned : Progress → List Pointer → Bool → Pointer → Pointer → Type 0
-IsRootPlanned s directories true old new = (payload : List ℕ) × IsWritten s Root old new payload × ((d : ℕ) → d < pointer_count → pointer_in payload d ≡ slice_index_or directories d no_pointer)
-IsRootPlanned s directories false old new = new ≡ old
-
--- whether an object changes
-abbrev pub is_any_touched : List (ObjectId × DirtyRecords) → Bool
+-- whether an operation is on an object
+abbrev pub is_any_touched : List (ObjectId × ObjectChanges) → Bool
 is_any_touched objects = not (length objects == 0)
 
+-- whether the operations leave no object
+abbrev pub is_emptied : List (ObjectId × ObjectChanges) → FinMap nat_cmp (List ℕ) → Bool
+is_emptied objects after = is_any_touched objects && not (has_objects after)
+
+-- whether something of a directory changes: an object of it, or all are gone, so that the root has no block either
+abbrev pub is_directory_replaced : List (ObjectId × ObjectChanges) → FinMap nat_cmp (List ℕ) → ℕ → Bool
+is_directory_replaced objects after d = is_emptied objects after || is_directory_touched objects d
+
+abbrev pub directory_state : List (ObjectId × ObjectChanges) → FinMap nat_cmp (List ℕ) → ℕ → RecordState
+directory_state objects after d = state_above (is_directory_replaced objects after d) (has_object after d)
+
+-- whether a directory is written
+abbrev pub is_directory_dirty : List (ObjectId × ObjectChanges) → FinMap nat_cmp (List ℕ) → ℕ → Bool
+is_directory_dirty objects after d = is_dirty (directory_state objects after d)
+
+-- what becomes of a directory
+abbrev pub IsDirectoryPlanned : Progress → List ObjectMap → List (ObjectId × ObjectMap) → FinMap nat_cmp (List ℕ) → ℕ → RecordState → Pointer → Pointer → Type 0
+IsDirectoryPlanned s maps planned after d state old new = HasBecome s (Directory d) state old new (AreEntriesWritten maps planned after d entry_count)
+
+abbrev pub AreDirectoriesPlanned : Progress → List ObjectMap → List (ObjectId × ObjectMap) → FinMap nat_cmp (List ℕ) → List (ObjectId × ObjectChanges) → List Pointer → ℕ → List Pointer → Type 0
+AreDirectoriesPlanned s maps planned after objects old count new = (d : ℕ) → d < count
+    → IsDirectoryPlanned s maps planned after d (directory_state objects after d) (slice_index_or old d no_pointer) (slice_index_or new d no_pointer)
+
+-- an address is that of a directory's block that is replaced
+pub record IsOfDirectory (objects : List (ObjectId × ObjectChanges)) (after : FinMap nat_cmp (List ℕ)) (old : List Pointer) (count address : ℕ) : Type 0 where
+  pub number : ℕ
+  pub low : number < count
+  pub replaced : replaces (directory_state objects after number) ≡ true
+  pub is_of : IsOf (slice_index_or old number no_pointer) address
+
+abbrev pub DirectoriesFree : List ℕ → List ℕ → List (ObjectId × ObjectChanges) → FinMap nat_cmp (List ℕ) → List Pointer → ℕ → Type 0
+DirectoriesFree old new objects after was count = (address : ℕ) → IsAmong new address → IsAmong old address ⊎ IsOfDirectory objects after was count address
+
+-- what becomes of the root
+abbrev pub root_state : List (ObjectId × ObjectChanges) → FinMap nat_cmp (List ℕ) → RecordState
+root_state objects after = state_above (is_any_touched objects) (has_objects after)
+
+abbrev pub IsRootPlanned : Progress → List Pointer → RecordState → Pointer → Pointer → Type 0
+IsRootPlanned s directories state old new = HasBecome s Root state old new (λ payload. (d : ℕ) → d < pointer_count → pointer_in payload d ≡ slice_index_or directories d no_pointer)
+
 -- the whole walk: objects, directories, root
-pub record IsWalked (s : Progress) (tree : Tree) (after : FinMap nat_cmp (List ℕ)) (objects : List (ObjectId × DirtyRecords)) (planned : List (ObjectId × ObjectMap)) (directories : List Pointer) (root : Pointer) : Type 0 where
+pub record IsWalked (s : Progress) (tree : Tree) (after : FinMap nat_cmp (List ℕ)) (objects : List (ObjectId × ObjectChanges)) (planned : List (ObjectId × ObjectMap)) (directories : List Pointer) (root : Pointer) : Type 0 where
   pub objects_planned : AreObjectsPlanned s tree.maps.items after objects objects planned
   pub directories_planned : AreDirectoriesPlanned s tree.maps.items planned after objects tree.directories.items pointer_count directories
-  pub root_planned : IsRootPlanned s directories (is_any_touched objects) tree.root root
+  pub root_planned : IsRootPlanned s directories (root_state objects after) tree.root root
   pub frees : (address : ℕ) → IsAmong s.freed address
-      → IsOfObject tree.maps.items objects planned address ⊎ (IsOfDirectory objects tree.directories.items pointer_count address ⊎ ((is_any_touched objects ≡ true) × IsOf tree.root address))
+      → IsOfObject tree.maps.items objects planned address
+      ⊎ (IsOfDirectory objects after tree.directories.items pointer_count address ⊎ ((replaces (root_state objects after) ≡ true) × IsOf tree.root address))

@@ -1,10 +1,12 @@
 //! The payloads of a tree's blocks (On-Disk Specification, chapter 2).
 
-ghost use Rattle.std.specs.Prelude.{◌≡◌, ◌≢◌, ◌<◌, ◌≤◌, ℕ, length, option_map, replicate, slice_index_or};
+ghost use Rattle.std.specs.Prelude.{◌≡◌, ◌≢◌, ◌&&◌, ◌<◌, ◌≤◌, ℕ, length, option_map, replicate, slice_index_or};
+ghost use Rattle.std.specs.List.{list_any};
 ghost use Rattle.base.specs.formats.Fields.{entry_in, entry_length, entry_pointer, entry_present, no_pointer, pointer_in};
 ghost use Rattle.base.specs.tree.Tree.{record_bytes};
 ghost use Rattle.checked_blocks.specs.Sealing.{zeros};
 ghost use Rattle.object_maps.specs.ContentsShown.{contents_of};
+ghost use Rattle.tree_plans.specs.Changes.{names_block};
 ghost use Rattle.tree_plans.specs.Walks.{AreEntriesWritten, IsEntryWritten, indirect_after};
 
 use base::{
@@ -37,6 +39,21 @@ pub fn payload_of(pointers: &[Pointer]) -> [u8; 4032]
         put_pointer(&mut payload, index, pointer);
     }
     payload
+}
+
+/// Whether an indirect block over these pointers is written: an operation wrote its object or set its length, and one of
+/// them names a block.
+pub fn is_indirect_written(is_changed: bool, records: &[Pointer]) -> bool
+    ensures { result ≡ (is_changed && list_any names_block records.now) }
+{
+    is_changed && has_block(records)
+}
+
+// Whether one of these pointers names a block.
+fn has_block(pointers: &[Pointer]) -> bool
+    ensures { result ≡ list_any names_block pointers.now }
+{
+    pointers.iter().any(|pointer| pointer.address != 0)
 }
 
 // Writes the pointer of this number.

@@ -2,15 +2,14 @@
 //! are never overwritten (On-Disk Specification, chapter 2): each block is written to a free place.
 
 ghost use Rattle.std.specs.Prelude.{◌≡◌, ◌<◌, All, length, vec_len};
-ghost use Rattle.std.specs.List.{list_any};
 ghost use Rattle.base.specs.formats.Geometry.{block_count};
 ghost use Rattle.tree_plans.specs.declared.planner.PlannedBlock.{PlannedBlock};
 
-use crate::dirty::is_touched;
+use crate::changes::ObjectChanges;
 use crate::freed::give_back;
-use crate::payload::{payload_of, record_of};
+use crate::payload::{is_indirect_written, payload_of, record_of};
 use crate::place::{BlockPlace, RecordPlace};
-use base::{Group, ObjectId, Ops, POINTER_COUNT, Pointer, PoolError};
+use base::{Group, ObjectId, Ops, POINTER_COUNT, Pointer, PoolError, RecordState};
 use checked_blocks::{Block, seal};
 use labels::Geometry;
 use object_maps::ObjectMap;
@@ -32,46 +31,6 @@ pub struct PlannedBlock {
     /// Its index in the block area.
     pub index: usize,
     pub block: Block,
-}
-
-/// The records of an object that a sync writes.
-#[derive(Clone, Copy, Debug, PartialEq, Eq, Drop)]
-pub struct DirtyRecords {
-    pub flags: [bool; 84],
-}
-
-impl DirtyRecords {
-    ghost use Rattle.std.specs.Prelude.{ℕ, ◌<◌, ◌||◌, false, length, slice_index_or};
-    ghost use Rattle.base.specs.tree.Syncs.{is_record_touched};
-
-    /// No record is dirty.
-    pub fn none() -> Self
-        ensures { (r : ℕ) → slice_index_or result.flags r false ≡ false }
-    {
-        DirtyRecords {
-            flags: [false; POINTER_COUNT],
-        }
-    }
-
-    /// Marks each record that has a byte of a write.
-    pub fn mark(&mut self, offset: u64, count: usize)
-        ensures { (r : ℕ) → r < 84 → slice_index_or self.new.flags r false
-            ≡ (is_record_touched r offset count || slice_index_or self.old.flags r false) }
-    {
-        for index in 0..POINTER_COUNT {
-            if is_touched(index, offset, count) {
-                self.flags[index] = true;
-            }
-        }
-    }
-
-    /// Whether a record is dirty.
-    pub fn has_any(&self) -> bool
-        ensures any { result ≡ list_any (λ dirty. dirty) self.now.flags }
-        ensures size { length self.now.flags ≡ 84 }
-    {
-        self.flags.iter().any(|dirty| *dirty)
-    }
 }
 
 /// What a sync makes of a tree.
@@ -109,9 +68,10 @@ impl Planner {
     ghost use Rattle.base.specs.declared.error.PoolError.TheVariants as error;
     ghost use Rattle.base.specs.tree.Places.{IsPlace};
     ghost use Rattle.space.specs.FreeSets.{free_from};
-    ghost use Rattle.tree_plans.specs.Parts.{PlansObject, PlansRecord, PlansRecords, TakesBlock, TellsLack, is_dirty_in};
-    ghost use Rattle.tree_plans.specs.Plans.{IsWant, place_of};
-    ghost use Rattle.tree_plans.specs.Room.{count_if, count_where};
+    ghost use Rattle.base.specs.tree.Syncs.{is_dirty};
+    ghost use Rattle.tree_plans.specs.Parts.{ClearsPlace, PlansIndirect, PlansObject, PlansRecord, PlansRecords, TakesBlock, TellsLack};
+    ghost use Rattle.tree_plans.specs.Plans.{IsWant, indirect_state, is_dirty_in, place_of};
+    ghost use Rattle.tree_plans.specs.Room.{count_if, count_where, needed_blocks};
 
     /// Takes the lowest free block for this payload. What it replaces comes back.
     pub fn place(
@@ -148,33 +108,45 @@ impl Planner {
         Ok(pointer)
     }
 
-    // The pointer to a record after the plan: to a new block where the record is dirty.
+    /// A place has no block any more. The block that it had comes back.
+    pub fn clear(&mut self, replaced: &Pointer) -> Result<Pointer, PoolError>
+        ensures geometry { self.new.geometry ≡ self.old.geometry }
+        ensures cleared { IfOk result (ClearsPlace replaced.now self.old self.new) }
+        ensures refused { IfErr result (λ e. e ≡ error.NoMemory) }
+    {
+        self.freed.reserve(1)?;
+        give_back(&mut self.freed, replaced);
+        Ok(Pointer::NONE)
+    }
+
+    // The pointer to a record after the plan.
     fn place_record(
         &mut self,
         free: &FreeSet,
         place: RecordPlace,
         bytes: &[u8],
         old: &Pointer,
-        dirty: bool,
+        state: RecordState,
     ) -> Result<Pointer, PoolError>
         requires number { place.id.0 < 5292 }
         requires index { place.index < 84 }
         requires free { vec_len free.now.flags ≡ block_count self.old.geometry }
         ensures geometry { self.new.geometry ≡ self.old.geometry }
         ensures planned { IfOk result
-            (PlansRecord free.now place bytes.now old.now dirty self.old self.new) }
-        ensures full { IfErr result (TellsLack free.now self.old (count_if dirty)) }
+            (PlansRecord free.now place bytes.now old.now state self.old self.new) }
+        ensures full { IfErr result (TellsLack free.now self.old (count_if (is_dirty state))) }
         ensures refused { IfErr result IsWant }
     {
-        if !dirty {
-            return Ok(*old);
+        match state {
+            RecordState::Unchanged => Ok(*old),
+            RecordState::Hole => Ok(self.clear(old)?),
+            RecordState::Dirty => self.place(
+                free,
+                BlockPlace::Data(place.id, place.index),
+                record_of(bytes, place.index),
+                old,
+            ),
         }
-        self.place(
-            free,
-            BlockPlace::Data(place.id, place.index),
-            record_of(bytes, place.index),
-            old,
-        )
     }
 
     // The pointers to the records of an object after the plan.
@@ -184,26 +156,51 @@ impl Planner {
         id: ObjectId,
         bytes: &[u8],
         old: &ObjectMap,
-        dirty: &DirtyRecords,
+        changes: &ObjectChanges,
     ) -> Result<Vec<Pointer>, PoolError>
         requires number { id.0 < 5292 }
         requires free { vec_len free.now.flags ≡ block_count self.old.geometry }
         ensures geometry { self.new.geometry ≡ self.old.geometry }
         ensures count { IfOk result (λ records. vec_len records ≡ 84) }
         ensures planned { IfOk result (λ records.
-            PlansRecords free.now id bytes.now old.now dirty.now self.old self.new records.items) }
+            PlansRecords free.now id bytes.now old.now changes.now self.old self.new records.items) }
         ensures full { IfErr result
-            (TellsLack free.now self.old (count_where (is_dirty_in dirty.now) 84)) }
+            (TellsLack free.now self.old (count_where (is_dirty_in changes.now) 84)) }
         ensures refused { IfErr result IsWant }
     {
         let mut records = Vec::with_capacity(self.alloc, POINTER_COUNT)?;
         for index in 0..POINTER_COUNT {
             let place = RecordPlace { id, index };
             let was = old.record(index);
-            let pointer = self.place_record(free, place, bytes, &was, dirty.flags[index])?;
+            let pointer = self.place_record(free, place, bytes, &was, changes.records[index])?;
             records.push_reserved(pointer);
         }
         Ok(records)
+    }
+
+    // The pointer to the indirect block over these records: it is written where some record has a block.
+    fn place_indirect(
+        &mut self,
+        free: &FreeSet,
+        id: ObjectId,
+        records: &[Pointer],
+        old: &Pointer,
+        is_changed: bool,
+    ) -> Result<Pointer, PoolError>
+        requires number { id.0 < 5292 }
+        requires count { length records.now ≡ 84 }
+        requires free { vec_len free.now.flags ≡ block_count self.old.geometry }
+        ensures geometry { self.new.geometry ≡ self.old.geometry }
+        ensures planned { IfOk result
+            (PlansIndirect free.now id records.now old.now is_changed self.old self.new) }
+        ensures full { IfErr result (TellsLack free.now self.old
+            (count_if (is_dirty (indirect_state is_changed records.now)))) }
+        ensures refused { IfErr result IsWant }
+    {
+        if !is_indirect_written(is_changed, records) {
+            return Ok(self.clear(old)?);
+        }
+        self.place(free, BlockPlace::Indirect(id), &payload_of(records), old)
     }
 
     /// The records of an object, rising, and then its indirect block.
@@ -213,20 +210,19 @@ impl Planner {
         id: ObjectId,
         bytes: &[u8],
         old: &ObjectMap,
-        dirty: &DirtyRecords,
+        changes: &ObjectChanges,
     ) -> Result<ObjectMap, PoolError>
         requires number { id.0 < 5292 }
         requires free { vec_len free.now.flags ≡ block_count self.old.geometry }
         ensures geometry { self.new.geometry ≡ self.old.geometry }
         ensures planned { IfOk result
-            (PlansObject free.now id bytes.now old.now dirty.now self.old self.new) }
+            (PlansObject free.now id bytes.now old.now changes.now self.old self.new) }
         ensures full { IfErr result
-            (TellsLack free.now self.old (count_where (is_dirty_in dirty.now) 84 + 1)) }
+            (TellsLack free.now self.old (needed_blocks changes.now old.now)) }
         ensures refused { IfErr result IsWant }
     {
-        let records = self.place_records(free, id, bytes, old, dirty)?;
-        let payload = payload_of(&records);
-        let indirect = self.place(free, BlockPlace::Indirect(id), &payload, &old.indirect)?;
+        let records = self.place_records(free, id, bytes, old, changes)?;
+        let indirect = self.place_indirect(free, id, &records, &old.indirect, changes.is_changed)?;
         Ok(ObjectMap { indirect, records })
     }
 }

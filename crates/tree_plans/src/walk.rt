@@ -4,43 +4,92 @@
 //! it changes too: a record changes its indirect block, that its directory, and that the root. A pointer has the check of
 //! its block, so the walk goes from the records up:
 //!
-//! 1. each object that changes, rising: its dirty records, rising, and behind them its indirect block;
-//! 2. each directory with an object that changes, rising;
-//! 3. the root, where an object changes.
+//! 1. each object that an operation is on, rising: its dirty records, rising, and behind them its indirect block;
+//! 2. each directory with such an object, rising;
+//! 3. the root, where there is such an object.
+//!
+//! A block above the records is written where something below it is left: a record with a block, an object that is there.
+//! Otherwise its place has no block any more, and what it had comes back. So does the block of a record that is a hole.
 //!
 //! Each block takes the lowest free place behind the one before it. No flag of the free set changes here, so a plan that is
 //! refused has changed nothing.
 
-ghost use Rattle.std.specs.Prelude.{◌≡◌, ◌<◌, [], List, Some, false, length, vec_len, IfOk, IfErr, OnOk};
+ghost use Rattle.std.specs.Prelude.{◌≡◌, ◌<◌, ◌||◌, [], List, Some, false, length, vec_len, IfOk, IfErr, OnOk};
 ghost use Rattle.base.specs.declared.error.PoolError.TheVariants as error;
 ghost use Rattle.base.specs.declared.names.ObjectId.{ObjectId};
 ghost use Rattle.base.specs.formats.Geometry.{block_count};
-ghost use Rattle.tree_plans.specs.Changes.{AreInRange, is_marked};
-ghost use Rattle.tree_plans.specs.declared.planner.DirtyRecords.{DirtyRecords};
-ghost use Rattle.tree_plans.specs.Parts.{GoesOver, HasNothing, PlansDirectories, PlansDirectory, PlansObjects, PlansRoot, PlansTree, TellsLack};
-ghost use Rattle.tree_plans.specs.Plans.{IsWant};
+ghost use Rattle.base.specs.tree.Syncs.{is_dirty};
+ghost use Rattle.object_maps.specs.ContentsShown.{contents_of};
+ghost use Rattle.tree_plans.specs.Changes.{AreInRange};
+ghost use Rattle.tree_plans.specs.declared.changes.ObjectChanges.{ObjectChanges};
+ghost use Rattle.tree_plans.specs.Parts.{GoesOver, HasNothing, PlansDirectories, PlansDirectory, PlansObjects, PlansRoot, PlansTree, TellsLack, group_in, objects_after};
+ghost use Rattle.tree_plans.specs.Plans.{IsWant, state_above};
 ghost use Rattle.tree_plans.specs.Pointers.{entry_of};
-ghost use Rattle.tree_plans.specs.Room.{changed_blocks, count_if, directory_blocks, object_blocks, root_blocks, tree_blocks};
+ghost use Rattle.tree_plans.specs.Room.{changed_blocks, count_if, directory_blocks, object_blocks, tree_blocks};
 ghost use Rattle.tree_plans.specs.TreePlans.{GivesBack, MakesTree, TakesBlocks, free_addresses, places_written};
-ghost use Rattle.tree_plans.specs.Walks.{is_directory_touched};
+ghost use Rattle.tree_plans.specs.Walks.{has_object, has_objects, is_directory_touched, is_emptied, root_state};
 
+use crate::changes::ObjectChanges;
 use crate::payload::{directory_payload, payload_of};
 use crate::place::BlockPlace;
-use crate::planner::{DirtyRecords, Planner, TreePlan};
-use base::{ENTRY_COUNT, Group, OBJECT_COUNT, ObjectId, POINTER_COUNT, Pointer, PoolError};
+use crate::planner::{Planner, TreePlan};
+use base::{
+    ENTRY_COUNT, Group, OBJECT_COUNT, ObjectId, POINTER_COUNT, Pointer, PoolError, RecordState,
+};
 use labels::Geometry;
 use object_maps::{Contents, ObjectMap, Tree};
 use space::FreeSet;
 use std::alloc::Global;
 use std::collections::BTreeMap;
 
-// Whether an object of a directory changes.
-fn is_touched(objects: &BTreeMap<ObjectId, DirtyRecords>, directory: usize) -> bool
+// Whether an operation is on an object of a directory.
+fn is_touched(objects: &BTreeMap<ObjectId, ObjectChanges>, directory: usize) -> bool
     ensures { result ≡ is_directory_touched objects.now.entries directory }
 {
     objects
         .keys()
         .any(|id| id.0 as usize / ENTRY_COUNT == directory)
+}
+
+// Whether an object of a directory is there.
+fn has_object_in(contents: &Contents, directory: usize) -> bool
+    requires { directory < 84 }
+    ensures { result ≡ has_object (contents_of contents.now).objects directory }
+{
+    let first = ENTRY_COUNT * directory;
+    (first..first + ENTRY_COUNT).any(|number| contents.has(ObjectId(number as u32)))
+}
+
+// Whether an object of one of the directories is there.
+fn has_any_object(contents: &Contents) -> bool
+    ensures { result ≡ has_objects (contents_of contents.now).objects }
+{
+    (0..POINTER_COUNT).any(|directory| has_object_in(contents, directory))
+}
+
+// Whether the operations leave no object.
+fn is_emptied(objects: &BTreeMap<ObjectId, ObjectChanges>, contents: &Contents) -> bool
+    ensures { result ≡ is_emptied objects.now.entries (contents_of contents.now).objects }
+{
+    !objects.is_empty() && !has_any_object(contents)
+}
+
+// Whether something of a directory changes: an object of it, or all are gone, so that the root has no block either.
+fn is_replaced(objects: &BTreeMap<ObjectId, ObjectChanges>, emptied: bool, directory: usize) -> bool
+    ensures { result ≡ (emptied || is_directory_touched objects.now.entries directory) }
+{
+    emptied || is_touched(objects, directory)
+}
+
+// What the sync does with a place above the records, where something below it changes, and something is left there.
+fn state_of(touched: bool, left: bool) -> RecordState
+    ensures { result ≡ state_above touched left }
+{
+    match (touched, left) {
+        (false, _) => RecordState::Unchanged,
+        (true, true) => RecordState::Dirty,
+        (true, false) => RecordState::Hole,
+    }
 }
 
 /// What a plan is made of.
@@ -56,32 +105,32 @@ pub struct PlanSource<'a> {
     pub free: &'a FreeSet,
 }
 
-/// Plans the tree after a group whose objects change so: for rising objects their dirty records rising and then their
-/// indirect block; then directories rising; then the root. Each takes the lowest free block. Live blocks are not
-/// overwritten (On-Disk Specification, chapter 2): what is replaced comes back by its address.
+/// Plans the tree after a group whose operations do this to objects: for rising objects their dirty records rising and then
+/// their indirect block; then directories rising; then the root. Each takes the lowest free block. Live blocks are not
+/// overwritten (On-Disk Specification, chapter 2): what is replaced, or has no place any more, comes back by its address.
 ///
 /// The contents are those after the group.
 ///
-/// - `taken`: the blocks are whole and the lowest free ones. Where each object that changes has a number below 5,292 they
-///   stand in the order of the places that change, one for each.
-/// - `tree`: what becomes of each place of the tree, where the dirty records and the objects that change cover all that
-///   differs from before, where each of these objects is there and its dirty records begin within it, and where an object
-///   that is not there has no indirect block. Each block is behind a pointer, and the root stays where nothing changes.
-/// - `freed`: what comes back lies in the block area, and is what the plan replaces.
+/// - `taken`: the blocks are whole and the lowest free ones. Where each object that an operation is on has a number below
+///   5,292 they stand in the order of the places that the definitions write, one for each.
+/// - `tree`: what becomes of each place of the tree. The states of the records have to cover all that differs from before
+///   (`IsCoveredBy`), and to fit the objects after (`AreChanges`); the pointers before have to be those of a tree
+///   (`AreTreePointers`). Each block is behind a pointer, and the root stays where no operation is on an object.
+/// - `freed`: what comes back lies in the block area, and is what the plan replaces or clears.
 ///
 /// # Errors
-/// `NoSpace`, where each object that changes has a number below 5,292 only if fewer blocks are free than there are places to
-/// write (`full`); `NoMemory`.
+/// `NoSpace`, where each such object has a number below 5,292 only if fewer blocks are free than there are places to write
+/// (`full`); `NoMemory`.
 pub fn plan(
     source: &PlanSource<'_>,
-    objects: &BTreeMap<ObjectId, DirtyRecords>,
+    objects: &BTreeMap<ObjectId, ObjectChanges>,
 ) -> Result<TreePlan, PoolError>
     requires { vec_len source.now.free.now.flags ≡ block_count source.now.geometry }
     ensures taken { IfOk result (TakesBlocks source.now objects.now) }
     ensures tree { IfOk result (MakesTree source.now objects.now) }
     ensures freed { IfOk result (GivesBack source.now) }
     ensures full { IfErr result (λ e. e ≡ error.NoSpace → AreInRange objects.now.entries
-        → length (free_addresses source.now) < length (places_written objects.now.entries)) }
+        → length (free_addresses source.now) < length (places_written source.now objects.now.entries)) }
     ensures refused { IfErr result IsWant }
 {
     let mut planner = Planner {
@@ -115,7 +164,7 @@ struct NewTree {
 fn place_tree(
     planner: &mut Planner,
     source: &PlanSource<'_>,
-    objects: &BTreeMap<ObjectId, DirtyRecords>,
+    objects: &BTreeMap<ObjectId, ObjectChanges>,
 ) -> Result<NewTree, PoolError>
     requires geometry { planner.old.geometry ≡ source.now.geometry }
     requires free { vec_len source.now.free.now.flags ≡ block_count source.now.geometry }
@@ -124,7 +173,7 @@ fn place_tree(
     ensures planned { IfOk result
         (PlansTree source.now objects.now planner.old planner.new) }
     ensures full { IfErr result (λ e. AreInRange objects.now.entries
-        → TellsLack source.now.free.now planner.old (tree_blocks objects.now.entries) e) }
+        → TellsLack source.now.free.now planner.old (tree_blocks (group_in source.now objects.now.entries)) e) }
     ensures kept { OnOk result (objects.now.entries ≡ [] → planner.new ≡ planner.old) }
     ensures refused { IfErr result IsWant }
 {
@@ -138,11 +187,11 @@ fn place_tree(
     })
 }
 
-// The root, where an object changes.
+// The root, where an operation is on an object.
 fn place_root(
     planner: &mut Planner,
     source: &PlanSource<'_>,
-    objects: &BTreeMap<ObjectId, DirtyRecords>,
+    objects: &BTreeMap<ObjectId, ObjectChanges>,
     directories: &[Pointer],
 ) -> Result<Pointer, PoolError>
     requires geometry { planner.old.geometry ≡ source.now.geometry }
@@ -152,23 +201,30 @@ fn place_root(
     ensures planned { IfOk result
         (PlansRoot source.now objects.now directories.now planner.old planner.new) }
     ensures full { IfErr result
-        (TellsLack source.now.free.now planner.old (root_blocks objects.now.entries)) }
+        (TellsLack source.now.free.now planner.old
+        (count_if (is_dirty (root_state objects.now.entries (objects_after source.now))))) }
     ensures kept { OnOk result (objects.now.entries ≡ [] → planner.new ≡ planner.old) }
     ensures refused { IfErr result IsWant }
 {
     let root = &source.tree.root;
-    if objects.is_empty() {
-        return Ok(*root);
+    match state_of(!objects.is_empty(), has_any_object(source.contents)) {
+        RecordState::Unchanged => Ok(*root),
+        RecordState::Hole => Ok(planner.clear(root)?),
+        RecordState::Dirty => {
+            planner.place(
+                source.free,
+                BlockPlace::Root,
+                &payload_of(directories),
+                root,
+            )
+        }
     }
-    let payload = payload_of(directories);
-    let pointer = planner.place(source.free, BlockPlace::Root, &payload, root)?;
-    Ok(pointer)
 }
 
 fn place_objects(
     planner: &mut Planner,
     source: &PlanSource<'_>,
-    objects: &BTreeMap<ObjectId, DirtyRecords>,
+    objects: &BTreeMap<ObjectId, ObjectChanges>,
 ) -> Result<BTreeMap<ObjectId, ObjectMap>, PoolError>
     requires geometry { planner.old.geometry ≡ source.now.geometry }
     requires free { vec_len source.now.free.now.flags ≡ block_count source.now.geometry }
@@ -176,44 +232,43 @@ fn place_objects(
     ensures planned { IfOk result
         (PlansObjects source.now objects.now planner.old planner.new) }
     ensures full { IfErr result (λ e. AreInRange objects.now.entries
-        → TellsLack source.now.free.now planner.old (changed_blocks objects.now.entries) e) }
+        → TellsLack source.now.free.now planner.old
+        (changed_blocks (group_in source.now objects.now.entries)) e) }
     ensures kept { OnOk result (objects.now.entries ≡ [] → planner.new ≡ planner.old) }
     ensures refused { IfErr result IsWant }
 {
     let mut maps = BTreeMap::new(source.alloc);
-    for (id, dirty) in objects.iter() {
-        place_changed(planner, source, &mut maps, *id, dirty)?;
+    for (id, changes) in objects.iter() {
+        place_changed(planner, source, &mut maps, *id, changes)?;
     }
     Ok(maps)
 }
 
-// An object with dirty records.
+// An object that operations are on.
 fn place_changed(
     planner: &mut Planner,
     source: &PlanSource<'_>,
     maps: &mut BTreeMap<ObjectId, ObjectMap>,
     id: ObjectId,
-    dirty: &DirtyRecords,
+    changes: &ObjectChanges,
 ) -> Result<(), PoolError>
     requires geometry { planner.old.geometry ≡ source.now.geometry }
     requires free { vec_len source.now.free.now.flags ≡ block_count source.now.geometry }
     ensures geometry { planner.new.geometry ≡ planner.old.geometry }
     ensures planned { OnOk result
-        (GoesOver source.now id dirty.now maps.old.entries planner.old planner.new maps.new.entries) }
-    ensures full { IfErr result (λ e. (objects : List (ObjectId × DirtyRecords))
-        → entry_of objects id.0 ≡ Some dirty.now
-        → TellsLack source.now.free.now planner.old (object_blocks (is_marked objects) id.0) e) }
+        (GoesOver source.now id changes.now maps.old.entries planner.old planner.new maps.new.entries) }
+    ensures full { IfErr result (λ e. (objects : List (ObjectId × ObjectChanges))
+        → entry_of objects id.0 ≡ Some changes.now
+        → TellsLack source.now.free.now planner.old
+        (object_blocks (group_in source.now objects) id.0) e) }
     ensures refused { IfErr result IsWant }
 {
     if id.0 >= OBJECT_COUNT {
         return Ok(());
     }
-    if !dirty.has_any() {
-        return Ok(());
-    }
     let bytes = source.contents.object(id).unwrap_or(&[]);
     let old = &source.tree.maps[id.0 as usize];
-    let map = planner.place_object(source.free, id, bytes, old, dirty)?;
+    let map = planner.place_object(source.free, id, bytes, old, changes)?;
     maps.insert(id, map)?;
     Ok(())
 }
@@ -221,7 +276,7 @@ fn place_changed(
 fn place_directories(
     planner: &mut Planner,
     source: &PlanSource<'_>,
-    objects: &BTreeMap<ObjectId, DirtyRecords>,
+    objects: &BTreeMap<ObjectId, ObjectChanges>,
     maps: &BTreeMap<ObjectId, ObjectMap>,
 ) -> Result<Vec<Pointer>, PoolError>
     requires geometry { planner.old.geometry ≡ source.now.geometry }
@@ -231,20 +286,22 @@ fn place_directories(
     ensures planned { IfOk result (λ directories. PlansDirectories
         source.now objects.now maps.now planner.old planner.new directories.items) }
     ensures full { IfErr result
-        (TellsLack source.now.free.now planner.old (directory_blocks objects.now.entries)) }
+        (TellsLack source.now.free.now planner.old
+        (directory_blocks objects.now.entries (objects_after source.now))) }
     ensures kept { OnOk result (objects.now.entries ≡ [] → planner.new ≡ planner.old) }
     ensures refused { IfErr result IsWant }
 {
+    let emptied = is_emptied(objects, source.contents);
     let mut directories = Vec::with_capacity(source.alloc, POINTER_COUNT)?;
     for index in 0..POINTER_COUNT {
-        let touched = is_touched(objects, index);
+        let touched = is_replaced(objects, emptied, index);
         let pointer = place_directory(planner, source, maps, index, touched)?;
         directories.push_reserved(pointer);
     }
     Ok(directories)
 }
 
-// A directory, where an object of it changes.
+// A directory, where something of it changes.
 fn place_directory(
     planner: &mut Planner,
     source: &PlanSource<'_>,
@@ -258,15 +315,18 @@ fn place_directory(
     ensures geometry { planner.new.geometry ≡ planner.old.geometry }
     ensures planned { IfOk result
         (PlansDirectory source.now maps.now index touched planner.old planner.new) }
-    ensures full { IfErr result (TellsLack source.now.free.now planner.old (count_if touched)) }
+    ensures full { IfErr result (TellsLack source.now.free.now planner.old
+        (count_if (is_dirty (state_above touched (has_object (objects_after source.now) index))))) }
     ensures kept { OnOk result (touched ≡ false → planner.new ≡ planner.old) }
     ensures refused { IfErr result IsWant }
 {
     let old = source.tree.directories[index];
-    if !touched {
-        return Ok(old);
+    match state_of(touched, has_object_in(source.contents, index)) {
+        RecordState::Unchanged => Ok(old),
+        RecordState::Hole => Ok(planner.clear(&old)?),
+        RecordState::Dirty => {
+            let payload = directory_payload(source.contents, source.tree, maps, index);
+            planner.place(source.free, BlockPlace::Directory(index), &payload, &old)
+        }
     }
-    let payload = directory_payload(source.contents, source.tree, maps, index);
-    let pointer = planner.place(source.free, BlockPlace::Directory(index), &payload, &old)?;
-    Ok(pointer)
 }

@@ -100,3 +100,11 @@ operations_keep (op ∷ ops) c d shapes contents h bounded =
     let t = and_parts (is_content_allowed op) (list_all is_content_allowed ops) contents in
     let p = parted (apply op c) (apply_all ops) d h in
     operations_keep ops p.0 d s.1 t.1 p.2 (one_operation op c p.0 s.0 t.0 p.1 bounded)
+
+-- contents within the limits have no objects past the last number
+pub bounded-no_others : (c : Contents) → IsBounded c → (n : ℕ) → object_count ≤ n → maps.get c.objects n ≡ None
+bounded-no_others c bounded n above = go (maps.get c.objects n) (bounded.objects n)
+  where
+    go : (o : Option (List ℕ)) → IfSome o (λ bytes. (n < object_count) × (length bytes ≤ max_length) × (list_all (λ b. nat_lt b 256) bytes ≡ true)) → o ≡ None
+    go None h = refl
+    go (Some x) h = absurd (let below = h.0 in omega (arith, below, above))

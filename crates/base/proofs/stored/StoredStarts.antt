@@ -37,7 +37,7 @@ use Rattle.base.proofs.steps.KeptGroups.{quiesced_is, none_there}
 use Rattle.base.proofs.tree.PlacedTrees.{in-tree, opens-at}
 use Rattle.base.proofs.disk.WrittenBlocks.{put_blocks, free-leaves_tree, new-stand, planned-written}
 use Rattle.base.proofs.tree.FreedBlocks.{new-in_tree}
-use Rattle.base.proofs.tree.WrittenRecords.{bounded-no_others}
+use Rattle.base.proofs.history.KeptContents.{bounded-no_others}
 use Rattle.base.proofs.formats.Geometry.{IsGeometry-IsSize}
 use Rattle.base.proofs.stored.StoredLabels.{synced-state}
 use Rattle.base.proofs.stored.StoredSets.{in-at, at-in, set-at, at-set, rising-in, rising-rises, map-at}

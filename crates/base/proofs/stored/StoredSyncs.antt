@@ -32,7 +32,7 @@ use Rattle.base.proofs.common.Sieves.{filter_all}
 use Rattle.base.proofs.common.KeptLists.{none_at, Some-injective}
 use Rattle.base.proofs.tree.PlacedTrees.{in-tree}
 use Rattle.base.proofs.tree.PlannedTrees.{planned-holds}
-use Rattle.base.proofs.tree.WrittenRecords.{bounded-no_others}
+use Rattle.base.proofs.history.KeptContents.{bounded-no_others}
 use Rattle.base.proofs.tree.FreedBlocks.{IsNewAddress, in-new_tree, new-in_tree, stays-or_freed, freed-old, freed-left}
 use Rattle.base.proofs.stored.StoredSets.{IsAt, in-at, at-in, set-at, at-set, at-map, map-at}
 use Rattle.base.proofs.stored.StoredTrees.{stored-placed}

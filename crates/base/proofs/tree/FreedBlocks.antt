@@ -37,13 +37,17 @@ module _ (image other : List ℕ) (frame grown : Frame) (bs : List NewBlock) (ol
 
   planned-becomes : (place : Place) → IsPlace place → IsPlannedAt bs grown old new before after place → Becomes place
   planned-becomes Root in_range (inl p) = inl p.0
-  planned-becomes Root in_range (inr p) = new-becomes Root p.0 p.1
+  planned-becomes Root in_range (inr (inl p)) = new-becomes Root p.0 p.1
+  planned-becomes Root in_range (inr (inr p)) = inr (inl p.0)
   planned-becomes (Directory d) in_range (inl p) = inl p.0
-  planned-becomes (Directory d) in_range (inr p) = new-becomes (Directory d) p.0 p.1
+  planned-becomes (Directory d) in_range (inr (inl p)) = new-becomes (Directory d) p.0 p.1
+  planned-becomes (Directory d) in_range (inr (inr p)) = inr (inl p.0)
   planned-becomes (Indirect n) in_range (inl p) = inl p.0
-  planned-becomes (Indirect n) in_range (inr p) = new-becomes (Indirect n) p.0 p.1
+  planned-becomes (Indirect n) in_range (inr (inl p)) = new-becomes (Indirect n) p.0 p.1
+  planned-becomes (Indirect n) in_range (inr (inr p)) = inr (inl p.0)
   planned-becomes (Data n r) in_range (inl p) = inl p.0
-  planned-becomes (Data n r) in_range (inr p) = data-becomes n r (map.get after n) in_range.0 in_range.1 refl p
+  planned-becomes (Data n r) in_range (inr (inl p)) = data-becomes n r (map.get after n) in_range.0 in_range.1 refl p
+  planned-becomes (Data n r) in_range (inr (inr p)) = inr (inl p.0)
 
   pub becomes : (place : Place) → IsPlace place → Becomes place
   becomes place in_range = planned-becomes place in_range (planned place in_range)

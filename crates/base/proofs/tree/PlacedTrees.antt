@@ -107,7 +107,7 @@ module _ (image : List ℕ) (frame : Frame) (pointers : Place → Pointer) (obje
   absent-data n r n_below r_below absent = below_no_indirect n r n_below r_below (absent-indirect n n_below absent)
 
   -- a record of an object that is there
-  record_at : (n r : ℕ) (bytes : List ℕ) → n < object_count → r < pointer_count → map.get objects n ≡ Some bytes → IsRecord image frame n r (pointers (Data n r)) bytes
+  pub record_at : (n r : ℕ) (bytes : List ℕ) → n < object_count → r < pointer_count → map.get objects n ≡ Some bytes → IsRecord image frame n r (pointers (Data n r)) bytes
   record_at n r bytes n_below r_below there =
       subst (λ (o : Option (List ℕ)). IfSome o (λ bytes. IsRecord image frame n r (pointers (Data n r)) bytes)) there (holds.each (Data n r) (n_below, r_below))
 

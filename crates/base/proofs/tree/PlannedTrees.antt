@@ -8,14 +8,14 @@ use Rattle.std.specs.FinMap as map
 use Rattle.std.specs.FinMap.{FinMap}
 use Rattle.base.specs.declared.pointer.Pointer.{Pointer}
 use Rattle.base.specs.formats.Limits.{object_count, max_length, record_size, pointer_count, entry_count}
-use Rattle.base.specs.formats.Fields.{part, entry_in}
+use Rattle.base.specs.formats.Fields.{part, entry_in, no_pointer}
 use Rattle.base.specs.formats.Geometry.{block_size, IsBlockAddress}
 use Rattle.base.specs.formats.Blocks.{Frame, IsBlock, Opens}
 use Rattle.base.specs.tree.Places.{Place, IsPlace, kind_of, number_of_place}
 use Rattle.base.specs.tree.Places.Place.{Root, Directory, Indirect, Data}
 use Rattle.base.specs.tree.Tree.{OpensAt, IsRecord, record_bytes}
 use Rattle.base.specs.tree.PlacedTrees.{IsEntryFor, padded_record, StandsAt, HoldsTree}
-use Rattle.base.specs.tree.PlannedTrees.{NewBlock, IsNewAt, SameEntry, SameRecord, IsPlannedAt, IsTreePlan, SameBlock, IsBlockWritten}
+use Rattle.base.specs.tree.PlannedTrees.{NewBlock, IsNewAt, SameEntry, SameRecord, IsZeroRecord, IsPlannedAt, IsTreePlan, SameBlock, IsBlockWritten}
 use Rattle.base.proofs.tree.PlacedTrees.{opens-some, absent-data}
 use Rattle.base.proofs.common.KeptLists.{get_or-zeros}
 
@@ -143,15 +143,16 @@ module _ (image other : List ℕ) (frame grown : Frame) (guid_same : grown.guid 
       indirect-kept n top each (inl h) = inl (top ∙ h.0, λ r below. each r below ∙ h.1 r below)
       indirect-kept n top each (inr h) = inr (h.0, subst (λ (p : Pointer). OpensAt other grown (Indirect n) p h.0) (sym top) h.1, λ r below. h.2 r below ∙ sym (each r below))
 
-      record-kept : (n r : ℕ) (x y : List ℕ) → new (Data n r) ≡ old (Data n r) → padded_record r x ≡ padded_record r y → length x ≤ length y
+      record-kept : (n r : ℕ) (x y : List ℕ) → new (Data n r) ≡ old (Data n r) → padded_record r x ≡ padded_record r y → (old (Data n r) ≡ no_pointer) ⊎ (record_size * r < length y)
           → IsRecord other grown n r (old (Data n r)) x → IsRecord other grown n r (new (Data n r)) y
-      record-kept n r x y top padded longer (inl h) = inl (top ∙ h.0, zeros-along record_size (record_bytes r x) (record_bytes r y) padded h.1)
-      record-kept n r x y top padded longer (inr h) = inr (
-        let below = h.0 in omega (arith, below, longer),
+      record-kept n r x y top padded within (inl h) = inl (top ∙ h.0, zeros-along record_size (record_bytes r x) (record_bytes r y) padded h.1)
+      record-kept n r x y top padded (inl none) (inr h) = absurd (opens-some other grown 5 (pointer_count * n + r) (old (Data n r)) (padded_record r x) h.1 none)
+      record-kept n r x y top padded (inr below) (inr h) = inr (
+        below,
         subst (λ (payload : List ℕ). OpensAt other grown (Data n r) (new (Data n r)) payload) padded (subst (λ (p : Pointer). OpensAt other grown (Data n r) p (padded_record r x)) (sym top) h.1),
       )
 
-      data-kept : (n r : ℕ) (b a : Option (List ℕ)) → n < object_count → r < pointer_count → map.get before n ≡ b → new (Data n r) ≡ old (Data n r) → SameRecord r b a
+      data-kept : (n r : ℕ) (b a : Option (List ℕ)) → n < object_count → r < pointer_count → map.get before n ≡ b → new (Data n r) ≡ old (Data n r) → SameRecord (old (Data n r)) r b a
           → IfSome b (λ bytes. IsRecord other grown n r (old (Data n r)) bytes) → IfSome a (λ bytes. IsRecord other grown n r (new (Data n r)) bytes)
       data-kept n r None None n_below r_below is top kept h = tt
       data-kept n r (Some x) None n_below r_below is top kept h = tt
@@ -168,16 +169,25 @@ module _ (image other : List ℕ) (frame grown : Frame) (guid_same : grown.guid 
       kept-at : (place : Place) → IsPlace place → new place ≡ old place → StandsAt other grown old before place
       kept-at place in_range top = stands-elsewhere old before place (holds.each place in_range) (same place in_range top)
 
+      -- a record that has no block
+      data-none : (n r : ℕ) (a : Option (List ℕ)) → new (Data n r) ≡ no_pointer → IsZeroRecord r a → IfSome a (λ bytes. IsRecord other grown n r (new (Data n r)) bytes)
+      data-none n r None none zeros = tt
+      data-none n r (Some y) none zeros = inl (none, zeros)
+
       planned-at : (place : Place) → IsPlace place → IsPlannedAt blocks grown old new before after place → StandsAt other grown new after place
       planned-at Root in_range (inl p) = root-kept p.0 p.1 (kept-at Root in_range p.0)
-      planned-at Root in_range (inr p) = inr (p.0, opens-new Root (new Root) p.0 p.1, p.2)
+      planned-at Root in_range (inr (inl p)) = inr (p.0, opens-new Root (new Root) p.0 p.1, p.2)
+      planned-at Root in_range (inr (inr p)) = inl p
       planned-at (Directory d) in_range (inl p) = directory-kept d p.0 p.1 (kept-at (Directory d) in_range p.0)
-      planned-at (Directory d) in_range (inr p) = inr (p.0, opens-new (Directory d) (new (Directory d)) p.0 p.1, p.2)
+      planned-at (Directory d) in_range (inr (inl p)) = inr (p.0, opens-new (Directory d) (new (Directory d)) p.0 p.1, p.2)
+      planned-at (Directory d) in_range (inr (inr p)) = inl p
       planned-at (Indirect n) in_range (inl p) = indirect-kept n p.0 p.1 (kept-at (Indirect n) in_range p.0)
-      planned-at (Indirect n) in_range (inr p) = inr (p.0, opens-new (Indirect n) (new (Indirect n)) p.0 p.1, p.2)
+      planned-at (Indirect n) in_range (inr (inl p)) = inr (p.0, opens-new (Indirect n) (new (Indirect n)) p.0 p.1, p.2)
+      planned-at (Indirect n) in_range (inr (inr p)) = inl p
       planned-at (Data n r) in_range (inl p) =
           data-kept n r (map.get before n) (map.get after n) in_range.0 in_range.1 refl p.0 p.1 (kept-at (Data n r) in_range p.0)
-      planned-at (Data n r) in_range (inr p) = data-new n r (map.get after n) p
+      planned-at (Data n r) in_range (inr (inl p)) = data-new n r (map.get after n) p
+      planned-at (Data n r) in_range (inr (inr p)) = data-none n r (map.get after n) p.0 p.1
 
       -- where the new blocks stand and the kept ones are the same, the tree that was planned is there
       pub planned-holds : ((n : ℕ) → object_count ≤ n → map.get after n ≡ None) → HoldsTree other grown new after

@@ -1,6 +1,5 @@
--- What a sync makes of a tree, place by place: each place keeps what it has, or gets a new block. That is all at this stage, on which
--- transactions create and write: with a remove and a cut a place may also have none any more, and an object may get shorter.
-use Rattle.std.specs.Prelude.{ℕ, ◌≡◌, ◌≢◌, ◌≤◌, ◌<◌, ◌+◌, ◌*◌, ◌⊎◌, List, [], length, slice_get, Option, Some, IfSome, unwrap_or, option_map}
+-- What a sync makes of a tree, place by place: each place stays as it was, is written, or has no block any more.
+use Rattle.std.specs.Prelude.{ℕ, ◌≡◌, ◌≢◌, ◌<◌, ◌+◌, ◌*◌, ◌⊎◌, List, [], length, replicate, slice_get, Option, Some, None, IfSome, unwrap_or, option_map}
 use Rattle.std.specs.Ordering.{nat_cmp}
 use Rattle.std.specs.FinMap as map
 use Rattle.std.specs.FinMap.{FinMap}
@@ -11,6 +10,7 @@ use Rattle.base.specs.formats.Geometry.{block_size, IsBlockAddress}
 use Rattle.base.specs.formats.Blocks.{Frame, IsBlock}
 use Rattle.base.specs.tree.Places.{Place, IsPlace, kind_of, number_of_place}
 use Rattle.base.specs.tree.Places.Place.{Root, Directory, Indirect, Data}
+use Rattle.base.specs.tree.Tree.{record_bytes}
 use Rattle.base.specs.tree.PlacedTrees.{IsEntryFor, padded_record}
 
 -- a block that a sync writes: its address, and its bytes
@@ -32,30 +32,49 @@ pub record IsNewAt (blocks : List NewBlock) (frame : Frame) (place : Place) (poi
 abbrev pub SameEntry : Option (List ℕ) → Option (List ℕ) → Type 0
 SameEntry before after = option_map length before ≡ option_map length after
 
--- record r of an object that is there has the same bytes as before, where no object has none, and, at this stage, the object is no shorter
-abbrev pub SameRecord : ℕ → Option (List ℕ) → Option (List ℕ) → Type 0
-SameRecord r before after = IfSome after (λ bytes. (padded_record r (unwrap_or before []) ≡ padded_record r bytes) × (length (unwrap_or before []) ≤ length bytes))
+-- Record r of an object that is there has the same bytes as before, where no object has none. If it has a block, it begins before the end.
+abbrev pub SameRecord : Pointer → ℕ → Option (List ℕ) → Option (List ℕ) → Type 0
+SameRecord pointer r before after =
+    IfSome after (λ bytes. (padded_record r (unwrap_or before []) ≡ padded_record r bytes) × ((pointer ≡ no_pointer) ⊎ (record_size * r < length bytes)))
 
--- of new blocks, old and new pointers, and objects before and after: what becomes of a place, where operations create and write
-abbrev pub IsPlannedAt : List NewBlock → Frame → (Place → Pointer) → (Place → Pointer) → FinMap nat_cmp (List ℕ) → FinMap nat_cmp (List ℕ) → Place → Type 0
-IsPlannedAt blocks frame old new before after Root =
-    ((new Root ≡ old Root) × ((d : ℕ) → d < pointer_count → new (Directory d) ≡ old (Directory d)))
-    ⊎ ((payload : List ℕ) × IsNewAt blocks frame Root (new Root) payload × ((d : ℕ) → d < pointer_count → pointer_in payload d ≡ new (Directory d)))
-IsPlannedAt blocks frame old new before after (Directory d) =
-    ((new (Directory d) ≡ old (Directory d)) × ((k : ℕ) → k < entry_count
-    → (new (Indirect (entry_count * d + k)) ≡ old (Indirect (entry_count * d + k))) × SameEntry (map.get before (entry_count * d + k)) (map.get after (entry_count * d + k))))
-    ⊎ ((payload : List ℕ) × IsNewAt blocks frame (Directory d) (new (Directory d)) payload
-    × ((k : ℕ) → k < entry_count → IsEntryFor (entry_in payload k) (new (Indirect (entry_count * d + k))) (map.get after (entry_count * d + k))))
-IsPlannedAt blocks frame old new before after (Indirect n) =
-    ((new (Indirect n) ≡ old (Indirect n)) × ((r : ℕ) → r < pointer_count → new (Data n r) ≡ old (Data n r)))
-    ⊎ ((payload : List ℕ) × IsNewAt blocks frame (Indirect n) (new (Indirect n)) payload × ((r : ℕ) → r < pointer_count → pointer_in payload r ≡ new (Data n r)))
-IsPlannedAt blocks frame old new before after (Data n r) =
-    ((new (Data n r) ≡ old (Data n r)) × SameRecord r (map.get before n) (map.get after n))
-    ⊎ IfSome (map.get after n) (λ bytes. (record_size * r < length bytes) × IsNewAt blocks frame (Data n r) (new (Data n r)) (padded_record r bytes))
+-- record r of an object, if that is there, has only zeros
+abbrev pub IsZeroRecord : ℕ → Option (List ℕ) → Type 0
+IsZeroRecord r after = IfSome after (λ bytes. record_bytes r bytes ≡ replicate (length (record_bytes r bytes)) 0)
 
--- and of all places
-abbrev pub IsTreePlan : List NewBlock → Frame → (Place → Pointer) → (Place → Pointer) → FinMap nat_cmp (List ℕ) → FinMap nat_cmp (List ℕ) → Type 0
-IsTreePlan blocks frame old new before after = (place : Place) → IsPlace place → IsPlannedAt blocks frame old new before after place
+-- of new blocks, old and new pointers, and objects before and after
+module _ (blocks : List NewBlock) (frame : Frame) (old new : Place → Pointer) (before after : FinMap nat_cmp (List ℕ)) where
+  -- a place stays: it has the block that it had, which says what it has to say after
+  abbrev pub StaysAt : Place → Type 0
+  StaysAt Root = (new Root ≡ old Root) × ((d : ℕ) → d < pointer_count → new (Directory d) ≡ old (Directory d))
+  StaysAt (Directory d) = (new (Directory d) ≡ old (Directory d)) × ((k : ℕ) → k < entry_count
+      → (new (Indirect (entry_count * d + k)) ≡ old (Indirect (entry_count * d + k))) × SameEntry (map.get before (entry_count * d + k)) (map.get after (entry_count * d + k)))
+  StaysAt (Indirect n) = (new (Indirect n) ≡ old (Indirect n)) × ((r : ℕ) → r < pointer_count → new (Data n r) ≡ old (Data n r))
+  StaysAt (Data n r) = (new (Data n r) ≡ old (Data n r)) × SameRecord (old (Data n r)) r (map.get before n) (map.get after n)
+
+  -- a place is written: it has a new block, which says what it has to say after
+  abbrev pub IsWrittenAt : Place → Type 0
+  IsWrittenAt Root = (payload : List ℕ) × IsNewAt blocks frame Root (new Root) payload × ((d : ℕ) → d < pointer_count → pointer_in payload d ≡ new (Directory d))
+  IsWrittenAt (Directory d) = (payload : List ℕ) × IsNewAt blocks frame (Directory d) (new (Directory d)) payload
+      × ((k : ℕ) → k < entry_count → IsEntryFor (entry_in payload k) (new (Indirect (entry_count * d + k))) (map.get after (entry_count * d + k)))
+  IsWrittenAt (Indirect n) = (payload : List ℕ) × IsNewAt blocks frame (Indirect n) (new (Indirect n)) payload
+      × ((r : ℕ) → r < pointer_count → pointer_in payload r ≡ new (Data n r))
+  IsWrittenAt (Data n r) = IfSome (map.get after n) (λ bytes. (record_size * r < length bytes) × IsNewAt blocks frame (Data n r) (new (Data n r)) (padded_record r bytes))
+
+  -- a place has no block any more, and nothing below it has one: its objects are absent, or its record has only zeros
+  abbrev pub HasNoneAt : Place → Type 0
+  HasNoneAt Root = (new Root ≡ no_pointer) × ((d : ℕ) → d < pointer_count → new (Directory d) ≡ no_pointer)
+  HasNoneAt (Directory d) = (new (Directory d) ≡ no_pointer) × ((k : ℕ) → k < entry_count
+      → (map.get after (entry_count * d + k) ≡ None) × (new (Indirect (entry_count * d + k)) ≡ no_pointer))
+  HasNoneAt (Indirect n) = (new (Indirect n) ≡ no_pointer) × ((r : ℕ) → r < pointer_count → new (Data n r) ≡ no_pointer)
+  HasNoneAt (Data n r) = (new (Data n r) ≡ no_pointer) × IsZeroRecord r (map.get after n)
+
+  -- what becomes of a place
+  abbrev pub IsPlannedAt : Place → Type 0
+  IsPlannedAt place = StaysAt place ⊎ (IsWrittenAt place ⊎ HasNoneAt place)
+
+  -- and of all places
+  abbrev pub IsTreePlan : Type 0
+  IsTreePlan = (place : Place) → IsPlace place → IsPlannedAt place
 
 -- the block of a place is the same in both images
 abbrev pub SameBlock : List ℕ → List ℕ → Pointer → Type 0

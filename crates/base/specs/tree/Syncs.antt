@@ -3,18 +3,14 @@ use Rattle.std.specs.Prelude.{ℕ, ◌+◌, ◌*◌, ◌==◌, ◌&&◌, Bool, t
 use Rattle.std.specs.List.{list_any, flat_map, range_with_len}
 use Rattle.std.specs.Option.{option_map_or}
 use Rattle.std.specs.FinMap as finite
+use Rattle.base.specs.declared.record_state.RecordState.{RecordState}
+use Rattle.base.specs.declared.record_state.RecordState.TheVariants.{Unchanged, Dirty, Hole}
 use Rattle.base.specs.declared.operation.Op.{Op}
 use Rattle.base.specs.declared.operation.Op.TheVariants.{Create, Remove, Write, SetLength, SetName}
 use Rattle.base.specs.formats.Limits.{object_count, record_size, pointer_count, entry_count}
 use Rattle.base.specs.history.Contents.{Contents, apply, length_of}
 use Rattle.base.specs.tree.Places.{Place}
 use Rattle.base.specs.tree.Places.Place.{Root, Directory, Indirect, Data}
-
--- what a sync does with a record: it stays as it was, is written, or becomes a hole
-pub data RecordState : Type 0 where
-  Unchanged : RecordState
-  Dirty : RecordState
-  Hole : RecordState
 
 -- whether a record has a byte of a write
 abbrev pub is_record_touched : ℕ → ℕ → ℕ → Bool
@@ -90,36 +86,61 @@ object_numbers d = range_with_len (entry_count * d) entry_count
 abbrev pub other_step_count : List Op → ℕ
 other_step_count ops = 6 + (if list_any is_rename ops then 6 else 0)
 
--- what a sync writes: the operations of its group, the synced contents, and which places have blocks before it
-module _ (ops : List Op) (synced : Contents) (had_block : Place → Bool) where
-  abbrev pub is_record_dirty : ℕ → ℕ → Bool
-  is_record_dirty n r = is_dirty (record_state n r ops synced Unchanged)
+-- What a group makes of the objects of a tree: of each record its state, and whether it had a block; of each object whether it was written or
+-- its length set, whether it had any operation, and whether it is there after them.
+pub record GroupChanges : Type 0 where
+  pub state : ℕ → ℕ → RecordState
+  pub had_block : ℕ → ℕ → Bool
+  pub is_changed : ℕ → Bool
+  pub is_touched : ℕ → Bool
+  pub is_present : ℕ → Bool
+
+-- what a sync writes, from what its group makes of the objects
+module _ (group : GroupChanges) where
+  abbrev pub is_record_written : ℕ → ℕ → Bool
+  is_record_written n r = is_dirty (group.state n r)
 
   abbrev pub has_record_after : ℕ → ℕ → Bool
-  has_record_after n r = has_block_after (record_state n r ops synced Unchanged) (had_block (Data n r))
+  has_record_after n r = has_block_after (group.state n r) (group.had_block n r)
 
   -- an indirect block is written where its object had a write or a set length, and some record has a block
   abbrev pub is_indirect_written : ℕ → Bool
-  is_indirect_written n = list_any (is_change_of n) ops && list_any (has_record_after n) record_numbers
+  is_indirect_written n = group.is_changed n && list_any (has_record_after n) record_numbers
 
   abbrev pub is_directory_touched : ℕ → Bool
-  is_directory_touched d = list_any (λ n. list_any (is_on n) ops) (object_numbers d)
+  is_directory_touched d = list_any group.is_touched (object_numbers d)
 
   -- a directory is written where an object of it had an operation, and some is present
   abbrev pub is_directory_written : ℕ → Bool
-  is_directory_written d = is_directory_touched d && list_any (λ n. finite.contains_key (contents_after_all ops synced).objects n) (object_numbers d)
+  is_directory_written d = is_directory_touched d && list_any group.is_present (object_numbers d)
 
   -- the root is written where a directory was touched, and some object is present
+  abbrev pub is_root_touched : Bool
+  is_root_touched = list_any is_directory_touched (range_with_len 0 pointer_count)
+
   abbrev pub is_root_written : Bool
-  is_root_written = list_any is_directory_touched (range_with_len 0 pointer_count)
-      && list_any (λ n. finite.contains_key (contents_after_all ops synced).objects n) (range_with_len 0 object_count)
+  is_root_written = is_root_touched && list_any group.is_present (range_with_len 0 object_count)
 
   -- the places that are written of one object: its records, and then its indirect block
   abbrev pub places_of_object : ℕ → List Place
-  places_of_object n = map (λ r. Data n r) (filter (is_record_dirty n) record_numbers) ++ (if is_indirect_written n then Indirect n ∷ [] else [])
+  places_of_object n = map (λ r. Data n r) (filter (is_record_written n) record_numbers) ++ (if is_indirect_written n then Indirect n ∷ [] else [])
 
   -- all places that are written, in the order in which they take the lowest free addresses
-  abbrev pub written_places : List Place
-  written_places = flat_map places_of_object (range_with_len 0 object_count)
+  abbrev pub written_by : List Place
+  written_by = flat_map places_of_object (range_with_len 0 object_count)
       ++ map (λ d. Directory d) (filter is_directory_written (range_with_len 0 pointer_count))
       ++ (if is_root_written then Root ∷ [] else [])
+
+-- what the operations of a group make of the objects: the synced contents, and which places have blocks before it
+abbrev pub group_changes : List Op → Contents → (Place → Bool) → GroupChanges
+group_changes ops synced had_block = record {
+  state = λ n r. record_state n r ops synced Unchanged;
+  had_block = λ n r. had_block (Data n r);
+  is_changed = λ n. list_any (is_change_of n) ops;
+  is_touched = λ n. list_any (is_on n) ops;
+  is_present = λ n. finite.contains_key (contents_after_all ops synced).objects n;
+}
+
+-- the places that the sync of these operations writes
+abbrev pub written_places : List Op → Contents → (Place → Bool) → List Place
+written_places ops synced had_block = written_by (group_changes ops synced had_block)

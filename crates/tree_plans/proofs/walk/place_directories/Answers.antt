@@ -1,5 +1,8 @@
-use Rattle.std.proofs.Common.{◌≡◌, length, arith, ap, inl, refl, rules, ◌∙◌}
-use Rattle.tree_plans.specs.Walks.{is_directory_touched}
+use Rattle.std.proofs.Common.{◌≡◌, ◌||◌, Bool, length, arith, ap, inl, refl, rules, ◌∙◌}
+use Rattle.base.specs.tree.Syncs.{is_dirty}
+use Rattle.tree_plans.specs.Parts.{objects_after}
+use Rattle.tree_plans.specs.Plans.{state_above}
+use Rattle.tree_plans.specs.Walks.{has_object, is_directory_dirty, is_directory_replaced, is_directory_touched}
 use Rattle.tree_plans.proofs.Progress.{goes_nowhere, goes_twice}
 use Rattle.tree_plans.proofs.Walks.{directories_push, directories_free_push}
 use Rattle.tree_plans.proofs.Uses.{pointers_use_push}
@@ -22,17 +25,22 @@ loop-index-init c = record {
 
 pub loop-index-preserved : goal.loop-index-preserved
 loop-index-preserved c =
+    let entries = c.args.objects.now.entries in
+    let after = objects_after c.args.source.now in
+    let was = c.args.source.now.tree.now.directories.items in
     let long : length c.loop-index.directories.items ≡ c.loop-index.index = omega (arith, c.loop-index.directories.ok.0, c.loop-index.invariant.count) in
+    let touched : c.is_replaced-touched.result ≡ is_directory_replaced entries after c.loop-index.index = c.is_replaced-touched.ensures ∙ ap (λ (b : Bool). b || is_directory_touched entries c.loop-index.index) c.is_emptied-emptied.ensures in
+    let state = ap (λ (b : Bool). state_above b (has_object after c.loop-index.index)) touched in
     record {
       geometry = c.in_ok-pointer.ensures.geometry ∙ c.loop-index.invariant.geometry;
       count = omega (arith, c.push_reserved.ensures.len, c.loop-index.invariant.count);
       room = omega (arith, c.push_reserved.ensures.capacity, c.loop-index.invariant.room);
-      kept = λ none. c.in_ok-pointer.ensures.kept (c.is_touched-touched.ensures ∙ ap (λ l. is_directory_touched l c.loop-index.index) none) ∙ c.loop-index.invariant.kept none;
+      kept = λ none. c.in_ok-pointer.ensures.kept (touched ∙ ap (λ l. is_directory_replaced l after c.loop-index.index) none) ∙ c.loop-index.invariant.kept none;
       goes = goes_twice c.loop-index.invariant.goes c.in_ok-pointer.ensures.planned.goes;
-      planned = rw c.push_reserved.ensures.items (directories_push _ _ _ c.args.objects.now.entries c.args.source.now.tree.now.directories.items _ _ _ _ c.in_ok-pointer.ensures.planned.goes long c.is_touched-touched.ensures c.loop-index.invariant.planned c.in_ok-pointer.ensures.planned.planned);
-      frees = directories_free_push _ _ _ c.args.objects.now.entries c.args.source.now.tree.now.directories.items _ _ c.is_touched-touched.ensures c.loop-index.invariant.frees c.in_ok-pointer.ensures.planned.frees;
+      planned = rw c.push_reserved.ensures.items (directories_push _ _ after entries was _ _ _ _ c.in_ok-pointer.ensures.planned.goes long state c.loop-index.invariant.planned c.in_ok-pointer.ensures.planned.planned);
+      frees = directories_free_push _ _ _ entries after was _ _ state c.loop-index.invariant.frees c.in_ok-pointer.ensures.planned.frees;
       uses = rw c.push_reserved.ensures.items (pointers_use_push _ _ _ _ _ _ long c.loop-index.invariant.uses c.in_ok-pointer.ensures.planned.uses);
-      adds = rw c.push_reserved.ensures.items (adds_push (is_directory_touched c.args.objects.now.entries) _ _ _ _ _ _ _ long c.is_touched-touched.ensures c.loop-index.invariant.adds c.in_ok-pointer.ensures.planned.adds);
+      adds = rw c.push_reserved.ensures.items (adds_push (is_directory_dirty entries after) _ _ _ _ _ _ _ long (ap is_dirty state) c.loop-index.invariant.adds c.in_ok-pointer.ensures.planned.adds);
     }
 
 pub returns-clause-planned : goal.returns-clause-planned
@@ -48,5 +56,9 @@ returns-clause-planned c =
 
 pub returns-in_err-pointer-clause-full : goal.returns-in_err-pointer-clause-full
 returns-in_err-pointer-clause-full c =
-    handed_on c.from_residual-in_err-pointer.result _ _ c.from_residual-in_err-pointer.ensures.1 (λ no_space. lacks_at _ _ _ (is_directory_touched c.args.objects.now.entries) _ c.loop-index.index 84 _ c.loop-index-test.true c.is_touched-touched.ensures
+    let entries = c.args.objects.now.entries in
+    let after = objects_after c.args.source.now in
+    let touched : c.is_replaced-touched.result ≡ is_directory_replaced entries after c.loop-index.index = c.is_replaced-touched.ensures ∙ ap (λ (b : Bool). b || is_directory_touched entries c.loop-index.index) c.is_emptied-emptied.ensures in
+    let state = ap (λ (b : Bool). is_dirty (state_above b (has_object after c.loop-index.index))) touched in
+    handed_on c.from_residual-in_err-pointer.result _ _ c.from_residual-in_err-pointer.ensures.1 (λ no_space. lacks_at _ _ _ (is_directory_dirty entries after) _ c.loop-index.index 84 _ c.loop-index-test.true state
     c.loop-index.invariant.goes c.loop-index.invariant.adds (c.in_err-pointer.ensures.full no_space))

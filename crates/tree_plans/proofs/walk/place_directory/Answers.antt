@@ -1,36 +1,30 @@
-use Rattle.std.proofs.Common.{◌≡◌, ◌<◌, inl, true, false, length, arith, rules}
+use Rattle.std.proofs.Common.{◌≡◌, ◌<◌, length, arith, rules}
 use Rattle.std.specs.Prelude.{slice_index_or}
+use Rattle.std.proofs.lemmas.Result.{IfOk-weaker}
+use Rattle.base.specs.declared.record_state.RecordState.TheVariants.{Dirty, Hole}
 use Rattle.base.specs.formats.Fields.{no_pointer}
-use Rattle.tree_plans.proofs.Walks.{at_any, directory_kept, directory_written, frees_weaker}
-use Rattle.tree_plans.proofs.Progress.{goes_nowhere}
-use Rattle.tree_plans.proofs.Order.{adds_if, adds_not}
+use Rattle.checked_blocks.specs.Sealing.{padded}
+use Rattle.tree_plans.specs.Parts.{objects_after}
+use Rattle.tree_plans.specs.Walks.{AreEntriesWritten}
+use Rattle.tree_plans.proofs.Parts.{cleared, directory_done, state_told, taken}
+use Rattle.tree_plans.proofs.Payloads.{padded-full}
+use Rattle.tree_plans.proofs.Walks.{at_any}
 use Rattle.tree_plans.proofs.walk.place_directory.Goals as goal
 
-pub returns-then-not-touched-clause-planned : goal.returns-then-not-touched-clause-planned
-returns-then-not-touched-clause-planned c =
+pub returns-in_ok-clear-in-Hole-clause-planned : goal.returns-in_ok-clear-in-Hole-clause-planned
+returns-in_ok-clear-in-Hole-clause-planned c =
     let tree = c.args.source.now.tree.now in
-    let untouched : c.args.touched ≡ false = search rules in
     let low : c.args.index < length tree.directories.items = omega (arith, tree.all_directories, tree.directories.ok.0, c.requires.index) in
-    let is : c.index.result.now ≡ slice_index_or tree.directories.items c.args.index no_pointer = at_any tree.directories.items c.args.index c.index.result.now no_pointer low c.index.ensures in
-    record {
-      goes = goes_nowhere _ _;
-      planned = rw is (directory_kept _ _ _ _ _ _ _ untouched);
-      frees = λ address among. inl among;
-      uses = λ address taken. inl taken;
-      adds = adds_not _ _ c.index.result.now untouched;
-    }
+    let was : c.index.result.now ≡ slice_index_or tree.directories.items c.args.index no_pointer = at_any tree.directories.items c.args.index c.index.result.now no_pointer low c.index.ensures in
+    let is : c.state_of.result ≡ Hole = search rules in
+    directory_done _ _ _ _ _ _ _ _ was (cleared _ _ _ _ _ (state_told _ _ _ _ _ c.state_of.ensures c.has_object_in.ensures is) _ _ _ c.in_ok-clear-in-Hole.ensures.cleared)
 
-pub returns-clause-planned : goal.returns-clause-planned
-returns-clause-planned c =
+pub returns-in-Dirty-clause-planned : goal.returns-in-Dirty-clause-planned
+returns-in-Dirty-clause-planned c =
     let tree = c.args.source.now.tree.now in
-    let touched : c.args.touched ≡ true = search rules in
-    let taken = c.in_ok-pointer.ensures.taken in
     let low : c.args.index < length tree.directories.items = omega (arith, tree.all_directories, tree.directories.ok.0, c.requires.index) in
-    let is : c.index.result.now ≡ slice_index_or tree.directories.items c.args.index no_pointer = at_any tree.directories.items c.args.index c.index.result.now no_pointer low c.index.ensures in
-    record {
-      goes = taken.goes;
-      planned = rw (← is) (directory_written _ _ _ _ _ _ _ _ c.directory_payload-payload.result touched taken.written c.directory_payload-payload.ensures.size c.directory_payload-payload.ensures.entries);
-      frees = frees_weaker _ _ _ _ touched (rw (← is) taken.frees);
-      uses = taken.uses;
-      adds = adds_if _ _ _ c.in_ok-pointer.pointer touched taken.adds;
-    }
+    let was : c.index.result.now ≡ slice_index_or tree.directories.items c.args.index no_pointer = at_any tree.directories.items c.args.index c.index.result.now no_pointer low c.index.ensures in
+    let is : c.state_of.result ≡ Dirty = search rules in
+    let payload = c.directory_payload-payload.result in
+    let fits : AreEntriesWritten tree.maps.items c.args.maps.now.entries (objects_after c.args.source.now) c.args.index 63 (padded payload) = rw (padded-full payload c.directory_payload-payload.ensures.size) c.directory_payload-payload.ensures.entries in
+    IfOk-weaker c.place.result _ _ (λ pointer done. directory_done _ _ _ _ _ _ _ _ was (taken _ _ _ _ _ _ (state_told _ _ _ _ _ c.state_of.ensures c.has_object_in.ensures is) fits _ _ _ done)) c.place.ensures.taken

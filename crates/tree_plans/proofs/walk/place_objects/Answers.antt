@@ -2,24 +2,24 @@ use Rattle.std.proofs.Common.{◌≡◌, List, [], ◌∷◌, ◌++◌, None, So
 use Rattle.std.specs.Cmp.{unsigned_tied}
 use Rattle.std.proofs.lemmas.List.{append-nil}
 use Rattle.base.specs.declared.names.ObjectId.{ObjectId}
-use Rattle.tree_plans.specs.declared.planner.DirtyRecords.{DirtyRecords}
-use Rattle.tree_plans.specs.Changes.{is_marked}
-use Rattle.tree_plans.specs.Pointers.{entry_of}
+use Rattle.tree_plans.specs.declared.changes.ObjectChanges.{ObjectChanges}
+use Rattle.tree_plans.specs.Parts.{group_in, objects_after}
+use Rattle.tree_plans.specs.Pointers.{entry_of, pointers_before}
 use Rattle.tree_plans.proofs.Progress.{goes_twice}
 use Rattle.tree_plans.proofs.Walks.{found_of, next_of, not_empty}
 use Rattle.tree_plans.proofs.Uses.{are_of_more, next_is_new}
-use Rattle.tree_plans.proofs.Order.{all_added, less_below, objects_added}
-use Rattle.tree_plans.proofs.Room.{handed_on, lacks_object}
+use Rattle.tree_plans.proofs.Order.{absent_addresses, all_added, less_below, objects_added}
+use Rattle.tree_plans.proofs.Room.{handed_on, lacks_object, no_places}
 use Rattle.tree_plans.proofs.walk.place_objects.Goals as goal
 
 pub loop-id-preserved : goal.loop-id-preserved
 loop-id-preserved c =
-    let all : List (ObjectId × DirtyRecords) = c.args.objects.now.entries in
-    let done : List (ObjectId × DirtyRecords) = c.loop-id.invariant.done in
-    let e : ObjectId × DirtyRecords = (c.in-Some.id.now, c.in-Some.dirty.now) in
-    let rest : List (ObjectId × DirtyRecords) = c.next.new.self in
-    let split : all ≡ done ++ (e ∷ rest) = c.loop-id.invariant.split ∙ ap (λ (l : List (ObjectId × DirtyRecords)). done ++ l) c.in-Some.ensures.steps in
-    let found : entry_of all e.0.0 ≡ Some e.1 = next_of (λ (x : ObjectId × DirtyRecords). entry_of all x.0.0 ≡ Some x.1) all done rest e split (found_of _ (λ a b. unsigned_tied a.0 b.0) c.args.objects.now c.iter-id-items.ensures.found) in
+    let all : List (ObjectId × ObjectChanges) = c.args.objects.now.entries in
+    let done : List (ObjectId × ObjectChanges) = c.loop-id.invariant.done in
+    let e : ObjectId × ObjectChanges = (c.in-Some.id.now, c.in-Some.changes.now) in
+    let rest : List (ObjectId × ObjectChanges) = c.next.new.self in
+    let split : all ≡ done ++ (e ∷ rest) = c.loop-id.invariant.split ∙ ap (λ (l : List (ObjectId × ObjectChanges)). done ++ l) c.in-Some.ensures.steps in
+    let found : entry_of all e.0.0 ≡ Some e.1 = next_of (λ (x : ObjectId × ObjectChanges). entry_of all x.0.0 ≡ Some x.1) all done rest e split (found_of _ (λ a b. unsigned_tied a.0 b.0) c.args.objects.now c.iter-id-items.ensures.found) in
     let new : entry_of done e.0.0 ≡ None = next_is_new _ (λ a b. unsigned_tied a.0 b.0) all done rest e split c.iter-id-items.ensures.ordered in
     let unplanned = c.loop-id.invariant.are_of e.0.0 new in
     record {
@@ -34,30 +34,31 @@ loop-id-preserved c =
       frees = c.in_ok-place_changed.ensures.planned.frees all _ found c.loop-id.invariant.frees;
       are_of = are_of_more done e _ _ c.loop-id.invariant.are_of c.in_ok-place_changed.ensures.planned.others;
       uses = c.in_ok-place_changed.ensures.planned.uses _ unplanned c.loop-id.invariant.uses;
-      adds = λ within. objects_added (is_marked all) _ _ _ _ _ _ done e new c.in_ok-place_changed.ensures.planned.others (c.loop-id.invariant.adds within)
+      adds = λ within. objects_added (group_in c.args.source.now all) _ _ _ _ _ _ done e new c.in_ok-place_changed.ensures.planned.others (c.loop-id.invariant.adds within)
           (c.in_ok-place_changed.ensures.planned.adds all found (within e.0.0 (ap is_some found)));
     }
 
 pub returns-clause-planned : goal.returns-clause-planned
 returns-clause-planned c =
-    let all : List (ObjectId × DirtyRecords) = c.args.objects.now.entries in
-    let done : List (ObjectId × DirtyRecords) = c.loop-id.invariant.done in
-    let whole : done ≡ all = sym (append-nil done) ∙ ap (λ (l : List (ObjectId × DirtyRecords)). done ++ l) (sym c.in-None.ensures.steps.0) ∙ sym c.loop-id.invariant.split in
+    let all : List (ObjectId × ObjectChanges) = c.args.objects.now.entries in
+    let done : List (ObjectId × ObjectChanges) = c.loop-id.invariant.done in
+    let whole : done ≡ all = sym (append-nil done) ∙ ap (λ (l : List (ObjectId × ObjectChanges)). done ++ l) (sym c.in-None.ensures.steps.0) ∙ sym c.loop-id.invariant.split in
     record {
       goes = c.loop-id.invariant.goes;
       planned = rw whole at c.loop-id.invariant.planned;
       frees = c.loop-id.invariant.frees;
       uses = c.loop-id.invariant.uses;
-      adds = λ within. all_added _ (λ a b. less_below a.0 b.0) 5292 c.args.source.now.tree.now.maps.items c.loop-id.maps.entries all done _ _ whole c.iter-id-items.ensures.ordered within (c.loop-id.invariant.adds within);
+      adds = λ within. all_added _ (λ a b. less_below a.0 b.0) 5292 (group_in c.args.source.now all) c.args.source.now.tree.now.maps.items c.loop-id.maps.entries all done _ _ whole c.iter-id-items.ensures.ordered within
+          (λ n none. absent_addresses all (pointers_before c.args.source.now.tree.now) (objects_after c.args.source.now) n _ none) (c.loop-id.invariant.adds within);
     }
 
 pub returns-in_err-place_changed-clause-full : goal.returns-in_err-place_changed-clause-full
 returns-in_err-place_changed-clause-full c =
-    let all : List (ObjectId × DirtyRecords) = c.args.objects.now.entries in
-    let done : List (ObjectId × DirtyRecords) = c.loop-id.invariant.done in
-    let e : ObjectId × DirtyRecords = (c.in-Some.id.now, c.in-Some.dirty.now) in
-    let rest : List (ObjectId × DirtyRecords) = c.next.new.self in
-    let split : all ≡ done ++ (e ∷ rest) = c.loop-id.invariant.split ∙ ap (λ (l : List (ObjectId × DirtyRecords)). done ++ l) c.in-Some.ensures.steps in
-    let found : entry_of all e.0.0 ≡ Some e.1 = next_of (λ (x : ObjectId × DirtyRecords). entry_of all x.0.0 ≡ Some x.1) all done rest e split (found_of _ (λ a b. unsigned_tied a.0 b.0) c.args.objects.now c.iter-id-items.ensures.found) in
-    handed_on c.from_residual.result _ _ c.from_residual.ensures.1 (λ within no_space. lacks_object _ (λ a b. less_below a.0 b.0) _ _ _ c.args.source.now.tree.now.maps.items c.loop-id.maps.entries 5292 all done rest e split c.iter-id-items.ensures.ordered within
-    c.loop-id.invariant.goes (c.loop-id.invariant.adds within) (c.in_err-place_changed.ensures.full all found no_space))
+    let all : List (ObjectId × ObjectChanges) = c.args.objects.now.entries in
+    let done : List (ObjectId × ObjectChanges) = c.loop-id.invariant.done in
+    let e : ObjectId × ObjectChanges = (c.in-Some.id.now, c.in-Some.changes.now) in
+    let rest : List (ObjectId × ObjectChanges) = c.next.new.self in
+    let split : all ≡ done ++ (e ∷ rest) = c.loop-id.invariant.split ∙ ap (λ (l : List (ObjectId × ObjectChanges)). done ++ l) c.in-Some.ensures.steps in
+    let found : entry_of all e.0.0 ≡ Some e.1 = next_of (λ (x : ObjectId × ObjectChanges). entry_of all x.0.0 ≡ Some x.1) all done rest e split (found_of _ (λ a b. unsigned_tied a.0 b.0) c.args.objects.now c.iter-id-items.ensures.found) in
+    handed_on c.from_residual.result _ _ c.from_residual.ensures.1 (λ within no_space. lacks_object _ (λ a b. less_below a.0 b.0) _ _ _ (group_in c.args.source.now all) c.args.source.now.tree.now.maps.items c.loop-id.maps.entries 5292 all done rest e split c.iter-id-items.ensures.ordered within
+    (λ n none. no_places all (pointers_before c.args.source.now.tree.now) (objects_after c.args.source.now) n none) c.loop-id.invariant.goes (c.loop-id.invariant.adds within) (c.in_err-place_changed.ensures.full all found no_space))

@@ -1,9 +1,10 @@
 use Rattle.std.proofs.Common.{◌≡◌, ◌++◌, [], List, flat_map}
 use Rattle.base.specs.declared.names.ObjectId.{ObjectId}
 use Rattle.object_maps.specs.ContentsShown.{contents_of}
-use Rattle.tree_plans.specs.declared.planner.DirtyRecords.{DirtyRecords}
-use Rattle.tree_plans.specs.Changes.{AreInRange, is_marked}
+use Rattle.tree_plans.specs.declared.changes.ObjectChanges.{ObjectChanges}
+use Rattle.tree_plans.specs.Changes.{AreInRange}
 use Rattle.tree_plans.specs.Order.{Adds, object_addresses}
+use Rattle.tree_plans.specs.Parts.{group_in}
 use Rattle.tree_plans.specs.Pointers.{planned_map}
 use Rattle.tree_plans.specs.Plans.{Goes, progress_of}
 use Rattle.tree_plans.specs.Walks.{AreObjectsPlanned, ObjectsFree}
@@ -17,12 +18,12 @@ invariant-loop-id l = record {
   geometry : l.planner.geometry ≡ l.fn.planner.geometry;
   kept : l.objects.entries ≡ [] → l.planner ≡ l.fn.planner;
   goes : Goes l.source.free.now.flags.items (progress_of l.fn.planner) (progress_of l.planner);
-  done : List (ObjectId × DirtyRecords);
+  done : List (ObjectId × ObjectChanges);
   split : l.objects.entries ≡ done ++ l.id-iterator;
   planned : AreObjectsPlanned (progress_of l.planner) l.source.tree.now.maps.items (contents_of l.source.contents.now).objects l.objects.entries done l.maps.entries;
   frees : ObjectsFree l.fn.planner.freed.items l.planner.freed.items l.source.tree.now.maps.items l.objects.entries l.maps.entries;
   are_of : AreOf done l.maps.entries;
   uses : ObjectsUse (progress_of l.fn.planner).blocks (progress_of l.planner).blocks l.maps.entries;
   adds : AreInRange l.objects.entries → Adds (progress_of l.fn.planner).blocks (progress_of l.planner).blocks
-      (flat_map (λ (e : ObjectId × DirtyRecords). object_addresses (is_marked l.objects.entries e.0.0) (planned_map l.source.tree.now.maps.items l.maps.entries e.0.0)) done);
+      (flat_map (λ (e : ObjectId × ObjectChanges). object_addresses (group_in l.source l.objects.entries) e.0.0 (planned_map l.source.tree.now.maps.items l.maps.entries e.0.0)) done);
 }

@@ -1,29 +1,31 @@
-use Rattle.std.proofs.Common.{◌≡◌, inl, true, false, length}
-use Rattle.tree_plans.specs.Walks.{is_any_touched}
-use Rattle.tree_plans.proofs.Walks.{any_touched, frees_weaker, none_touched, root_kept, root_written}
-use Rattle.tree_plans.proofs.Progress.{goes_nowhere}
-use Rattle.tree_plans.proofs.Order.{adds_if, adds_not}
+use Rattle.std.proofs.Common.{◌≡◌, ◌∙◌, ap, length, not, rules, sym}
+use Rattle.std.proofs.lemmas.Result.{IfErr-weaker, IfOk-weaker}
+use Rattle.base.specs.declared.record_state.RecordState.TheVariants.{Dirty, Hole}
+use Rattle.tree_plans.specs.Parts.{objects_after}
+use Rattle.tree_plans.specs.Plans.{state_above}
+use Rattle.tree_plans.specs.Walks.{root_state}
+use Rattle.checked_blocks.specs.Sealing.{padded}
+use Rattle.tree_plans.specs.Plans.{progress_of}
+use Rattle.tree_plans.proofs.Parts.{FitsRecords, cleared, root_done, root_told, taken}
+use Rattle.tree_plans.proofs.Payloads.{padded-full}
+use Rattle.tree_plans.proofs.Room.{lacks_here}
 use Rattle.tree_plans.proofs.walk.place_root.Goals as goal
 
-pub returns-then-is_empty-clause-planned : goal.returns-then-is_empty-clause-planned
-returns-then-is_empty-clause-planned c =
-    let untouched : is_any_touched c.args.objects.now.entries ≡ false = none_touched (length c.args.objects.now.entries) c.is_empty.result c.is_empty.ensures c.if-is_empty.true in
-    record {
-      goes = goes_nowhere _ _;
-      planned = root_kept _ _ _ _ untouched;
-      frees = λ address among. inl among;
-      uses = λ address taken. inl taken;
-      adds = adds_not _ _ c.args.source.now.tree.now.root untouched;
-    }
+pub returns-in_ok-clear-in-Hole-clause-planned : goal.returns-in_ok-clear-in-Hole-clause-planned
+returns-in_ok-clear-in-Hole-clause-planned c =
+    let is : c.state_of.result ≡ Hole = search rules in
+    let told = root_told c.args.objects.now.entries (objects_after c.args.source.now) _ _ _ Hole c.state_of.ensures c.is_empty.ensures c.has_any_object.ensures is in
+    root_done _ _ _ _ _ _ (cleared _ _ _ _ _ told _ _ _ c.in_ok-clear-in-Hole.ensures.cleared)
 
-pub returns-clause-planned : goal.returns-clause-planned
-returns-clause-planned c =
-    let touched : is_any_touched c.args.objects.now.entries ≡ true = any_touched (length c.args.objects.now.entries) c.is_empty.result c.is_empty.ensures c.if-is_empty.false in
-    let taken = c.in_ok-pointer.ensures.taken in
-    record {
-      goes = taken.goes;
-      planned = root_written _ _ _ _ _ c.payload_of-payload.result touched taken.written c.payload_of-payload.ensures.size c.payload_of-payload.ensures.pointers;
-      frees = frees_weaker _ _ _ _ touched taken.frees;
-      uses = taken.uses;
-      adds = adds_if _ _ _ c.in_ok-pointer.pointer touched taken.adds;
-    }
+pub returns-in-Dirty-clause-planned : goal.returns-in-Dirty-clause-planned
+returns-in-Dirty-clause-planned c =
+    let is : c.state_of.result ≡ Dirty = search rules in
+    let told = root_told c.args.objects.now.entries (objects_after c.args.source.now) _ _ _ Dirty c.state_of.ensures c.is_empty.ensures c.has_any_object.ensures is in
+    let fits : FitsRecords c.args.directories.now (padded c.payload_of.result) = rw (padded-full c.payload_of.result c.payload_of.ensures.size) c.payload_of.ensures.pointers in
+    IfOk-weaker c.place.result _ _ (λ pointer done. root_done _ _ _ _ _ _ (taken _ _ _ _ _ _ told fits _ _ _ done)) c.place.ensures.taken
+
+pub returns-in-Dirty-clause-full : goal.returns-in-Dirty-clause-full
+returns-in-Dirty-clause-full c =
+    let is : c.state_of.result ≡ Dirty = search rules in
+    let told = root_told c.args.objects.now.entries (objects_after c.args.source.now) _ _ _ Dirty c.state_of.ensures c.is_empty.ensures c.has_any_object.ensures is in
+    IfErr-weaker c.place.result _ _ (λ e full no_space. lacks_here _ (progress_of c.args.planner.now) _ told (full no_space)) c.place.ensures.full

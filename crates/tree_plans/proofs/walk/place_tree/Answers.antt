@@ -2,7 +2,9 @@ use Rattle.std.proofs.Common.{ap, map}
 use Rattle.object_maps.specs.ContentsShown.{contents_of}
 use Rattle.tree_plans.proofs.Progress.{goes_twice}
 use Rattle.tree_plans.proofs.Walks.{directories_stay, objects_stay, walk_frees}
+use Rattle.tree_plans.specs.Parts.{objects_after}
 use Rattle.tree_plans.specs.Plans.{new_block, progress_of}
+use Rattle.tree_plans.specs.Pointers.{pointers_before}
 use Rattle.tree_plans.proofs.Uses.{tree_used}
 use Rattle.tree_plans.proofs.Order.{tree_in_order}
 use Rattle.tree_plans.proofs.Room.{directories_lack, handed_on, objects_lack, root_lacks}
@@ -26,21 +28,21 @@ returns-clause-planned c =
         objects_planned = objects_stay tree.maps.items after objects objects planned (goes_twice then.goes last.goes) first.planned;
         directories_planned = directories_stay tree.maps.items planned after objects tree.directories.items 84 directories last.goes then.planned;
         root_planned = rw (← c.deref.ensures.value) last.planned;
-        frees = walk_frees _ _ _ _ tree.maps.items objects planned tree.directories.items tree.root c.requires.begun.freed first.frees then.frees last.frees;
+        frees = walk_frees _ _ _ _ tree.maps.items objects after planned tree.directories.items tree.root c.requires.begun.freed first.frees then.frees last.frees;
       };
       used = tree_used _ _ _ _ tree.maps.items planned directories _ begun first.uses then.uses last.uses;
-      order = λ within. tree_in_order tree.maps.items planned directories _ objects _ _ _ _ begun within (first.adds within) then.adds last.adds;
+      order = λ within. tree_in_order objects (pointers_before tree) after tree.maps.items planned directories _ _ _ _ _ begun within (first.adds within) then.adds last.adds;
     }
 
 pub returns-in_err-maps-clause-full : goal.returns-in_err-maps-clause-full
 returns-in_err-maps-clause-full c =
-    handed_on c.from_residual.result _ _ c.from_residual.ensures.1 (λ within no_space. objects_lack _ c.args.objects.now.entries within (progress_of c.args.planner.now) (c.in_err-maps.ensures.full within no_space))
+    handed_on c.from_residual.result _ _ c.from_residual.ensures.1 (λ within no_space. objects_lack _ c.args.objects.now.entries (pointers_before c.args.source.now.tree.now) (objects_after c.args.source.now) within (progress_of c.args.planner.now) (c.in_err-maps.ensures.full within no_space))
 
 pub returns-in_err-directories-clause-full : goal.returns-in_err-directories-clause-full
 returns-in_err-directories-clause-full c =
-    handed_on c.from_residual-in_err-directories.result _ _ c.from_residual-in_err-directories.ensures.1 (λ within no_space. directories_lack _ c.args.objects.now.entries within _ _ _ c.in_ok-maps.ensures.planned.goes (c.in_ok-maps.ensures.planned.adds within) (c.in_err-directories.ensures.full no_space))
+    handed_on c.from_residual-in_err-directories.result _ _ c.from_residual-in_err-directories.ensures.1 (λ within no_space. directories_lack _ c.args.objects.now.entries (pointers_before c.args.source.now.tree.now) (objects_after c.args.source.now) within _ _ _ c.in_ok-maps.ensures.planned.goes (c.in_ok-maps.ensures.planned.adds within) (c.in_err-directories.ensures.full no_space))
 
 pub returns-in_err-root-clause-full : goal.returns-in_err-root-clause-full
 returns-in_err-root-clause-full c =
-    handed_on c.from_residual-in_err-root.result _ _ c.from_residual-in_err-root.ensures.1 (λ within no_space. root_lacks _ c.args.objects.now.entries within _ _ _ _ _ c.in_ok-maps.ensures.planned.goes (c.in_ok-maps.ensures.planned.adds within)
+    handed_on c.from_residual-in_err-root.result _ _ c.from_residual-in_err-root.ensures.1 (λ within no_space. root_lacks _ c.args.objects.now.entries (pointers_before c.args.source.now.tree.now) (objects_after c.args.source.now) within _ _ _ _ _ c.in_ok-maps.ensures.planned.goes (c.in_ok-maps.ensures.planned.adds within)
     c.in_ok-directories.ensures.planned.goes c.in_ok-directories.ensures.planned.adds (c.in_err-root.ensures.full no_space))

@@ -1,4 +1,4 @@
-use Rattle.std.proofs.Common.{List, ap, refl, map, subst, ◌∙◌}
+use Rattle.std.proofs.Common.{◌≡◌, ◌⊎◌, List, ap, refl, map, subst, ◌∙◌}
 use Rattle.std.specs.Prelude.{All}
 use Rattle.base.specs.formats.Geometry.{IsBlockAddress}
 use Rattle.base.specs.formats.Blocks.{Frame}
@@ -10,9 +10,11 @@ use Rattle.base.specs.declared.pointer.Pointer.{Pointer}
 use Rattle.base.specs.tree.Places.{Place}
 use Rattle.tree_plans.specs.declared.planner.PlannedBlock.{PlannedBlock}
 use Rattle.tree_plans.specs.declared.planner.Planner.{Planner}
+use Rattle.base.specs.formats.Fields.{no_pointer}
+use Rattle.tree_plans.specs.Parts.{group_in}
 use Rattle.tree_plans.specs.Plans.{new_block, progress_of}
 use Rattle.tree_plans.specs.Pointers.{planned_map, pointers_from, pointers_before}
-use Rattle.tree_plans.proofs.Planned.{all_freed, freed_in_area, taken_lowest, tree_placed, tree_planned}
+use Rattle.tree_plans.proofs.Planned.{all_freed, freed_in_area, root_cases, taken_lowest, tree_placed, tree_planned}
 use Rattle.tree_plans.proofs.Uses.{all_whole}
 use Rattle.tree_plans.proofs.Order.{planned_in_order}
 use Rattle.tree_plans.proofs.Room.{handed_on, plan_lacks}
@@ -25,7 +27,7 @@ returns-clause-taken c =
       within = rw (c.in_ok-tree.ensures.geometry) at c.place_tree.new.planner.placed;
       whole = all_whole all c.place_tree.new.planner.whole;
       taken = taken_lowest _ _ all _ _ _ refl (ap (λ (l : List PlannedBlock). map new_block l) c.new.ensures.items) c.in_ok-tree.ensures.planned.goes;
-      order = λ within. planned_in_order all _ c.args.objects.now.entries (c.in_ok-tree.ensures.planned.order within);
+      order = λ within. planned_in_order all _ (group_in c.args.source.now c.args.objects.now.entries) (c.in_ok-tree.ensures.planned.order within);
       none = λ no_objects. ap (λ (p : Planner). p.blocks.items) (c.in_ok-tree.ensures.kept no_objects) ∙ c.new.ensures.items;
     }
 
@@ -38,15 +40,16 @@ returns-clause-tree c =
     let tree = c.in_ok-tree.tree in
     let told = c.in_ok-tree.ensures.planned in
     let new : Place → Pointer = pointers_from tree.root tree.directories.items (planned_map t.maps.items tree.maps.entries) in
+    let cases = root_cases s t after objects tree.maps.entries tree.directories.items tree.root told.walked in
     record {
-      planned = λ before covered changes absent.
+      planned = λ before covered changes whole.
           subst (λ (f : Frame). IsTreePlan s.blocks f (pointers_before t) new before after) told.goes.frame
-          (tree_planned s t after objects tree.maps.entries tree.directories.items tree.root told.walked before covered changes absent);
+          (tree_planned s t after objects tree.maps.entries tree.directories.items tree.root told.walked before covered changes whole);
       placed = subst (λ (f : Frame). ArePlaced f.blocks (pointers_before t) → ArePlaced f.blocks new) told.goes.frame
           (tree_placed s t after objects tree.maps.entries tree.directories.items tree.root told.walked);
       used = told.used;
-      kept_root = λ none. rw none at told.walked.root_planned;
-      new_root = λ any. let written = rw any at told.walked.root_planned in written.1.block.birth ∙ ap (λ (f : Frame). f.group) told.goes.frame;
+      kept_root = cases.0;
+      new_root = λ any. subst (λ (f : Frame). (tree.root.birth ≡ f.group) ⊎ (tree.root ≡ no_pointer)) told.goes.frame (cases.1 any);
     }
 
 pub returns-clause-freed : goal.returns-clause-freed
@@ -67,4 +70,4 @@ returns-clause-freed c =
 
 pub returns-in_err-tree-clause-full : goal.returns-in_err-tree-clause-full
 returns-in_err-tree-clause-full c =
-    handed_on c.from_residual.result _ _ c.from_residual.ensures.1 (λ no_space within. plan_lacks _ 0 _ c.args.objects.now.entries refl (ap (λ (l : List PlannedBlock). map new_block l) c.new.ensures.items) (c.in_err-tree.ensures.full within no_space))
+    handed_on c.from_residual.result _ _ c.from_residual.ensures.1 (λ no_space within. plan_lacks _ 0 _ (group_in c.args.source.now c.args.objects.now.entries) refl (ap (λ (l : List PlannedBlock). map new_block l) c.new.ensures.items) (c.in_err-tree.ensures.full within no_space))

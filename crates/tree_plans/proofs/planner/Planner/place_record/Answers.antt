@@ -1,14 +1,17 @@
-use Rattle.std.proofs.Common.{◌≡◌, true, false, rules}
+use Rattle.std.proofs.Common.{◌≡◌, ap, rules}
 use Rattle.std.proofs.lemmas.Result.{IfOk-weaker}
-use Rattle.tree_plans.proofs.Parts.{record_kept, record_taken}
+use Rattle.base.specs.declared.record_state.RecordState.TheVariants.{Dirty, Hole}
+use Rattle.base.specs.tree.PlacedTrees.{padded_record}
+use Rattle.checked_blocks.specs.Sealing.{padded}
+use Rattle.tree_plans.proofs.Parts.{cleared, record_done, taken}
 use Rattle.tree_plans.proofs.planner.Planner.place_record.Goals as goal
 
-pub returns-then-not-dirty-clause-planned : goal.returns-then-not-dirty-clause-planned
-returns-then-not-dirty-clause-planned c =
-    let clean : c.args.dirty ≡ false = search rules in
-    record_kept _ _ _ _ _ clean _
+pub returns-in_ok-clear-in-Hole-clause-planned : goal.returns-in_ok-clear-in-Hole-clause-planned
+returns-in_ok-clear-in-Hole-clause-planned c =
+    let is : c.args.state ≡ Hole = search rules in
+    record_done _ _ _ _ _ _ _ _ (cleared _ _ _ _ _ is _ _ _ c.in_ok-clear-in-Hole.ensures.cleared)
 
-pub returns-clause-planned : goal.returns-clause-planned
-returns-clause-planned c =
-    let dirty : c.args.dirty ≡ true = search rules in
-    IfOk-weaker c.place.result _ _ (λ pointer taken. record_taken _ _ _ _ _ _ dirty c.record_of.ensures.bytes _ _ _ taken) c.place.ensures.taken
+pub returns-in-Dirty-clause-planned : goal.returns-in-Dirty-clause-planned
+returns-in-Dirty-clause-planned c =
+    let is : c.args.state ≡ Dirty = search rules in
+    IfOk-weaker c.place.result _ _ (λ pointer done. record_done _ _ _ _ _ _ _ _ (taken _ _ _ _ _ _ is (ap padded c.record_of.ensures.bytes) _ _ _ done)) c.place.ensures.taken

@@ -1,4 +1,5 @@
-use Rattle.std.proofs.Common.{◌≡◌, length, false, slice_index_or, arith, inl, refl, rules, ◌∙◌}
+use Rattle.std.proofs.Common.{◌≡◌, length, arith, inl, refl, rules, ◌∙◌}
+use Rattle.tree_plans.specs.Plans.{is_dirty_in}
 use Rattle.tree_plans.proofs.Order.{adds_begun, adds_push}
 use Rattle.tree_plans.proofs.Progress.{records_push, frees_push, goes_nowhere, goes_twice}
 use Rattle.tree_plans.proofs.Uses.{pointers_use_push}
@@ -25,10 +26,10 @@ loop-index-preserved c =
       count = omega (arith, c.push_reserved.ensures.len, c.loop-index.invariant.count);
       room = omega (arith, c.push_reserved.ensures.capacity, c.loop-index.invariant.room);
       goes = goes_twice c.loop-index.invariant.goes c.in_ok-pointer.ensures.planned.goes;
-      planned = rw c.push_reserved.ensures.items (records_push _ _ _ c.args.old.now _ _ _ _ c.in_ok-pointer.ensures.planned.goes long c.record-was.ensures c.loop-index.invariant.planned c.in_ok-pointer.ensures.planned.planned);
-      frees = frees_push _ _ _ _ c.args.old.now _ _ c.record-was.ensures c.loop-index.invariant.frees c.in_ok-pointer.ensures.planned.frees;
+      planned = rw c.push_reserved.ensures.items (records_push _ _ c.args.changes.now c.args.old.now _ _ _ _ _ c.in_ok-pointer.ensures.planned.goes long c.record-was.ensures refl c.loop-index.invariant.planned c.in_ok-pointer.ensures.planned.planned);
+      frees = frees_push _ _ _ c.args.changes.now c.args.old.now _ _ _ c.record-was.ensures refl c.loop-index.invariant.frees c.in_ok-pointer.ensures.planned.frees;
       uses = rw c.push_reserved.ensures.items (pointers_use_push _ _ _ _ _ _ long c.loop-index.invariant.uses c.in_ok-pointer.ensures.planned.uses);
-      adds = rw c.push_reserved.ensures.items (adds_push (λ r. slice_index_or c.args.dirty.now.flags r false) _ _ _ _ _ _ _ long refl c.loop-index.invariant.adds c.in_ok-pointer.ensures.planned.adds);
+      adds = rw c.push_reserved.ensures.items (adds_push (is_dirty_in c.args.changes.now) _ _ _ _ _ _ _ long refl c.loop-index.invariant.adds c.in_ok-pointer.ensures.planned.adds);
     }
 
 pub returns-clause-planned : goal.returns-clause-planned
@@ -44,5 +45,5 @@ returns-clause-planned c =
 
 pub returns-in_err-pointer-clause-full : goal.returns-in_err-pointer-clause-full
 returns-in_err-pointer-clause-full c =
-    handed_on c.from_residual-in_err-pointer.result _ _ c.from_residual-in_err-pointer.ensures.1 (λ no_space. lacks_at _ _ _ (λ r. slice_index_or c.args.dirty.now.flags r false) _ c.loop-index.index 84 _ c.loop-index-test.true refl
+    handed_on c.from_residual-in_err-pointer.result _ _ c.from_residual-in_err-pointer.ensures.1 (λ no_space. lacks_at _ _ _ (is_dirty_in c.args.changes.now) _ c.loop-index.index 84 _ c.loop-index-test.true refl
     c.loop-index.invariant.goes c.loop-index.invariant.adds (c.in_err-pointer.ensures.full no_space))

@@ -1,7 +1,7 @@
-use Rattle.std.proofs.Common.{◌≡◌, ◌≤◌, false, slice_index_or, vec_len, vec_capacity}
+use Rattle.std.proofs.Common.{◌≡◌, ◌≤◌, slice_index_or, vec_len, vec_capacity}
 use Rattle.base.specs.formats.Fields.{no_pointer}
 use Rattle.tree_plans.specs.Order.{Adds, addresses_where}
-use Rattle.tree_plans.specs.Plans.{AreRecordsPlanned, Goes, RecordsFree, progress_of}
+use Rattle.tree_plans.specs.Plans.{AreRecordsPlanned, Goes, RecordsFree, is_dirty_in, progress_of}
 use Rattle.tree_plans.specs.Uses.{PointersUse}
 use Rattle.tree_plans.proofs.planner.Planner.place_records.Given as goal
 
@@ -11,8 +11,8 @@ invariant-loop-index l = record {
   count : vec_len l.records ≡ l.index;
   room : 84 ≤ vec_capacity l.records;
   goes : Goes l.free.flags.items (progress_of l.fn.self) (progress_of l.self);
-  planned : AreRecordsPlanned (progress_of l.self) l.id.0 l.bytes l.dirty.flags l.old l.index l.records.items;
-  frees : RecordsFree l.fn.self.freed.items l.self.freed.items l.dirty.flags l.old l.index;
+  planned : AreRecordsPlanned (progress_of l.self) l.id.0 l.bytes l.changes l.old l.index l.records.items;
+  frees : RecordsFree l.fn.self.freed.items l.self.freed.items l.changes l.old l.index;
   uses : PointersUse (progress_of l.fn.self).blocks (progress_of l.self).blocks l.records.items l.index;
-  adds : Adds (progress_of l.fn.self).blocks (progress_of l.self).blocks (addresses_where (λ r. slice_index_or l.dirty.flags r false) (λ r. slice_index_or l.records.items r no_pointer) l.index);
+  adds : Adds (progress_of l.fn.self).blocks (progress_of l.self).blocks (addresses_where (is_dirty_in l.changes) (λ r. slice_index_or l.records.items r no_pointer) l.index);
 }

@@ -1,0 +1,127 @@
+-- Where two tell the same of the records and objects of a tree, a sync writes the same places for both.
+use Rattle.std.proofs.Common.{◌≡◌, ℕ, zero, suc, ◌+◌, ◌*◌, ◌<◌, ◌≤◌, Bool, ◌&&◌, ◌||◌, List, [], ◌∷◌, ◌++◌, map, filter, Some, Ok, refl, ap, sym, subst, ◌∙◌, arith}
+use Rattle.std.specs.Prelude.{All, ◌==◌, slice_get, is_some, if◌then◌else◌}
+use Rattle.std.specs.List.{list_any, flat_map, range_with_len}
+use Rattle.std.proofs.lemmas.List.Elements.{All-nil, All-append}
+use Rattle.std.specs.FinMap as finite
+use Rattle.base.specs.declared.operation.Op.{Op}
+use Rattle.base.specs.declared.record_state.RecordState.TheVariants.{Unchanged}
+use Rattle.base.specs.formats.Limits.{object_count, pointer_count, entry_count}
+use Rattle.base.specs.history.Contents.{Contents}
+use Rattle.base.specs.history.History.{Entry, IsWithin, apply_all, entries_in}
+use Rattle.base.specs.history.Past.{Past}
+use Rattle.base.specs.history.Plans.{IsRange, NumberRange, ranges, touched}
+use Rattle.base.specs.steps.ExactNow.{IsExplainedNow}
+use Rattle.base.specs.steps.Shown.{Shown}
+use Rattle.base.specs.steps.Steps.{ops_of_group}
+use Rattle.base.specs.tree.Places.{Place}
+use Rattle.base.specs.tree.Places.Place.{Root, Directory, Indirect, Data}
+use Rattle.base.specs.tree.Syncs.{GroupChanges, record_state, is_on, is_change_of, is_dirty, has_block_after, record_numbers, object_numbers, is_record_written, has_record_after, is_indirect_written, is_directory_touched, is_directory_written, is_root_written, places_of_object, written_by, written_places}
+use Rattle.base.proofs.common.KeptLists.{All-at, none_at, at_filter, filter_same, Some-injective}
+use Rattle.base.proofs.tree.RecordStates.{contents-after_all}
+
+-- two functions that agree on a list's elements make the same of it, and so do two tests
+pub flat_map-same : {A B : Type 0} (f g : A → List B) (xs : List A) → ((i : ℕ) (x : A) → slice_get xs i ≡ Some x → f x ≡ g x) → flat_map f xs ≡ flat_map g xs
+flat_map-same f g [] agree = refl
+flat_map-same f g (x ∷ xs) agree = (λ k. agree zero x refl k ++ flat_map-same f g xs (λ i y at. agree (suc i) y at) k)
+
+pub any-same : {A : Type 0} (p q : A → Bool) (xs : List A) → ((i : ℕ) (x : A) → slice_get xs i ≡ Some x → p x ≡ q x) → list_any p xs ≡ list_any q xs
+any-same p q [] agree = refl
+any-same p q (x ∷ xs) agree = (λ k. agree zero x refl k || any-same p q xs (λ i y at. agree (suc i) y at) k)
+
+-- of the numbers in a row each is within their bounds
+pub in-range : (low count i n : ℕ) → slice_get (range_with_len low count) i ≡ Some n → (low ≤ n) × (n < low + count)
+in-range low zero i n at = absurd (none_at i n at)
+in-range low (suc count) zero n at =
+    let e : low ≡ n = Some-injective at in
+    (omega (arith, e), omega (arith, e))
+in-range low (suc count) (suc i) n at =
+    let later = in-range (low + 1) count i n at in
+    let from = later.0 in
+    let to = later.1 in
+    (omega (arith, from), omega (arith, to))
+
+in-first : (count i n : ℕ) → slice_get (range_with_len 0 count) i ≡ Some n → n < count
+in-first count i n at = let to = (in-range 0 count i n at).1 in omega (arith, to)
+
+-- the objects of a directory are below the last number
+in-directory : (d i n : ℕ) → d < pointer_count → slice_get (object_numbers d) i ≡ Some n → n < object_count
+in-directory d i n low at = let to = (in-range (entry_count * d) entry_count i n at).1 in omega (arith, low, to)
+
+-- two that agree on each record and object of a tree
+pub record AgreeInRange (one other : GroupChanges) : Type 0 where
+  pub states : (n r : ℕ) → n < object_count → r < pointer_count → one.state n r ≡ other.state n r
+  pub blocks : (n r : ℕ) → n < object_count → r < pointer_count → one.had_block n r ≡ other.had_block n r
+  pub changed : (n : ℕ) → n < object_count → one.is_changed n ≡ other.is_changed n
+  pub touched : (n : ℕ) → n < object_count → one.is_touched n ≡ other.is_touched n
+  pub present : (n : ℕ) → n < object_count → one.is_present n ≡ other.is_present n
+
+module _ (one other : GroupChanges) (agree : AgreeInRange one other) where
+  same-records : (n : ℕ) → n < object_count → filter (is_record_written one n) record_numbers ≡ filter (is_record_written other n) record_numbers
+  same-records n low = filter_same (is_record_written one n) (is_record_written other n) record_numbers
+      (λ i r at. ap is_dirty (agree.states n r low (in-first pointer_count i r at)))
+
+  same-blocks : (n : ℕ) → n < object_count → list_any (has_record_after one n) record_numbers ≡ list_any (has_record_after other n) record_numbers
+  same-blocks n low = any-same (has_record_after one n) (has_record_after other n) record_numbers
+      (λ i r at. (λ k. has_block_after (agree.states n r low (in-first pointer_count i r at) k) (agree.blocks n r low (in-first pointer_count i r at) k)))
+
+  same-indirect : (n : ℕ) → n < object_count → is_indirect_written one n ≡ is_indirect_written other n
+  same-indirect n low = (λ k. agree.changed n low k && same-blocks n low k)
+
+  same-object : (n : ℕ) → n < object_count → places_of_object one n ≡ places_of_object other n
+  same-object n low = (λ k. map (λ r. Data n r) (same-records n low k) ++ (if same-indirect n low k then Indirect n ∷ [] else []))
+
+  same-touched : (d : ℕ) → d < pointer_count → is_directory_touched one d ≡ is_directory_touched other d
+  same-touched d low = any-same one.is_touched other.is_touched (object_numbers d) (λ i n at. agree.touched n (in-directory d i n low at))
+
+  same-directory : (d : ℕ) → d < pointer_count → is_directory_written one d ≡ is_directory_written other d
+  same-directory d low = (λ k. same-touched d low k && any-same one.is_present other.is_present (object_numbers d) (λ i n at. agree.present n (in-directory d i n low at)) k)
+
+  same-directories : filter (is_directory_written one) (range_with_len 0 pointer_count) ≡ filter (is_directory_written other) (range_with_len 0 pointer_count)
+  same-directories = filter_same (is_directory_written one) (is_directory_written other) (range_with_len 0 pointer_count) (λ i d at. same-directory d (in-first pointer_count i d at))
+
+  same-root : is_root_written one ≡ is_root_written other
+  same-root = (λ k. any-same (is_directory_touched one) (is_directory_touched other) (range_with_len 0 pointer_count) (λ i d at. same-touched d (in-first pointer_count i d at)) k
+      && any-same one.is_present other.is_present (range_with_len 0 object_count) (λ i n at. agree.present n (in-first object_count i n at)) k)
+
+  same-objects : flat_map (places_of_object one) (range_with_len 0 object_count) ≡ flat_map (places_of_object other) (range_with_len 0 object_count)
+  same-objects = flat_map-same (places_of_object one) (places_of_object other) (range_with_len 0 object_count) (λ i n at. same-object n (in-first object_count i n at))
+
+  -- the same places are written
+  pub written_by-same : written_by one ≡ written_by other
+  written_by-same = (λ k. same-objects k ++ map (λ d. Directory d) (same-directories k) ++ (if same-root k then Root ∷ [] else []))
+
+-- what is told of the operations of a group that take place
+pub record AreToldOf (told : GroupChanges) (ops : List Op) (synced after : Contents) (had : Place → Bool) : Type 0 where
+  pub states : (n r : ℕ) → n < object_count → r < pointer_count → told.state n r ≡ record_state n r ops synced Unchanged
+  pub blocks : (n r : ℕ) → n < object_count → r < pointer_count → told.had_block n r ≡ had (Data n r)
+  pub changed : (n : ℕ) → n < object_count → told.is_changed n ≡ list_any (is_change_of n) ops
+  pub touched : (n : ℕ) → n < object_count → told.is_touched n ≡ list_any (is_on n) ops
+  pub present : (n : ℕ) → n < object_count → told.is_present n ≡ is_some (finite.get after.objects n)
+
+-- the places that their sync writes are told by it
+pub written-places : (told : GroupChanges) (ops : List Op) (synced after : Contents) (had : Place → Bool) → apply_all ops synced ≡ Ok after → AreToldOf told ops synced after had
+    → written_places ops synced had ≡ written_by told
+written-places told ops synced after had takes_place are = written_by-same _ told (record {
+  states = λ n r low below. sym (are.states n r low below);
+  blocks = λ n r low below. sym (are.blocks n r low below);
+  changed = λ n low. sym (are.changed n low);
+  touched = λ n low. sym (are.touched n low);
+  present = λ n low. ap (λ (c : Contents). is_some (finite.get c.objects n)) (contents-after_all ops synced after takes_place) ∙ sym (are.present n low);
+})
+
+-- the ranges of operations one after another
+ranges-append : (xs ys : List Op) → ranges (xs ++ ys) ≡ ranges xs ++ ranges ys
+ranges-append [] ys = refl
+ranges-append (x ∷ xs) ys = ap (λ (l : List NumberRange). touched x ∷ l) (ranges-append xs ys)
+
+entries-ranges : (es : List Entry) → ((i : ℕ) (e : Entry) → slice_get es i ≡ Some e → IsWithin e) → All IsRange (ranges (flat_map (λ (e : Entry). e.ops) es))
+entries-ranges [] each = All-nil IsRange
+entries-ranges (e ∷ es) each = subst (λ (l : List NumberRange). All IsRange l) (sym (ranges-append e.ops (flat_map (λ (x : Entry). x.ops) es)))
+    (All-append IsRange (ranges e.ops) (ranges (flat_map (λ (x : Entry). x.ops) es)) (each zero e refl) (entries-ranges es (λ i x at. each (suc i) x at)))
+
+-- of a past that explains the pool, the operations of each group have ranges that may be locked
+pub group-ranges : (s : Shown) (p : Past) → IsExplainedNow s p → (group : ℕ) → All IsRange (ranges (ops_of_group group p.entries))
+group-ranges s p explained group = entries-ranges (entries_in group p.entries) (λ i e at.
+    let one = at_filter (λ (x : Entry). x.group == group) p.entries i e at in
+    All-at IsWithin p.entries one.0 e explained.history.within one.1)

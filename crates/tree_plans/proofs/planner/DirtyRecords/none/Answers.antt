@@ -1,5 +1,0 @@
-use Rattle.tree_plans.proofs.Marked.{no_flags}
-use Rattle.tree_plans.proofs.planner.DirtyRecords.none.Goals as goal
-
-pub returns : goal.returns
-returns c = λ r. no_flags 84 r
