@@ -4,7 +4,7 @@ use Rattle.std.specs.Prelude.{All, filter, get_or, is_some, nat_lt, option_map, 
 use Rattle.std.specs.List.{flat_map, list_any}
 use Rattle.std.specs.Option.{option_map_or}
 use Rattle.std.specs.FinMap as finite
-use Rattle.std.proofs.lemmas.Bool.{eqb-true, le-ltb}
+use Rattle.std.proofs.lemmas.Bool.{eqb-true, le-ltb, or_left, or_right}
 use Rattle.std.proofs.lemmas.List.{take_more}
 use Rattle.std.proofs.lemmas.List.Elements.{All-cons, All-head, All-nil, All-tail}
 use Rattle.base.specs.declared.error.PoolError.{PoolError}
@@ -25,7 +25,7 @@ use Rattle.tree_plans.specs.declared.changes.ObjectChanges.{ObjectChanges}
 use Rattle.tree_plans.specs.declared.planner.Committed.{Committed}
 use Rattle.tree_plans.specs.Pointers.{IsPut, entry_of}
 use Rattle.tree_plans.specs.Changes.{is_changed_in, state_at, state_in}
-use Rattle.tree_plans.specs.Marks.{AreChangesOf, AreToldSoFar, HaveLengths, NotesOp, length_in, length_with, pending_ops, state_with}
+use Rattle.tree_plans.specs.Marks.{AreChangesOf, AreToldSoFar, NotesOp, length_in, length_with, sets_length, size_of, state_with}
 
 -- a value in a row of equal ones
 pub in_row : {A : Type 0} (count r : ℕ) (a d : A) → r < count → slice_index_or (replicate count a) r d ≡ a
@@ -53,22 +53,24 @@ state-append : (n r : ℕ) (xs : List Op) (op : Op) (c : Contents) (s : RecordSt
 state-append n r [] op c s = refl
 state-append n r (x ∷ xs) op c s = state-append n r xs op (contents_after x c) (state_after_op n r x c s)
 
--- the state after an operation, by the length of the object
-state-by_length : (n r : ℕ) (op : Op) (c : Contents) (size : ℕ) (s : RecordState) → size ≡ length (unwrap_or (finite.get c.objects n) []) → state_with n r op size s ≡ state_after_op n r op c s
+-- the state after an operation, by the length of the object where the operation sets it
+state-by_length : (n r : ℕ) (op : Op) (c : Contents) (size : ℕ) (s : RecordState) → (sets_length n op ≡ true → size ≡ size_of c n) → state_with n r op size s ≡ state_after_op n r op c s
 state-by_length n r (Create m) c size s is = refl
 state-by_length n r (Remove m) c size s is = refl
 state-by_length n r (Write m offset bytes) c size s is = refl
-state-by_length n r (SetLength m new) c size s is = ap (λ (b : Bool). if (m.0 == n) && b then state_after_cut r new s else s) (ap (nat_lt new) is ∙ by (finite.get c.objects n))
+state-by_length n r (SetLength m new) c size s is = chosen (m.0 == n) (λ same. ap (nat_lt new) (is same) ∙ by (finite.get c.objects n))
   where
     by : (o : Option (List ℕ)) → nat_lt new (length (unwrap_or o [])) ≡ option_map_or (λ old. nat_lt new old) (option_map length o) false
     by None = le-ltb new 0 (omega arith)
     by (Some y) = refl
+
+    chosen : (b : Bool) → (b ≡ true → nat_lt new size ≡ option_map_or (λ old. nat_lt new old) (option_map length (finite.get c.objects n)) false)
+        → (if b && nat_lt new size then state_after_cut r new s else s) ≡ (if b && option_map_or (λ old. nat_lt new old) (option_map length (finite.get c.objects n)) false then state_after_cut r new s else s)
+    chosen true same = ap (λ (b : Bool). if b then state_after_cut r new s else s) (same refl)
+    chosen false same = refl
 state-by_length n r (SetName bytes) c size s is = refl
 
 -- the length after an operation that takes place
-abbrev size_of : Contents → ℕ → ℕ
-size_of c n = length (unwrap_or (finite.get c.objects n) [])
-
 either_size : (b : Bool) (x y z : ℕ) → (b ≡ true → x ≡ z) → (b ≡ false → y ≡ z) → (if b then x else y) ≡ z
 either_size true x y z first second = first refl
 either_size false x y z first second = second refl
@@ -116,26 +118,33 @@ front_ranges (x ∷ xs) op all =
     let rest = front_ranges xs op (All-tail IsRange (touched x) (ranges (xs ++ op ∷ [])) all) in
     (All-cons IsRange (touched x) (ranges xs) (All-head IsRange (touched x) (ranges (xs ++ op ∷ [])) all) rest.0, rest.1)
 
+-- what an operation of a run does, one of the whole run does
+any_first : (p : Op → Bool) (done : List Op) (op : Op) → list_any p done ≡ true → list_any p (done ++ op ∷ []) ≡ true
+any_first p done op is = any-append p done (op ∷ []) ∙ or_left (list_any p done) (list_any p (op ∷ [])) is
+
+any_last : (p : Op → Bool) (done : List Op) (op : Op) → p op ≡ true → list_any p (done ++ op ∷ []) ≡ true
+any_last p done op is = any-append p done (op ∷ []) ∙ or_right (list_any p done) (p op || false) (or_left (p op) false is)
+
 -- one operation more
 pub told_more : (done : List Op) (op : Op) (lengths : List ℕ) (old new : List (ObjectId × ObjectChanges)) → AreToldSoFar done lengths old → NotesOp op lengths old new → AreToldSoFar (done ++ op ∷ []) lengths new
 told_more done op lengths old new told noted = record {
   changes = record {
     there = λ n. noted.there n ∙ ap (λ (b : Bool). is_on n op || b) (told.changes.there n) ∙ or_swapped (list_any (is_on n) done) (is_on n op) ∙ sym (any-append (is_on n) done (op ∷ []));
     changed = λ n. noted.changed n ∙ ap (λ (b : Bool). is_change_of n op || b) (told.changes.changed n) ∙ or_swapped (list_any (is_change_of n) done) (is_change_of n op) ∙ sym (any-append (is_change_of n) done (op ∷ []));
-    states = λ before after h within are n r low.
+    states = λ before after h within n r low is.
         let p = apart done (op ∷ []) before after h in
         let parts = front_ranges done op within in
         let middle : contents_after_all done before ≡ p.0 = contents-after_all done before p.0 p.1 in
         noted.states n r low
-        ∙ ap (λ (s : RecordState). state_with n r op (length_in lengths old n) s) (told.changes.states before p.0 p.1 parts.0 are n r low)
-        ∙ state-by_length n r op p.0 (length_in lengths old n) (record_state n r done before Unchanged) (told.sizes before p.0 p.1 parts.0 are n)
+        ∙ ap (λ (s : RecordState). state_with n r op (length_in lengths old n) s) (told.changes.states before p.0 p.1 parts.0 n r low (λ sets. is (any_first (sets_length n) done op sets)))
+        ∙ state-by_length n r op p.0 (length_in lengths old n) (record_state n r done before Unchanged) (λ sets. told.sizes before p.0 p.1 parts.0 n (is (any_last (sets_length n) done op sets)))
         ∙ ap (λ (c : Contents). state_after_op n r op c (record_state n r done before Unchanged)) (sym middle)
         ∙ sym (state-append n r done op before Unchanged);
   };
-  sizes = λ before after h within are n.
+  sizes = λ before after h within n is.
       let p = apart done (op ∷ []) before after h in
       let parts = front_ranges done op within in
-      noted.sizes parts.1 n ∙ ap (length_with n op) (told.sizes before p.0 p.1 parts.0 are n) ∙ length-after n op p.0 after (one_only op p.0 after p.2);
+      noted.sizes parts.1 n ∙ ap (length_with n op) (told.sizes before p.0 p.1 parts.0 n is) ∙ length-after n op p.0 after (one_only op p.0 after p.2);
 }
 
 pub front_more : {A : Type 0} (xs : List A) (i : ℕ) (x : A) → i < length xs → x ≡ slice_index_or xs i x → take (i + 1) xs ≡ take i xs ++ x ∷ []

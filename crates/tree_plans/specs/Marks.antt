@@ -1,5 +1,5 @@
 -- What the operations of a group do to the objects, in their order.
-use Rattle.std.specs.Prelude.{ℕ, ◌≡◌, ◌<◌, ◌+◌, ◌==◌, ◌&&◌, ◌||◌, Bool, List, [], All, Ok, filter, get_or, is_some, length, max, nat_lt, unwrap_or, if◌then◌else◌}
+use Rattle.std.specs.Prelude.{ℕ, ◌≡◌, ◌<◌, ◌+◌, ◌==◌, ◌&&◌, ◌||◌, Bool, true, false, List, [], All, Ok, filter, get_or, is_some, length, max, nat_lt, unwrap_or, if◌then◌else◌}
 use Rattle.std.specs.List.{flat_map, list_any}
 use Rattle.std.specs.Option.{option_map_or}
 use Rattle.std.specs.FinMap as finite
@@ -49,20 +49,32 @@ pub record NotesOp (op : Op) (lengths : List ℕ) (old new : List (ObjectId × O
   pub states : (n r : ℕ) → r < pointer_count → state_in new n r ≡ state_with n r op (length_in lengths old n) (state_in old n r)
   pub sizes : IsRange (touched op) → (n : ℕ) → length_in lengths new n ≡ length_with n op (length_in lengths old n)
 
--- the objects have these lengths by their numbers, and 0 where they are absent
-abbrev pub HaveLengths : List ℕ → Contents → Type 0
-HaveLengths lengths c = (n : ℕ) → get_or lengths n 0 ≡ length (unwrap_or (finite.get c.objects n) [])
+-- the bytes of an object, and none where it is absent
+abbrev pub size_of : Contents → ℕ → ℕ
+size_of c n = length (unwrap_or (finite.get c.objects n) [])
 
--- entries of just the objects that operations are on. From contents of these lengths on which the operations take place, each record has the
--- state that the definitions give it.
+-- whether an operation sets the length of an object
+abbrev pub sets_length : ℕ → Op → Bool
+sets_length n (Create m) = false
+sets_length n (Remove m) = false
+sets_length n (Write m offset bytes) = false
+sets_length n (SetLength m new) = m.0 == n
+sets_length n (SetName bytes) = false
+
+-- where operations set the length of an object, its length in these contents is told
+abbrev pub IsLengthTold : List Op → List ℕ → Contents → ℕ → Type 0
+IsLengthTold ops lengths c n = list_any (sets_length n) ops ≡ true → get_or lengths n 0 ≡ size_of c n
+
+-- Entries of just the objects that operations are on. From contents on which the operations take place, each record has the state that the
+-- definitions give it, where the length of its object is told if it is set.
 pub record AreChangesOf (ops : List Op) (lengths : List ℕ) (objects : List (ObjectId × ObjectChanges)) : Type 0 where
   pub there : (n : ℕ) → is_some (entry_of objects n) ≡ list_any (is_on n) ops
   pub changed : (n : ℕ) → is_changed_in objects n ≡ list_any (is_change_of n) ops
-  pub states : (before after : Contents) → apply_all ops before ≡ Ok after → All IsRange (ranges ops) → HaveLengths lengths before
-      → (n r : ℕ) → r < pointer_count → state_in objects n r ≡ record_state n r ops before Unchanged
+  pub states : (before after : Contents) → apply_all ops before ≡ Ok after → All IsRange (ranges ops)
+      → (n r : ℕ) → r < pointer_count → IsLengthTold ops lengths before n → state_in objects n r ≡ record_state n r ops before Unchanged
 
--- and the lengths are those after them
+-- and the length of each object that was told is the one after them
 pub record AreToldSoFar (ops : List Op) (lengths : List ℕ) (objects : List (ObjectId × ObjectChanges)) : Type 0 where
   pub changes : AreChangesOf ops lengths objects
-  pub sizes : (before after : Contents) → apply_all ops before ≡ Ok after → All IsRange (ranges ops) → HaveLengths lengths before
-      → (n : ℕ) → length_in lengths objects n ≡ length (unwrap_or (finite.get after.objects n) [])
+  pub sizes : (before after : Contents) → apply_all ops before ≡ Ok after → All IsRange (ranges ops)
+      → (n : ℕ) → get_or lengths n 0 ≡ size_of before n → length_in lengths objects n ≡ size_of after n

@@ -128,7 +128,8 @@ fn state_after(index: usize, length: u64, state: RecordState) -> RecordState
 
 /// The objects that a group's operations are on, rising, with what they do to each.
 ///
-/// `lengths` has the length of each object before the group by its number, 0 where it is absent.
+/// `lengths` has the length of objects before the group by their numbers, 0 where they are absent. It is asked only for those
+/// whose length an operation sets.
 ///
 /// # Errors
 /// `NoMemory`.

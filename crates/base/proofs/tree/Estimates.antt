@@ -16,7 +16,9 @@ use Rattle.base.specs.history.Contents.{Contents, length_of}
 use Rattle.base.specs.history.Plans.{shape_of, records_touched, estimate_of_shape, estimate_of}
 use Rattle.base.specs.tree.Places.{Place}
 use Rattle.base.specs.tree.Places.Place.{Root, Directory, Indirect, Data}
-use Rattle.base.specs.tree.Syncs.{RecordState, Unchanged, Dirty, Hole, is_record_touched, state_after_cut, state_after_op, contents_after, contents_after_all, record_state, is_on, is_change_of, is_rename, is_dirty, record_numbers, object_numbers}
+use Rattle.base.specs.declared.record_state.RecordState.{RecordState}
+use Rattle.base.specs.declared.record_state.RecordState.TheVariants.{Unchanged, Dirty, Hole}
+use Rattle.base.specs.tree.Syncs.{is_record_touched, state_after_cut, state_after_op, contents_after, contents_after_all, record_state, is_on, is_change_of, is_rename, is_dirty, record_numbers, object_numbers}
 use Rattle.base.specs.tree.Syncs as syncs
 use Rattle.base.specs.steps.Space.{SyncsFit}
 use Rattle.base.proofs.common.KeptLists.{any_at, any_found}
@@ -119,43 +121,43 @@ root_part op = as_one (not (is_rename op))
 
 -- what operations may change, against what a sync writes
 module _ (ops : List Op) (synced : Contents) (had : Place → Bool) where
-  dirty_within : (n : ℕ) (records : List ℕ) → count_by (syncs.is_record_dirty ops synced had n) records ≤ sum_by (λ op. count_by (λ r. may_dirty n r op) records) ops
+  dirty_within : (n : ℕ) (records : List ℕ) → count_by (syncs.is_record_written (syncs.group_changes ops synced had) n) records ≤ sum_by (λ op. count_by (λ r. may_dirty n r op) records) ops
   dirty_within n records =
-      let each : count_by (syncs.is_record_dirty ops synced had n) records ≤ sum_by (λ r. count_by (may_dirty n r) ops) records =
-      sum_by-le-sum_by (λ r. as_one (syncs.is_record_dirty ops synced had n r)) (λ r. count_by (may_dirty n r) ops) records
-      (λ r. let whole : as_one (syncs.is_record_dirty ops synced had n r) ≤ 0 + count_by (may_dirty n r) ops = all_dirty n r ops synced Unchanged in omega arith) in
+      let each : count_by (syncs.is_record_written (syncs.group_changes ops synced had) n) records ≤ sum_by (λ r. count_by (may_dirty n r) ops) records =
+      sum_by-le-sum_by (λ r. as_one (syncs.is_record_written (syncs.group_changes ops synced had) n r)) (λ r. count_by (may_dirty n r) ops) records
+      (λ r. let whole : as_one (syncs.is_record_written (syncs.group_changes ops synced had) n r) ≤ 0 + count_by (may_dirty n r) ops = all_dirty n r ops synced Unchanged in omega arith) in
       let turned : sum_by (λ r. count_by (may_dirty n r) ops) records ≡ sum_by (λ op. count_by (λ r. may_dirty n r op) records) ops =
       sum_by-sum_by (λ r op. as_one (may_dirty n r op)) records ops in
       omega arith
 
   object_within : (n : ℕ) (records : List ℕ)
-      → length (map (λ r. Data n r) (filter (syncs.is_record_dirty ops synced had n) records) ++ (if syncs.is_indirect_written ops synced had n then Indirect n ∷ [] else [])) ≤ sum_by (λ op. object_part records op n) ops
+      → length (map (λ r. Data n r) (filter (syncs.is_record_written (syncs.group_changes ops synced had) n) records) ++ (if syncs.is_indirect_written (syncs.group_changes ops synced had) n then Indirect n ∷ [] else [])) ≤ sum_by (λ op. object_part records op n) ops
   object_within n records =
-      let both : length (map (λ r. Data n r) (filter (syncs.is_record_dirty ops synced had n) records) ++ (if syncs.is_indirect_written ops synced had n then Indirect n ∷ [] else []))
-      ≡ length (map (λ r. Data n r) (filter (syncs.is_record_dirty ops synced had n) records)) + length (if syncs.is_indirect_written ops synced had n then Indirect n ∷ [] else []) =
-      length-append (map (λ r. Data n r) (filter (syncs.is_record_dirty ops synced had n) records)) (if syncs.is_indirect_written ops synced had n then Indirect n ∷ [] else []) in
-      let of_records : length (map (λ r. Data n r) (filter (syncs.is_record_dirty ops synced had n) records)) ≡ count_by (syncs.is_record_dirty ops synced had n) records =
-      length-map (filter (syncs.is_record_dirty ops synced had n) records) (λ r. Data n r) ∙ length-filter (syncs.is_record_dirty ops synced had n) records in
-      let dirty : count_by (syncs.is_record_dirty ops synced had n) records ≤ sum_by (λ op. count_by (λ r. may_dirty n r op) records) ops = dirty_within n records in
-      let indirect : length (if syncs.is_indirect_written ops synced had n then Indirect n ∷ [] else []) ≡ as_one (syncs.is_indirect_written ops synced had n) = length-one (syncs.is_indirect_written ops synced had n) (Indirect n) in
-      let changed : as_one (syncs.is_indirect_written ops synced had n) ≤ as_one (list_any (is_change_of n) ops) = both_within (list_any (is_change_of n) ops) (list_any (syncs.has_record_after ops synced had n) record_numbers) in
+      let both : length (map (λ r. Data n r) (filter (syncs.is_record_written (syncs.group_changes ops synced had) n) records) ++ (if syncs.is_indirect_written (syncs.group_changes ops synced had) n then Indirect n ∷ [] else []))
+      ≡ length (map (λ r. Data n r) (filter (syncs.is_record_written (syncs.group_changes ops synced had) n) records)) + length (if syncs.is_indirect_written (syncs.group_changes ops synced had) n then Indirect n ∷ [] else []) =
+      length-append (map (λ r. Data n r) (filter (syncs.is_record_written (syncs.group_changes ops synced had) n) records)) (if syncs.is_indirect_written (syncs.group_changes ops synced had) n then Indirect n ∷ [] else []) in
+      let of_records : length (map (λ r. Data n r) (filter (syncs.is_record_written (syncs.group_changes ops synced had) n) records)) ≡ count_by (syncs.is_record_written (syncs.group_changes ops synced had) n) records =
+      length-map (filter (syncs.is_record_written (syncs.group_changes ops synced had) n) records) (λ r. Data n r) ∙ length-filter (syncs.is_record_written (syncs.group_changes ops synced had) n) records in
+      let dirty : count_by (syncs.is_record_written (syncs.group_changes ops synced had) n) records ≤ sum_by (λ op. count_by (λ r. may_dirty n r op) records) ops = dirty_within n records in
+      let indirect : length (if syncs.is_indirect_written (syncs.group_changes ops synced had) n then Indirect n ∷ [] else []) ≡ as_one (syncs.is_indirect_written (syncs.group_changes ops synced had) n) = length-one (syncs.is_indirect_written (syncs.group_changes ops synced had) n) (Indirect n) in
+      let changed : as_one (syncs.is_indirect_written (syncs.group_changes ops synced had) n) ≤ as_one (list_any (is_change_of n) ops) = both_within (list_any (is_change_of n) ops) (list_any (syncs.has_record_after (syncs.group_changes ops synced had) n) record_numbers) in
       let counted : as_one (list_any (is_change_of n) ops) ≤ count_by (is_change_of n) ops = any_within_count (is_change_of n) ops in
       let sum : sum_by (λ op. object_part records op n) ops ≡ sum_by (λ op. count_by (λ r. may_dirty n r op) records) ops + count_by (is_change_of n) ops =
       sum_by-plus (λ op. count_by (λ r. may_dirty n r op) records) (λ op. as_one (is_change_of n op)) ops in
       omega arith
 
-  objects_within : (objects : List ℕ) → sum_by (λ n. length (syncs.places_of_object ops synced had n)) objects ≤ sum_by (λ op. sum_by (object_part record_numbers op) objects) ops
+  objects_within : (objects : List ℕ) → sum_by (λ n. length (syncs.places_of_object (syncs.group_changes ops synced had) n)) objects ≤ sum_by (λ op. sum_by (object_part record_numbers op) objects) ops
   objects_within objects =
-      let each : sum_by (λ n. length (syncs.places_of_object ops synced had n)) objects ≤ sum_by (λ n. sum_by (λ op. object_part record_numbers op n) ops) objects =
-      sum_by-le-sum_by (λ n. length (syncs.places_of_object ops synced had n)) (λ n. sum_by (λ op. object_part record_numbers op n) ops) objects (λ n. object_within n record_numbers) in
+      let each : sum_by (λ n. length (syncs.places_of_object (syncs.group_changes ops synced had) n)) objects ≤ sum_by (λ n. sum_by (λ op. object_part record_numbers op n) ops) objects =
+      sum_by-le-sum_by (λ n. length (syncs.places_of_object (syncs.group_changes ops synced had) n)) (λ n. sum_by (λ op. object_part record_numbers op n) ops) objects (λ n. object_within n record_numbers) in
       let turned : sum_by (λ n. sum_by (λ op. object_part record_numbers op n) ops) objects ≡ sum_by (λ op. sum_by (object_part record_numbers op) objects) ops =
       sum_by-sum_by (λ n op. object_part record_numbers op n) objects ops in
       omega arith
 
-  directories_within : (directories : List ℕ) → count_by (syncs.is_directory_written ops synced had) directories ≤ sum_by (directory_part object_numbers directories) ops
+  directories_within : (directories : List ℕ) → count_by (syncs.is_directory_written (syncs.group_changes ops synced had)) directories ≤ sum_by (directory_part object_numbers directories) ops
   directories_within directories =
-      let each : count_by (syncs.is_directory_written ops synced had) directories ≤ sum_by (λ d. sum_by (λ op. count_by (λ n. is_on n op) (object_numbers d)) ops) directories =
-      sum_by-le-sum_by (λ d. as_one (syncs.is_directory_written ops synced had d)) (λ d. sum_by (λ op. count_by (λ n. is_on n op) (object_numbers d)) ops) directories (λ d. one d (object_numbers d)) in
+      let each : count_by (syncs.is_directory_written (syncs.group_changes ops synced had)) directories ≤ sum_by (λ d. sum_by (λ op. count_by (λ n. is_on n op) (object_numbers d)) ops) directories =
+      sum_by-le-sum_by (λ d. as_one (syncs.is_directory_written (syncs.group_changes ops synced had) d)) (λ d. sum_by (λ op. count_by (λ n. is_on n op) (object_numbers d)) ops) directories (λ d. one d (object_numbers d)) in
       let turned : sum_by (λ d. sum_by (λ op. count_by (λ n. is_on n op) (object_numbers d)) ops) directories ≡ sum_by (directory_part object_numbers directories) ops =
       sum_by-sum_by (λ d op. count_by (λ n. is_on n op) (object_numbers d)) directories ops in
       omega arith
@@ -170,26 +172,26 @@ module _ (ops : List Op) (synced : Contents) (had : Place → Bool) where
           let turned : sum_by (λ n. count_by (is_on n) ops) numbers ≡ sum_by (λ op. count_by (λ n. is_on n op) numbers) ops = sum_by-sum_by (λ n op. as_one (is_on n op)) numbers ops in
           omega arith
 
-  root_within : (directories : List ℕ) (b : Bool) → as_one (list_any (syncs.is_directory_touched ops synced had) directories && b) ≤ sum_by root_part ops
+  root_within : (directories : List ℕ) (b : Bool) → as_one (list_any (syncs.is_directory_touched (syncs.group_changes ops synced had)) directories && b) ≤ sum_by root_part ops
   root_within directories b =
-      let touched : as_one (list_any (syncs.is_directory_touched ops synced had) directories && b) ≤ as_one (list_any (syncs.is_directory_touched ops synced had) directories) =
-      both_within (list_any (syncs.is_directory_touched ops synced had) directories) b in
-      let some : as_one (list_any (syncs.is_directory_touched ops synced had) directories) ≤ as_one (list_any (λ op. not (is_rename op)) ops) =
-      count_implied (list_any (syncs.is_directory_touched ops synced had) directories) (list_any (λ op. not (is_rename op)) ops) one in
+      let touched : as_one (list_any (syncs.is_directory_touched (syncs.group_changes ops synced had)) directories && b) ≤ as_one (list_any (syncs.is_directory_touched (syncs.group_changes ops synced had)) directories) =
+      both_within (list_any (syncs.is_directory_touched (syncs.group_changes ops synced had)) directories) b in
+      let some : as_one (list_any (syncs.is_directory_touched (syncs.group_changes ops synced had)) directories) ≤ as_one (list_any (λ op. not (is_rename op)) ops) =
+      count_implied (list_any (syncs.is_directory_touched (syncs.group_changes ops synced had)) directories) (list_any (λ op. not (is_rename op)) ops) one in
       let counted : as_one (list_any (λ op. not (is_rename op)) ops) ≤ sum_by root_part ops = any_within_count (λ op. not (is_rename op)) ops in
       omega arith
     where
-      one : list_any (syncs.is_directory_touched ops synced had) directories ≡ true → list_any (λ op. not (is_rename op)) ops ≡ true
+      one : list_any (syncs.is_directory_touched (syncs.group_changes ops synced had)) directories ≡ true → list_any (λ op. not (is_rename op)) ops ≡ true
       one is =
-          let d = any_found (syncs.is_directory_touched ops synced had) directories is in
+          let d = any_found (syncs.is_directory_touched (syncs.group_changes ops synced had)) directories is in
           let n = any_found (λ n. list_any (is_on n) ops) (object_numbers d.1) d.3 in
           let op = any_found (is_on n.1) ops n.3 in
           any_at (λ o. not (is_rename o)) ops op.0 op.1 op.2 (on_object n.1 op.1 op.3)
 
-  last_within : length (if syncs.is_root_written ops synced had then Root ∷ [] else []) ≤ sum_by root_part ops
+  last_within : length (if syncs.is_root_written (syncs.group_changes ops synced had) then Root ∷ [] else []) ≤ sum_by root_part ops
   last_within =
-      let one : length (if syncs.is_root_written ops synced had then Root ∷ [] else []) ≡ as_one (syncs.is_root_written ops synced had) = length-one (syncs.is_root_written ops synced had) Root in
-      let counted : as_one (syncs.is_root_written ops synced had) ≤ sum_by root_part ops =
+      let one : length (if syncs.is_root_written (syncs.group_changes ops synced had) then Root ∷ [] else []) ≡ as_one (syncs.is_root_written (syncs.group_changes ops synced had)) = length-one (syncs.is_root_written (syncs.group_changes ops synced had)) Root in
+      let counted : as_one (syncs.is_root_written (syncs.group_changes ops synced had)) ≤ sum_by root_part ops =
       root_within (range_with_len 0 pointer_count) (list_any (λ n. finite.contains_key (contents_after_all ops synced).objects n) (range_with_len 0 object_count)) in
       omega arith
 
@@ -285,7 +287,7 @@ within_both a b c d h k e = omega arith
 pub syncs_fit : SyncsFit
 syncs_fit ops synced had =
     let part : Op → ℕ = part_of (λ d. entry_count * d) entry_count own_directory 0 pointer_count 0 object_count 0 pointer_count in
-    let written = three_parts (syncs.places_of_object ops synced had) (λ d. Directory d) (syncs.is_directory_written ops synced had) (if syncs.is_root_written ops synced had then Root ∷ [] else [])
+    let written = three_parts (syncs.places_of_object (syncs.group_changes ops synced had)) (λ d. Directory d) (syncs.is_directory_written (syncs.group_changes ops synced had)) (if syncs.is_root_written (syncs.group_changes ops synced had) then Root ∷ [] else [])
     (range_with_len 0 object_count) (range_with_len 0 pointer_count)
     (λ op. sum_by (object_part record_numbers op) (range_with_len 0 object_count)) (directory_part object_numbers (range_with_len 0 pointer_count)) root_part ops
     (objects_within ops synced had (range_with_len 0 object_count)) (directories_within ops synced had (range_with_len 0 pointer_count))
