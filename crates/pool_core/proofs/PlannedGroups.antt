@@ -1,10 +1,10 @@
 -- The plan of a group, made of what its transactions did to the synced contents.
-use Rattle.std.proofs.Common.{◌≡◌, ℕ, zero, suc, ◌+◌, ◌*◌, ◌<◌, ◌≤◌, Bool, true, false, not, ◌&&◌, ◌||◌, cond, List, [], ◌∷◌, ◌++◌, length, map, filter, refl, ap, sym, subst, ◌∙◌, arith, nat_lt}
-use Rattle.std.specs.Prelude.{Option, Some, None, Ok, slice_get, is_some, IfSome, All, ◌==◌}
+use Rattle.std.proofs.Common.{◌≡◌, ℕ, zero, suc, ◌+◌, ◌*◌, ◌<◌, ◌≤◌, Bool, true, false, not, ◌&&◌, ◌||◌, cond, List, [], ◌∷◌, ◌++◌, length, map, filter, refl, ap, sym, subst, ◌∙◌, ◌⊎◌, inl, inr, arith, nat_lt}
+use Rattle.std.specs.Prelude.{Option, Some, None, Ok, slice_get, is_some, nat_le, option_map, IfSome, All, ◌==◌}
 use Rattle.std.specs.List.{list_all, list_any, enumerate_from, flat_map}
 use Rattle.std.specs.FinMap as finite
-use Rattle.std.proofs.lemmas.Bool.{and_parts, or_parts, eqb-true, lt-ltb, false≢true, true≢false}
-use Rattle.std.proofs.lemmas.List.Elements.{All-nil, All-cons, All-head, All-tail}
+use Rattle.std.proofs.lemmas.Bool.{and_parts, or_cases, eqb-true, ltb-true, lt-ltb, false≢true}
+use Rattle.std.proofs.lemmas.List.Elements.{All-append, All-nil, All-cons, All-head, All-tail}
 use Rattle.base.specs.declared.names.ObjectId.{ObjectId}
 use Rattle.base.specs.declared.operation.Op.{Op}
 use Rattle.base.specs.declared.operation.Op.TheVariants.{Create, Remove, Write, SetLength, SetName}
@@ -12,32 +12,34 @@ use Rattle.base.specs.declared.pointer.Pointer.{Pointer}
 use Rattle.base.specs.history.Contents.{Contents, apply}
 use Rattle.base.specs.steps.ExactNow.{IsExplainedNow}
 use Rattle.base.specs.history.History.{Entry, apply_all, entries_in, replay, run}
-use Rattle.base.specs.formats.Limits.{max_length, object_count, record_size}
+use Rattle.base.specs.declared.operation.Shape.{Shape}
+use Rattle.base.specs.declared.record_state.RecordState.TheVariants.{Unchanged, Hole}
+use Rattle.base.specs.formats.Fields.{no_pointer}
+use Rattle.base.specs.formats.Limits.{max_length, object_count, pointer_count, record_size}
 use Rattle.base.specs.steps.Logs.{KeptBlock, committed_of, has_record}
 use Rattle.base.specs.history.Past.{Past}
 use Rattle.base.specs.tree.Places.{Place}
-use Rattle.base.specs.tree.Places.Place.{Root}
+use Rattle.base.specs.tree.Places.Place.{Root, Data}
 use Rattle.base.specs.tree.PlannedTrees.{AreFreed, NewBlock}
-use Rattle.base.specs.history.Plans.{shape_of}
+use Rattle.base.specs.history.Plans.{IsRange, is_shape_allowed, ranges, shape_of}
 use Rattle.base.specs.formats.Records.{Record}
 use Rattle.base.specs.history.Sequences.{in_turn}
 use Rattle.base.specs.steps.Shown.{Shown, SyncPlan}
 use Rattle.base.specs.steps.Stage.{is_shape_built}
 use Rattle.base.specs.steps.Steps.{ops_of_group}
 use Rattle.base.specs.stored.Stored.{AreUsed, IsPlannedSync, IsStored, frame_at}
-use Rattle.base.specs.tree.Syncs.{is_on}
-use Rattle.base.proofs.tree.BuiltPlaces.{still-there, there-after}
-use Rattle.base.proofs.tree.PlacedTrees.{absent-indirect}
+use Rattle.base.specs.tree.Syncs.{is_on, record_state}
+use Rattle.base.proofs.tree.PlacedTrees.{absent-indirect, holds-address, none_or_opens, opens-some}
+use Rattle.base.proofs.tree.RecordStates.{HasRecord, dirty-record, hole-record, object-off, state-gone, state-made, tree-record, unchanged-record}
+use Rattle.base.proofs.tree.WrittenPlaces.{group-ranges}
 use Rattle.base.proofs.common.Sequences.{in_turn-append, parted}
 use Rattle.base.proofs.stored.StoredCover.{All-passing, entry-built, group-follows}
 use Rattle.base.proofs.stored.StoredStarts.{next-group}
 use Rattle.base.proofs.stored.StoredTrees.{stored-births}
-use Rattle.base.proofs.tree.UntouchedRecords.{LeavesObject, LeavesRecord, untouched-entry, untouched-stays, writes_record}
-use Rattle.base.proofs.tree.WrittenRecords.{HasRecord, IsBuilt, written-record}
 use Rattle.tree_plans.specs.declared.planner.Committed.{Committed}
-use Rattle.tree_plans.specs.declared.planner.DirtyRecords.{DirtyRecords}
-use Rattle.tree_plans.specs.Changes.{AreBornBefore, AreChanges, HasNoOthers, IsCoveredBy}
-use Rattle.tree_plans.specs.Marks.{AreMarks, changes, pending_ops, touches}
+use Rattle.tree_plans.specs.declared.changes.ObjectChanges.{ObjectChanges}
+use Rattle.tree_plans.specs.Changes.{AreBornBefore, AreChanges, AreInRange, AreTreePointers, IsCoveredBy, is_changed_in, state_in}
+use Rattle.tree_plans.specs.Marks.{AreChangesOf, pending_ops, sets_length}
 use Rattle.tree_plans.specs.Pointers.{entry_of}
 use Rattle.pool_core.specs.GroupPlans.{IsPlannedGroup}
 use Rattle.pool_core.specs.Shows.{record_of as shown_record}
@@ -49,18 +51,46 @@ flat_replay (e ∷ es) a b h =
     let p = parted (run e a) (in_turn run es) b h in
     in_turn-append apply e.ops (flat_map (λ (x : Entry). x.ops) es) a p.0 b p.1 (flat_replay es p.0 b p.2)
 
-abbrev IsBuiltEntry : Entry → Type 0
-IsBuiltEntry e = list_all is_shape_built (map shape_of e.ops) ≡ true
+-- operations whose shapes are built so far and within their limits
+abbrev IsBuilt : Op → Type 0
+IsBuilt op = (is_shape_built (shape_of op) ≡ true) × (is_shape_allowed (shape_of op) ≡ true)
 
-built_first : (ops rest : List Op) → list_all is_shape_built (map shape_of ops) ≡ true → All IsBuilt rest → All IsBuilt (ops ++ rest)
-built_first [] rest built h = h
-built_first (o ∷ ops) rest built h =
-    let both = and_parts (is_shape_built (shape_of o)) (list_all is_shape_built (map shape_of ops)) built in
-    All-cons IsBuilt o (ops ++ rest) both.0 (built_first ops rest both.1 h)
+built_ops : (ops : List Op) → list_all is_shape_built (map shape_of ops) ≡ true → list_all is_shape_allowed (map shape_of ops) ≡ true → All IsBuilt ops
+built_ops [] built allowed = All-nil IsBuilt
+built_ops (o ∷ ops) built allowed =
+    let p = and_parts (is_shape_built (shape_of o)) (list_all is_shape_built (map shape_of ops)) built in
+    let q = and_parts (is_shape_allowed (shape_of o)) (list_all is_shape_allowed (map shape_of ops)) allowed in
+    All-cons IsBuilt o ops (p.0, q.0) (built_ops ops p.1 q.1)
 
-built_flat : (es : List Entry) → All IsBuiltEntry es → All IsBuilt (flat_map (λ (e : Entry). e.ops) es)
+built_flat : (es : List Entry) → All (λ (e : Entry). All IsBuilt e.ops) es → All IsBuilt (flat_map (λ (e : Entry). e.ops) es)
 built_flat [] h = All-nil IsBuilt
-built_flat (e ∷ es) h = built_first e.ops (flat_map (λ (x : Entry). x.ops) es) (All-head IsBuiltEntry e es h) (built_flat es (All-tail IsBuiltEntry e es h))
+built_flat (e ∷ es) h = All-append IsBuilt e.ops (flat_map (λ (x : Entry). x.ops) es) (All-head (λ (x : Entry). All IsBuilt x.ops) e es h) (built_flat es (All-tail (λ (x : Entry). All IsBuilt x.ops) e es h))
+
+-- none of them sets a length, and each is on an object below the last number
+sets_none : (n : ℕ) (ops : List Op) → All IsBuilt ops → list_any (sets_length n) ops ≡ true → ⊥
+sets_none n [] built sets = false≢true sets
+sets_none n (Create m ∷ ops) built sets = sets_none n ops (All-tail IsBuilt (Create m) ops built) sets
+sets_none n (Remove m ∷ ops) built sets = sets_none n ops (All-tail IsBuilt (Remove m) ops built) sets
+sets_none n (Write m offset bytes ∷ ops) built sets = sets_none n ops (All-tail IsBuilt (Write m offset bytes) ops built) sets
+sets_none n (SetLength m new ∷ ops) built sets = false≢true (All-head IsBuilt (SetLength m new) ops built).0
+sets_none n (SetName bytes ∷ ops) built sets = sets_none n ops (All-tail IsBuilt (SetName bytes) ops built) sets
+
+on_low : (n : ℕ) (op : Op) → IsBuilt op → is_on n op ≡ true → n < object_count
+on_low n (Create m) (built, allowed) on = subst (λ k. k < object_count) (eqb-true m.0 n on) (ltb-true m.0 object_count allowed)
+on_low n (Remove m) (built, allowed) on = absurd (false≢true built)
+on_low n (Write m offset bytes) (built, allowed) on =
+    let low : nat_lt m.0 object_count ≡ true =
+    (and_parts (nat_lt m.0 object_count) (nat_lt 0 (length bytes)) (and_parts (nat_lt m.0 object_count && nat_lt 0 (length bytes)) (nat_le (offset + length bytes) max_length) allowed).0).0 in
+    subst (λ k. k < object_count) (eqb-true m.0 n on) (ltb-true m.0 object_count low)
+on_low n (SetLength m new) (built, allowed) on = absurd (false≢true built)
+on_low n (SetName bytes) (built, allowed) on = absurd (false≢true built)
+
+any_low : (n : ℕ) (ops : List Op) → All IsBuilt ops → list_any (is_on n) ops ≡ true → n < object_count
+any_low n [] built on = absurd (false≢true on)
+any_low n (o ∷ ops) built on = elim (or_cases (is_on n o) (list_any (is_on n) ops) on) as (λ _. n < object_count) [
+  | inl first ↦ on_low n o (All-head IsBuilt o ops built) first
+  | inr later ↦ any_low n ops (All-tail IsBuilt o ops built) later
+]
 
 -- the operations of a group among pending records
 abbrev record_ops : ℕ → List Record → List Op
@@ -106,55 +136,9 @@ module _ (synced group : ℕ) (below : synced < group) where
       by false above true is rest = absurd (false≢true (sym above ∙ ap (λ (g : ℕ). nat_lt synced g && true) (eqb-true e.group group is) ∙ ap (λ (b : Bool). b && true) (lt-ltb synced group below)))
       by false above false is rest = rest
 
--- an element that passes a test is one of the list
-any_at : (p : Op → Bool) (ops : List Op) → list_any p ops ≡ true → (i : ℕ) × (op : Op) × (slice_get ops i ≡ Some op) × (p op ≡ true)
-any_at p [] h = absurd (false≢true h)
-any_at p (o ∷ ops) h = by (p o) refl (λ any. any_at p ops any) h
-  where
-    by : (b : Bool) → p o ≡ b → (list_any p ops ≡ true → (i : ℕ) × (op : Op) × (slice_get ops i ≡ Some op) × (p op ≡ true)) → (b || list_any p ops) ≡ true
-        → (i : ℕ) × (op : Op) × (slice_get (o ∷ ops) i ≡ Some op) × (p op ≡ true)
-    by true is rest h = (zero, o, refl, is)
-    by false is rest h = let found = rest h in (suc found.0, found.1, found.2, found.3)
-
-pub touch_writes : (n r : ℕ) (op : Op) → writes_record n r op ≡ touches n r op
-touch_writes n r (Create m) = refl
-touch_writes n r (Remove m) = refl
-touch_writes n r (Write m offset bytes) = refl
-touch_writes n r (SetLength m new) = refl
-touch_writes n r (SetName bytes) = refl
-
-on_changes : (n : ℕ) (op : Op) → IsBuilt op → is_on n op ≡ changes n op
-on_changes n (Create m) built = refl
-on_changes n (Remove m) built = absurd (false≢true built)
-on_changes n (Write m offset bytes) built = refl
-on_changes n (SetLength m new) built = absurd (false≢true built)
-on_changes n (SetName bytes) built = absurd (false≢true built)
-
--- operations that create and write are on an object where they create or write it
-pub any_on : (n : ℕ) (ops : List Op) → All IsBuilt ops → list_any (changes n) ops ≡ list_any (is_on n) ops
-any_on n [] h = refl
-any_on n (o ∷ ops) h =
-    ap (λ (b : Bool). b || list_any (changes n) ops) (sym (on_changes n o (All-head IsBuilt o ops h))) ∙ ap (λ (b : Bool). is_on n o || b) (any_on n ops (All-tail IsBuilt o ops h))
-
-leave_record : (n r : ℕ) (ops : List Op) → All IsBuilt ops → list_any (touches n r) ops ≡ false → All (LeavesRecord n r) ops
-leave_record n r [] built none = All-nil (LeavesRecord n r)
-leave_record n r (o ∷ ops) built none =
-    let both = or_parts (touches n r o) (list_any (touches n r) ops) none in
-    All-cons (LeavesRecord n r) o ops (All-head IsBuilt o ops built, touch_writes n r o ∙ both.0) (leave_record n r ops (All-tail IsBuilt o ops built) both.1)
-
-leave_object : (n : ℕ) (ops : List Op) → All IsBuilt ops → list_any (changes n) ops ≡ false → All (LeavesObject n) ops
-leave_object n [] built none = All-nil (LeavesObject n)
-leave_object n (o ∷ ops) built none =
-    let both = or_parts (changes n o) (list_any (changes n) ops) none in
-    All-cons (LeavesObject n) o ops (on_changes n o (All-head IsBuilt o ops built) ∙ both.0) (leave_object n ops (All-tail IsBuilt o ops built) both.1)
-
 -- a record that is there begins before the end of its object
 record_within : (r : ℕ) (o : Option (List ℕ)) → HasRecord r o → IfSome o (λ bytes. record_size * r < length bytes)
 record_within r o (bytes, is, low) = subst (λ (q : Option (List ℕ)). IfSome q (λ (b : List ℕ). record_size * r < length b)) (sym is) low
-
-not_there : (o p : Option (List ℕ)) → (is_some o ≡ true → is_some p ≡ true) → p ≡ None → o ≡ None
-not_there None p stays none = refl
-not_there (Some x) p stays none = absurd (true≢false (sym (stays refl) ∙ ap (λ (q : Option (List ℕ)). is_some q) none))
 
 bounded_sizes : (o : Option (List ℕ)) (n : ℕ) → IfSome o (λ bytes. (n < object_count) × (length bytes ≤ max_length) × (list_all (λ b. nat_lt b 256) bytes ≡ true)) → IfSome o (λ bytes. length bytes ≤ max_length)
 bounded_sizes None n h = tt
@@ -173,33 +157,64 @@ module _ (now : List ℕ) (s : Shown) (p : Past) (pointers : Place → Pointer) 
   pub follows : apply_all (pending_ops group pending) x.synced ≡ Ok s.contents
   follows = subst (λ (ops : List Op). apply_all ops x.synced ≡ Ok s.contents) ops_are (flat_replay (entries_in group p.entries) x.synced s.contents (group-follows now s p pointers x explained group idle middle))
 
-  pub built : All IsBuilt (pending_ops group pending)
+  entry_is_built : (i : ℕ) (e : Entry) → slice_get p.entries i ≡ Some e → All IsBuilt e.ops
+  entry_is_built i e at =
+      let of_plan = explained.exact.groups.members.committed i e at in
+      let allowed = explained.exact.groups.members.allowed e.tx of_plan.0 of_plan.1 in
+      built_ops e.ops (entry-built now s p pointers x explained group idle middle i e at)
+      (ap (λ (l : List Shape). list_all is_shape_allowed l) of_plan.3 ∙ (and_parts (nat_lt 0 (length of_plan.0.plan)) (list_all is_shape_allowed of_plan.0.plan) allowed.0).1)
+
+  built : All IsBuilt (pending_ops group pending)
   built = subst (λ (ops : List Op). All IsBuilt ops) ops_are (built_flat (entries_in group p.entries)
-      (All-passing IsBuiltEntry (λ (e : Entry). e.group == group) p.entries (λ i e at is. entry-built now s p pointers x explained group idle middle i e at)))
+      (All-passing (λ (e : Entry). All IsBuilt e.ops) (λ (e : Entry). e.group == group) p.entries (λ i e at is. entry_is_built i e at)))
 
-  module _ (objects : List (ObjectId × DirtyRecords)) (marks : AreMarks (pending_ops group pending) objects) where
-    covered : IsCoveredBy objects x.synced.objects s.contents.objects
+  within : All IsRange (ranges (pending_ops group pending))
+  within = subst (λ (ops : List Op). All IsRange (ranges ops)) ops_are (group-ranges s p explained group)
+
+  module _ (objects : List (ObjectId × ObjectChanges)) (changes : AreChangesOf (pending_ops group pending) [] objects) where
+    -- each record is in the state that the definitions give it
+    pub states_are : (n r : ℕ) → r < pointer_count → state_in objects n r ≡ record_state n r (pending_ops group pending) x.synced Unchanged
+    states_are n r below = changes.states x.synced s.contents follows within n r below (λ sets. absurd (sets_none n (pending_ops group pending) built sets))
+
+    -- each object that operations are on is in range
+    pub in_range : AreInRange objects
+    in_range n is = any_low n (pending_ops group pending) built (sym (changes.there n) ∙ is)
+
+    covered : IsCoveredBy objects pointers x.synced.objects s.contents.objects
     covered = record {
-      records = λ n r low below none. untouched-stays n r (pending_ops group pending) x.synced s.contents (leave_record n r (pending_ops group pending) built (sym (marks.marked n r below) ∙ none)) follows;
-      entries = λ n low none. untouched-entry n (pending_ops group pending) x.synced s.contents (leave_object n (pending_ops group pending) built (sym (marks.there n) ∙ none)) follows;
+      records = λ n r low below state.
+          let same = unchanged-record n r (pending_ops group pending) x.synced s.contents follows (sym (states_are n r below) ∙ state) in
+          tree-record now (frame_at s s.line.synced) pointers x.synced.objects x.tree n r (finite.get x.synced.objects n) (finite.get s.contents.objects n) low below refl same.0 same.1;
+      holes = λ n r low below state. hole-record n r (pending_ops group pending) x.synced s.contents follows (sym (states_are n r below) ∙ state);
+      entries = λ n low none. ap (λ (o : Option (List ℕ)). option_map length o) (object-off n (pending_ops group pending) x.synced s.contents (off n none) follows);
     }
+      where
+        off : (n : ℕ) → entry_of objects n ≡ None → list_any (is_on n) (pending_ops group pending) ≡ false
+        off n none = sym (changes.there n) ∙ ap (λ (o : Option ObjectChanges). is_some o) none
 
-    -- an object that changes is there after
-    pub there : (n : ℕ) → is_some (entry_of objects n) ≡ true → is_some (finite.get s.contents.objects n) ≡ true
-    there n is = there-after n (pending_ops group pending) x.synced s.contents built follows (sym (any_on n (pending_ops group pending) built) ∙ sym (marks.there n) ∙ is)
-
-    group_changes : AreChanges objects s.contents.objects
-    group_changes = record {
-      there = λ n low is. there n is;
-      within = λ n r low below is.
-          (let one = any_at (touches n r) (pending_ops group pending) (sym (marks.marked n r below) ∙ is) in
-          record_within r (finite.get s.contents.objects n) (written-record n r (pending_ops group pending) x.synced s.contents one.0 one.1 built follows one.2 (touch_writes n r one.1 ∙ one.3)));
+    group_is : AreChanges objects s.contents.objects
+    group_is = record {
+      within = λ n r low below state.
+          record_within r (finite.get s.contents.objects n) (dirty-record n r (pending_ops group pending) x.synced s.contents follows (sym (states_are n r below) ∙ state));
+      holes = λ n r low below is why. states_are n r below ∙ holes_of n r (sym (changes.there n) ∙ is) why;
       sizes = λ n. bounded_sizes (finite.get s.contents.objects n) n (explained.exact.bounded.objects n);
     }
+      where
+        holes_of : (n r : ℕ) → list_any (is_on n) (pending_ops group pending) ≡ true → (is_changed_in objects n ≡ false) ⊎ (finite.get s.contents.objects n ≡ None)
+            → record_state n r (pending_ops group pending) x.synced Unchanged ≡ Hole
+        holes_of n r on (inl made) = state-made n r (pending_ops group pending) x.synced Unchanged (sym (changes.changed n) ∙ made) on
+        holes_of n r on (inr gone) = state-gone n r (pending_ops group pending) x.synced s.contents Unchanged follows on gone
 
-  no_others : HasNoOthers pointers s.contents.objects
-  no_others n low none = absent-indirect now (frame_at s s.line.synced) pointers x.synced.objects x.tree n low
-      (not_there (finite.get x.synced.objects n) (finite.get s.contents.objects n) (still-there n (pending_ops group pending) x.synced s.contents built follows) none)
+    of_tree : AreTreePointers objects pointers s.contents.objects
+    of_tree = record {
+      absent = λ n low none gone. absent-indirect now (frame_at s s.line.synced) pointers x.synced.objects x.tree n low
+          (object-off n (pending_ops group pending) x.synced s.contents (sym (changes.there n) ∙ ap (λ (o : Option ObjectChanges). is_some o) none) follows ∙ gone);
+      named = λ n r low below none. elim (none_or_opens now (frame_at s s.line.synced) pointers x.synced.objects x.tree (Data n r) (low, below)) as (λ _. pointers (Data n r) ≡ no_pointer) [
+        | inl is ↦ is
+        | inr opens ↦ absurd (holds-address now (frame_at s s.line.synced) pointers x.synced.objects x.tree (Data n r) (low, below)
+            (opens-some now (frame_at s s.line.synced) 5 (pointer_count * n + r) (pointers (Data n r)) opens.0 opens.1) none)
+      ];
+    }
 
   born_before : AreBornBefore group pointers
   born_before place is =
@@ -212,7 +227,7 @@ module _ (now : List ℕ) (s : Shown) (p : Past) (pointers : Place → Pointer) 
       → map (λ (b : NewBlock). b.address) bs ≡ plan.taken → ((i : ℕ) (b : NewBlock) → slice_get bs i ≡ Some b → length b.content ≡ 4096) → (AreBornBefore group pointers → AreFreed pointers new plan.freed)
       → AreUsed bs new → new Root ≡ plan.root → IsPlannedSync (frame_at s group) pointers new bs x.synced.objects s.contents.objects plan
   planned_sync new bs plan from taken whole freed used root = record {
-    planned = from.planned x.synced.objects (covered from.objects from.marks) (group_changes from.objects from.marks) no_others;
+    planned = from.planned x.synced.objects (covered from.objects from.changes) (group_is from.objects from.changes) (of_tree from.objects from.changes);
     taken = taken;
     whole = whole;
     freed = freed born_before;

@@ -75,7 +75,7 @@ module _ (now : List ℕ) (past : Past) (pool : Pool) (group moment : ℕ) (bloc
       (pointers_after root directories maps pool.tree) (map new_block blocks) plan planned (addresses_are blocks)
 
 -- where its plan is short of blocks, the pool lacks them
-pub group_lacks : (now : List ℕ) (past : Past) (pool : Pool) (group : ℕ) → MayStart group (line_of pool.groups) → IsShortOfBlocks group pool.pending.items pool.free.flags.items
+pub group_lacks : (now : List ℕ) (past : Past) (pool : Pool) (group : ℕ) → MayStart group (line_of pool.groups) → IsShortOfBlocks group pool.pending.items (pointers_of pool.tree) (contents_of pool.contents).objects pool.free.flags.items
     → IsHeld (held_with (pool_told pool now) past) → LacksBlocks past (pool_told pool now)
 group_lacks now past pool group may short x = record {
   group = group;

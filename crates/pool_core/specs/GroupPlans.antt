@@ -1,19 +1,18 @@
 -- What the plan of a group says of its blocks and of the tree that they make.
-use Rattle.std.specs.Prelude.{ℕ, ◌≡◌, ◌<◌, All, Bool, List, Some, length, map, is_some, slice_get, take}
+use Rattle.std.specs.Prelude.{ℕ, ◌≡◌, ◌<◌, All, Bool, List, [], Some, length, map, slice_get, take}
 use Rattle.std.specs.Ordering.{nat_cmp}
 use Rattle.std.specs.FinMap.{FinMap}
 use Rattle.base.specs.declared.names.ObjectId.{ObjectId}
 use Rattle.base.specs.declared.pointer.Pointer.{Pointer}
 use Rattle.base.specs.formats.Blocks.{Frame}
 use Rattle.base.specs.tree.Places.{Place}
-use Rattle.base.specs.tree.PlannedPlaces.{written_by}
 use Rattle.base.specs.tree.PlannedTrees.{IsTreePlan, NewBlock}
+use Rattle.base.specs.tree.Syncs.{written_by}
 use Rattle.space.specs.FreeSets.{addresses_from}
 use Rattle.tree_plans.specs.declared.planner.Committed.{Committed}
-use Rattle.tree_plans.specs.declared.planner.DirtyRecords.{DirtyRecords}
-use Rattle.tree_plans.specs.Changes.{AreChanges, AreInRange, HasNoOthers, IsCoveredBy, is_marked}
-use Rattle.tree_plans.specs.Marks.{AreMarks, pending_ops}
-use Rattle.tree_plans.specs.Pointers.{entry_of}
+use Rattle.tree_plans.specs.declared.changes.ObjectChanges.{ObjectChanges}
+use Rattle.tree_plans.specs.Changes.{AreChanges, AreInRange, AreTreePointers, IsCoveredBy, group_of}
+use Rattle.tree_plans.specs.Marks.{AreChangesOf, pending_ops}
 use Rattle.base.specs.declared.error.PoolError.{PoolError}
 use Rattle.base.specs.declared.error.PoolError.TheVariants.{NoSpace}
 use Rattle.base.specs.formats.Geometry.{block_count, block_size}
@@ -35,21 +34,21 @@ use Rattle.pool_core.specs.Pointers.{pointers_after}
 use Rattle.pool_core.specs.RunningUberblocks.{uberblock_with}
 use Rattle.pool_core.specs.Shows.{new_plan, shown_objects, pool_shown}
 
--- Some objects have just the marks of the group's pending operations. For them these blocks make the tree after the group from the old one,
--- whatever objects were there before of which the operations leave the rest as they were; and they are those of the marked places, one for
--- each, in their order.
+-- Some changes are those of the group's pending operations, none of which sets a length so far. By them these blocks make the tree after the
+-- group from the old one, whatever objects were there before of which the changes cover all that differs; and they are those of the places
+-- that are written, one for each, in their order.
 pub record IsPlannedGroup (group : ℕ) (pending : List Committed) (frame : Frame) (old new : Place → Pointer) (bs : List NewBlock) (after : FinMap nat_cmp (List ℕ)) : Type 0 where
-  pub objects : List (ObjectId × DirtyRecords)
-  pub marks : AreMarks (pending_ops group pending) objects
-  pub planned : (before : FinMap nat_cmp (List ℕ)) → IsCoveredBy objects before after → AreChanges objects after → HasNoOthers old after → IsTreePlan bs frame old new before after
-  pub order : AreInRange objects → map (λ (b : NewBlock). b.address) bs ≡ map (λ (place : Place). (new place).address) (written_by (is_marked objects) (λ n. is_some (entry_of objects n)))
+  pub objects : List (ObjectId × ObjectChanges)
+  pub changes : AreChangesOf (pending_ops group pending) [] objects
+  pub planned : (before : FinMap nat_cmp (List ℕ)) → IsCoveredBy objects old before after → AreChanges objects after → AreTreePointers objects old after → IsTreePlan bs frame old new before after
+  pub order : AreInRange objects → map (λ (b : NewBlock). b.address) bs ≡ map (λ (place : Place). (new place).address) (written_by (group_of objects old after))
 
--- Some objects have just the marks of the group's pending operations. Where they are in range, fewer blocks are free, by these flags, than
--- there are marked places.
-pub record IsShortOfBlocks (group : ℕ) (pending : List Committed) (flags : List Bool) : Type 0 where
-  pub objects : List (ObjectId × DirtyRecords)
-  pub marks : AreMarks (pending_ops group pending) objects
-  pub fewer : AreInRange objects → length (addresses_from 0 flags) < length (written_by (is_marked objects) (λ n. is_some (entry_of objects n)))
+-- Some changes are those of the group's pending operations. Where they are in range, fewer blocks are free, by these flags, than there are
+-- places that are written.
+pub record IsShortOfBlocks (group : ℕ) (pending : List Committed) (old : Place → Pointer) (after : FinMap nat_cmp (List ℕ)) (flags : List Bool) : Type 0 where
+  pub objects : List (ObjectId × ObjectChanges)
+  pub changes : AreChangesOf (pending_ops group pending) [] objects
+  pub fewer : AreInRange objects → length (addresses_from 0 flags) < length (written_by (group_of objects old after))
 
 -- the pointers of the tree that a plan makes of a pool's
 abbrev pub plan_pointers : Pool → TreePlan → Place → Pointer
@@ -75,7 +74,7 @@ pub record MakesGroupTree (pool : Pool) (group : ℕ) (p : TreePlan) : Type 0 wh
 
 -- refused NoSpace, a pool is short of blocks
 abbrev pub IsRefusedShort : Pool → ℕ → PoolError → Type 0
-IsRefusedShort pool group e = e ≡ NoSpace → IsShortOfBlocks group pool.pending.items pool.free.flags.items
+IsRefusedShort pool group e = e ≡ NoSpace → IsShortOfBlocks group pool.pending.items (pointers_of pool.tree) (shown_objects pool) pool.free.flags.items
 
 -- a sync of a plan that has made no call yet
 pub record BeginsPlan (p : TreePlan) (r : RunningSync) : Type 0 where

@@ -45,7 +45,7 @@ use space::FreeSet;
 use std::alloc::Global;
 use std::collections::BTreeMap;
 use sync::{SyncCall, SyncRun};
-use tree_plans::{Committed, PlanSource, PlannedBlock, TreePlan, dirty_objects, plan};
+use tree_plans::{Committed, PlanSource, PlannedBlock, TreePlan, changed_objects, plan};
 use uberblocks::{Uberblock, slot};
 
 // A sync that runs, and what it makes of the tree.
@@ -413,7 +413,8 @@ impl Pool {
         ensures no_space { IfErr result (IsRefusedShort self.now group.0) }
         ensures refused { IfErr result (λ e. (e ≡ PoolError.NoMemory) ⊎ (e ≡ PoolError.NoSpace)) }
     {
-        let objects = dirty_objects(self.alloc, &self.pending, group)?;
+        // No plan sets a length so far, so none is asked for.
+        let objects = changed_objects(self.alloc, &[], &self.pending, group)?;
         let source = PlanSource {
             alloc: self.alloc,
             geometry: self.geometry,
