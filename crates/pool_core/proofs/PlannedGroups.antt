@@ -1,9 +1,9 @@
 -- The plan of a group, made of what its transactions did to the synced contents.
 use Rattle.std.proofs.Common.{◌≡◌, ℕ, zero, suc, ◌+◌, ◌*◌, ◌<◌, ◌≤◌, Bool, true, false, not, ◌&&◌, ◌||◌, cond, List, [], ◌∷◌, ◌++◌, length, map, filter, refl, ap, sym, subst, ◌∙◌, ◌⊎◌, inl, inr, arith, nat_lt}
-use Rattle.std.specs.Prelude.{Option, Some, None, Ok, slice_get, is_some, nat_le, option_map, IfSome, All, ◌==◌}
+use Rattle.std.specs.Prelude.{Option, Some, None, Ok, slice_get, is_some, option_map, IfSome, All, ◌==◌}
 use Rattle.std.specs.List.{list_all, list_any, enumerate_from, flat_map}
 use Rattle.std.specs.FinMap as finite
-use Rattle.std.proofs.lemmas.Bool.{and_parts, or_cases, eqb-true, ltb-true, lt-ltb, false≢true}
+use Rattle.std.proofs.lemmas.Bool.{and_parts, eqb-true, lt-ltb, false≢true}
 use Rattle.std.proofs.lemmas.List.Elements.{All-append, All-nil, All-cons, All-head, All-tail}
 use Rattle.base.specs.declared.names.ObjectId.{ObjectId}
 use Rattle.base.specs.declared.operation.Op.{Op}
@@ -12,16 +12,14 @@ use Rattle.base.specs.declared.pointer.Pointer.{Pointer}
 use Rattle.base.specs.history.Contents.{Contents, apply}
 use Rattle.base.specs.steps.ExactNow.{IsExplainedNow}
 use Rattle.base.specs.history.History.{Entry, apply_all, entries_in, replay, run}
-use Rattle.base.specs.declared.operation.Shape.{Shape}
 use Rattle.base.specs.declared.record_state.RecordState.TheVariants.{Unchanged, Hole}
-use Rattle.base.specs.formats.Fields.{no_pointer}
 use Rattle.base.specs.formats.Limits.{max_length, object_count, pointer_count, record_size}
 use Rattle.base.specs.steps.Logs.{KeptBlock, committed_of, has_record}
 use Rattle.base.specs.history.Past.{Past}
 use Rattle.base.specs.tree.Places.{Place}
 use Rattle.base.specs.tree.Places.Place.{Root, Data}
 use Rattle.base.specs.tree.PlannedTrees.{AreFreed, NewBlock}
-use Rattle.base.specs.history.Plans.{IsRange, is_shape_allowed, ranges, shape_of}
+use Rattle.base.specs.history.Plans.{IsRange, ranges, shape_of}
 use Rattle.base.specs.formats.Records.{Record}
 use Rattle.base.specs.history.Sequences.{in_turn}
 use Rattle.base.specs.steps.Shown.{Shown, SyncPlan}
@@ -29,9 +27,9 @@ use Rattle.base.specs.steps.Stage.{is_shape_built}
 use Rattle.base.specs.steps.Steps.{ops_of_group}
 use Rattle.base.specs.stored.Stored.{AreUsed, IsPlannedSync, IsStored, frame_at}
 use Rattle.base.specs.tree.Syncs.{is_on, record_state}
-use Rattle.base.proofs.tree.PlacedTrees.{absent-indirect, holds-address, none_or_opens, opens-some}
+use Rattle.base.proofs.tree.PlacedTrees.{absent-indirect, none-by_address}
 use Rattle.base.proofs.tree.RecordStates.{HasRecord, dirty-record, hole-record, object-off, state-gone, state-made, tree-record, unchanged-record}
-use Rattle.base.proofs.tree.WrittenPlaces.{group-ranges}
+use Rattle.base.proofs.tree.WrittenPlaces.{group-numbers, group-ranges}
 use Rattle.base.proofs.common.Sequences.{in_turn-append, parted}
 use Rattle.base.proofs.stored.StoredCover.{All-passing, entry-built, group-follows}
 use Rattle.base.proofs.stored.StoredStarts.{next-group}
@@ -51,46 +49,28 @@ flat_replay (e ∷ es) a b h =
     let p = parted (run e a) (in_turn run es) b h in
     in_turn-append apply e.ops (flat_map (λ (x : Entry). x.ops) es) a p.0 b p.1 (flat_replay es p.0 b p.2)
 
--- operations whose shapes are built so far and within their limits
+-- operations whose shapes are built so far
 abbrev IsBuilt : Op → Type 0
-IsBuilt op = (is_shape_built (shape_of op) ≡ true) × (is_shape_allowed (shape_of op) ≡ true)
+IsBuilt op = is_shape_built (shape_of op) ≡ true
 
-built_ops : (ops : List Op) → list_all is_shape_built (map shape_of ops) ≡ true → list_all is_shape_allowed (map shape_of ops) ≡ true → All IsBuilt ops
-built_ops [] built allowed = All-nil IsBuilt
-built_ops (o ∷ ops) built allowed =
-    let p = and_parts (is_shape_built (shape_of o)) (list_all is_shape_built (map shape_of ops)) built in
-    let q = and_parts (is_shape_allowed (shape_of o)) (list_all is_shape_allowed (map shape_of ops)) allowed in
-    All-cons IsBuilt o ops (p.0, q.0) (built_ops ops p.1 q.1)
+built_ops : (ops : List Op) → list_all is_shape_built (map shape_of ops) ≡ true → All IsBuilt ops
+built_ops [] built = All-nil IsBuilt
+built_ops (o ∷ ops) built =
+    let both = and_parts (is_shape_built (shape_of o)) (list_all is_shape_built (map shape_of ops)) built in
+    All-cons IsBuilt o ops both.0 (built_ops ops both.1)
 
 built_flat : (es : List Entry) → All (λ (e : Entry). All IsBuilt e.ops) es → All IsBuilt (flat_map (λ (e : Entry). e.ops) es)
 built_flat [] h = All-nil IsBuilt
 built_flat (e ∷ es) h = All-append IsBuilt e.ops (flat_map (λ (x : Entry). x.ops) es) (All-head (λ (x : Entry). All IsBuilt x.ops) e es h) (built_flat es (All-tail (λ (x : Entry). All IsBuilt x.ops) e es h))
 
--- none of them sets a length, and each is on an object below the last number
+-- none of them sets a length
 sets_none : (n : ℕ) (ops : List Op) → All IsBuilt ops → list_any (sets_length n) ops ≡ true → ⊥
 sets_none n [] built sets = false≢true sets
 sets_none n (Create m ∷ ops) built sets = sets_none n ops (All-tail IsBuilt (Create m) ops built) sets
 sets_none n (Remove m ∷ ops) built sets = sets_none n ops (All-tail IsBuilt (Remove m) ops built) sets
 sets_none n (Write m offset bytes ∷ ops) built sets = sets_none n ops (All-tail IsBuilt (Write m offset bytes) ops built) sets
-sets_none n (SetLength m new ∷ ops) built sets = false≢true (All-head IsBuilt (SetLength m new) ops built).0
+sets_none n (SetLength m new ∷ ops) built sets = false≢true (All-head IsBuilt (SetLength m new) ops built)
 sets_none n (SetName bytes ∷ ops) built sets = sets_none n ops (All-tail IsBuilt (SetName bytes) ops built) sets
-
-on_low : (n : ℕ) (op : Op) → IsBuilt op → is_on n op ≡ true → n < object_count
-on_low n (Create m) (built, allowed) on = subst (λ k. k < object_count) (eqb-true m.0 n on) (ltb-true m.0 object_count allowed)
-on_low n (Remove m) (built, allowed) on = absurd (false≢true built)
-on_low n (Write m offset bytes) (built, allowed) on =
-    let low : nat_lt m.0 object_count ≡ true =
-    (and_parts (nat_lt m.0 object_count) (nat_lt 0 (length bytes)) (and_parts (nat_lt m.0 object_count && nat_lt 0 (length bytes)) (nat_le (offset + length bytes) max_length) allowed).0).0 in
-    subst (λ k. k < object_count) (eqb-true m.0 n on) (ltb-true m.0 object_count low)
-on_low n (SetLength m new) (built, allowed) on = absurd (false≢true built)
-on_low n (SetName bytes) (built, allowed) on = absurd (false≢true built)
-
-any_low : (n : ℕ) (ops : List Op) → All IsBuilt ops → list_any (is_on n) ops ≡ true → n < object_count
-any_low n [] built on = absurd (false≢true on)
-any_low n (o ∷ ops) built on = elim (or_cases (is_on n o) (list_any (is_on n) ops) on) as (λ _. n < object_count) [
-  | inl first ↦ on_low n o (All-head IsBuilt o ops built) first
-  | inr later ↦ any_low n ops (All-tail IsBuilt o ops built) later
-]
 
 -- the operations of a group among pending records
 abbrev record_ops : ℕ → List Record → List Op
@@ -157,16 +137,9 @@ module _ (now : List ℕ) (s : Shown) (p : Past) (pointers : Place → Pointer) 
   pub follows : apply_all (pending_ops group pending) x.synced ≡ Ok s.contents
   follows = subst (λ (ops : List Op). apply_all ops x.synced ≡ Ok s.contents) ops_are (flat_replay (entries_in group p.entries) x.synced s.contents (group-follows now s p pointers x explained group idle middle))
 
-  entry_is_built : (i : ℕ) (e : Entry) → slice_get p.entries i ≡ Some e → All IsBuilt e.ops
-  entry_is_built i e at =
-      let of_plan = explained.exact.groups.members.committed i e at in
-      let allowed = explained.exact.groups.members.allowed e.tx of_plan.0 of_plan.1 in
-      built_ops e.ops (entry-built now s p pointers x explained group idle middle i e at)
-      (ap (λ (l : List Shape). list_all is_shape_allowed l) of_plan.3 ∙ (and_parts (nat_lt 0 (length of_plan.0.plan)) (list_all is_shape_allowed of_plan.0.plan) allowed.0).1)
-
   built : All IsBuilt (pending_ops group pending)
   built = subst (λ (ops : List Op). All IsBuilt ops) ops_are (built_flat (entries_in group p.entries)
-      (All-passing (λ (e : Entry). All IsBuilt e.ops) (λ (e : Entry). e.group == group) p.entries (λ i e at is. entry_is_built i e at)))
+      (All-passing (λ (e : Entry). All IsBuilt e.ops) (λ (e : Entry). e.group == group) p.entries (λ i e at is. built_ops e.ops (entry-built now s p pointers x explained group idle middle i e at))))
 
   within : All IsRange (ranges (pending_ops group pending))
   within = subst (λ (ops : List Op). All IsRange (ranges ops)) ops_are (group-ranges s p explained group)
@@ -178,7 +151,7 @@ module _ (now : List ℕ) (s : Shown) (p : Past) (pointers : Place → Pointer) 
 
     -- each object that operations are on is in range
     pub in_range : AreInRange objects
-    in_range n is = any_low n (pending_ops group pending) built (sym (changes.there n) ∙ is)
+    in_range n is = group-numbers s p explained group n (ap (λ (ops : List Op). list_any (is_on n) ops) ops_are ∙ sym (changes.there n) ∙ is)
 
     covered : IsCoveredBy objects pointers x.synced.objects s.contents.objects
     covered = record {
@@ -209,11 +182,7 @@ module _ (now : List ℕ) (s : Shown) (p : Past) (pointers : Place → Pointer) 
     of_tree = record {
       absent = λ n low none gone. absent-indirect now (frame_at s s.line.synced) pointers x.synced.objects x.tree n low
           (object-off n (pending_ops group pending) x.synced s.contents (sym (changes.there n) ∙ ap (λ (o : Option ObjectChanges). is_some o) none) follows ∙ gone);
-      named = λ n r low below none. elim (none_or_opens now (frame_at s s.line.synced) pointers x.synced.objects x.tree (Data n r) (low, below)) as (λ _. pointers (Data n r) ≡ no_pointer) [
-        | inl is ↦ is
-        | inr opens ↦ absurd (holds-address now (frame_at s s.line.synced) pointers x.synced.objects x.tree (Data n r) (low, below)
-            (opens-some now (frame_at s s.line.synced) 5 (pointer_count * n + r) (pointers (Data n r)) opens.0 opens.1) none)
-      ];
+      named = λ n r low below. none-by_address now (frame_at s s.line.synced) pointers x.synced.objects x.tree (Data n r) (low, below);
     }
 
   born_before : AreBornBefore group pointers

@@ -6,6 +6,7 @@ use Rattle.std.specs.Option.{option_map_or}
 use Rattle.std.specs.FinMap as finite
 use Rattle.std.proofs.lemmas.Bool.{le-ltb, or_left, or_right}
 use Rattle.std.proofs.lemmas.List.{take_more}
+use Rattle.std.proofs.lemmas.List.Folds.{list_any-append}
 use Rattle.std.proofs.lemmas.List.Elements.{All-cons, All-head, All-nil, All-tail}
 use Rattle.base.specs.declared.names.ObjectId.{ObjectId}
 use Rattle.base.specs.declared.operation.Op.{Op}
@@ -35,10 +36,6 @@ row_of (suc count) zero a = refl
 row_of (suc count) (suc r) a = row_of count r a
 
 -- a longer run of operations
-any-append : (p : Op → Bool) (xs ys : List Op) → list_any p (xs ++ ys) ≡ (list_any p xs || list_any p ys)
-any-append p [] ys = refl
-any-append p (x ∷ xs) ys = elim (p x) as (λ b. (b || list_any p (xs ++ ys)) ≡ ((b || list_any p xs) || list_any p ys)) [ true ↦ refl | false ↦ any-append p xs ys ]
-
 or_swapped : (a b : Bool) → (b || a) ≡ (a || (b || false))
 or_swapped true true = refl
 or_swapped true false = refl
@@ -116,17 +113,17 @@ front_ranges (x ∷ xs) op all =
 
 -- what an operation of a run does, one of the whole run does
 any_first : (p : Op → Bool) (done : List Op) (op : Op) → list_any p done ≡ true → list_any p (done ++ op ∷ []) ≡ true
-any_first p done op is = any-append p done (op ∷ []) ∙ or_left (list_any p done) (list_any p (op ∷ [])) is
+any_first p done op is = list_any-append p done (op ∷ []) ∙ or_left (list_any p done) (list_any p (op ∷ [])) is
 
 any_last : (p : Op → Bool) (done : List Op) (op : Op) → p op ≡ true → list_any p (done ++ op ∷ []) ≡ true
-any_last p done op is = any-append p done (op ∷ []) ∙ or_right (list_any p done) (p op || false) (or_left (p op) false is)
+any_last p done op is = list_any-append p done (op ∷ []) ∙ or_right (list_any p done) (p op || false) (or_left (p op) false is)
 
 -- one operation more
 pub told_more : (done : List Op) (op : Op) (lengths : List ℕ) (old new : List (ObjectId × ObjectChanges)) → AreToldSoFar done lengths old → NotesOp op lengths old new → AreToldSoFar (done ++ op ∷ []) lengths new
 told_more done op lengths old new told noted = record {
   changes = record {
-    there = λ n. noted.there n ∙ ap (λ (b : Bool). is_on n op || b) (told.changes.there n) ∙ or_swapped (list_any (is_on n) done) (is_on n op) ∙ sym (any-append (is_on n) done (op ∷ []));
-    changed = λ n. noted.changed n ∙ ap (λ (b : Bool). is_change_of n op || b) (told.changes.changed n) ∙ or_swapped (list_any (is_change_of n) done) (is_change_of n op) ∙ sym (any-append (is_change_of n) done (op ∷ []));
+    there = λ n. noted.there n ∙ ap (λ (b : Bool). is_on n op || b) (told.changes.there n) ∙ or_swapped (list_any (is_on n) done) (is_on n op) ∙ sym (list_any-append (is_on n) done (op ∷ []));
+    changed = λ n. noted.changed n ∙ ap (λ (b : Bool). is_change_of n op || b) (told.changes.changed n) ∙ or_swapped (list_any (is_change_of n) done) (is_change_of n op) ∙ sym (list_any-append (is_change_of n) done (op ∷ []));
     states = λ before after h within n r low is.
         let p = apart done (op ∷ []) before after h in
         let parts = front_ranges done op within in

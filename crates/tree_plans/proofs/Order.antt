@@ -164,9 +164,6 @@ object_added group n changes was m o s t there records indirect added =
     ++ address_if (is_indirect_written group n) (option_map_or (λ (m : ObjectMap). m.indirect) q no_pointer))) (sym there)
 
 -- the records after a plan that have a block are those that the states say
-names_none : names_block no_pointer ≡ false
-names_none = refl
-
 pub record-names_block : (s : Progress) (n r : ℕ) (bytes : List ℕ) (state : RecordState) (old new : Pointer) → IsRecordPlanned s n r bytes state old new → names_block new ≡ has_block_after state (names_block old)
 record-names_block s n r bytes Unchanged old new same = ap names_block same
 record-names_block s n r bytes Dirty old new h =
