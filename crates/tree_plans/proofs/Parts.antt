@@ -28,7 +28,6 @@ use Rattle.std.specs.Ordering.{nat_cmp}
 use Rattle.std.specs.FinMap.{FinMap}
 use Rattle.tree_plans.specs.Uses.{UsesOnly}
 use Rattle.tree_plans.specs.Changes.{names_block}
-use Rattle.tree_plans.proofs.Payloads.{padded-full}
 use Rattle.tree_plans.proofs.Order.{adds_if, adds_none, adds_not}
 use Rattle.tree_plans.proofs.Progress.{goes_nowhere}
 use Rattle.tree_plans.proofs.Walks.{frees_weaker, not-is_empty}
@@ -97,12 +96,6 @@ pub indirect_cleared : (free : FreeSet) (id : ObjectId) (records : List Pointer)
     → ClearsPlace was old new pointer → PlansIndirect free id records was is_changed old new pointer
 indirect_cleared free id records was is_changed old new pointer no_block done =
     indirect_done free id records was is_changed old new pointer (cleared _ (Indirect id) _ was (FitsRecords records) (state_if _ Dirty Hole Hole (inr (no_block, refl))) old new pointer done) done.frees
-
-pub indirect_taken : (free : FreeSet) (id : ObjectId) (records : List Pointer) (was : Pointer) (is_changed : Bool) (payload : List ℕ) (old new : Planner) (pointer : Pointer) → (is_changed && list_any names_block records) ≡ true
-    → length payload ≡ 4032 → FitsRecords records payload → TakesBlock free (Indirect id) payload was old new pointer → PlansIndirect free id records was is_changed old new pointer
-indirect_taken free id records was is_changed payload old new pointer some long fits done =
-    indirect_done free id records was is_changed old new pointer
-    (taken _ (Indirect id) _ was (FitsRecords records) payload (state_if _ Dirty Hole Dirty (inl (some, refl))) (rw (padded-full payload long) fits) old new pointer done) done.frees
 
 -- the state of a place above the records, as it is computed
 pub state_told : (touched left found : Bool) (result state : RecordState) → result ≡ state_above touched found → found ≡ left → result ≡ state → state_above touched left ≡ state
