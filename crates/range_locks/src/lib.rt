@@ -1,0 +1,8 @@
+//! The range locks of a pool (`zfs_rlock.c`): readers may overlap readers, a writer overlaps nothing.
+#![tactic(auto)]
+
+mod held;
+mod locks;
+
+pub use held::HeldLock;
+pub use locks::RangeLocks;
