@@ -3,6 +3,7 @@
 
 mod held;
 mod locks;
+mod parts;
 
 pub use held::HeldLock;
 pub use locks::RangeLocks;

@@ -1,0 +1,196 @@
+//! The held ranges of each number, cut at the ends of its locks.
+//!
+//! Each place where a lock begins or ends is a key, with what lies from there to the next one: a piece, or a gap that no
+//! lock covers. So a lock or an unlock touches its own two ends and the ends between them, and two pieces are joined where
+//! the last lock that begins or ends between them is let go.
+
+ghost use Rattle.std.specs.Prelude.{ℕ, ◌≡◌, ◌+◌, ◌<◌, ◌≤◌, true, false, None, Some, IfSome, IfNone, IfOk, OnOk, OnErr, IfErr};
+ghost use Rattle.std.specs.BTreeMap.{get};
+ghost use Rattle.base.specs.history.Plans.{number_range};
+ghost use Rattle.range_locks.specs.Parts.{blocks_part, CanRecount, CanRecountPart, Counts, HasCounts, IsBlockedIn, IsFreeIn, IsTable, IsStill, key, key_cmp, recounted, recounted_part, with_end, with_lock, without_end, without_lock};
+
+use base::{Mode, ObjectId, ObjectRange, PoolError, Range};
+use std::alloc::Global;
+use std::collections::BTreeMap;
+
+/// What begins at an end of a lock, up to the next end of the same number.
+#[derive(Clone, Copy, Debug, PartialEq, Eq)]
+pub(crate) struct Part {
+    /// How many locks begin or end where it begins.
+    pub ends: usize,
+    /// How many reader locks cover it.
+    pub readers: usize,
+    /// How many writer locks cover it: one at most, as a writer overlaps nothing.
+    pub writers: usize,
+}
+
+/// Whether one lock more or one fewer covers a part.
+#[derive(Clone, Copy, Debug, PartialEq, Eq)]
+pub(crate) enum Change {
+    More,
+    Fewer,
+}
+
+/// What no lock covers.
+const NOTHING: Part = Part {
+    ends: 0,
+    readers: 0,
+    writers: 0,
+};
+
+impl Part {
+    /// Whether a lock of this mode may not overlap it.
+    fn blocks(self, mode: Mode) -> bool
+        ensures { result ≡ blocks_part mode self }
+    {
+        self.writers > 0 || (self.readers > 0 && !mode.is_reader())
+    }
+
+    /// It, with one lock of a mode more or one fewer.
+    fn recounted(self, mode: Mode, change: Change) -> Part
+        requires { CanRecountPart mode change self }
+        ensures { result ≡ recounted_part mode change self }
+    {
+        match (mode, change) {
+            (Mode::Reader, Change::More) => Part {
+                readers: self.readers + 1,
+                ..self
+            },
+            (Mode::Reader, Change::Fewer) => Part {
+                readers: self.readers - 1,
+                ..self
+            },
+            (Mode::Writer, Change::More) => Part {
+                writers: self.writers + 1,
+                ..self
+            },
+            (Mode::Writer, Change::Fewer) => Part {
+                writers: self.writers - 1,
+                ..self
+            },
+        }
+    }
+}
+
+/// The parts by number and place, rising.
+#[derive(Drop)]
+pub(crate) struct Parts {
+    table: BTreeMap<(ObjectId, u64), Part>,
+}
+
+impl Parts {
+    /// The first part that begins in a range of a number, with the place where it begins.
+    fn next_part(&self, number: ObjectId, low: u64, high: u64) -> Option<(u64, Part)>
+        requires { low ≤ high }
+        ensures within { IfSome result (λ r. (low ≤ r.0) × (r.0 < high)) }
+        ensures part { IfSome result (λ r. get key_cmp self.now.table (key number.0 r.0) ≡ Some r.1) }
+        ensures before { IfSome result (λ r. (k : ℕ) → low ≤ k → k < r.0 → get key_cmp self.now.table (key number.0 k) ≡ None) }
+        ensures none { IfNone result ((k : ℕ) → low ≤ k → k < high → get key_cmp self.now.table (key number.0 k) ≡ None) }
+    {
+        match self.table.range((number, low)..(number, high)).next() {
+            Some((begin, part)) => Some((begin.1, *part)),
+            None => None,
+        }
+    }
+
+    /// What covers a place, and how many locks begin or end there.
+    fn part_at(&self, number: ObjectId, at: u64) -> Part
+        ensures { (f : Counts) → IsTable self.now.table f → IsStill f → result ≡ f number.0 at }
+    {
+        match self.table.range((number, 0)..=(number, at)).next_back() {
+            Some((begin, part)) if begin.1 == at => *part,
+            Some((_, part)) => Part { ends: 0, ..*part },
+            None => NOTHING,
+        }
+    }
+
+    /// One more lock begins or ends at a place. It is refused where there is no memory, and then nothing has changed.
+    fn add_end(&mut self, number: ObjectId, at: u64) -> Result<(), PoolError>
+        requires { HasCounts 1000 self.old.table }
+        ensures added { (f : Counts) → IsTable self.old.table f → IsStill f → OnOk result (IsTable self.new.table (with_end number.0 at f)) }
+        ensures unchanged { (f : Counts) → IsTable self.old.table f → OnErr result (IsTable self.new.table f) }
+        ensures refused { IfErr result (λ e. e ≡ PoolError.NoMemory) }
+    {
+        let part = self.part_at(number, at);
+        let ends = part.ends + 1;
+        self.table.insert((number, at), Part { ends, ..part })?;
+        Ok(())
+    }
+
+    /// One lock fewer begins or ends at a place.
+    fn remove_end(&mut self, number: ObjectId, at: u64)
+        ensures { (f : Counts) → IsTable self.old.table f → IsTable self.new.table (without_end number.0 at f) }
+    {
+        match self.table.get(&(number, at)) {
+            Some(part) if part.ends > 1 => {
+                let ends = part.ends - 1;
+                self.table.get_mut(&(number, at)).unwrap().ends = ends;
+            }
+            _ => {
+                self.table.remove(&(number, at));
+            }
+        }
+    }
+
+    /// One lock more or one fewer covers the parts that begin in a range.
+    fn recount(&mut self, range: &ObjectRange, mode: Mode, change: Change)
+        requires ordered { range.now.range.low ≤ range.now.range.high }
+        requires counted { CanRecount (number_range range.now) mode change self.old.table }
+        ensures { (f : Counts) → IsTable self.old.table f → IsTable self.new.table (recounted (number_range range.now) mode change f) }
+    {
+        let Range { low, high } = range.range;
+        let mut place = low;
+        while let Some((at, part)) = self.next_part(range.object, place, high) {
+            *self.table.get_mut(&(range.object, at)).unwrap() = part.recounted(mode, change);
+            place = at + 1;
+        }
+    }
+
+    /// One more lock covers a range. It is refused where there is no memory, and then nothing has changed.
+    pub fn add(&mut self, range: &ObjectRange, mode: Mode) -> Result<(), PoolError>
+        requires ordered { range.now.range.low ≤ range.now.range.high }
+        requires counted { HasCounts 512 self.old.table }
+        ensures added { (f : Counts) → IsTable self.old.table f → IsStill f → OnOk result (IsTable self.new.table (with_lock (number_range range.now) mode f)) }
+        ensures unchanged { (f : Counts) → IsTable self.old.table f → IsStill f → OnErr result (IsTable self.new.table f) }
+        ensures refused { IfErr result (λ e. e ≡ PoolError.NoMemory) }
+    {
+        self.add_end(range.object, range.range.low)?;
+        if let Err(refused) = self.add_end(range.object, range.range.high) {
+            self.remove_end(range.object, range.range.low);
+            return Err(refused);
+        }
+        self.recount(range, mode, Change::More);
+        Ok(())
+    }
+
+    /// One lock fewer covers a range. It takes no memory.
+    pub fn remove(&mut self, range: &ObjectRange, mode: Mode)
+        requires ordered { range.now.range.low ≤ range.now.range.high }
+        requires counted { CanRecount (number_range range.now) mode Change.Fewer self.old.table }
+        ensures { (f : Counts) → IsTable self.old.table f → IsTable self.new.table (without_lock (number_range range.now) mode f) }
+    {
+        self.recount(range, mode, Change::Fewer);
+        self.remove_end(range.object, range.range.low);
+        self.remove_end(range.object, range.range.high);
+    }
+
+    /// Whether some part of a range keeps a lock of this mode away.
+    pub fn blocks(&self, range: &ObjectRange, mode: Mode) -> bool
+        requires { range.now.range.low < range.now.range.high }
+        ensures some { result ≡ true → (f : Counts) → IsTable self.now.table f → IsStill f → IsBlockedIn (number_range range.now) mode f }
+        ensures none { result ≡ false → (f : Counts) → IsTable self.now.table f → IsStill f → IsFreeIn (number_range range.now) mode f }
+    {
+        let Range { low, high } = range.range;
+        if self.part_at(range.object, low).blocks(mode) {
+            return true;
+        }
+        let mut place = low;
+        while let Some((at, part)) = self.next_part(range.object, place, high) {
+            if part.blocks(mode) {
+                return true;
+            }
+            place = at + 1;
+        }
+        false
+    }
+}
