@@ -4,3 +4,6 @@ pub mod Keys
 pub mod Counted
 pub mod Updates
 pub mod Recounts
+pub mod LockCounts
+pub mod Blocked
+pub mod Steps

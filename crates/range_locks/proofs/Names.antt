@@ -19,10 +19,10 @@ abbrev pub owned : ℕ → ℕ → Option HeldLock → Option Grant
 owned id owner None = None
 owned id owner (Some h) = cond (h.owner.0 == owner) (Some (grant_of (record { 0 = id }, h))) None
 
-behind : (g : Grant) (gs : List Grant) → NamesRise (g ∷ gs) → (i : ℕ) (h : Grant) → slice_get gs i ≡ Some h → g.id < h.id
+pub behind : (g : Grant) (gs : List Grant) → NamesRise (g ∷ gs) → (i : ℕ) (h : Grant) → slice_get gs i ≡ Some h → g.id < h.id
 behind g gs rise i h at = rise zero (suc i) g h (omega arith) refl at
 
-rest_rises : (g : Grant) (gs : List Grant) → NamesRise (g ∷ gs) → NamesRise gs
+pub rest_rises : (g : Grant) (gs : List Grant) → NamesRise (g ∷ gs) → NamesRise gs
 rest_rises g gs rise i j x y below at_i at_j = rise (suc i) (suc j) x y (omega arith) at_i at_j
 
 none_named : (id owner : ℕ) (gs : List Grant) → ((i : ℕ) (h : Grant) → slice_get gs i ≡ Some h → id < h.id) → find (is_named id owner) gs ≡ None
@@ -31,7 +31,7 @@ none_named id owner (g ∷ gs) above =
     let apart : (g.id == id) ≡ false = ne_eqb g.id id (λ same. let low : id < g.id = above zero g refl in absurd (omega arith)) in
     ap (λ b. cond (b && (g.owner == owner)) (Some g) (find (is_named id owner) gs)) apart ∙ none_named id owner gs (λ i h at. above (suc i) h at)
 
-all_others : (id : ℕ) (gs : List Grant) → ((i : ℕ) (h : Grant) → slice_get gs i ≡ Some h → id < h.id) → filter (λ (g : Grant). not (g.id == id)) gs ≡ gs
+pub all_others : (id : ℕ) (gs : List Grant) → ((i : ℕ) (h : Grant) → slice_get gs i ≡ Some h → id < h.id) → filter (λ (g : Grant). not (g.id == id)) gs ≡ gs
 all_others id [] above = refl
 all_others id (g ∷ gs) above =
     let apart : (g.id == id) ≡ false = ne_eqb g.id id (λ same. let low : id < g.id = above zero g refl in absurd (omega arith)) in

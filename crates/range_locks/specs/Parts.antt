@@ -1,5 +1,6 @@
 -- The held ranges of each number, cut at the ends of its locks: what the table of parts has.
-use Rattle.std.specs.Prelude.{ℕ, ◌≡◌, ◌+◌, ◌-◌, ◌<◌, ◌≤◌, ◌==◌, ◌&&◌, ◌||◌, Bool, true, false, not, Option, Some, None, IfSome, nat_lt, nat_le, if◌then◌else◌}
+use Rattle.std.specs.Prelude.{ℕ, ◌≡◌, ◌+◌, ◌-◌, ◌<◌, ◌≤◌, ◌==◌, ◌&&◌, ◌||◌, Bool, true, false, not, Option, Some, None, IfSome, List, sum_by, nat_lt, nat_le, if◌then◌else◌}
+use Rattle.std.specs.List.{count_by}
 use Rattle.std.specs.BTreeMap.{BTreeMap, get}
 use Rattle.std.specs.Ordering.{nat_cmp, ordering_then}
 use Rattle.std.specs.declared.cmp.Ordering.{Ordering}
@@ -7,7 +8,8 @@ use Rattle.base.specs.declared.names.ObjectId.{ObjectId}
 use Rattle.base.specs.declared.range.Mode.{Mode}
 use Rattle.base.specs.declared.range.Mode.TheVariants.{Reader, Writer}
 use Rattle.base.specs.history.Plans.{NumberRange}
-use Rattle.base.specs.steps.Locks.{is_reader}
+use Rattle.base.specs.steps.Locks.{Grant, is_reader}
+use Rattle.range_locks.specs.Locks.{Held, AreHeld}
 use Rattle.range_locks.specs.declared.parts.Part.{Part}
 use Rattle.range_locks.specs.declared.parts.Change.{Change}
 use Rattle.range_locks.specs.declared.parts.Change.TheVariants.{More, Fewer}
@@ -26,6 +28,21 @@ blocks_part mode p = nat_lt 0 p.writers || (nat_lt 0 p.readers && not (is_reader
 -- for each number and place: how many locks begin or end there, and how many of each mode cover it
 abbrev pub Counts : Type 0
 Counts = ℕ → ℕ → Part
+
+-- whether a lock covers a place, and how many of its ends lie there
+abbrev pub covers_place : ℕ → ℕ → Grant → Bool
+covers_place n k g = (n == g.range.number) && (nat_le g.range.low k && nat_lt k g.range.high)
+
+abbrev pub ends_at : ℕ → ℕ → Grant → ℕ
+ends_at n k g = (if (n == g.range.number) && (k == g.range.low) then 1 else 0) + (if (n == g.range.number) && (k == g.range.high) then 1 else 0)
+
+-- what held locks count to
+abbrev pub counts_of : List Grant → Counts
+counts_of locks n k = record {
+  ends = sum_by (ends_at n k) locks;
+  readers = count_by (λ (g : Grant). is_reader g.mode && covers_place n k g) locks;
+  writers = count_by (λ (g : Grant). not (is_reader g.mode) && covers_place n k g) locks;
+}
 
 -- the table has the places where a lock begins or ends
 abbrev pub stored : Part → Option Part
@@ -89,3 +106,8 @@ pub record IsBlockedIn (r : NumberRange) (mode : Mode) (f : Counts) : Type 0 whe
 
 abbrev pub IsFreeIn : NumberRange → Mode → Counts → Type 0
 IsFreeIn r mode f = (k : ℕ) → r.low ≤ k → k < r.high → blocks_part mode (f r.number k) ≡ false
+
+-- held locks, and a table of parts that is theirs
+pub record AreInStep (held : Held) (table : BTreeMap (ObjectId × ℕ) Part) : Type 0 where
+  pub are : AreHeld held
+  pub is : IsTable table (counts_of held.locks)

@@ -6,9 +6,10 @@
 ghost use Rattle.std.specs.Prelude.{◌≡◌, [], IsOk, IfOk, IfErr, OnOk, OnErr, IsSome, ◌↔◌};
 ghost use Rattle.std.specs.List.{list_any};
 ghost use Rattle.base.specs.history.Plans.{number_range};
-ghost use Rattle.range_locks.specs.Locks.{blocks, covers, covers_for_writing, grant_of};
+ghost use Rattle.range_locks.specs.Locks.{covers, covers_for_writing, grant_of};
 
 use crate::held::HeldLock;
+use crate::parts::Parts;
 use base::{
     LAST_NUMBER, LockId, MAX_LENGTH, MAX_LOCKS, Mode, OBJECT_COUNT, ObjectId, ObjectRange, Owner,
     PoolError, Range,
@@ -22,22 +23,24 @@ use std::marker::Model;
 #[derive(Drop)]
 pub struct RangeLocks {
     held: IndexMap<LockId, HeldLock>,
+    parts: Parts,
     next: u64,
 }
 
 impl Model for RangeLocks {
     ghost use Rattle.std.specs.Prelude.{map};
-    ghost use Rattle.range_locks.specs.Locks.{Held, AreHeld, grant_of};
+    ghost use Rattle.range_locks.specs.Locks.{Held, grant_of};
+    ghost use Rattle.range_locks.specs.Parts.{AreInStep};
 
     ghost Value = { Held };
 
     ghost view = { λ a. record { locks = map grant_of a.held.entries; next = a.next } };
 
-    ghost invariant = { λ a. AreHeld (record { locks = map grant_of a.held.entries; next = a.next }) };
+    ghost invariant = { λ a. AreInStep (record { locks = map grant_of a.held.entries; next = a.next }) a.parts.table };
 }
 
 impl RangeLocks {
-    ghost use Rattle.std.specs.Prelude.{option_map, map, length, ◌≤◌};
+    ghost use Rattle.std.specs.Prelude.{option_map, map, length, ◌≤◌, ◌<◌};
     ghost use Rattle.std.specs.List.{find};
     ghost use Rattle.std.specs.Map.Iter.{ShowsInOrder, deref_pair};
     ghost use Rattle.base.specs.steps.Locks.{AreLocksSound, is_blocked, is_covered, is_covered_for_writing};
@@ -50,6 +53,7 @@ impl RangeLocks {
     {
         RangeLocks {
             held: IndexMap::new(alloc),
+            parts: Parts::new(alloc),
             next: 0,
         }
     }
@@ -79,16 +83,22 @@ impl RangeLocks {
         if self.held.len() >= MAX_LOCKS || self.next > LAST_NUMBER {
             return Err(PoolError::TooMany);
         }
+        self.held.reserve(1)?;
+        self.parts.add(&range, mode)?;
         let id = LockId(self.next);
-        self.held.insert(id, HeldLock { owner, range, mode })?;
+        self.held
+            .insert(id, HeldLock { owner, range, mode })
+            .unwrap();
         self.next += 1;
         Ok(id)
     }
 
+    /// Whether a held lock and one of this mode may not overlap in a range.
     fn is_blocked(&self, range: &ObjectRange, mode: Mode) -> bool
+        requires { range.now.range.low < range.now.range.high }
         ensures { result ≡ is_blocked (number_range range.now) mode self.now.locks }
     {
-        any_blocks(&self.held, range, mode)
+        self.parts.blocks(range, mode)
     }
 
     /// Grants a writer lock from the end of an object to the top of each range, and answers its name and its range. The
@@ -142,10 +152,12 @@ impl RangeLocks {
         ensures let_go { OnOk result (self.new ≡ without id.0 self.old) }
         ensures unchanged { OnErr result (self.new ≡ self.old) }
     {
-        if self.find(owner, id).is_none() {
+        let Some(lock) = self.find(owner, id) else {
             return Err(PoolError::NoSuchLock);
-        }
+        };
+        let HeldLock { range, mode, .. } = *lock;
         self.held.shift_remove(&id);
+        self.parts.remove(&range, mode);
         Ok(())
     }
 
@@ -180,13 +192,6 @@ impl RangeLocks {
     {
         LockId(self.next)
     }
-}
-
-fn any_blocks(held: &IndexMap<LockId, HeldLock>, range: &ObjectRange, mode: Mode) -> bool
-    ensures { result ≡ list_any (λ e. blocks (number_range range.now) mode (grant_of e)) held.now.entries }
-{
-    held.iter().any(|(_, lock)| lock.range.overlaps(range)
-        && !(lock.mode.is_reader() && mode.is_reader()))
 }
 
 fn any_covers(held: &IndexMap<LockId, HeldLock>, owner: Owner, range: &ObjectRange) -> bool

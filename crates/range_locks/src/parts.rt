@@ -79,6 +79,15 @@ pub(crate) struct Parts {
 }
 
 impl Parts {
+    /// No parts. It takes no memory.
+    pub fn new(alloc: Global) -> Self
+        ensures { (n k : ℕ) → get key_cmp result.table (key n k) ≡ None }
+    {
+        Parts {
+            table: BTreeMap::new(alloc),
+        }
+    }
+
     /// The first part that begins in a range of a number, with the place where it begins.
     fn next_part(&self, number: ObjectId, low: u64, high: u64) -> Option<(u64, Part)>
         requires { low ≤ high }

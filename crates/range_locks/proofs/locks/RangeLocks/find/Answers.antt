@@ -7,13 +7,13 @@ use Rattle.range_locks.proofs.locks.RangeLocks.find.Goals.{in_default-via-in-Som
 
 pub returns-in-Some : goal.returns-in-Some
 returns-in-Some c = rw (← c.self.view_is) (sym (
-    find-named c.args.id.0 c.args.owner.0 c.self.inside.held.entries c.self.invariant.rising
+    find-named c.args.id.0 c.args.owner.0 c.self.inside.held.entries c.self.invariant.are.rising
     ∙ ap (owned c.args.id.0 c.args.owner.0) (sym c.in-Some.ensures.value)
     ∙ ap (λ b. cond b (Some (grant_of (c.args.id, c.in-Some.lock.now))) None) (eq-eqb _ _ c.if-lock-owner.true)))
 
 pub returns-in_default : goal.returns-in_default
 returns-in_default c =
-    let found = find-named c.args.id.0 c.args.owner.0 c.self.inside.held.entries c.self.invariant.rising in
+    let found = find-named c.args.id.0 c.args.owner.0 c.self.inside.held.entries c.self.invariant.are.rising in
     elim c.in_default.branch [
       | in_default-via-in-Some+else-lock-owner w ↦ rw (← c.self.view_is) (sym (
           found
