@@ -1,6 +1,6 @@
 -- A range is blocked by the held locks exactly where some place of it is by what covers it.
 use Rattle.std.proofs.Common.{◌≡◌, ℕ, zero, suc, ◌+◌, ◌<◌, ◌≤◌, ◌==◌, ◌&&◌, ◌||◌, Bool, true, false, not, cond, List, [], ◌∷◌, refl, ap, sym, ◌∙◌, arith, inl, inr}
-use Rattle.std.specs.Prelude.{Some, None, Option, slice_get, sum_by, nat_lt, nat_le}
+use Rattle.std.specs.Prelude.{Some, None, Option, slice_get, nat_lt, nat_le}
 use Rattle.std.specs.List.{count_by}
 use Rattle.std.proofs.lemmas.Bool.{and_parts, eq-eqb, eqb-true, leb-true, le-leb, lt-ltb, ltb-true, or_cases, cases_lt, cases_Bool}
 use Rattle.std.proofs.lemmas.List.Sums.{sum_by-cons}
@@ -14,7 +14,8 @@ use Rattle.std.specs.BTreeMap.{BTreeMap}
 use Rattle.base.specs.declared.names.ObjectId.{ObjectId}
 use Rattle.range_locks.specs.declared.parts.Part.{Part}
 use Rattle.range_locks.proofs.LockCounts.{counts_still, one}
-use Rattle.range_locks.specs.Parts.{AreInStep, blocks_part, Counts, counts_of, covers_place, IsBlockedIn, IsFreeIn, IsStill, IsTable}
+use Rattle.range_locks.specs.Parts.{AreInStep, Counts, counts_of, IsBlockedIn, IsFreeIn, IsStill, IsTable}
+use Rattle.range_locks.specs.Pieces.{covers_place}
 
 -- what is counted is there, and what is there is counted
 counted_found : (p : Grant → Bool) (locks : List Grant) → 0 < count_by p locks → (i : ℕ) × (g : Grant) × (slice_get locks i ≡ Some g) × (p g ≡ true)
@@ -50,9 +51,9 @@ module _ (held : Held) (was : AreHeld held) (r : NumberRange) (some : r.low < r.
       let within : k < g.range.high = ltb-true k g.range.high ends.1 in
       let number : (g.range.number == r.number) ≡ true = eq-eqb g.range.number r.number (sym (eqb-true r.number g.range.number parts.0)) in
       let overlap : overlaps g.range r ≡ true =
-              ap (λ b. b && (nat_lt g.range.low r.high && nat_lt r.low g.range.high)) number
-              ∙ ap (λ b. b && nat_lt r.low g.range.high) (lt-ltb g.range.low r.high (omega arith))
-              ∙ lt-ltb r.low g.range.high (omega arith) in
+      ap (λ b. b && (nat_lt g.range.low r.high && nat_lt r.low g.range.high)) number
+      ∙ ap (λ b. b && nat_lt r.low g.range.high) (lt-ltb g.range.low r.high (omega arith))
+      ∙ lt-ltb r.low g.range.high (omega arith) in
       any_at (blocks r mode) held.locks i g at (ap (λ b. b && not (is_reader g.mode && is_reader mode)) overlap ∙ apart)
 
   pub blocked_in : IsBlockedIn r mode (counts_of held.locks) → is_blocked r mode held.locks ≡ true
@@ -71,6 +72,7 @@ module _ (held : Held) (was : AreHeld held) (r : NumberRange) (some : r.low < r.
       writer_apart : (m n : Mode) → not (is_reader m) ≡ true → not (is_reader m && is_reader n) ≡ true
       writer_apart Reader n h = absurd (let no_way : false ≡ true = h in cc)
       writer_apart Writer n h = refl
+
       no_reader_apart : (m n : Mode) → not (is_reader n) ≡ true → not (is_reader m && is_reader n) ≡ true
       no_reader_apart Reader n h = h
       no_reader_apart Writer n h = refl
@@ -94,6 +96,7 @@ module _ (held : Held) (was : AreHeld held) (r : NumberRange) (some : r.low < r.
           or_true : (b : Bool) → (b || true) ≡ true
           or_true true = refl
           or_true false = refl
+
       contradicts : (i : ℕ) (g : Grant) → slice_get held.locks i ≡ Some g → blocks r mode g ≡ true → ⊥
       contradicts i g at is =
           let parts = and_parts (overlaps g.range r) (not (is_reader g.mode && is_reader mode)) is in

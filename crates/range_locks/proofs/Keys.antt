@@ -1,11 +1,10 @@
 -- Keys of one number are in the order of their places, so what a range of the table has, and lacks, is told by places.
-use Rattle.std.proofs.Common.{◌≡◌, ℕ, ◌<◌, ◌≤◌, ◌==◌, Bool, true, false, All, List, [], ◌∷◌, ◌++◌, refl, ap, sym, subst, ◌∙◌, arith, inl, inr}
+use Rattle.std.proofs.Common.{◌≡◌, ℕ, ◌<◌, ◌≤◌, true, false, List, [], ◌∷◌, ◌++◌, refl, ap, sym, subst, ◌∙◌, arith, inl, inr}
 use Rattle.std.specs.Prelude.{Option, Some, None, IsSome, slice_get, IfSome}
 use Rattle.std.specs.BTreeMap.{BTreeMap, get}
-use Rattle.std.specs.BTreeMap.Range.{IsInRange, IsLeBy, IsLtBy, IsRangeOf}
+use Rattle.std.specs.BTreeMap.Range.{IsInRange, IsLeBy, IsRangeOf}
 use Rattle.std.specs.Cmp.{nat_cmp_is}
-use Rattle.std.specs.Ordering.{nat_cmp, ordering_then, is_gt, is_lt, is_eq}
-use Rattle.std.specs.declared.cmp.Ordering.{Ordering}
+use Rattle.std.specs.Ordering.{nat_cmp, ordering_then, is_gt, is_lt}
 use Rattle.std.specs.declared.cmp.Ordering.TheVariants.{Less, Equal, Greater}
 use Rattle.std.specs.declared.ops.Bound.TheVariants.{Included, Excluded}
 use Rattle.std.proofs.lemmas.Bool.{cases_lt, cases_order}
@@ -84,8 +83,10 @@ module _ (table : BTreeMap (ObjectId × ℕ) Part) (n low high : ℕ) (r : List 
     where
       inside : (IsInRange key_cmp (Included (key n low)) (Excluded (key n high)) e.0) × (get key_cmp table e.0 ≡ Some e.1)
       inside = subst (λ l. IfSome (slice_get l 0) (λ (x : (ObjectId × ℕ) × Part). (IsInRange key_cmp (Included (key n low)) (Excluded (key n high)) x.0) × (get key_cmp table x.0 ≡ Some x.1))) is range.1
+
       number : e.0.0.0 ≡ n
       number = number_in n e.0.0.0 low e.0.1 high inside.0.0 inside.0.1
+
       within : e.0.1 < high
       within = lt_from_less e.0.1 high (sym (key_cmp-same n e.0.1 high) ∙ subst (λ m. key_cmp (key m e.0.1) (key n high) ≡ Less) number inside.0.1)
 
@@ -102,11 +103,14 @@ module _ (table : BTreeMap (ObjectId × ℕ) Part) (n at : ℕ) (r : List ((Obje
   last_up_to e front is range =
       let inside = range.3 e front is in
       let number : e.0.0.0 ≡ n = number_up_to n e.0.0.0 0 e.0.1 at inside.0.0 inside.0.1 in
-      let up_to : e.0.1 ≤ at = le_from_not_gt e.0.1 at (sym (ap is_gt (key_cmp-same n e.0.1 at)) ∙ subst (λ m. IsLeBy key_cmp (key m e.0.1) (key n at)) number inside.0.1) in
-      (up_to, subst (λ m. get key_cmp table (key m e.0.1) ≡ Some e.1) number inside.1, λ k after within. absent (get key_cmp table (key n k)) (λ there.
-          let greatest : is_lt (key_cmp e.0 (key n k)) ≡ false = range.4 e front is (key n k) (ap is_gt (key_cmp-same n 0 k) ∙ not_gt 0 k (omega arith), ap is_gt (key_cmp-same n k at) ∙ not_gt k at within) there in
-          let before : k ≤ e.0.1 = le_from_not_lt e.0.1 k (sym (ap is_lt (key_cmp-same n e.0.1 k)) ∙ subst (λ m. is_lt (key_cmp (key m e.0.1) (key n k)) ≡ false) number greatest) in
-          omega arith))
+      let up_to : e.0.1 ≤ at = le_from_not_gt e.0.1 at (sym (ap is_gt (key_cmp-same n e.0.1 at)) ∙ subst (λ m. IsLeBy key_cmp (key m e.0.1) (key n at)) number inside.0.1) in (
+        up_to,
+        subst (λ m. get key_cmp table (key m e.0.1) ≡ Some e.1) number inside.1,
+        λ k after within. absent (get key_cmp table (key n k)) (λ there.
+            let greatest : is_lt (key_cmp e.0 (key n k)) ≡ false = range.4 e front is (key n k) (ap is_gt (key_cmp-same n 0 k) ∙ not_gt 0 k (omega arith), ap is_gt (key_cmp-same n k at) ∙ not_gt k at within) there in
+            let before : k ≤ e.0.1 = le_from_not_lt e.0.1 k (sym (ap is_lt (key_cmp-same n e.0.1 k)) ∙ subst (λ m. is_lt (key_cmp (key m e.0.1) (key n k)) ≡ false) number greatest) in
+            omega arith),
+      )
 
   pub none_up_to : r ≡ [] → IsRangeOf key_cmp (Included (key n 0)) (Included (key n at)) table r
       → (k : ℕ) → k ≤ at → get key_cmp table (key n k) ≡ None

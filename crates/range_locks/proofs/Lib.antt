@@ -7,3 +7,5 @@ pub mod Recounts
 pub mod LockCounts
 pub mod Blocked
 pub mod Steps
+pub mod Ends
+pub mod PieceWalk

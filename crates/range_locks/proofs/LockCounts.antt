@@ -1,6 +1,6 @@
 -- What held locks count to changes with one granted, and with one let go, as the table of parts does.
-use Rattle.std.proofs.Common.{◌≡◌, ℕ, zero, suc, ◌+◌, ◌-◌, ◌*◌, ◌<◌, ◌≤◌, ◌==◌, ◌&&◌, ◌||◌, Bool, true, false, not, cond, List, [], ◌∷◌, ◌++◌, length, filter, refl, ap, sym, subst, ◌∙◌, arith, inl, inr}
-use Rattle.std.specs.Prelude.{Some, None, Option, IfSome, All, slice_get, sum_by, nat_lt, nat_le}
+use Rattle.std.proofs.Common.{◌≡◌, ℕ, zero, suc, ◌+◌, ◌-◌, ◌*◌, ◌<◌, ◌≤◌, ◌==◌, ◌&&◌, Bool, true, false, not, cond, List, [], ◌∷◌, ◌++◌, length, filter, refl, ap, sym, subst, ◌∙◌, arith, inl, inr}
+use Rattle.std.specs.Prelude.{Some, None, Option, IfSome, slice_get, sum_by, nat_lt, nat_le}
 use Rattle.std.specs.List.{count_by}
 use Rattle.std.specs.BTreeMap.{BTreeMap, get}
 use Rattle.std.proofs.lemmas.Bool.{eq-eqb, ne_eqb, cases_eq, cases_lt, le-leb, lt-leb, lt-ltb, le-ltb}
@@ -8,16 +8,14 @@ use Rattle.std.proofs.lemmas.List.Sums.{sum_by-cons, sum_by_push, sum_by-le, cou
 use Rattle.base.specs.declared.names.ObjectId.{ObjectId}
 use Rattle.base.specs.declared.range.Mode.{Mode}
 use Rattle.base.specs.declared.range.Mode.TheVariants.{Reader, Writer}
-use Rattle.base.specs.history.Plans.{NumberRange}
 use Rattle.base.specs.steps.Locks.{Grant, is_reader}
 use Rattle.base.proofs.common.KeptLists.{All-each, Some-injective}
-use Rattle.range_locks.specs.declared.parts.Change.{Change}
 use Rattle.range_locks.specs.declared.parts.Change.TheVariants.{More, Fewer}
 use Rattle.range_locks.specs.declared.parts.Part.{Part}
-use Rattle.range_locks.specs.Parts.{CanRecountPart, Counts, HasCounts, IsStill, IsTable, counts_of, covers_place, ends_at, key, key_cmp, recounted, recounted_part, stored, with_end, with_lock, without_end, without_lock}
+use Rattle.range_locks.specs.Parts.{CanRecountPart, Counts, HasCounts, IsStill, IsTable, counts_of, ends_at, key, key_cmp, recounted, recounted_part, stored, with_end, with_lock, without_end, without_lock}
+use Rattle.range_locks.specs.Pieces.{covers_place}
 use Rattle.range_locks.proofs.Counted.{part_here}
 use Rattle.range_locks.proofs.Names.{NamesRise, all_others, behind, rest_rises}
-use Rattle.range_locks.proofs.Updates.{at_key, recounted-in}
 
 -- one where a test holds
 abbrev pub one : Bool → ℕ
@@ -93,10 +91,10 @@ module _ (g : Grant) (n k : ℕ) where
       ∙ ap (λ (p : Part). record p { ends = p.ends - one ((n == g.range.number) && (k == g.range.high)) }) (fewer_end (recounted g.range g.mode Fewer f n k) ((n == g.range.number) && (k == g.range.low)))
       ∙ ap (λ (p : Part). record p { ends = p.ends - one ((n == g.range.number) && (k == g.range.low)) - one ((n == g.range.number) && (k == g.range.high)) }) (fewer_cover (f n k) g.mode (covers_place n k g))
       ∙ ap (λ e. record {
-          ends = e;
-          readers = (f n k).readers - one (is_reader g.mode && covers_place n k g);
-          writers = (f n k).writers - one (not (is_reader g.mode) && covers_place n k g);
-        }) (omega arith)
+        ends = e;
+        readers = (f n k).readers - one (is_reader g.mode && covers_place n k g);
+        writers = (f n k).writers - one (not (is_reader g.mode) && covers_place n k g);
+      }) (omega arith)
 
 -- a lock that is granted
 pub table_granted : (table : BTreeMap (ObjectId × ℕ) Part) (locks : List Grant) (g : Grant) → IsTable table (with_lock g.range g.mode (counts_of locks)) → IsTable table (counts_of (locks ++ g ∷ []))
@@ -113,9 +111,9 @@ module _ (locks : List Grant) (i id : ℕ) (g : Grant) (rise : NamesRise locks) 
       let readers = sum_without (λ (h : Grant). cond (is_reader h.mode && covers_place n k h) 1 0) locks i id g rise at named in
       let writers = sum_without (λ (h : Grant). cond (not (is_reader h.mode) && covers_place n k h) 1 0) locks i id g rise at named in
       is n k ∙ ap stored (without_lock-counts g n k (counts_of locks) ∙ same_part _ _
-          (ap (λ x. x - ends_at n k g) ends ∙ back (sum_by (ends_at n k) (filter (λ (h : Grant). not (h.id == id)) locks)) (ends_at n k g))
-          (ap (λ x. x - cond (is_reader g.mode && covers_place n k g) 1 0) readers ∙ back _ (cond (is_reader g.mode && covers_place n k g) 1 0))
-          (ap (λ x. x - cond (not (is_reader g.mode) && covers_place n k g) 1 0) writers ∙ back _ (cond (not (is_reader g.mode) && covers_place n k g) 1 0)))
+      (ap (λ x. x - ends_at n k g) ends ∙ back (sum_by (ends_at n k) (filter (λ (h : Grant). not (h.id == id)) locks)) (ends_at n k g))
+      (ap (λ x. x - cond (is_reader g.mode && covers_place n k g) 1 0) readers ∙ back _ (cond (is_reader g.mode && covers_place n k g) 1 0))
+      (ap (λ x. x - cond (not (is_reader g.mode) && covers_place n k g) 1 0) writers ∙ back _ (cond (not (is_reader g.mode) && covers_place n k g) 1 0)))
     where
       back : (a b : ℕ) → a + b - b ≡ a
       back a b = omega arith
@@ -127,8 +125,10 @@ module _ (locks : List Grant) (i id : ℕ) (g : Grant) (rise : NamesRise locks) 
     where
       n : ℕ
       n = g.range.number
+
       covers : covers_place n k g ≡ true
       covers = ap (λ b. b && (nat_le g.range.low k && nat_lt k g.range.high)) (eq-eqb n n refl) ∙ ap (λ b. b && nat_lt k g.range.high) (le-leb g.range.low k from) ∙ lt-ltb k g.range.high below
+
       counted : (m : Mode) → g.mode ≡ m → CanRecountPart m Fewer (counts_of locks n k)
       counted Reader is_mode =
           let one_here : one (is_reader g.mode && covers_place n k g) ≡ 1 = ap (λ m. cond (is_reader m && covers_place n k g) 1 0) is_mode ∙ ap (λ b. cond b 1 0) covers in
@@ -138,6 +138,7 @@ module _ (locks : List Grant) (i id : ℕ) (g : Grant) (rise : NamesRise locks) 
           let one_here : one (not (is_reader g.mode) && covers_place n k g) ≡ 1 = ap (λ m. cond (not (is_reader m) && covers_place n k g) 1 0) is_mode ∙ ap (λ b. cond b 1 0) covers in
           let whole = sum_without (λ (h : Grant). cond (not (is_reader h.mode) && covers_place n k h) 1 0) locks i id g rise at named in
           omega (arith, whole, one_here)
+
       by : (o : Option Part) → get key_cmp table (key g.range.number k) ≡ o → IfSome o (CanRecountPart g.mode Fewer)
       by None at_k = tt
       by (Some p) at_k = subst (λ (q : Part). CanRecountPart g.mode Fewer q) (sym (part_here table (counts_of locks) is n k p at_k)) (counted g.mode refl)
@@ -148,8 +149,10 @@ no_end_at n k g none = (λ same here. by true (both g.range.low same here) none 
   where
     both : (x : ℕ) → n ≡ g.range.number → k ≡ x → ((n == g.range.number) && (k == x)) ≡ true
     both x same here = ap (λ b. b && (k == x)) (eq-eqb n g.range.number same) ∙ eq-eqb k x here
+
     by : (b : Bool) → ((n == g.range.number) && (k == g.range.low)) ≡ b → ends_at n k g ≡ 0 → b ≡ true → ⊥
     by b is zero_ends holds = let counted : one ((n == g.range.number) && (k == g.range.low)) ≡ 1 = ap (λ t. cond t 1 0) (is ∙ holds) in omega arith
+
     by_high : (b : Bool) → ((n == g.range.number) && (k == g.range.high)) ≡ b → ends_at n k g ≡ 0 → b ≡ true → ⊥
     by_high b is zero_ends holds = let counted : one ((n == g.range.number) && (k == g.range.high)) ≡ 1 = ap (λ t. cond t 1 0) (is ∙ holds) in omega arith
 
@@ -175,6 +178,7 @@ covers_next n k g none = elim (cases_eq n g.range.number) as (λ _. covers_place
       | inl before ↦ lt-leb g.range.low (k + 1) (omega (arith, apart)) ∙ sym (lt-leb g.range.low k before)
       | inr after ↦ le-leb g.range.low (k + 1) (omega arith) ∙ sym (le-leb g.range.low k after)
     ]
+
     high : (k + 1 ≡ g.range.high → ⊥) → nat_lt (k + 1) g.range.high ≡ nat_lt k g.range.high
     high apart = elim (cases_lt k g.range.high) as (λ _. nat_lt (k + 1) g.range.high ≡ nat_lt k g.range.high) [
       | inl before ↦ lt-ltb (k + 1) g.range.high (omega (arith, apart)) ∙ sym (lt-ltb k g.range.high before)
@@ -201,11 +205,11 @@ pub counts_still : (locks : List Grant) → IsStill (counts_of locks)
 counts_still locks = record {
   first = λ n none. (
     sums_agree (ends_at n 0) (λ (g : Grant). cond (is_reader g.mode && covers_place n 0 g) 1 0) (λ (g : Grant). 0) (λ g free. ap (λ b. cond (is_reader g.mode && b) 1 0) (covers_first n g free) ∙ ap (λ b. cond b 1 0) (nothing (is_reader g.mode))) locks none ∙ zero_sum locks,
-    sums_agree (ends_at n 0) (λ (g : Grant). cond (not (is_reader g.mode) && covers_place n 0 g) 1 0) (λ (g : Grant). 0) (λ g free. ap (λ b. cond (not (is_reader g.mode) && b) 1 0) (covers_first n g free) ∙ ap (λ b. cond b 1 0) (nothing (not (is_reader g.mode)))) locks none ∙ zero_sum locks
+    sums_agree (ends_at n 0) (λ (g : Grant). cond (not (is_reader g.mode) && covers_place n 0 g) 1 0) (λ (g : Grant). 0) (λ g free. ap (λ b. cond (not (is_reader g.mode) && b) 1 0) (covers_first n g free) ∙ ap (λ b. cond b 1 0) (nothing (not (is_reader g.mode)))) locks none ∙ zero_sum locks,
   );
   next = λ n k none. (
     sums_agree (ends_at n (k + 1)) (λ (g : Grant). cond (is_reader g.mode && covers_place n (k + 1) g) 1 0) (λ (g : Grant). cond (is_reader g.mode && covers_place n k g) 1 0) (λ g free. ap (λ b. cond (is_reader g.mode && b) 1 0) (covers_next n k g free)) locks none,
-    sums_agree (ends_at n (k + 1)) (λ (g : Grant). cond (not (is_reader g.mode) && covers_place n (k + 1) g) 1 0) (λ (g : Grant). cond (not (is_reader g.mode) && covers_place n k g) 1 0) (λ g free. ap (λ b. cond (not (is_reader g.mode) && b) 1 0) (covers_next n k g free)) locks none
+    sums_agree (ends_at n (k + 1)) (λ (g : Grant). cond (not (is_reader g.mode) && covers_place n (k + 1) g) 1 0) (λ (g : Grant). cond (not (is_reader g.mode) && covers_place n k g) 1 0) (λ g free. ap (λ b. cond (not (is_reader g.mode) && b) 1 0) (covers_next n k g free)) locks none,
   );
 }
 
@@ -218,7 +222,7 @@ counts_small table locks few is = record {
   small = λ n k. (
     let two : sum_by (ends_at n k) locks ≤ length locks * 2 = sum_by-le (ends_at n k) 2 locks (All-each _ locks (λ i g at. two_ends n k g)) in omega arith,
     let most : count_by (λ (g : Grant). is_reader g.mode && covers_place n k g) locks ≤ length locks = count_by-le-length (λ (g : Grant). is_reader g.mode && covers_place n k g) locks in omega arith,
-    let most : count_by (λ (g : Grant). not (is_reader g.mode) && covers_place n k g) locks ≤ length locks = count_by-le-length (λ (g : Grant). not (is_reader g.mode) && covers_place n k g) locks in omega arith
+    let most : count_by (λ (g : Grant). not (is_reader g.mode) && covers_place n k g) locks ≤ length locks = count_by-le-length (λ (g : Grant). not (is_reader g.mode) && covers_place n k g) locks in omega arith,
   );
 }
   where

@@ -1,12 +1,11 @@
 -- The parts of a range are counted one after another: where none begins there is nothing to count.
-use Rattle.std.proofs.Common.{◌≡◌, ℕ, zero, suc, ◌+◌, ◌-◌, ◌<◌, ◌≤◌, ◌||◌, ◌&&◌, Bool, true, false, not, refl, ap, sym, subst, ◌∙◌, arith, inl, inr}
-use Rattle.std.specs.Prelude.{Option, Some, None, IfSome, IsSome, is_some, nat_lt}
+use Rattle.std.proofs.Common.{◌≡◌, ℕ, zero, suc, ◌+◌, ◌-◌, ◌<◌, ◌≤◌, ◌||◌, ◌&&◌, false, not, refl, ap, sym, subst, ◌∙◌, arith, inl, inr}
+use Rattle.std.specs.Prelude.{Option, Some, None, IfSome, is_some, nat_lt}
 use Rattle.std.specs.BTreeMap.{BTreeMap, get, WritesThrough}
 use Rattle.std.proofs.lemmas.Bool.{cases_lt, cases_eq}
 use Rattle.base.specs.declared.names.ObjectId.{ObjectId}
 use Rattle.base.specs.declared.range.Mode.{Mode}
 use Rattle.base.specs.declared.range.Mode.TheVariants.{Reader, Writer}
-use Rattle.base.specs.history.Plans.{NumberRange}
 use Rattle.base.specs.steps.Locks.{is_reader}
 use Rattle.range_locks.specs.declared.parts.Change.{Change}
 use Rattle.range_locks.specs.declared.parts.Part.{Part}
@@ -53,14 +52,18 @@ module _ (n low : ℕ) (mode : Mode) (change : Change) where
     where
       wide : IsTable old (up_to at f)
       wide = widened old place at from within none f is
+
       part_is : part ≡ f n at
       part_is = part_here old (up_to at f) wide n at part there ∙ recounted-behind n low at mode change f at (omega arith)
+
       some : 0 < (f n at).ends
       some = subst (λ (p : Part). 0 < p.ends) (recounted-behind n low at mode change f at (omega arith)) (stored_is (up_to at f n at) part (sym (wide n at) ∙ there)).1
+
       here : Some v ≡ stored (up_to (at + 1) f n at)
       here = ap Some v_is ∙ ap (λ (p : Part). Some (recounted_part mode change p)) part_is
           ∙ sym (stored-some (recounted_part mode change (f n at)) (subst (λ x. 0 < x) (sym (ends-recounted_part mode change (f n at))) some))
           ∙ ap stored (sym (recounted-in n low (at + 1) mode change f at (omega arith) (omega arith)))
+
       apart : (m j : ℕ) → ((m ≡ n) → (j ≡ at) → ⊥) → up_to (at + 1) f m j ≡ up_to at f m j
       apart m j other = elim (cases_eq m n) as (λ _. up_to (at + 1) f m j ≡ up_to at f m j) [
         | inr away ↦ recounted-elsewhere n low (at + 1) mode change f m j away ∙ sym (recounted-elsewhere n low at mode change f m j away)
@@ -87,6 +90,7 @@ free_in table f n low high mode is still first parts k from below =
     by None j at free before =
         let same = still.next n (low + j) (no_end table f is n (low + j + 1) at) in
         ap (λ w. nat_lt 0 w || (nat_lt 0 (f n (low + j + 1)).readers && not (is_reader mode))) same.1 ∙ ap (λ r. nat_lt 0 (f n (low + j)).writers || (nat_lt 0 r && not (is_reader mode))) same.0 ∙ before
+
     up : (d : ℕ) → low + d < high → blocks_part mode (f n (low + d)) ≡ false
     up zero within = ap (λ x. blocks_part mode (f n x)) (omega arith) ∙ first
     up (suc d) within =

@@ -1,6 +1,6 @@
 -- Held locks and the table of their parts stay in step as a lock is granted and as one is let go.
-use Rattle.std.proofs.Common.{◌≡◌, ℕ, ◌<◌, ◌≤◌, ◌==◌, Bool, true, false, not, List, [], ◌∷◌, ◌++◌, length, refl, ap, sym, ◌∙◌, arith}
-use Rattle.std.specs.Prelude.{Some, slice_get}
+use Rattle.std.proofs.Common.{◌≡◌, ℕ, ◌<◌, ◌≤◌, ◌==◌, true, false, length, arith}
+use Rattle.std.specs.Prelude.{Some}
 use Rattle.std.specs.List.{find}
 use Rattle.std.specs.BTreeMap.{BTreeMap}
 use Rattle.std.proofs.lemmas.Bool.{and_parts, eqb-true}
@@ -12,10 +12,10 @@ use Rattle.base.specs.steps.Locks.{Grant, is_blocked, is_range_allowed}
 use Rattle.base.proofs.common.KeptLists.{found_at}
 use Rattle.range_locks.specs.declared.parts.Change.TheVariants.{Fewer}
 use Rattle.range_locks.specs.declared.parts.Part.{Part}
-use Rattle.range_locks.specs.Locks.{Held, AreHeld, is_named, with_grant, without}
-use Rattle.range_locks.specs.Parts.{AreInStep, CanRecount, HasCounts, IsTable, counts_of, with_lock, without_lock}
+use Rattle.range_locks.specs.Locks.{Held, is_named, with_grant, without}
+use Rattle.range_locks.specs.Parts.{AreInStep, CanRecount, IsTable, counts_of, with_lock, without_lock}
 use Rattle.range_locks.proofs.Grants.{granted_are, without_are}
-use Rattle.range_locks.proofs.LockCounts.{counts_small, is_counted, table_granted, table_let_go}
+use Rattle.range_locks.proofs.LockCounts.{is_counted, table_granted, table_let_go}
 
 module _ (held : Held) (table : BTreeMap (ObjectId × ℕ) Part) (was : AreInStep held table) where
   pub granted_in_step : (new : BTreeMap (ObjectId × ℕ) Part) (owner : ℕ) (range : NumberRange) (mode : Mode) → is_range_allowed range.low range.high ≡ true

@@ -9,11 +9,10 @@ use Rattle.std.proofs.lemmas.Bool.{eq-eqb, ne_eqb, cases_eq, cases_order, le-leb
 use Rattle.base.specs.declared.names.ObjectId.{ObjectId}
 use Rattle.base.specs.declared.range.Mode.{Mode}
 use Rattle.base.specs.declared.range.Mode.TheVariants.{Reader, Writer}
-use Rattle.base.specs.history.Plans.{NumberRange}
 use Rattle.range_locks.specs.declared.parts.Change.{Change}
 use Rattle.range_locks.specs.declared.parts.Change.TheVariants.{More, Fewer}
 use Rattle.range_locks.specs.declared.parts.Part.{Part}
-use Rattle.range_locks.specs.Parts.{Counts, IsTable, IsStill, key, key_cmp, stored, recounted, recounted_part, with_end, without_end, with_lock, without_lock}
+use Rattle.range_locks.specs.Parts.{Counts, IsTable, IsStill, key, key_cmp, stored, recounted, recounted_part, with_end, without_end}
 use Rattle.range_locks.proofs.Keys.{key_cmp-same}
 use Rattle.range_locks.proofs.Counted.{no_end, part_here, stored-zero}
 
@@ -158,8 +157,8 @@ end_fewer old new n k p q f is there some there_too writes =
     let q_is : q ≡ f n k = part_here old f is n k q there_too in
     let more : 1 < (f n k).ends = subst (λ (x : Part). 1 < x.ends) p_is some in
     written old new n k (record q { ends = p.ends - 1 }) f (without_end n k f) is writes (ap is_some there)
-        ((λ i. Some (record (q_is i) { ends = (p_is i).ends - 1 })) ∙ sym (ap stored (without_end-here n k f) ∙ stored-some (record (f n k) { ends = (f n k).ends - 1 }) (omega arith)))
-        (without_end-apart n k f)
+    ((λ i. Some (record (q_is i) { ends = (p_is i).ends - 1 })) ∙ sym (ap stored (without_end-here n k f) ∙ stored-some (record (f n k) { ends = (f n k).ends - 1 }) (omega arith)))
+    (without_end-apart n k f)
 
 -- and where there are none
 pub end_gone : (old new : BTreeMap (ObjectId × ℕ) Part) (n k : ℕ) (f : Counts) → IsTable old f
@@ -167,8 +166,8 @@ pub end_gone : (old new : BTreeMap (ObjectId × ℕ) Part) (n k : ℕ) (f : Coun
     → ((q : ObjectId × ℕ) → get key_cmp new q ≡ cond (is_at (key_cmp (key n k)) q) None (get key_cmp old q)) → IsTable new (without_end n k f)
 end_gone old new n k f is few update =
     updated old new n k None f (without_end n k f) is update
-        (sym (ap stored (without_end-here n k f) ∙ stored-zero (record (f n k) { ends = (f n k).ends - 1 }) (let most : (f n k).ends ≤ 1 = by (get key_cmp old (key n k)) refl few in omega arith)))
-        (without_end-apart n k f)
+    (sym (ap stored (without_end-here n k f) ∙ stored-zero (record (f n k) { ends = (f n k).ends - 1 }) (let most : (f n k).ends ≤ 1 = by (get key_cmp old (key n k)) refl few in omega arith)))
+    (without_end-apart n k f)
   where
     by : (o : Option Part) → get key_cmp old (key n k) ≡ o → IfSome o (λ (p : Part). p.ends ≤ 1) → (f n k).ends ≤ 1
     by None at _ = let none : (f n k).ends ≡ 0 = no_end old f is n k at in omega arith

@@ -9,6 +9,7 @@ use Rattle.base.specs.declared.range.Mode.{Mode}
 use Rattle.base.specs.declared.range.Mode.TheVariants.{Reader, Writer}
 use Rattle.base.specs.history.Plans.{NumberRange}
 use Rattle.base.specs.steps.Locks.{Grant, is_reader}
+use Rattle.range_locks.specs.Pieces.{covers_place}
 use Rattle.range_locks.specs.Locks.{Held, AreHeld}
 use Rattle.range_locks.specs.declared.parts.Part.{Part}
 use Rattle.range_locks.specs.declared.parts.Change.{Change}
@@ -21,6 +22,10 @@ key_cmp a b = ordering_then (nat_cmp a.0.0 b.0.0) (nat_cmp a.1 b.1)
 abbrev pub key : ℕ → ℕ → ObjectId × ℕ
 key number place = (record { 0 = number }, place)
 
+-- whether some lock covers a part
+abbrev pub is_covered_part : Part → Bool
+is_covered_part p = nat_lt 0 p.writers || nat_lt 0 p.readers
+
 -- whether a part keeps a lock of this mode away
 abbrev pub blocks_part : Mode → Part → Bool
 blocks_part mode p = nat_lt 0 p.writers || (nat_lt 0 p.readers && not (is_reader mode))
@@ -29,10 +34,7 @@ blocks_part mode p = nat_lt 0 p.writers || (nat_lt 0 p.readers && not (is_reader
 abbrev pub Counts : Type 0
 Counts = ℕ → ℕ → Part
 
--- whether a lock covers a place, and how many of its ends lie there
-abbrev pub covers_place : ℕ → ℕ → Grant → Bool
-covers_place n k g = (n == g.range.number) && (nat_le g.range.low k && nat_lt k g.range.high)
-
+-- how many ends of a lock lie at a place
 abbrev pub ends_at : ℕ → ℕ → Grant → ℕ
 ends_at n k g = (if (n == g.range.number) && (k == g.range.low) then 1 else 0) + (if (n == g.range.number) && (k == g.range.high) then 1 else 0)
 

@@ -1,4 +1,4 @@
-//! A range lock as it is held.
+//! A range lock as it is held, and the pieces that the held locks of a number make.
 
 use base::{Mode, ObjectRange, Owner};
 
@@ -11,4 +11,17 @@ pub struct HeldLock {
     pub range: ObjectRange,
     /// What it lets its owner do.
     pub mode: Mode,
+}
+
+/// What lies between two neighbouring ends of the held locks of a number, where some lock covers it.
+#[derive(Clone, Copy, Debug, PartialEq, Eq)]
+pub struct HeldPiece {
+    /// Where it begins.
+    pub low: u64,
+    /// Where it ends: this place is not in it.
+    pub high: u64,
+    /// Whether a writer covers it.
+    pub writer: bool,
+    /// How many readers cover it.
+    pub readers: usize,
 }

@@ -5,5 +5,5 @@ mod held;
 mod locks;
 mod parts;
 
-pub use held::HeldLock;
+pub use held::{HeldLock, HeldPiece};
 pub use locks::RangeLocks;

@@ -8,7 +8,7 @@ ghost use Rattle.std.specs.List.{list_any};
 ghost use Rattle.base.specs.history.Plans.{number_range};
 ghost use Rattle.range_locks.specs.Locks.{covers, covers_for_writing, grant_of};
 
-use crate::held::HeldLock;
+use crate::held::{HeldLock, HeldPiece};
 use crate::parts::Parts;
 use base::{
     LAST_NUMBER, LockId, MAX_LENGTH, MAX_LOCKS, Mode, OBJECT_COUNT, ObjectId, ObjectRange, Owner,
@@ -45,6 +45,7 @@ impl RangeLocks {
     ghost use Rattle.std.specs.Map.Iter.{ShowsInOrder, deref_pair};
     ghost use Rattle.base.specs.steps.Locks.{AreLocksSound, is_blocked, is_covered, is_covered_for_writing};
     ghost use Rattle.range_locks.specs.Locks.{Appends, append_refusal, GrantsOne, grant_of, is_named, Locks, lock_refusal, without};
+    ghost use Rattle.range_locks.specs.Pieces.{pieces_of};
 
     /// No locks. It takes no memory.
     pub fn new(alloc: Global) -> Self
@@ -184,6 +185,17 @@ impl RangeLocks {
         ensures runs { ShowsInOrder (deref_pair {K = LockId} {X = HeldLock}) }
     {
         self.held.iter()
+    }
+
+    /// The pieces of a number, rising: the parts between neighbouring ends of its held locks that some lock covers.
+    ///
+    /// # Errors
+    /// `NoMemory`.
+    pub fn pieces(&self, number: ObjectId) -> Result<Vec<HeldPiece>, PoolError>
+        ensures pieces { IfOk result (λ pieces. pieces.items ≡ pieces_of number.0 self.now.locks) }
+        ensures refused { IfErr result (λ e. e ≡ PoolError.NoMemory) }
+    {
+        self.parts.pieces(*self.held.allocator(), number)
     }
 
     /// The name of the next lock: the number of grants so far.

@@ -7,9 +7,12 @@
 ghost use Rattle.std.specs.Prelude.{ℕ, ◌≡◌, ◌+◌, ◌<◌, ◌≤◌, true, false, None, Some, IfSome, IfNone, IfOk, OnOk, OnErr, IfErr};
 ghost use Rattle.std.specs.BTreeMap.{get};
 ghost use Rattle.base.specs.history.Plans.{number_range};
-ghost use Rattle.range_locks.specs.Parts.{blocks_part, CanRecount, CanRecountPart, Counts, HasCounts, IsBlockedIn, IsFreeIn, IsTable, IsStill, key, key_cmp, recounted, recounted_part, with_end, with_lock, without_end, without_lock};
+ghost use Rattle.range_locks.specs.Locks.{Held};
+ghost use Rattle.range_locks.specs.Pieces.{pieces_of};
+ghost use Rattle.range_locks.specs.Parts.{AreInStep, blocks_part, CanRecount, CanRecountPart, Counts, HasCounts, IsBlockedIn, IsFreeIn, is_covered_part, IsTable, IsStill, key, key_cmp, recounted, recounted_part, with_end, with_lock, without_end, without_lock};
 
-use base::{Mode, ObjectId, ObjectRange, PoolError, Range};
+use crate::held::HeldPiece;
+use base::{MAX_LENGTH, Mode, ObjectId, ObjectRange, PoolError, Range};
 use std::alloc::Global;
 use std::collections::BTreeMap;
 
@@ -31,6 +34,9 @@ pub(crate) enum Change {
     Fewer,
 }
 
+/// No lock ends as far up as this.
+const PAST_ALL: u64 = MAX_LENGTH + 1;
+
 /// What no lock covers.
 const NOTHING: Part = Part {
     ends: 0,
@@ -39,6 +45,13 @@ const NOTHING: Part = Part {
 };
 
 impl Part {
+    /// Whether some lock covers it.
+    fn is_covered(self) -> bool
+        ensures { result ≡ is_covered_part self }
+    {
+        self.writers > 0 || self.readers > 0
+    }
+
     /// Whether a lock of this mode may not overlap it.
     fn blocks(self, mode: Mode) -> bool
         ensures { result ≡ blocks_part mode self }
@@ -201,5 +214,28 @@ impl Parts {
             place = at + 1;
         }
         false
+    }
+
+    /// The pieces of a number, rising.
+    pub fn pieces(&self, alloc: Global, number: ObjectId) -> Result<Vec<HeldPiece>, PoolError>
+        ensures pieces { IfOk result (λ pieces. (held : Held) → AreInStep held self.now.table → pieces.items ≡ pieces_of number.0 held.locks) }
+        ensures refused { IfErr result (λ e. e ≡ PoolError.NoMemory) }
+    {
+        let mut pieces = Vec::new(alloc);
+        let mut begin = self.next_part(number, 0, PAST_ALL);
+        while let Some((low, part)) = begin {
+            begin = self.next_part(number, low + 1, PAST_ALL);
+            if let Some((high, _)) = begin {
+                if part.is_covered() {
+                    pieces.push(HeldPiece {
+                        low,
+                        high,
+                        writer: part.writers > 0,
+                        readers: part.readers,
+                    })?;
+                }
+            }
+        }
+        Ok(pieces)
     }
 }

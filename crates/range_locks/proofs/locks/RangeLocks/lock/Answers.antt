@@ -1,5 +1,4 @@
-use Rattle.std.proofs.Common.{◌≡◌, ◌<◌, ◌≤◌, length, map, true, refl, sym, ap, ◌∙◌, arith}
-use Rattle.base.specs.formats.Limits.{max_locks, last_number}
+use Rattle.std.proofs.Common.{map, refl, sym, ◌∙◌, arith}
 use Rattle.base.specs.history.Plans.{number_range}
 use Rattle.std.proofs.lemmas.List.{length-map}
 use Rattle.range_locks.specs.Locks.{grant_of}
@@ -23,8 +22,8 @@ invariant_of-self-2 c =
     let last = map-insert_entry c.self.inside.next (record { owner = c.args.owner; range = c.args.range; mode = c.args.mode }) c.self.inside.held.entries c.self.invariant.are.named in
     let count = length-map c.self.inside.held.entries grant_of in
     rw (put, c.reserve.ensures.entries, last) (granted_in_step _ c.self.inside.parts.table c.self.invariant c.add.new.self.table c.args.owner.0 (number_range c.args.range) c.args.mode
-        (sym c.is_allowed.ensures.allowed ∙ c.if-not-is_allowed.false) (rw (← c.self.view_is) at (sym c.is_blocked.ensures ∙ c.if-is_blocked.false)) (omega (arith, count)) (omega arith)
-        (c.in_ok-add.ensures.added _ c.self.invariant.is (counts_still (map grant_of c.self.inside.held.entries))))
+    (sym c.is_allowed.ensures.allowed ∙ c.if-not-is_allowed.false) (rw (← c.self.view_is) at (sym c.is_blocked.ensures ∙ c.if-is_blocked.false)) (omega (arith, count)) (omega arith)
+    (c.in_ok-add.ensures.added _ c.self.invariant.is (counts_still (map grant_of c.self.inside.held.entries))))
 
 pub returns-clause-granted : goal.returns-clause-granted
 returns-clause-granted c =

@@ -25,8 +25,8 @@ recount-requires-clause-counted c = λ k from below.
     let was = c.requires.counted in let n = c.args.range.now.object.0 in let low = c.args.range.now.range.low in let high = c.args.range.now.range.high in
     let first = with_end_covers n low was.counts n k in let second = with_end_covers n high (with_end n low was.counts) n k in let small = was.small n k in
     can_count c.add_end-2.new.self.table (with_end n high (with_end n low was.counts)) n k c.args.mode
-        (c.in_default.ensures.added (with_end n low was.counts) (c.in_ok-add_end.ensures.added was.counts was.is was.still) (with_end_still n low was.counts was.still))
-        (omega (arith, first.0, second.0, small.1)) (omega (arith, first.1, second.1, small.2))
+    (c.in_default.ensures.added (with_end n low was.counts) (c.in_ok-add_end.ensures.added was.counts was.is was.still) (with_end_still n low was.counts was.still))
+    (omega (arith, first.0, second.0, small.1)) (omega (arith, first.1, second.1, small.2))
 
 pub returns-clause-added : goal.returns-clause-added
 returns-clause-added c = λ f is still.
