@@ -1,4 +1,4 @@
--- Keys of one number are in the order of their places, so what a range of the table has, and lacks, is told by places.
+-- Keys of one number are in the order of their offsets, so what a range of the table has, and lacks, is told by offsets.
 use Rattle.std.proofs.Common.{◌≡◌, ℕ, ◌<◌, ◌≤◌, true, false, List, [], ◌∷◌, ◌++◌, refl, ap, sym, subst, ◌∙◌, arith, inl, inr}
 use Rattle.std.specs.Prelude.{Option, Some, None, IsSome, slice_get, IfSome}
 use Rattle.std.specs.BTreeMap.{BTreeMap, get}
@@ -22,7 +22,7 @@ equal a = sym (nat_cmp_is a a Equal refl)
 greater : (a b : ℕ) → b < a → nat_cmp a b ≡ Greater
 greater a b h = sym (nat_cmp_is a b Greater h)
 
--- keys of one number compare as their places
+-- keys of one number compare as their offsets
 pub key_cmp-same : (n a b : ℕ) → key_cmp (key n a) (key n b) ≡ nat_cmp a b
 key_cmp-same n a b = ap (λ o. ordering_then o (nat_cmp a b)) (equal n)
 
@@ -96,7 +96,7 @@ module _ (table : BTreeMap (ObjectId × ℕ) Part) (n low high : ℕ) (r : List 
   none_within is range k from below = range.5 is (key n k) (ap is_gt (key_cmp-same n low k) ∙ not_gt low k from, key_cmp-same n k high ∙ less k high below)
 
 module _ (table : BTreeMap (ObjectId × ℕ) Part) (n at : ℕ) (r : List ((ObjectId × ℕ) × Part)) where
-  -- the last key up to a place, and that there is none after it
+  -- the last key up to an offset, and that there is none after it
   pub last_up_to : (e : (ObjectId × ℕ) × Part) (front : List ((ObjectId × ℕ) × Part)) → r ≡ front ++ e ∷ []
       → IsRangeOf key_cmp (Included (key n 0)) (Included (key n at)) table r
       → (e.0.1 ≤ at) × (get key_cmp table (key n e.0.1) ≡ Some e.1) × ((k : ℕ) → e.0.1 < k → k ≤ at → get key_cmp table (key n k) ≡ None)

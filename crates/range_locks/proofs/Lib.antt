@@ -1,11 +1,11 @@
 pub mod Names
 pub mod Grants
 pub mod Keys
-pub mod Counted
+pub mod StoredParts
 pub mod Updates
 pub mod Recounts
 pub mod LockCounts
 pub mod Blocked
-pub mod Steps
+pub mod CountedLocks
 pub mod Ends
 pub mod PieceWalk

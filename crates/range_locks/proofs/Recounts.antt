@@ -11,47 +11,47 @@ use Rattle.range_locks.specs.declared.parts.Change.{Change}
 use Rattle.range_locks.specs.declared.parts.Part.{Part}
 use Rattle.range_locks.specs.declared.parts.Change.TheVariants.{More}
 use Rattle.range_locks.specs.Parts.{blocks_part, CanRecountPart, Counts, IsFreeIn, IsTable, IsStill, key, key_cmp, stored, recounted, recounted_part}
-use Rattle.range_locks.proofs.Counted.{no_end, part_here, stored_is, stored_none, stored-zero}
+use Rattle.range_locks.proofs.StoredParts.{no_end, part_here, stored_is, stored_none, stored-zero}
 use Rattle.range_locks.proofs.Updates.{written, stored-some, ends-recounted_part, recounted-in, recounted-elsewhere, recounted-before, recounted-behind}
 
 module _ (n low : ℕ) (mode : Mode) (change : Change) where
   abbrev up_to : ℕ → Counts → Counts
-  up_to place f = recounted (record { number = n; low = low; high = place }) mode change f
+  up_to offset f = recounted (record { number = n; low = low; high = offset }) mode change f
 
-  -- up to a further place, where no part begins between the two
-  pub widened : (table : BTreeMap (ObjectId × ℕ) Part) (place at : ℕ) → low ≤ place → place ≤ at
-      → ((k : ℕ) → place ≤ k → k < at → get key_cmp table (key n k) ≡ None) → (f : Counts)
-      → IsTable table (recounted (record { number = n; low = low; high = place }) mode change f) → IsTable table (recounted (record { number = n; low = low; high = at }) mode change f)
-  widened table place at from within none f is m k = is m k ∙ elim (cases_eq m n) as (λ _. stored (up_to place f m k) ≡ stored (up_to at f m k)) [
-    | inr other ↦ ap stored (recounted-elsewhere n low place mode change f m k other ∙ sym (recounted-elsewhere n low at mode change f m k other))
-    | inl same ↦ subst (λ x. stored (up_to place f x k) ≡ stored (up_to at f x k)) (sym same) (here k)
+  -- up to a further offset, where no part begins between the two
+  pub widened : (table : BTreeMap (ObjectId × ℕ) Part) (offset at : ℕ) → low ≤ offset → offset ≤ at
+      → ((k : ℕ) → offset ≤ k → k < at → get key_cmp table (key n k) ≡ None) → (f : Counts)
+      → IsTable table (recounted (record { number = n; low = low; high = offset }) mode change f) → IsTable table (recounted (record { number = n; low = low; high = at }) mode change f)
+  widened table offset at from within none f is m k = is m k ∙ elim (cases_eq m n) as (λ _. stored (up_to offset f m k) ≡ stored (up_to at f m k)) [
+    | inr other ↦ ap stored (recounted-elsewhere n low offset mode change f m k other ∙ sym (recounted-elsewhere n low at mode change f m k other))
+    | inl same ↦ subst (λ x. stored (up_to offset f x k) ≡ stored (up_to at f x k)) (sym same) (here k)
   ]
     where
-      here : (j : ℕ) → stored (up_to place f n j) ≡ stored (up_to at f n j)
-      here j = elim (cases_lt j low) as (λ _. stored (up_to place f n j) ≡ stored (up_to at f n j)) [
-        | inl before ↦ ap stored (recounted-before n low place mode change f j before ∙ sym (recounted-before n low at mode change f j before))
-        | inr after ↦ elim (cases_lt j place) as (λ _. stored (up_to place f n j) ≡ stored (up_to at f n j)) [
-          | inl below ↦ ap stored (recounted-in n low place mode change f j after below ∙ sym (recounted-in n low at mode change f j after (omega arith)))
-          | inr beyond ↦ elim (cases_lt j at) as (λ _. stored (up_to place f n j) ≡ stored (up_to at f n j)) [
+      here : (j : ℕ) → stored (up_to offset f n j) ≡ stored (up_to at f n j)
+      here j = elim (cases_lt j low) as (λ _. stored (up_to offset f n j) ≡ stored (up_to at f n j)) [
+        | inl before ↦ ap stored (recounted-before n low offset mode change f j before ∙ sym (recounted-before n low at mode change f j before))
+        | inr after ↦ elim (cases_lt j offset) as (λ _. stored (up_to offset f n j) ≡ stored (up_to at f n j)) [
+          | inl below ↦ ap stored (recounted-in n low offset mode change f j after below ∙ sym (recounted-in n low at mode change f j after (omega arith)))
+          | inr beyond ↦ elim (cases_lt j at) as (λ _. stored (up_to offset f n j) ≡ stored (up_to at f n j)) [
             | inl between ↦
-                let nothing : stored (f n j) ≡ None = sym (ap stored (recounted-behind n low place mode change f j beyond)) ∙ sym (is n j) ∙ none j beyond between in
+                let nothing : stored (f n j) ≡ None = sym (ap stored (recounted-behind n low offset mode change f j beyond)) ∙ sym (is n j) ∙ none j beyond between in
                 let no_ends : (f n j).ends ≡ 0 = stored_none (f n j) nothing in
-                ap stored (recounted-behind n low place mode change f j beyond) ∙ nothing ∙ sym (ap stored (recounted-in n low at mode change f j after between) ∙ stored-zero (recounted_part mode change (f n j)) (ends-recounted_part mode change (f n j) ∙ no_ends))
-            | inr behind ↦ ap stored (recounted-behind n low place mode change f j beyond ∙ sym (recounted-behind n low at mode change f j behind))
+                ap stored (recounted-behind n low offset mode change f j beyond) ∙ nothing ∙ sym (ap stored (recounted-in n low at mode change f j after between) ∙ stored-zero (recounted_part mode change (f n j)) (ends-recounted_part mode change (f n j) ∙ no_ends))
+            | inr behind ↦ ap stored (recounted-behind n low offset mode change f j beyond ∙ sym (recounted-behind n low at mode change f j behind))
           ]
         ]
       ]
 
   -- and past the next one
-  pub counted_next : (old new : BTreeMap (ObjectId × ℕ) Part) (place at : ℕ) (part v : Part) → low ≤ place → place ≤ at
-      → ((k : ℕ) → place ≤ k → k < at → get key_cmp old (key n k) ≡ None) → get key_cmp old (key n at) ≡ Some part
+  pub counted_next : (old new : BTreeMap (ObjectId × ℕ) Part) (offset at : ℕ) (part v : Part) → low ≤ offset → offset ≤ at
+      → ((k : ℕ) → offset ≤ k → k < at → get key_cmp old (key n k) ≡ None) → get key_cmp old (key n at) ≡ Some part
       → WritesThrough key_cmp (key_cmp (key n at)) old v new → v ≡ recounted_part mode change part → (f : Counts)
-      → IsTable old (recounted (record { number = n; low = low; high = place }) mode change f) → IsTable new (recounted (record { number = n; low = low; high = at + 1 }) mode change f)
-  counted_next old new place at part v from within none there writes v_is f is =
+      → IsTable old (recounted (record { number = n; low = low; high = offset }) mode change f) → IsTable new (recounted (record { number = n; low = low; high = at + 1 }) mode change f)
+  counted_next old new offset at part v from within none there writes v_is f is =
       written old new n at v (up_to at f) (up_to (at + 1) f) wide writes (ap is_some there) here apart
     where
       wide : IsTable old (up_to at f)
-      wide = widened old place at from within none f is
+      wide = widened old offset at from within none f is
 
       part_is : part ≡ f n at
       part_is = part_here old (up_to at f) wide n at part there ∙ recounted-behind n low at mode change f at (omega arith)
@@ -76,7 +76,7 @@ module _ (n low : ℕ) (mode : Mode) (change : Change) where
         ])
       ]
 
--- a range is free for a lock where its first place is, and each part that begins in it
+-- a range is free for a lock where its first offset is, and each part that begins in it
 pub free_in : (table : BTreeMap (ObjectId × ℕ) Part) (f : Counts) (n low high : ℕ) (mode : Mode) → IsTable table f → IsStill f
     → blocks_part mode (f n low) ≡ false
     → ((k : ℕ) → low ≤ k → k < high → IfSome (get key_cmp table (key n k)) (λ (p : Part). blocks_part mode p ≡ false))

@@ -14,7 +14,7 @@ use Rattle.range_locks.specs.declared.parts.Change.TheVariants.{More, Fewer}
 use Rattle.range_locks.specs.declared.parts.Part.{Part}
 use Rattle.range_locks.specs.Parts.{Counts, IsTable, IsStill, key, key_cmp, stored, recounted, recounted_part, with_end, without_end}
 use Rattle.range_locks.proofs.Keys.{key_cmp-same}
-use Rattle.range_locks.proofs.Counted.{no_end, part_here, stored-zero}
+use Rattle.range_locks.proofs.StoredParts.{no_end, part_here, stored-zero}
 
 -- a choice at a key, and elsewhere
 pub at_key : {A : Type 0} (n k : ℕ) (x y : A) → cond ((n == n) && (k == k)) x y ≡ x
@@ -28,15 +28,15 @@ off_key n k m j x y apart = elim (cases_eq m n) as (λ _. cond ((m == n) && (j =
 
 is_at-key : (n k m j : ℕ) → is_at (key_cmp (key n k)) (key m j) ≡ ((m == n) && (j == k))
 is_at-key n k m j = elim (cases_order n m) as (λ _. is_at (key_cmp (key n k)) (key m j) ≡ ((m == n) && (j == k))) [
-  | inl same ↦ ap (λ x. is_eq (key_cmp (key n k) (key x j))) (sym same) ∙ ap is_eq (key_cmp-same n k j) ∙ places ∙ sym (ap (λ b. b && (j == k)) (eq-eqb m n (sym same)))
+  | inl same ↦ ap (λ x. is_eq (key_cmp (key n k) (key x j))) (sym same) ∙ ap is_eq (key_cmp-same n k j) ∙ offsets ∙ sym (ap (λ b. b && (j == k)) (eq-eqb m n (sym same)))
   | inr apart ↦ elim apart as (λ _. is_at (key_cmp (key n k)) (key m j) ≡ ((m == n) && (j == k))) [
     | inl low ↦ ap (λ o. is_eq (ordering_then o (nat_cmp k j))) (sym (nat_cmp_is n m Less low)) ∙ sym (ap (λ b. b && (j == k)) (ne_eqb m n (λ same. omega arith)))
     | inr high ↦ ap (λ o. is_eq (ordering_then o (nat_cmp k j))) (sym (nat_cmp_is n m Greater high)) ∙ sym (ap (λ b. b && (j == k)) (ne_eqb m n (λ same. omega arith)))
   ]
 ]
   where
-    places : is_eq (nat_cmp k j) ≡ (j == k)
-    places = elim (cases_order k j) as (λ _. is_eq (nat_cmp k j) ≡ (j == k)) [
+    offsets : is_eq (nat_cmp k j) ≡ (j == k)
+    offsets = elim (cases_order k j) as (λ _. is_eq (nat_cmp k j) ≡ (j == k)) [
       | inl same ↦ ap is_eq (sym (nat_cmp_is k j Equal same)) ∙ sym (eq-eqb j k (sym same))
       | inr apart ↦ elim apart as (λ _. is_eq (nat_cmp k j) ≡ (j == k)) [
         | inl low ↦ ap is_eq (sym (nat_cmp_is k j Less low)) ∙ sym (ne_eqb j k (λ same. omega arith))
@@ -44,7 +44,7 @@ is_at-key n k m j = elim (cases_order n m) as (λ _. is_at (key_cmp (key n k)) (
       ]
     ]
 
--- a table that differs at one key is one of counts that differ at one place
+-- a table that differs at one key is one of counts that differ at one offset
 pub updated : (old new : BTreeMap (ObjectId × ℕ) Part) (n k : ℕ) (w : Option Part) (f g : Counts) → IsTable old f
     → ((q : ObjectId × ℕ) → get key_cmp new q ≡ cond (is_at (key_cmp (key n k)) q) w (get key_cmp old q))
     → w ≡ stored (g n k) → ((m j : ℕ) → ((m ≡ n) → (j ≡ k) → ⊥) → g m j ≡ f m j) → IsTable new g
@@ -80,7 +80,7 @@ module _ (n k : ℕ) (f : Counts) where
     | inr other ↦ off_key n k m j (record (with_end n k f m j) { ends = (with_end n k f m j).ends - 1 }) (with_end n k f m j) (λ e _. other e) ∙ with_end-apart m j (λ e _. other e)
   ]
 
-  -- an end more leaves what covers each place
+  -- an end more leaves what covers each offset
   pub with_end_covers : (m j : ℕ) → ((with_end n k f m j).readers ≡ (f m j).readers) × ((with_end n k f m j).writers ≡ (f m j).writers) × ((f m j).ends ≤ (with_end n k f m j).ends) × ((with_end n k f m j).ends ≤ (f m j).ends + 1)
   with_end_covers m j = by ((m == n) && (j == k))
     where
@@ -143,7 +143,7 @@ module _ (n low high : ℕ) (mode : Mode) (change : Change) (f : Counts) where
         ∙ ap (λ b. cond b (recounted_part mode change (f n k)) (f n k)) (le-ltb k high from)
   ]
 
--- what is at the other places of the number
+-- what is at the other offsets of the number
 pub others_stay : (old new : BTreeMap (ObjectId × ℕ) Part) (n k : ℕ) (v : Part) → WritesThrough key_cmp (key_cmp (key n k)) old v new → IsSome (get key_cmp old (key n k))
     → (j : ℕ) → (j ≡ k → ⊥) → get key_cmp new (key n j) ≡ get key_cmp old (key n j)
 others_stay old new n k v writes there j other = (writes.3 there).2 (key n j) (is_at-key n k n j ∙ ap (λ b. (n == n) && b) (ne_eqb j k other) ∙ ap (λ b. b && false) (eq-eqb n n refl))

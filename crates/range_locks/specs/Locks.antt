@@ -75,9 +75,9 @@ append_refusal object length held =
     ∷ refused_if (has_too_many held) TooMany ∷ [])
 
 -- what a call answers by its first refusal: without one it is refused for want of memory alone
-abbrev pub Locks : {A : Type 0} → Option PoolError → Result A PoolError → Type 0
-Locks (Some e) answer = answer ≡ Err e
-Locks None answer = IfErr answer (λ e. e ≡ NoMemory)
+abbrev pub AnswersBy : {A : Type 0} → Option PoolError → Result A PoolError → Type 0
+AnswersBy (Some e) answer = answer ≡ Err e
+AnswersBy None answer = IfErr answer (λ e. e ≡ NoMemory)
 
 -- the locks with one more, under the next name
 abbrev pub with_grant : ℕ → NumberRange → Mode → Held → Held

@@ -18,7 +18,7 @@ pub struct HeldLock {
 pub struct HeldPiece {
     /// Where it begins.
     pub low: u64,
-    /// Where it ends: this place is not in it.
+    /// Where it ends: this offset is not in it.
     pub high: u64,
     /// Whether a writer covers it.
     pub writer: bool,

@@ -30,13 +30,13 @@ pub struct RangeLocks {
 impl Model for RangeLocks {
     ghost use Rattle.std.specs.Prelude.{map};
     ghost use Rattle.range_locks.specs.Locks.{Held, grant_of};
-    ghost use Rattle.range_locks.specs.Parts.{AreInStep};
+    ghost use Rattle.range_locks.specs.Parts.{AreCounted};
 
     ghost Value = { Held };
 
     ghost view = { λ a. record { locks = map grant_of a.held.entries; next = a.next } };
 
-    ghost invariant = { λ a. AreInStep (record { locks = map grant_of a.held.entries; next = a.next }) a.parts.table };
+    ghost invariant = { λ a. AreCounted (record { locks = map grant_of a.held.entries; next = a.next }) a.parts.table };
 }
 
 impl RangeLocks {
@@ -44,7 +44,7 @@ impl RangeLocks {
     ghost use Rattle.std.specs.List.{find};
     ghost use Rattle.std.specs.Map.Iter.{ShowsInOrder, deref_pair};
     ghost use Rattle.base.specs.steps.Locks.{AreLocksSound, is_blocked, is_covered, is_covered_for_writing};
-    ghost use Rattle.range_locks.specs.Locks.{Appends, append_refusal, GrantsOne, grant_of, is_named, Locks, lock_refusal, without};
+    ghost use Rattle.range_locks.specs.Locks.{AnswersBy, Appends, append_refusal, GrantsOne, grant_of, is_named, lock_refusal, without};
     ghost use Rattle.range_locks.specs.Pieces.{pieces_of};
 
     /// No locks. It takes no memory.
@@ -71,8 +71,9 @@ impl RangeLocks {
         range: ObjectRange,
         mode: Mode,
     ) -> Result<LockId, PoolError>
-        ensures answer { Locks (lock_refusal (number_range range) mode self.old) result }
-        ensures granted { IfOk result (λ id. GrantsOne id owner (number_range range) mode self.old self.new) }
+        ensures refused { AnswersBy (lock_refusal (number_range range) mode self.old) result }
+        ensures granted { IfOk result
+            (λ id. GrantsOne id owner (number_range range) mode self.old self.new) }
         ensures unchanged { OnErr result (self.new ≡ self.old) }
     {
         if range.object.0 > OBJECT_COUNT || !range.range.is_allowed() {
@@ -114,8 +115,9 @@ impl RangeLocks {
         object: ObjectId,
         length: Option<u64>,
     ) -> Result<(LockId, Range), PoolError>
-        ensures answer { Locks (append_refusal object.0 length self.old) result }
-        ensures granted { IfOk result (λ a. Appends a.0 a.1 owner object length self.old self.new) }
+        ensures refused { AnswersBy (append_refusal object.0 length self.old) result }
+        ensures granted { IfOk result
+            (λ a. Appends a.0 a.1 owner object length self.old self.new) }
         ensures unchanged { OnErr result (self.new ≡ self.old) }
     {
         if object.0 >= OBJECT_COUNT {
@@ -192,14 +194,15 @@ impl RangeLocks {
     /// # Errors
     /// `NoMemory`.
     pub fn pieces(&self, number: ObjectId) -> Result<Vec<HeldPiece>, PoolError>
-        ensures pieces { IfOk result (λ pieces. pieces.items ≡ pieces_of number.0 self.now.locks) }
+        ensures pieces { IfOk result
+            (λ pieces. pieces.items ≡ pieces_of number.0 self.now.locks) }
         ensures refused { IfErr result (λ e. e ≡ PoolError.NoMemory) }
     {
         self.parts.pieces(*self.held.allocator(), number)
     }
 
     /// The name of the next lock: the number of grants so far.
-    pub fn next(&self) -> LockId
+    pub fn next_name(&self) -> LockId
         ensures { result.0 ≡ self.now.next }
     {
         LockId(self.next)
@@ -207,7 +210,8 @@ impl RangeLocks {
 }
 
 fn any_covers(held: &IndexMap<LockId, HeldLock>, owner: Owner, range: &ObjectRange) -> bool
-    ensures { result ≡ list_any (λ e. covers owner.0 (number_range range.now) (grant_of e)) held.now.entries }
+    ensures { result
+        ≡ list_any (λ e. covers owner.0 (number_range range.now) (grant_of e)) held.now.entries }
 {
     held.iter().any(|(_, lock)| lock.owner.0 == owner.0 && range.lies_in(&lock.range))
 }
@@ -217,7 +221,8 @@ fn any_covers_for_writing(
     owner: Owner,
     range: &ObjectRange,
 ) -> bool
-    ensures { result ≡ list_any (λ e. covers_for_writing owner.0 (number_range range.now) (grant_of e)) held.now.entries }
+    ensures { result
+        ≡ list_any (λ e. covers_for_writing owner.0 (number_range range.now) (grant_of e)) held.now.entries }
 {
     held.iter().any(|(_, lock)| !lock.mode.is_reader()
         && (lock.owner.0 == owner.0 && range.lies_in(&lock.range)))

@@ -1,6 +1,6 @@
 //! The held ranges of each number, cut at the ends of its locks.
 //!
-//! Each place where a lock begins or ends is a key, with what lies from there to the next one: a piece, or a gap that no
+//! Each offset where a lock begins or ends is a key, with what lies from there to the next one: a piece, or a gap that no
 //! lock covers. So a lock or an unlock touches its own two ends and the ends between them, and two pieces are joined where
 //! the last lock that begins or ends between them is let go.
 
@@ -9,7 +9,7 @@ ghost use Rattle.std.specs.BTreeMap.{get};
 ghost use Rattle.base.specs.history.Plans.{number_range};
 ghost use Rattle.range_locks.specs.Locks.{Held};
 ghost use Rattle.range_locks.specs.Pieces.{pieces_of};
-ghost use Rattle.range_locks.specs.Parts.{AreInStep, blocks_part, CanRecount, CanRecountPart, Counts, HasCounts, IsBlockedIn, IsFreeIn, is_covered_part, IsTable, IsStill, key, key_cmp, recounted, recounted_part, with_end, with_lock, without_end, without_lock};
+ghost use Rattle.range_locks.specs.Parts.{AreCounted, blocks_part, CanRecount, CanRecountPart, Counts, HasCounts, IsBlockedIn, IsFreeIn, is_covered_part, IsTable, IsStill, key, key_cmp, recounted, recounted_part, with_end, with_lock, without_end, without_lock};
 
 use crate::held::HeldPiece;
 use base::{MAX_LENGTH, Mode, ObjectId, ObjectRange, PoolError, Range};
@@ -85,7 +85,7 @@ impl Part {
     }
 }
 
-/// The parts by number and place, rising.
+/// The parts by number and offset, rising.
 #[derive(Drop)]
 pub(crate) struct Parts {
     table: BTreeMap<(ObjectId, u64), Part>,
@@ -101,7 +101,7 @@ impl Parts {
         }
     }
 
-    /// The first part that begins in a range of a number, with the place where it begins.
+    /// The first part that begins in a range of a number, with the offset where it begins.
     fn next_part(&self, number: ObjectId, low: u64, high: u64) -> Option<(u64, Part)>
         requires { low ≤ high }
         ensures within { IfSome result (λ r. (low ≤ r.0) × (r.0 < high)) }
@@ -115,7 +115,7 @@ impl Parts {
         }
     }
 
-    /// What covers a place, and how many locks begin or end there.
+    /// What covers an offset, and how many locks begin or end there.
     fn part_at(&self, number: ObjectId, at: u64) -> Part
         ensures { (f : Counts) → IsTable self.now.table f → IsStill f → result ≡ f number.0 at }
     {
@@ -126,7 +126,7 @@ impl Parts {
         }
     }
 
-    /// One more lock begins or ends at a place. It is refused where there is no memory, and then nothing has changed.
+    /// One more lock begins or ends at an offset. It is refused where there is no memory, and then nothing has changed.
     fn add_end(&mut self, number: ObjectId, at: u64) -> Result<(), PoolError>
         requires { HasCounts 1000 self.old.table }
         ensures added { (f : Counts) → IsTable self.old.table f → IsStill f → OnOk result (IsTable self.new.table (with_end number.0 at f)) }
@@ -139,7 +139,7 @@ impl Parts {
         Ok(())
     }
 
-    /// One lock fewer begins or ends at a place.
+    /// One lock fewer begins or ends at an offset.
     fn remove_end(&mut self, number: ObjectId, at: u64)
         ensures { (f : Counts) → IsTable self.old.table f → IsTable self.new.table (without_end number.0 at f) }
     {
@@ -161,10 +161,10 @@ impl Parts {
         ensures { (f : Counts) → IsTable self.old.table f → IsTable self.new.table (recounted (number_range range.now) mode change f) }
     {
         let Range { low, high } = range.range;
-        let mut place = low;
-        while let Some((at, part)) = self.next_part(range.object, place, high) {
+        let mut offset = low;
+        while let Some((at, part)) = self.next_part(range.object, offset, high) {
             *self.table.get_mut(&(range.object, at)).unwrap() = part.recounted(mode, change);
-            place = at + 1;
+            offset = at + 1;
         }
     }
 
@@ -206,19 +206,19 @@ impl Parts {
         if self.part_at(range.object, low).blocks(mode) {
             return true;
         }
-        let mut place = low;
-        while let Some((at, part)) = self.next_part(range.object, place, high) {
+        let mut offset = low;
+        while let Some((at, part)) = self.next_part(range.object, offset, high) {
             if part.blocks(mode) {
                 return true;
             }
-            place = at + 1;
+            offset = at + 1;
         }
         false
     }
 
     /// The pieces of a number, rising.
     pub fn pieces(&self, alloc: Global, number: ObjectId) -> Result<Vec<HeldPiece>, PoolError>
-        ensures pieces { IfOk result (λ pieces. (held : Held) → AreInStep held self.now.table → pieces.items ≡ pieces_of number.0 held.locks) }
+        ensures pieces { IfOk result (λ pieces. (held : Held) → AreCounted held self.now.table → pieces.items ≡ pieces_of number.0 held.locks) }
         ensures refused { IfErr result (λ e. e ≡ PoolError.NoMemory) }
     {
         let mut pieces = Vec::new(alloc);

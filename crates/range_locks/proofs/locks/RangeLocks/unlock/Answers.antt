@@ -1,6 +1,6 @@
 use Rattle.std.proofs.Common.{refl, sym}
 use Rattle.range_locks.specs.Locks.{grant_of}
-use Rattle.range_locks.proofs.Steps.{let_go_in_step, found_ordered, found_counted}
+use Rattle.range_locks.proofs.CountedLocks.{let_go_counted, found_ordered, found_counted}
 use Rattle.range_locks.proofs.Names.{map-remove_entry}
 use Rattle.range_locks.proofs.locks.RangeLocks.unlock.Goals as goal
 
@@ -15,7 +15,7 @@ remove-requires-clause-counted c =
 pub invariant_of-self : goal.invariant_of-self
 invariant_of-self c =
     rw (c.shift_remove.ensures.entries, map-remove_entry c.args.id.0 c.self.inside.held.entries c.self.invariant.are.rising)
-    (let_go_in_step _ c.self.inside.parts.table c.self.invariant c.args.id.0 c.args.owner.0 (grant_of (c.args.id, c.in-Some.lock.now)) (rw (← c.self.view_is) at (sym c.in-Some.ensures)) c.remove.new.self.table (c.remove.ensures _ c.self.invariant.is))
+    (let_go_counted _ c.self.inside.parts.table c.self.invariant c.args.id.0 c.args.owner.0 (grant_of (c.args.id, c.in-Some.lock.now)) (rw (← c.self.view_is) at (sym c.in-Some.ensures)) c.remove.new.self.table (c.remove.ensures _ c.self.invariant.is))
 
 pub returns-clause-let_go : goal.returns-clause-let_go
 returns-clause-let_go c = rw (← c.self.view_is, c.shift_remove.ensures.entries, map-remove_entry c.args.id.0 c.self.inside.held.entries c.self.invariant.are.rising) refl

@@ -5,10 +5,10 @@ use Rattle.range_locks.specs.declared.parts.Part.{Part}
 use Rattle.range_locks.specs.Parts.{blocks_part, key, key_cmp}
 use Rattle.range_locks.proofs.parts.Parts.blocks.Given as goal
 
--- no part up to this place keeps the lock away
+-- no part up to this offset keeps the lock away
 abbrev pub invariant-loop-at : goal.invariant-loop-at
-invariant-loop-at l = (l.range.range.low ≤ l.place) × (l.place ≤ l.range.range.high)
-    × ((k : ℕ) → l.range.range.low ≤ k → k < l.place → IfSome (get key_cmp l.self.table (key l.range.object.0 k)) (λ (p : Part). blocks_part l.mode p ≡ false))
+invariant-loop-at l = (l.range.range.low ≤ l.offset) × (l.offset ≤ l.range.range.high)
+    × ((k : ℕ) → l.range.range.low ≤ k → k < l.offset → IfSome (get key_cmp l.self.table (key l.range.object.0 k)) (λ (p : Part). blocks_part l.mode p ≡ false))
 
 abbrev pub decreases-loop-at : goal.decreases-loop-at
-decreases-loop-at l = l.range.range.high - l.place
+decreases-loop-at l = l.range.range.high - l.offset

@@ -1,6 +1,6 @@
 use Rattle.std.proofs.Common.{ap, ◌∙◌}
 use Rattle.range_locks.proofs.Keys.{last_up_to, none_up_to}
-use Rattle.range_locks.proofs.Counted.{part_here, part_after, part_none}
+use Rattle.range_locks.proofs.StoredParts.{part_here, part_after, part_none}
 use Rattle.range_locks.proofs.parts.Parts.part_at.Goals as goal
 
 pub returns-in-Some : goal.returns-in-Some

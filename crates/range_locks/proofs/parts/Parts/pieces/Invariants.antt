@@ -7,10 +7,10 @@ use Rattle.range_locks.proofs.parts.Parts.pieces.Given as goal
 abbrev pub invariant-loop-begin : goal.invariant-loop-begin
 invariant-loop-begin l = IsWalked l.number.0 l.self.table l.pieces.items l.begin
 
--- how many places there are from the next key on
-abbrev places_left : Option (ℕ × Part) → ℕ
-places_left None = 0
-places_left (Some b) = 338690 - b.0
+-- how many offsets there are from the next key on
+abbrev offsets_left : Option (ℕ × Part) → ℕ
+offsets_left None = 0
+offsets_left (Some b) = 338690 - b.0
 
 abbrev pub decreases-loop-begin : goal.decreases-loop-begin
-decreases-loop-begin l = places_left l.begin
+decreases-loop-begin l = offsets_left l.begin

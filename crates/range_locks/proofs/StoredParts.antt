@@ -1,4 +1,4 @@
--- What the table has at a place, as it follows from how many locks begin, end and cover there.
+-- What the table has at an offset, as it follows from how many locks begin, end and cover there.
 use Rattle.std.proofs.Common.{◌≡◌, ℕ, zero, suc, ◌+◌, ◌-◌, ◌<◌, ◌≤◌, ◌==◌, Bool, true, false, cond, refl, ap, sym, ◌∙◌, arith}
 use Rattle.std.specs.Prelude.{Option, Some, None}
 use Rattle.std.specs.BTreeMap.{BTreeMap, get}
@@ -44,7 +44,7 @@ module _ (table : BTreeMap (ObjectId × ℕ) Part) (f : Counts) (is : IsTable ta
   no_end k h = stored_none (f n k) (sym (is n k) ∙ h)
 
   module _ (still : IsStill f) (at : ℕ) where
-    -- a place after the last end has what began there
+    -- an offset after the last end has what began there
     pub part_after : (k : ℕ) (p : Part) → get key_cmp table (key n k) ≡ Some p → k ≤ at → (k ≡ at → ⊥)
         → ((x : ℕ) → k < x → x ≤ at → get key_cmp table (key n x) ≡ None) → record p { ends = 0 } ≡ f n at
     part_after k p h below apart none =
@@ -56,7 +56,7 @@ module _ (table : BTreeMap (ObjectId × ℕ) Part) (f : Counts) (is : IsTable ta
         let writers : p.writers ≡ (f n at).writers = ap (λ q. q.writers) there ∙ sym same.1 ∙ ap (λ x. (f n x).writers) far in
         λ i. record { ends = ends i; readers = readers i; writers = writers i }
 
-    -- a place before the first end has nothing
+    -- an offset before the first end has nothing
     pub part_none : ((x : ℕ) → x ≤ at → get key_cmp table (key n x) ≡ None) → record { ends = 0; readers = 0; writers = 0 } ≡ f n at
     part_none none =
         let same = still_up f still n 0 at (λ x after within. no_end x (none x (omega arith))) in
