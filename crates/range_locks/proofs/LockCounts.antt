@@ -12,7 +12,7 @@ use Rattle.base.specs.steps.Locks.{Grant, is_reader}
 use Rattle.base.proofs.common.KeptLists.{All-each, Some-injective}
 use Rattle.range_locks.specs.declared.parts.Change.TheVariants.{More, Fewer}
 use Rattle.range_locks.specs.declared.parts.Part.{Part}
-use Rattle.range_locks.specs.Parts.{CanRecountPart, Counts, HasCounts, IsStill, IsTable, counts_of, ends_at, key, key_cmp, recounted, recounted_part, stored, with_end, with_lock, without_end, without_lock}
+use Rattle.range_locks.specs.Parts.{CanRecountPart, Counts, HasCounts, IsStill, IsTable, most_counted, counts_of, ends_at, key, key_cmp, recounted, recounted_part, stored, with_end, with_lock, without_end, without_lock}
 use Rattle.range_locks.specs.Pieces.{covers_byte}
 use Rattle.range_locks.proofs.StoredParts.{part_here}
 use Rattle.range_locks.proofs.Names.{NamesRise, all_others, behind, rest_rises}
@@ -214,7 +214,7 @@ counts_still locks = record {
 }
 
 -- and no count is above twice the number of locks
-pub counts_small : (table : BTreeMap (ObjectId × ℕ) Part) (locks : List Grant) → length locks ≤ 256 → IsTable table (counts_of locks) → HasCounts 512 table
+pub counts_small : (table : BTreeMap (ObjectId × ℕ) Part) (locks : List Grant) → length locks ≤ 256 → IsTable table (counts_of locks) → HasCounts most_counted table
 counts_small table locks few is = record {
   counts = counts_of locks;
   is = is;

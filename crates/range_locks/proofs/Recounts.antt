@@ -10,7 +10,7 @@ use Rattle.base.specs.steps.Locks.{is_reader}
 use Rattle.range_locks.specs.declared.parts.Change.{Change}
 use Rattle.range_locks.specs.declared.parts.Part.{Part}
 use Rattle.range_locks.specs.declared.parts.Change.TheVariants.{More}
-use Rattle.range_locks.specs.Parts.{blocks_part, CanRecountPart, Counts, IsFreeIn, IsTable, IsStill, key, key_cmp, stored, recounted, recounted_part}
+use Rattle.range_locks.specs.Parts.{blocks_part, CanRecountPart, Counts, most_counted, IsFreeIn, IsTable, IsStill, key, key_cmp, stored, recounted, recounted_part}
 use Rattle.range_locks.proofs.StoredParts.{no_end, part_here, stored_is, stored_none, stored-zero}
 use Rattle.range_locks.proofs.Updates.{written, stored-some, ends-recounted_part, recounted-in, recounted-elsewhere, recounted-before, recounted-behind}
 
@@ -98,11 +98,11 @@ free_in table f n low high mode is still first parts k from below =
         ap (λ x. blocks_part mode (f n x)) next ∙ by (get key_cmp table (key n (low + d + 1))) d refl (parts (low + d + 1) (omega arith) (omega arith)) (up d (omega arith))
 
 -- one more can be counted where the counts are small
-pub can_count : (table : BTreeMap (ObjectId × ℕ) Part) (f : Counts) (n k : ℕ) (mode : Mode) → IsTable table f → (f n k).readers ≤ 1000 → (f n k).writers ≤ 1000
+pub can_count : (table : BTreeMap (ObjectId × ℕ) Part) (f : Counts) (n k : ℕ) (mode : Mode) → IsTable table f → (f n k).readers ≤ most_counted → (f n k).writers ≤ most_counted
     → IfSome (get key_cmp table (key n k)) (CanRecountPart mode More)
 can_count table f n k mode is readers writers = by (get key_cmp table (key n k)) mode refl
   where
     by : (o : Option Part) (m : Mode) → get key_cmp table (key n k) ≡ o → IfSome o (CanRecountPart m More)
     by None m at = tt
-    by (Some p) Reader at = subst (λ (q : Part). q.readers ≤ 1000) (sym (part_here table f is n k p at)) readers
-    by (Some p) Writer at = subst (λ (q : Part). q.writers ≤ 1000) (sym (part_here table f is n k p at)) writers
+    by (Some p) Reader at = subst (λ (q : Part). q.readers ≤ most_counted) (sym (part_here table f is n k p at)) readers
+    by (Some p) Writer at = subst (λ (q : Part). q.writers ≤ most_counted) (sym (part_here table f is n k p at)) writers

@@ -1,5 +1,5 @@
 -- The held ranges of each number, cut at the ends of its locks: what the table of parts has.
-use Rattle.std.specs.Prelude.{ℕ, ◌≡◌, ◌+◌, ◌-◌, ◌<◌, ◌≤◌, ◌==◌, ◌&&◌, ◌||◌, Bool, true, false, not, Option, Some, None, IfSome, List, sum_by, nat_lt, nat_le, if◌then◌else◌}
+use Rattle.std.specs.Prelude.{ℕ, ◌≡◌, ◌+◌, ◌-◌, ◌*◌, ◌<◌, ◌≤◌, ◌==◌, ◌&&◌, ◌||◌, Bool, true, false, not, Option, Some, None, IfSome, List, sum_by, nat_lt, nat_le, if◌then◌else◌}
 use Rattle.std.specs.List.{count_by}
 use Rattle.std.specs.BTreeMap.{BTreeMap, get}
 use Rattle.std.specs.Ordering.{nat_cmp, ordering_then}
@@ -7,6 +7,7 @@ use Rattle.std.specs.declared.cmp.Ordering.{Ordering}
 use Rattle.base.specs.declared.names.ObjectId.{ObjectId}
 use Rattle.base.specs.declared.range.Mode.{Mode}
 use Rattle.base.specs.declared.range.Mode.TheVariants.{Reader, Writer}
+use Rattle.base.specs.formats.Limits.{max_locks}
 use Rattle.base.specs.history.Plans.{NumberRange}
 use Rattle.base.specs.steps.Locks.{Grant, is_reader}
 use Rattle.range_locks.specs.Pieces.{covers_byte}
@@ -53,10 +54,22 @@ stored p = if p.ends == 0 then None else Some p
 abbrev pub IsTable : BTreeMap (ObjectId × ℕ) Part → Counts → Type 0
 IsTable table f = (n k : ℕ) → get key_cmp table (key n k) ≡ stored (f n k)
 
+-- the table has nothing at the offsets of a number from one to another
+abbrev pub HasNone : BTreeMap (ObjectId × ℕ) Part → ℕ → ℕ → ℕ → Type 0
+HasNone table n low high = (k : ℕ) → low ≤ k → k < high → get key_cmp table (key n k) ≡ None
+
+-- a table of counts becomes one of other counts
+abbrev pub Becomes : BTreeMap (ObjectId × ℕ) Part → (Counts → Counts) → BTreeMap (ObjectId × ℕ) Part → Type 0
+Becomes old change new = (f : Counts) → IsTable old f → IsTable new (change f)
+
 -- what covers an offset changes only where a lock begins or ends
 pub record IsStill (f : Counts) : Type 0 where
   pub first : (n : ℕ) → (f n 0).ends ≡ 0 → ((f n 0).readers ≡ 0) × ((f n 0).writers ≡ 0)
   pub next : (n k : ℕ) → (f n (k + 1)).ends ≡ 0 → ((f n (k + 1)).readers ≡ (f n k).readers) × ((f n (k + 1)).writers ≡ (f n k).writers)
+
+-- what is true of the counts of a table, where these are still
+abbrev pub HoldsFor : BTreeMap (ObjectId × ℕ) Part → (Counts → Type 0) → Type 0
+HoldsFor table P = (f : Counts) → IsTable table f → IsStill f → P f
 
 -- one lock more or one fewer begins or ends at an offset
 abbrev pub with_end : ℕ → ℕ → Counts → Counts
@@ -72,11 +85,15 @@ recounted_part Reader Fewer p = record p { readers = p.readers - 1 }
 recounted_part Writer More p = record p { writers = p.writers + 1 }
 recounted_part Writer Fewer p = record p { writers = p.writers - 1 }
 
+-- no count is above this one: each lock has two ends
+abbrev pub most_counted : ℕ
+most_counted = 2 * max_locks
+
 -- whether that can be counted
 abbrev pub CanRecountPart : Mode → Change → Part → Type 0
-CanRecountPart Reader More p = p.readers ≤ 1000
+CanRecountPart Reader More p = p.readers ≤ most_counted
 CanRecountPart Reader Fewer p = 0 < p.readers
-CanRecountPart Writer More p = p.writers ≤ 1000
+CanRecountPart Writer More p = p.writers ≤ most_counted
 CanRecountPart Writer Fewer p = 0 < p.writers
 
 abbrev pub CanRecount : NumberRange → Mode → Change → BTreeMap (ObjectId × ℕ) Part → Type 0

@@ -43,6 +43,7 @@ impl RangeLocks {
     ghost use Rattle.std.specs.Prelude.{option_map, map, length, ◌≤◌, ◌<◌};
     ghost use Rattle.std.specs.List.{find};
     ghost use Rattle.std.specs.Map.Iter.{ShowsInOrder, deref_pair};
+    ghost use Rattle.base.specs.formats.Limits.{max_locks};
     ghost use Rattle.base.specs.steps.Locks.{AreLocksSound, is_blocked, is_covered, is_covered_for_writing};
     ghost use Rattle.range_locks.specs.Locks.{AnswersBy, Appends, append_refusal, GrantsOne, grant_of, is_named, lock_refusal, without};
     ghost use Rattle.range_locks.specs.Pieces.{pieces_of};
@@ -183,7 +184,7 @@ impl RangeLocks {
     pub fn held(&self) -> Iter<'_, LockId, HeldLock>
         ensures locks { map grant_of result ≡ self.now.locks }
         ensures sound { AreLocksSound self.now.locks }
-        ensures count { length result ≤ 256 }
+        ensures count { length result ≤ max_locks }
         ensures runs { ShowsInOrder (deref_pair {K = LockId} {X = HeldLock}) }
     {
         self.held.iter()
@@ -222,7 +223,8 @@ fn any_covers_for_writing(
     range: &ObjectRange,
 ) -> bool
     ensures { result
-        ≡ list_any (λ e. covers_for_writing owner.0 (number_range range.now) (grant_of e)) held.now.entries }
+        ≡ list_any (λ e. covers_for_writing owner.0 (number_range range.now) (grant_of e))
+        held.now.entries }
 {
     held.iter().any(|(_, lock)| !lock.mode.is_reader()
         && (lock.owner.0 == owner.0 && range.lies_in(&lock.range)))

@@ -9,7 +9,7 @@ ghost use Rattle.std.specs.BTreeMap.{get};
 ghost use Rattle.base.specs.history.Plans.{number_range};
 ghost use Rattle.range_locks.specs.Locks.{Held};
 ghost use Rattle.range_locks.specs.Pieces.{pieces_of};
-ghost use Rattle.range_locks.specs.Parts.{AreCounted, blocks_part, CanRecount, CanRecountPart, Counts, HasCounts, IsBlockedIn, IsFreeIn, is_covered_part, IsTable, IsStill, key, key_cmp, recounted, recounted_part, with_end, with_lock, without_end, without_lock};
+ghost use Rattle.range_locks.specs.Parts.{AreCounted, Becomes, blocks_part, CanRecount, CanRecountPart, HasCounts, HasNone, HoldsFor, IsBlockedIn, IsFreeIn, is_covered_part, IsTable, key, key_cmp, most_counted, recounted, recounted_part, with_end, with_lock, without_end, without_lock};
 
 use crate::held::HeldPiece;
 use base::{MAX_LENGTH, Mode, ObjectId, ObjectRange, PoolError, Range};
@@ -105,9 +105,10 @@ impl Parts {
     fn next_part(&self, number: ObjectId, low: u64, high: u64) -> Option<(u64, Part)>
         requires { low ≤ high }
         ensures within { IfSome result (λ r. (low ≤ r.0) × (r.0 < high)) }
-        ensures part { IfSome result (λ r. get key_cmp self.now.table (key number.0 r.0) ≡ Some r.1) }
-        ensures before { IfSome result (λ r. (k : ℕ) → low ≤ k → k < r.0 → get key_cmp self.now.table (key number.0 k) ≡ None) }
-        ensures none { IfNone result ((k : ℕ) → low ≤ k → k < high → get key_cmp self.now.table (key number.0 k) ≡ None) }
+        ensures part { IfSome result
+            (λ r. get key_cmp self.now.table (key number.0 r.0) ≡ Some r.1) }
+        ensures before { IfSome result (λ r. HasNone self.now.table number.0 low r.0) }
+        ensures none { IfNone result (HasNone self.now.table number.0 low high) }
     {
         match self.table.range((number, low)..(number, high)).next() {
             Some((begin, part)) => Some((begin.1, *part)),
@@ -117,7 +118,7 @@ impl Parts {
 
     /// What covers an offset, and how many locks begin or end there.
     fn part_at(&self, number: ObjectId, at: u64) -> Part
-        ensures { (f : Counts) → IsTable self.now.table f → IsStill f → result ≡ f number.0 at }
+        ensures { HoldsFor self.now.table (λ f. result ≡ f number.0 at) }
     {
         match self.table.range((number, 0)..=(number, at)).next_back() {
             Some((begin, part)) if begin.1 == at => *part,
@@ -128,9 +129,10 @@ impl Parts {
 
     /// One more lock begins or ends at an offset. It is refused where there is no memory, and then nothing has changed.
     fn add_end(&mut self, number: ObjectId, at: u64) -> Result<(), PoolError>
-        requires { HasCounts 1000 self.old.table }
-        ensures added { (f : Counts) → IsTable self.old.table f → IsStill f → OnOk result (IsTable self.new.table (with_end number.0 at f)) }
-        ensures unchanged { (f : Counts) → IsTable self.old.table f → OnErr result (IsTable self.new.table f) }
+        requires { HasCounts (most_counted + 1) self.old.table }
+        ensures added { OnOk result
+            (HoldsFor self.old.table (λ f. IsTable self.new.table (with_end number.0 at f))) }
+        ensures unchanged { OnErr result (Becomes self.old.table (λ f. f) self.new.table) }
         ensures refused { IfErr result (λ e. e ≡ PoolError.NoMemory) }
     {
         let part = self.part_at(number, at);
@@ -141,7 +143,7 @@ impl Parts {
 
     /// One lock fewer begins or ends at an offset.
     fn remove_end(&mut self, number: ObjectId, at: u64)
-        ensures { (f : Counts) → IsTable self.old.table f → IsTable self.new.table (without_end number.0 at f) }
+        ensures { Becomes self.old.table (without_end number.0 at) self.new.table }
     {
         match self.table.get(&(number, at)) {
             Some(part) if part.ends > 1 => {
@@ -158,7 +160,8 @@ impl Parts {
     fn recount(&mut self, range: &ObjectRange, mode: Mode, change: Change)
         requires ordered { range.now.range.low ≤ range.now.range.high }
         requires counted { CanRecount (number_range range.now) mode change self.old.table }
-        ensures { (f : Counts) → IsTable self.old.table f → IsTable self.new.table (recounted (number_range range.now) mode change f) }
+        ensures { Becomes self.old.table
+            (recounted (number_range range.now) mode change) self.new.table }
     {
         let Range { low, high } = range.range;
         let mut offset = low;
@@ -171,9 +174,11 @@ impl Parts {
     /// One more lock covers a range. It is refused where there is no memory, and then nothing has changed.
     pub fn add(&mut self, range: &ObjectRange, mode: Mode) -> Result<(), PoolError>
         requires ordered { range.now.range.low ≤ range.now.range.high }
-        requires counted { HasCounts 512 self.old.table }
-        ensures added { (f : Counts) → IsTable self.old.table f → IsStill f → OnOk result (IsTable self.new.table (with_lock (number_range range.now) mode f)) }
-        ensures unchanged { (f : Counts) → IsTable self.old.table f → IsStill f → OnErr result (IsTable self.new.table f) }
+        requires counted { HasCounts most_counted self.old.table }
+        ensures added { OnOk result (HoldsFor self.old.table
+            (λ f. IsTable self.new.table (with_lock (number_range range.now) mode f))) }
+        ensures unchanged { OnErr result
+            (HoldsFor self.old.table (λ f. IsTable self.new.table f)) }
         ensures refused { IfErr result (λ e. e ≡ PoolError.NoMemory) }
     {
         self.add_end(range.object, range.range.low)?;
@@ -189,7 +194,8 @@ impl Parts {
     pub fn remove(&mut self, range: &ObjectRange, mode: Mode)
         requires ordered { range.now.range.low ≤ range.now.range.high }
         requires counted { CanRecount (number_range range.now) mode Change.Fewer self.old.table }
-        ensures { (f : Counts) → IsTable self.old.table f → IsTable self.new.table (without_lock (number_range range.now) mode f) }
+        ensures { Becomes self.old.table
+            (without_lock (number_range range.now) mode) self.new.table }
     {
         self.recount(range, mode, Change::Fewer);
         self.remove_end(range.object, range.range.low);
@@ -199,8 +205,10 @@ impl Parts {
     /// Whether some part of a range keeps a lock of this mode away.
     pub fn blocks(&self, range: &ObjectRange, mode: Mode) -> bool
         requires { range.now.range.low < range.now.range.high }
-        ensures some { result ≡ true → (f : Counts) → IsTable self.now.table f → IsStill f → IsBlockedIn (number_range range.now) mode f }
-        ensures none { result ≡ false → (f : Counts) → IsTable self.now.table f → IsStill f → IsFreeIn (number_range range.now) mode f }
+        ensures some { result ≡ true
+            → HoldsFor self.now.table (IsBlockedIn (number_range range.now) mode) }
+        ensures none { result ≡ false
+            → HoldsFor self.now.table (IsFreeIn (number_range range.now) mode) }
     {
         let Range { low, high } = range.range;
         if self.part_at(range.object, low).blocks(mode) {
@@ -218,7 +226,9 @@ impl Parts {
 
     /// The pieces of a number, rising.
     pub fn pieces(&self, alloc: Global, number: ObjectId) -> Result<Vec<HeldPiece>, PoolError>
-        ensures pieces { IfOk result (λ pieces. (held : Held) → AreCounted held self.now.table → pieces.items ≡ pieces_of number.0 held.locks) }
+        ensures pieces { IfOk result (λ pieces.
+            (held : Held) → AreCounted held self.now.table
+            → pieces.items ≡ pieces_of number.0 held.locks) }
         ensures refused { IfErr result (λ e. e ≡ PoolError.NoMemory) }
     {
         let mut pieces = Vec::new(alloc);
