@@ -14,11 +14,11 @@ mod devices;
 #[cfg(test)]
 mod free_blocks;
 #[cfg(test)]
+mod held_ranges;
+#[cfg(test)]
 mod imports;
 #[cfg(test)]
 mod label_configs;
-#[cfg(test)]
-mod range_locks;
 #[cfg(test)]
 mod rings;
 #[cfg(test)]

@@ -47,7 +47,7 @@ fn pieces_are_cut_at_the_ends_of_locks(rt: HostRuntime) -> Result<(), Fail> {
     ];
     assert_eq!(rt; *locks.pieces(OBJECT)?.as_slice(), four[..]);
 
-    // the two ends at 5 and 10 go with the first lock, that at 15 stays with the two others
+    // the ends at 0 and 10 go with the first lock; that at 15 stays, where one lock ends and another begins
     locks.unlock(OWNER, first)?;
     let two = [read_piece(5, 15, 1), read_piece(15, 20, 1)];
     assert_eq!(rt; *locks.pieces(OBJECT)?.as_slice(), two[..]);
@@ -59,7 +59,10 @@ fn pieces_are_cut_at_the_ends_of_locks(rt: HostRuntime) -> Result<(), Fail> {
 fn a_writer_overlaps_nothing(rt: HostRuntime) -> Result<(), Fail> {
     let mut locks = RangeLocks::new(rt.alloc());
     let first = locks.lock(OWNER, range(0, 10), Mode::Writer)?;
-    assert_eq!(rt; locks.lock(OWNER, range(9, 12), Mode::Reader), Err(PoolError::Busy));
+    assert_eq!(rt;
+        locks.lock(OWNER, range(9, 12), Mode::Reader),
+        Err(PoolError::Busy)
+    );
     locks.lock(OWNER, range(10, 12), Mode::Reader)?;
     assert!(rt; locks.covers_for_writing(OWNER, &range(2, 10)));
     assert!(rt; !locks.covers_for_writing(OWNER, &range(10, 12)));
@@ -83,17 +86,35 @@ fn a_writer_overlaps_nothing(rt: HostRuntime) -> Result<(), Fail> {
 fn at_most_256_are_held_and_no_name_comes_twice(rt: HostRuntime) -> Result<(), Fail> {
     let mut locks = RangeLocks::new(rt.alloc());
     for name in 0..256 {
-        assert_eq!(rt; locks.lock(OWNER, range(0, 4), Mode::Reader), Ok(LockId(name)));
+        assert_eq!(rt;
+            locks.lock(OWNER, range(0, 4), Mode::Reader),
+            Ok(LockId(name))
+        );
     }
-    assert_eq!(rt; locks.lock(OWNER, range(0, 4), Mode::Reader), Err(PoolError::TooMany));
-    assert_eq!(rt; locks.lock(OWNER, range(2, 3), Mode::Writer), Err(PoolError::Busy));
-    assert_eq!(rt; *locks.pieces(OBJECT)?.as_slice(), [read_piece(0, 4, 256)][..]);
+    assert_eq!(rt;
+        locks.lock(OWNER, range(0, 4), Mode::Reader),
+        Err(PoolError::TooMany)
+    );
+    assert_eq!(rt;
+        locks.lock(OWNER, range(2, 3), Mode::Writer),
+        Err(PoolError::Busy)
+    );
+    assert_eq!(rt;
+        *locks.pieces(OBJECT)?.as_slice(),
+        [read_piece(0, 4, 256)][..]
+    );
 
     assert_eq!(rt; locks.unlock(OWNER, LockId(7)), Ok(()));
     assert_eq!(rt; locks.unlock(OWNER, LockId(7)), Err(PoolError::NoSuchLock));
-    assert_eq!(rt; locks.unlock(Owner(2), LockId(8)), Err(PoolError::NoSuchLock));
+    assert_eq!(rt;
+        locks.unlock(Owner(2), LockId(8)),
+        Err(PoolError::NoSuchLock)
+    );
     assert_eq!(rt; locks.next_name(), LockId(256));
-    assert_eq!(rt; locks.lock(OWNER, range(0, 4), Mode::Reader), Ok(LockId(256)));
+    assert_eq!(rt;
+        locks.lock(OWNER, range(0, 4), Mode::Reader),
+        Ok(LockId(256))
+    );
     let mut last = LockId(0);
     for (name, _) in locks.held() {
         last = *name;
@@ -107,9 +128,18 @@ fn at_most_256_are_held_and_no_name_comes_twice(rt: HostRuntime) -> Result<(), F
 fn an_append_lock_begins_at_the_end_of_the_object(rt: HostRuntime) -> Result<(), Fail> {
     let mut locks = RangeLocks::new(rt.alloc());
     let past = ObjectId(5292);
-    assert_eq!(rt; locks.lock_append(OWNER, past, Some(0)), Err(PoolError::BadRange));
-    assert_eq!(rt; locks.lock_append(OWNER, OBJECT, None), Err(PoolError::NoObject));
-    assert_eq!(rt; locks.lock_append(OWNER, OBJECT, Some(338_688)), Err(PoolError::BadRange));
+    assert_eq!(rt;
+        locks.lock_append(OWNER, past, Some(0)),
+        Err(PoolError::BadRange)
+    );
+    assert_eq!(rt;
+        locks.lock_append(OWNER, OBJECT, None),
+        Err(PoolError::NoObject)
+    );
+    assert_eq!(rt;
+        locks.lock_append(OWNER, OBJECT, Some(338_688)),
+        Err(PoolError::BadRange)
+    );
     let granted = (
         LockId(0),
         Range {
@@ -118,9 +148,18 @@ fn an_append_lock_begins_at_the_end_of_the_object(rt: HostRuntime) -> Result<(),
         },
     );
     assert_eq!(rt; locks.lock_append(OWNER, OBJECT, Some(104)), Ok(granted));
-    assert_eq!(rt; locks.lock(OWNER, range(200, 201), Mode::Writer), Err(PoolError::Busy));
-    assert_eq!(rt; locks.lock(OWNER, range(0, 338_689), Mode::Reader), Err(PoolError::BadRange));
-    assert_eq!(rt; locks.lock(OWNER, range(4, 4), Mode::Reader), Err(PoolError::BadRange));
+    assert_eq!(rt;
+        locks.lock(OWNER, range(200, 201), Mode::Writer),
+        Err(PoolError::Busy)
+    );
+    assert_eq!(rt;
+        locks.lock(OWNER, range(0, 338_689), Mode::Reader),
+        Err(PoolError::BadRange)
+    );
+    assert_eq!(rt;
+        locks.lock(OWNER, range(4, 4), Mode::Reader),
+        Err(PoolError::BadRange)
+    );
 
     // the number behind the last object stands for the pool's name
     let name = ObjectRange {
@@ -132,6 +171,9 @@ fn an_append_lock_begins_at_the_end_of_the_object(rt: HostRuntime) -> Result<(),
         object: ObjectId(5293),
         ..name
     };
-    assert_eq!(rt; locks.lock(OWNER, beyond, Mode::Writer), Err(PoolError::BadRange));
+    assert_eq!(rt;
+        locks.lock(OWNER, beyond, Mode::Writer),
+        Err(PoolError::BadRange)
+    );
     Ok(())
 }
