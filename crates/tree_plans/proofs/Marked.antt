@@ -1,31 +1,27 @@
 -- What operations do to the objects, one after another, is what the definitions say.
-use Rattle.std.proofs.Common.{◌≡◌, ◌==◌, ℕ, zero, suc, ◌+◌, ◌<◌, ◌≤◌, ◌&&◌, ◌||◌, max, Bool, true, false, cond, List, [], ◌∷◌, ◌++◌, length, take, Option, Some, None, Result, Ok, refl, sym, subst, ◌∙◌, ap, append_assoc, arith}
-use Rattle.std.specs.Prelude.{All, filter, get_or, is_some, nat_lt, option_map, replicate, slice_index_or, unwrap_or, if◌then◌else◌}
-use Rattle.std.specs.List.{flat_map, list_any}
+use Rattle.std.proofs.Common.{◌≡◌, ◌==◌, ℕ, zero, suc, ◌+◌, ◌<◌, ◌&&◌, ◌||◌, max, Bool, true, false, List, [], ◌∷◌, ◌++◌, length, take, Option, Some, None, Ok, refl, sym, ◌∙◌, ap, arith}
+use Rattle.std.specs.Prelude.{All, nat_lt, option_map, replicate, slice_index_or, unwrap_or, if◌then◌else◌}
+use Rattle.std.specs.List.{list_any}
 use Rattle.std.specs.Option.{option_map_or}
 use Rattle.std.specs.FinMap as finite
-use Rattle.std.proofs.lemmas.Bool.{eqb-true, le-ltb, or_left, or_right}
+use Rattle.std.proofs.lemmas.Bool.{le-ltb, or_left, or_right}
 use Rattle.std.proofs.lemmas.List.{take_more}
 use Rattle.std.proofs.lemmas.List.Elements.{All-cons, All-head, All-nil, All-tail}
-use Rattle.base.specs.declared.error.PoolError.{PoolError}
 use Rattle.base.specs.declared.names.ObjectId.{ObjectId}
 use Rattle.base.specs.declared.operation.Op.{Op}
 use Rattle.base.specs.declared.operation.Op.TheVariants.{Create, Remove, Write, SetLength, SetName}
 use Rattle.base.specs.declared.record_state.RecordState.{RecordState}
-use Rattle.base.specs.declared.record_state.RecordState.TheVariants.{Unchanged, Dirty, Hole}
+use Rattle.base.specs.declared.record_state.RecordState.TheVariants.{Unchanged}
 use Rattle.base.specs.history.Contents.{Contents, apply, bytes_after_write, changed, created, removed, resize}
 use Rattle.base.specs.history.History.{apply_all}
 use Rattle.base.specs.history.Plans.{IsRange, ranges, touched}
 use Rattle.base.specs.history.Sequences.{in_turn}
-use Rattle.base.specs.tree.Syncs.{contents_after, contents_after_all, is_change_of, is_on, is_record_touched, record_state, state_after_cut, state_after_op}
+use Rattle.base.specs.tree.Syncs.{contents_after, contents_after_all, is_change_of, is_on, record_state, state_after_cut, state_after_op}
 use Rattle.base.proofs.common.Sequences.{joined, parted}
 use Rattle.base.proofs.history.Writes.{length-bytes_after_write, length-resize}
 use Rattle.base.proofs.tree.RecordStates.{at-object, bytes-changed, bytes-created, bytes-removed, contents-after_all, elsewhere}
 use Rattle.tree_plans.specs.declared.changes.ObjectChanges.{ObjectChanges}
-use Rattle.tree_plans.specs.declared.planner.Committed.{Committed}
-use Rattle.tree_plans.specs.Pointers.{IsPut, entry_of}
-use Rattle.tree_plans.specs.Changes.{is_changed_in, state_at, state_in}
-use Rattle.tree_plans.specs.Marks.{AreChangesOf, AreToldSoFar, NotesOp, length_in, length_with, sets_length, size_of, state_with}
+use Rattle.tree_plans.specs.Marks.{AreToldSoFar, NotesOp, length_in, length_with, sets_length, size_of, state_with}
 
 -- a value in a row of equal ones
 pub in_row : {A : Type 0} (count r : ℕ) (a d : A) → r < count → slice_index_or (replicate count a) r d ≡ a

@@ -8,9 +8,7 @@ use Rattle.base.specs.formats.Fields.{no_pointer, pointer_in}
 use Rattle.base.specs.declared.record_state.RecordState.{RecordState}
 use Rattle.base.specs.declared.record_state.RecordState.TheVariants.{Unchanged, Dirty, Hole}
 use Rattle.base.specs.tree.PlacedTrees.{padded_record}
-use Rattle.base.specs.tree.PlannedTrees.{NewBlock}
 use Rattle.base.specs.tree.Syncs.{is_dirty}
-use Rattle.base.specs.tree.Tree.{record_bytes}
 use Rattle.checked_blocks.specs.Sealing.{padded}
 use Rattle.space.specs.declared.free_set.FreeSet.{FreeSet}
 use Rattle.tree_plans.specs.declared.place.BlockPlace.{BlockPlace}

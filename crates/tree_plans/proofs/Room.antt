@@ -1,7 +1,7 @@
 -- A plan that is refused for want of blocks: they are not free.
-use Rattle.std.proofs.Common.{◌≡◌, ℕ, zero, suc, ◌+◌, ◌-◌, ◌≤◌, ◌<◌, Bool, true, false, List, [], ◌∷◌, ◌++◌, length, map, filter, Option, Ordering, Less, Some, None, refl, sym, ◌∙◌, ap, arith, if◌then◌else◌, Result, IfErr, IsErrAnd}
-use Rattle.std.specs.Prelude.{slice_index_or, is_some}
-use Rattle.std.specs.List.{list_any, flat_map, range_with_len}
+use Rattle.std.proofs.Common.{◌≡◌, ℕ, zero, suc, ◌+◌, ◌-◌, ◌≤◌, ◌<◌, Bool, true, false, List, [], ◌∷◌, ◌++◌, length, map, filter, Option, Ordering, Less, None, refl, sym, ◌∙◌, ap, arith, if◌then◌else◌, Result, IfErr, IsErrAnd}
+use Rattle.std.specs.Prelude.{is_some}
+use Rattle.std.specs.List.{flat_map, range_with_len}
 use Rattle.std.specs.Ordering.{nat_cmp}
 use Rattle.std.specs.FinMap.{FinMap}
 use Rattle.std.specs.List.Sorted.{IsStrictlySortedBy}

@@ -139,7 +139,7 @@ impl Planner {
     {
         match state {
             RecordState::Unchanged => Ok(*old),
-            RecordState::Hole => Ok(self.clear(old)?),
+            RecordState::Hole => self.clear(old),
             RecordState::Dirty => self.place(
                 free,
                 BlockPlace::Data(place.id, place.index),
@@ -198,7 +198,7 @@ impl Planner {
         ensures refused { IfErr result IsWant }
     {
         if !is_indirect_written(is_changed, records) {
-            return Ok(self.clear(old)?);
+            return self.clear(old);
         }
         self.place(free, BlockPlace::Indirect(id), &payload_of(records), old)
     }

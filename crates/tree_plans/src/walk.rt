@@ -209,7 +209,7 @@ fn place_root(
     let root = &source.tree.root;
     match state_of(!objects.is_empty(), has_any_object(source.contents)) {
         RecordState::Unchanged => Ok(*root),
-        RecordState::Hole => Ok(planner.clear(root)?),
+        RecordState::Hole => planner.clear(root),
         RecordState::Dirty => {
             planner.place(
                 source.free,
@@ -323,7 +323,7 @@ fn place_directory(
     let old = source.tree.directories[index];
     match state_of(touched, has_object_in(source.contents, index)) {
         RecordState::Unchanged => Ok(old),
-        RecordState::Hole => Ok(planner.clear(&old)?),
+        RecordState::Hole => planner.clear(&old),
         RecordState::Dirty => {
             let payload = directory_payload(source.contents, source.tree, maps, index);
             planner.place(source.free, BlockPlace::Directory(index), &payload, &old)

@@ -233,6 +233,12 @@ module _ (image : List ℕ) (frame : Frame) (pointers : Place → Pointer) (obje
       let o = opens-at place in_range some in
       opens-address image frame (kind_of place) (number_of_place place) (pointers place) o.0 o.1
 
+  pub none-by_address : (place : Place) → IsPlace place → (pointers place).address ≡ 0 → pointers place ≡ no_pointer
+  none-by_address place in_range zero_is = elim (none_or_opens place in_range) as (λ _. pointers place ≡ no_pointer) [
+    | inl none ↦ none
+    | inr o ↦ absurd (opens-address image frame (kind_of place) (number_of_place place) (pointers place) o.0 o.1 zero_is)
+  ]
+
   -- the addresses in the tree are those of the pointers told
   pub in-tree : (address : ℕ) → IsInTree image (pointers Root) address → (place : Place) × IsPlace place × ((pointers place).address ≡ address) × (pointers place ≢ no_pointer)
   in-tree address is =

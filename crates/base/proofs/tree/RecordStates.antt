@@ -1,6 +1,6 @@
 -- What the state of a record says after the operations of a group: an unchanged record has the bytes from before, a dirty one is there, and a hole has zeros.
-use Rattle.std.proofs.Common.{◌≡◌, ℕ, zero, ◌≢◌, ◌+◌, ◌-◌, ◌*◌, ◌<◌, ◌≤◌, Bool, true, false, ◌&&◌, ◌||◌, List, [], ◌∷◌, ◌++◌, length, get_or, take, drop, replicate, Option, Some, None, Result, Ok, Err, refl, ap, sym, ◌∙◌, subst, arith, ◌⊎◌, inl, inr, length-append, length-take}
-use Rattle.std.specs.Prelude.{◌==◌, nat_lt, nat_le, option_map, unwrap_or, is_some, if◌then◌else◌}
+use Rattle.std.proofs.Common.{◌≡◌, ℕ, zero, ◌≢◌, ◌+◌, ◌-◌, ◌*◌, ◌<◌, ◌≤◌, Bool, true, false, ◌&&◌, ◌||◌, List, [], ◌∷◌, ◌++◌, length, get_or, drop, replicate, Option, Some, None, Result, Ok, Err, refl, ap, sym, ◌∙◌, subst, arith, ◌⊎◌, inl, inr, length-append, length-take}
+use Rattle.std.specs.Prelude.{◌==◌, nat_lt, nat_le, option_map, unwrap_or, if◌then◌else◌}
 use Rattle.std.specs.List.{list_any}
 use Rattle.std.specs.Option.{option_map_or}
 use Rattle.std.proofs.lemmas.Bool.{and_from, and_parts, or_parts, cases_Bool, cases_eq, cases_lt, eqb-true, leb-true, leb-false, lt-ltb, ltb-true, ltb-false, eq-eqb, false≢true, true≢false}
@@ -15,14 +15,13 @@ use Rattle.base.specs.declared.record_state.RecordState.TheVariants.{Unchanged, 
 use Rattle.base.specs.declared.operation.Op.TheVariants.{Create, Remove, Write, SetLength, SetName}
 use Rattle.base.specs.declared.pointer.Pointer.{Pointer}
 use Rattle.base.specs.formats.Limits.{object_count, record_size, pointer_count}
-use Rattle.base.specs.formats.Fields.{no_pointer}
 use Rattle.base.specs.formats.Blocks.{Frame}
 use Rattle.base.specs.history.Sequences.{in_turn}
 use Rattle.base.specs.history.Contents.{Contents, at_object, with_object, stored, apply, created, removed, changed, resize, bytes_after_write}
 use Rattle.base.specs.history.History.{apply_all}
 use Rattle.base.specs.tree.Places.{Place}
 use Rattle.base.specs.tree.Places.Place.{Data}
-use Rattle.base.specs.tree.Tree.{IsRecord, record_bytes}
+use Rattle.base.specs.tree.Tree.{record_bytes}
 use Rattle.base.specs.tree.PlacedTrees.{padded_record, HoldsTree}
 use Rattle.base.specs.tree.PlannedTrees.{SameRecord, IsZeroRecord}
 use Rattle.base.specs.tree.Syncs.{is_record_touched, state_after_cut, state_after_op, contents_after, contents_after_all, record_state, is_on, is_change_of}

@@ -1,16 +1,19 @@
 -- Where two tell the same of the records and objects of a tree, a sync writes the same places for both.
-use Rattle.std.proofs.Common.{◌≡◌, ℕ, zero, suc, ◌+◌, ◌*◌, ◌<◌, ◌≤◌, Bool, ◌&&◌, ◌||◌, List, [], ◌∷◌, ◌++◌, map, filter, Some, Ok, refl, ap, sym, subst, ◌∙◌, arith}
-use Rattle.std.specs.Prelude.{All, ◌==◌, slice_get, is_some, if◌then◌else◌}
-use Rattle.std.specs.List.{list_any, flat_map, range_with_len}
+use Rattle.std.proofs.Common.{◌≡◌, ℕ, zero, suc, ◌+◌, ◌*◌, ◌<◌, ◌≤◌, Bool, true, false, ◌&&◌, ◌||◌, List, [], ◌∷◌, ◌++◌, length, map, filter, Some, Ok, inl, inr, refl, ap, sym, subst, ◌∙◌, arith}
+use Rattle.std.specs.Prelude.{All, ◌==◌, nat_le, nat_lt, slice_get, is_some, if◌then◌else◌}
+use Rattle.std.specs.List.{list_all, list_any, flat_map, range_with_len}
+use Rattle.std.proofs.lemmas.Bool.{and_parts, eqb-true, false≢true, ltb-true, or_cases}
+use Rattle.std.proofs.lemmas.List.Folds.{list_any-append}
 use Rattle.std.proofs.lemmas.List.Elements.{All-nil, All-append}
 use Rattle.std.specs.FinMap as finite
 use Rattle.base.specs.declared.operation.Op.{Op}
+use Rattle.base.specs.declared.operation.Op.TheVariants.{Create, Remove, Write, SetLength, SetName}
 use Rattle.base.specs.declared.record_state.RecordState.TheVariants.{Unchanged}
-use Rattle.base.specs.formats.Limits.{object_count, pointer_count, entry_count}
+use Rattle.base.specs.formats.Limits.{object_count, max_length, pointer_count, entry_count}
 use Rattle.base.specs.history.Contents.{Contents}
 use Rattle.base.specs.history.History.{Entry, IsWithin, apply_all, entries_in}
 use Rattle.base.specs.history.Past.{Past}
-use Rattle.base.specs.history.Plans.{IsRange, NumberRange, ranges, touched}
+use Rattle.base.specs.history.Plans.{IsRange, NumberRange, is_shape_allowed, ranges, shape_of, touched}
 use Rattle.base.specs.steps.ExactNow.{IsExplainedNow}
 use Rattle.base.specs.steps.Shown.{Shown}
 use Rattle.base.specs.steps.Steps.{ops_of_group}
@@ -125,3 +128,35 @@ pub group-ranges : (s : Shown) (p : Past) → IsExplainedNow s p → (group : �
 group-ranges s p explained group = entries-ranges (entries_in group p.entries) (λ i e at.
     let one = at_filter (λ (x : Entry). x.group == group) p.entries i e at in
     All-at IsWithin p.entries one.0 e explained.history.within one.1)
+
+-- an operation within the limits is on an object with a number below the last one
+on_number : (n : ℕ) (op : Op) → is_shape_allowed (shape_of op) ≡ true → is_on n op ≡ true → n < object_count
+on_number n (Create m) allowed on = subst (λ (k : ℕ). k < object_count) (eqb-true m.0 n on) (ltb-true m.0 object_count allowed)
+on_number n (Remove m) allowed on = subst (λ (k : ℕ). k < object_count) (eqb-true m.0 n on) (ltb-true m.0 object_count allowed)
+on_number n (Write m offset bytes) allowed on =
+    let parts = and_parts (nat_lt m.0 object_count && nat_lt 0 (length bytes)) (nat_le (offset + length bytes) max_length) allowed in
+    subst (λ (k : ℕ). k < object_count) (eqb-true m.0 n on) (ltb-true m.0 object_count (and_parts (nat_lt m.0 object_count) (nat_lt 0 (length bytes)) parts.0).0)
+on_number n (SetLength m new) allowed on =
+    subst (λ (k : ℕ). k < object_count) (eqb-true m.0 n on) (ltb-true m.0 object_count (and_parts (nat_lt m.0 object_count) (nat_le new max_length) allowed).0)
+on_number n (SetName bytes) allowed on = absurd (false≢true on)
+
+entry_number : (n : ℕ) (ops : List Op) → list_all is_shape_allowed (map shape_of ops) ≡ true → list_any (is_on n) ops ≡ true → n < object_count
+entry_number n [] allowed any = absurd (false≢true any)
+entry_number n (op ∷ ops) allowed any =
+    let parts = and_parts (is_shape_allowed (shape_of op)) (list_all is_shape_allowed (map shape_of ops)) allowed in
+    elim (or_cases (is_on n op) (list_any (is_on n) ops) any) as (λ _. n < object_count) [ inl on ↦ on_number n op parts.0 on | inr later ↦ entry_number n ops parts.1 later ]
+
+entries_number : (n : ℕ) (es : List Entry) → ((i : ℕ) (e : Entry) → slice_get es i ≡ Some e → list_all is_shape_allowed (map shape_of e.ops) ≡ true) → list_any (is_on n) (flat_map (λ (e : Entry). e.ops) es) ≡ true → n < object_count
+entries_number n [] each any = absurd (false≢true any)
+entries_number n (e ∷ es) each any =
+    elim (or_cases (list_any (is_on n) e.ops) (list_any (is_on n) (flat_map (λ (x : Entry). x.ops) es)) (sym (list_any-append (is_on n) e.ops (flat_map (λ (x : Entry). x.ops) es)) ∙ any)) as (λ _. n < object_count) [
+      | inl here ↦ entry_number n e.ops (each zero e refl) here
+      | inr later ↦ entries_number n es (λ i x at. each (suc i) x at) later
+    ]
+
+-- and each object that they are on has such a number
+pub group-numbers : (s : Shown) (p : Past) → IsExplainedNow s p → (group n : ℕ) → list_any (is_on n) (ops_of_group group p.entries) ≡ true → n < object_count
+group-numbers s p explained group n any = entries_number n (entries_in group p.entries) (λ i e at.
+    let one = at_filter (λ (x : Entry). x.group == group) p.entries i e at in
+    let allowed = explained.exact.log.allowed one.0 e one.1 in
+    (and_parts (nat_lt 0 (length (map shape_of e.ops))) (list_all is_shape_allowed (map shape_of e.ops)) allowed.shapes).1) any

@@ -1,7 +1,4 @@
-use Rattle.std.proofs.Common.{ap, sym, ◌∙◌, ◌++◌, ◌∷◌, [], take, append_assoc, List, subst}
-use Rattle.std.proofs.lemmas.List.{append-nil}
-use Rattle.base.specs.declared.operation.Op.{Op}
-use Rattle.tree_plans.specs.Marks.{AreToldSoFar}
+use Rattle.std.proofs.Common.{◌++◌, ◌∷◌, [], take, append_assoc}
 use Rattle.tree_plans.proofs.Marked.{front_more, told_more}
 use Rattle.tree_plans.proofs.changes.note_ops.Goals as goal
 

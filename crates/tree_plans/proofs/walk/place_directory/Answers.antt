@@ -11,13 +11,13 @@ use Rattle.tree_plans.proofs.Payloads.{padded-full}
 use Rattle.tree_plans.proofs.Walks.{at_any}
 use Rattle.tree_plans.proofs.walk.place_directory.Goals as goal
 
-pub returns-in_ok-clear-in-Hole-clause-planned : goal.returns-in_ok-clear-in-Hole-clause-planned
-returns-in_ok-clear-in-Hole-clause-planned c =
+pub returns-in-Hole-clause-planned : goal.returns-in-Hole-clause-planned
+returns-in-Hole-clause-planned c =
     let tree = c.args.source.now.tree.now in
     let low : c.args.index < length tree.directories.items = omega (arith, tree.all_directories, tree.directories.ok.0, c.requires.index) in
     let was : c.index.result.now ≡ slice_index_or tree.directories.items c.args.index no_pointer = at_any tree.directories.items c.args.index c.index.result.now no_pointer low c.index.ensures in
     let is : c.state_of.result ≡ Hole = search rules in
-    directory_done _ _ _ _ _ _ _ _ was (cleared _ _ _ _ _ (state_told _ _ _ _ _ c.state_of.ensures c.has_object_in.ensures is) _ _ _ c.in_ok-clear-in-Hole.ensures.cleared)
+    IfOk-weaker c.clear.result _ _ (λ pointer done. directory_done _ _ _ _ _ _ _ _ was (cleared _ _ _ _ _ (state_told _ _ _ _ _ c.state_of.ensures c.has_object_in.ensures is) _ _ _ done)) c.clear.ensures.cleared
 
 pub returns-in-Dirty-clause-planned : goal.returns-in-Dirty-clause-planned
 returns-in-Dirty-clause-planned c =

@@ -1,9 +1,7 @@
-use Rattle.std.proofs.Common.{◌≡◌, ◌∙◌, ap, length, not, rules, sym}
+use Rattle.std.proofs.Common.{◌≡◌, rules}
 use Rattle.std.proofs.lemmas.Result.{IfErr-weaker, IfOk-weaker}
 use Rattle.base.specs.declared.record_state.RecordState.TheVariants.{Dirty, Hole}
 use Rattle.tree_plans.specs.Parts.{objects_after}
-use Rattle.tree_plans.specs.Plans.{state_above}
-use Rattle.tree_plans.specs.Walks.{root_state}
 use Rattle.checked_blocks.specs.Sealing.{padded}
 use Rattle.tree_plans.specs.Plans.{progress_of}
 use Rattle.tree_plans.proofs.Parts.{FitsRecords, cleared, root_done, root_told, taken}
@@ -11,11 +9,11 @@ use Rattle.tree_plans.proofs.Payloads.{padded-full}
 use Rattle.tree_plans.proofs.Room.{lacks_here}
 use Rattle.tree_plans.proofs.walk.place_root.Goals as goal
 
-pub returns-in_ok-clear-in-Hole-clause-planned : goal.returns-in_ok-clear-in-Hole-clause-planned
-returns-in_ok-clear-in-Hole-clause-planned c =
+pub returns-in-Hole-clause-planned : goal.returns-in-Hole-clause-planned
+returns-in-Hole-clause-planned c =
     let is : c.state_of.result ≡ Hole = search rules in
     let told = root_told c.args.objects.now.entries (objects_after c.args.source.now) _ _ _ Hole c.state_of.ensures c.is_empty.ensures c.has_any_object.ensures is in
-    root_done _ _ _ _ _ _ (cleared _ _ _ _ _ told _ _ _ c.in_ok-clear-in-Hole.ensures.cleared)
+    IfOk-weaker c.clear.result _ _ (λ pointer done. root_done _ _ _ _ _ _ (cleared _ _ _ _ _ told _ _ _ done)) c.clear.ensures.cleared
 
 pub returns-in-Dirty-clause-planned : goal.returns-in-Dirty-clause-planned
 returns-in-Dirty-clause-planned c =

@@ -1,11 +1,9 @@
-use Rattle.std.proofs.Common.{◌≡◌, ℕ, List, Bool, arith, ap, ◌∙◌, sym, refl, length}
+use Rattle.std.proofs.Common.{◌≡◌, List, arith, length}
 use Rattle.base.specs.declared.pointer.Pointer.{Pointer}
-use Rattle.base.specs.tree.Syncs.{is_dirty}
 use Rattle.object_maps.specs.Pointers.{pointer_of_list}
-use Rattle.tree_plans.specs.Order.{Adds, address_if, addresses_where}
-use Rattle.tree_plans.specs.Parts.{blocks_of}
-use Rattle.tree_plans.specs.Plans.{is_dirty_in, is_indirect_written_in, indirect_state, progress_of}
-use Rattle.tree_plans.specs.Room.{count_if, needed_blocks}
+use Rattle.tree_plans.specs.Order.{addresses_where}
+use Rattle.tree_plans.specs.Plans.{is_dirty_in, is_indirect_written_in, progress_of}
+use Rattle.tree_plans.specs.Room.{count_if}
 use Rattle.tree_plans.proofs.Progress.{goes_twice, object_planned, object_frees}
 use Rattle.tree_plans.proofs.Uses.{object_uses}
 use Rattle.tree_plans.proofs.Order.{adds_twice, indirect-told}
