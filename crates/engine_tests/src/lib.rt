@@ -18,6 +18,8 @@ mod free_blocks;
 #[cfg(test)]
 mod group_lines;
 #[cfg(test)]
+mod held_ranges;
+#[cfg(test)]
 mod imports;
 #[cfg(test)]
 mod label_configs;

@@ -1,0 +1,11 @@
+pub mod Names
+pub mod Grants
+pub mod Keys
+pub mod StoredParts
+pub mod Updates
+pub mod Recounts
+pub mod LockCounts
+pub mod Blocked
+pub mod CountedLocks
+pub mod Ends
+pub mod PieceWalk

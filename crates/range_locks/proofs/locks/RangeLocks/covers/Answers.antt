@@ -1,0 +1,8 @@
+use Rattle.std.proofs.Common.{sym, ◌∙◌}
+use Rattle.base.specs.history.Plans.{number_range}
+use Rattle.base.proofs.common.KeptLists.{any_map}
+use Rattle.range_locks.specs.Locks.{covers, grant_of}
+use Rattle.range_locks.proofs.locks.RangeLocks.covers.Goals as goal
+
+pub returns : goal.returns
+returns c = rw (← c.self.view_is) (c.any_covers.ensures ∙ sym (any_map (covers c.args.owner.0 (number_range c.args.range.now)) grant_of c.self.inside.held.entries))

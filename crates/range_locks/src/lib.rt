@@ -1,0 +1,9 @@
+//! The range locks of a pool (`zfs_rlock.c`): readers may overlap readers, a writer overlaps nothing.
+#![tactic(auto)]
+
+mod held;
+mod locks;
+mod parts;
+
+pub use held::{HeldLock, HeldPiece};
+pub use locks::RangeLocks;
