@@ -1,0 +1,10 @@
+//! Transactions: the plans that they keep to, which of them are open, and their records for the intent log (`zil.c`).
+#![tactic(auto)]
+
+mod plan;
+mod reading;
+mod record;
+mod writing;
+
+pub use plan::{is_plan_allowed, is_too_large};
+pub use record::{Record, decode_record, encode_into, encode_record};
