@@ -1,3 +1,6 @@
+pub mod KeptRanges
+pub mod Estimates
+pub mod SamePlans
 pub mod Fields
 pub mod AllowedOps
 pub mod OpsRead

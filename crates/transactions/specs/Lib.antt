@@ -1,3 +1,5 @@
 pub mod Records
 pub mod Reading
 pub mod Writing
+pub mod Ranges
+pub mod Lengths

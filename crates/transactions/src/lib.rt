@@ -6,5 +6,8 @@ mod reading;
 mod record;
 mod writing;
 
-pub use plan::{is_plan_allowed, is_too_large};
+pub use plan::{
+    charge, estimate, is_in_plan, is_plan_allowed, is_shrinking, is_too_large, plans_overlap,
+    range_of,
+};
 pub use record::{Record, decode_record, encode_into, encode_record};
