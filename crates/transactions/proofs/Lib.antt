@@ -1,6 +1,8 @@
 pub mod KeptRanges
 pub mod Estimates
 pub mod SamePlans
+pub mod OpenOrder
+pub mod OpenChanges
 pub mod Fields
 pub mod AllowedOps
 pub mod OpsRead

@@ -3,7 +3,7 @@ use Rattle.std.specs.Prelude.{ℕ, ◌≡◌, ◌&&◌, Bool, not, List, [], ◌
 use Rattle.std.specs.List.{list_all}
 use Rattle.std.specs.Borrow.{Bor}
 use Rattle.base.specs.declared.error.PoolError.{PoolError}
-use Rattle.base.specs.declared.error.PoolError.TheVariants.{BadRange, NoMemory, TooLarge}
+use Rattle.base.specs.declared.error.PoolError.TheVariants.{BadRange, TooLarge}
 use Rattle.base.specs.declared.operation.Op.{Op}
 use Rattle.base.specs.formats.Limits.{last_number, max_log_record}
 use Rattle.base.specs.formats.Records as formats
@@ -36,11 +36,6 @@ encode_tests r =
 
 abbrev pub encode_refusal : formats.Record → Option PoolError
 encode_refusal r = first_refusal (encode_tests r)
-
--- a refusal is that of the first test that applies, or where none does, want of memory
-abbrev pub Refuses : Option PoolError → PoolError → Type 0
-Refuses (Some refusal) e = e ≡ refusal
-Refuses None e = e ≡ NoMemory
 
 -- bytes are decoded as this record and these bytes behind it, unless memory runs out
 abbrev pub Decodes : Result (Option (Record × Bor (List ℕ))) PoolError → formats.Record → List ℕ → Type 0

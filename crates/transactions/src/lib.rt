@@ -1,11 +1,13 @@
 //! Transactions: the plans that they keep to, which of them are open, and their records for the intent log (`zil.c`).
 #![tactic(auto)]
 
+mod open;
 mod plan;
 mod reading;
 mod record;
 mod writing;
 
+pub use open::{OpenTransaction, OpenTransactions};
 pub use plan::{
     charge, estimate, is_in_plan, is_plan_allowed, is_shrinking, is_too_large, plans_overlap,
     range_of,

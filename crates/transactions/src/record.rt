@@ -6,8 +6,9 @@ ghost use Rattle.base.specs.formats.Limits.{max_log_record};
 ghost use Rattle.base.specs.history.Plans.{log_record_size, shape_of};
 ghost use Rattle.base.specs.formats.Records as records;
 ghost use Rattle.base.specs.formats.Records.{HasNoRecord, IsAllowed, IsDecoded, bytes_of_record};
+ghost use Rattle.transactions.specs.Refusals.{Refuses};
 ghost use Rattle.transactions.specs.Records as words;
-ghost use Rattle.transactions.specs.Records.{Decodes, Refuses, encode_refusal, fields_of};
+ghost use Rattle.transactions.specs.Records.{Decodes, encode_refusal, fields_of};
 
 use crate::plan::{RECORD_HEAD, with_shape};
 use crate::reading::{ReadError, is_op_allowed, read_record};
