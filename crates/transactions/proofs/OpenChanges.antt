@@ -11,7 +11,7 @@ use Rattle.base.specs.history.Plans.{is_plan_allowed}
 use Rattle.base.specs.steps.Groups.{Admission}
 use Rattle.base.specs.steps.Steps.{transactions_without}
 use Rattle.transactions.specs.declared.«open».OpenTransaction.{OpenTransaction}
-use Rattle.transactions.specs.Open.{admission_of, admissions_at, passes_at, is_of_name, keys_without, AreHeld, transaction_of}
+use Rattle.transactions.specs.Open.{admission_of, admissions_at, passes_at, is_of_name, keys_without, AreHeld, admission_of_name}
 
 abbrev is_present : Slab OpenTransaction → ℕ → Bool
 is_present slots key = is_some (get slots key)
@@ -119,11 +119,11 @@ module _ (tx : ℕ) (old new : Slab OpenTransaction) (key : ℕ) (named : passes
   }
 
 -- where none has a name all stay
-none_step : (tx : ℕ) (a : Admission) (ts : List Admission) (b : Bool) → cond b (Some a) (transaction_of tx ts) ≡ None → (transaction_of tx ts ≡ None → transactions_without tx ts ≡ ts)
+none_step : (tx : ℕ) (a : Admission) (ts : List Admission) (b : Bool) → cond b (Some a) (admission_of_name tx ts) ≡ None → (admission_of_name tx ts ≡ None → transactions_without tx ts ≡ ts)
     → cond (not b) (a ∷ transactions_without tx ts) (transactions_without tx ts) ≡ a ∷ ts
 none_step tx a ts true none later = absurd cc
 none_step tx a ts false none later = ap (λ (l : List Admission). a ∷ l) (later none)
 
-pub all_stay : (tx : ℕ) (ts : List Admission) → transaction_of tx ts ≡ None → transactions_without tx ts ≡ ts
+pub all_stay : (tx : ℕ) (ts : List Admission) → admission_of_name tx ts ≡ None → transactions_without tx ts ≡ ts
 all_stay tx [] none = refl
 all_stay tx (a ∷ ts) none = none_step tx a ts (a.tx == tx) none (all_stay tx ts)

@@ -12,7 +12,7 @@ use Rattle.base.specs.history.Plans.{NumberRange, is_plan_allowed, plans_overlap
 use Rattle.base.specs.steps.Groups.{Admission, hold_count}
 use Rattle.base.specs.steps.Refusals.{is_plan_blocked}
 use Rattle.transactions.specs.declared.«open».OpenTransaction.{OpenTransaction}
-use Rattle.transactions.specs.Open.{admission_of, admissions_at, passes_at, is_of_name, is_of_group, overlaps_plan_of, has_plan_in, is_range_in_use, transaction_of}
+use Rattle.transactions.specs.Open.{admission_of, admissions_at, passes_at, is_of_name, is_of_group, overlaps_plan_of, has_plan_in, is_range_in_use, admission_of_name}
 use Rattle.transactions.specs.Ranges.{has_range_in}
 use Rattle.transactions.proofs.KeptRanges.{overlap_same, lies_same}
 
@@ -63,16 +63,16 @@ abbrev pub found_at : Slab OpenTransaction → Option ℕ → Option Admission
 found_at slots None = None
 found_at slots (Some key) = option_map admission_of (get slots key)
 
-find_step : (tx : ℕ) (slots : Slab OpenTransaction) (key : ℕ) (o : Option OpenTransaction) (rest : List Admission) (r : Option ℕ) → get slots key ≡ o → found_at slots r ≡ transaction_of tx rest
-    → found_at slots (cond (option_map_or (is_of_name tx) o false) (Some key) r) ≡ transaction_of tx (before o rest)
+find_step : (tx : ℕ) (slots : Slab OpenTransaction) (key : ℕ) (o : Option OpenTransaction) (rest : List Admission) (r : Option ℕ) → get slots key ≡ o → found_at slots r ≡ admission_of_name tx rest
+    → found_at slots (cond (option_map_or (is_of_name tx) o false) (Some key) r) ≡ admission_of_name tx (before o rest)
 find_step tx slots key None rest r is later = later
 find_step tx slots key (Some t) rest r is later = by (t.tx.0 == tx)
   where
-    by : (b : Bool) → found_at slots (cond b (Some key) r) ≡ cond b (Some (admission_of t)) (transaction_of tx rest)
+    by : (b : Bool) → found_at slots (cond b (Some key) r) ≡ cond b (Some (admission_of t)) (admission_of_name tx rest)
     by true = ap (option_map admission_of) is
     by false = later
 
-pub find_at : (tx : ℕ) (slots : Slab OpenTransaction) (keys : List ℕ) → found_at slots (find (passes_at (is_of_name tx) slots) keys) ≡ transaction_of tx (admissions_at slots keys)
+pub find_at : (tx : ℕ) (slots : Slab OpenTransaction) (keys : List ℕ) → found_at slots (find (passes_at (is_of_name tx) slots) keys) ≡ admission_of_name tx (admissions_at slots keys)
 find_at tx slots [] = refl
 find_at tx slots (key ∷ keys) = find_step tx slots key (get slots key) (admissions_at slots keys) (find (passes_at (is_of_name tx) slots) keys) refl (find_at tx slots keys)
 
@@ -90,7 +90,7 @@ length-admissions_at slots (key ∷ keys) present =
 
 -- what a call found at a key
 pub found_as : (tx : ℕ) (slots : Slab OpenTransaction) (keys order : List ℕ) (call found : Option ℕ) → order ≡ keys → call ≡ find (passes_at (is_of_name tx) slots) order → call ≡ found
-    → found_at slots found ≡ transaction_of tx (admissions_at slots keys)
+    → found_at slots found ≡ admission_of_name tx (admissions_at slots keys)
 found_as tx slots keys order call found same ensured was =
     ap (found_at slots) (sym was ∙ ensured ∙ ap (λ (l : List ℕ). find (passes_at (is_of_name tx) slots) l) same) ∙ find_at tx slots keys
 

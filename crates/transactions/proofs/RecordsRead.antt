@@ -196,3 +196,7 @@ pub only_is : (bytes : List ℕ) (x : Record × List ℕ) → record_in bytes �
 only_is bytes x found r rest decoded =
     let same = some_is x (r, rest) (sym found ∙ ap record_in decoded.spelled ∙ record_again r rest decoded.allowed) in
     (ap (λ (y : Record × List ℕ). y.0) same, ap (λ (y : Record × List ℕ). y.1) same)
+
+-- so two readings of the same bytes agree
+pub readings_agree : (bytes : List ℕ) (r s : Record) (rest more : List ℕ) → IsDecoded bytes r rest → IsDecoded bytes s more → (r ≡ s) × (rest ≡ more)
+readings_agree bytes r s rest more decoded also = only_is bytes (r, rest) (ap record_in decoded.spelled ∙ record_again r rest decoded.allowed) s more also

@@ -5,3 +5,4 @@ pub mod Writing
 pub mod Ranges
 pub mod Lengths
 pub mod Open
+pub mod Laws

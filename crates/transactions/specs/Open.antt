@@ -75,8 +75,8 @@ abbrev pub admit_refusal : List Shape → Open → Option PoolError
 admit_refusal plan o = first_refusal (admit_tests plan o)
 
 -- the open transaction of this name
-abbrev pub transaction_of : ℕ → List Admission → Option Admission
-transaction_of tx transactions = find (λ (a : Admission). a.tx == tx) transactions
+abbrev pub admission_of_name : ℕ → List Admission → Option Admission
+admission_of_name tx transactions = find (λ (a : Admission). a.tx == tx) transactions
 
 -- whether a range of an open transaction lies in this one
 abbrev pub is_range_in_use : NumberRange → List Admission → Bool

@@ -13,7 +13,7 @@ ghost use Rattle.base.specs.steps.Groups.{hold_count};
 ghost use Rattle.base.specs.steps.Refusals.{is_plan_blocked};
 ghost use Rattle.base.specs.steps.Steps.{transactions_without};
 ghost use Rattle.transactions.specs.Open as words;
-ghost use Rattle.transactions.specs.Open.{admission_of, admit_refusal, has_plan_in, has_too_many, is_of_group, is_of_name, is_range_in_use, keys_without, next_admission, overlaps_plan_of, passes_at, transaction_of, with_admission};
+ghost use Rattle.transactions.specs.Open.{admission_of, admit_refusal, has_plan_in, has_too_many, is_of_group, is_of_name, is_range_in_use, keys_without, next_admission, overlaps_plan_of, passes_at, admission_of_name, with_admission};
 ghost use Rattle.transactions.specs.Refusals.{Refuses};
 
 use crate::plan::{has_range_in, ranges_overlap};
@@ -44,7 +44,6 @@ pub struct OpenTransactions {
 }
 
 impl Model for OpenTransactions {
-    ghost use Rattle.transactions.specs.Open as words;
     ghost use Rattle.transactions.specs.Open.{AreHeld, Open, admissions_at};
 
     ghost Value = { Open };
@@ -119,7 +118,7 @@ impl OpenTransactions {
     /// The open transaction of this name.
     pub fn find(&self, tx: TxId) -> Option<&OpenTransaction>
         ensures { option_map (λ t. admission_of t.now) result
-            ≡ transaction_of tx.0 self.now.transactions }
+            ≡ admission_of_name tx.0 self.now.transactions }
     {
         let key = key_of(&self.slots, &self.order, tx)?;
         self.slots.get(key)
@@ -128,7 +127,7 @@ impl OpenTransactions {
     /// The transaction of this name is open no more, and comes back. `None` where there is none, and then all is as before.
     pub fn end(&mut self, tx: TxId) -> Option<OpenTransaction>
         ensures ended { option_map admission_of result
-            ≡ transaction_of tx.0 self.old.transactions }
+            ≡ admission_of_name tx.0 self.old.transactions }
         ensures others { self.new.transactions
             ≡ transactions_without tx.0 self.old.transactions }
         ensures next { self.new.next ≡ self.old.next }
