@@ -2,16 +2,16 @@
 
 ghost use Rattle.std.specs.Prelude.{◌<◌};
 
-use transactions::{
-    OpenTransactions, Record, charge, decode_record, encode_into, encode_record, estimate,
-    is_in_plan, is_plan_allowed, is_shrinking, is_too_large, plans_overlap, range_of,
-};
 use base::{
     Bytes, Group, ObjectId, ObjectRange, Op, Ops, Ordinal, Owner, Plan, PoolError, Range, Shape,
     TxId,
 };
 use std::alloc::{AllocError, Global};
 use std::test::Fail;
+use transactions::{
+    OpenTransactions, Record, charge, decode_record, encode_into, encode_record, estimate,
+    is_in_plan, is_plan_allowed, is_shrinking, is_too_large, plans_overlap, range_of,
+};
 
 /// The create of object 1, in group 9 with ordinal 0.
 const CREATE: [u8; 27] = [

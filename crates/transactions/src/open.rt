@@ -6,7 +6,7 @@
 //! A transaction is admitted where no range of its plan overlaps one of an open transaction. So open transactions commute, and
 //! those of a group may be committed in any order.
 
-ghost use Rattle.std.specs.Prelude.{◌≡◌, [], IfErr, IfOk, OnErr, count_by, option_map, true};
+ghost use Rattle.std.specs.Prelude.{◌≡◌, [], IfErr, IfOk, None, OnErr, OnOk, count_by, option_map, true};
 ghost use Rattle.std.specs.List.{find, list_any};
 ghost use Rattle.base.specs.history.Plans.{is_plan_allowed, number_range};
 ghost use Rattle.base.specs.steps.Groups.{hold_count};
@@ -92,6 +92,7 @@ impl OpenTransactions {
         ensures name { IfOk result (λ tx. tx.0 ≡ self.old.next) }
         ensures admitted { IfOk result
             (λ _. self.new ≡ with_admission (next_admission owner.0 group.0 plan self.old) self.old) }
+        ensures passed { OnOk result (admit_refusal plan self.old ≡ None) }
         ensures refused { IfErr result (λ e. Refuses (admit_refusal plan self.old) e) }
         ensures unchanged { OnErr result (self.new ≡ self.old) }
     {
