@@ -8,14 +8,14 @@ use Rattle.base.specs.declared.operation.Op.TheVariants.{Create, Remove, Write, 
 use Rattle.base.specs.history.Plans.{shape_of, size_of_shape}
 use Rattle.base.specs.formats.Records.{Record, op_bytes, bytes_of_record, size_of}
 
-length-op_bytes : (op : Op) → length (op_bytes op) ≡ size_of_shape (shape_of op)
+pub length-op_bytes : (op : Op) → length (op_bytes op) ≡ size_of_shape (shape_of op)
 length-op_bytes (Create n) = refl
 length-op_bytes (Remove n) = refl
 length-op_bytes (Write n offset bytes) = grind (arith, length-append)
 length-op_bytes (SetLength n new) = refl
 length-op_bytes (SetName bytes) = grind (arith, length-append)
 
-length-ops_bytes : (ops : List Op) → length (flat_map op_bytes ops) ≡ sum_by size_of_shape (map shape_of ops)
+pub length-ops_bytes : (ops : List Op) → length (flat_map op_bytes ops) ≡ sum_by size_of_shape (map shape_of ops)
 length-ops_bytes [] = refl
 length-ops_bytes (op ∷ ops) = omega (arith, length-append (op_bytes op) (flat_map op_bytes ops), length-op_bytes op, length-ops_bytes ops, sum_by-cons size_of_shape (shape_of op) (map shape_of ops))
 

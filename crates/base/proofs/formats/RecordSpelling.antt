@@ -126,11 +126,11 @@ shape-5 (Write n offset bytes) = omega arith
 shape-5 (SetLength n size) = omega arith
 shape-5 (SetName bytes) = omega arith
 
-few-ops : (os : List Op) → 5 * length os ≤ sum_by size_of_shape (map shape_of os)
+pub few-ops : (os : List Op) → 5 * length os ≤ sum_by size_of_shape (map shape_of os)
 few-ops [] = omega arith
 few-ops (o ∷ os) = omega (arith, few-ops os, shape-5 o, sum_by-cons size_of_shape (shape_of o) (map shape_of os))
 
-few : (r : Record) → IsAllowed r → length r.ops < 2 ^ 16
+pub few : (r : Record) → IsAllowed r → length r.ops < 2 ^ 16
 few r allowed = let size = allowed.size in omega (arith, size, few-ops r.ops)
 
 -- records within their limits

@@ -1,0 +1,11 @@
+pub mod KeptRanges
+pub mod Estimates
+pub mod SamePlans
+pub mod OpenOrder
+pub mod OpenChanges
+pub mod Fields
+pub mod AllowedOps
+pub mod OpsRead
+pub mod WrittenOps
+pub mod Loop
+pub mod RecordsRead

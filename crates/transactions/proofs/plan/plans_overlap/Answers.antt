@@ -1,0 +1,6 @@
+use Rattle.std.proofs.Common.{◌∙◌}
+use Rattle.transactions.proofs.KeptRanges.{overlap_same}
+use Rattle.transactions.proofs.plan.plans_overlap.Goals as goal
+
+pub returns : goal.returns
+returns c = λ allowed other. c.ranges_overlap.ensures ∙ overlap_same c.args.plan.now c.args.other.now allowed other

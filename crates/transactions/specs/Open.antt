@@ -1,0 +1,83 @@
+-- The open transactions of a pool: their admissions in order, and how one is admitted.
+use Rattle.std.specs.Prelude.{ℕ, ◌≡◌, ◌==◌, ◌+◌, ◌||◌, ◌++◌, ◌∷◌, [], Bool, true, false, not, List, length, filter, filter_map, nat_le, nat_lt, Option, is_some, option_map}
+use Rattle.std.specs.List.{find, list_all, list_any}
+use Rattle.std.specs.Option.{option_map_or}
+use Rattle.slab.specs.Slab.{Slab, get}
+use Rattle.base.specs.declared.error.PoolError.{PoolError}
+use Rattle.base.specs.declared.error.PoolError.TheVariants.{Busy, TooMany}
+use Rattle.base.specs.declared.operation.Shape.{Shape}
+use Rattle.base.specs.formats.Limits.{last_number, max_transactions}
+use Rattle.base.specs.history.Plans.{NumberRange, is_plan_allowed, lies_in, range_of}
+use Rattle.base.specs.steps.Groups.{Admission}
+use Rattle.base.specs.steps.Refusals.{Test, refused_if, first_refusal, is_plan_blocked}
+use Rattle.transactions.specs.Ranges.{has_kept_in, kept_ranges_overlap}
+use Rattle.transactions.specs.declared.«open».OpenTransaction.{OpenTransaction}
+
+-- the admissions in order, and the name of the next one
+pub record Open : Type 0 where
+  pub transactions : List Admission
+  pub next : ℕ
+
+abbrev pub admission_of : OpenTransaction → Admission
+admission_of t = record { tx = t.tx.0; group = t.group.0; owner = t.owner.0; plan = t.plan }
+
+-- the admissions of the transactions at these keys
+abbrev pub admissions_at : Slab OpenTransaction → List ℕ → List Admission
+admissions_at slots keys = filter_map (λ key. option_map admission_of (get slots key)) keys
+
+-- whether there is a transaction at a key that passes a test
+abbrev pub passes_at : (OpenTransaction → Bool) → Slab OpenTransaction → ℕ → Bool
+passes_at test slots key = option_map_or test (get slots key) false
+
+-- tests of an open transaction: its name, its group, and what its plan touches
+abbrev pub is_of_name : ℕ → OpenTransaction → Bool
+is_of_name tx t = t.tx.0 == tx
+
+abbrev pub is_of_group : ℕ → OpenTransaction → Bool
+is_of_group group t = t.group.0 == group
+
+abbrev pub overlaps_plan_of : List Shape → OpenTransaction → Bool
+overlaps_plan_of plan t = kept_ranges_overlap plan t.plan
+
+abbrev pub has_plan_in : NumberRange → OpenTransaction → Bool
+has_plan_in range t = has_kept_in range t.plan
+
+-- the keys but those of transactions of this name
+abbrev pub keys_without : ℕ → Slab OpenTransaction → List ℕ → List ℕ
+keys_without tx slots keys = filter (λ key. not (passes_at (is_of_name tx) slots key)) keys
+
+-- each key has a transaction, and its plan is allowed
+pub record AreHeld (slots : Slab OpenTransaction) (keys : List ℕ) : Type 0 where
+  pub present : list_all (λ key. is_some (get slots key)) keys ≡ true
+  pub allowed : list_all (λ (a : Admission). is_plan_allowed a.plan) (admissions_at slots keys) ≡ true
+
+-- the admission of the next name, and the state after it
+abbrev pub next_admission : ℕ → ℕ → List Shape → Open → Admission
+next_admission owner group plan o = record { tx = o.next; group = group; owner = owner; plan = plan }
+
+abbrev pub with_admission : Admission → Open → Open
+with_admission a o = record { transactions = o.transactions ++ a ∷ []; next = o.next + 1 }
+
+-- whether, where so many are open and this is the next name, one more is too many
+abbrev pub is_too_many : ℕ → ℕ → Bool
+is_too_many count next = nat_le max_transactions count || nat_lt last_number next
+
+abbrev pub has_too_many : Open → Bool
+has_too_many o = is_too_many (length o.transactions) o.next
+
+-- why a transaction is not admitted; want of memory comes after these
+abbrev pub admit_tests : List Shape → Open → List Test
+admit_tests plan o =
+    refused_if (is_plan_blocked plan o.transactions) Busy
+    ∷ refused_if (has_too_many o) TooMany ∷ []
+
+abbrev pub admit_refusal : List Shape → Open → Option PoolError
+admit_refusal plan o = first_refusal (admit_tests plan o)
+
+-- the open transaction of this name
+abbrev pub admission_of_name : ℕ → List Admission → Option Admission
+admission_of_name tx transactions = find (λ (a : Admission). a.tx == tx) transactions
+
+-- whether a range of an open transaction lies in this one
+abbrev pub is_range_in_use : NumberRange → List Admission → Bool
+is_range_in_use range transactions = list_any (λ (a : Admission). list_any (λ x. lies_in (range_of x) range) a.plan) transactions

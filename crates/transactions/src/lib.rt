@@ -1,0 +1,17 @@
+//! Transactions: the plans that they keep to, which of them are open, and their records for the intent log (`zil.c`).
+#![tactic(auto)]
+
+mod laws;
+mod open;
+mod plan;
+mod reading;
+mod record;
+mod writing;
+
+pub use laws::{records_agree, records_read_back};
+pub use open::{OpenTransaction, OpenTransactions};
+pub use plan::{
+    charge, estimate, is_in_plan, is_plan_allowed, is_shrinking, is_too_large, plans_overlap,
+    range_of,
+};
+pub use record::{Record, decode_record, encode_into, encode_record};

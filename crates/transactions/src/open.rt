@@ -1,0 +1,237 @@
+//! The transactions that were admitted and have not ended.
+//!
+//! They lie in a slab, whose keys are used again; their names never are. `order` has the keys in order of admission, which is
+//! the order of the names. Contracts see the admissions in that order, and the name of the next one.
+//!
+//! A transaction is admitted where no range of its plan overlaps one of an open transaction. So open transactions commute, and
+//! those of a group may be committed in any order.
+
+ghost use Rattle.std.specs.Prelude.{◌≡◌, [], IfErr, IfOk, None, OnErr, OnOk, count_by, option_map, true};
+ghost use Rattle.std.specs.List.{find, list_any};
+ghost use Rattle.base.specs.history.Plans.{is_plan_allowed, number_range};
+ghost use Rattle.base.specs.steps.Groups.{hold_count};
+ghost use Rattle.base.specs.steps.Refusals.{is_plan_blocked};
+ghost use Rattle.base.specs.steps.Steps.{transactions_without};
+ghost use Rattle.transactions.specs.Open as words;
+ghost use Rattle.transactions.specs.Open.{admission_of, admit_refusal, has_plan_in, has_too_many, is_of_group, is_of_name, is_range_in_use, keys_without, next_admission, overlaps_plan_of, passes_at, admission_of_name, with_admission};
+ghost use Rattle.transactions.specs.Refusals.{Refuses};
+
+use crate::plan::{has_range_in, ranges_overlap};
+use base::{
+    Group, LAST_NUMBER, MAX_TRANSACTIONS, ObjectRange, Owner, Plan, PoolError, Shape, TxId,
+};
+use slab::Slab;
+use std::alloc::Global;
+use std::marker::Model;
+
+/// A transaction that was admitted and has not ended.
+#[derive(Debug, PartialEq, Eq, Drop)]
+pub struct OpenTransaction {
+    pub tx: TxId,
+    pub group: Group,
+    pub owner: Owner,
+    pub plan: Plan,
+}
+
+/// The open transactions of a pool, at most 64. Contracts see their admissions, in order, and the next name.
+#[derive(Debug, Drop)]
+pub struct OpenTransactions {
+    slots: Slab<OpenTransaction>,
+    /// The keys of the slots, in order of admission.
+    order: Vec<usize>,
+    /// The name of the next transaction.
+    next: u64,
+}
+
+impl Model for OpenTransactions {
+    ghost use Rattle.transactions.specs.Open.{AreHeld, Open, admissions_at};
+
+    ghost Value = { Open };
+
+    ghost view = { λ o. record { transactions = admissions_at o.slots o.order.items; next = o.next } };
+
+    ghost invariant = { λ o. AreHeld o.slots o.order.items };
+}
+
+impl OpenTransactions {
+    /// None is open, and the first name is 0.
+    pub fn new(alloc: Global) -> Self
+        ensures none { result.transactions ≡ [] }
+        ensures first { result.next ≡ 0 }
+    {
+        OpenTransactions {
+            slots: Slab::new(alloc),
+            order: Vec::new(alloc),
+            next: 0,
+        }
+    }
+
+    /// Whether a range of an allowed plan overlaps one of an open transaction.
+    pub fn is_blocked(&self, plan: &[Shape]) -> bool
+        ensures { is_plan_allowed plan.now ≡ true
+            → result ≡ is_plan_blocked plan.now self.now.transactions }
+    {
+        any_blocks(&self.slots, &self.order, plan)
+    }
+
+    /// Whether 64 are open or the next name is past the last one, 2^60.
+    pub fn is_full(&self) -> bool
+        ensures { result ≡ has_too_many self.now }
+    {
+        is_too_many(self.order.len(), self.next)
+    }
+
+    /// Admits a transaction to a group, under the next name. Its plan has to be allowed.
+    ///
+    /// # Errors
+    ///
+    /// After a refusal all is as before. `Busy` where a range of the plan overlaps one of an open transaction; then `TooMany`
+    /// where 64 are open or the next name is past the last one; then `NoMemory` where there is none for it.
+    pub fn admit(&mut self, owner: Owner, group: Group, plan: Plan) -> Result<TxId, PoolError>
+        requires { is_plan_allowed plan ≡ true }
+        ensures name { IfOk result (λ tx. tx.0 ≡ self.old.next) }
+        ensures admitted { IfOk result
+            (λ _. self.new ≡ with_admission (next_admission owner.0 group.0 plan self.old) self.old) }
+        ensures passed { OnOk result (admit_refusal plan self.old ≡ None) }
+        ensures refused { IfErr result (λ e. Refuses (admit_refusal plan self.old) e) }
+        ensures unchanged { OnErr result (self.new ≡ self.old) }
+    {
+        if self.is_blocked(plan.as_slice()) {
+            return Err(PoolError::Busy);
+        }
+        if self.is_full() {
+            return Err(PoolError::TooMany);
+        }
+        self.order.reserve(1)?;
+        self.slots.reserve(1)?;
+        let tx = TxId(self.next);
+        let key = self.slots.insert_reserved(OpenTransaction {
+            tx,
+            group,
+            owner,
+            plan,
+        });
+        self.order.push_reserved(key);
+        self.next += 1;
+        Ok(tx)
+    }
+
+    /// The open transaction of this name.
+    pub fn find(&self, tx: TxId) -> Option<&OpenTransaction>
+        ensures { option_map (λ t. admission_of t.now) result
+            ≡ admission_of_name tx.0 self.now.transactions }
+    {
+        let key = key_of(&self.slots, &self.order, tx)?;
+        self.slots.get(key)
+    }
+
+    /// The transaction of this name is open no more, and comes back. `None` where there is none, and then all is as before.
+    pub fn end(&mut self, tx: TxId) -> Option<OpenTransaction>
+        ensures ended { option_map admission_of result
+            ≡ admission_of_name tx.0 self.old.transactions }
+        ensures others { self.new.transactions
+            ≡ transactions_without tx.0 self.old.transactions }
+        ensures next { self.new.next ≡ self.old.next }
+    {
+        let key = key_of(&self.slots, &self.order, tx)?;
+        remove_named(&self.slots, &mut self.order, tx);
+        self.slots.try_remove(key)
+    }
+
+    /// Whether a range of an open transaction lies in this one: where it is a writer lock's, the lock is in use.
+    pub fn is_lock_in_use(&self, range: &ObjectRange) -> bool
+        ensures { result ≡ is_range_in_use (number_range range.now) self.now.transactions }
+    {
+        any_lies_in(&self.slots, &self.order, range)
+    }
+
+    /// How many transactions of a group are open.
+    pub fn holds(&self, group: Group) -> usize
+        ensures { result ≡ hold_count group.0 self.now.transactions }
+    {
+        count_of_group(&self.slots, &self.order, group)
+    }
+}
+
+/// Whether, where so many are open and this is the next name, one more is too many.
+fn is_too_many(count: usize, next: u64) -> bool
+    ensures { result ≡ words.is_too_many count next }
+{
+    count >= MAX_TRANSACTIONS || next > LAST_NUMBER
+}
+
+/// The key of the transaction of this name.
+fn key_of(slots: &Slab<OpenTransaction>, order: &[usize], tx: TxId) -> Option<usize>
+    ensures { result ≡ find (passes_at (is_of_name tx.0) slots.now) order.now }
+{
+    order.iter().copied().find(|key| is_named(slots, *key, tx))
+}
+
+/// Takes the key of the transaction of this name out of the order.
+fn remove_named(slots: &Slab<OpenTransaction>, order: &mut Vec<usize>, tx: TxId)
+    ensures { order.new.items ≡ keys_without tx.0 slots.now order.old.items }
+{
+    order.retain(|key| !is_named(slots, *key, tx));
+}
+
+/// Whether the transaction at a key has this name.
+fn is_named(slots: &Slab<OpenTransaction>, key: usize, tx: TxId) -> bool
+    ensures { result ≡ passes_at (is_of_name tx.0) slots.now key }
+{
+    match slots.get(key) {
+        Some(transaction) => transaction.tx.0 == tx.0,
+        None => false,
+    }
+}
+
+/// How many of the transactions at these keys are of a group.
+fn count_of_group(slots: &Slab<OpenTransaction>, order: &[usize], group: Group) -> usize
+    ensures { result ≡ count_by (passes_at (is_of_group group.0) slots.now) order.now }
+{
+    order
+        .iter()
+        .filter(|key| is_in_group(slots, **key, group))
+        .count()
+}
+
+fn is_in_group(slots: &Slab<OpenTransaction>, key: usize, group: Group) -> bool
+    ensures { result ≡ passes_at (is_of_group group.0) slots.now key }
+{
+    match slots.get(key) {
+        Some(transaction) => transaction.group.0 == group.0,
+        None => false,
+    }
+}
+
+/// Whether a range of a plan overlaps one of the transactions at these keys.
+fn any_blocks(slots: &Slab<OpenTransaction>, order: &[usize], plan: &[Shape]) -> bool
+    ensures { result ≡ list_any (passes_at (overlaps_plan_of plan.now) slots.now) order.now }
+{
+    order.iter().any(|key| blocks(slots, *key, plan))
+}
+
+fn blocks(slots: &Slab<OpenTransaction>, key: usize, plan: &[Shape]) -> bool
+    ensures { result ≡ passes_at (overlaps_plan_of plan.now) slots.now key }
+{
+    match slots.get(key) {
+        Some(transaction) => ranges_overlap(plan, transaction.plan.as_slice()),
+        None => false,
+    }
+}
+
+/// Whether a range of the transactions at these keys lies in this one.
+fn any_lies_in(slots: &Slab<OpenTransaction>, order: &[usize], range: &ObjectRange) -> bool
+    ensures { result
+        ≡ list_any (passes_at (has_plan_in (number_range range.now)) slots.now) order.now }
+{
+    order.iter().any(|key| lies_in(slots, *key, range))
+}
+
+fn lies_in(slots: &Slab<OpenTransaction>, key: usize, range: &ObjectRange) -> bool
+    ensures { result ≡ passes_at (has_plan_in (number_range range.now)) slots.now key }
+{
+    match slots.get(key) {
+        Some(transaction) => has_range_in(transaction.plan.as_slice(), range),
+        None => false,
+    }
+}
