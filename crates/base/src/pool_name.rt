@@ -68,6 +68,16 @@ impl PoolName {
         })
     }
 
+    /// The same name once more. It takes no memory, so it can't be refused as a clone can.
+    pub fn copy(&self) -> Self
+        ensures { result ≡ self.now }
+    {
+        PoolName {
+            bytes: self.bytes,
+            length: self.length,
+        }
+    }
+
     pub fn as_slice(&self) -> &[u8]
         ensures bytes { result.now ≡ self.now }
         ensures name { IsName self.now }

@@ -36,7 +36,8 @@ pub fn suspended_pools_stay()
     ensures { SuspendedPoolsStay }
 {}
 
-/// It refuses each step that is built: name, status and durable, which are never refused, are not among them yet.
+/// It refuses each step that is built but that of its name; status and durable, which are never refused, are not among them
+/// yet.
 pub fn suspended_pools_refuse()
     ensures { SuspendedPoolsRefuse }
 {}

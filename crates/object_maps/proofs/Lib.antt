@@ -1,4 +1,5 @@
 pub mod ContentsShown
+pub mod Digests
 pub mod Growth
 pub mod Judged
 pub mod SetMaps

@@ -1,6 +1,7 @@
 pub mod Ops
 pub mod Creations
 pub mod ContentsShown
+pub mod Digests
 pub mod Pointers
 pub mod EmptyMaps
 pub mod SetMaps

@@ -2,6 +2,7 @@
 #![tactic(auto)]
 
 mod contents;
+mod digest;
 mod objects;
 mod tree;
 mod walk;

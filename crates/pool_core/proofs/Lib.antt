@@ -9,6 +9,7 @@ pub mod CommitTests
 pub mod Flags
 pub mod CommitSteps
 pub mod ReadSteps
+pub mod ToldContents
 pub mod OfNoDevice
 pub mod Opens
 pub mod RepliedSteps

@@ -1,6 +1,6 @@
 -- A call of a pool on its device, with the reply that is made of its answer, is a step.
-use Rattle.std.proofs.Common.{◌≡◌, ℕ, true, false, [], refl, ap, sym, subst, ◌∙◌}
-use Rattle.std.specs.Prelude.{IsOkAnd, IsTrue, MatchResult, Result, Ok, Err}
+use Rattle.std.proofs.Common.{◌≡◌, ℕ, true, false, List, [], refl, ap, sym, subst, ◌∙◌}
+use Rattle.std.specs.Prelude.{IsOkAnd, IsTrue, MatchResult, None, Result, Ok, Err}
 use Rattle.base.specs.declared.error.PoolError.{PoolError}
 use Rattle.base.specs.declared.names.Group.{Group}
 use Rattle.base.specs.declared.step.Step as declared_step
@@ -12,7 +12,7 @@ use Rattle.base.specs.disk.Calls.{counted}
 use Rattle.base.specs.steps.Runs.{Replies, is_start, progress_reply, reply_of}
 use Rattle.base.specs.steps.Stage as stage
 use Rattle.base.specs.steps.Steps as steps
-use Rattle.base.specs.steps.Steps.{State}
+use Rattle.base.specs.steps.Steps.{Answers, State}
 use Rattle.device_model.specs.declared.device.SectorDevice.{Ghosts}
 use Rattle.sync.specs.Calls.{plain_answer}
 use Rattle.pool_core.specs.declared.state.PoolState.{PoolState}
@@ -131,3 +131,9 @@ module _ {Dev : Type 0} {G : Ghosts Dev} {old new : PoolState Dev G} where
 
       leads : IsTrue G.keeps_model → Leads (reply_in made) (told old) (told new)
       leads keeps = leads_as (sync_step_reply answer) (reply_in made) (told old) (told new) (sym is) (leads_on keeps)
+
+-- the name, which is never refused
+pub name_step : {Dev : Type 0} {G : Ghosts Dev} {state : PoolState Dev G} (name : List ℕ) → name ≡ (shown state).contents.name → MakesStep step.Name (reply.Name name) state state
+name_step name is =
+    plain_step {s = step.Name} {Does = λ answer x y. Answers None answer x y (λ name. steps.Name name x y) steps.Never} {make = λ name. reply.Name name} {answer = Ok name}
+    (Ok (reply.Name name)) (λ r x y h. h) refl (λ b. refl) (λ r d. d) (λ past. (past, (is, refl))) (read_moves_nothing (record { device = refl; own = λ calls. refl })) refl

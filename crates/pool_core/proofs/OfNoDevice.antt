@@ -16,7 +16,7 @@ use Rattle.base.specs.history.Contents.{Contents, apply, created, removed, chang
 use Rattle.base.specs.history.History.{apply_all}
 use Rattle.base.specs.history.Past.{Past, new_past}
 use Rattle.base.specs.history.Plans.{NumberRange}
-use Rattle.base.specs.steps.Refusals.{Test, first_refusal, ops_tests, lock_tests, unlock_tests, read_tests, commit_tests, close_tests, quiesce_tests}
+use Rattle.base.specs.steps.Refusals.{Test, first_refusal, append_tests, digest_tests, length_tests, ops_tests, lock_tests, unlock_tests, read_tests, commit_tests, close_tests, quiesce_tests}
 use Rattle.base.specs.history.Sequences.{and_then, in_turn}
 use Rattle.base.specs.steps.Shown.{Shown}
 use Rattle.base.specs.steps.Stage as stage
@@ -95,6 +95,9 @@ module _ (old new : Shown) where
   pub lock_own : (owner : ℕ) (range : NumberRange) (mode : Mode) (answer : Result ℕ PoolError) → Meets (steps.Lock owner range mode) answer old new → is_own_answer answer ≡ true
   lock_own owner range mode answer meets = own_answer (lock_tests owner range mode old) _ answer _ _ _ _ refl refl (λ e own. wants_memory e own.0) (meets (some_past old)).1
 
+  pub append_own : (owner n : ℕ) (answer : Result (ℕ × ℕ × ℕ) PoolError) → Meets (steps.LockAppend owner n) answer old new → is_own_answer answer ≡ true
+  append_own owner n answer meets = own_answer (append_tests owner n old) _ answer _ _ _ _ refl refl (λ e own. wants_memory e own.0) (meets (some_past old)).1
+
   pub unlock_own : (owner id : ℕ) (answer : Result (Unit {0}) PoolError) → Meets (steps.Unlock owner id) answer old new → is_own_answer answer ≡ true
   unlock_own owner id answer meets = own_answer (unlock_tests owner id old) _ answer _ _ _ _ refl refl (λ e own. absurd own) (meets (some_past old)).1
 
@@ -106,6 +109,12 @@ module _ (old new : Shown) where
 
   pub read_own : (owner : ℕ) (range : NumberRange) (answer : Result (List ℕ) PoolError) → Meets (stage.Read owner range) answer old new → is_own_answer answer ≡ true
   read_own owner range answer meets = own_answer (read_tests owner range old) _ answer _ _ _ _ refl refl (λ e own. wants_memory e own.0) (meets (some_past old)).1
+
+  pub length_own : (n : ℕ) (answer : Result ℕ PoolError) → Meets (steps.Length n) answer old new → is_own_answer answer ≡ true
+  length_own n answer meets = own_answer (length_tests n old) _ answer _ _ _ _ refl refl (λ e own. absurd own) (meets (some_past old)).1
+
+  pub digest_own : (answer : Result (List ℕ) PoolError) → Meets stage.Digest answer old new → is_own_answer answer ≡ true
+  digest_own answer meets = own_answer (digest_tests old) _ answer _ _ _ _ refl refl (λ e own. absurd own) (meets (some_past old)).1
 
   pub close_own : (answer : Result ℕ PoolError) → Meets stage.CloseGroup answer old new → is_own_answer answer ≡ true
   close_own answer meets = own_answer (stage.waits_for_older old (close_tests old)) _ answer _ _ _ _ refl refl (λ e own. absurd own) (meets (some_past old)).1

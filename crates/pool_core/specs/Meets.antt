@@ -1,17 +1,19 @@
 -- A step of a pool, in a run with any past.
-use Rattle.std.specs.Prelude.{ℕ, ◌≡◌, Bool, true, false, List, Result, Ok, Err, Some, None}
+use Rattle.std.specs.Prelude.{ℕ, ◌≡◌, Bool, true, false, List, [], ◌∷◌, Option, Result, Ok, Err, Some, None, is_none, nat_le}
 use Rattle.base.specs.declared.error.PoolError.{PoolError}
+use Rattle.base.specs.declared.error.PoolError.TheVariants as error
 use Rattle.base.specs.declared.names.Group.{Group}
 use Rattle.base.specs.declared.names.Owner.{Owner}
 use Rattle.base.specs.declared.names.TxId.{TxId}
 use Rattle.base.specs.declared.operation.Op.{Op}
 use Rattle.base.specs.declared.operation.Shape.{Shape}
-use Rattle.base.specs.history.Contents.{Contents}
+use Rattle.base.specs.formats.Limits.{object_count}
+use Rattle.base.specs.history.Contents.{Contents, length_of}
 use Rattle.base.specs.steps.ExactNow.{IsExplainedNow}
 use Rattle.base.specs.steps.Groups.{Admission}
 use Rattle.base.specs.history.History.{apply_all}
 use Rattle.base.specs.history.Past.{Past}
-use Rattle.base.specs.steps.Refusals.{transaction_of}
+use Rattle.base.specs.steps.Refusals.{first_refusal, refused_if, transaction_of}
 use Rattle.base.specs.steps.Shown.{Shown}
 use Rattle.base.specs.steps.Stage.{begin_refusal, commit_refusal}
 use Rattle.base.specs.steps.Steps.{State}
@@ -37,6 +39,15 @@ pub record MayCommit (tx : ℕ) (ops : List Op) (group : ℕ) (s : Shown) : Type
 abbrev pub RefusesIf : {A : Type 0} → Bool → PoolError → Result A PoolError → Type 0
 RefusesIf test reason (Ok a) = test ≡ false
 RefusesIf test reason (Err e) = (e ≡ reason) × (test ≡ true)
+
+-- why an object's length is not told, but for a suspended pool
+abbrev pub object_refusal : ℕ → Shown → Option PoolError
+object_refusal n s = first_refusal (refused_if (nat_le object_count n) error.BadRange ∷ refused_if (is_none (length_of s.contents n)) error.NoObject ∷ [])
+
+-- the length of an object, or the first refusal that applies
+abbrev pub FindsLength : ℕ → Result ℕ PoolError → Shown → Type 0
+FindsLength n (Ok length) s = (nat_le object_count n ≡ false) × (length_of s.contents n ≡ Some length)
+FindsLength n (Err e) s = object_refusal n s ≡ Some e
 
 -- the tests of a begin and of a commit: passed, or the first refusal that applies
 abbrev pub ChecksBegin : Owner → List Shape → Result (Unit {0}) PoolError → Shown → Type 0

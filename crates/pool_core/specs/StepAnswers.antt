@@ -27,6 +27,9 @@ lock_number id = id.0
 abbrev pub group_number : Group → ℕ
 group_number group = group.0
 
+abbrev pub appended_numbers : LockId × Range → ℕ × ℕ × ℕ
+appended_numbers (id, range) = (id.0, range.low, range.high)
+
 abbrev pub admitted_numbers : TxId × Group → ℕ × ℕ
 admitted_numbers (tx, group) = (tx.0, group.0)
 
@@ -35,6 +38,9 @@ receipt_numbers receipt = (receipt.ordinal.0, receipt.group.0)
 
 abbrev pub Locks : Owner → ObjectId → Range → Mode → Result LockId PoolError → Shown → Shown → Type 0
 Locks owner object range mode answer = Meets (steps.Lock owner.0 (object_range object.0 range.low range.high) mode) (result_map lock_number answer)
+
+abbrev pub LocksAppend : Owner → ObjectId → Result (LockId × Range) PoolError → Shown → Shown → Type 0
+LocksAppend owner object answer = Meets (steps.LockAppend owner.0 object.0) (result_map appended_numbers answer)
 
 abbrev pub Unlocks : Owner → LockId → Result (Unit {0}) PoolError → Shown → Shown → Type 0
 Unlocks owner id answer = Meets (steps.Unlock owner.0 id.0) answer
@@ -47,6 +53,12 @@ Commits tx ops answer = Meets (stage.Commit tx.0 ops) (result_map receipt_number
 
 abbrev pub Reads : Owner → ObjectId → Range → Result (List ℕ) PoolError → Shown → Type 0
 Reads owner object range answer shown = Meets (stage.Read owner.0 (object_range object.0 range.low range.high)) answer shown shown
+
+abbrev pub TellsLength : ObjectId → Result ℕ PoolError → Shown → Type 0
+TellsLength object answer shown = Meets (steps.Length object.0) answer shown shown
+
+abbrev pub TellsDigest : Result (List ℕ) PoolError → Shown → Type 0
+TellsDigest answer shown = Meets stage.Digest answer shown shown
 
 abbrev pub ClosesGroup : Result Group PoolError → Shown → Shown → Type 0
 ClosesGroup answer = Meets stage.CloseGroup (result_map group_number answer)

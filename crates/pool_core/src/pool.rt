@@ -33,9 +33,9 @@ use crate::transactions::{
     is_plan_allowed, is_too_large, range_of, remove_transaction,
 };
 use base::{
-    Bytes, Group, LAST_NUMBER, LockId, MAX_TRANSACTIONS, Mode, OBJECT_COUNT, ObjectId, ObjectRange,
-    Op, Ops, Ordinal, Owner, Plan, Pointer, PoolError, Range, Receipt, Shape, TxId,
-    WRITTEN_VERSION,
+    Bytes, Group, LAST_NUMBER, LockId, MAX_LENGTH, MAX_TRANSACTIONS, Mode, OBJECT_COUNT, ObjectId,
+    ObjectRange, Op, Ops, Ordinal, Owner, Plan, Pointer, PoolError, PoolName, Range, Receipt,
+    Shape, TxId, WRITTEN_VERSION,
 };
 use device_model::SectorDevice;
 use import_replay::Mounted;
@@ -114,10 +114,10 @@ impl Pool {
     ghost use Rattle.pool_core.specs.HeldLocks.{grant_of};
     ghost use Rattle.pool_core.specs.Holds.{Leads, SamePlaces, sync_step_reply, pool_told, tree_after};
     ghost use Rattle.pool_core.specs.Lines.{ChecksStart, line_of};
-    ghost use Rattle.pool_core.specs.Meets.{ChecksBegin, ChecksCommit, RefusesIf};
+    ghost use Rattle.pool_core.specs.Meets.{ChecksBegin, ChecksCommit, FindsLength, RefusesIf};
     ghost use Rattle.pool_core.specs.Shows.{plan_of, shown_after_tree, pool_shown};
     ghost use Rattle.pool_core.specs.States.{IsOfNoDevice, KeepsTree};
-    ghost use Rattle.pool_core.specs.StepAnswers.{Begins, ClosesGroup, Commits, Locks, MarksQuiesced, Reads, StartsSync, StepsSync, Unlocks};
+    ghost use Rattle.pool_core.specs.StepAnswers.{Begins, ClosesGroup, Commits, Locks, LocksAppend, MarksQuiesced, Reads, StartsSync, StepsSync, TellsDigest, TellsLength, Unlocks};
     ghost use Rattle.pool_core.specs.SyncStarts.{IsRefusedForLack, StartLeads, StartsHeld, StartsInOrder};
     ghost use Rattle.pool_core.specs.OpenTransactions.{is_full};
     ghost use Rattle.pool_core.specs.Targets.{is_kept_covered};
@@ -200,6 +200,29 @@ impl Pool {
             return Err(PoolError::BadRange);
         }
         self.locks.lock(owner, ObjectRange { object, range }, mode)
+    }
+
+    pub(crate) fn lock_append(
+        &mut self,
+        owner: Owner,
+        object: ObjectId,
+    ) -> Result<(LockId, Range), PoolError>
+        ensures step { LocksAppend owner object result (pool_shown self.old) (pool_shown self.new) }
+        ensures kept { KeepsTree self.old self.new }
+    {
+        self.check_running()?;
+        let low = self.object_length(object)?;
+        if low >= MAX_LENGTH {
+            return Err(PoolError::BadRange);
+        }
+        let range = Range {
+            low,
+            high: MAX_LENGTH,
+        };
+        let id = self
+            .locks
+            .lock(owner, ObjectRange { object, range }, Mode::Writer)?;
+        Ok((id, range))
     }
 
     pub(crate) fn unlock(&mut self, owner: Owner, id: LockId) -> Result<(), PoolError>
@@ -351,6 +374,39 @@ impl Pool {
             return Err(PoolError::NoObject);
         };
         Ok(Bytes::from_slice(self.alloc, bytes_in(bytes, range))?)
+    }
+
+    pub(crate) fn length(&self, object: ObjectId) -> Result<u64, PoolError>
+        ensures { TellsLength object result (pool_shown self.now) }
+    {
+        self.check_running()?;
+        self.object_length(object)
+    }
+
+    // The length of an object. Refused BadRange where the number is no object's, NoObject.
+    fn object_length(&self, object: ObjectId) -> Result<u64, PoolError>
+        ensures { FindsLength object.0 result (pool_shown self.now) }
+    {
+        if object.0 >= OBJECT_COUNT {
+            return Err(PoolError::BadRange);
+        }
+        let Some(bytes) = self.contents.object(object) else {
+            return Err(PoolError::NoObject);
+        };
+        Ok(bytes.len() as u64)
+    }
+
+    pub(crate) fn digest(&self) -> Result<[u8; 32], PoolError>
+        ensures { TellsDigest result (pool_shown self.now) }
+    {
+        self.check_running()?;
+        Ok(self.contents.digest())
+    }
+
+    pub(crate) fn name(&self) -> PoolName
+        ensures { result ≡ (pool_shown self.now).contents.name }
+    {
+        self.contents.name.copy()
     }
 
     pub(crate) fn close_group(&mut self) -> Result<Group, PoolError>

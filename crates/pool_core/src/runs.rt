@@ -38,12 +38,18 @@ impl<D: SectorDevice> PoolState<D> {
             Step::Lock(owner, object, range, mode) => self
                 .lock(owner, object, range, mode)
                 .map(Reply::Locked),
+            Step::LockAppend(owner, object) => self
+                .lock_append(owner, object)
+                .map(|(id, range)| Reply::Appended(id, range)),
             Step::Unlock(owner, id) => self.unlock(owner, id).map(|()| Reply::Done),
             Step::Begin(owner, plan) => self
                 .begin(owner, &plan)
                 .map(|(tx, group)| Reply::Began(tx, group)),
             Step::Commit(tx, ops) => self.commit(tx, ops).map(Reply::Committed),
             Step::Read(owner, object, range) => self.read(owner, object, range).map(Reply::Bytes),
+            Step::Length(object) => self.length(object).map(Reply::Length),
+            Step::Digest => self.digest().map(Reply::Digest),
+            Step::Name => Ok(Reply::Name(self.name())),
             Step::CloseGroup => self.close_group().map(Reply::Opened),
             Step::MarkQuiesced => self.mark_quiesced().map(Reply::Quiesced),
             Step::StartSync(moment) => self.start_sync(moment).map(Reply::Syncing),

@@ -6,9 +6,10 @@ ghost use Rattle.base.specs.steps.Refusals.{transaction_of};
 
 use crate::pool::Pool;
 use base::{
-    Bytes, Group, LockId, Mode, ObjectId, Ops, Owner, Plan, PoolError, Range, Receipt, TxId,
+    Bytes, Group, LockId, Mode, ObjectId, Ops, Owner, Plan, PoolError, PoolName, Range, Receipt,
+    TxId,
 };
-use device_model::SectorDevice;
+use device_model::{Fault, MemDevice, SectorDevice};
 use import_replay::Imported;
 use std::alloc::Global;
 
@@ -23,8 +24,8 @@ pub enum Progress {
 
 /// A pool that runs on a device, which it owns. One step at a time changes it.
 ///
-/// After a device refused a write or a flush the pool is suspended: each later step is refused `Suspended`. Every other
-/// refusal leaves the pool as it was.
+/// After a device refused a write or a flush the pool is suspended: each later step but `name` is refused `Suspended`. Every
+/// other refusal leaves the pool as it was.
 #[derive(Drop)]
 pub struct PoolState<D: SectorDevice> {
     device: D,
@@ -39,7 +40,7 @@ impl<D: SectorDevice> PoolState<D> {
     ghost use Rattle.pool_core.specs.Holds.{Leads, sync_step_reply};
     ghost use Rattle.pool_core.specs.NewStates.{IsExplainedAtFirst, IsHeldAtFirst};
     ghost use Rattle.pool_core.specs.States.{CountsRefused, MakesNoCall, MovesNothing, device_of, shown, told, told_over};
-    ghost use Rattle.pool_core.specs.StepAnswers.{Begins, ClosesGroup, Commits, Locks, MarksQuiesced, Reads, StartsSync, StepsSync, Unlocks};
+    ghost use Rattle.pool_core.specs.StepAnswers.{Begins, ClosesGroup, Commits, Locks, LocksAppend, MarksQuiesced, Reads, StartsSync, StepsSync, TellsDigest, TellsLength, Unlocks};
     ghost use Rattle.pool_core.specs.SyncStarts.{IsRefusedForLack, StartLeads, StartsHeld, StartsInOrder};
 
     /// The pool that an import gave. It takes no memory.
@@ -87,6 +88,23 @@ impl<D: SectorDevice> PoolState<D> {
         ensures unmoved { MovesNothing result self.old self.new }
     {
         self.pool.lock(owner, object, range, mode)
+    }
+
+    /// Locks an object as a writer from its end to the greatest length, 338,688, and answers that range too.
+    ///
+    /// # Errors
+    /// In this order: `Suspended`; `BadRange` where the number is no object's; `NoObject`; `BadRange` where the object has
+    /// the greatest length; `Busy` exactly where the range overlaps a held one; `TooMany` where 256 locks are held or the next
+    /// name would pass 2^60; `NoMemory`.
+    pub fn lock_append(
+        &mut self,
+        owner: Owner,
+        object: ObjectId,
+    ) -> Result<(LockId, Range), PoolError>
+        ensures step { LocksAppend owner object result (shown self.old) (shown self.new) }
+        ensures unmoved { MovesNothing result self.old self.new }
+    {
+        self.pool.lock_append(owner, object)
     }
 
     /// Lets a lock go. It takes no memory.
@@ -150,6 +168,36 @@ impl<D: SectorDevice> PoolState<D> {
         self.pool.read(owner, object, range)
     }
 
+    /// The length of an object in bytes. It takes no memory.
+    ///
+    /// # Errors
+    /// In this order: `Suspended`; `BadRange` where the number is no object's; `NoObject`.
+    pub fn length(&self, object: ObjectId) -> Result<u64, PoolError>
+        ensures step { TellsLength object result (shown self.now) }
+        ensures no_call { MakesNoCall result self.now self.now }
+    {
+        self.pool.length(object)
+    }
+
+    /// The digest of the current contents: SHA-256 of the name, the number of objects, and each object by rising number with
+    /// its number, its length and its bytes. The contents stand in memory, so it takes no memory and makes no device call.
+    ///
+    /// # Errors
+    /// `Suspended`.
+    pub fn digest(&self) -> Result<[u8; 32], PoolError>
+        ensures step { TellsDigest result (shown self.now) }
+        ensures no_call { MakesNoCall result self.now self.now }
+    {
+        self.pool.digest()
+    }
+
+    /// The pool's name. It is never refused, also of a suspended pool, and takes no memory.
+    pub fn name(&self) -> PoolName
+        ensures { result ≡ (shown self.now).contents.name }
+    {
+        self.pool.name()
+    }
+
     /// The open group quiesces, and the next one is open (`txg.c`). It takes no memory.
     ///
     /// # Errors
@@ -203,5 +251,19 @@ impl<D: SectorDevice> PoolState<D> {
         ensures count { CountsRefused result self.old self.new }
     {
         self.pool.sync_step(&mut self.device)
+    }
+}
+
+impl PoolState<MemDevice> {
+    ghost use Rattle.device_model.specs.Plans.{with_plan};
+    ghost use Rattle.pool_core.specs.States.{device_of, told};
+
+    /// Makes the n-th such call of its device from now fail, once, as `MemDevice::fail` does, and changes nothing else. It is
+    /// no step.
+    pub fn fail(&mut self, fault: Fault, n: u64)
+        ensures device { device_of self.new ≡ with_plan fault n (device_of self.old) }
+        ensures told { told self.new ≡ told self.old }
+    {
+        self.device.fail(fault, n);
     }
 }

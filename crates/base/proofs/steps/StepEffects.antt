@@ -6,6 +6,7 @@ use Rattle.std.proofs.lemmas.Bool.{or_parts, not-false, ltb-false, leb-false, fa
 use Rattle.base.specs.declared.error.PoolError.{PoolError}
 use Rattle.base.specs.declared.error.PoolError.TheVariants as error
 use Rattle.base.specs.declared.operation.Op.{Op}
+use Rattle.base.specs.declared.range.Mode.TheVariants.{Writer}
 use Rattle.base.specs.declared.step.Step as declared_step
 use Rattle.base.specs.declared.step.Step.TheVariants as step
 use Rattle.base.specs.declared.step.Reply as declared_reply
@@ -144,6 +145,12 @@ step_does keeps now (step.Lock owner n range mode) r old new (answer, is, h) =
     by_answer s old new _ r answer _ _ (λ id none d. does s old new _ (AddsGrant (steps.next_grant owner.0 wanted mode old.shown)) none
     (refl, no_refusal (refusal.lock_tests owner.0 wanted mode old.shown) none 2 _ refl) d.1 (rw d.0 refl) refl refl refl)
     (no_memory s old new) is h
+step_does keeps now (step.LockAppend owner n) r old new (answer, is, h) =
+    let s : declared_step.Step = step.LockAppend owner n in
+    let wanted = refusal.append_range n.0 old.shown in
+    by_answer s old new _ r answer _ _ (λ a none d. does s old new _ (AddsGrant (steps.next_grant owner.0 wanted Writer old.shown)) none
+    (refl, no_refusal (refusal.append_tests owner.0 n.0 old.shown) none 4 _ refl) d.1 (rw d.0 refl) refl refl refl)
+    (no_memory s old new) is h
 step_does keeps now (step.Unlock owner id) r old new (answer, is, h) =
     let s : declared_step.Step = step.Unlock owner id in
     by_answer s old new _ r answer _ _ (λ a none d. does s old new _ (LetsGo owner.0 id.0) none (lock_found old.shown owner.0 id.0 none) d refl refl refl refl) (λ e none never. absurd never) is h
@@ -168,6 +175,13 @@ step_does keeps now (step.Commit tx ops) r old new (answer, is, h) =
 step_does keeps now (step.Read owner n range) r old new (answer, is, h) =
     let s : declared_step.Step = step.Read owner n range in
     by_answer s old new _ r answer _ _ (λ bytes none d. does s old new _ Stays none tt d.1 refl refl refl refl) (no_memory s old new) is h
+step_does keeps now (step.Length n) r old new (answer, is, h) =
+    let s : declared_step.Step = step.Length n in
+    by_answer s old new _ r answer _ _ (λ length none d. does s old new _ Stays none tt d.1 refl refl refl refl) (λ e none never. absurd never) is h
+step_does keeps now step.Digest r old new (answer, is, h) =
+    by_answer step.Digest old new _ r answer _ _ (λ digest none d. does step.Digest old new _ Stays none tt d.1 refl refl refl refl) (λ e none never. absurd never) is h
+step_does keeps now step.Name r old new (answer, is, h) =
+    by_answer step.Name old new _ r answer _ _ (λ name none d. does step.Name old new _ Stays none tt d.1 refl refl refl refl) (λ e none never. absurd never) is h
 step_does keeps now step.CloseGroup r old new (answer, is, h) =
     by_answer step.CloseGroup old new _ r answer _ _ (λ group none d.
     let tests = stage.waits_for_older old.shown (refusal.close_tests old.shown) in

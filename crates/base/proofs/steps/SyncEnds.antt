@@ -1,5 +1,5 @@
 -- A started sync ends with the last of its steps, and a suspended pool refuses each step.
-use Rattle.std.proofs.Common.{◌≡◌, ℕ, zero, suc, ◌-◌, ◌<◌, ◌≤◌, true, false, List, [], ◌∷◌, length, take, replicate, refl, ap, sym, subst, ◌∙◌, arith, ◌⊎◌}
+use Rattle.std.proofs.Common.{◌≡◌, ℕ, zero, suc, ◌-◌, ◌<◌, ◌≤◌, true, false, List, [], ◌∷◌, length, map, take, replicate, refl, ap, sym, subst, ◌∙◌, arith, ◌⊎◌, inl, inr}
 use Rattle.std.specs.Prelude.{Option, Some, None, Result, Ok, Err, All}
 use Rattle.std.proofs.lemmas.Bool.{true≢false}
 use Rattle.std.proofs.lemmas.List.Elements.{All-head, All-tail}
@@ -16,37 +16,50 @@ use Rattle.base.specs.steps.Steps as steps
 use Rattle.base.specs.steps.Steps.{State, Answers, SyncProgress}
 use Rattle.base.specs.steps.Steps.SyncProgress.{More, Synced}
 use Rattle.base.specs.steps.ExactNow.{IsRun, GoesOn}
-use Rattle.base.specs.steps.SyncEnds.{IsAnswer, is_refusal, sync_replies, reply_with_left}
+use Rattle.base.specs.steps.SyncEnds.{IsAnswer, is_refusal, suspended_reply, sync_replies, reply_with_left}
 use Rattle.base.proofs.common.KeptLists.{Some-injective}
 use Rattle.base.proofs.steps.StepEffects.{Answered, step_does}
 use Rattle.base.proofs.steps.StepEffects.Answered.{tested, untested, made}
 
--- the first test of each step refuses it where the pool is suspended
-suspended_first : (s : declared_step.Step) (t : Shown) → t.suspended ≡ true → refusal_of_step s t ≡ Some error.Suspended
-suspended_first (step.Lock owner n range mode) t is = rw is refl
-suspended_first _ t is = rw is refl
+-- the name is told as ever
+named_step : (answer : Result (List ℕ) PoolError) (r : Reply) (old new : State) → r ≡ reply_of (λ name. reply.Name name) answer
+    → Answers None answer old new (λ name. steps.Name name old new) steps.Never → (new ≡ old) × (r ≡ reply.Name old.shown.contents.name)
+named_step (Ok name) r old new told h = (h.1, told ∙ ap (λ (x : List ℕ). reply.Name x) h.0)
+named_step (Err e) r old new told h = absurd h
+
+-- the first test of each other step refuses it where the pool is suspended
+suspended_first : (s : declared_step.Step) (t : Shown) → t.suspended ≡ true
+    → (s ≡ step.Name) ⊎ ((refusal_of_step s t ≡ Some error.Suspended) × (suspended_reply t s ≡ reply.Refused error.Suspended))
+suspended_first step.Name t is = inl refl
+suspended_first _ t is = inr (rw is refl, refl)
 
 -- so that is the answer, and nothing changes
-suspended_step : (now : List ℕ) (s : declared_step.Step) (r : Reply) (old new : State) → old.shown.suspended ≡ true → Step ⊥ now s r old new
+refused_step : (now : List ℕ) (s : declared_step.Step) (r : Reply) (old new : State) → refusal_of_step s old.shown ≡ Some error.Suspended → Step ⊥ now s r old new
     → (new ≡ old) × (r ≡ reply.Refused error.Suspended)
-suspended_step now s r old new is h = by (step_does ⊥ now s r old new h).answer
+refused_step now s r old new first h = by (step_does ⊥ now s r old new h).answer
   where
-    first : refusal_of_step s old.shown ≡ Some error.Suspended
-    first = suspended_first s old.shown is
-
     by : Answered s r old new → (new ≡ old) × (r ≡ reply.Refused error.Suspended)
     by (tested e told found same) = (same, told ∙ ap (λ (x : PoolError). reply.Refused x) (Some-injective (sym found ∙ first)))
     by (untested e told own loud none) = absurd (let no_way : None ≡ Some error.Suspended = sym none ∙ first in cc)
     by (made answers none) = absurd (let no_way : None ≡ Some error.Suspended = sym none ∙ first in cc)
 
+suspended_step : (now : List ℕ) (s : declared_step.Step) (r : Reply) (old new : State) → old.shown.suspended ≡ true → Step ⊥ now s r old new
+    → (new ≡ old) × (r ≡ suspended_reply old.shown s)
+suspended_step now s r old new is h = by (suspended_first s old.shown is)
+  where
+    by : (s ≡ step.Name) ⊎ ((refusal_of_step s old.shown ≡ Some error.Suspended) × (suspended_reply old.shown s ≡ reply.Refused error.Suspended)) → (new ≡ old) × (r ≡ suspended_reply old.shown s)
+    by (inl named) = rw named (let (answer, told, does) : Step ⊥ now step.Name r old new = subst (λ (x : declared_step.Step). Step ⊥ now x r old new) named h in named_step answer r old new told does)
+    by (inr first) = let refused = refused_step now s r old new first.0 h in (refused.0, refused.1 ∙ sym first.1)
+
 suspended_run : (ss : List declared_step.Step) (rs : List Reply) (s new : State) → s.shown.suspended ≡ true → IsRun ⊥ ss rs s new
-    → (new ≡ s) × (rs ≡ replicate (length ss) (reply.Refused error.Suspended))
+    → (new ≡ s) × (rs ≡ map (suspended_reply s.shown) ss)
 suspended_run [] [] s new is h = (h, refl)
 suspended_run (x ∷ ss) (r ∷ rs) s new is (middle, (now, one), rest) =
     let first = suspended_step now x r s middle is one in
     let still : middle.shown.suspended ≡ true = ap (λ (t : State). t.shown.suspended) first.0 ∙ is in
     let others = suspended_run ss rs middle new still rest in
-    (others.0 ∙ first.0, ap (λ (y : Reply). y ∷ rs) first.1 ∙ ap (λ (l : List Reply). reply.Refused error.Suspended ∷ l) others.1)
+    let same : rs ≡ map (suspended_reply s.shown) ss = others.1 ∙ ap (λ (t : State). map (suspended_reply t.shown) ss) first.0 in
+    (others.0 ∙ first.0, ap (λ (y : Reply). y ∷ rs) first.1 ∙ ap (λ (l : List Reply). suspended_reply s.shown x ∷ l) same)
 suspended_run [] (r ∷ rs) s new is h = absurd h
 suspended_run (x ∷ ss) [] s new is h = absurd h
 
@@ -54,7 +67,7 @@ pub suspended_pools_stay : (s new : State) → s.shown.suspended ≡ true → Go
 suspended_pools_stay s new is (ss, rs, run) = (suspended_run ss rs s new is run).0
 
 pub suspended_pools_refuse : (ss : List declared_step.Step) (rs : List Reply) (s new : State) → s.shown.suspended ≡ true → IsRun ⊥ ss rs s new
-    → rs ≡ replicate (length ss) (reply.Refused error.Suspended)
+    → rs ≡ map (suspended_reply s.shown) ss
 suspended_pools_refuse ss rs s new is run = (suspended_run ss rs s new is run).1
 
 -- a sync that runs in a pool that is not suspended, with so many steps left

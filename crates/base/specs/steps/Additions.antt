@@ -1,5 +1,6 @@
 -- What a step makes of the past of a run: a function of the step, its reply and the state before it.
 use Rattle.std.specs.Prelude.{ℕ, ◌≡◌, ◌++◌, List, [], ◌∷◌}
+use Rattle.base.specs.declared.range.Mode.TheVariants.{Writer}
 use Rattle.base.specs.declared.step.Step as declared_step
 use Rattle.base.specs.declared.step.Step.TheVariants as step
 use Rattle.base.specs.declared.step.Reply as declared_reply
@@ -17,6 +18,8 @@ use Rattle.base.specs.steps.ExactNow.{IsRun}
 abbrev pub past_after : declared_step.Step → declared_reply.Reply → State → Past
 past_after (step.Lock owner n range mode) (reply.Locked id) s =
     record s.past { grants = s.past.grants ++ record { id = id.0; owner = owner.0; range = object_range n.0 range.low range.high; mode = mode } ∷ [] }
+past_after (step.LockAppend owner n) (reply.Appended id range) s =
+    record s.past { grants = s.past.grants ++ record { id = id.0; owner = owner.0; range = object_range n.0 range.low range.high; mode = Writer } ∷ [] }
 past_after (step.Unlock owner id) reply.Done s = record s.past { let_go = s.past.let_go ++ id.0 ∷ [] }
 past_after (step.Begin owner plan) (reply.Began tx group) s =
     record s.past { admissions = s.past.admissions ++ record { tx = tx.0; group = group.0; owner = owner.0; plan = plan } ∷ [] }

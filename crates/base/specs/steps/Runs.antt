@@ -1,5 +1,5 @@
 -- Steps and their replies, one after another.
-use Rattle.std.specs.Prelude.{ℕ, ◌≡◌, Bool, true, false, List, [], ◌∷◌, Option, Result, Ok, Err}
+use Rattle.std.specs.Prelude.{ℕ, ◌≡◌, Bool, true, false, List, [], ◌∷◌, Option, None, Result, Ok, Err}
 use Rattle.base.specs.declared.error.PoolError.{PoolError}
 use Rattle.base.specs.declared.step.Step as declared_step
 use Rattle.base.specs.declared.step.Step.TheVariants as step
@@ -34,6 +34,9 @@ abbrev pub Step : Type 0 → List ℕ → declared_step.Step → declared_reply.
 Step keeps now (step.Lock owner n range mode) given old new =
     Replies (λ id. reply.Locked (record { 0 = id })) given
     (λ answer. steps.Lock owner.0 (object_range n.0 range.low range.high) mode answer old new)
+Step keeps now (step.LockAppend owner n) given old new =
+    Replies (λ (a : ℕ × ℕ × ℕ). reply.Appended (record { 0 = a.0 }) (record { low = a.1; high = a.2 })) given
+    (λ answer. steps.LockAppend owner.0 n.0 answer old new)
 Step keeps now (step.Unlock owner id) given old new =
     Replies (λ _. reply.Done) given (λ answer. steps.Unlock owner.0 id.0 answer old new)
 Step keeps now (step.Begin owner plan) given old new =
@@ -44,6 +47,12 @@ Step keeps now (step.Commit tx ops) given old new =
 Step keeps now (step.Read owner n range) given old new =
     Replies (λ bytes. reply.Bytes bytes) given
     (λ answer. stage.Read owner.0 (object_range n.0 range.low range.high) answer old new)
+Step keeps now (step.Length n) given old new =
+    Replies (λ length. reply.Length length) given (λ answer. steps.Length n.0 answer old new)
+Step keeps now step.Digest given old new =
+    Replies (λ digest. reply.Digest digest) given (λ answer. stage.Digest answer old new)
+Step keeps now step.Name given old new =
+    Replies (λ name. reply.Name name) given (λ answer. steps.Answers None answer old new (λ name. steps.Name name old new) steps.Never)
 Step keeps now step.CloseGroup given old new =
     Replies (λ group. reply.Opened (record { 0 = group })) given
     (λ answer. stage.CloseGroup answer old new)
@@ -59,10 +68,14 @@ Step keeps now step.SyncStep given old new =
 -- the tests of each step, in order
 abbrev pub tests_of_step : declared_step.Step → Shown → List Test
 tests_of_step (step.Lock owner n range mode) s = refusal.lock_tests owner.0 (object_range n.0 range.low range.high) mode s
+tests_of_step (step.LockAppend owner n) s = refusal.append_tests owner.0 n.0 s
 tests_of_step (step.Unlock owner id) s = refusal.unlock_tests owner.0 id.0 s
 tests_of_step (step.Begin owner plan) s = stage.begin_tests owner.0 plan s
 tests_of_step (step.Commit tx ops) s = stage.waits_for_older s (refusal.commit_tests tx.0 ops s)
 tests_of_step (step.Read owner n range) s = refusal.read_tests owner.0 (object_range n.0 range.low range.high) s
+tests_of_step (step.Length n) s = refusal.length_tests n.0 s
+tests_of_step step.Digest s = refusal.digest_tests s
+tests_of_step step.Name s = []
 tests_of_step step.CloseGroup s = stage.waits_for_older s (refusal.close_tests s)
 tests_of_step step.MarkQuiesced s = refusal.quiesce_tests s
 tests_of_step (step.StartSync moment) s = refusal.start_tests s

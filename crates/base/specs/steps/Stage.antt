@@ -7,6 +7,7 @@ use Rattle.base.specs.declared.error.PoolError.TheVariants as error
 use Rattle.base.specs.declared.operation.Op.{Op}
 use Rattle.base.specs.declared.operation.Shape.{Shape}
 use Rattle.base.specs.declared.operation.Shape.TheVariants as shape
+use Rattle.base.specs.formats.Digest.{digest_of}
 use Rattle.base.specs.formats.Limits.{last_number, max_log_record, max_transactions}
 use Rattle.base.specs.history.Contents.{Contents}
 use Rattle.base.specs.history.Plans.{NumberRange, is_plan_allowed, log_record_size}
@@ -77,6 +78,11 @@ Commit tx ops answer old new = Answers (commit_refusal tx ops old.shown) answer 
 abbrev pub Read : ℕ → NumberRange → Result (List ℕ) PoolError → State → State → Type 0
 Read owner range answer old new = Answers (refusal.read_refusal owner range old.shown) answer old new
     (λ bytes. IfSome (finite.get old.shown.contents.objects range.number) (λ all. bytes ≡ bytes_in range all) × (new ≡ old)) (WantsMemory old new)
+
+-- the digest of contents that stand in memory: it takes no memory, and asks nothing of the device
+abbrev pub Digest : Result (List ℕ) PoolError → State → State → Type 0
+Digest answer old new = Answers (refusal.digest_refusal old.shown) answer old new
+    (λ digest. (digest ≡ digest_of old.shown.contents) × (new ≡ old)) Never
 
 abbrev pub close_refusal : Shown → Option PoolError
 close_refusal s = first_refusal (waits_for_older s (refusal.close_tests s))

@@ -1,11 +1,11 @@
 -- When a started sync ends, and what a suspended pool replies.
-use Rattle.std.specs.Prelude.{ℕ, zero, suc, ◌≡◌, ◌≤◌, Bool, true, false, List, [], ◌∷◌, length, replicate, take, All, Some}
+use Rattle.std.specs.Prelude.{ℕ, zero, suc, ◌≡◌, ◌≤◌, Bool, true, false, List, [], ◌∷◌, length, map, replicate, take, All, Some}
 use Rattle.base.specs.declared.error.PoolError.TheVariants as error
 use Rattle.base.specs.declared.step.Step as declared_step
 use Rattle.base.specs.declared.step.Step.TheVariants as step
 use Rattle.base.specs.declared.step.Reply.{Reply}
 use Rattle.base.specs.declared.step.Reply.TheVariants as reply
-use Rattle.base.specs.steps.Shown.{SyncPlan}
+use Rattle.base.specs.steps.Shown.{Shown, SyncPlan}
 use Rattle.base.specs.steps.Steps.{State}
 use Rattle.base.specs.steps.ExactNow.{IsRun, GoesOn}
 
@@ -37,7 +37,12 @@ SyncsEndOnTime = (s new : State) (group : ℕ) (plan : SyncPlan) (replies : List
 abbrev pub SuspendedPoolsStay : Type 0
 SuspendedPoolsStay = (s new : State) → s.shown.suspended ≡ true → GoesOn s new → new ≡ s
 
--- It refuses each step that is built: all but the three that only tell something of the pool, which are not among them yet.
+-- what it replies: its name, and to each other step that it is suspended
+abbrev pub suspended_reply : Shown → declared_step.Step → Reply
+suspended_reply s step.Name = reply.Name s.contents.name
+suspended_reply s _ = reply.Refused error.Suspended
+
+-- It refuses each step that is built but that of its name. The two others that only tell something of the pool are not among them yet.
 abbrev pub SuspendedPoolsRefuse : Type 0
 SuspendedPoolsRefuse = (steps : List declared_step.Step) (replies : List Reply) (s new : State) → s.shown.suspended ≡ true → IsRun ⊥ steps replies s new
-    → replies ≡ replicate (length steps) (reply.Refused error.Suspended)
+    → replies ≡ map (suspended_reply s.shown) steps

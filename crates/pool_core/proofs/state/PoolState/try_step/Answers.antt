@@ -1,10 +1,13 @@
 use Rattle.std.proofs.Common.{refl, rules}
-use Rattle.pool_core.specs.StepAnswers.{admitted_numbers, group_number, lock_number, receipt_numbers}
-use Rattle.pool_core.proofs.MadeSteps.{plain_step, start_step, read_moves_nothing, still_step, sync_step}
+use Rattle.pool_core.specs.StepAnswers.{admitted_numbers, appended_numbers, group_number, lock_number, receipt_numbers}
+use Rattle.pool_core.proofs.MadeSteps.{name_step, plain_step, start_step, read_moves_nothing, still_step, sync_step}
 use Rattle.pool_core.proofs.state.PoolState.try_step.Goals as goal
 
 pub returns-in-Lock : goal.returns-in-Lock
 returns-in-Lock g c = rw c.in-Lock.is (still_step lock_number _ (λ r x y h. h) refl (λ b. refl) (λ r d. d) c.lock.ensures.step c.lock.ensures.unmoved c.map.ensures.cases)
+
+pub returns-in-LockAppend : goal.returns-in-LockAppend
+returns-in-LockAppend g c = rw c.in-LockAppend.is (still_step appended_numbers c.map-in-LockAppend.result (λ r x y h. h) refl (λ b. refl) (λ r d. d) c.lock_append.ensures.step c.lock_append.ensures.unmoved (search rules))
 
 pub returns-in-Unlock : goal.returns-in-Unlock
 returns-in-Unlock g c = rw c.in-Unlock.is (plain_step c.map-in-Unlock.result (λ r x y h. h) refl (λ b. refl) (λ r d. d) c.unlock.ensures.step c.unlock.ensures.unmoved (search rules))
@@ -23,6 +26,15 @@ returns-in-MarkQuiesced g c = rw c.in-MarkQuiesced.is (still_step group_number _
 
 pub returns-in-Read : goal.returns-in-Read
 returns-in-Read g c = rw c.in-Read.is (plain_step _ (λ r x y h. h) refl (λ b. refl) (λ r d. d) c.read.ensures.step (read_moves_nothing c.read.ensures.no_call) c.map-in-Read.ensures.cases)
+
+pub returns-in-Length : goal.returns-in-Length
+returns-in-Length g c = rw c.in-Length.is (plain_step _ (λ r x y h. h) refl (λ b. refl) (λ r d. d) c.length.ensures.step (read_moves_nothing c.length.ensures.no_call) c.map-in-Length.ensures.cases)
+
+pub returns-in-Digest : goal.returns-in-Digest
+returns-in-Digest g c = rw c.in-Digest.is (plain_step _ (λ r x y h. h) refl (λ b. refl) (λ r d. d) c.digest.ensures.step (read_moves_nothing c.digest.ensures.no_call) c.map-in-Digest.ensures.cases)
+
+pub returns-in-Name : goal.returns-in-Name
+returns-in-Name g c = rw c.in-Name.is (name_step c.name.result c.name.ensures)
 
 pub returns-in-StartSync : goal.returns-in-StartSync
 returns-in-StartSync g c = rw c.in-StartSync.is (start_step _ c.start_sync.ensures.step c.start_sync.ensures.held c.start_sync.ensures.leads c.start_sync.ensures.no_call c.map-in-StartSync.ensures.cases)
