@@ -6,13 +6,13 @@ use Rattle.base.specs.declared.range.Mode.TheVariants.{Reader}
 use Rattle.base.specs.declared.step.Step.{Step}
 use Rattle.base.specs.declared.step.Step.TheVariants as step
 use Rattle.scripts.specs.declared.command.Command.{Command}
-use Rattle.scripts.specs.declared.command.Command.TheVariants.{Create, Import, Crash, Pool}
+use Rattle.scripts.specs.declared.command.Command.TheVariants.{Create, Import, Crash, Fail, Pool}
 use Rattle.scripts.specs.declared.command.LineError.{LineError}
 use Rattle.scripts.specs.declared.command.LineError.TheVariants.{NoMemory}
 use Rattle.scripts.specs.declared.command.PoolCommand.{PoolCommand}
 use Rattle.scripts.specs.declared.command.PoolCommand.TheVariants as pool
 use Rattle.scripts.specs.Copies.{AreContentsOf}
-use Rattle.scripts.specs.Letters.{mode_of, piece_of}
+use Rattle.scripts.specs.Letters.{call_name, mode_of, piece_of}
 use Rattle.scripts.specs.Numbers.{IsNumberBelow, spelled_number}
 use Rattle.scripts.specs.Shapes.{AreShapesOf}
 use Rattle.scripts.specs.Words.{ArePartsOf, BeginsWith, HasForm, Words, word}
@@ -21,6 +21,11 @@ use Rattle.scripts.specs.Words.{ArePartsOf, BeginsWith, HasForm, Words, word}
 abbrev pub IsCrashOf : List ℕ → Command → Type 0
 IsCrashOf letters (Crash pieces) = map Some pieces.items ≡ map piece_of letters
 IsCrashOf letters _ = ⊥
+
+-- the n-th such call from now is to fail, and n is at least 1
+abbrev pub IsFailOf : List ℕ → List ℕ → Command → Type 0
+IsFailOf call count (Fail fault n) = (call ≡ call_name fault) × IsNumberBelow (2 ^ 64) count × (n ≡ spelled_number count) × (0 < n)
+IsFailOf call count _ = ⊥
 
 -- a begin of this owner with a shape for each of these words
 abbrev pub IsBeginOf : List ℕ → Words → Step → Type 0
@@ -32,20 +37,29 @@ abbrev pub IsCommitOf : List ℕ → List (Bor (List ℕ)) → PoolCommand → T
 IsCommitOf tx words (pool.Commit t contents) = (t.0 ≡ spelled_number tx) × (vec_len contents ≡ length words) × AreContentsOf words contents.items
 IsCommitOf tx words _ = ⊥
 
+-- the lines of a step that tells what the contents are, or where an object ends
+abbrev pub IsTellingForm : Words → Type 0
+IsTellingForm words = HasForm words (codes "append") 3 ⊎ (HasForm words (codes "length") 2 ⊎ (HasForm words (codes "digest") 1 ⊎ HasForm words (codes "name") 1))
+
 -- the lines that are a step
 abbrev pub IsStepForm : Words → Type 0
 IsStepForm words = HasForm words (codes "lock") 6 ⊎ (HasForm words (codes "unlock") 3 ⊎ (BeginsWith words (codes "begin") 2
-    ⊎ (HasForm words (codes "read") 5 ⊎ (HasForm words (codes "close") 1 ⊎ (HasForm words (codes "quiesce") 1 ⊎ HasForm words (codes "step") 1)))))
+    ⊎ (HasForm words (codes "read") 5 ⊎ (HasForm words (codes "close") 1 ⊎ (HasForm words (codes "quiesce") 1 ⊎ (HasForm words (codes "step") 1
+    ⊎ IsTellingForm words))))))
 
 -- the lines that ask a pool for something
 abbrev pub IsPoolForm : Words → Type 0
 IsPoolForm words = BeginsWith words (codes "commit") 2 ⊎ (HasForm words (codes "start") 1 ⊎ (HasForm words (codes "finish") 1
     ⊎ (HasForm words (codes "sync") 1 ⊎ IsStepForm words)))
 
+-- the lines that work on the device as it is, and on the pool there
+abbrev pub IsDeviceForm : Words → Type 0
+IsDeviceForm words = HasForm words (codes "fail") 3 ⊎ IsPoolForm words
+
 -- the lines that are a command
 abbrev pub IsLineForm : Words → Type 0
 IsLineForm words = HasForm words (codes "create") 3 ⊎ (HasForm words (codes "import") 2 ⊎ (HasForm words (codes "crash") 1
-    ⊎ (HasForm words (codes "crash") 2 ⊎ IsPoolForm words)))
+    ⊎ (HasForm words (codes "crash") 2 ⊎ IsDeviceForm words)))
 
 module _ {A : Type 0} (of : Step → A) (words : Words) (r : Result A LineError) where
   -- a `lock` line: owner, object, r or w, low and high
@@ -55,6 +69,17 @@ module _ {A : Type 0} (of : Step → A) (words : Words) (r : Result A LineError)
       × IsNumberBelow (2 ^ 64) (word words 4) × IsNumberBelow (2 ^ 64) (word words 5))
       (of (step.Lock (record { 0 = spelled_number (word words 1) }) (record { 0 = spelled_number (word words 2) })
       (record { low = spelled_number (word words 4); high = spelled_number (word words 5) }) (unwrap_or (mode_of (word words 3)) Reader)))
+
+  -- an `append` line: owner and object
+  abbrev pub ReadsAppend : Type 0
+  ReadsAppend = HasForm words (codes "append") 3 → OkIff r
+      (IsNumberBelow (2 ^ 32) (word words 1) × IsNumberBelow (2 ^ 32) (word words 2))
+      (of (step.LockAppend (record { 0 = spelled_number (word words 1) }) (record { 0 = spelled_number (word words 2) })))
+
+  -- a `length` line: an object
+  abbrev pub ReadsLength : Type 0
+  ReadsLength = HasForm words (codes "length") 2 → OkIff r
+      (IsNumberBelow (2 ^ 32) (word words 1)) (of (step.Length (record { 0 = spelled_number (word words 1) })))
 
   -- an `unlock` line: owner and lock
   abbrev pub ReadsUnlock : Type 0
@@ -74,6 +99,13 @@ module _ {A : Type 0} (of : Step → A) (words : Words) (r : Result A LineError)
       (of (step.Read (record { 0 = spelled_number (word words 1) }) (record { 0 = spelled_number (word words 2) })
       (record { low = spelled_number (word words 3); high = spelled_number (word words 4) })))
 
+-- what the words of a step that tells something are read as
+pub record ReadsTelling {A : Type 0} (of : Step → A) (words : Words) (r : Result A LineError) : Type 0 where
+  pub append : ReadsAppend of words r
+  pub length_of : ReadsLength of words r
+  pub digest : HasForm words (codes "digest") 1 → r ≡ Ok (of step.Digest)
+  pub name : HasForm words (codes "name") 1 → r ≡ Ok (of step.Name)
+
 -- what the words of a step are read as
 pub record ReadsStep {A : Type 0} (of : Step → A) (words : Words) (r : Result A LineError) : Type 0 where
   pub lock : ReadsLock of words r
@@ -83,6 +115,7 @@ pub record ReadsStep {A : Type 0} (of : Step → A) (words : Words) (r : Result 
   pub close : HasForm words (codes "close") 1 → r ≡ Ok (of step.CloseGroup)
   pub quiesce : HasForm words (codes "quiesce") 1 → r ≡ Ok (of step.MarkQuiesced)
   pub sync_step : HasForm words (codes "step") 1 → r ≡ Ok (of step.SyncStep)
+  pub telling : ReadsTelling of words r
 
 -- what the words of a commit and a sync are read as
 pub record ReadsPool {A : Type 0} (of : PoolCommand → A) (words : Words) (r : Result A LineError) : Type 0 where
@@ -92,6 +125,11 @@ pub record ReadsPool {A : Type 0} (of : PoolCommand → A) (words : Words) (r : 
   pub sync : HasForm words (codes "sync") 1 → r ≡ Ok (of pool.Sync)
   pub step : ReadsStep (λ s. of (pool.Step s)) words r
 
+-- what the words of a line that works on the device as it is are read as
+pub record ReadsDeviceLine (words : Words) (r : Result Command LineError) : Type 0 where
+  pub fail : HasForm words (codes "fail") 3 → IfOk r (IsFailOf (word words 1) (word words 2))
+  pub pool : ReadsPool Pool words r
+
 -- what the words of a line are read as
 pub record ReadsWords (words : Words) (r : Result Command LineError) : Type 0 where
   pub create : HasForm words (codes "create") 3 → IfOk r (λ asked. (asked ≡ Create (word words 1) (spelled_number (word words 2)))
@@ -99,7 +137,7 @@ pub record ReadsWords (words : Words) (r : Result Command LineError) : Type 0 wh
   pub import : HasForm words (codes "import") 2 → OkIff r (IsNumberBelow (2 ^ 64) (word words 1)) (Import (spelled_number (word words 1)))
   pub crash : HasForm words (codes "crash") 1 → IfOk r (IsCrashOf [])
   pub crash_of : HasForm words (codes "crash") 2 → IfOk r (IsCrashOf (word words 1))
-  pub pool : ReadsPool Pool words r
+  pub device : ReadsDeviceLine words r
 
 -- a line is read by its words between single spaces (32), or there is no memory for them
 abbrev pub ReadsLine : List ℕ → Result Command LineError → Type 0

@@ -1,9 +1,11 @@
--- The letters of a script.
-use Rattle.std.specs.Prelude.{ℕ, Bool, true, ◌==◌, if◌then◌else◌, Option, Some, None, List, [], ◌∷◌}
+-- The letters of a script, and the words that stand for a call of a device.
+use Rattle.std.specs.Prelude.{ℕ, Bool, true, ◌==◌, if◌then◌else◌, Option, Some, None, List, [], ◌∷◌, codes}
 use Rattle.base.specs.declared.piece.Piece.{Piece}
 use Rattle.base.specs.declared.piece.Piece.TheVariants.{Keep, Lose, Fill}
 use Rattle.base.specs.declared.range.Mode.{Mode}
 use Rattle.base.specs.declared.range.Mode.TheVariants.{Reader, Writer}
+use Rattle.device_model.specs.declared.fault.Fault.{Fault}
+use Rattle.device_model.specs.declared.fault.Fault.TheVariants as fault
 
 -- what a letter of `crash` leaves of a write: k keeps it, l loses it, t fills its range with the byte 0xAA
 abbrev pub piece_of : ℕ → Option Piece
@@ -14,6 +16,12 @@ abbrev pub mode_of : List ℕ → Option Mode
 mode_of [] = None
 mode_of (letter ∷ []) = if letter == 114 then Some Reader else (if letter == 119 then Some Writer else None)
 mode_of (letter ∷ next ∷ rest) = None
+
+-- the word of a call of a device that is to fail
+abbrev pub call_name : Fault → List ℕ
+call_name fault.Read = codes "read"
+call_name fault.Write = codes "write"
+call_name fault.Flush = codes "flush"
 
 -- an empty line, and one that begins with `#` (35), print nothing
 abbrev pub is_silent : List ℕ → Bool

@@ -13,7 +13,7 @@ use Rattle.scripts.specs.declared.session.Place.TheVariants.{Nothing, Pool}
 use Rattle.scripts.specs.declared.session.Session.{Session}
 use Rattle.scripts.specs.Commands.{ReadsLine}
 use Rattle.scripts.specs.Devices.{Creates, Imports}
-use Rattle.scripts.specs.Places.{Crashes, device_in, has_device, has_pool}
+use Rattle.scripts.specs.Places.{Crashes, Fails, device_in, has_device, has_pool}
 use Rattle.scripts.specs.PoolSteps.{Asks}
 
 -- a session with no device yet, whose new devices have this size, and whose uberblocks this moment
@@ -31,6 +31,7 @@ abbrev pub has_what_it_needs : Command → Session → Bool
 has_what_it_needs (command.Create name guid) s = true
 has_what_it_needs (command.Import dirty_max) s = has_device s.place
 has_what_it_needs (command.Crash pieces) s = has_device s.place
+has_what_it_needs (command.Fail fault n) s = has_device s.place
 has_what_it_needs (command.Pool asked) s = has_pool s.place
 
 -- whether there is a device and a pool after a command
@@ -38,6 +39,7 @@ abbrev pub Leaves : Command → Session → Result Answer BadCommand → Session
 Leaves (command.Create name guid) old told new = (IsTrue (has_device old.place) → IsTrue (has_device new.place)) × (has_pool new.place ≡ false)
 Leaves (command.Import dirty_max) old told new = has_device new.place ≡ has_device old.place
 Leaves (command.Crash pieces) old told new = (has_device new.place ≡ has_device old.place) × (has_pool new.place ≡ false)
+Leaves (command.Fail fault n) old told new = (has_device new.place ≡ has_device old.place) × (has_pool new.place ≡ has_pool old.place)
 Leaves (command.Pool asked) old told new = has_pool new.place ≡ has_pool old.place
 
 -- the pool that is there is asked, with the moment of its syncs, and replies
@@ -45,11 +47,12 @@ abbrev pub AsksIn : PoolCommand → ℕ → Place → Answer → Place → Type 
 AsksIn asked moment (Pool old) (answer.Reply reply) (Pool new) = Asks asked moment reply old new
 AsksIn asked moment old told new = ⊥
 
--- what a command does that is answered, and a crash also where it is none
+-- what a command does that is answered, and a crash and a plan to fail also where they are none
 abbrev pub Does : Command → Session → Result Answer BadCommand → Session → Type 0
 Does (command.Create name guid) s (Ok told) new = Creates name guid s told new.place
 Does (command.Import dirty_max) s (Ok told) new = IfSome (device_in s.place) (λ device. Imports dirty_max s.moment device told new.place)
 Does (command.Crash pieces) s told new = Crashes (device_in s.place) pieces.items told new.place
+Does (command.Fail fault n) s told new = Fails fault n s.place told new.place
 Does (command.Pool asked) s (Ok told) new = AsksIn asked s.moment s.place told new.place
 Does asked s (Err e) new = Unit {0}
 

@@ -2,7 +2,7 @@
 
 ghost use Rattle.std.specs.Prelude.{◌≡◌};
 
-use base::{Bytes, Group, PoolError, Reply};
+use base::{Bytes, Group, PoolError, PoolName, Reply};
 use std::fmt;
 
 /// The answer to a command, one line of text.
@@ -48,6 +48,7 @@ fn write_reply<W: fmt::Write>(reply: &Reply, f: &mut fmt::Formatter<W>) -> fmt::
         Reply::Refused(error) => write!(f, "refused {} {error}", error.number()),
         Reply::Done => write!(f, "ok"),
         Reply::Locked(id) => write!(f, "lock {}", id.0),
+        Reply::Appended(id, range) => write!(f, "lock {} {} {}", id.0, range.low, range.high),
         Reply::Began(tx, group) => write!(f, "tx {} group {}", tx.0, group.0),
         Reply::Committed(receipt) => write!(
             f,
@@ -55,6 +56,9 @@ fn write_reply<W: fmt::Write>(reply: &Reply, f: &mut fmt::Formatter<W>) -> fmt::
             receipt.ordinal.0, receipt.group.0
         ),
         Reply::Bytes(bytes) => write_bytes(bytes, f),
+        Reply::Length(length) => write!(f, "length {length}"),
+        Reply::Digest(digest) => write_digest(digest, f),
+        Reply::Name(name) => write_name(name, f),
         Reply::Opened(group) => write!(f, "open {}", group.0),
         Reply::Quiesced(group) => write!(f, "quiesced {}", group.0),
         Reply::Syncing(group) => write!(f, "syncing {}", group.0),
@@ -72,6 +76,24 @@ fn write_bytes<W: fmt::Write>(bytes: &Bytes, f: &mut fmt::Formatter<W>) -> fmt::
     write!(f, " ")?;
     for byte in bytes.as_slice() {
         write!(f, "{byte:02x}")?;
+    }
+    Ok(())
+}
+
+// Two hexadecimal digits for each byte.
+fn write_digest<W: fmt::Write>(digest: &[u8; 32], f: &mut fmt::Formatter<W>) -> fmt::Result {
+    write!(f, "digest ")?;
+    for byte in digest {
+        write!(f, "{byte:02x}")?;
+    }
+    Ok(())
+}
+
+// The name, all of whose bytes are ASCII.
+fn write_name<W: fmt::Write>(name: &PoolName, f: &mut fmt::Formatter<W>) -> fmt::Result {
+    write!(f, "name ")?;
+    for byte in name.as_slice() {
+        write!(f, "{}", *byte as char)?;
     }
     Ok(())
 }

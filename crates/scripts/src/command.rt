@@ -5,14 +5,16 @@
 ghost use Rattle.std.specs.Prelude.{◌≡◌, ◌↔◌, ◌^◌, ◌<◌, ◌≤◌, IsOk, IfOk, IfErr, map, Some, vec_len, length, replicate, slice_index, ◌≢◌, All, IsSome};
 ghost use Rattle.std.specs.Result.{OkIff, result_ok};
 ghost use Rattle.scripts.specs.Numbers.{IsNumberBelow, spelled_number};
-ghost use Rattle.scripts.specs.Commands.{IsBeginOf, IsCommitOf, IsCrashOf, IsLineForm, IsPoolForm, IsStepForm, ReadsLine, ReadsPool, ReadsStep, ReadsWords};
+ghost use Rattle.scripts.specs.Commands.{IsBeginOf, IsCommitOf, IsCrashOf, IsDeviceForm, IsFailOf, IsLineForm, IsPoolForm, IsStepForm, IsTellingForm, ReadsDeviceLine, ReadsLine, ReadsPool, ReadsStep, ReadsTelling, ReadsWords};
 ghost use Rattle.scripts.specs.Copies.{AreContentsOf, AreCopies, IsContentOf};
-ghost use Rattle.scripts.specs.Letters.{mode_of, piece_of};
+ghost use Rattle.scripts.specs.Letters.{call_name, mode_of, piece_of};
+ghost use Rattle.device_model.specs.declared.fault.Fault.{Fault};
 ghost use Rattle.scripts.specs.Shapes.{AreShapesOf, IsShapeForm, IsShapeOf, ReadsShape};
 ghost use Rattle.scripts.specs.Words.{ArePartsOf};
 
 use crate::number::{parse_u32, parse_u64};
 use base::{Bytes, LockId, Mode, ObjectId, Owner, Piece, Plan, Range, Shape, Step, TxId};
+use device_model::Fault;
 use std::alloc::{AllocError, AllocFailed, Global};
 
 /// The most copies that a word `@COUNT:C` stands for.
@@ -30,6 +32,8 @@ pub enum Command {
     Import { dirty_max: u64 },
     /// Stops the pool, and leaves these pieces of the unflushed writes of its device.
     Crash(Vec<Piece>),
+    /// Makes the n-th such call of the device from now fail, once; `n` is at least 1.
+    Fail { fault: Fault, n: u64 },
     /// What asks the pool for something.
     Pool(PoolCommand),
 }
@@ -106,6 +110,17 @@ fn parse_words(alloc: Global, words: &[&str]) -> Result<Command, LineError>
         }),
         ["crash"] => Ok(Command::Crash(Vec::new(alloc))),
         ["crash", letters] => parse_crash(alloc, letters),
+        words => parse_device_line(alloc, words),
+    }
+}
+
+// A line that works on the device as it is, and on the pool there.
+fn parse_device_line(alloc: Global, words: &[&str]) -> Result<Command, LineError>
+    ensures command { ReadsDeviceLine words.now result }
+    ensures form { IsOk result → IsDeviceForm words.now }
+{
+    match words {
+        ["fail", call, count] => parse_fail(call, count),
         words => Ok(Command::Pool(parse_pool_command(alloc, words)?)),
     }
 }
@@ -144,6 +159,23 @@ fn parse_step(alloc: Global, words: &[&str]) -> Result<Step, LineError>
         ["close"] => Ok(Step::CloseGroup),
         ["quiesce"] => Ok(Step::MarkQuiesced),
         ["step"] => Ok(Step::SyncStep),
+        words => parse_telling(words),
+    }
+}
+
+// A step that tells what the contents are, or where an object ends.
+fn parse_telling(words: &[&str]) -> Result<Step, LineError>
+    ensures step { ReadsTelling (λ s. s) words.now result }
+    ensures form { IsOk result → IsTellingForm words.now }
+{
+    match words {
+        ["append", owner, object] => Ok(Step::LockAppend(
+            parse_owner(owner)?,
+            parse_object(object)?,
+        )),
+        ["length", object] => Ok(Step::Length(parse_object(object)?)),
+        ["digest"] => Ok(Step::Digest),
+        ["name"] => Ok(Step::Name),
         _ => Err(LineError::BadCommand),
     }
 }
@@ -323,6 +355,31 @@ fn make_copies(alloc: Global, count: &str, byte: u8) -> Result<Bytes, LineError>
         return Err(LineError::BadCommand);
     }
     Ok(Bytes::new(vec![in alloc; byte; count as usize]?))
+}
+
+fn parse_fail(call: &str, count: &str) -> Result<Command, LineError>
+    ensures fail { IfOk result (IsFailOf call.now count.now) }
+    ensures refused { (fault : Fault) → call.now ≡ call_name fault → 0 < spelled_number count.now
+        → IsNumberBelow (2 ^ 64) count.now → IsOk result }
+{
+    let fault = parse_fault(call)?;
+    let n = wide(count)?;
+    if n == 0 {
+        return Err(LineError::BadCommand);
+    }
+    Ok(Command::Fail { fault, n })
+}
+
+fn parse_fault(word: &str) -> Result<Fault, LineError>
+    ensures named { IfOk result (λ fault. word.now ≡ call_name fault) }
+    ensures refused { (fault : Fault) → word.now ≡ call_name fault → IsOk result }
+{
+    match word {
+        "read" => Ok(Fault::Read),
+        "write" => Ok(Fault::Write),
+        "flush" => Ok(Fault::Flush),
+        _ => Err(LineError::BadCommand),
+    }
 }
 
 fn parse_crash(alloc: Global, letters: &str) -> Result<Command, LineError>

@@ -10,7 +10,7 @@ use crate::answer::Answer;
 use crate::command::{Command, PoolCommand};
 use crate::pool_commands;
 use base::{Bytes, Group, Piece, PoolError, Reply};
-use device_model::MemDevice;
+use device_model::{Fault, MemDevice};
 use import_replay::{Imported, create, import};
 use labels::Geometry;
 use pool_core::PoolState;
@@ -43,7 +43,7 @@ pub struct Session {
 
 impl Session {
     ghost use Rattle.scripts.specs.Devices.{Creates, IfPool, Imports, IsImportedPool, device_for, imported_answer};
-    ghost use Rattle.scripts.specs.Places.{Crashes, device_in, has_device, has_pool, is_crash};
+    ghost use Rattle.scripts.specs.Places.{Crashes, Fails, device_in, has_device, has_pool, is_crash};
     ghost use Rattle.scripts.specs.Sessions.{AsksIn, Does, IsNewSession, IsSameRun, Leaves, has_what_it_needs};
 
     /// A session with no device yet. A new device has `size` div 512 sectors, and each uberblock this moment.
@@ -75,6 +75,7 @@ impl Session {
             Command::Create { name, guid } => Ok(self.create(&name, guid)),
             Command::Import { dirty_max } => self.import(dirty_max),
             Command::Crash(pieces) => self.crash(pieces.as_slice()),
+            Command::Fail { fault, n } => self.fail(fault, n),
             Command::Pool(command) => self.run_on_pool(command),
         }
     }
@@ -196,6 +197,26 @@ impl Session {
         }
         self.place = Place::Device(device.crash(pieces));
         Ok(Answer::Crashed(unflushed))
+    }
+
+    fn fail(&mut self, fault: Fault, n: u64) -> Result<Answer, BadCommand>
+        ensures needs { is_ok result ≡ has_device self.old.place }
+        ensures left { has_device self.new.place ≡ has_device self.old.place }
+        ensures no_other { has_pool self.new.place ≡ has_pool self.old.place }
+        ensures fails { Fails fault n self.old.place result self.new.place }
+        ensures same_run { IsSameRun self.old self.new }
+    {
+        match &mut self.place {
+            Place::Nothing => Err(BadCommand),
+            Place::Device(device) => {
+                device.fail(fault, n);
+                Ok(Answer::Reply(Reply::Done))
+            }
+            Place::Pool(pool) => {
+                pool.fail(fault, n);
+                Ok(Answer::Reply(Reply::Done))
+            }
+        }
     }
 
     fn run_on_pool(&mut self, command: PoolCommand) -> Result<Answer, BadCommand>

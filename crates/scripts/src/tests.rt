@@ -135,6 +135,54 @@ const NO_SHAPE: Row = Row {
     answers: "ok\nsynced 8 open 9 records 0\nrefused 11 BadRange\n",
 };
 
+/// Of length 104: an append lock has the rest of the object, and a writer in it is refused. The digest is that which Python's
+/// hashlib makes of the format: the name's length, the name, and one object, 1, with its length and its bytes.
+const APPENDS: Row = Row {
+    size: SIZE,
+    script: "create tank 77\nimport 1048576\ndigest\nlock 1 1 w 0 338688\nbegin 1 c:1 w:1:100:4\ncommit 0 wxyz\nunlock 1 0\nlength 1\nappend 1 1\nlock 2 1 w 200 201\nlock 2 1 r 100 104\nlength 2\nappend 2 2\nlength 5292\nappend 2 5292\nname\ndigest\n",
+    status: 0,
+    answers: "ok\nsynced 8 open 9 records 0\ndigest 79214a333602a786e0f558987114db4137c9d3ef48fd22af6e1a5330b7ad3df7\nlock 0\ntx 0 group 9\nentry 0 group 9\nok\nlength 104\nlock 1 104 338688\nrefused 14 Busy\nlock 2\nrefused 9 NoObject\nrefused 9 NoObject\nrefused 11 BadRange\nrefused 11 BadRange\nname tank\ndigest 378946d92f84016dab3c10154f2e3d180d0d43d5e0f7cbab7acfe761c7b372bb\n",
+};
+
+/// Two objects, the first with no byte: the digest has them by rising number (Python's hashlib).
+const DIGESTS: Row = Row {
+    size: SIZE,
+    script: "create tank 77\nimport 1048576\nlock 1 5291 w 0 338688\nlock 1 0 w 0 338688\nbegin 1 c:5291 c:0 w:5291:0:4\ncommit 0 abcd\ndigest\nlength 0\n",
+    status: 0,
+    answers: "ok\nsynced 8 open 9 records 0\nlock 0\nlock 1\ntx 0 group 9\nentry 0 group 9\ndigest 5fbd833bade831a8e5766891b48df38077f11d44ac5044d39b3966b3ce8615a7\nlength 0\n",
+};
+
+/// Nothing can be appended to an object of the greatest length. After a crash and an import it has its length.
+const FULL_OBJECT: Row = Row {
+    size: SIZE,
+    script: "create tank 77\nimport 1048576\nlock 1 1 w 0 338688\nbegin 1 c:1 w:1:338684:4\ncommit 0 abcd\nunlock 1 0\nappend 1 1\nsync\ncrash\nimport 1048576\nlength 1\n",
+    status: 0,
+    answers: "ok\nsynced 8 open 9 records 0\nlock 0\ntx 0 group 9\nentry 0 group 9\nok\nrefused 11 BadRange\nsynced 9\ncrashed 0\nsynced 13 open 14 records 0\nlength 338688\n",
+};
+
+/// The flush of a sync is refused, and each later step but the name is refused as suspended.
+const SUSPENDED: Row = Row {
+    size: SIZE,
+    script: "create tank 77\nimport 1048576\nlock 1 1 w 0 338688\nbegin 1 c:1\ncommit 0\nclose\nquiesce\nstart\nfail flush 1\nfinish\nlength 1\ndigest\nappend 1 1\nstep\nname\n",
+    status: 0,
+    answers: "ok\nsynced 8 open 9 records 0\nlock 0\ntx 0 group 9\nentry 0 group 9\nopen 10\nquiesced 9\nsyncing 9\nok\nrefused 4 Flush\nrefused 5 Suspended\nrefused 5 Suspended\nrefused 5 Suspended\nrefused 5 Suspended\nname tank\n",
+};
+
+/// A device without a pool fails as planned, once, and a call is not planned to fail as the 0th.
+const FAILS: Row = Row {
+    size: SIZE,
+    script: "create tank 77\nfail read 1\nimport 1048576\nimport 1048576\nfail write 2\nfail write 0\n",
+    status: 2,
+    answers: "ok\nok\nrefused 2 Read\nsynced 8 open 9 records 0\nok\nline 6: bad command\n",
+};
+
+const NO_DEVICE_FAILS: Row = Row {
+    size: SIZE,
+    script: "fail read 1\n",
+    status: 2,
+    answers: "line 1: bad command\n",
+};
+
 // The status and the text of a run.
 fn run(alloc: Global, row: &Row) -> Result<(u8, String), Fail> {
     let mut out = Vec::new(alloc);
@@ -144,7 +192,18 @@ fn run(alloc: Global, row: &Row) -> Result<(u8, String), Fail> {
 
 #[test]
 fn prints_the_answers_of_whole_scripts(rt: HostRuntime) -> Result<(), Fail> {
-    for row in [FIRST_PATH, LOCKS, RANGES, WORDS, STEPS, NO_SHAPE] {
+    for row in [
+        FIRST_PATH,
+        LOCKS,
+        RANGES,
+        WORDS,
+        STEPS,
+        NO_SHAPE,
+        APPENDS,
+        DIGESTS,
+        FULL_OBJECT,
+        SUSPENDED,
+    ] {
         let (status, text) = run(rt.alloc(), &row)?;
         assert_eq!(rt; text.as_str(), row.answers);
         assert_eq!(rt; status, row.status);
@@ -171,6 +230,8 @@ fn ends_at_the_first_bad_line(rt: HostRuntime) -> Result<(), Fail> {
         NO_DEVICE,
         NO_POOL,
         SURPLUS_LETTERS,
+        FAILS,
+        NO_DEVICE_FAILS,
     ] {
         let (status, text) = run(rt.alloc(), &row)?;
         assert_eq!(rt; text.as_str(), row.answers);
@@ -206,6 +267,10 @@ fn takes_no_other_form_of_a_line(rt: HostRuntime) -> Result<(), Fail> {
         "commit 0 @338689:a",
         "commit 0 @4",
         "crash x",
+        "fail sync 1",
+        "append 1",
+        "length x",
+        "name tank",
         "status",
     ] {
         assert_eq!(rt;
