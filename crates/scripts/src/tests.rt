@@ -19,9 +19,9 @@ struct Row {
 /// One transaction is synced, and read after a crash.
 const FIRST_PATH: Row = Row {
     size: SIZE,
-    script: "create tank 77\nimport 1048576\nlock 1 1 w 0 338688\nbegin 1 c:1 w:1:0:4\ncommit 0 abcd\nunlock 1 0\nsync\ncrash\nimport 1048576\nlock 1 1 r 0 4\nread 1 1 0 4\n",
+    script: "create tank 77\nimport 1048576\nlock 1 1 w 0 338688\nbegin 1 c:1 w:1:0:4\ncommit 0 abcd\nunlock 1 0\nsync\ncrash\nimport 1048576\nlength 1\nlock 1 1 r 0 4\nread 1 1 0 4\n",
     status: 0,
-    answers: "ok\nsynced 8 open 9 records 0\nlock 0\ntx 0 group 9\nentry 0 group 9\nok\nsynced 9\ncrashed 0\nsynced 13 open 14 records 0\nlock 0\nbytes 4 61626364\n",
+    answers: "ok\nsynced 8 open 9 records 0\nlock 0\ntx 0 group 9\nentry 0 group 9\nok\nsynced 9\ncrashed 0\nsynced 13 open 14 records 0\nlength 4\nlock 0\nbytes 4 61626364\n",
 };
 
 /// A reader shares no byte with a writer.
@@ -152,12 +152,12 @@ const DIGESTS: Row = Row {
     answers: "ok\nsynced 8 open 9 records 0\nlock 0\nlock 1\ntx 0 group 9\nentry 0 group 9\ndigest 5fbd833bade831a8e5766891b48df38077f11d44ac5044d39b3966b3ce8615a7\nlength 0\n",
 };
 
-/// Nothing can be appended to an object of the greatest length. After a crash and an import it has its length.
+/// Nothing can be appended to an object of the greatest length.
 const FULL_OBJECT: Row = Row {
     size: SIZE,
-    script: "create tank 77\nimport 1048576\nlock 1 1 w 0 338688\nbegin 1 c:1 w:1:338684:4\ncommit 0 abcd\nunlock 1 0\nappend 1 1\nsync\ncrash\nimport 1048576\nlength 1\n",
+    script: "create tank 77\nimport 1048576\nlock 1 1 w 0 338688\nbegin 1 c:1 w:1:338684:4\ncommit 0 abcd\nunlock 1 0\nappend 1 1\nlength 1\n",
     status: 0,
-    answers: "ok\nsynced 8 open 9 records 0\nlock 0\ntx 0 group 9\nentry 0 group 9\nok\nrefused 11 BadRange\nsynced 9\ncrashed 0\nsynced 13 open 14 records 0\nlength 338688\n",
+    answers: "ok\nsynced 8 open 9 records 0\nlock 0\ntx 0 group 9\nentry 0 group 9\nok\nrefused 11 BadRange\nlength 338688\n",
 };
 
 /// The flush of a sync is refused, and each later step but the name is refused as suspended.
@@ -192,18 +192,17 @@ fn run(alloc: Global, row: &Row) -> Result<(u8, String), Fail> {
 
 #[test]
 fn prints_the_answers_of_whole_scripts(rt: HostRuntime) -> Result<(), Fail> {
-    for row in [
-        FIRST_PATH,
-        LOCKS,
-        RANGES,
-        WORDS,
-        STEPS,
-        NO_SHAPE,
-        APPENDS,
-        DIGESTS,
-        FULL_OBJECT,
-        SUSPENDED,
-    ] {
+    for row in [FIRST_PATH, LOCKS, RANGES, WORDS, STEPS, NO_SHAPE] {
+        let (status, text) = run(rt.alloc(), &row)?;
+        assert_eq!(rt; text.as_str(), row.answers);
+        assert_eq!(rt; status, row.status);
+    }
+    Ok(())
+}
+
+#[test]
+fn tells_lengths_digests_and_the_name(rt: HostRuntime) -> Result<(), Fail> {
+    for row in [APPENDS, DIGESTS, FULL_OBJECT, SUSPENDED] {
         let (status, text) = run(rt.alloc(), &row)?;
         assert_eq!(rt; text.as_str(), row.answers);
         assert_eq!(rt; status, row.status);
