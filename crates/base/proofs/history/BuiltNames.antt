@@ -15,7 +15,6 @@ use Rattle.base.specs.history.Past.{Past}
 use Rattle.base.specs.steps.Shown.{Shown}
 use Rattle.base.specs.steps.Stage.{is_shape_built}
 use Rattle.base.specs.steps.ExactNow.{IsExplainedNow}
-use Rattle.base.specs.stored.Stored.{AreBuilt}
 use Rattle.base.proofs.common.Sequences.{parted}
 use Rattle.base.proofs.common.KeptLists.{at_filter}
 
@@ -51,11 +50,11 @@ name-replay (e ∷ entries) c d built h =
     name-replay entries p.0 d (λ i f at. built (suc i) f at) p.2 ∙ name-apply_all e.ops c p.0 (built zero e refl) p.1
 
 -- So the contents at each group of a pool have the name that it began with.
-module _ (s : Shown) (p : Past) (explained : IsExplainedNow s p) (built : AreBuilt p.admissions) where
+module _ (s : Shown) (p : Past) (explained : IsExplainedNow s p) where
   built-entries : AreBuiltEntries p.entries
   built-entries i e at =
       let a = explained.exact.groups.members.committed i e at in
-      ap (λ plan. list_all is_shape_built plan) a.3 ∙ built e.tx a.0 a.1
+      ap (λ plan. list_all is_shape_built plan) a.3 ∙ explained.exact.staged.built e.tx a.0 a.1
 
   pub name-up_to : (group : ℕ) (c : Contents) → replay (entries_up_to group p.entries) p.base ≡ Ok c → c.name ≡ p.base.name
   name-up_to group c h = name-replay (entries_up_to group p.entries) p.base c

@@ -1,6 +1,6 @@
 -- Each effect of a step keeps what is shown of a pool exact, and its entries a history: so each step does.
 use Rattle.std.proofs.Common.{rules, ◌≡◌, ℕ, ◌+◌, ◌<◌, ◌≤◌, true, false, not, ◌&&◌, List, [], ◌∷◌, ◌++◌, length, map, refl, ap, sym, subst, ◌∙◌, arith, inl, inr}
-use Rattle.std.specs.Prelude.{Some, None, Result, Ok, is_none, slice_get, option_map, IfSome, nat_lt, nat_le, All, ◌==◌}
+use Rattle.std.specs.Prelude.{Option, Some, None, Result, Ok, is_none, slice_get, option_map, IfSome, nat_lt, nat_le, All, ◌==◌}
 use Rattle.std.specs.List.{list_all, list_any}
 use Rattle.std.specs.Option.{option_map_or}
 use Rattle.std.proofs.lemmas.Bool.{and_parts, eqb-true, ltb-true, ltb-false, leb-true}
@@ -18,7 +18,7 @@ use Rattle.base.specs.history.Contents.{Contents}
 use Rattle.base.specs.history.Plans.{IsRange, shape_of, range_of, ranges, plan_ranges, is_shape_allowed, is_plan_allowed, log_record_size}
 use Rattle.base.specs.history.History.{Entry, IsHistory, MayFollow, Admitted}
 use Rattle.base.specs.steps.Locks.{Grant}
-use Rattle.base.specs.steps.Groups.{Admission, admitted_of, open_transactions}
+use Rattle.base.specs.steps.Groups.{Middle, Admission, admitted_of, open_transactions}
 use Rattle.base.specs.formats.Uberblocks.{Uberblock}
 use Rattle.base.specs.history.Past.{Past, new_past}
 use Rattle.base.specs.steps.Shown.{Shown}
@@ -38,7 +38,7 @@ use Rattle.base.proofs.history.Projections.{plans_touch}
 use Rattle.base.proofs.history.CommitOrder.{no_refusal, found-plan}
 use Rattle.base.proofs.steps.OpenTransactions.{commit-admitted}
 use Rattle.base.proofs.history.Admissions.{closes_leave}
-use Rattle.base.proofs.common.KeptLists.{found_at, All-at}
+use Rattle.base.proofs.common.KeptLists.{found_at, All-at, push-cases}
 use Rattle.base.proofs.steps.KeptLocks.{same_locks, lock_keeps, unlock_keeps}
 use Rattle.base.proofs.steps.KeptGroups.{same_groups, begin_keeps, commit_keeps, close_keeps, quiesce_keeps, start_keeps, sync_keeps, open_is, held_above, quiescing_is, quiesced_is}
 use Rattle.base.proofs.steps.KeptIsolation.{same_isolated, lock_isolated, unlock_isolated, begin_isolated, covered_without}
@@ -198,6 +198,36 @@ module _ (old : State) (x : IsExplainedState old) where
   sync FlushesLog may = let t : State = state_after FlushesLog old in flush_sync s t.shown p t.past x.exact.log x.exact.sync
   sync e may = same_sync s (state_after e old).shown x.exact.sync
 
+  staged : (e : Effect) → MayHave e old → stage.IsStaged (state_after e old).shown (state_after e old).past
+  staged (AddsAdmission a) may = record {
+    middle = x.exact.staged.middle;
+    syncing = x.exact.staged.syncing;
+    built = λ i b at. elim (push-cases p.admissions a b i at) as (λ _. list_all stage.is_shape_built b.plan ≡ true) [
+      | inl before ↦ x.exact.staged.built i b before
+      | inr last ↦ ap (λ (c : Admission). list_all stage.is_shape_built c.plan) (sym last.1) ∙ (and_parts (is_plan_allowed a.plan) (list_all stage.is_shape_built a.plan) may.built).1
+    ];
+  }
+  staged (AddsEntry tx a ops contents) may =
+      let t : State = state_after (AddsEntry tx a ops contents) old in
+      record {
+        middle = subst (λ (o : Option Middle). IfSome o (λ (m : Middle). stage.AreUpTo m.group t.past.entries)) (sym may.no_middle) tt;
+        syncing = subst (λ (o : Option ℕ). IfSome o (λ group. stage.AreUpTo group t.past.entries)) (sym may.no_sync) tt;
+        built = x.exact.staged.built;
+      }
+  staged OpensNext may = record { middle = x.exact.isolated.admitted.committed; syncing = x.exact.staged.syncing; built = x.exact.staged.built }
+  staged (QuiescesMiddle group) (is, none) = record {
+    middle = subst (λ (o : Option Middle). IfSome o (λ (m : Middle). stage.AreUpTo m.group p.entries)) (quiescing_is s.line group is) x.exact.staged.middle;
+    syncing = x.exact.staged.syncing;
+    built = x.exact.staged.built;
+  }
+  staged (PlansSync group plan) (moment, is, idle, planned) = record {
+    middle = tt;
+    syncing = subst (λ (o : Option Middle). IfSome o (λ (m : Middle). stage.AreUpTo m.group p.entries)) (quiesced_is s.line group is) x.exact.staged.middle;
+    built = x.exact.staged.built;
+  }
+  staged (EndsSync group plan) may = record { middle = x.exact.staged.middle; syncing = tt; built = x.exact.staged.built }
+  staged e may = record { middle = x.exact.staged.middle; syncing = x.exact.staged.syncing; built = x.exact.staged.built }
+
   limit : (e : Effect) → (state_after e old).shown.dirty_max ≡ (state_after e old).past.dirty_max
   limit Stays = x.exact.limit
   limit _ = x.exact.limit
@@ -217,6 +247,7 @@ module _ (old : State) (x : IsExplainedState old) where
       bounded = bounded e may;
       sync = sync e may;
       limit = limit e;
+      staged = staged e may;
     };
     history = history e may;
   }

@@ -14,8 +14,9 @@ use Rattle.base.specs.steps.Shown.{Shown, SyncPlan, uberblock_of}
 use Rattle.base.specs.steps.ExactNow.{IsExplainedNow}
 use Rattle.base.specs.crash.SyncCalls.{PoolCall, IsCallAt, bytes_made}
 use Rattle.base.specs.crash.SyncCalls.PoolCall.{Put, Settle}
+use Rattle.base.specs.steps.Stage.{AreUpTo}
 use Rattle.base.specs.stored.ShownLabels.{ShowsUberblock, ShowsSyncing, AreLabelsShown, HasNoLogBlock}
-use Rattle.base.specs.stored.Stored.{NewTree, IsKept, SameBlocks, AreUpTo, Advances}
+use Rattle.base.specs.stored.Stored.{NewTree, IsKept, SameBlocks, Advances}
 use Rattle.base.proofs.disk.Put.{length-put}
 use Rattle.base.proofs.history.BuiltNames.{name-up_to}
 use Rattle.base.proofs.disk.WrittenLabels.{block-shows, slot-shows, slot-shows_again, slot-fits}
@@ -105,7 +106,7 @@ module _ (now : List ℕ) (s : Shown) (pointers : Place → Pointer) (past : Pas
     -- and the contents are what the entries up to it leave
     replayed : replay (entries_up_to x.sync.group past.entries) past.base ≡ Ok s.contents
     replayed =
-        let all : AreUpTo x.sync.group past.entries = subst (λ (o : Option ℕ). IfSome o (λ group. AreUpTo group past.entries)) x.sync.syncing x.stored.syncing in
+        let all : AreUpTo x.sync.group past.entries = subst (λ (o : Option ℕ). IfSome o (λ group. AreUpTo group past.entries)) x.sync.syncing explained.exact.staged.syncing in
         ap (λ es. replay es past.base) (up_to-all x.sync.group past.entries all) ∙ explained.history.replays
 
     shown : AreLabelsShown now s (Some old) past → ShowsSyncing later s past
@@ -118,7 +119,7 @@ module _ (now : List ℕ) (s : Shown) (pointers : Place → Pointer) (past : Pas
       replayed = replayed;
       shows = slot-shows now old.slot coming label x.geometry below x.sync.slot y.shows.u s.contents.name y.shows.guid (let was = y.shows.group_is in omega (arith, was, next))
           (subst (λ (name : List ℕ). ShowsUberblock now y.shows.u name)
-          (name-up_to s past explained x.stored.built s.line.synced y.contents y.replayed ∙ sym (name-up_to s past explained x.stored.built x.sync.group s.contents replayed)) y.shows.shows);
+          (name-up_to s past explained s.line.synced y.contents y.replayed ∙ sym (name-up_to s past explained x.sync.group s.contents replayed)) y.shows.shows);
     }
     shown (inr (high, y)) =
         let of_group : y.group ≡ x.sync.group = Some-injective (sym y.syncing ∙ x.sync.syncing) in

@@ -41,4 +41,4 @@ module _ (now : List ℕ) (s : Shown) (p : Past) (pointers : Place → Pointer) 
   pub entry-built : (i : ℕ) (e : Entry) → slice_get p.entries i ≡ Some e → list_all is_shape_built (map shape_of e.ops) ≡ true
   entry-built i e at =
       let c = explained.exact.groups.members.committed i e at in
-      ap (λ plan. list_all is_shape_built plan) c.3 ∙ x.built e.tx c.0 c.1
+      ap (λ plan. list_all is_shape_built plan) c.3 ∙ explained.exact.staged.built e.tx c.0 c.1

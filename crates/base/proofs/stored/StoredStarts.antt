@@ -30,8 +30,9 @@ use Rattle.base.specs.steps.Refusals as refusal
 use Rattle.base.specs.steps.Steps as steps
 use Rattle.base.specs.steps.Steps.{State, IsPlanned}
 use Rattle.base.specs.steps.Stage as stage
+use Rattle.base.specs.steps.Stage.{AreUpTo}
 use Rattle.base.specs.stored.ShownLabels.{ShowsSynced, AreLabelsShown}
-use Rattle.base.specs.stored.Stored.{NewTree, IsStored, IsPlannedSync, IsSyncing, RunsAs, IsKept, AreBlocks, LeavesTree, IsUnwritten, AreUpTo, AreUsed, frame_at}
+use Rattle.base.specs.stored.Stored.{NewTree, IsStored, IsPlannedSync, IsSyncing, RunsAs, IsKept, AreBlocks, LeavesTree, IsUnwritten, AreUsed, frame_at}
 use Rattle.base.proofs.history.CommitOrder.{no_refusal, ok-none}
 use Rattle.base.proofs.steps.KeptGroups.{quiesced_is, none_there}
 use Rattle.base.proofs.tree.PlacedTrees.{in-tree, opens-at}
@@ -76,7 +77,7 @@ module _ (now : List ℕ) (s : Shown) (p : Past) (pointers : Place → Pointer) 
         ∙ ap (λ (o : Option ℕ). unwrap_or o s.line.synced + 1) idle
 
     pub all_up_to : AreUpTo group p.entries
-    all_up_to = subst (λ (o : Option Middle). IfSome o (λ (m : Middle). AreUpTo m.group p.entries)) middle x.middle
+    all_up_to = subst (λ (o : Option Middle). IfSome o (λ (m : Middle). AreUpTo m.group p.entries)) middle explained.exact.staged.middle
 
   -- the addresses that a sync takes
   module _ (plan : SyncPlan) (bs : List NewBlock) (taken : plan.taken ≡ steps.lowest_free (length plan.taken) s) (addresses : map (λ (b : NewBlock). b.address) bs ≡ plan.taken) where
@@ -190,9 +191,6 @@ start-state now moment group plan s pointers new bs slot explained x idle_is mid
     tree : NewTree
     tree = record { pointers = new; blocks = bs; slot = slot; done = 0 }
 
-    up_to : AreUpTo group s.past.entries
-    up_to = all_up_to now s.shown s.past pointers x explained group idle middle
-
     stored : IsStored now t.shown pointers t.past
     stored = record {
       synced = x.synced;
@@ -204,9 +202,6 @@ start-state now moment group plan s pointers new bs slot explained x idle_is mid
       no_log = x.no_log;
       log_block = x.log_block;
       log_apart = x.log_apart;
-      middle = tt;
-      syncing = up_to;
-      built = x.built;
     }
 
     are : AreBlocks s.shown.blocks bs

@@ -26,7 +26,7 @@ use Rattle.base.specs.steps.Effects.Effect.{Suspends, AddsAdmission, AddsEntry, 
 use Rattle.base.specs.steps.Runs.{Step}
 use Rattle.base.specs.steps.ExactNow.{IsExplainedNow}
 use Rattle.base.specs.stored.ShownLabels.{AreLabelsShown}
-use Rattle.base.specs.stored.Stored.{NewTree, IsStored, IsSyncing, RunsAs, IsKept, AreUpTo, AreBuilt, is_turn}
+use Rattle.base.specs.stored.Stored.{NewTree, IsStored, IsSyncing, RunsAs, IsKept, is_turn}
 use Rattle.base.proofs.common.KeptLists.{found_at, Some-injective, push-cases}
 use Rattle.base.proofs.steps.KeptGroups.{held_above, quiescing_is}
 use Rattle.base.proofs.steps.StepEffects.{StepDoes, step_does}
@@ -46,10 +46,9 @@ free-state now s t taken x = record {
 module _ (now : List ℕ) (s t : Shown) (pointers : Place → Pointer) (p q : Past) where
   -- what is stored stays where the entries up to the synced group do
   pub stored-state : (x : IsStored now s pointers p) → taken_of t.sync ≡ taken_of s.sync → entries_up_to s.line.synced q.entries ≡ entries_up_to s.line.synced p.entries
-      → IfSome t.line.middle (λ (m : Middle). AreUpTo m.group q.entries) → IfSome t.line.syncing (λ group. AreUpTo group q.entries) → AreBuilt q.admissions
       → IsStored now (record t { guid = s.guid; blocks = s.blocks; line = record t.line { synced = s.line.synced }; free = s.free; log = record t.log { kept = s.log.kept; next = s.log.next }; root = s.root })
       pointers (record q { base = p.base })
-  stored-state x taken same middle syncing built = record {
+  stored-state x taken same = record {
     synced = x.synced;
     replayed = ap (λ (es : List Entry). replay es p.base) same ∙ x.replayed;
     blocks = x.blocks;
@@ -59,9 +58,6 @@ module _ (now : List ℕ) (s t : Shown) (pointers : Place → Pointer) (p q : Pa
     no_log = x.no_log;
     log_block = x.log_block;
     log_apart = x.log_apart;
-    middle = middle;
-    syncing = syncing;
-    built = built;
   }
 
   -- a running sync stays where only its steps are counted
@@ -94,10 +90,10 @@ module _ (now : List ℕ) (s t : Shown) (pointers : Place → Pointer) (p q : Pa
   }
 
   -- all stays where the line moves on in the middle and there are more admissions
-  pub kept-state : (running : Option NewTree) → IsKept now s pointers running p → IfSome t.line.middle (λ (m : Middle). AreUpTo m.group p.entries) → AreBuilt q.admissions
+  pub kept-state : (running : Option NewTree) → IsKept now s pointers running p
       → IsKept now (record t { guid = s.guid; import_number = s.import_number; blocks = s.blocks; line = record t.line { synced = s.line.synced; syncing = s.line.syncing }; contents = s.contents; free = s.free; log = record t.log { kept = s.log.kept; next = s.log.next }; root = s.root; sync = s.sync })
       pointers running (record q { base = p.base; entries = p.entries })
-  kept-state running x middle built = record {
+  kept-state running x = record {
     stored = stored;
     sync = runs running x.sync;
     geometry = x.geometry;
@@ -118,9 +114,6 @@ module _ (now : List ℕ) (s t : Shown) (pointers : Place → Pointer) (p q : Pa
         no_log = x.stored.no_log;
         log_block = x.stored.log_block;
         log_apart = x.stored.log_apart;
-        middle = middle;
-        syncing = x.stored.syncing;
-        built = built;
       }
 
       runs : (o : Option NewTree) → RunsAs now s pointers o p → RunsAs now after pointers o (record q { base = p.base; entries = p.entries })
@@ -156,17 +149,7 @@ module _ (now : List ℕ) (pointers : Place → Pointer) (running : Option NewTr
   stays : (s t : Shown) (p q : Past) → IsKept now s pointers running p
       → IsKept now (record t { guid = s.guid; import_number = s.import_number; blocks = s.blocks; line = s.line; contents = s.contents; free = s.free; log = record t.log { kept = s.log.kept; next = s.log.next }; root = s.root; sync = s.sync })
       pointers running (record q { base = p.base; entries = p.entries; admissions = p.admissions })
-  stays s t p q x = kept-state now s (record t { line = s.line }) pointers p (record q { admissions = p.admissions }) running x x.stored.middle x.stored.built
-
-  -- an admission has a plan of built shapes
-  admission : (a : Admission) (s : State) → IsKeptState s → list_all stage.is_shape_built a.plan ≡ true → IsKeptState (stage.state_after_admission a s)
-  admission a s x of_plan =
-      let t : State = stage.state_after_admission a s in
-      kept-state now s.shown t.shown pointers s.past t.past running x x.stored.middle
-      (λ i b at. elim (push-cases s.past.admissions a b i at) as (λ _. list_all stage.is_shape_built b.plan ≡ true) [
-        | inl before ↦ x.stored.built i b before
-        | inr last ↦ ap (λ (c : Admission). list_all stage.is_shape_built c.plan) (sym last.1) ∙ of_plan
-      ])
+  stays s t p q x = kept-state now s (record t { line = s.line }) pointers p (record q { admissions = p.admissions }) running x
 
   -- while no group is syncing no sync runs
   none_runs : (s : Shown) (p : Past) (o : Option NewTree) → s.line.syncing ≡ None → RunsAs now s pointers o p → (o ≡ None) × (s.sync ≡ None)
@@ -191,9 +174,7 @@ module _ (now : List ℕ) (pointers : Place → Pointer) (running : Option NewTr
       let off = none_runs s p running may.no_sync x.sync in
       let same = up_to_push s.line.synced p.entries next (transaction_above tx s p a explained may.found) in
       record {
-        stored = stored-state now s t.shown pointers p t.past x.stored refl same
-            (subst (λ (o : Option Middle). IfSome o (λ (m : Middle). AreUpTo m.group t.past.entries)) (sym may.no_middle) tt)
-            (subst (λ (o : Option ℕ). IfSome o (λ group. AreUpTo group t.past.entries)) (sym may.no_sync) tt) x.stored.built;
+        stored = stored-state now s t.shown pointers p t.past x.stored refl same;
         sync = subst (λ (o : Option NewTree). RunsAs now t.shown pointers o t.past) (sym off.0) off.1;
         geometry = x.geometry;
         labels = subst (λ (o : Option NewTree). AreLabelsShown now t.shown o t.past) (sym off.0)
@@ -203,7 +184,7 @@ module _ (now : List ℕ) (pointers : Place → Pointer) (running : Option NewTr
   -- a device call of a sync was made, and more are left
   more : (plan : SyncPlan) (old : State) → IsKeptState old → old.shown.sync ≡ Some plan → IsKeptState (steps.state_after_step plan old)
   more plan old x is = record {
-    stored = stored-state now old.shown t.shown pointers old.past t.past x.stored (ap taken_of (sym is)) refl x.stored.middle x.stored.syncing x.stored.built;
+    stored = stored-state now old.shown t.shown pointers old.past t.past x.stored (ap taken_of (sym is)) refl;
     sync = runs running x.sync;
     geometry = x.geometry;
     labels = shown running x.sync x.labels;
@@ -222,17 +203,18 @@ module _ (now : List ℕ) (pointers : Place → Pointer) (running : Option NewTr
           let same : plan ≡ y.plan = Some-injective (sym is ∙ y.running) in
           syncing-state now old.shown t.shown pointers old.past t.past new y (plan.steps_left - 1) (ap (λ (q : SyncPlan). Some (record q { steps_left = plan.steps_left - 1 })) same)
 
-  -- by the effect; no entry is above the open group as it is closed
+  -- by the effect
   effect_keeps : (e : Effect) (s : State) → is_turning e ≡ false → is_logging e ≡ false → IsExplainedNow s.shown s.past → IsKeptState s → MayHave e s → IsKeptState (state_after e s)
-  effect_keeps (AddsAdmission a) s off no_log explained x may = admission a s x (and_parts (is_plan_allowed a.plan) (list_all stage.is_shape_built a.plan) may.built).1
+  effect_keeps (AddsAdmission a) s off no_log explained x may =
+      let t : State = state_after (AddsAdmission a) s in
+      kept-state now s.shown t.shown pointers s.past t.past running x
   effect_keeps (AddsEntry tx a ops contents) s off no_log explained x may = entry tx a ops contents s explained x may
   effect_keeps OpensNext s off no_log explained x may =
       let t : State = state_after OpensNext s in
-      kept-state now s.shown t.shown pointers s.past t.past running x explained.exact.isolated.admitted.committed x.stored.built
+      kept-state now s.shown t.shown pointers s.past t.past running x
   effect_keeps (QuiescesMiddle group) s off no_log explained x may =
       let t : State = state_after (QuiescesMiddle group) s in
       kept-state now s.shown t.shown pointers s.past t.past running x
-      (subst (λ (o : Option Middle). IfSome o (λ (m : Middle). AreUpTo m.group s.past.entries)) (quiescing_is s.shown.line group may.0) x.stored.middle) x.stored.built
   effect_keeps (CountsStep plan) s off no_log explained x may = more plan s x may.0
   effect_keeps (PlansSync group plan) s turning no_log explained x may = absurd (false≢true (sym turning))
   effect_keeps (EndsSync group plan) s turning no_log explained x may = absurd (false≢true (sym turning))

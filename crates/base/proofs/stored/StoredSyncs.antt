@@ -25,8 +25,9 @@ use Rattle.base.specs.steps.Refusals as refusal
 use Rattle.base.specs.steps.Steps as steps
 use Rattle.base.specs.steps.Steps.{State, returned_addresses}
 use Rattle.base.specs.steps.Steps.SyncProgress.{Synced}
+use Rattle.base.specs.steps.Stage.{AreUpTo}
 use Rattle.base.specs.stored.ShownLabels.{ShowsUberblock, ShowsSynced, AreLabelsShown}
-use Rattle.base.specs.stored.Stored.{NewTree, IsStored, IsSyncing, IsKept, AreUpTo, total_calls, frame_at}
+use Rattle.base.specs.stored.Stored.{NewTree, IsStored, IsSyncing, IsKept, total_calls, frame_at}
 use Rattle.base.proofs.history.CommitOrder.{ok-none}
 use Rattle.base.proofs.common.Sieves.{filter_all}
 use Rattle.base.proofs.common.KeptLists.{none_at, Some-injective}
@@ -48,7 +49,7 @@ no_more (x ∷ xs) = ap (λ l. x ∷ l) (no_more xs)
 module _ (now : List ℕ) (s : Shown) (p : Past) (pointers : Place → Pointer) (new : NewTree) (x : IsStored now s pointers p) (y : IsSyncing now s pointers new p) (explained : IsExplainedNow s p) (done : length new.blocks ≤ new.done) where
   -- the contents are those of the entries up to its group
   group-up_to : AreUpTo y.group p.entries
-  group-up_to = subst (λ (o : Option ℕ). IfSome o (λ group. AreUpTo group p.entries)) y.syncing x.syncing
+  group-up_to = subst (λ (o : Option ℕ). IfSome o (λ group. AreUpTo group p.entries)) y.syncing explained.exact.staged.syncing
 
   pub group-replayed : replay (entries_up_to y.group p.entries) p.base ≡ Ok s.contents
   group-replayed = ap (λ (es : List Entry). replay es p.base) (up_to-all y.group p.entries group-up_to) ∙ explained.history.replays
@@ -236,9 +237,6 @@ end-state now s pointers new explained k done = record {
     no_log = log-kept now s.shown s.past pointers new x y explained behind;
     log_block = x.log_block;
     log_apart = log-apart now s.shown s.past pointers new x y explained behind;
-    middle = x.middle;
-    syncing = tt;
-    built = x.built;
   };
   sync = refl;
   geometry = k.geometry;

@@ -109,9 +109,6 @@ module _ (now later : List ℕ) (s : Shown) (pointers : Place → Pointer) (past
     no_log = x.no_log;
     log_block = x.log_block;
     log_apart = λ is. x.log_apart (back s.log.next.address is);
-    middle = x.middle;
-    syncing = x.syncing;
-    built = x.built;
   }
     where
       frame : Frame

@@ -11,6 +11,7 @@ use Rattle.base.specs.history.Past.{Past, new_past}
 use Rattle.base.specs.steps.Shown.{Shown}
 use Rattle.base.specs.steps.Steps.{State, LogWrite, LogFlush}
 use Rattle.base.specs.steps.Runs.{Step, Run}
+use Rattle.base.specs.steps.Stage.{IsStaged}
 use Rattle.base.specs.steps.Exact.{AreLocksExact, AreGroupsExact, AreIsolated, IsLogExact, IsSyncExact, IsBounded}
 use Rattle.base.specs.crash.Imports.{IsImported}
 
@@ -24,6 +25,7 @@ pub record IsExactNow (s : Shown) (past : Past) : Type 0 where
   pub bounded : IsBounded s.contents
   pub sync : IsSyncExact s
   pub limit : s.dirty_max ≡ past.dirty_max
+  pub staged : IsStaged s past
 
 -- and the entries are a history that leads to the contents
 pub record IsExplainedNow (s : Shown) (past : Past) : Type 0 where

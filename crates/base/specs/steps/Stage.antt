@@ -1,5 +1,5 @@
 -- What is built so far of the steps, where it is less than the whole profile. Later these words go, one by one.
-use Rattle.std.specs.Prelude.{ℕ, ◌≡◌, ◌+◌, ◌&&◌, ◌||◌, ◌⊎◌, ◌++◌, Bool, true, false, not, List, [], ◌∷◌, length, nat_lt, nat_le, Option, Some, IfSome, is_some, Result, Ok}
+use Rattle.std.specs.Prelude.{ℕ, ◌≡◌, ◌+◌, ◌&&◌, ◌||◌, ◌⊎◌, ◌++◌, ◌≤◌, Bool, true, false, not, List, [], ◌∷◌, length, nat_lt, nat_le, slice_get, All, Option, Some, IfSome, is_some, Result, Ok}
 use Rattle.std.specs.List.{list_all}
 use Rattle.std.specs.FinMap as finite
 use Rattle.base.specs.declared.error.PoolError.{PoolError}
@@ -11,8 +11,9 @@ use Rattle.base.specs.formats.Digest.{digest_of}
 use Rattle.base.specs.formats.Limits.{last_number, max_log_record, max_transactions}
 use Rattle.base.specs.history.Contents.{Contents}
 use Rattle.base.specs.history.Plans.{NumberRange, is_plan_allowed, log_record_size}
-use Rattle.base.specs.history.History.{apply_all}
-use Rattle.base.specs.steps.Groups.{Line, Admission}
+use Rattle.base.specs.history.History.{Entry, apply_all}
+use Rattle.base.specs.steps.Groups.{Line, Middle, Admission}
+use Rattle.base.specs.history.Past.{Past}
 use Rattle.base.specs.formats.Records.{is_content_allowed}
 use Rattle.base.specs.steps.Shown.{Shown, SyncPlan}
 use Rattle.base.specs.steps.Refusals as refusal
@@ -97,3 +98,17 @@ StartSync keeps now moment answer old new = Answers (refusal.start_refusal old.s
     (λ group. (plan : SyncPlan) × (refusal.quiesced_group old.shown.line ≡ Some group)
     × IsPlanned old moment group plan × (keeps → TakesForEach now old group plan) × (new ≡ state_after_start group plan old))
     (λ e. ((e ≡ error.NoMemory) ⊎ (e ≡ error.NoSpace)) × (new ≡ old))
+
+-- no entry is of a group above this one
+abbrev pub AreUpTo : ℕ → List Entry → Type 0
+AreUpTo group entries = All (λ (e : Entry). e.group ≤ group) entries
+
+-- each plan has only shapes that are built so far
+abbrev pub AreBuilt : List Admission → Type 0
+AreBuilt admissions = (i : ℕ) (a : Admission) → slice_get admissions i ≡ Some a → list_all is_shape_built a.plan ≡ true
+
+-- plans have only shapes that are built, and while an older group is unsynced no entry is above it, as none commits then
+pub record IsStaged (s : Shown) (past : Past) : Type 0 where
+  pub middle : IfSome s.line.middle (λ (m : Middle). AreUpTo m.group past.entries)
+  pub syncing : IfSome s.line.syncing (λ group. AreUpTo group past.entries)
+  pub built : AreBuilt past.admissions

@@ -50,16 +50,8 @@ AreUsed bs new = (i : ℕ) (b : NewBlock) → slice_get bs i ≡ Some b → (pla
 abbrev pub frame_at : Shown → ℕ → Frame
 frame_at s group = record { version = written_version; guid = s.guid; blocks = s.blocks; group = group }
 
--- no entry is of a group above this one
-abbrev pub AreUpTo : ℕ → List Entry → Type 0
-AreUpTo group entries = All (λ (e : Entry). e.group ≤ group) entries
-
--- each plan has only shapes that are built so far
-abbrev pub AreBuilt : List Admission → Type 0
-AreBuilt admissions = (i : ℕ) (a : Admission) → slice_get admissions i ≡ Some a → list_all is_shape_built a.plan ≡ true
-
 -- The bytes hold the synced tree with these pointers, and the free blocks are the others but for the next log block. As of this stage no log
--- block is kept, transactions create and write, and while an older group is unsynced no entry is above it, as none commits then.
+-- block is kept.
 pub record IsStored (now : List ℕ) (s : Shown) (pointers : Place → Pointer) (past : Past) : Type 0 where
   pub synced : Contents
   pub replayed : replay (entries_up_to s.line.synced past.entries) past.base ≡ Ok synced
@@ -70,9 +62,6 @@ pub record IsStored (now : List ℕ) (s : Shown) (pointers : Place → Pointer) 
   pub no_log : s.log.kept ≡ []
   pub log_block : IsBlockAddress s.blocks s.log.next.address
   pub log_apart : IsInTree now s.root s.log.next.address → ⊥
-  pub middle : IfSome s.line.middle (λ (m : Middle). AreUpTo m.group past.entries)
-  pub syncing : IfSome s.line.syncing (λ group. AreUpTo group past.entries)
-  pub built : AreBuilt past.admissions
 
 -- from the tree of the old pointers, of the objects before, a sync makes one of the new pointers and the objects after by writing these blocks
 pub record IsPlannedSync (frame : Frame) (old new : Place → Pointer) (bs : List NewBlock) (before after : FinMap nat_cmp (List ℕ)) (plan : SyncPlan) : Type 0 where
