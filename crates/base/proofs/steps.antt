@@ -12,6 +12,7 @@ pub mod KeptLog
 pub mod KeptWrites
 pub mod KeptFlushes
 pub mod KeptTables
+pub mod WaitingGroups
 pub mod Reservations
 pub mod KeptCharges
 pub mod FreeCounts

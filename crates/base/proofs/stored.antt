@@ -5,7 +5,6 @@ pub mod StoredSteps
 pub mod StoredStarts
 pub mod StoredSyncs
 pub mod StoredCalls
-pub mod StoredCover
 pub mod StoredImports
 pub mod StoredRuns
 pub mod HeldMounts

@@ -22,7 +22,7 @@ use Rattle.base.proofs.history.BuiltNames.{name-up_to}
 use Rattle.base.proofs.disk.WrittenLabels.{block-shows, slot-shows, slot-shows_again, slot-fits}
 use Rattle.base.proofs.stored.StoredLabels.{synced-later}
 use Rattle.base.proofs.stored.StoredTrees.{written-stored, written-syncing, written-no_log, same-stored, same-syncing, same-no_log, label-put, no-change, address-fits}
-use Rattle.base.proofs.stored.StoredSyncs.{up_to-all}
+use Rattle.base.proofs.steps.WaitingGroups.{up_to-all}
 use Rattle.base.proofs.common.KeptLists.{Some-injective}
 use Rattle.base.proofs.formats.Geometry.{slot-below}
 

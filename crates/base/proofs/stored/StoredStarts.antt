@@ -30,7 +30,6 @@ use Rattle.base.specs.steps.Refusals as refusal
 use Rattle.base.specs.steps.Steps as steps
 use Rattle.base.specs.steps.Steps.{State, IsPlanned}
 use Rattle.base.specs.steps.Stage as stage
-use Rattle.base.specs.steps.Stage.{AreUpTo}
 use Rattle.base.specs.stored.ShownLabels.{ShowsSynced, AreLabelsShown}
 use Rattle.base.specs.stored.Stored.{NewTree, IsStored, IsPlannedSync, IsSyncing, RunsAs, IsKept, AreBlocks, LeavesTree, IsUnwritten, AreUsed, frame_at}
 use Rattle.base.proofs.history.CommitOrder.{no_refusal, ok-none}
@@ -40,6 +39,7 @@ use Rattle.base.proofs.disk.WrittenBlocks.{put_blocks, free-leaves_tree, new-sta
 use Rattle.base.proofs.tree.FreedBlocks.{new-in_tree}
 use Rattle.base.proofs.history.KeptContents.{bounded-no_others}
 use Rattle.base.proofs.formats.Geometry.{IsGeometry-IsSize}
+use Rattle.base.proofs.steps.WaitingGroups.{next-group}
 use Rattle.base.proofs.stored.StoredLabels.{synced-state}
 use Rattle.base.proofs.stored.StoredSets.{in-at, at-in, set-at, at-set, rising-in, rising-rises, map-at}
 use Rattle.base.proofs.common.KeptLists.{at_take, Some-injective}
@@ -69,15 +69,6 @@ module _ (now : List ℕ) (s : Shown) (p : Past) (pointers : Place → Pointer) 
   -- no sync has taken anything
   no_sync : s.sync ≡ None
   no_sync = none_there s.sync (explained.exact.sync.running ∙ ap (λ (o : Option ℕ). is_some o) idle)
-
-  module _ (middle : s.line.middle ≡ Some (record { group = group; quiesced = true })) where
-    -- the group is the one after the synced one, and no entry is above it
-    pub next-group : group ≡ s.line.synced + 1
-    next-group = subst (λ (o : Option Middle). IfSome o (λ (m : Middle). m.group ≡ unwrap_or s.line.syncing s.line.synced + 1)) middle explained.exact.groups.line.middle
-        ∙ ap (λ (o : Option ℕ). unwrap_or o s.line.synced + 1) idle
-
-    pub all_up_to : AreUpTo group p.entries
-    all_up_to = subst (λ (o : Option Middle). IfSome o (λ (m : Middle). AreUpTo m.group p.entries)) middle explained.exact.staged.middle
 
   -- the addresses that a sync takes
   module _ (plan : SyncPlan) (bs : List NewBlock) (taken : plan.taken ≡ steps.lowest_free (length plan.taken) s) (addresses : map (λ (b : NewBlock). b.address) bs ≡ plan.taken) where
@@ -211,7 +202,7 @@ start-state now moment group plan s pointers new bs slot explained x idle_is mid
     leaves = taken-leaves now s.shown s.past pointers x explained group idle plan bs planned.taken y.taken
 
     next : group ≡ s.shown.line.synced + 1
-    next = next-group now s.shown s.past pointers x explained group idle middle
+    next = next-group s.shown s.past explained group idle middle
 
     room : block_area + block_size * s.shown.blocks ≤ length now
     room =

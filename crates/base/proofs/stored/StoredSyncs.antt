@@ -29,18 +29,14 @@ use Rattle.base.specs.steps.Stage.{AreUpTo}
 use Rattle.base.specs.stored.ShownLabels.{ShowsUberblock, ShowsSynced, AreLabelsShown}
 use Rattle.base.specs.stored.Stored.{NewTree, IsStored, IsSyncing, IsKept, total_calls, frame_at}
 use Rattle.base.proofs.history.CommitOrder.{ok-none}
-use Rattle.base.proofs.common.Sieves.{filter_all}
 use Rattle.base.proofs.common.KeptLists.{none_at, Some-injective}
 use Rattle.base.proofs.tree.PlacedTrees.{in-tree}
 use Rattle.base.proofs.tree.PlannedTrees.{planned-holds}
 use Rattle.base.proofs.history.KeptContents.{bounded-no_others}
 use Rattle.base.proofs.tree.FreedBlocks.{IsNewAddress, in-new_tree, new-in_tree, stays-or_freed, freed-old, freed-left}
+use Rattle.base.proofs.steps.WaitingGroups.{up_to-all}
 use Rattle.base.proofs.stored.StoredSets.{IsAt, in-at, at-in, set-at, at-set, at-map, map-at}
 use Rattle.base.proofs.stored.StoredTrees.{stored-placed}
-
--- all entries are up to a group that none is above
-pub up_to-all : (group : ℕ) (entries : List Entry) → AreUpTo group entries → entries_up_to group entries ≡ entries
-up_to-all group entries all = filter_all (λ (e : Entry). nat_le e.group group) entries (λ k d below. le-leb _ _ (all k d below))
 
 no_more : {A : Type 0} (xs : List A) → xs ++ [] ≡ xs
 no_more [] = refl
