@@ -55,9 +55,6 @@ stored_as now s old new past same x = record {
   no_log = x.no_log;
   log_block = x.log_block;
   log_apart = x.log_apart;
-  middle = x.middle;
-  syncing = x.syncing;
-  built = x.built;
 }
 
 -- where no sync runs, what is kept with some pointers is kept with others that are the same at each place

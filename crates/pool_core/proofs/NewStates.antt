@@ -28,9 +28,6 @@ module _ (now : List ℕ) (created : ℕ) (m : Mounted) (sized : block_count m.g
     no_log = refl;
     log_block = on.log_block;
     log_apart = on.log_apart;
-    middle = tt;
-    syncing = tt;
-    built = λ i a at. absurd (none_at i a at);
   }
 
   -- all of what a run asks for

@@ -11,7 +11,7 @@ use Rattle.base.specs.declared.operation.Op.TheVariants.{Create, Remove, Write, 
 use Rattle.base.specs.declared.pointer.Pointer.{Pointer}
 use Rattle.base.specs.history.Contents.{Contents, apply}
 use Rattle.base.specs.steps.ExactNow.{IsExplainedNow}
-use Rattle.base.specs.history.History.{Entry, apply_all, entries_in, replay, run}
+use Rattle.base.specs.history.History.{Entry, apply_all, entries_in, entries_up_to, replay, run}
 use Rattle.base.specs.declared.record_state.RecordState.TheVariants.{Unchanged, Hole}
 use Rattle.base.specs.formats.Limits.{max_length, object_count, pointer_count, record_size}
 use Rattle.base.specs.steps.Logs.{KeptBlock, committed_of, has_record}
@@ -31,8 +31,7 @@ use Rattle.base.proofs.tree.PlacedTrees.{absent-indirect, none-by_address}
 use Rattle.base.proofs.tree.RecordStates.{HasRecord, dirty-record, hole-record, object-off, state-gone, state-made, tree-record, unchanged-record}
 use Rattle.base.proofs.tree.WrittenPlaces.{group-numbers, group-ranges}
 use Rattle.base.proofs.common.Sequences.{in_turn-append, parted}
-use Rattle.base.proofs.stored.StoredCover.{All-passing, entry-built, group-follows}
-use Rattle.base.proofs.stored.StoredStarts.{next-group}
+use Rattle.base.proofs.steps.WaitingGroups.{All-passing, entry-built, group-follows, next-group}
 use Rattle.base.proofs.stored.StoredTrees.{stored-births}
 use Rattle.tree_plans.specs.declared.planner.Committed.{Committed}
 use Rattle.tree_plans.specs.declared.changes.ObjectChanges.{ObjectChanges}
@@ -124,42 +123,55 @@ bounded_sizes : (o : Option (List ℕ)) (n : ℕ) → IfSome o (λ bytes. (n < o
 bounded_sizes None n h = tt
 bounded_sizes (Some x) n h = h.1
 
-module _ (now : List ℕ) (s : Shown) (p : Past) (pointers : Place → Pointer) (x : IsStored now s pointers p) (explained : IsExplainedNow s p) (group : ℕ) (idle : s.line.syncing ≡ None)
-    (middle : s.line.middle ≡ Some (record { group = group; quiesced = true })) (pending : List Committed) (log : s.log.pending ≡ map shown_record pending) where
+-- What the pending records tell of a group that waits for its sync, whatever the device holds; no log block is kept.
+module _ (s : Shown) (p : Past) (explained : IsExplainedNow s p) (group : ℕ) (idle : s.line.syncing ≡ None) (middle : s.line.middle ≡ Some (record { group = group; quiesced = true })) (no_log : s.log.kept ≡ [])
+    (pending : List Committed) (log : s.log.pending ≡ map shown_record pending) where
   pub ops_are : ops_of_group group p.entries ≡ pending_ops group pending
   ops_are =
-      let next : group ≡ s.line.synced + 1 = next-group now s p pointers x explained group idle middle in
+      let next : group ≡ s.line.synced + 1 = next-group s p explained group idle middle in
       let below : s.line.synced < group = omega (arith, next) in
       let all_above : List KeptBlock → List Record = λ k. filter (λ (r : Record). nat_lt s.line.synced r.group && not (list_any (λ b. has_record b (committed_of r)) k)) (map numbered (enumerate_from 0 p.entries)) in
-      let told : map shown_record pending ≡ all_above [] = sym log ∙ explained.exact.log.pending ∙ ap all_above x.no_log in
+      let told : map shown_record pending ≡ all_above [] = sym log ∙ explained.exact.log.pending ∙ ap all_above no_log in
       sym (entry_ops s.line.synced group below 0 p.entries) ∙ ap (λ (rs : List Record). record_ops group rs) (sym told) ∙ told_ops group pending
-
-  pub follows : apply_all (pending_ops group pending) x.synced ≡ Ok s.contents
-  follows = subst (λ (ops : List Op). apply_all ops x.synced ≡ Ok s.contents) ops_are (flat_replay (entries_in group p.entries) x.synced s.contents (group-follows now s p pointers x explained group idle middle))
 
   built : All IsBuilt (pending_ops group pending)
   built = subst (λ (ops : List Op). All IsBuilt ops) ops_are (built_flat (entries_in group p.entries)
-      (All-passing (λ (e : Entry). All IsBuilt e.ops) (λ (e : Entry). e.group == group) p.entries (λ i e at is. built_ops e.ops (entry-built now s p pointers x explained group idle middle i e at))))
+      (All-passing (λ (e : Entry). All IsBuilt e.ops) (λ (e : Entry). e.group == group) p.entries (λ i e at is. built_ops e.ops (entry-built s p explained i e at))))
 
   within : All IsRange (ranges (pending_ops group pending))
   within = subst (λ (ops : List Op). All IsRange (ranges ops)) ops_are (group-ranges s p explained group)
 
-  module _ (objects : List (ObjectId × ObjectChanges)) (changes : AreChangesOf (pending_ops group pending) [] objects) where
-    -- each record is in the state that the definitions give it
-    pub states_are : (n r : ℕ) → r < pointer_count → state_in objects n r ≡ record_state n r (pending_ops group pending) x.synced Unchanged
-    states_are n r below = changes.states x.synced s.contents follows within n r below (λ sets. absurd (sets_none n (pending_ops group pending) built sets))
+  -- each object that operations are on is in range
+  pub in_range : (objects : List (ObjectId × ObjectChanges)) → AreChangesOf (pending_ops group pending) [] objects → AreInRange objects
+  in_range objects changes n is = group-numbers s p explained group n (ap (λ (ops : List Op). list_any (is_on n) ops) ops_are ∙ sym (changes.there n) ∙ is)
 
-    -- each object that operations are on is in range
-    pub in_range : AreInRange objects
-    in_range n is = group-numbers s p explained group n (ap (λ (ops : List Op). list_any (is_on n) ops) ops_are ∙ sym (changes.there n) ∙ is)
+  module _ (synced : Contents) (replayed : replay (entries_up_to s.line.synced p.entries) p.base ≡ Ok synced) where
+    -- they lead from the synced contents to those of now
+    pub follows : apply_all (pending_ops group pending) synced ≡ Ok s.contents
+    follows = subst (λ (ops : List Op). apply_all ops synced ≡ Ok s.contents) ops_are (flat_replay (entries_in group p.entries) synced s.contents (group-follows s p explained group idle middle synced replayed))
+
+    -- each record is in the state that the definitions give it
+    pub states_are : (objects : List (ObjectId × ObjectChanges)) → AreChangesOf (pending_ops group pending) [] objects
+        → (n r : ℕ) → r < pointer_count → state_in objects n r ≡ record_state n r (pending_ops group pending) synced Unchanged
+    states_are objects changes n r below = changes.states synced s.contents follows within n r below (λ sets. absurd (sets_none n (pending_ops group pending) built sets))
+
+-- and of its plan, with what the device holds
+module _ (now : List ℕ) (s : Shown) (p : Past) (pointers : Place → Pointer) (x : IsStored now s pointers p) (explained : IsExplainedNow s p) (group : ℕ) (idle : s.line.syncing ≡ None)
+    (middle : s.line.middle ≡ Some (record { group = group; quiesced = true })) (pending : List Committed) (log : s.log.pending ≡ map shown_record pending) where
+  leads : apply_all (pending_ops group pending) x.synced ≡ Ok s.contents
+  leads = follows s p explained group idle middle x.no_log pending log x.synced x.replayed
+
+  module _ (objects : List (ObjectId × ObjectChanges)) (changes : AreChangesOf (pending_ops group pending) [] objects) where
+    in_state : (n r : ℕ) → r < pointer_count → state_in objects n r ≡ record_state n r (pending_ops group pending) x.synced Unchanged
+    in_state = states_are s p explained group idle middle x.no_log pending log x.synced x.replayed objects changes
 
     covered : IsCoveredBy objects pointers x.synced.objects s.contents.objects
     covered = record {
       records = λ n r low below state.
-          let same = unchanged-record n r (pending_ops group pending) x.synced s.contents follows (sym (states_are n r below) ∙ state) in
+          let same = unchanged-record n r (pending_ops group pending) x.synced s.contents leads (sym (in_state n r below) ∙ state) in
           tree-record now (frame_at s s.line.synced) pointers x.synced.objects x.tree n r (finite.get x.synced.objects n) (finite.get s.contents.objects n) low below refl same.0 same.1;
-      holes = λ n r low below state. hole-record n r (pending_ops group pending) x.synced s.contents follows (sym (states_are n r below) ∙ state);
-      entries = λ n low none. ap (λ (o : Option (List ℕ)). option_map length o) (object-off n (pending_ops group pending) x.synced s.contents (off n none) follows);
+      holes = λ n r low below state. hole-record n r (pending_ops group pending) x.synced s.contents leads (sym (in_state n r below) ∙ state);
+      entries = λ n low none. ap (λ (o : Option (List ℕ)). option_map length o) (object-off n (pending_ops group pending) x.synced s.contents (off n none) leads);
     }
       where
         off : (n : ℕ) → entry_of objects n ≡ None → list_any (is_on n) (pending_ops group pending) ≡ false
@@ -168,26 +180,26 @@ module _ (now : List ℕ) (s : Shown) (p : Past) (pointers : Place → Pointer) 
     group_is : AreChanges objects s.contents.objects
     group_is = record {
       within = λ n r low below state.
-          record_within r (finite.get s.contents.objects n) (dirty-record n r (pending_ops group pending) x.synced s.contents follows (sym (states_are n r below) ∙ state));
-      holes = λ n r low below is why. states_are n r below ∙ holes_of n r (sym (changes.there n) ∙ is) why;
+          record_within r (finite.get s.contents.objects n) (dirty-record n r (pending_ops group pending) x.synced s.contents leads (sym (in_state n r below) ∙ state));
+      holes = λ n r low below is why. in_state n r below ∙ holes_of n r (sym (changes.there n) ∙ is) why;
       sizes = λ n. bounded_sizes (finite.get s.contents.objects n) n (explained.exact.bounded.objects n);
     }
       where
         holes_of : (n r : ℕ) → list_any (is_on n) (pending_ops group pending) ≡ true → (is_changed_in objects n ≡ false) ⊎ (finite.get s.contents.objects n ≡ None)
             → record_state n r (pending_ops group pending) x.synced Unchanged ≡ Hole
         holes_of n r on (inl made) = state-made n r (pending_ops group pending) x.synced Unchanged (sym (changes.changed n) ∙ made) on
-        holes_of n r on (inr gone) = state-gone n r (pending_ops group pending) x.synced s.contents Unchanged follows on gone
+        holes_of n r on (inr gone) = state-gone n r (pending_ops group pending) x.synced s.contents Unchanged leads on gone
 
     of_tree : AreTreePointers objects pointers s.contents.objects
     of_tree = record {
       absent = λ n low none gone. absent-indirect now (frame_at s s.line.synced) pointers x.synced.objects x.tree n low
-          (object-off n (pending_ops group pending) x.synced s.contents (sym (changes.there n) ∙ ap (λ (o : Option ObjectChanges). is_some o) none) follows ∙ gone);
+          (object-off n (pending_ops group pending) x.synced s.contents (sym (changes.there n) ∙ ap (λ (o : Option ObjectChanges). is_some o) none) leads ∙ gone);
       named = λ n r low below. none-by_address now (frame_at s s.line.synced) pointers x.synced.objects x.tree (Data n r) (low, below);
     }
 
   born_before : AreBornBefore group pointers
   born_before place is =
-      let next : group ≡ s.line.synced + 1 = next-group now s p pointers x explained group idle middle in
+      let next : group ≡ s.line.synced + 1 = next-group s p explained group idle middle in
       let birth = stored-births now s pointers p x place is in
       omega (arith, next, birth)
 

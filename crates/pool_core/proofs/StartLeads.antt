@@ -1,11 +1,14 @@
 -- The start of a sync, with what is planned of its tree.
-use Rattle.std.proofs.Common.{◌≡◌, ℕ, List, [], ◌∷◌, length, map, refl, ap}
+use Rattle.std.proofs.Common.{◌≡◌, ◌≤◌, ℕ, List, [], ◌∷◌, length, map, refl, ap, sym, subst, ◌∙◌}
 use Rattle.std.specs.Prelude.{Some, slice_get}
 use Rattle.std.specs.BTreeMap.{BTreeMap}
 use Rattle.std.specs.Global.{Vec}
+use Rattle.std.proofs.lemmas.List.{length-map}
 use Rattle.base.specs.declared.names.ObjectId.{ObjectId}
 use Rattle.base.specs.declared.pointer.Pointer.{Pointer}
 use Rattle.base.specs.history.Past.{Past}
+use Rattle.base.specs.history.Plans.{estimate_of, shape_of}
+use Rattle.base.specs.steps.ExactNow.{IsExplainedNow}
 use Rattle.base.specs.tree.Places.{Place, has_block}
 use Rattle.base.specs.tree.PlannedTrees.{AreFreed, NewBlock}
 use Rattle.base.specs.steps.Shown.{SyncPlan}
@@ -24,11 +27,10 @@ use Rattle.pool_core.specs.declared.pool.Pool.{Pool}
 use Rattle.pool_core.specs.declared.pool.RunningSync.{RunningSync}
 use Rattle.pool_core.specs.GroupPlans.{IsPlannedGroup, IsShortOfBlocks}
 use Rattle.pool_core.specs.Holds.{held_with, new_tree_of, pool_told}
-use Rattle.pool_core.specs.SyncStarts.{LacksBlocks}
 use Rattle.pool_core.specs.Lines.{MayStart, line_of}
 use Rattle.pool_core.specs.Pointers.{pointers_after}
 use Rattle.pool_core.specs.Shows.{new_plan, pool_shown}
-use Rattle.pool_core.proofs.PlannedCounts.{fewer_blocks, takes_for_each, takes_in_order}
+use Rattle.pool_core.proofs.PlannedCounts.{enough_blocks, taken_fit, takes_for_each, takes_in_order}
 use Rattle.pool_core.proofs.PlannedGroups.{planned_sync}
 
 -- the addresses of blocks as they are written
@@ -74,14 +76,18 @@ module _ (now : List ℕ) (past : Past) (pool : Pool) (group moment : ℕ) (bloc
       takes_for_each now (pool_shown pool) past (pointers_of pool.tree) x.kept.stored x.explained group (none_there (line_of pool.groups).syncing may.1) (quiesced_is (line_of pool.groups) group may.0) pool.pending.items refl
       (pointers_after root directories maps pool.tree) (map new_block blocks) plan planned (addresses_are blocks)
 
--- where its plan is short of blocks, the pool lacks them
-pub group_lacks : (now : List ℕ) (past : Past) (pool : Pool) (group : ℕ) → MayStart group (line_of pool.groups) → IsShortOfBlocks group pool.pending.items (pointers_of pool.tree) (contents_of pool.contents).objects pool.free.flags.items
-    → IsHeld (held_with (pool_told pool now) past) → LacksBlocks past (pool_told pool now)
-group_lacks now past pool group may short x = record {
-  group = group;
-  quiesced = may.0;
-  synced = x.kept.stored.synced;
-  replayed = x.kept.stored.replayed;
-  fewer = fewer_blocks now (pool_shown pool) past (pointers_of pool.tree) x.kept.stored x.explained group (none_there (line_of pool.groups).syncing may.1) (quiesced_is (line_of pool.groups) group may.0)
-      pool.pending.items refl pool.free.flags.items short;
-}
+-- Whatever the device holds: it takes no more blocks than its operations are estimated at.
+pub group_fits : (past : Past) (pool : Pool) (group : ℕ) (blocks : List PlannedBlock) (new : Place → Pointer) → MayStart group (line_of pool.groups) → IsExplainedNow (pool_shown pool) past
+    → IsPlannedGroup group pool.pending.items (frame_at (pool_shown pool) group) (pointers_of pool.tree) new (map new_block blocks) (contents_of pool.contents).objects
+    → length (map address_of blocks) ≤ estimate_of (map shape_of (ops_of_group group past.entries))
+group_fits past pool group blocks new may explained planned =
+    let fits = taken_fit (pool_shown pool) past explained group (none_there (line_of pool.groups).syncing may.1) (quiesced_is (line_of pool.groups) group may.0) refl pool.pending.items refl (pointers_of pool.tree)
+        new (map new_block blocks) planned in
+    subst (λ (n : ℕ). n ≤ estimate_of (map shape_of (ops_of_group group past.entries))) (length-map blocks new_block ∙ sym (length-map blocks address_of)) fits
+
+-- and its plan is not short of blocks
+pub never_short : (past : Past) (pool : Pool) (group : ℕ) → MayStart group (line_of pool.groups) → IsExplainedNow (pool_shown pool) past
+    → IsShortOfBlocks group pool.pending.items (pointers_of pool.tree) (contents_of pool.contents).objects pool.free.flags.items → ⊥
+never_short past pool group may explained short =
+    enough_blocks (pool_shown pool) past explained group (none_there (line_of pool.groups).syncing may.1) (quiesced_is (line_of pool.groups) group may.0) refl pool.pending.items refl (pointers_of pool.tree)
+        pool.free.flags.items refl short

@@ -1,5 +1,5 @@
 -- A sync that starts, step by step.
-use Rattle.std.proofs.Common.{ℕ, ◌≡◌, ◌+◌, ◌<◌, Bool, true, false, not, ◌&&◌, ◌||◌, cond, List, [], ◌∷◌, map, length, nat_lt, refl, ap, sym, subst, ◌∙◌, ◌⊎◌, inl, inr, arith, take, All}
+use Rattle.std.proofs.Common.{ℕ, ◌≡◌, ◌+◌, ◌<◌, ◌≤◌, Bool, true, false, not, ◌&&◌, ◌||◌, cond, List, [], ◌∷◌, map, length, nat_lt, refl, ap, sym, subst, ◌∙◌, ◌⊎◌, inl, inr, arith, take, All}
 use Rattle.std.specs.Prelude.{Option, Some, None, Result, Ok, Err, IfErr, filter, find, ◌==◌, is_some, IfSome, option_map, unwrap_or, if◌then◌else◌}
 use Rattle.std.specs.List.{list_any, enumerate_from, flat_map}
 use Rattle.std.specs.FinSet as set
@@ -12,6 +12,7 @@ use Rattle.base.specs.declared.error.PoolError.TheVariants as error
 use Rattle.base.specs.steps.ExactNow.{IsExplainedNow}
 use Rattle.base.specs.steps.Groups.{Line, Middle, IsLine, before_middle}
 use Rattle.base.specs.history.History.{Entry, entries_in}
+use Rattle.base.specs.history.Plans.{estimate_of, shape_of}
 use Rattle.base.specs.steps.Logs.{KeptBlock, committed_of, has_record, header_at, header_for, reaches_above}
 use Rattle.base.specs.history.Past.{Past}
 use Rattle.base.specs.formats.Records.{Record}
@@ -90,17 +91,18 @@ module _ (keeps : Type 0) (now : List ℕ) (past : Past) (s : Shown) (moment : �
   starts : (group : ℕ) → s.suspended ≡ false → quiesced_group s.line ≡ Some group → is_some s.line.syncing ≡ false → start_refusal s ≡ None
   starts group h is none = rw (h, is, none) refl
 
-  pub start_wants : (group : ℕ) (e : PoolError) → s.suspended ≡ false → quiesced_group s.line ≡ Some group → is_some s.line.syncing ≡ false → (e ≡ error.NoMemory) ⊎ (e ≡ error.NoSpace)
+  pub start_wants : (group : ℕ) (e : PoolError) → s.suspended ≡ false → quiesced_group s.line ≡ Some group → is_some s.line.syncing ≡ false → e ≡ error.NoMemory
       → StartsAt keeps now moment (Err e) past s s
   start_wants group e h is none wants = rw (starts group h is none) (wants, refl)
 
   -- a sync that is planned starts, where the past explains what was shown
   pub start_done : (n : Shown) (group : ℕ) (plan : SyncPlan) → IsExplainedNow s past → (keeps → TakesForEach now (record { shown = s; past = past }) group plan)
       → s.suspended ≡ false → quiesced_group s.line ≡ Some group → is_some s.line.syncing ≡ false
+      → length plan.taken ≤ estimate_of (map shape_of (ops_of_group group past.entries))
       → All HasNoName s.log.pending → s.log.kept ≡ [] → plan.moment ≡ moment → plan.taken ≡ lowest_free (length plan.taken) s → plan.steps_left ≡ length plan.taken + 6 → plan.header ≡ s.log.next
       → n ≡ record s { line = record s.line { syncing = Some group; middle = None }; free = set.difference s.free (set.from_list plan.taken); sync = Some plan }
       → StartsAt keeps now moment (Ok group) past s n
-  start_done n group plan explained takes h is none built kept at_moment taken left header same =
+  start_done n group plan explained takes h is none fits built kept at_moment taken left header same =
       let above = quiesced_above s.line group explained.exact.groups.line none is in
       let all_above : List KeptBlock → List Record = λ k. filter (λ (r : Record). nat_lt s.line.synced r.group && not (list_any (λ b. has_record b (committed_of r)) k)) (map record_of (enumerate_from 0 past.entries)) in
       let pending : s.log.pending ≡ all_above [] = explained.exact.log.pending ∙ ap all_above kept in
@@ -108,7 +110,7 @@ module _ (keeps : Type 0) (now : List ℕ) (past : Past) (s : Shown) (moment : �
       let steps : plan.steps_left ≡ length plan.taken + other_step_count (ops_of_group group past.entries) =
       left ∙ ap (λ b. length plan.taken + (6 + (if b then 6 else 0))) (sym names) in
       let at : plan.header ≡ header_for group s.log = header ∙ sym (ap (λ k. unwrap_or (option_map header_at (find (reaches_above group) k)) s.log.next) kept) in
-      let planned : IsPlanned (record { shown = s; past = past }) moment group plan = record { moment_is = at_moment; taken = taken; steps = steps; header = at } in
+      let planned : IsPlanned (record { shown = s; past = past }) moment group plan = record { moment_is = at_moment; taken = taken; steps = steps; fits = fits; header = at } in
       rw (starts group h is none) (plan, is, planned, takes, ap (λ (x : Shown). let state : State = record { shown = x; past = past } in state) same)
 
 -- the pending transactions of a pool give no new name
@@ -122,6 +124,11 @@ pending_names (c ∷ cs) h =
 pub lowest_taken : (blocks : List PlannedBlock) (flags : List Bool) → map address_of blocks ≡ take (length blocks) (addresses_from 0 flags)
     → map address_of blocks ≡ take (length (map address_of blocks)) (rising (free_of flags))
 lowest_taken blocks flags taken = taken ∙ sym (ap (λ n. take n (rising (free_of flags))) (length-map blocks address_of) ∙ ap (take (length blocks)) (rising-free_of flags))
+
+-- where it never lacks blocks, it is for want of memory
+pub wants_only : (e : PoolError) → (e ≡ error.NoMemory) ⊎ (e ≡ error.NoSpace) → (e ≡ error.NoSpace → ⊥) → e ≡ error.NoMemory
+wants_only e (inl memory) never = memory
+wants_only e (inr space) never = absurd (never space)
 
 -- a plan is refused for want of memory or of blocks
 pub turn_want : (r : Result TreePlan PoolError) → IfErr r IsWant → IfErr r (λ e. (e ≡ error.NoMemory) ⊎ (e ≡ error.NoSpace))

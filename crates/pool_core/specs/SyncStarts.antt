@@ -1,13 +1,10 @@
 -- The start of a sync, over whichever bytes the device has.
-use Rattle.std.specs.Prelude.{ℕ, ◌≡◌, ◌<◌, List, map, length, Some, Result, Ok, IfOk, IfErr}
+use Rattle.std.specs.Prelude.{ℕ, ◌≡◌, List, map, Some, Result, Ok, IfOk}
 use Rattle.base.specs.declared.error.PoolError.{PoolError}
-use Rattle.base.specs.declared.error.PoolError.TheVariants.{NoSpace}
 use Rattle.base.specs.declared.names.Group.{Group}
-use Rattle.base.specs.common.Rising.{rising}
 use Rattle.base.specs.history.Contents.{Contents}
 use Rattle.base.specs.history.History.{entries_up_to, replay}
 use Rattle.base.specs.history.Past.{Past}
-use Rattle.base.specs.steps.Refusals.{quiesced_group}
 use Rattle.base.specs.steps.Shown.{SyncPlan}
 use Rattle.base.specs.steps.Stage.{StartSync}
 use Rattle.base.specs.steps.Steps.{ops_of_group}
@@ -27,14 +24,6 @@ pub record TakesInOrder (group : ℕ) (past : Past) (old new : Told) : Type 0 wh
   pub plan_is : new.shown.sync ≡ Some plan
   pub each : map (λ (place : Place). (tree.pointers place).address) (written_places (ops_of_group group past.entries) synced (has_block old.now old.shown.root)) ≡ plan.taken
 
--- Fewer blocks are free than there are places that the sync of the quiesced group writes.
-pub record LacksBlocks (past : Past) (old : Told) : Type 0 where
-  pub group : ℕ
-  pub quiesced : quiesced_group old.shown.line ≡ Some group
-  pub synced : Contents
-  pub replayed : replay (entries_up_to old.shown.line.synced past.entries) past.base ≡ Ok synced
-  pub fewer : length (rising old.shown.free) < length (written_places (ops_of_group group past.entries) synced (has_block old.now old.shown.root))
-
 -- From each past with which the device holds what it should, it is a step of the definitions, over a device that keeps the disk model.
 abbrev pub StartsHeld : ℕ → Result Group PoolError → (List ℕ → Told) → (List ℕ → Told) → Type 0
 StartsHeld moment answer old new = (now : List ℕ) (past : Past) → IsHeld (held_with (old now) past)
@@ -43,10 +32,6 @@ StartsHeld moment answer old new = (now : List ℕ) (past : Past) → IsHeld (he
 -- it takes blocks in the order of the places that it writes
 abbrev pub StartsInOrder : Result Group PoolError → (List ℕ → Told) → (List ℕ → Told) → Type 0
 StartsInOrder answer old new = (now : List ℕ) (past : Past) → IsHeld (held_with (old now) past) → IfOk answer (λ group. TakesInOrder group.0 past (old now) (new now))
-
--- refused NoSpace, it lacks them
-abbrev pub IsRefusedForLack : Result Group PoolError → (List ℕ → Told) → Type 0
-IsRefusedForLack answer old = (now : List ℕ) (past : Past) → IsHeld (held_with (old now) past) → IfErr answer (λ e. e ≡ NoSpace → LacksBlocks past (old now))
 
 -- it moves no byte, and plans what the running sync makes
 abbrev pub StartLeads : Result Group PoolError → (List ℕ → Told) → (List ℕ → Told) → Type 0

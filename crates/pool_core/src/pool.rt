@@ -118,7 +118,7 @@ impl Pool {
     ghost use Rattle.pool_core.specs.Shows.{plan_of, shown_after_tree, pool_shown};
     ghost use Rattle.pool_core.specs.States.{IsOfNoDevice, KeepsTree};
     ghost use Rattle.pool_core.specs.StepAnswers.{Begins, ClosesGroup, Commits, Locks, LocksAppend, MarksQuiesced, Reads, StartsSync, StepsSync, TellsDigest, TellsLength, Unlocks};
-    ghost use Rattle.pool_core.specs.SyncStarts.{IsRefusedForLack, StartLeads, StartsHeld, StartsInOrder};
+    ghost use Rattle.pool_core.specs.SyncStarts.{StartLeads, StartsHeld, StartsInOrder};
     ghost use Rattle.pool_core.specs.OpenTransactions.{is_full};
     ghost use Rattle.pool_core.specs.Targets.{is_kept_covered};
 
@@ -438,7 +438,6 @@ impl Pool {
         ensures step { StartsSync moment result (pool_shown self.old) (pool_shown self.new) }
         ensures held { StartsHeld moment result (pool_told self.old) (pool_told self.new) }
         ensures order { StartsInOrder result (pool_told self.old) (pool_told self.new) }
-        ensures no_space { IsRefusedForLack result (pool_told self.old) }
         ensures leads { StartLeads result (pool_told self.old) (pool_told self.new) }
         ensures own { IsOfNoDevice result }
     {

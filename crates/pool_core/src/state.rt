@@ -41,7 +41,7 @@ impl<D: SectorDevice> PoolState<D> {
     ghost use Rattle.pool_core.specs.NewStates.{IsExplainedAtFirst, IsHeldAtFirst};
     ghost use Rattle.pool_core.specs.States.{CountsRefused, MakesNoCall, MovesNothing, device_of, shown, told, told_over};
     ghost use Rattle.pool_core.specs.StepAnswers.{Begins, ClosesGroup, Commits, Locks, LocksAppend, MarksQuiesced, Reads, StartsSync, StepsSync, TellsDigest, TellsLength, Unlocks};
-    ghost use Rattle.pool_core.specs.SyncStarts.{IsRefusedForLack, StartLeads, StartsHeld, StartsInOrder};
+    ghost use Rattle.pool_core.specs.SyncStarts.{StartLeads, StartsHeld, StartsInOrder};
 
     /// The pool that an import gave. It takes no memory.
     pub fn new(imported: Imported<D>) -> Self
@@ -224,13 +224,12 @@ impl<D: SectorDevice> PoolState<D> {
     /// room for all its steps. The moment is stored in its uberblocks.
     ///
     /// # Errors
-    /// In this order: `Suspended`; `NotReady` where no group is quiesced or one is syncing; and while it plans, `NoMemory`, or
-    /// `NoSpace`, only where fewer blocks are free than there are places to write (`no_space`).
+    /// In this order: `Suspended`; `NotReady` where no group is quiesced or one is syncing; `NoMemory`. It is never refused
+    /// `NoSpace`: what its transactions reserved suffices.
     pub fn start_sync(&mut self, moment: u64) -> Result<Group, PoolError>
         ensures step { StartsSync moment result (shown self.old) (shown self.new) }
         ensures held { StartsHeld moment result (told_over self.old) (told_over self.new) }
         ensures order { StartsInOrder result (told_over self.old) (told_over self.new) }
-        ensures no_space { IsRefusedForLack result (told_over self.old) }
         ensures leads { StartLeads result (told_over self.old) (told_over self.new) }
         ensures no_call { MakesNoCall result self.old self.new }
     {

@@ -18,11 +18,11 @@ use Rattle.base.specs.steps.Shown.{SyncPlan}
 use Rattle.base.specs.stored.Stored.{NewTree}
 use Rattle.tree_plans.specs.Plans.{new_block}
 use Rattle.pool_core.specs.Holds.{start_reply}
-use Rattle.pool_core.proofs.StartLeads.{group_lacks, group_planned, group_takes, group_takes_each, nothing_made}
+use Rattle.pool_core.proofs.StartLeads.{group_fits, group_planned, group_takes, group_takes_each, never_short, nothing_made}
 use Rattle.pool_core.proofs.OfNoDevice.{plan_own}
 use Rattle.pool_core.proofs.StillSteps.{still_pool}
 use Rattle.pool_core.proofs.SameSyncs.{kept_sync}
-use Rattle.pool_core.proofs.Starts.{lowest_taken, pending_names, start_done, start_not_ready, start_suspended, start_wants}
+use Rattle.pool_core.proofs.Starts.{lowest_taken, pending_names, start_done, start_not_ready, start_suspended, start_wants, wants_only}
 use Rattle.pool_core.proofs.pool.Pool.start_sync.Goals as goal
 
 pub returns-in_err-check_running-clause-step : goal.returns-in_err-check_running-clause-step
@@ -41,7 +41,8 @@ pub returns-in_err-planned-clause-step : goal.returns-in_err-planned-clause-step
 returns-in_err-planned-clause-step c =
     let p = err_from_is_err_and c.from_residual-in_err-planned.result c.from_residual-in_err-planned.ensures.1 in
     let may = c.in_ok-group.ensures.may in
-    rw (p.1, p.2) (λ past explained. (past, start_wants ⊥ [] past (pool_shown c.args.self.now) c.args.moment c.in_ok-group.group.0 c.in_err-planned.field-0.0 c.in_ok-check_running.ensures may.0 may.1 c.in_err-planned.ensures.refused))
+    rw (p.1, p.2) (λ past explained. (past, start_wants ⊥ [] past (pool_shown c.args.self.now) c.args.moment c.in_ok-group.group.0 c.in_err-planned.field-0.0 c.in_ok-check_running.ensures may.0 may.1
+        (wants_only c.in_err-planned.field-0.0 c.in_err-planned.ensures.refused (λ space. never_short past c.args.self.now c.in_ok-group.group.0 may explained (c.in_err-planned.ensures.no_space space)))))
 
 pub returns-in_err-check_running-clause-held : goal.returns-in_err-check_running-clause-held
 returns-in_err-check_running-clause-held c =
@@ -59,7 +60,8 @@ pub returns-in_err-planned-clause-held : goal.returns-in_err-planned-clause-held
 returns-in_err-planned-clause-held c =
     let p = err_from_is_err_and c.from_residual-in_err-planned.result c.from_residual-in_err-planned.ensures.1 in
     let may = c.in_ok-group.ensures.may in
-    rw (p.1, p.2) (λ now past x. (past, start_wants (Unit {0}) now past (pool_shown c.args.self.now) c.args.moment c.in_ok-group.group.0 c.in_err-planned.field-0.0 c.in_ok-check_running.ensures may.0 may.1 c.in_err-planned.ensures.refused))
+    rw (p.1, p.2) (λ now past x. (past, start_wants (Unit {0}) now past (pool_shown c.args.self.now) c.args.moment c.in_ok-group.group.0 c.in_err-planned.field-0.0 c.in_ok-check_running.ensures may.0 may.1
+        (wants_only c.in_err-planned.field-0.0 c.in_err-planned.ensures.refused (λ space. never_short past c.args.self.now c.in_ok-group.group.0 may x.explained (c.in_err-planned.ensures.no_space space)))))
 
 pub returns-in_err-check_running-clause-order : goal.returns-in_err-check_running-clause-order
 returns-in_err-check_running-clause-order c =
@@ -109,7 +111,9 @@ returns-clause-step c = λ past explained.
     let may = c.in_ok-group.ensures.may in (
       past,
       start_done ⊥ [] past s c.args.moment _ c.in_ok-group.group.0 plan explained (λ never. absurd never)
-          c.in_ok-check_running.ensures may.0 may.1 (pending_names pool.pending.items pool.pending_built) refl refl
+          c.in_ok-check_running.ensures may.0 may.1
+          (group_fits past pool c.in_ok-group.group.0 blocks (pointers_after c.in_ok-planned.planned.root c.in_ok-planned.planned.directories.items c.in_ok-planned.planned.maps pool.tree) may explained c.in_ok-planned.ensures.tree.planned)
+          (pending_names pool.pending.items pool.pending_built) refl refl
           (lowest_taken blocks pool.free.flags.items c.in_ok-planned.ensures.taken) refl refl
           (rw (c.start_sync.ensures, c.take_all.ensures.free, c.running_sync.ensures.plan) (ap (λ (l : List PlannedBlock). record s { line = record s.line { syncing = Some c.in_ok-group.group.0; middle = None }; free = set.difference s.free (set.from_list (map address_of l)); sync = Some plan }) c.deref.ensures.value)),
     )
@@ -125,7 +129,9 @@ returns-clause-held c = λ now past x.
       past,
       start_done (Unit {0}) now past s c.args.moment _ c.in_ok-group.group.0 plan x.explained
           (λ keeps. group_takes_each now past pool c.in_ok-group.group.0 c.args.moment blocks planned.freed.items planned.root planned.directories.items planned.maps may c.in_ok-planned.ensures.tree.planned x)
-          c.in_ok-check_running.ensures may.0 may.1 (pending_names pool.pending.items pool.pending_built) refl refl
+          c.in_ok-check_running.ensures may.0 may.1
+          (group_fits past pool c.in_ok-group.group.0 blocks (pointers_after c.in_ok-planned.planned.root c.in_ok-planned.planned.directories.items c.in_ok-planned.planned.maps pool.tree) may x.explained c.in_ok-planned.ensures.tree.planned)
+          (pending_names pool.pending.items pool.pending_built) refl refl
           (lowest_taken blocks pool.free.flags.items c.in_ok-planned.ensures.taken) refl refl
           (rw (c.start_sync.ensures, c.take_all.ensures.free, c.running_sync.ensures.plan) (ap (λ (l : List PlannedBlock). record s { line = record s.line { syncing = Some c.in_ok-group.group.0; middle = None }; free = set.difference s.free (set.from_list (map address_of l)); sync = Some plan }) c.deref.ensures.value)),
     )
@@ -183,11 +189,6 @@ returns-clause-leads c = λ now past later.
       planned = λ x. group_planned now past pool c.in_ok-group.group.0 c.args.moment planned.blocks.items planned.freed.items planned.root planned.directories.items planned.maps
           c.in_ok-group.ensures.may told.tree.planned told.tree.freed told.tree.used told.tree.whole x;
     }
-
-pub returns-in_err-planned-clause-no_space : goal.returns-in_err-planned-clause-no_space
-returns-in_err-planned-clause-no_space c =
-    let p = err_from_is_err_and c.from_residual-in_err-planned.result c.from_residual-in_err-planned.ensures.1 in
-    rw (p.1, p.2) (λ now past x no_space. group_lacks now past c.args.self.now c.in_ok-group.group.0 c.in_ok-group.ensures.may (c.in_err-planned.ensures.no_space no_space) x)
 
 pub returns-in_err-check_running-clause-own : goal.returns-in_err-check_running-clause-own
 returns-in_err-check_running-clause-own c =
