@@ -159,9 +159,9 @@ module _ (now : List ℕ) (pointers : Place → Pointer) (running : Option NewTr
   stays s t p q x = kept-state now s (record t { line = s.line }) pointers p (record q { admissions = p.admissions }) running x x.stored.middle x.stored.built
 
   -- an admission has a plan of built shapes
-  admission : (a : Admission) (s : State) → IsKeptState s → list_all stage.is_shape_built a.plan ≡ true → IsKeptState (stage.state_after_admission a s)
+  admission : (a : Admission) (s : State) → IsKeptState s → list_all stage.is_shape_built a.plan ≡ true → IsKeptState (steps.state_after_charged_admission a s)
   admission a s x of_plan =
-      let t : State = stage.state_after_admission a s in
+      let t : State = steps.state_after_charged_admission a s in
       kept-state now s.shown t.shown pointers s.past t.past running x x.stored.middle
       (λ i b at. elim (push-cases s.past.admissions a b i at) as (λ _. list_all stage.is_shape_built b.plan ≡ true) [
         | inl before ↦ x.stored.built i b before
