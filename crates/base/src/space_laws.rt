@@ -1,7 +1,8 @@
-//! No sync lacks blocks: laws of what is estimated, charged and reserved. No code uses them yet.
+//! No sync lacks blocks: laws of what is estimated, charged and reserved.
 //!
 //! A transaction is admitted with an estimate of the blocks that its sync takes, and these are reserved for its group until the
-//! group is synced (`dmu_tx.c`, `dsl_dir.c`). Each function's contract is a law, and its body does nothing.
+//! group is synced (`dmu_tx.c`, `dsl_dir.c`). The built steps keep all of it as `steps_keep_tables` says; the two laws on steps
+//! here are of the steps of the whole profile. Each function's contract is a law, and its body does nothing.
 
 ghost use Rattle.base.specs.steps.Space.{SyncsFit, GroupsFit, SyncsHaveRoom, ChargedStepsKeepReserves, UnchargedStepsKeepReserves, NewPoolsHaveReserves};
 

@@ -1,4 +1,4 @@
-//! What a pool tells of its groups and its sums. No call gives it yet.
+//! What a pool tells of its groups and its sums.
 
 use crate::names::Group;
 

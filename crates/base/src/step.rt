@@ -6,12 +6,13 @@
 //! - Locks (`zfs_rlock.c`): `Lock`, `LockAppend` from the end of an object on, `Unlock`.
 //! - Transactions (`dmu_tx.c`): `Begin` with a plan whose ranges lie in writer locks of the owner, `Commit` with operations of
 //!   just these shapes, `Read` under a lock of the owner.
-//! - What the current contents are: the `Length` of an object, the pool's `Name`, and the `Digest` of them all.
+//! - What the current contents are: the `Length` of an object, the pool's `Name`, and the `Digest` of them all. `Status` tells of
+//!   the groups, and of what is charged and free.
 //! - Groups (`txg.c`): `CloseGroup` opens the next group, `MarkQuiesced` says that no transaction of the closed one is open,
 //!   `StartSync` plans what is written of it, and each `SyncStep` makes one device call, of which the last answers `Synced`.
 //!
 //! A refused step changes nothing, with one exception: where the device refuses a `SyncStep` its write or its flush the pool is
-//! suspended, and it refuses each step but `Name` from then on.
+//! suspended, and it refuses each step but `Name` and `Status` from then on.
 
 use crate::bytes::Bytes;
 use crate::error::PoolError;
@@ -19,6 +20,7 @@ use crate::lists::{Ops, Plan};
 use crate::names::{Group, LockId, ObjectId, Owner, Receipt, TxId};
 use crate::pool_name::PoolName;
 use crate::range::{Mode, Range};
+use crate::status::Status;
 
 /// One event of a pool.
 #[derive(Debug, PartialEq, Eq, Drop)]
@@ -41,6 +43,8 @@ pub enum Step {
     Digest,
     /// Tells the pool's name, also of a suspended pool.
     Name,
+    /// Tells the pool's groups and sums, also of a suspended pool.
+    Status,
     /// Closes the open group.
     CloseGroup,
     /// Marks the closed group as quiesced.
@@ -67,6 +71,7 @@ pub enum Reply {
     Length(u64),
     Digest([u8; 32]),
     Name(PoolName),
+    Status(Status),
     /// The group that is open now.
     Opened(Group),
     Quiesced(Group),

@@ -6,7 +6,8 @@ ghost use Rattle.base.specs.steps.ExactNow.{StepsKeepTables, RunsKeepTables, Log
 ghost use Rattle.base.specs.stored.HeldMounts.{MountsAgree, HeldMounts, IdleMounts, StepsWriteNoLog};
 ghost use Rattle.base.specs.steps.SyncEnds.{SuspendedPoolsRefuse, SuspendedPoolsStay, SyncsEndOnTime};
 
-/// Each step keeps what is shown of a pool exact, and its entries a history that leads to its contents.
+/// Each step keeps what is shown of a pool exact, with what is charged and reserved and free blocks enough for it, and its entries
+/// a history that leads to its contents.
 pub fn steps_keep_tables()
     ensures { StepsKeepTables }
 {}
@@ -36,8 +37,8 @@ pub fn suspended_pools_stay()
     ensures { SuspendedPoolsStay }
 {}
 
-/// It refuses each step that is built but that of its name; status and durable, which are never refused, are not among them
-/// yet.
+/// It refuses each step that is built but those of its name and its status; durable, which is never refused either, is not
+/// among them yet.
 pub fn suspended_pools_refuse()
     ensures { SuspendedPoolsRefuse }
 {}

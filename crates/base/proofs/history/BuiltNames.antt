@@ -1,4 +1,4 @@
--- Transactions that create and write leave the name of the contents.
+-- Transactions that create, remove and write leave the name of the contents.
 use Rattle.std.proofs.Common.{◌≡◌, ℕ, zero, suc, true, List, [], ◌∷◌, map, refl, ap, sym, ◌∙◌}
 use Rattle.std.specs.Prelude.{Option, Some, Ok, Result, slice_get, nat_le}
 use Rattle.std.specs.List.{list_all}
@@ -8,7 +8,7 @@ use Rattle.base.specs.declared.error.PoolError.{PoolError}
 use Rattle.base.specs.declared.operation.Op.{Op}
 use Rattle.base.specs.declared.operation.Op.TheVariants.{Create, Remove, Write, SetLength, SetName}
 use Rattle.base.specs.history.Sequences.{in_turn}
-use Rattle.base.specs.history.Contents.{Contents, apply, at_object, with_object, created, changed, bytes_after_write}
+use Rattle.base.specs.history.Contents.{Contents, apply, at_object, with_object, created, removed, changed, bytes_after_write}
 use Rattle.base.specs.history.Plans.{shape_of}
 use Rattle.base.specs.history.History.{Entry, run, replay, entries_up_to}
 use Rattle.base.specs.history.Past.{Past}
@@ -28,7 +28,7 @@ name-at_object n f c d h =
 name-apply : (op : Op) (c d : Contents) → is_shape_built (shape_of op) ≡ true → apply op c ≡ Ok d → d.name ≡ c.name
 name-apply (Create n) c d built h = name-at_object n.0 created c d h
 name-apply (Write n offset bytes) c d built h = name-at_object n.0 (changed (bytes_after_write offset bytes)) c d h
-name-apply (Remove n) c d built h = absurd (false≢true built)
+name-apply (Remove n) c d built h = name-at_object n.0 removed c d h
 name-apply (SetLength n size) c d built h = absurd (false≢true built)
 name-apply (SetName bytes) c d built h = absurd (false≢true built)
 
@@ -54,7 +54,7 @@ module _ (s : Shown) (p : Past) (explained : IsExplainedNow s p) where
   built-entries : AreBuiltEntries p.entries
   built-entries i e at =
       let a = explained.exact.groups.members.committed i e at in
-      ap (λ plan. list_all is_shape_built plan) a.3 ∙ explained.exact.staged.built e.tx a.0 a.1
+      ap (λ plan. list_all is_shape_built plan) a.3 ∙ explained.staged.built e.tx a.0 a.1
 
   pub name-up_to : (group : ℕ) (c : Contents) → replay (entries_up_to group p.entries) p.base ≡ Ok c → c.name ≡ p.base.name
   name-up_to group c h = name-replay (entries_up_to group p.entries) p.base c

@@ -9,8 +9,7 @@ use Rattle.base.specs.declared.step.Reply as declared_reply
 use Rattle.base.specs.steps.Locks.{is_in}
 use Rattle.base.specs.history.Past.{Past, Grows, IsPrefixOf}
 use Rattle.base.specs.steps.Additions.{past_after}
-use Rattle.base.specs.steps.Stage.{state_after_admission}
-use Rattle.base.specs.steps.Steps.{State, state_after_commit, state_after_grant, state_after_log_flush, state_after_sync, state_after_unlock}
+use Rattle.base.specs.steps.Steps.{State, state_after_charged_admission, state_after_commit, state_after_grant, state_after_log_flush, state_after_sync, state_after_unlock}
 use Rattle.base.specs.steps.Effects.{Effect, HasEffect, state_after}
 use Rattle.base.specs.steps.Effects.Effect.{AddsGrant, LetsGo, AddsAdmission, AddsEntry, EndsSync, FlushesLog}
 use Rattle.base.specs.steps.Runs.{Step}
@@ -65,7 +64,7 @@ still-in o xs more h = list_any-append (λ y. o == y) xs more ∙ or_left (is_in
 effect-grows : (e : Effect) (s : State) → Grows s.past (state_after e s).past
 effect-grows (AddsGrant g) s = grows-to s.past (state_after_grant g s).past (same-prefix _) (_, refl) (same-prefix _) (same-prefix _) (same-prefix _) (λ o h. h)
 effect-grows (LetsGo owner id) s = grows-to s.past (state_after_unlock id s).past (same-prefix _) (same-prefix _) (_, refl) (same-prefix _) (same-prefix _) (λ o h. h)
-effect-grows (AddsAdmission a) s = grows-to s.past (state_after_admission a s).past (same-prefix _) (same-prefix _) (same-prefix _) (_, refl) (same-prefix _) (λ o h. h)
+effect-grows (AddsAdmission a) s = grows-to s.past (state_after_charged_admission a s).past (same-prefix _) (same-prefix _) (same-prefix _) (_, refl) (same-prefix _) (λ o h. h)
 effect-grows (AddsEntry tx a ops contents) s =
     grows-to s.past (state_after_commit tx a.group ops contents s).past (_, refl) (same-prefix _) (same-prefix _) (same-prefix _) (same-prefix _) (λ o h. h)
 effect-grows (EndsSync group plan) s =

@@ -120,9 +120,9 @@ module _ (l : Line) (admissions : List Admission) (entries : List Entry) (aborte
   }
 
 -- one more is admitted
-pub begin_keeps : (s : Shown) (p : Past) (a : Admission) → AreGroupsExact s p → a.tx ≡ s.next_tx → a.group ≡ s.line.open_group → is_plan_allowed a.plan ≡ true → log_record_size a.plan ≤ max_log_record
-    → AreGroupsExact (record s { transactions = s.transactions ++ a ∷ []; next_tx = s.next_tx + 1 }) (record p { admissions = p.admissions ++ a ∷ [] })
-begin_keeps s p a x named in_open allowed small = record {
+pub begin_keeps : (s t : Shown) (p : Past) (a : Admission) → AreGroupsExact s p → a.tx ≡ s.next_tx → a.group ≡ s.line.open_group → is_plan_allowed a.plan ≡ true → log_record_size a.plan ≤ max_log_record
+    → AreGroupsExact (record t { line = s.line; transactions = s.transactions ++ a ∷ []; next_tx = s.next_tx + 1 }) (record p { admissions = p.admissions ++ a ∷ [] })
+begin_keeps s t p a x named in_open allowed small = record {
   line = x.line;
   members = members_begin s.line p.admissions p.entries p.aborted x.members a (named ∙ x.next) in_open allowed small;
   transactions = ap (λ ts. ts ++ a ∷ []) x.transactions ∙ sym (open_push s.line p.admissions p.entries p.aborted x.members a (named ∙ x.next));

@@ -8,12 +8,9 @@ use Rattle.base.specs.declared.operation.Op.{Op}
 use Rattle.base.specs.declared.operation.Shape.{Shape}
 use Rattle.base.specs.declared.range.Mode.{Mode}
 use Rattle.base.specs.declared.range.Mode.TheVariants.{Writer}
-use Rattle.base.specs.formats.Limits.{last_number, kept_back}
 use Rattle.base.specs.formats.Records.{Record}
 use Rattle.base.specs.history.Plans.{NumberRange, shape_of, estimate_of, charge_of}
 use Rattle.base.specs.history.Past.{Past}
-use Rattle.base.specs.tree.Places.{has_block}
-use Rattle.base.specs.tree.Syncs.{written_places}
 use Rattle.base.specs.steps.Locks.{Grant, is_in}
 use Rattle.base.specs.steps.Groups.{Line, Admission, MayHold, open_transactions}
 use Rattle.base.specs.steps.Charges.{transactions_of, estimate_sum}
@@ -28,11 +25,11 @@ use Rattle.base.specs.steps.Space.IsUnchargedStep.{Locks, LocksAppend, Unlocks, 
 use Rattle.base.proofs.common.KeptLists.{any_none, found_at}
 use Rattle.base.proofs.history.CommitOrder.{no_refusal}
 use Rattle.base.proofs.tree.Sums.{sum_by-none}
-use Rattle.base.proofs.tree.Estimates.{syncs_fit}
 use Rattle.base.proofs.steps.FreeCounts.{removed_len, difference_len, union_len}
-use Rattle.base.proofs.steps.KeptGroups.{open_is, held_above, line_sync, none_there}
+use Rattle.base.proofs.steps.KeptGroups.{open_is, held_above, line_sync}
 use Rattle.base.proofs.steps.KeptCharges.{amount, amount-insert_other, amount_more, total-insert, total-close, total-synced, sum-above, begun_sums, aborted_sums, synced_sums}
 use Rattle.base.proofs.steps.Reservations.{groups_fit, none-taken, quiesced_next}
+use Rattle.base.proofs.steps.StepEffects.{none_syncs, block_available}
 
 -- what holds of an option's value holds more weakly
 if_weaker : {A : Type 0} (o : Option A) (P Q : A → Type 0) → ((a : A) → o ≡ Some a → P a → Q a) → IfSome o P → IfSome o Q
@@ -45,7 +42,7 @@ same_charges : (s t : Shown) (p q : Past) → AreChargesExact s p
     (record q { dirty_max = p.dirty_max; admissions = p.admissions; aborted = p.aborted })
 same_charges s t p q x = record { limit = x.limit; dirty = x.dirty; reserved = x.reserved; within = x.within }
 
-same_reserves : (s t : State) → HasReserves s
+pub same_reserves : (s t : State) → HasReserves s
     → HasReserves (record {
       shown = record t.shown {
         dirty_max = s.shown.dirty_max;
@@ -61,7 +58,7 @@ same_reserves s t x = record { charges = record { limit = x.charges.limit; dirty
 
 module _ (s : State) (groups : AreGroupsExact s.shown s.past) (x : HasReserves s) where
   -- a begin
-  begin_state : (a : Admission) → a.tx ≡ length s.past.admissions → a.group ≡ s.shown.line.open_group → dirty_total s.shown + charge_of a.plan ≤ s.shown.dirty_max → estimate_of a.plan ≤ available s.shown
+  pub begin_state : (a : Admission) → a.tx ≡ length s.past.admissions → a.group ≡ s.shown.line.open_group → dirty_total s.shown + charge_of a.plan ≤ s.shown.dirty_max → estimate_of a.plan ≤ available s.shown
       → HasReserves (steps.state_after_charged_admission a s)
   begin_state a named in_open fits free =
       let kept : is_in a.tx s.past.aborted ≡ false = any_none (λ t. a.tx == t) s.past.aborted
@@ -120,7 +117,7 @@ module _ (s : State) (groups : AreGroupsExact s.shown s.past) (x : HasReserves s
       }
 
   -- the close of a group: the one that opens has no transactions yet
-  close_state : HasReserves (steps.with_line (steps.line_after_close s.shown.line) s)
+  pub close_state : HasReserves (steps.with_line (steps.line_after_close s.shown.line) s)
   close_state =
       let l : Line = s.shown.line in
       let above : (l.synced < l.open_group) × (l.open_group ≤ l.open_group) = held_above l l.open_group groups.line (inl refl) in
@@ -137,25 +134,23 @@ module _ (s : State) (groups : AreGroupsExact s.shown s.past) (x : HasReserves s
       }
 
   -- the start of a sync takes what its group has reserved, or less
-  start_state : (now : List ℕ) (group : ℕ) (plan : SyncPlan) → IsSyncExact s.shown → refusal.quiesced_group s.shown.line ≡ Some group → s.shown.line.syncing ≡ None → steps.TakesForEach now s group plan
+  pub start_state : (moment group : ℕ) (plan : SyncPlan) → IsSyncExact s.shown → refusal.quiesced_group s.shown.line ≡ Some group → s.shown.line.syncing ≡ None → steps.IsPlanned s moment group plan
       → HasReserves (steps.state_after_start group plan s)
-  start_state now group plan sync quiesced idle takes =
+  start_state moment group plan sync quiesced idle planned =
       let above : (s.shown.line.synced < group) × (group ≤ s.shown.line.open_group) = quiesced_next s.shown.line group groups.line idle quiesced in
       let ops : List Op = steps.ops_of_group group s.past.entries in
-      let written : length (written_places ops takes.synced (has_block now s.shown.root)) ≤ estimate_of (map shape_of ops) = syncs_fit ops takes.synced (has_block now s.shown.root) in
       let fits : estimate_of (map shape_of ops) ≤ estimate_sum (transactions_of group s.past.admissions s.past.aborted) = groups_fit s.shown.line s.past.admissions s.past.entries s.past.aborted group groups.members in
       let reserved : reserved_of s.shown group ≡ estimate_sum (transactions_of group s.past.admissions s.past.aborted) = x.charges.reserved group above.0 in
-      let each : length plan.taken ≡ length (written_places ops takes.synced (has_block now s.shown.root)) = takes.each in
       let none : length (taken_of s.shown.sync) ≡ 0 = none-taken s.shown.sync (sync.running ∙ ap (λ o. is_some o) idle) in
       let room : reserved_total s.shown ≤ free_count s.shown + length (taken_of s.shown.sync) = x.blocks.room in
       let left = difference_len s.shown.free plan.taken in
       record {
         charges = same_charges s.shown (steps.state_after_start group plan s).shown s.past s.past x.charges;
-        blocks = record { taken = omega (arith, written, each); room = omega (arith, left) };
+        blocks = record { taken = omega (arith, planned.fits); room = omega (arith, left) };
       }
 
   -- a step of a sync before its last
-  step_state : (plan : SyncPlan) → s.shown.sync ≡ Some plan → HasReserves (steps.state_after_step plan s)
+  pub step_state : (plan : SyncPlan) → s.shown.sync ≡ Some plan → HasReserves (steps.state_after_step plan s)
   step_state plan running = record {
     charges = same_charges s.shown (steps.state_after_step plan s).shown s.past s.past x.charges;
     blocks = record {
@@ -165,7 +160,7 @@ module _ (s : State) (groups : AreGroupsExact s.shown s.past) (x : HasReserves s
   }
 
   -- its last step
-  end_state : (group : ℕ) (plan : SyncPlan) → s.shown.line.syncing ≡ Some group → s.shown.sync ≡ Some plan → HasReserves (steps.state_after_sync group plan s)
+  pub end_state : (group : ℕ) (plan : SyncPlan) → s.shown.line.syncing ≡ Some group → s.shown.sync ≡ Some plan → HasReserves (steps.state_after_sync group plan s)
   end_state group plan syncing running =
       let l : Line = s.shown.line in
       let next : group ≡ l.synced + 1 = subst (λ o. IfSome o (λ n. n ≡ l.synced + 1)) syncing groups.line.syncing in
@@ -188,7 +183,7 @@ module _ (s : State) (groups : AreGroupsExact s.shown s.past) (x : HasReserves s
       }
 
   -- a write of the log, which is refused where no block more than those kept back is available
-  log_state : (taken rest : List Record) (address : ℕ) → 0 < available s.shown → HasReserves (steps.state_after_log_write taken rest address s)
+  pub log_state : (taken rest : List Record) (address : ℕ) → 0 < available s.shown → HasReserves (steps.state_after_log_write taken rest address s)
   log_state taken rest address some =
       let room : reserved_total s.shown ≤ free_count s.shown + length (taken_of s.shown.sync) = x.blocks.room in
       let left = removed_len s.shown.free address in
@@ -235,12 +230,10 @@ module _ (old new : State) (groups : AreGroupsExact old.shown old.past) (sync : 
   close_step answer h = by_answer answer (refusal.whole_close_refusal old.shown) old new _ _
       (λ g none d. subst HasReserves (sym d.1) (close_state old groups x)) (λ e none own. absurd own) x h
 
-  start_step : (now : List ℕ) (moment : ℕ) (answer : Result ℕ PoolError) → steps.WholeStartSync (Unit {0}) now moment answer old new → HasReserves new
+  start_step : (now : List ℕ) (moment : ℕ) (answer : Result ℕ PoolError) → steps.WholeStartSync ⊥ now moment answer old new → HasReserves new
   start_step now moment answer h = by_answer answer (refusal.start_refusal old.shown) old new _ _
       (λ group none d.
-      let idle : old.shown.line.syncing ≡ None =
-      none_there old.shown.line.syncing (or_parts (is_none (refusal.quiesced_group old.shown.line)) (is_some old.shown.line.syncing) (no_refusal (refusal.start_tests old.shown) none 1 _ refl)).1 in
-      subst HasReserves (sym d.4) (start_state old groups x now group d.0 sync d.1 idle (d.3 tt)))
+      subst HasReserves (sym d.4) (start_state old groups x moment group d.0 sync d.1 (none_syncs old.shown none) d.2))
       (λ e none own. stays old new x own.1) x h
 
   sync_step : (answer : Result SyncProgress PoolError) → steps.SyncStep answer old new → HasReserves new
@@ -250,17 +243,11 @@ module _ (old new : State) (groups : AreGroupsExact old.shown old.past) (sync : 
 
   log_step : (answer : Result ℕ PoolError) → steps.LogWrite answer old new → HasReserves new
   log_step answer h = by_answer answer (refusal.log_write_refusal old.shown) old new _ _
-      (λ count none d. subst HasReserves (sym d.5) (log_state old groups x d.0 d.1 d.2 (some none)))
+      (λ count none d. subst HasReserves (sym d.5) (log_state old groups x d.0 d.1 d.2 (block_available old.shown none)))
       (λ e none own. elim own as (λ _. HasReserves new) [
         | inl wants ↦ stays old new x wants.1
-        | inr wrote ↦ subst HasReserves (sym wrote.1.4) (suspended_state (steps.state_after_log_write wrote.1.0 wrote.1.1 wrote.1.2 old) (log_state old groups x wrote.1.0 wrote.1.1 wrote.1.2 (some none)))
+        | inr wrote ↦ subst HasReserves (sym wrote.1.4) (suspended_state (steps.state_after_log_write wrote.1.0 wrote.1.1 wrote.1.2 old) (log_state old groups x wrote.1.0 wrote.1.1 wrote.1.2 (block_available old.shown none)))
       ]) x h
-    where
-      some : refusal.log_write_refusal old.shown ≡ None → 0 < available old.shown
-      some none =
-          let enough : kept_back + 1 ≤ available old.shown = ltb-false (available old.shown) (kept_back + 1)
-          (or_parts (nat_lt (available old.shown) (kept_back + 1)) (nat_le last_number old.shown.log.next.number) (no_refusal (refusal.log_write_tests old.shown) none 2 _ refl)).0 in
-          omega arith
 
 module _ (old new : State) (x : HasReserves old) where
   lock_step : (owner : ℕ) (range : NumberRange) (mode : Mode) (answer : Result ℕ PoolError) → steps.Lock owner range mode answer old new → HasReserves new

@@ -18,7 +18,7 @@ use Rattle.base.specs.history.Contents.{Contents}
 use Rattle.base.specs.history.Plans.{IsRange, shape_of, range_of, ranges, plan_ranges, is_shape_allowed, is_plan_allowed, log_record_size}
 use Rattle.base.specs.history.History.{Entry, IsHistory, MayFollow, Admitted}
 use Rattle.base.specs.steps.Locks.{Grant}
-use Rattle.base.specs.steps.Groups.{Middle, Admission, admitted_of, open_transactions}
+use Rattle.base.specs.steps.Groups.{Line, Middle, Admission, admitted_of, open_transactions}
 use Rattle.base.specs.formats.Uberblocks.{Uberblock}
 use Rattle.base.specs.history.Past.{Past, new_past}
 use Rattle.base.specs.steps.Shown.{Shown}
@@ -29,6 +29,7 @@ use Rattle.base.specs.steps.Refusals as refusal
 use Rattle.base.specs.steps.Refusals.{Test, refused_if, first_refusal}
 use Rattle.base.specs.steps.Steps.{State}
 use Rattle.base.specs.steps.Stage as stage
+use Rattle.base.specs.steps.Space.{HasReserves}
 use Rattle.base.specs.steps.Effects.{Effect, HasEffect, MayHave, MayAddEntry, state_after}
 use Rattle.base.specs.steps.Effects.Effect.{Stays, Suspends, AddsGrant, LetsGo, AddsAdmission, AddsEntry, OpensNext, QuiescesMiddle, PlansSync, CountsStep, EndsSync, WritesLog, FlushesLog}
 use Rattle.base.specs.steps.Runs.{Step}
@@ -47,6 +48,8 @@ use Rattle.base.proofs.steps.KeptWrites.{write_log, write_sync}
 use Rattle.base.proofs.steps.KeptFlushes.{flush_log, flush_sync}
 use Rattle.base.proofs.history.KeptContents.{operations_keep}
 use Rattle.base.proofs.steps.KeptSyncs.{same_sync, start_sync, step_sync, end_sync}
+use Rattle.base.proofs.steps.KeptReserves.{same_reserves, begin_state, close_state, start_state, step_state, end_state, log_state}
+use Rattle.base.proofs.steps.NewPools.{new_pool_is_exact}
 use Rattle.base.proofs.steps.StepEffects.{log_step_has, step_does}
 
 abbrev IsExplainedState : State → Type 0
@@ -132,6 +135,9 @@ module _ (old : State) (x : IsExplainedState old) where
         (subst (λ ts. All IsRange ts) (sym touches) (plan_range a.plan (and_parts (nat_lt 0 (length a.plan)) (list_all is_shape_allowed a.plan) plan_allowed.0).1))
         (subst (λ ts. MayFollow p.entries a.group ts) (sym touches) follows) may.applied
 
+  reserved : HasReserves old
+  reserved = record { charges = x.exact.charges; blocks = x.exact.blocks }
+
   -- Table by table: the effects that change it, and then all others.
   lock_at : (owner id : ℕ) (g : Grant) → refusal.lock_of owner id s ≡ Some g → (i : ℕ) × (slice_get s.locks i ≡ Some g) × (g.id ≡ id)
   lock_at owner id g is =
@@ -145,7 +151,7 @@ module _ (old : State) (x : IsExplainedState old) where
 
   groups : (e : Effect) → MayHave e old → AreGroupsExact (state_after e old).shown (state_after e old).past
   groups (AddsAdmission a) may =
-      begin_keeps s p a x.exact.groups may.named may.in_open (and_parts (is_plan_allowed a.plan) (list_all stage.is_shape_built a.plan) may.built).0 may.small
+      begin_keeps s (state_after (AddsAdmission a) old).shown p a x.exact.groups may.named may.in_open (and_parts (is_plan_allowed a.plan) (list_all stage.is_shape_built a.plan) may.built).0 may.small
   groups (AddsEntry tx a ops contents) may =
       let t : State = state_after (AddsEntry tx a ops contents) old in
       let at = place tx a ops contents may in
@@ -180,7 +186,7 @@ module _ (old : State) (x : IsExplainedState old) where
       let t : State = state_after (EndsSync group plan) old in
       let next : group ≡ s.line.synced + 1 = subst (λ o. IfSome o (λ n. n ≡ s.line.synced + 1)) syncing x.exact.groups.line.syncing in
       sync_log s t.shown p t.past x.exact.log x.exact.sync group plan next syncing running
-  log (WritesLog taken rest address) takes = let t : State = state_after (WritesLog taken rest address) old in write_log s t.shown p t.past x.exact.log taken rest address takes.packed.front
+  log (WritesLog taken rest address) (takes, some) = let t : State = state_after (WritesLog taken rest address) old in write_log s t.shown p t.past x.exact.log taken rest address takes.packed.front
   log FlushesLog may = let t : State = state_after FlushesLog old in flush_log s t.shown p t.past x.exact.log
   log e may = let t : State = state_after e old in same_log s t.shown p t.past x.exact.log
 
@@ -192,7 +198,7 @@ module _ (old : State) (x : IsExplainedState old) where
   sync (PlansSync group plan) (moment, is, idle, planned) = start_sync old (state_after (PlansSync group plan) old) moment group plan x.exact.log.numbered planned
   sync (CountsStep plan) (running, more) = step_sync s (state_after (CountsStep plan) old).shown plan x.exact.sync running more
   sync (EndsSync group plan) may = end_sync (state_after (EndsSync group plan) old).shown
-  sync (WritesLog taken rest address) takes =
+  sync (WritesLog taken rest address) (takes, some) =
       let t : State = state_after (WritesLog taken rest address) old in
       write_sync s t.shown p t.past x.exact.log taken rest address takes.packed.front x.exact.sync
   sync FlushesLog may = let t : State = state_after FlushesLog old in flush_sync s t.shown p t.past x.exact.log x.exact.sync
@@ -200,10 +206,10 @@ module _ (old : State) (x : IsExplainedState old) where
 
   staged : (e : Effect) → MayHave e old → stage.IsStaged (state_after e old).shown (state_after e old).past
   staged (AddsAdmission a) may = record {
-    middle = x.exact.staged.middle;
-    syncing = x.exact.staged.syncing;
+    middle = x.staged.middle;
+    syncing = x.staged.syncing;
     built = λ i b at. elim (push-cases p.admissions a b i at) as (λ _. list_all stage.is_shape_built b.plan ≡ true) [
-      | inl before ↦ x.exact.staged.built i b before
+      | inl before ↦ x.staged.built i b before
       | inr last ↦ ap (λ (c : Admission). list_all stage.is_shape_built c.plan) (sym last.1) ∙ (and_parts (is_plan_allowed a.plan) (list_all stage.is_shape_built a.plan) may.built).1
     ];
   }
@@ -212,25 +218,30 @@ module _ (old : State) (x : IsExplainedState old) where
       record {
         middle = subst (λ (o : Option Middle). IfSome o (λ (m : Middle). stage.AreUpTo m.group t.past.entries)) (sym may.no_middle) tt;
         syncing = subst (λ (o : Option ℕ). IfSome o (λ group. stage.AreUpTo group t.past.entries)) (sym may.no_sync) tt;
-        built = x.exact.staged.built;
+        built = x.staged.built;
       }
-  staged OpensNext may = record { middle = x.exact.isolated.admitted.committed; syncing = x.exact.staged.syncing; built = x.exact.staged.built }
+  staged OpensNext may = record { middle = x.exact.isolated.admitted.committed; syncing = x.staged.syncing; built = x.staged.built }
   staged (QuiescesMiddle group) (is, none) = record {
-    middle = subst (λ (o : Option Middle). IfSome o (λ (m : Middle). stage.AreUpTo m.group p.entries)) (quiescing_is s.line group is) x.exact.staged.middle;
-    syncing = x.exact.staged.syncing;
-    built = x.exact.staged.built;
+    middle = subst (λ (o : Option Middle). IfSome o (λ (m : Middle). stage.AreUpTo m.group p.entries)) (quiescing_is s.line group is) x.staged.middle;
+    syncing = x.staged.syncing;
+    built = x.staged.built;
   }
   staged (PlansSync group plan) (moment, is, idle, planned) = record {
     middle = tt;
-    syncing = subst (λ (o : Option Middle). IfSome o (λ (m : Middle). stage.AreUpTo m.group p.entries)) (quiesced_is s.line group is) x.exact.staged.middle;
-    built = x.exact.staged.built;
+    syncing = subst (λ (o : Option Middle). IfSome o (λ (m : Middle). stage.AreUpTo m.group p.entries)) (quiesced_is s.line group is) x.staged.middle;
+    built = x.staged.built;
   }
-  staged (EndsSync group plan) may = record { middle = x.exact.staged.middle; syncing = tt; built = x.exact.staged.built }
-  staged e may = record { middle = x.exact.staged.middle; syncing = x.exact.staged.syncing; built = x.exact.staged.built }
+  staged (EndsSync group plan) may = record { middle = x.staged.middle; syncing = tt; built = x.staged.built }
+  staged e may = record { middle = x.staged.middle; syncing = x.staged.syncing; built = x.staged.built }
 
-  limit : (e : Effect) → (state_after e old).shown.dirty_max ≡ (state_after e old).past.dirty_max
-  limit Stays = x.exact.limit
-  limit _ = x.exact.limit
+  reserves : (e : Effect) → MayHave e old → HasReserves (state_after e old)
+  reserves (AddsAdmission a) may = begin_state old x.exact.groups reserved a (may.named ∙ x.exact.groups.next) may.in_open may.within may.room
+  reserves OpensNext may = close_state old x.exact.groups reserved
+  reserves (PlansSync group plan) (moment, is, idle, planned) = start_state old x.exact.groups reserved moment group plan x.exact.sync is idle planned
+  reserves (CountsStep plan) (running, more) = step_state old x.exact.groups reserved plan running
+  reserves (EndsSync group plan) (syncing, running) = end_state old x.exact.groups reserved group plan syncing running
+  reserves (WritesLog taken rest address) (takes, some) = log_state old x.exact.groups reserved taken rest address some
+  reserves e may = same_reserves old (state_after e old) reserved
 
   history : (e : Effect) → MayHave e old → IsHistory (state_after e old).past.entries (state_after e old).past.base (state_after e old).shown.contents
   history (AddsEntry tx a ops contents) may = commit_history tx a ops contents may
@@ -243,13 +254,14 @@ module _ (old : State) (x : IsExplainedState old) where
       groups = groups e may;
       order = (history e may).order;
       isolated = isolated e may;
+      charges = (reserves e may).charges;
+      blocks = (reserves e may).blocks;
       log = log e may;
       bounded = bounded e may;
       sync = sync e may;
-      limit = limit e;
-      staged = staged e may;
     };
     history = history e may;
+    staged = staged e may;
   }
 
 pub effects_keep_tables : (old new : State) → HasEffect old new → IsExplainedNow old.shown old.past → IsExplainedNow new.shown new.past
@@ -280,4 +292,12 @@ log_steps_keep_tables old new h x = effects_keep_tables old new (log_step_has ol
 -- a pool that was just imported
 pub new_pools_are_explained : (u : Uberblock) (blocks : ℕ) (contents : Contents) (created dirty_max : ℕ) (s : Shown) → IsImported u blocks contents dirty_max s → IsBounded contents
     → u.group + 5 ≤ last_number → IsExplainedNow s (new_past contents created dirty_max)
-new_pools_are_explained u blocks contents created dirty_max s i bounded last = search rules
+new_pools_are_explained u blocks contents created dirty_max s i bounded last = record {
+  exact = new_pool_is_exact u blocks contents created dirty_max s i bounded last;
+  history = search rules;
+  staged = record {
+    middle = subst (λ (l : Line). IfSome l.middle (λ (m : Middle). stage.AreUpTo m.group [])) (sym i.line) tt;
+    syncing = subst (λ (l : Line). IfSome l.syncing (λ group. stage.AreUpTo group [])) (sym i.line) tt;
+    built = λ j a at. cc;
+  };
+}

@@ -1,33 +1,25 @@
 -- A pool that was just imported is exact with the empty past: the definitions are not vacuous.
 use Rattle.std.proofs.Common.{◌≡◌, ℕ, ◌+◌, ◌^◌, ◌<◌, ◌≤◌, List, [], ◌∷◌, ◌++◌, refl, ap, sym, subst, ◌∙◌, arith}
-use Rattle.std.specs.Prelude.{Option, Some, None, slice_get, unwrap_or, IfSome, is_some, sum_by, fold, map}
+use Rattle.std.specs.Prelude.{Option, Some, None, slice_get, IfSome, is_some, map}
 use Rattle.std.specs.List.{flat_map}
 use Rattle.base.specs.history.Contents.{Contents}
 use Rattle.base.specs.history.History.{AreAdmitted}
 use Rattle.base.specs.steps.Groups.{Line, IsLine, Admission, admitted_of}
 use Rattle.base.specs.steps.Locks.{AreLocksSound}
+use Rattle.base.specs.formats.Limits.{last_number}
 use Rattle.base.specs.formats.Uberblocks.{Uberblock}
 use Rattle.base.specs.history.Past.{Past, new_past}
 use Rattle.base.specs.steps.Logs.{KeptBlock, committed_of, committed_above}
-use Rattle.base.specs.steps.Shown.{Shown, SyncPlan, dirty_of, reserved_of, dirty_total, unsynced_groups}
-use Rattle.base.specs.steps.Exact.{IsExact, AreLocksExact, AreGroupsExact, AreIsolated, AreChargesExact, IsLogExact, IsSyncExact, IsBounded}
+use Rattle.base.specs.steps.Shown.{Shown, SyncPlan}
+use Rattle.base.specs.steps.Exact.{IsExact, AreLocksExact, AreGroupsExact, AreIsolated, IsLogExact, IsSyncExact, IsBounded}
+use Rattle.base.specs.steps.Space.{HasReserves}
 use Rattle.base.specs.crash.Imports.{IsImported}
-
--- a sum of zeros
-no_sum : (f : ℕ → ℕ) → ((n : ℕ) → f n ≡ 0) → (ns : List ℕ) → sum_by f ns ≡ 0
-no_sum f zeros [] = refl
-no_sum f zeros (n ∷ ns) = let first : 0 + f n ≡ 0 = omega (arith, zeros n) in ap (λ a. fold (λ b x. b + f x) a ns) first ∙ no_sum f zeros ns
+use Rattle.base.proofs.steps.KeptReserves.{new_pools_have_reserves}
 
 module _ (u : Uberblock) (blocks : ℕ) (contents : Contents) (created dirty_max : ℕ) (s : Shown) (i : IsImported u blocks contents dirty_max s) (bounded : IsBounded contents)
-    (first : 4 ≤ u.group) (last : u.group + 5 ≤ 2 ^ 60) where
+    (last : u.group + 5 ≤ last_number) where
   abbrev the_past : Past
   the_past = new_past contents created dirty_max
-
-  no_dirt : (g : ℕ) → dirty_of s g ≡ 0
-  no_dirt g = ap (λ o. unwrap_or o 0) (i.dirty g)
-
-  no_reserve : (g : ℕ) → reserved_of s g ≡ 0
-  no_reserve g = ap (λ o. unwrap_or o 0) (i.reserved g)
 
   the_locks : AreLocksExact s the_past
   the_locks = record { held = i.locks; sound = subst (λ locks. AreLocksSound locks) (sym i.locks) (λ j k g h below at_j. cc); numbered = λ j g at. cc; next = i.next_lock; granted = λ j id at. cc }
@@ -57,13 +49,8 @@ module _ (u : Uberblock) (blocks : ℕ) (contents : Contents) (created dirty_max
       none-at : (j : ℕ) (a : Admission) → slice_get s.transactions j ≡ Some a → ⊥
       none-at j a at = let none : slice_get [] j ≡ Some a = ap (λ ts. slice_get ts j) (sym i.transactions) ∙ at in cc
 
-  the_charges : AreChargesExact s the_past
-  the_charges = record {
-    limit = i.limit;
-    dirty = λ g above. no_dirt g;
-    reserved = λ g above. no_reserve g;
-    within = let none : dirty_total s ≡ 0 = no_sum (dirty_of s) no_dirt (unsynced_groups s.line) in omega arith;
-  }
+  reserves : HasReserves (record { shown = s; past = the_past })
+  reserves = new_pools_have_reserves u blocks contents created dirty_max s i
 
   the_log : IsLogExact s the_past
   the_log = record {
@@ -94,7 +81,8 @@ module _ (u : Uberblock) (blocks : ℕ) (contents : Contents) (created dirty_max
     groups = the_groups;
     order = λ j k d l m. absurd (omega (arith, m));
     isolated = the_isolation;
-    charges = the_charges;
+    charges = reserves.charges;
+    blocks = reserves.blocks;
     log = the_log;
     sync = the_sync;
     bounded = subst (λ c. IsBounded c) (sym i.contents_are) bounded;

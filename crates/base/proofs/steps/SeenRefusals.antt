@@ -108,15 +108,15 @@ pub suspensions_are_seen : (refuses : Shown → Option PoolError) (before after 
 suspensions_are_seen refuses before after r = stays-suspended r.state after (r.suspended refl) r.no_later
 
 -- a refusal that is none of a step's own is the first of its tests, and all stands
-step-tested : (now : List ℕ) (s : declared_step.Step) (e : PoolError) (old new : State) → Step ⊥ now s (reply.Refused e) old new → is_untested s e ≡ false → (refusal_of_step s old.shown ≡ Some e) × (new ≡ old)
+step-tested : (now : List ℕ) (s : declared_step.Step) (e : PoolError) (old new : State) → Step ⊥ now s (reply.Refused e) old new → is_untested e ≡ false → (refusal_of_step s old.shown ≡ Some e) × (new ≡ old)
 step-tested now s e old new h seen = by (step_does ⊥ now s (reply.Refused e) old new h).answer
   where
     by : Answered s (reply.Refused e) old new → (refusal_of_step s old.shown ≡ Some e) × (new ≡ old)
     by (tested f is found same) = (found ∙ ap (λ (x : PoolError). Some x) (sym (same-refusal e f is)), same)
-    by (untested f is own loud none) = absurd (false≢true (sym seen ∙ ap (is_untested s) (same-refusal e f is) ∙ own))
+    by (untested f is own loud none) = absurd (false≢true (sym seen ∙ ap is_untested (same-refusal e f is) ∙ own))
     by (made answers none) = absurd (false≢true (sym answers))
 
-pub refusals_are_seen : (s : declared_step.Step) (e : PoolError) (before after : State) → IsMadeBetween ⊥ s (reply.Refused e) before after → is_untested s e ≡ false
+pub refusals_are_seen : (s : declared_step.Step) (e : PoolError) (before after : State) → IsMadeBetween ⊥ s (reply.Refused e) before after → is_untested e ≡ false
     → IsRefusedBetween (refusal_of_step s) e before after
 refusals_are_seen s e before after m seen =
     let h = step-tested m.now s e m.old m.new m.made seen in

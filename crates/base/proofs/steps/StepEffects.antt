@@ -1,6 +1,6 @@
 -- Which effect on a pool each step with its reply has, and how it is refused: so what holds of each effect holds of each step.
-use Rattle.std.proofs.Common.{◌≡◌, ℕ, Bool, true, false, not, List, ◌∷◌, length, refl, ap, sym, subst, ◌∙◌, ◌⊎◌, inl, inr}
-use Rattle.std.specs.Prelude.{Option, Some, None, Result, Ok, Err, is_some, is_none, nat_le, ◌==◌}
+use Rattle.std.proofs.Common.{◌≡◌, ℕ, ◌+◌, ◌<◌, ◌≤◌, Bool, true, false, not, List, ◌∷◌, length, arith, refl, ap, sym, subst, ◌∙◌, ◌⊎◌, inl, inr}
+use Rattle.std.specs.Prelude.{Option, Some, None, Result, Ok, Err, is_some, is_none, nat_lt, nat_le, ◌==◌}
 use Rattle.std.specs.Option.{option_map_or}
 use Rattle.std.proofs.lemmas.Bool.{or_parts, not-false, ltb-false, leb-false, false≢true}
 use Rattle.base.specs.declared.error.PoolError.{PoolError}
@@ -11,9 +11,9 @@ use Rattle.base.specs.declared.step.Step as declared_step
 use Rattle.base.specs.declared.step.Step.TheVariants as step
 use Rattle.base.specs.declared.step.Reply as declared_reply
 use Rattle.base.specs.declared.step.Reply.TheVariants as reply
-use Rattle.base.specs.formats.Limits.{last_number, max_log_record}
+use Rattle.base.specs.formats.Limits.{last_number, max_log_record, kept_back}
 use Rattle.base.specs.formats.Records.{Record}
-use Rattle.base.specs.history.Plans.{log_record_size}
+use Rattle.base.specs.history.Plans.{log_record_size, charge_of}
 use Rattle.base.specs.steps.Additions.{past_after}
 use Rattle.base.specs.steps.Effects.{Effect, HasEffect, MayHave, is_logging, is_turning, state_after}
 use Rattle.base.specs.steps.Effects.Effect.{Stays, AddsGrant, LetsGo, AddsAdmission, AddsEntry, OpensNext, QuiescesMiddle, PlansSync, CountsStep, EndsSync, WritesLog, FlushesLog}
@@ -24,7 +24,7 @@ use Rattle.base.specs.steps.Refusals as refusal
 use Rattle.base.specs.steps.Refusals.{Test, refused_if, first_refusal, object_range}
 use Rattle.base.specs.steps.Runs.{Step, refusal_of_step, reply_of, progress_reply}
 use Rattle.base.specs.steps.SeenLaws.{is_suspending, is_untested}
-use Rattle.base.specs.steps.Shown.{Shown, SyncPlan}
+use Rattle.base.specs.steps.Shown.{Shown, SyncPlan, dirty_total, available}
 use Rattle.base.specs.steps.Stage as stage
 use Rattle.base.specs.steps.Steps as steps
 use Rattle.base.specs.steps.Steps.{State, Answers, SyncProgress, WantsMemory}
@@ -37,7 +37,7 @@ use Rattle.base.proofs.steps.KeptGroups.{none_there}
 -- how a step was answered: it was refused by its tests, or otherwise, or was not refused
 pub data Answered (s : declared_step.Step) (r : declared_reply.Reply) (old new : State) : Type 0 where
   tested : (e : PoolError) → r ≡ reply.Refused e → refusal_of_step s old.shown ≡ Some e → new ≡ old → Answered s r old new
-  untested : (e : PoolError) → r ≡ reply.Refused e → is_untested s e ≡ true → (is_suspending e ≡ true → new.shown.suspended ≡ true) → refusal_of_step s old.shown ≡ None → Answered s r old new
+  untested : (e : PoolError) → r ≡ reply.Refused e → is_untested e ≡ true → (is_suspending e ≡ true → new.shown.suspended ≡ true) → refusal_of_step s old.shown ≡ None → Answered s r old new
   made : is_refusal r ≡ false → refusal_of_step s old.shown ≡ None → Answered s r old new
 
 -- What a step with a reply does: its effect, what it adds to the past, and how it was answered. As of this stage none writes the log.
@@ -74,15 +74,12 @@ module _ (s : declared_step.Step) (old new : State) where
     answer = answer;
   }
 
-  -- such a one of the step's own, which does not say that the pool is suspended
-  own : (e : PoolError) → refusal_of_step s old.shown ≡ None → new ≡ old → is_untested s e ≡ true → is_suspending e ≡ false → StepDoes s (reply.Refused e) old new
-  own e none same is quiet = stays e same (untested e refl is (λ loud. absurd (false≢true (sym quiet ∙ loud))) none)
-
+  -- such a one for want of memory, which does not say that the pool is suspended
   no_memory : (e : PoolError) → refusal_of_step s old.shown ≡ None → WantsMemory old new e → StepDoes s (reply.Refused e) old new
-  no_memory e none wants = own e none wants.1 (ap (is_untested s) wants.0) (ap is_suspending wants.0)
+  no_memory e none wants = stays e wants.1 (untested e refl (ap is_untested wants.0) (λ loud. absurd (false≢true (sym (ap is_suspending wants.0) ∙ loud))) none)
 
   -- a call that the device refuses, without an effect before it
-  device_refuses : (e : PoolError) → refusal_of_step s old.shown ≡ None → new ≡ steps.suspended_state old → is_untested s e ≡ true → StepDoes s (reply.Refused e) old new
+  device_refuses : (e : PoolError) → refusal_of_step s old.shown ≡ None → new ≡ steps.suspended_state old → is_untested e ≡ true → StepDoes s (reply.Refused e) old new
   device_refuses e none is own = record {
     has = record { effect = Stays; may = tt; left = inr is };
     past = ap (λ (x : State). x.past) is ∙ sym (past-refused s e old);
@@ -134,8 +131,14 @@ module _ (s : Shown) where
   none_held group none quiescing =
       not-false (hold_count group s.transactions == 0) (subst (λ o. not (option_map_or (λ g. hold_count g s.transactions == 0) o false) ≡ false) quiescing (no_refusal (refusal.quiesce_tests s) none 1 _ refl))
 
-  none_syncs : refusal.start_refusal s ≡ None → s.line.syncing ≡ None
+  pub none_syncs : refusal.start_refusal s ≡ None → s.line.syncing ≡ None
   none_syncs none = none_there s.line.syncing (or_parts (is_none (refusal.quiesced_group s.line)) (is_some s.line.syncing) (no_refusal (refusal.start_tests s) none 1 _ refl)).1
+
+  pub block_available : refusal.log_write_refusal s ≡ None → 0 < available s
+  block_available none =
+      let enough : kept_back + 1 ≤ available s = ltb-false (available s) (kept_back + 1)
+      (or_parts (nat_lt (available s) (kept_back + 1)) (nat_le last_number s.log.next.number) (no_refusal (refusal.log_write_tests s) none 2 _ refl)).0 in
+      omega arith
 
 -- The effect of each step: a new step has its case here.
 pub step_does : (keeps : Type 0) (now : List ℕ) (s : declared_step.Step) (r : declared_reply.Reply) (old new : State) → Step keeps now s r old new → StepDoes s r old new
@@ -157,13 +160,18 @@ step_does keeps now (step.Unlock owner id) r old new (answer, is, h) =
 step_does keeps now (step.Begin owner plan) r old new (answer, is, h) =
     let s : declared_step.Step = step.Begin owner plan in
     let tests = stage.begin_tests owner.0 plan old.shown in
-    by_answer s old new _ r answer _ _ (λ a none d. does s old new _ (AddsAdmission (steps.next_admission owner.0 plan old.shown)) none (record {
+    by_answer s old new _ r answer _ _ (λ a none d.
+    let wanted : ℕ = refusal.blocks_wanted old.shown.contents plan in
+    let enough : wanted ≤ available old.shown = ltb-false (available old.shown) wanted (no_refusal tests none 8 _ refl) in
+    does s old new _ (AddsAdmission (steps.next_admission owner.0 plan old.shown)) none (record {
       named = refl;
       in_open = refl;
       built = not-false (stage.is_plan_built plan) (no_refusal tests none 2 _ refl);
       small = ltb-false max_log_record (log_record_size plan) (no_refusal tests none 3 _ refl);
       covered = not-false (refusal.is_plan_covered owner.0 plan old.shown.locks) (no_refusal tests none 4 _ refl);
       free = no_refusal tests none 5 _ refl;
+      within = ltb-false old.shown.dirty_max (dirty_total old.shown + charge_of plan) (no_refusal tests none 7 _ refl);
+      room = omega arith;
     }) d.1 (rw d.0 refl) refl refl refl) (no_memory s old new) is h
 step_does keeps now (step.Commit tx ops) r old new (answer, is, h) =
     let s : declared_step.Step = step.Commit tx ops in
@@ -182,6 +190,8 @@ step_does keeps now step.Digest r old new (answer, is, h) =
     by_answer step.Digest old new _ r answer _ _ (λ digest none d. does step.Digest old new _ Stays none tt d.1 refl refl refl refl) (λ e none never. absurd never) is h
 step_does keeps now step.Name r old new (answer, is, h) =
     by_answer step.Name old new _ r answer _ _ (λ name none d. does step.Name old new _ Stays none tt d.1 refl refl refl refl) (λ e none never. absurd never) is h
+step_does keeps now step.Status r old new (answer, is, h) =
+    by_answer step.Status old new _ r answer _ _ (λ status none d. does step.Status old new _ Stays none tt d.1 refl refl refl refl) (λ e none never. absurd never) is h
 step_does keeps now step.CloseGroup r old new (answer, is, h) =
     by_answer step.CloseGroup old new _ r answer _ _ (λ group none d.
     let tests = stage.waits_for_older old.shown (refusal.close_tests old.shown) in
@@ -194,10 +204,7 @@ step_does keeps now step.MarkQuiesced r old new (answer, is, h) =
 step_does keeps now (step.StartSync moment) r old new (answer, is, h) =
     let s : declared_step.Step = step.StartSync moment in
     by_answer s old new _ r answer _ _ (λ group none d. does s old new _ (PlansSync group d.0) none (moment, d.1, none_syncs old.shown none, d.2) d.4 refl refl refl refl)
-    (λ e none fails. elim fails.0 as (λ _. StepDoes s (reply.Refused e) old new) [
-      | inl memory ↦ no_memory s old new e none (memory, fails.1)
-      | inr full ↦ own s old new e none fails.1 (ap (is_untested s) full) (ap is_suspending full)
-    ]) is h
+    (no_memory s old new) is h
 step_does keeps now step.SyncStep r old new (answer, is, h) =
     by_answer step.SyncStep old new progress_reply r answer _ _ progress (λ e none fails. device_refuses step.SyncStep old new e none fails.1 (by_device e fails.0)) is h
   where
@@ -206,24 +213,24 @@ step_does keeps now step.SyncStep r old new (answer, is, h) =
     progress More none d = does step.SyncStep old new reply.More (CountsStep d.1) none (d.3, d.4.0) d.4.1 refl refl refl refl
     progress (Synced g) none d = does step.SyncStep old new _ (EndsSync d.0 d.1) none (d.2, d.3) d.4.2 (rw d.4.1 refl) refl refl refl
 
-    by_device : (e : PoolError) → (e ≡ error.Write) ⊎ (e ≡ error.Flush) → is_untested step.SyncStep e ≡ true
-    by_device e (inl write) = ap (is_untested step.SyncStep) write
-    by_device e (inr flush) = ap (is_untested step.SyncStep) flush
+    by_device : (e : PoolError) → (e ≡ error.Write) ⊎ (e ≡ error.Flush) → is_untested e ≡ true
+    by_device e (inl write) = ap is_untested write
+    by_device e (inr flush) = ap is_untested flush
 
 -- A write of the log has its effect also where the device refuses it, and a flush has one where the device answers it.
 pub log_step_has : (old new : State) → IsLogStep old new → HasEffect old new
-log_step_has old new (inl (answer, h)) = write answer (refusal.log_write_refusal old.shown) h
+log_step_has old new (inl (answer, h)) = write answer (refusal.log_write_refusal old.shown) refl h
   where
     Refused : PoolError → Type 0
     Refused e = steps.WantsMemory old new e
         ⊎ ((e ≡ error.Write) × ((taken rest : List Record) × (address : ℕ) × steps.TakesForLog old taken rest address × (new ≡ steps.suspended_state (steps.state_after_log_write taken rest address old))))
 
-    write : (a : Result ℕ PoolError) (o : Option PoolError) → Answers o a old new
+    write : (a : Result ℕ PoolError) (o : Option PoolError) → refusal.log_write_refusal old.shown ≡ o → Answers o a old new
         (λ count. (taken rest : List Record) × (address : ℕ) × steps.TakesForLog old taken rest address × (count ≡ length taken) × (new ≡ steps.state_after_log_write taken rest address old)) Refused → HasEffect old new
-    write (Ok count) None d = record { effect = WritesLog d.0 d.1 d.2; may = d.3; left = inl d.5 }
-    write (Err e) None (inl memory) = record { effect = Stays; may = tt; left = inl memory.1 }
-    write (Err e) None (inr (is, (taken, rest, address, takes, same))) = record { effect = WritesLog taken rest address; may = takes; left = inr same }
-    write a (Some e) d = record { effect = Stays; may = tt; left = inl d.1 }
+    write (Ok count) None none d = record { effect = WritesLog d.0 d.1 d.2; may = (d.3, block_available old.shown none); left = inl d.5 }
+    write (Err e) None none (inl memory) = record { effect = Stays; may = tt; left = inl memory.1 }
+    write (Err e) None none (inr (is, (taken, rest, address, takes, same))) = record { effect = WritesLog taken rest address; may = (takes, block_available old.shown none); left = inr same }
+    write a (Some e) refused d = record { effect = Stays; may = tt; left = inl d.1 }
 log_step_has old new (inr (answer, h)) = flush answer (refusal.log_flush_refusal old.shown) h
   where
     flush : (a : Result (Unit {0}) PoolError) (o : Option PoolError) → Answers o a old new (λ _. new ≡ steps.state_after_log_flush old) (λ e. (e ≡ error.Flush) × (new ≡ steps.suspended_state old)) → HasEffect old new

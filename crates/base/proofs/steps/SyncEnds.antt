@@ -11,7 +11,7 @@ use Rattle.base.specs.declared.step.Reply.{Reply}
 use Rattle.base.specs.declared.step.Reply.TheVariants as reply
 use Rattle.base.specs.steps.Refusals as refusal
 use Rattle.base.specs.steps.Runs.{Step, progress_reply, refusal_of_step, reply_of}
-use Rattle.base.specs.steps.Shown.{Shown, SyncPlan}
+use Rattle.base.specs.steps.Shown.{SyncPlan, status_of}
 use Rattle.base.specs.steps.Steps as steps
 use Rattle.base.specs.steps.Steps.{State, Answers, SyncProgress}
 use Rattle.base.specs.steps.Steps.SyncProgress.{More, Synced}
@@ -21,19 +21,13 @@ use Rattle.base.proofs.common.KeptLists.{Some-injective}
 use Rattle.base.proofs.steps.StepEffects.{Answered, step_does}
 use Rattle.base.proofs.steps.StepEffects.Answered.{tested, untested, made}
 
--- the name is told as ever
-named_step : (answer : Result (List ℕ) PoolError) (r : Reply) (old new : State) → r ≡ reply_of (λ name. reply.Name name) answer
-    → Answers None answer old new (λ name. steps.Name name old new) steps.Never → (new ≡ old) × (r ≡ reply.Name old.shown.contents.name)
-named_step (Ok name) r old new told h = (h.1, told ∙ ap (λ (x : List ℕ). reply.Name x) h.0)
-named_step (Err e) r old new told h = absurd h
+-- what no test refuses is told as ever
+told_step : {A : Type 0} (make : A → Reply) (right : A) (answer : Result A PoolError) (r : Reply) (old new : State) → r ≡ reply_of make answer
+    → Answers None answer old new (λ a. (a ≡ right) × (new ≡ old)) steps.Never → (new ≡ old) × (r ≡ make right)
+told_step make right (Ok a) r old new told h = (h.1, told ∙ ap make h.0)
+told_step make right (Err e) r old new told h = absurd h
 
--- the first test of each other step refuses it where the pool is suspended
-suspended_first : (s : declared_step.Step) (t : Shown) → t.suspended ≡ true
-    → (s ≡ step.Name) ⊎ ((refusal_of_step s t ≡ Some error.Suspended) × (suspended_reply t s ≡ reply.Refused error.Suspended))
-suspended_first step.Name t is = inl refl
-suspended_first _ t is = inr (rw is refl, refl)
-
--- so that is the answer, and nothing changes
+-- where the first test refuses a step, that is the answer, and nothing changes
 refused_step : (now : List ℕ) (s : declared_step.Step) (r : Reply) (old new : State) → refusal_of_step s old.shown ≡ Some error.Suspended → Step ⊥ now s r old new
     → (new ≡ old) × (r ≡ reply.Refused error.Suspended)
 refused_step now s r old new first h = by (step_does ⊥ now s r old new h).answer
@@ -43,13 +37,12 @@ refused_step now s r old new first h = by (step_does ⊥ now s r old new h).answ
     by (untested e told own loud none) = absurd (let no_way : None ≡ Some error.Suspended = sym none ∙ first in cc)
     by (made answers none) = absurd (let no_way : None ≡ Some error.Suspended = sym none ∙ first in cc)
 
+-- the first test of each step but the two that only tell refuses it where the pool is suspended
 suspended_step : (now : List ℕ) (s : declared_step.Step) (r : Reply) (old new : State) → old.shown.suspended ≡ true → Step ⊥ now s r old new
     → (new ≡ old) × (r ≡ suspended_reply old.shown s)
-suspended_step now s r old new is h = by (suspended_first s old.shown is)
-  where
-    by : (s ≡ step.Name) ⊎ ((refusal_of_step s old.shown ≡ Some error.Suspended) × (suspended_reply old.shown s ≡ reply.Refused error.Suspended)) → (new ≡ old) × (r ≡ suspended_reply old.shown s)
-    by (inl named) = rw named (let (answer, told, does) : Step ⊥ now step.Name r old new = subst (λ (x : declared_step.Step). Step ⊥ now x r old new) named h in named_step answer r old new told does)
-    by (inr first) = let refused = refused_step now s r old new first.0 h in (refused.0, refused.1 ∙ sym first.1)
+suspended_step now step.Name r old new is (answer, told, does) = told_step (λ name. reply.Name name) old.shown.contents.name answer r old new told does
+suspended_step now step.Status r old new is (answer, told, does) = told_step (λ status. reply.Status status) (status_of old.shown) answer r old new told does
+suspended_step now s r old new is h = refused_step now s r old new (rw is refl) h
 
 suspended_run : (ss : List declared_step.Step) (rs : List Reply) (s new : State) → s.shown.suspended ≡ true → IsRun ⊥ ss rs s new
     → (new ≡ s) × (rs ≡ map (suspended_reply s.shown) ss)

@@ -37,7 +37,7 @@ module _ (s : Shown) (p : Past) (explained : IsExplainedNow s p) where
   pub entry-built : (i : ℕ) (e : Entry) → slice_get p.entries i ≡ Some e → list_all is_shape_built (map shape_of e.ops) ≡ true
   entry-built i e at =
       let c = explained.exact.groups.members.committed i e at in
-      ap (λ plan. list_all is_shape_built plan) c.3 ∙ explained.exact.staged.built e.tx c.0 c.1
+      ap (λ plan. list_all is_shape_built plan) c.3 ∙ explained.staged.built e.tx c.0 c.1
 
   module _ (group : ℕ) (idle : s.line.syncing ≡ None) (middle : s.line.middle ≡ Some (record { group = group; quiesced = true })) where
     -- the group is the one after the synced one, and no entry is above it
@@ -46,7 +46,7 @@ module _ (s : Shown) (p : Past) (explained : IsExplainedNow s p) where
         ∙ ap (λ (o : Option ℕ). unwrap_or o s.line.synced + 1) idle
 
     all_up_to : AreUpTo group p.entries
-    all_up_to = subst (λ (o : Option Middle). IfSome o (λ (m : Middle). AreUpTo m.group p.entries)) middle explained.exact.staged.middle
+    all_up_to = subst (λ (o : Option Middle). IfSome o (λ (m : Middle). AreUpTo m.group p.entries)) middle explained.staged.middle
 
     -- the operations of the group lead from the synced contents to those of now
     pub group-follows : (synced : Contents) → replay (entries_up_to s.line.synced p.entries) p.base ≡ Ok synced → replay (entries_in group p.entries) synced ≡ Ok s.contents

@@ -106,7 +106,7 @@ module _ (now : List ℕ) (s : Shown) (pointers : Place → Pointer) (past : Pas
     -- and the contents are what the entries up to it leave
     replayed : replay (entries_up_to x.sync.group past.entries) past.base ≡ Ok s.contents
     replayed =
-        let all : AreUpTo x.sync.group past.entries = subst (λ (o : Option ℕ). IfSome o (λ group. AreUpTo group past.entries)) x.sync.syncing explained.exact.staged.syncing in
+        let all : AreUpTo x.sync.group past.entries = subst (λ (o : Option ℕ). IfSome o (λ group. AreUpTo group past.entries)) x.sync.syncing explained.staged.syncing in
         ap (λ es. replay es past.base) (up_to-all x.sync.group past.entries all) ∙ explained.history.replays
 
     shown : AreLabelsShown now s (Some old) past → ShowsSyncing later s past

@@ -45,7 +45,7 @@ no_more (x ∷ xs) = ap (λ l. x ∷ l) (no_more xs)
 module _ (now : List ℕ) (s : Shown) (p : Past) (pointers : Place → Pointer) (new : NewTree) (x : IsStored now s pointers p) (y : IsSyncing now s pointers new p) (explained : IsExplainedNow s p) (done : length new.blocks ≤ new.done) where
   -- the contents are those of the entries up to its group
   group-up_to : AreUpTo y.group p.entries
-  group-up_to = subst (λ (o : Option ℕ). IfSome o (λ group. AreUpTo group p.entries)) y.syncing explained.exact.staged.syncing
+  group-up_to = subst (λ (o : Option ℕ). IfSome o (λ group. AreUpTo group p.entries)) y.syncing explained.staged.syncing
 
   pub group-replayed : replay (entries_up_to y.group p.entries) p.base ≡ Ok s.contents
   group-replayed = ap (λ (es : List Entry). replay es p.base) (up_to-all y.group p.entries group-up_to) ∙ explained.history.replays

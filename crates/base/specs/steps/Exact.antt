@@ -83,6 +83,7 @@ pub record IsExact (s : Shown) (past : Past) : Type 0 where
   pub order : IsInGroupOrder past.entries
   pub isolated : AreIsolated s past
   pub charges : AreChargesExact s past
+  pub blocks : HasReservedBlocks s
   pub log : IsLogExact s past
   pub bounded : IsBounded s.contents
   pub sync : IsSyncExact s

@@ -1,36 +1,25 @@
--- What the built steps keep exact: all but charges and reservations, which no step keeps yet.
+-- What each step keeps: what is shown of a pool is exact, and its entries are a history that leads to its contents.
 use Rattle.std.specs.Prelude.{ℕ, ◌≡◌, ◌≤◌, ◌+◌, ◌⊎◌, List, Result}
 use Rattle.base.specs.declared.error.PoolError.{PoolError}
 use Rattle.base.specs.declared.step.Step as declared_step
 use Rattle.base.specs.declared.step.Reply as declared_reply
 use Rattle.base.specs.formats.Limits.{last_number}
 use Rattle.base.specs.history.Contents.{Contents}
-use Rattle.base.specs.history.History.{IsHistory, IsInGroupOrder}
+use Rattle.base.specs.history.History.{IsHistory}
 use Rattle.base.specs.formats.Uberblocks.{Uberblock}
 use Rattle.base.specs.history.Past.{Past, new_past}
 use Rattle.base.specs.steps.Shown.{Shown}
 use Rattle.base.specs.steps.Steps.{State, LogWrite, LogFlush}
 use Rattle.base.specs.steps.Runs.{Step, Run}
 use Rattle.base.specs.steps.Stage.{IsStaged}
-use Rattle.base.specs.steps.Exact.{AreLocksExact, AreGroupsExact, AreIsolated, IsLogExact, IsSyncExact, IsBounded}
+use Rattle.base.specs.steps.Exact.{IsExact, IsBounded}
 use Rattle.base.specs.crash.Imports.{IsImported}
 
--- what is shown is exactly what the past of the run says
-pub record IsExactNow (s : Shown) (past : Past) : Type 0 where
-  pub locks : AreLocksExact s past
-  pub groups : AreGroupsExact s past
-  pub order : IsInGroupOrder past.entries
-  pub isolated : AreIsolated s past
-  pub log : IsLogExact s past
-  pub bounded : IsBounded s.contents
-  pub sync : IsSyncExact s
-  pub limit : s.dirty_max ≡ past.dirty_max
-  pub staged : IsStaged s past
-
--- and the entries are a history that leads to the contents
+-- what is shown is exactly what the past of the run says, and the entries are a history that leads to the contents
 pub record IsExplainedNow (s : Shown) (past : Past) : Type 0 where
-  pub exact : IsExactNow s past
+  pub exact : IsExact s past
   pub history : IsHistory past.entries past.base s.contents
+  pub staged : IsStaged s past
 
 -- steps one after another, each over some bytes of a device
 abbrev pub IsRun : Type 0 → List declared_step.Step → List declared_reply.Reply → State → State → Type 0

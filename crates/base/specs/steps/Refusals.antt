@@ -97,16 +97,20 @@ is_plan_blocked plan transactions = list_any (λ (a : Admission). plans_overlap 
 abbrev pub blocks_wanted : Contents → List Shape → ℕ
 blocks_wanted c plan = estimate_of plan + (if is_shrinking c plan then 0 else kept_back)
 
-abbrev pub whole_begin_tests : ℕ → List Shape → Shown → List Test
-whole_begin_tests owner plan s =
-    refused_if s.suspended Suspended
-    ∷ refused_if (not (is_plan_allowed plan)) BadRange
-    ∷ refused_if (nat_lt max_log_record (log_record_size plan)) TooLarge
+-- the tests of a begin behind the one of its plan's limits
+abbrev pub admission_tests : ℕ → List Shape → Shown → List Test
+admission_tests owner plan s =
+    refused_if (nat_lt max_log_record (log_record_size plan)) TooLarge
     ∷ refused_if (not (is_plan_covered owner plan s.locks)) NotLocked
     ∷ refused_if (is_plan_blocked plan s.transactions) Busy
     ∷ refused_if (nat_le max_transactions (length s.transactions) || nat_lt last_number s.next_tx) TooMany
     ∷ refused_if (nat_lt s.dirty_max (dirty_total s + charge_of plan)) Throttled
     ∷ refused_if (nat_lt (available s) (blocks_wanted s.contents plan)) NoSpace ∷ []
+
+abbrev pub whole_begin_tests : ℕ → List Shape → Shown → List Test
+whole_begin_tests owner plan s =
+    refused_if s.suspended Suspended
+    ∷ refused_if (not (is_plan_allowed plan)) BadRange ∷ admission_tests owner plan s
 
 abbrev pub whole_begin_refusal : ℕ → List Shape → Shown → Option PoolError
 whole_begin_refusal owner plan s = first_refusal (whole_begin_tests owner plan s)

@@ -53,6 +53,8 @@ Step keeps now step.Digest given old new =
     Replies (λ digest. reply.Digest digest) given (λ answer. stage.Digest answer old new)
 Step keeps now step.Name given old new =
     Replies (λ name. reply.Name name) given (λ answer. steps.Answers None answer old new (λ name. steps.Name name old new) steps.Never)
+Step keeps now step.Status given old new =
+    Replies (λ status. reply.Status status) given (λ answer. steps.Answers None answer old new (λ status. steps.Status status old new) steps.Never)
 Step keeps now step.CloseGroup given old new =
     Replies (λ group. reply.Opened (record { 0 = group })) given
     (λ answer. stage.CloseGroup answer old new)
@@ -76,6 +78,7 @@ tests_of_step (step.Read owner n range) s = refusal.read_tests owner.0 (object_r
 tests_of_step (step.Length n) s = refusal.length_tests n.0 s
 tests_of_step step.Digest s = refusal.digest_tests s
 tests_of_step step.Name s = []
+tests_of_step step.Status s = []
 tests_of_step step.CloseGroup s = stage.waits_for_older s (refusal.close_tests s)
 tests_of_step step.MarkQuiesced s = refusal.quiesce_tests s
 tests_of_step (step.StartSync moment) s = refusal.start_tests s

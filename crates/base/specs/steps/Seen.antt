@@ -7,13 +7,14 @@ use Rattle.base.specs.declared.operation.Op.{Op}
 use Rattle.base.specs.declared.operation.Shape.{Shape}
 use Rattle.base.specs.declared.range.Mode.{Mode}
 use Rattle.base.specs.declared.step.Step as declared_step
+use Rattle.base.specs.declared.status.Status.{Status}
 use Rattle.base.specs.declared.step.Reply as declared_reply
 use Rattle.base.specs.history.Contents.{Contents, length_of}
 use Rattle.base.specs.history.Plans.{NumberRange, charge_of}
 use Rattle.base.specs.history.History.{Entry, replay}
 use Rattle.base.specs.steps.Locks.{Grant, is_in}
 use Rattle.base.specs.formats.Digest.{digest_of}
-use Rattle.base.specs.steps.Shown.{Shown}
+use Rattle.base.specs.steps.Shown.{Shown, status_of}
 use Rattle.base.specs.steps.Steps.{State, bytes_in}
 use Rattle.base.specs.steps.Runs.{Step}
 use Rattle.base.specs.steps.ExactNow.{IsExplainedNow, GoesOn}
@@ -76,6 +77,14 @@ IsNameBetween name before after = (c : Contents) × IsContentsBetween before aft
 
 abbrev pub IsDigestBetween : List ℕ → State → State → Type 0
 IsDigestBetween digest before after = (c : Contents) × IsContentsBetween before after c × (digest_of c ≡ digest)
+
+-- status answered this: the groups and sums of some state between the two that its past explains
+pub record IsStatusBetween (status : Status) (before after : State) : Type 0 where
+  pub state : State
+  pub no_earlier : GoesOn before state
+  pub no_later : GoesOn state after
+  pub explained : IsExplainedNow state.shown state.past
+  pub told : status ≡ status_of state.shown
 
 -- durable answered yes, or fsync Ok: the receipt's group is synced, or the entry at its ordinal is there, has its group and is acknowledged
 abbrev pub IsKnownDurable : ℕ → ℕ → State → Type 0

@@ -75,17 +75,16 @@ RefusalsSuspend = (s : declared_step.Step) (e : PoolError) (before after : State
 abbrev pub SuspensionsAreSeen : Type 0
 SuspensionsAreSeen = (refuses : Shown → Option PoolError) (before after : State) → IsRefusedBetween refuses error.Suspended before after → after.shown.suspended ≡ true
 
--- whether a step may be refused this by what its tests don't see: memory, the device, and at this stage the blocks that a sync wants
-abbrev pub is_untested : declared_step.Step → PoolError → Bool
-is_untested _ error.NoMemory = true
-is_untested _ error.Read = true
-is_untested _ error.Write = true
-is_untested _ error.Flush = true
-is_untested _ (error.Damaged kind address) = true
-is_untested (step.StartSync moment) error.NoSpace = true
-is_untested _ _ = false
+-- whether a step may be refused this by what its tests don't see: memory and the device
+abbrev pub is_untested : PoolError → Bool
+is_untested error.NoMemory = true
+is_untested error.Read = true
+is_untested error.Write = true
+is_untested error.Flush = true
+is_untested (error.Damaged kind address) = true
+is_untested _ = false
 
 -- every other refusal of a step is that of its tests in some state between
 abbrev pub RefusalsAreSeen : Type 0
-RefusalsAreSeen = (s : declared_step.Step) (e : PoolError) (before after : State) → IsMadeBetween ⊥ s (reply.Refused e) before after → is_untested s e ≡ false
+RefusalsAreSeen = (s : declared_step.Step) (e : PoolError) (before after : State) → IsMadeBetween ⊥ s (reply.Refused e) before after → is_untested e ≡ false
     → IsRefusedBetween (refusal_of_step s) e before after

@@ -39,16 +39,16 @@ SyncsHaveRoom = (s : State) (group : ℕ) (synced : Contents) (had_block : Place
     → s.shown.line.syncing ≡ None → quiesced_group s.shown.line ≡ Some group
     → length (written_places (ops_of_group group s.past.entries) synced had_block) ≤ free_count s.shown
 
--- the steps that charge, reserve or take, whatever they answer; a sync starts over a device that keeps the disk model
+-- the steps that charge, reserve or take, whatever they answer, over a device of which nothing is known
 pub data IsChargedStep (old new : State) : Type 0 where
   Begins : (owner : ℕ) → (plan : List Shape) → (answer : Result (ℕ × ℕ) PoolError) → WholeBegin owner plan answer old new → IsChargedStep old new
   Aborts : (tx : ℕ) → (answer : Result (Unit {0}) PoolError) → Abort tx answer old new → IsChargedStep old new
   Closes : (answer : Result ℕ PoolError) → WholeCloseGroup answer old new → IsChargedStep old new
-  Starts : (now : List ℕ) → (moment : ℕ) → (answer : Result ℕ PoolError) → WholeStartSync (Unit {0}) now moment answer old new → IsChargedStep old new
+  Starts : (now : List ℕ) → (moment : ℕ) → (answer : Result ℕ PoolError) → WholeStartSync ⊥ now moment answer old new → IsChargedStep old new
   Syncs : (answer : Result SyncProgress PoolError) → SyncStep answer old new → IsChargedStep old new
   WritesLog : (answer : Result ℕ PoolError) → LogWrite answer old new → IsChargedStep old new
 
--- the other steps, over a device of which nothing is known; name, status and durable, which only tell, change nothing
+-- the other steps, over such a device; name, status and durable, which only tell, change nothing
 pub data IsUnchargedStep (old new : State) : Type 0 where
   Locks : (owner : ℕ) → (range : NumberRange) → (mode : Mode) → (answer : Result ℕ PoolError) → Lock owner range mode answer old new → IsUnchargedStep old new
   LocksAppend : (owner n : ℕ) → (answer : Result (ℕ × ℕ × ℕ) PoolError) → LockAppend owner n answer old new → IsUnchargedStep old new

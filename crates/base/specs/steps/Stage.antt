@@ -1,5 +1,5 @@
 -- What is built so far of the steps, where it is less than the whole profile. Later these words go, one by one.
-use Rattle.std.specs.Prelude.{ℕ, ◌≡◌, ◌+◌, ◌&&◌, ◌||◌, ◌⊎◌, ◌++◌, ◌≤◌, Bool, true, false, not, List, [], ◌∷◌, length, nat_lt, nat_le, slice_get, All, Option, Some, IfSome, is_some, Result, Ok}
+use Rattle.std.specs.Prelude.{ℕ, ◌≡◌, ◌+◌, ◌≤◌, ◌&&◌, ◌||◌, Bool, true, false, not, List, ◌∷◌, slice_get, All, Option, Some, IfSome, is_some, Result, Ok}
 use Rattle.std.specs.List.{list_all}
 use Rattle.std.specs.FinMap as finite
 use Rattle.base.specs.declared.error.PoolError.{PoolError}
@@ -8,26 +8,25 @@ use Rattle.base.specs.declared.operation.Op.{Op}
 use Rattle.base.specs.declared.operation.Shape.{Shape}
 use Rattle.base.specs.declared.operation.Shape.TheVariants as shape
 use Rattle.base.specs.formats.Digest.{digest_of}
-use Rattle.base.specs.formats.Limits.{last_number, max_log_record, max_transactions}
 use Rattle.base.specs.history.Contents.{Contents}
-use Rattle.base.specs.history.Plans.{NumberRange, is_plan_allowed, log_record_size}
+use Rattle.base.specs.history.Plans.{NumberRange, is_plan_allowed}
 use Rattle.base.specs.history.History.{Entry, apply_all}
 use Rattle.base.specs.steps.Groups.{Line, Middle, Admission}
 use Rattle.base.specs.history.Past.{Past}
 use Rattle.base.specs.formats.Records.{is_content_allowed}
 use Rattle.base.specs.steps.Shown.{Shown, SyncPlan}
 use Rattle.base.specs.steps.Refusals as refusal
-use Rattle.base.specs.steps.Refusals.{Test, refused_if, first_refusal, is_plan_covered, is_plan_blocked}
-use Rattle.base.specs.steps.Steps.{State, Answers, Never, WantsMemory, next_admission, state_after_commit, bytes_in, with_line, line_after_close, IsPlanned, TakesForEach, state_after_start}
+use Rattle.base.specs.steps.Refusals.{Test, refused_if, first_refusal}
+use Rattle.base.specs.steps.Steps.{State, Answers, Never, WantsMemory, next_admission, state_after_charged_admission, state_after_commit, bytes_in, with_line, line_after_close, IsPlanned, TakesForEach, state_after_start}
 
 -- whether a group between the synced one and the open one is there: no transaction begins or commits then, and no group is closed
 abbrev pub has_older_group : Line → Bool
 has_older_group l = is_some l.middle || is_some l.syncing
 
--- plans create and write; other shapes are outside the limits
+-- plans create, remove and write; other shapes are outside the limits
 abbrev pub is_shape_built : Shape → Bool
 is_shape_built (shape.Create n) = true
-is_shape_built (shape.Remove n) = false
+is_shape_built (shape.Remove n) = true
 is_shape_built (shape.Write n offset count) = true
 is_shape_built (shape.SetLength n new) = false
 is_shape_built (shape.SetName count) = false
@@ -41,30 +40,16 @@ waits_for_older s tests =
     refused_if s.suspended error.Suspended
     ∷ refused_if (has_older_group s.line) error.NotReady ∷ tests
 
--- the tests of a begin: nothing is charged or reserved
+-- the tests of a begin
 abbrev pub begin_tests : ℕ → List Shape → Shown → List Test
-begin_tests owner plan s = waits_for_older s (
-    refused_if (not (is_plan_built plan)) error.BadRange
-    ∷ refused_if (nat_lt max_log_record (log_record_size plan)) error.TooLarge
-    ∷ refused_if (not (is_plan_covered owner plan s.locks)) error.NotLocked
-    ∷ refused_if (is_plan_blocked plan s.transactions) error.Busy
-    ∷ refused_if (nat_le max_transactions (length s.transactions) || nat_lt last_number s.next_tx) error.TooMany ∷ [])
+begin_tests owner plan s = waits_for_older s (refused_if (not (is_plan_built plan)) error.BadRange ∷ refusal.admission_tests owner plan s)
 
 abbrev pub begin_refusal : ℕ → List Shape → Shown → Option PoolError
 begin_refusal owner plan s = first_refusal (begin_tests owner plan s)
 
-abbrev pub state_after_admission : Admission → State → State
-state_after_admission a s = record {
-  shown = record s.shown {
-    transactions = s.shown.transactions ++ a ∷ [];
-    next_tx = s.shown.next_tx + 1;
-  };
-  past = record s.past { admissions = s.past.admissions ++ a ∷ [] };
-}
-
 abbrev pub Begin : ℕ → List Shape → Result (ℕ × ℕ) PoolError → State → State → Type 0
 Begin owner plan answer old new = Answers (begin_refusal owner plan old.shown) answer old new
-    (λ a. (a ≡ (old.shown.next_tx, old.shown.line.open_group)) × (new ≡ state_after_admission (next_admission owner plan old.shown) old)) (WantsMemory old new)
+    (λ a. (a ≡ (old.shown.next_tx, old.shown.line.open_group)) × (new ≡ state_after_charged_admission (next_admission owner plan old.shown) old)) (WantsMemory old new)
 
 abbrev pub commit_refusal : ℕ → List Op → Shown → Option PoolError
 commit_refusal tx ops s = first_refusal (waits_for_older s (refusal.commit_tests tx ops s))
@@ -92,12 +77,12 @@ abbrev pub CloseGroup : Result ℕ PoolError → State → State → Type 0
 CloseGroup answer old new = Answers (close_refusal old.shown) answer old new
     (λ group. (group ≡ old.shown.line.open_group + 1) × (new ≡ with_line (line_after_close old.shown.line) old)) Never
 
--- a sync may want memory, or more blocks than are free, and then all stands
+-- a sync may want memory, and then all stands: what is reserved for its group suffices for the blocks that it takes
 abbrev pub StartSync : Type 0 → List ℕ → ℕ → Result ℕ PoolError → State → State → Type 0
 StartSync keeps now moment answer old new = Answers (refusal.start_refusal old.shown) answer old new
     (λ group. (plan : SyncPlan) × (refusal.quiesced_group old.shown.line ≡ Some group)
     × IsPlanned old moment group plan × (keeps → TakesForEach now old group plan) × (new ≡ state_after_start group plan old))
-    (λ e. ((e ≡ error.NoMemory) ⊎ (e ≡ error.NoSpace)) × (new ≡ old))
+    (WantsMemory old new)
 
 -- no entry is of a group above this one
 abbrev pub AreUpTo : ℕ → List Entry → Type 0

@@ -1,5 +1,5 @@
 -- What each step answers, and what it makes of a pool and of the past of its run. The words with Whole are the steps that Stage has less of.
-use Rattle.std.specs.Prelude.{ℕ, ◌≡◌, ◌<◌, ◌-◌, ◌+◌, ◌==◌, ◌⊎◌, ◌++◌, Bool, true, false, not, List, [], ◌∷◌, map, filter, length, take, Option, Some, None, Result, Ok, Err, IfSome}
+use Rattle.std.specs.Prelude.{ℕ, ◌≡◌, ◌≤◌, ◌<◌, ◌-◌, ◌+◌, ◌==◌, ◌⊎◌, ◌++◌, Bool, true, false, not, List, [], ◌∷◌, map, filter, length, take, Option, Some, None, Result, Ok, Err, IfSome}
 use Rattle.std.specs.List.{flat_map, list_all}
 use Rattle.std.specs.FinMap as finite
 use Rattle.std.specs.FinSet as set
@@ -11,7 +11,7 @@ use Rattle.base.specs.declared.range.Mode.{Mode}
 use Rattle.base.specs.declared.range.Mode.TheVariants.{Writer}
 use Rattle.base.specs.declared.status.Status as declared_status
 use Rattle.base.specs.history.Contents.{Contents, length_of}
-use Rattle.base.specs.history.Plans.{NumberRange, estimate_of, charge_of}
+use Rattle.base.specs.history.Plans.{NumberRange, shape_of, estimate_of, charge_of}
 use Rattle.base.specs.history.History.{Entry, apply_all, replay, entries_up_to, entries_in}
 use Rattle.base.specs.formats.Fields.{part}
 use Rattle.base.specs.steps.Locks.{Grant}
@@ -186,10 +186,12 @@ ops_of_group group entries = flat_map (λ (e : Entry). e.ops) (entries_in group 
 abbrev pub lowest_free : ℕ → Shown → List ℕ
 lowest_free count s = take count (rising s.free)
 
--- a sync of a group takes the lowest free addresses, has a step for each and its other steps, and names the log header for its group
+-- A sync of a group takes the lowest free addresses, no more than its operations are estimated at, has a step for each and its other
+-- steps, and names the log header for its group.
 pub record IsPlanned (s : State) (moment group : ℕ) (plan : SyncPlan) : Type 0 where
   pub moment_is : plan.moment ≡ moment
   pub taken : plan.taken ≡ lowest_free (length plan.taken) s.shown
+  pub fits : length plan.taken ≤ estimate_of (map shape_of (ops_of_group group s.past.entries))
   pub steps : plan.steps_left ≡ length plan.taken + syncs.other_step_count (ops_of_group group s.past.entries)
   pub header : plan.header ≡ header_for group s.shown.log
 
