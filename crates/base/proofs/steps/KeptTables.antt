@@ -31,7 +31,7 @@ use Rattle.base.specs.steps.Steps.{State}
 use Rattle.base.specs.steps.Stage as stage
 use Rattle.base.specs.steps.Space.{HasReserves}
 use Rattle.base.specs.steps.Effects.{Effect, HasEffect, MayHave, MayAddEntry, state_after}
-use Rattle.base.specs.steps.Effects.Effect.{Stays, Suspends, AddsGrant, LetsGo, AddsAdmission, AddsEntry, OpensNext, QuiescesMiddle, PlansSync, CountsStep, EndsSync, WritesLog, FlushesLog}
+use Rattle.base.specs.steps.Effects.Effect.{Suspends, AddsGrant, LetsGo, AddsAdmission, AddsEntry, OpensNext, QuiescesMiddle, PlansSync, CountsStep, EndsSync, WritesLog, FlushesLog}
 use Rattle.base.specs.steps.Runs.{Step}
 use Rattle.base.specs.steps.ExactNow.{IsExplainedNow, IsRun, IsLogStep}
 use Rattle.base.proofs.history.Cuts.{histories_grow}

@@ -1,5 +1,5 @@
 -- A pool that was just imported is exact with the empty past: the definitions are not vacuous.
-use Rattle.std.proofs.Common.{◌≡◌, ℕ, ◌+◌, ◌^◌, ◌<◌, ◌≤◌, List, [], ◌∷◌, ◌++◌, refl, ap, sym, subst, ◌∙◌, arith}
+use Rattle.std.proofs.Common.{◌≡◌, ℕ, ◌+◌, ◌<◌, ◌≤◌, [], ◌++◌, ap, sym, subst, ◌∙◌, arith}
 use Rattle.std.specs.Prelude.{Option, Some, None, slice_get, IfSome, is_some, map}
 use Rattle.std.specs.List.{flat_map}
 use Rattle.base.specs.history.Contents.{Contents}
