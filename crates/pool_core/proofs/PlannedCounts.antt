@@ -1,5 +1,5 @@
 -- The places that the sync of a group writes, told by the changes of its plan: it takes one block for each, in their order.
-use Rattle.std.proofs.Common.{◌≡◌, ℕ, ◌<◌, ◌≤◌, Bool, List, [], length, map, refl, ap, sym, subst, ◌∙◌}
+use Rattle.std.proofs.Common.{◌≡◌, ℕ, ◌≤◌, Bool, List, [], length, map, refl, ap, sym, subst, ◌∙◌, arith}
 use Rattle.std.specs.Prelude.{Some, None, Ok, ◌==◌, not}
 use Rattle.std.proofs.lemmas.List.{length-map}
 use Rattle.base.specs.declared.names.ObjectId.{ObjectId}
@@ -11,20 +11,22 @@ use Rattle.base.specs.history.History.{entries_up_to, replay}
 use Rattle.base.specs.history.Plans.{estimate_of, shape_of}
 use Rattle.base.specs.steps.ExactNow.{IsExplainedNow}
 use Rattle.base.specs.history.Past.{Past}
-use Rattle.base.specs.tree.Places.{Place, has_block, names_block}
+use Rattle.base.specs.tree.Places.{Place, has_block}
 use Rattle.base.specs.tree.Places.Place.{Data}
 use Rattle.base.specs.tree.PlannedTrees.{NewBlock}
-use Rattle.base.specs.steps.Shown.{Shown, SyncPlan}
+use Rattle.base.specs.steps.Refusals.{quiesced_group}
+use Rattle.base.specs.steps.Shown.{Shown, SyncPlan, free_count}
 use Rattle.base.specs.steps.Steps.{TakesForEach, ops_of_group}
 use Rattle.base.specs.stored.Stored.{IsStored, frame_at}
 use Rattle.base.specs.tree.Syncs.{written_by, written_places}
+use Rattle.base.proofs.steps.Reservations.{syncs_have_room}
 use Rattle.base.proofs.steps.WaitingGroups.{synced-contents}
 use Rattle.base.proofs.tree.Estimates.{syncs_fit}
 use Rattle.base.proofs.tree.PlacedTrees.{pointers-told}
 use Rattle.base.proofs.tree.WrittenPlaces.{written-places}
 use Rattle.tree_plans.specs.declared.planner.Committed.{Committed}
 use Rattle.tree_plans.specs.declared.changes.ObjectChanges.{ObjectChanges}
-use Rattle.tree_plans.specs.Changes.{group_of}
+use Rattle.tree_plans.specs.Changes.{group_of, names_block}
 use Rattle.tree_plans.specs.Marks.{AreChangesOf, pending_ops}
 use Rattle.pool_core.specs.GroupPlans.{IsPlannedGroup, IsShortOfBlocks}
 use Rattle.pool_core.specs.Shows.{record_of as shown_record}
@@ -69,6 +71,16 @@ module _ (s : Shown) (p : Past) (explained : IsExplainedNow s p) (group : ℕ) (
       ∙ length-map (written_by (group_of from.objects pointers s.contents.objects)) (λ (place : Place). (new place).address) in
       subst (λ (n : ℕ). n ≤ estimate_of (map shape_of (ops_of_group group p.entries))) (count_told from.objects from.changes ∙ sym each)
       (syncs_fit (ops_of_group group p.entries) synced_now.0 named)
+
+  -- and with what is reserved for the group no plan is short of blocks
+  pub enough_blocks : (free : List ℕ) → length free ≡ free_count s → IsShortOfBlocks group pending pointers s.contents.objects free → ⊥
+  enough_blocks free counted short =
+      let quiesced : quiesced_group s.line ≡ Some group = rw middle refl in
+      let room = syncs_have_room (record { shown = s; past = p }) group synced_now.0 named explained.exact.groups explained.exact.sync
+          (record { charges = explained.exact.charges; blocks = explained.exact.blocks }) idle quiesced in
+      let written = count_told short.objects short.changes in
+      let fewer = short.fewer (in_range s p explained group idle middle no_log pending log short.objects short.changes) in
+      omega (arith, room, written, fewer, counted)
 
 module _ (now : List ℕ) (s : Shown) (p : Past) (pointers : Place → Pointer) (x : IsStored now s pointers p) (explained : IsExplainedNow s p) (group : ℕ) (idle : s.line.syncing ≡ None)
     (middle : s.line.middle ≡ Some (record { group = group; quiesced = true })) (pending : List Committed) (log : s.log.pending ≡ map shown_record pending)

@@ -43,12 +43,12 @@ pub record IsPlannedGroup (group : ℕ) (pending : List Committed) (frame : Fram
   pub planned : (before : FinMap nat_cmp (List ℕ)) → IsCoveredBy objects old before after → AreChanges objects after → AreTreePointers objects old after → IsTreePlan bs frame old new before after
   pub order : AreInRange objects → map (λ (b : NewBlock). b.address) bs ≡ map (λ (place : Place). (new place).address) (written_by (group_of objects old after))
 
--- Some changes are those of the group's pending operations. Where they are in range, fewer blocks are free, by these flags, than there are
--- places that are written.
-pub record IsShortOfBlocks (group : ℕ) (pending : List Committed) (old : Place → Pointer) (after : FinMap nat_cmp (List ℕ)) (flags : List Bool) : Type 0 where
+-- Some changes are those of the group's pending operations. Where they are in range, fewer of these blocks are free than there are places
+-- that are written.
+pub record IsShortOfBlocks (group : ℕ) (pending : List Committed) (old : Place → Pointer) (after : FinMap nat_cmp (List ℕ)) (free : List ℕ) : Type 0 where
   pub objects : List (ObjectId × ObjectChanges)
   pub changes : AreChangesOf (pending_ops group pending) [] objects
-  pub fewer : AreInRange objects → length (addresses_from 0 flags) < length (written_by (group_of objects old after))
+  pub fewer : AreInRange objects → length free < length (written_by (group_of objects old after))
 
 -- the pointers of the tree that a plan makes of a pool's
 abbrev pub plan_pointers : Pool → TreePlan → Place → Pointer
@@ -74,7 +74,7 @@ pub record MakesGroupTree (pool : Pool) (group : ℕ) (p : TreePlan) : Type 0 wh
 
 -- refused NoSpace, a pool is short of blocks
 abbrev pub IsRefusedShort : Pool → ℕ → PoolError → Type 0
-IsRefusedShort pool group e = e ≡ NoSpace → IsShortOfBlocks group pool.pending.items (pointers_of pool.tree) (shown_objects pool) pool.free.flags.items
+IsRefusedShort pool group e = e ≡ NoSpace → IsShortOfBlocks group pool.pending.items (pointers_of pool.tree) (shown_objects pool) (addresses_from 0 pool.free.flags.items)
 
 -- a sync of a plan that has made no call yet
 pub record BeginsPlan (p : TreePlan) (r : RunningSync) : Type 0 where
