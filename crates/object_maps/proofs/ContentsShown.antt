@@ -10,7 +10,7 @@ use Rattle.std.proofs.lemmas.Bool.{cases_eq}
 use Rattle.std.proofs.lemmas.List.Elements.{All-head, All-tail}
 use Rattle.std.specs.FinMap as finite
 use Rattle.std.specs.FinMap.{FinMap, get-empty, same_map, nat_cmp-IsAntisymmetric}
-use Rattle.base.specs.history.Contents.{Contents, stored}
+use Rattle.base.specs.history.Contents.{Contents, stored, with_object}
 use Rattle.base.proofs.history.Objects.{get-stored_same, get-stored_other}
 use Rattle.object_maps.specs.declared.contents.Slot.{Slot}
 use Rattle.object_maps.specs.ContentsShown.{object_of, object_in, objects_from}
@@ -89,10 +89,25 @@ objects-set_same slots n s t low is same = same_objects slots (set slots n t) (�
         ∙ sym (ap (λ (o : Option Slot). option_map_or object_of o None) (slice_get_at slots n s low is)))
     at k (inr ne) = ap (λ (o : Option Slot). option_map_or object_of o None) (slice_get-set_other slots n t k ne)
 
--- what is written to a slot is written to its object, if it is there
-pub object-written : (present : Bool) (f : List ℕ → List ℕ) (old new : List ℕ) → new ≡ f old → cond present (Some new) None ≡ option_map f (cond present (Some old) None)
-object-written true f old new e = ap Some e
-object-written false f old new e = refl
+-- the contents after a slot is set
+pub contents-set : (name : List ℕ) (slots : List Slot) (n : ℕ) (s : Slot) (o : Option (List ℕ)) → n < length slots → object_of s ≡ o
+    → ◌≡◌ {A = Contents} (record { name = name; objects = objects_from 0 (set slots n s) }) (with_object (record { name = name; objects = objects_from 0 slots }) n o)
+contents-set name slots n s o low is =
+    same_contents name (objects_from 0 (set slots n s)) (stored (objects_from 0 slots) n o) (objects-set slots n s low ∙ ap (stored (objects_from 0 slots) n) is)
+
+-- what the bytes of a slot become, its object becomes, if it is there
+object-changed : (present : Bool) (f : List ℕ → List ℕ) (old new : List ℕ) → new ≡ f old → cond present (Some new) None ≡ option_map f (cond present (Some old) None)
+object-changed true f old new e = ap Some e
+object-changed false f old new e = refl
+
+pub contents-changed : (name : List ℕ) (slots : List Slot) (n : ℕ) (old s : Slot) (f : List ℕ → List ℕ) → n < length slots → old ≡ get_or slots n old
+    → s.present ≡ old.present → s.bytes.items ≡ f old.bytes.items
+    → ◌≡◌ {A = Contents} (record { name = name; objects = objects_from 0 (set slots n s) })
+    (with_object (record { name = name; objects = objects_from 0 slots }) n (option_map f (finite.get (objects_from 0 slots) n)))
+contents-changed name slots n old s f low is same changes =
+    contents-set name slots n s (option_map f (finite.get (objects_from 0 slots) n)) low (
+    ap (λ b. cond b (Some s.bytes.items) None) same ∙ object-changed old.present f old.bytes.items s.bytes.items changes
+    ∙ ap (option_map f) (sym (get-objects_at slots n old low is)))
 
 pub absent_at : (slots : List Slot) (k : ℕ) → All (λ (s : Slot). s.present ≡ false) slots → object_in slots k ≡ None
 absent_at [] k absent = refl

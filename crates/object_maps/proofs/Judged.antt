@@ -1,10 +1,9 @@
 -- Operations that are judged one after another, by whether each object is there.
-use Rattle.std.proofs.Common.{◌≡◌, ℕ, suc, ◌<◌, ◌+◌, ◌≢◌, List, [], ◌∷◌, ◌++◌, Option, Some, None, Result, Ok, Err, refl, ap, sym, ◌∙◌, inl, inr, ◌⊎◌, true, false, Bool, arith, length, take, drop, subst, Fits, w8}
-use Rattle.std.specs.Prelude.{◌==◌, ◌||◌, is_some, get_or, nat_lt, option_map, IfOk}
-use Rattle.std.specs.List.{list_any, list_all}
-use Rattle.std.proofs.lemmas.Bool.{cases_eq, eq-eqb, ne_eqb, and_from, lt-ltb, false≢true}
-use Rattle.std.proofs.lemmas.List.{drop_more, take_more, take-append-drop}
-use Rattle.std.proofs.lemmas.List.Elements.{All-head, All-tail}
+use Rattle.std.proofs.Common.{◌≡◌, ℕ, suc, ◌<◌, ◌+◌, List, [], ◌∷◌, ◌++◌, Option, Some, None, Result, Ok, Err, refl, ap, sym, ◌∙◌, ◌⊎◌, inl, inr, true, false, Bool, cond, arith, length, take, drop, subst, Fits, w8}
+use Rattle.std.specs.Prelude.{◌==◌, ◌||◌, ◌&&◌, not, is_some, get_or, nat_lt, option_map, fold, IfOk}
+use Rattle.std.specs.List.{list_all}
+use Rattle.std.proofs.lemmas.Bool.{and_from, lt-ltb}
+use Rattle.std.proofs.lemmas.List.{append-nil, drop_more, take_more, take-append-drop}
 use Rattle.std.specs.FinMap as finite
 use Rattle.base.specs.declared.error.PoolError.{PoolError}
 use Rattle.base.specs.declared.error.PoolError.TheVariants.{NoObject, Exists}
@@ -12,12 +11,12 @@ use Rattle.base.specs.declared.names.ObjectId.{ObjectId}
 use Rattle.base.specs.declared.operation.Op.{Op}
 use Rattle.base.specs.declared.operation.Op.TheVariants.{Create, Remove, Write, SetLength, SetName}
 use Rattle.base.specs.history.Sequences.{and_then}
-use Rattle.base.specs.history.Contents.{Contents, at_object, apply, created, changed, bytes_after_write, with_object}
-use Rattle.base.specs.history.History.{apply_all}
+use Rattle.base.specs.history.Contents.{Contents, at_object, apply, created, removed, changed, bytes_after_write, resize, with_object, object_after}
+use Rattle.base.specs.history.History.{Entry, apply_all, run, replay}
 use Rattle.base.proofs.common.Sequences.{parted, joined}
-use Rattle.base.proofs.history.Objects.{get-stored_same, get-stored_other, reached, reach}
-use Rattle.object_maps.specs.Ops.{IsOpAllowed, AreOpsAllowed}
-use Rattle.object_maps.specs.Creations.{creates}
+use Rattle.base.proofs.history.Objects.{reach}
+use Rattle.base.proofs.history.Projections.{objects_replay}
+use Rattle.object_maps.specs.Presence.{is_present_after, is_present_after_all}
 use Rattle.object_maps.specs.ContentsShown.{Applies, Apply}
 
 -- a front that is refused refuses the whole
@@ -38,66 +37,41 @@ apply-append (op ∷ before) after c d h =
     let p = parted (apply op c) (apply_all before) d h in
     rw p.1 (apply-append before after p.0 d p.2)
 
-or-false_right : (b : Bool) → b ≡ (b || false)
-or-false_right true = refl
-or-false_right false = refl
+-- a change keeps what is there
+kept_there : (b : Bool) (f : List ℕ → List ℕ) (o : Option (List ℕ)) → is_some (cond b (option_map f o) o) ≡ is_some o
+kept_there true f None = refl
+kept_there true f (Some bytes) = refl
+kept_there false f o = refl
 
-or-true_right : (b : Bool) → (b || true) ≡ true
-or-true_right true = refl
-or-true_right false = refl
-
-or-assoc : (a b c : Bool) → ((a || b) || c) ≡ (a || (b || c))
-or-assoc true b c = refl
-or-assoc false b c = refl
-
-created_gives : (o p : Option (List ℕ)) → created o ≡ Ok p → is_some p ≡ true
-created_gives None p h = let e : p ≡ Some [] = cc in rw e refl
-created_gives (Some bytes) p h = cc
-
-changed_keeps : (f : List ℕ → List ℕ) (o p : Option (List ℕ)) → changed f o ≡ Ok p → is_some p ≡ is_some o
-changed_keeps f None p h = cc
-changed_keeps f (Some bytes) p h = let e : p ≡ Some (f bytes) = cc in rw e refl
-
--- an object is there after an operation that takes place, where it was or the operation creates it
-there_after_one : (op : Op) (c d : Contents) (n : ℕ) → IsOpAllowed op → apply op c ≡ Ok d
-    → is_some (finite.get d.objects n) ≡ (is_some (finite.get c.objects n) || creates n op)
-there_after_one (Create m) c d n allowed h = let q = reached m.0 created c d h in go q.0 q.1 q.2 (cases_eq n m.0)
+-- an object is there after an operation, by what it makes of it
+there_after_one : (n : ℕ) (op : Op) (o : Option (List ℕ)) → is_some (object_after n op o) ≡ is_present_after n op (is_some o)
+there_after_one n (Create m) o = by (n == m.0)
   where
-    go : (o : Option (List ℕ)) → created (finite.get c.objects m.0) ≡ Ok o → with_object c m.0 o ≡ d → (n ≡ m.0) ⊎ (n ≢ m.0)
-        → is_some (finite.get d.objects n) ≡ (is_some (finite.get c.objects n) || (m.0 == n))
-    go o made is (inl e) =
-        let there : finite.get d.objects n ≡ o = ap (λ (x : Contents). finite.get x.objects n) (sym is) ∙ rw e (get-stored_same c.objects m.0 o) in
-        let same : (m.0 == n) ≡ true = eq-eqb m.0 n (sym e) in
-        ap is_some there ∙ created_gives (finite.get c.objects m.0) o made ∙ sym (or-true_right (is_some (finite.get c.objects n)))
-        ∙ ap (λ b. is_some (finite.get c.objects n) || b) (sym same)
-    go o made is (inr ne) =
-        let there : finite.get d.objects n ≡ finite.get c.objects n = ap (λ (x : Contents). finite.get x.objects n) (sym is) ∙ get-stored_other c.objects m.0 o n ne in
-        let other : (m.0 == n) ≡ false = ne_eqb m.0 n (λ e. ne (sym e)) in
-        ap is_some there ∙ or-false_right (is_some (finite.get c.objects n)) ∙ ap (λ b. is_some (finite.get c.objects n) || b) (sym other)
-there_after_one (Remove m) c d n allowed h = absurd (false≢true allowed.0)
-there_after_one (Write m offset bytes) c d n allowed h = let q = reached m.0 (changed (bytes_after_write offset bytes)) c d h in go q.0 q.1 q.2 (cases_eq n m.0)
+    by : (b : Bool) → is_some (cond b (Some []) o) ≡ (b || is_some o)
+    by true = refl
+    by false = refl
+there_after_one n (Remove m) o = by (n == m.0)
   where
-    go : (o : Option (List ℕ)) → changed (bytes_after_write offset bytes) (finite.get c.objects m.0) ≡ Ok o → with_object c m.0 o ≡ d → (n ≡ m.0) ⊎ (n ≢ m.0)
-        → is_some (finite.get d.objects n) ≡ (is_some (finite.get c.objects n) || false)
-    go o made is (inl e) =
-        let there : finite.get d.objects n ≡ o = ap (λ (x : Contents). finite.get x.objects n) (sym is) ∙ rw e (get-stored_same c.objects m.0 o) in
-        ap is_some there ∙ changed_keeps (bytes_after_write offset bytes) (finite.get c.objects m.0) o made ∙ ap (λ (k : ℕ). is_some (finite.get c.objects k)) (sym e)
-        ∙ or-false_right (is_some (finite.get c.objects n))
-    go o made is (inr ne) =
-        let there : finite.get d.objects n ≡ finite.get c.objects n = ap (λ (x : Contents). finite.get x.objects n) (sym is) ∙ get-stored_other c.objects m.0 o n ne in
-        ap is_some there ∙ or-false_right (is_some (finite.get c.objects n))
-there_after_one (SetLength m size) c d n allowed h = absurd (false≢true allowed.0)
-there_after_one (SetName bytes) c d n allowed h = absurd (false≢true allowed.0)
+    by : (b : Bool) → is_some (cond b None o) ≡ (not b && is_some o)
+    by true = refl
+    by false = refl
+there_after_one n (Write m offset bytes) o = kept_there (n == m.0) (bytes_after_write offset bytes) o
+there_after_one n (SetLength m size) o = kept_there (n == m.0) (resize size) o
+there_after_one n (SetName bytes) o = refl
 
--- and after operations that take place in order
-pub there_after : (ops : List Op) (c d : Contents) (n : ℕ) → AreOpsAllowed ops → apply_all ops c ≡ Ok d
-    → is_some (finite.get d.objects n) ≡ (is_some (finite.get c.objects n) || list_any (creates n) ops)
-there_after [] c d n allowed h = let e : d ≡ c = cc in rw e (or-false_right (is_some (finite.get c.objects n)))
-there_after (op ∷ ops) c d n allowed h =
-    let p = parted (apply op c) (apply_all ops) d h in
-    there_after ops p.0 d n (All-tail IsOpAllowed op ops allowed) p.2
-    ∙ ap (λ b. b || list_any (creates n) ops) (there_after_one op c p.0 n (All-head IsOpAllowed op ops allowed) p.1)
-    ∙ or-assoc (is_some (finite.get c.objects n)) (creates n op) (list_any (creates n) ops)
+there_after_all : (n : ℕ) (ops : List Op) (o : Option (List ℕ))
+    → is_some (fold (λ before op. object_after n op before) o ops) ≡ is_present_after_all n ops (is_some o)
+there_after_all n [] o = refl
+there_after_all n (op ∷ ops) o =
+    there_after_all n ops (object_after n op o) ∙ ap (is_present_after_all n ops) (there_after_one n op o)
+
+-- an object is there after operations that take place in order, as the last of them that creates or removes it says
+pub there_after : (ops : List Op) (c d : Contents) (n : ℕ) → apply_all ops c ≡ Ok d
+    → is_some (finite.get d.objects n) ≡ is_present_after_all n ops (is_some (finite.get c.objects n))
+there_after ops c d n h =
+    let e : Entry = record { group = 0; tx = 0; ops = ops } in
+    let whole = objects_replay (e ∷ []) c d n (joined (run e c) (replay []) d d h refl) in
+    ap is_some (rw append-nil at whole) ∙ there_after_all n ops (finite.get c.objects n)
 
 pub IfOk-from : {A : Type 0} (r : Result A PoolError) (P : A → Type 0) → ((a : A) → r ≡ Ok a → P a) → IfOk r P
 IfOk-from (Ok a) P each = each a refl
@@ -107,59 +81,73 @@ pub IfOk-at : {A : Type 0} (r : Result A PoolError) (P : A → Type 0) (a : A) �
 IfOk-at (Ok b) P a e h = let f : b ≡ a = cc in subst P f h
 IfOk-at (Err x) P a e h = cc
 
--- how an operation after others is judged, by whether its object is there
-create_where : (o : Option (List ℕ)) → is_some o ≡ false → created o ≡ Ok (Some [])
-create_where None h = refl
-create_where (Some bytes) h = cc
-
-create_unless : (o : Option (List ℕ)) → is_some o ≡ true → created o ≡ Err Exists
-create_unless None h = cc
-create_unless (Some bytes) h = refl
-
-change_where : (f : List ℕ → List ℕ) (o : Option (List ℕ)) → is_some o ≡ true → changed f o ≡ Ok (option_map f o)
-change_where f None h = cc
-change_where f (Some bytes) h = refl
-
-change_unless : (f : List ℕ → List ℕ) (o : Option (List ℕ)) → is_some o ≡ false → changed f o ≡ Err NoObject
-change_unless f None h = refl
-change_unless f (Some bytes) h = cc
-
-refused : (n : ℕ) (f : Option (List ℕ) → Result (Option (List ℕ)) PoolError) (c : Contents) (e : PoolError) → f (finite.get c.objects n) ≡ Err e → at_object n f c ≡ Err e
-refused n f c e h = rw h
-
 one_more : (before : List Op) (op : Op) (c d e : Contents) → apply_all before c ≡ Ok d → apply op d ≡ Ok e → Apply (before ++ op ∷ []) c
 one_more before op c d e h k = (e, apply-append before (op ∷ []) c d h ∙ joined (apply op d) (apply_all []) e e k refl)
 
 one_refused : (before : List Op) (op : Op) (c d : Contents) (e : PoolError) → apply_all before c ≡ Ok d → apply op d ≡ Err e → apply_all (before ++ op ∷ []) c ≡ Err e
 one_refused before op c d e h k = apply-append before (op ∷ []) c d h ∙ rw k refl
 
+-- an operation that takes place where its object is there, and is refused where it is not
+record ActsOnPresent (n : ℕ) (op : Op) : Type 0 where
+  does : Option (List ℕ) → Result (Option (List ℕ)) PoolError
+  is : (d : Contents) → apply op d ≡ at_object n does d
+  there : (bytes : List ℕ) → (p : Option (List ℕ)) × (does (Some bytes) ≡ Ok p)
+  absent : does None ≡ Err NoObject
+
+changing : (n : ℕ) (op : Op) (f : List ℕ → List ℕ) → ((d : Contents) → apply op d ≡ at_object n (changed f) d) → ActsOnPresent n op
+changing n op f e = record { does = changed f; is = e; there = λ bytes. (Some (f bytes), refl); absent = refl }
+
+-- a remove, a write or a set length of this object
+abbrev pub NeedsObject : ObjectId → Op → Type 0
+NeedsObject id op = (op ≡ Remove id) ⊎ (((offset : ℕ) × (bytes : List ℕ) × (op ≡ Write id offset bytes)) ⊎ ((size : ℕ) × (op ≡ SetLength id size)))
+
+acts : (id : ObjectId) (op : Op) → NeedsObject id op → ActsOnPresent id.0 op
+acts id op (inl e) = record { does = removed; is = λ d. rw e refl; there = λ bytes. (None, refl); absent = refl }
+acts id op (inr (inl w)) = changing id.0 op (bytes_after_write w.0 w.1) (λ d. rw w.2 refl)
+acts id op (inr (inr w)) = changing id.0 op (resize w.0) (λ d. rw w.1 refl)
+
 -- an operation after others that take place, where it is told whether its object is there after them
-module _ (before : List Op) (c : Contents) (done : Apply before c) (id : ObjectId) where
-  there_is : (b : Bool) → IfOk (apply_all before c) (λ d. b ≡ is_some (finite.get d.objects id.0)) → is_some (finite.get (done.0).objects id.0) ≡ b
+module _ (before : List Op) (c : Contents) (done : Apply before c) (id : ObjectId) (op : Op) where
+  -- what the operations before it leave of the object
+  abbrev now : Option (List ℕ)
+  now = finite.get (done.0).objects id.0
+
+  there_is : (b : Bool) → IfOk (apply_all before c) (λ d. b ≡ is_some (finite.get d.objects id.0)) → is_some now ≡ b
   there_is b told = sym (IfOk-at (apply_all before c) (λ (d : Contents). b ≡ is_some (finite.get d.objects id.0)) (done.0) (done.1) told)
 
-  pub create_judged : (op : Op) → op ≡ Create id → IfOk (apply_all before c) (λ d. false ≡ is_some (finite.get d.objects id.0)) → Apply (before ++ op ∷ []) c
-  create_judged op is told =
-      let at : apply (Create id) (done.0) ≡ Ok (with_object (done.0) id.0 (Some [])) = reach id.0 created (done.0) (Some []) (create_where (finite.get (done.0).objects id.0) (there_is false told)) in
-      one_more before op c (done.0) (with_object (done.0) id.0 (Some [])) (done.1) (rw is at)
+  follows : (f : Option (List ℕ) → Result (Option (List ℕ)) PoolError) (p : Option (List ℕ)) → apply op (done.0) ≡ at_object id.0 f (done.0) → f now ≡ Ok p → Apply (before ++ op ∷ []) c
+  follows f p is makes = one_more before op c (done.0) (with_object (done.0) id.0 p) (done.1) (is ∙ reach id.0 f (done.0) p makes)
 
-  pub create_refused : (op : Op) → op ≡ Create id → IfOk (apply_all before c) (λ d. true ≡ is_some (finite.get d.objects id.0)) → apply_all (before ++ op ∷ []) c ≡ Err Exists
-  create_refused op is told =
-      let at : apply (Create id) (done.0) ≡ Err Exists = refused id.0 created (done.0) Exists (create_unless (finite.get (done.0).objects id.0) (there_is true told)) in
-      one_refused before op c (done.0) Exists (done.1) (rw is at)
+  refused : (f : Option (List ℕ) → Result (Option (List ℕ)) PoolError) (e : PoolError) → apply op (done.0) ≡ at_object id.0 f (done.0) → f now ≡ Err e → apply_all (before ++ op ∷ []) c ≡ Err e
+  refused f e is makes = one_refused before op c (done.0) e (done.1) (is ∙ rw makes refl)
 
-  pub write_judged : (op : Op) (offset : ℕ) (bytes : List ℕ) → op ≡ Write id offset bytes → IfOk (apply_all before c) (λ d. true ≡ is_some (finite.get d.objects id.0)) → Apply (before ++ op ∷ []) c
-  write_judged op offset bytes is told =
-      let after : Option (List ℕ) = option_map (bytes_after_write offset bytes) (finite.get (done.0).objects id.0) in
-      let at : apply (Write id offset bytes) (done.0) ≡ Ok (with_object (done.0) id.0 after) =
-      reach id.0 (changed (bytes_after_write offset bytes)) (done.0) after (change_where (bytes_after_write offset bytes) (finite.get (done.0).objects id.0) (there_is true told)) in
-      one_more before op c (done.0) (with_object (done.0) id.0 after) (done.1) (rw is at)
+  pub create_judged : op ≡ Create id → IfOk (apply_all before c) (λ d. false ≡ is_some (finite.get d.objects id.0)) → Apply (before ++ op ∷ []) c
+  create_judged is told = by now refl (there_is false told)
+    where
+      by : (o : Option (List ℕ)) → now ≡ o → is_some o ≡ false → Apply (before ++ op ∷ []) c
+      by None e h = follows created (Some []) (rw is refl) (ap created e)
+      by (Some bytes) e h = cc
 
-  pub write_refused : (op : Op) (offset : ℕ) (bytes : List ℕ) → op ≡ Write id offset bytes → IfOk (apply_all before c) (λ d. false ≡ is_some (finite.get d.objects id.0)) → apply_all (before ++ op ∷ []) c ≡ Err NoObject
-  write_refused op offset bytes is told =
-      let at : apply (Write id offset bytes) (done.0) ≡ Err NoObject =
-      refused id.0 (changed (bytes_after_write offset bytes)) (done.0) NoObject (change_unless (bytes_after_write offset bytes) (finite.get (done.0).objects id.0) (there_is false told)) in
-      one_refused before op c (done.0) NoObject (done.1) (rw is at)
+  pub create_refused : op ≡ Create id → IfOk (apply_all before c) (λ d. true ≡ is_some (finite.get d.objects id.0)) → apply_all (before ++ op ∷ []) c ≡ Err Exists
+  create_refused is told = by now refl (there_is true told)
+    where
+      by : (o : Option (List ℕ)) → now ≡ o → is_some o ≡ true → apply_all (before ++ op ∷ []) c ≡ Err Exists
+      by None e h = cc
+      by (Some bytes) e h = refused created Exists (rw is refl) (ap created e)
+
+  pub change_judged : NeedsObject id op → IfOk (apply_all before c) (λ d. true ≡ is_some (finite.get d.objects id.0)) → Apply (before ++ op ∷ []) c
+  change_judged needs told = by (acts id op needs) now refl (there_is true told)
+    where
+      by : ActsOnPresent id.0 op → (o : Option (List ℕ)) → now ≡ o → is_some o ≡ true → Apply (before ++ op ∷ []) c
+      by a None e h = cc
+      by a (Some bytes) e h = let p = a.there bytes in follows a.does p.0 (a.is (done.0)) (ap a.does e ∙ p.1)
+
+  pub change_refused : NeedsObject id op → IfOk (apply_all before c) (λ d. false ≡ is_some (finite.get d.objects id.0)) → apply_all (before ++ op ∷ []) c ≡ Err NoObject
+  change_refused needs told = by (acts id op needs) now refl (there_is false told)
+    where
+      by : ActsOnPresent id.0 op → (o : Option (List ℕ)) → now ≡ o → is_some o ≡ false → apply_all (before ++ op ∷ []) c ≡ Err NoObject
+      by a None e h = refused a.does NoObject (a.is (done.0)) (ap a.does e ∙ a.absent)
+      by a (Some bytes) e h = cc
 
 -- one more operation of a list is judged
 pub judged_more : (ops : List Op) (i : ℕ) (op : Op) (c : Contents) → i < length ops → op ≡ get_or ops i op → Apply (take i ops ++ op ∷ []) c → Apply (take (i + 1) ops) c

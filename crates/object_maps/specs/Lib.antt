@@ -1,5 +1,5 @@
 pub mod Ops
-pub mod Creations
+pub mod Presence
 pub mod ContentsShown
 pub mod Digests
 pub mod Pointers

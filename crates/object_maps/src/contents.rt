@@ -1,11 +1,11 @@
 //! The contents of a pool, whole in memory: its name, and the bytes of each object.
 
-ghost use Rattle.std.specs.Prelude.{◌≡◌, ◌+◌, ◌≤◌, ◌<◌, ℕ, ◌++◌, ◌∷◌, [], true, false, length, max, slice_index, All, vec_len, vec_capacity, OnOk, IfOk, Ok, Err, Some, is_some, option_map, nat_lt};
-ghost use Rattle.std.specs.List.{list_all, list_any};
+ghost use Rattle.std.specs.Prelude.{◌≡◌, ◌+◌, ◌≤◌, ◌<◌, ℕ, ◌++◌, ◌∷◌, [], true, false, length, max, slice_index, All, vec_len, vec_capacity, OnOk, IfOk, Ok, Err, None, Some, is_some, option_map, nat_lt};
+ghost use Rattle.std.specs.List.{list_all};
 ghost use Rattle.std.specs.FinMap as finite;
-ghost use Rattle.base.specs.history.Contents.{bytes_after_write};
+ghost use Rattle.base.specs.history.Contents.{bytes_after_write, resize};
 ghost use Rattle.base.specs.disk.Disk.{put};
-ghost use Rattle.object_maps.specs.Creations.{creates};
+ghost use Rattle.object_maps.specs.Presence.{is_present_after, is_present_after_all};
 
 use base::{OBJECT_COUNT, ObjectId, Op, PoolError, PoolName};
 use std::alloc::{AllocError, Global};
@@ -81,7 +81,26 @@ fn overwrite(bytes: &mut [u8], offset: usize, content: &[u8])
     bytes[offset..offset + content.len()].copy_from_slice(content);
 }
 
+// Cuts the bytes to this length, or goes on with zeros up to it. The room is there.
+fn resize_to(bytes: &mut Vec<u8>, size: usize)
+    requires { size ≤ vec_capacity bytes.old }
+    ensures bytes { bytes.new.items ≡ resize size bytes.old.items }
+    ensures capacity { vec_capacity bytes.old ≤ vec_capacity bytes.new }
+{
+    bytes.resize(size, 0).unwrap();
+}
+
 impl Slot {
+    // From now on the object is not there. Its bytes are cleared, and the room stays.
+    fn clear(&mut self)
+        ensures present { self.new.present ≡ false }
+        ensures bytes { self.new.bytes.items ≡ [] }
+        ensures capacity { vec_capacity self.old.bytes ≤ vec_capacity self.new.bytes }
+    {
+        self.present = false;
+        self.bytes.clear();
+    }
+
     // From now on the object is there, with no bytes. The room stays.
     fn start_empty(&mut self)
         ensures present { self.new.present ≡ true }
@@ -138,8 +157,8 @@ impl Contents {
     }
 
     /// Judges operations in order, each on the contents after those before it, and gives the first refusal:
-    /// `Exists` for an object that is created where it is there, `NoObject` for a write to one that is not there.
-    /// The contents stay as they are.
+    /// `Exists` for an object that is created where it is there, `NoObject` for one that is removed, written or set to
+    /// a length where it is not there. The contents stay as they are. It takes no memory.
     pub fn judge(&self, ops: &[Op]) -> Result<(), PoolError>
         requires { AreOpsAllowed ops.now }
         ensures { Judges ops.now (contents_of self.now) result }
@@ -152,7 +171,6 @@ impl Contents {
 
     // Judges an operation after others that apply.
     fn judge_after(&self, before: &[Op], op: &Op) -> Result<(), PoolError>
-        requires before_allowed { AreOpsAllowed before.now }
         requires allowed { IsOpAllowed op.now }
         requires before { Apply before.now (contents_of self.now) }
         ensures { Judges (before.now ++ (op.now ∷ [])) (contents_of self.now) result }
@@ -164,24 +182,24 @@ impl Contents {
                 }
                 Ok(())
             }
-            Op::Write(id, _, _) => {
-                if self.has_after(before, *id) {
-                    return Ok(());
+            Op::Remove(id) | Op::Write(id, _, _) | Op::SetLength(id, _) => {
+                if !self.has_after(before, *id) {
+                    return Err(PoolError::NoObject);
                 }
-                Err(PoolError::NoObject)
+                Ok(())
             }
-            _ => Err(PoolError::BadRange),
+            Op::SetName(_) => Err(PoolError::BadRange),
         }
     }
 
-    // Whether an object is there after operations that create and write.
+    // Whether an object is there after operations that apply: as the last of them that creates or removes it says,
+    // and where none does, as it is now.
     fn has_after(&self, before: &[Op], id: ObjectId) -> bool
-        requires allowed { AreOpsAllowed before.now }
-        requires before { Apply before.now (contents_of self.now) }
+        requires { Apply before.now (contents_of self.now) }
         ensures { IfOk (apply_all before.now (contents_of self.now))
             (λ c. result ≡ is_some (finite.get c.objects id.0)) }
     {
-        self.has(id) || is_created(before, id)
+        is_there_after_all(before, id, self.has(id))
     }
 
     /// Takes the room that operations need, so that `apply` takes no memory. The contents stay as they are.
@@ -211,6 +229,7 @@ impl Contents {
                 *offset as usize,
                 bytes.as_slice(),
             ),
+            Op::SetLength(id, length) => self.reserve_to(*id, *length as usize),
             _ => Ok(()),
         }
     }
@@ -263,8 +282,10 @@ impl Contents {
     {
         match op {
             Op::Create(id) => self.create(*id),
+            Op::Remove(id) => self.remove(*id),
             Op::Write(id, offset, bytes) => self.write(*id, *offset as usize, bytes.as_slice()),
-            _ => {}
+            Op::SetLength(id, length) => self.set_length(*id, *length as usize),
+            Op::SetName(_) => {}
         }
     }
 
@@ -275,6 +296,15 @@ impl Contents {
     {
         let slot = &mut self.slots[id.0 as usize];
         slot.start_empty();
+    }
+
+    fn remove(&mut self, id: ObjectId)
+        requires { id.0 < 5292 }
+        ensures grows { RoomGrows self.old.slots.items self.new.slots.items }
+        ensures removed { contents_of self.new ≡ with_object (contents_of self.old) id.0 None }
+    {
+        let slot = &mut self.slots[id.0 as usize];
+        slot.clear();
     }
 
     fn write(&mut self, id: ObjectId, offset: usize, content: &[u8])
@@ -288,20 +318,33 @@ impl Contents {
         let slot = &mut self.slots[id.0 as usize];
         write_at(&mut slot.bytes, offset, content);
     }
+
+    fn set_length(&mut self, id: ObjectId, length: usize)
+        requires number { id.0 < 5292 }
+        requires room { length ≤ room_of self.old.slots.items id.0 }
+        ensures grows { RoomGrows self.old.slots.items self.new.slots.items }
+        ensures resized { contents_of self.new ≡ with_object (contents_of self.old) id.0
+            (option_map (resize length) (finite.get (contents_of self.old).objects id.0)) }
+    {
+        let slot = &mut self.slots[id.0 as usize];
+        resize_to(&mut slot.bytes, length);
+    }
 }
 
-// Whether one of these operations creates the object.
-fn is_created(ops: &[Op], id: ObjectId) -> bool
-    ensures { result ≡ list_any (creates id.0) ops.now }
+// Whether an object is there after operations, from whether it was there before them.
+fn is_there_after_all(ops: &[Op], id: ObjectId, was_there: bool) -> bool
+    ensures { result ≡ is_present_after_all id.0 ops.now was_there }
 {
-    ops.iter().any(|op| is_create_of(op, id))
+    ops.iter()
+        .fold(was_there, |there, op| is_there_after(op, id, there))
 }
 
-fn is_create_of(op: &Op, id: ObjectId) -> bool
-    ensures { result ≡ creates id.0 op.now }
+fn is_there_after(op: &Op, id: ObjectId, was_there: bool) -> bool
+    ensures { result ≡ is_present_after id.0 op.now was_there }
 {
     match op {
-        Op::Create(created) => *created == id,
-        _ => false,
+        Op::Create(created) => id == *created || was_there,
+        Op::Remove(removed) => id != *removed && was_there,
+        _ => was_there,
     }
 }
