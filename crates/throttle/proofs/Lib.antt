@@ -2,3 +2,5 @@ pub mod GroupSums
 pub mod ThreeSums
 pub mod DirtyCalls
 pub mod SumLaws
+pub mod BlockSums
+pub mod ShownSums

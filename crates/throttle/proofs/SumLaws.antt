@@ -1,5 +1,5 @@
 -- The total is the pool's, a cancel takes an admit back, and a charge is an entry of the map.
-use Rattle.std.proofs.Common.{rules, ◌≡◌, ◌≢◌, ℕ, zero, suc, ◌+◌, ◌-◌, ◌<◌, Option, Some, None, refl, ap, ◌∙◌, arith, ◌⊎◌, inl, inr}
+use Rattle.std.proofs.Common.{rules, ◌≡◌, ◌≢◌, ℕ, zero, suc, ◌+◌, ◌-◌, ◌<◌, ◌≤◌, Option, Some, None, refl, ap, ◌∙◌, arith, ◌⊎◌, inl, inr}
 use Rattle.std.specs.Prelude.{sum_by, unwrap_or}
 use Rattle.std.specs.List.{range_with_len}
 use Rattle.std.specs.Ordering.{nat_cmp}
@@ -16,6 +16,14 @@ use Rattle.throttle.proofs.GroupSums.{unwrap_or-entry_of, get-with_sum_own, get-
 -- one to three groups are behind the synced one
 width : (l : Line) → IsLine l → (l.open_group - l.synced ≡ 1) ⊎ (l.open_group - l.synced ≡ 2) ⊎ (l.open_group - l.synced ≡ 3)
 width l x = search rules
+
+pub open_within : (l : Line) → IsLine l → l.open_group ≤ l.synced + 3
+open_within l x = by (width l x)
+  where
+    by : (l.open_group - l.synced ≡ 1) ⊎ (l.open_group - l.synced ≡ 2) ⊎ (l.open_group - l.synced ≡ 3) → l.open_group ≤ l.synced + 3
+    by (inl one) = omega arith
+    by (inr (inl two)) = omega arith
+    by (inr (inr three)) = omega arith
 
 totals-by_width : (s : Shown) (d : DirtyBytes) (n : ℕ) → AreSumsOf s d → s.line.open_group - s.line.synced ≡ n → s.line.synced < s.line.open_group → (n ≡ 1) ⊎ (n ≡ 2) ⊎ (n ≡ 3)
     → total_of d ≡ sum_by (dirty_of s) (range_with_len (s.line.synced + 1) n)

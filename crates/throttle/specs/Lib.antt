@@ -1,3 +1,4 @@
+pub mod Blocks
 pub mod DirtyBytes
 pub mod DirtyFields
 pub mod Laws

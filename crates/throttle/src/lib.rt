@@ -5,4 +5,8 @@ mod dirty;
 mod laws;
 
 pub use dirty::Dirty;
-pub use laws::{admits_are_entered, cancels_undo_admits, totals_agree};
+pub use laws::{
+    admissions_are_shown, admits_are_entered, blocks_follow_sums, cancels_undo_admits,
+    holding_groups_are_charged, new_sums_are_on_lines, new_sums_are_shown, plans_ask_for_blocks,
+    shown_totals_agree, sums_stay_on_lines, syncs_are_shown, totals_agree,
+};
