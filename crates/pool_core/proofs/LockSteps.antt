@@ -10,7 +10,7 @@ use Rattle.base.specs.declared.operation.Shape.{Shape}
 use Rattle.base.specs.declared.range.Mode.{Mode}
 use Rattle.base.specs.declared.range.Mode.TheVariants.{Writer}
 use Rattle.base.specs.declared.range.Range.{Range}
-use Rattle.base.specs.formats.Limits.{last_number, max_length, max_log_record, max_transactions}
+use Rattle.base.specs.formats.Limits.{last_number, max_log_record, max_transactions}
 use Rattle.base.specs.history.Contents.{length_of}
 use Rattle.base.specs.history.Plans.{NumberRange, log_record_size}
 use Rattle.base.specs.steps.Locks.{Grant}
