@@ -9,16 +9,15 @@ use Rattle.base.specs.steps.Refusals.{is_plan_blocked, is_plan_covered}
 use Rattle.base.specs.steps.Stage.{is_plan_built}
 use Rattle.pool_core.specs.declared.pool.Pool.{Pool}
 use Rattle.pool_core.specs.declared.transactions.OpenTransaction.{OpenTransaction}
-use Rattle.pool_core.specs.GrantedLocks.{grants_of}
 use Rattle.pool_core.specs.OpenTransactions.{is_full, overlaps_open}
 use Rattle.pool_core.specs.Shows.{admission_of}
 use Rattle.pool_core.specs.Targets.{is_kept_covered}
 use Rattle.pool_core.proofs.KeptRanges.{blocked_same, covered_same}
 
 module _ {found is : Bool} where
-  pub covered_as : (owner : ℕ) (plan : List Shape) (pool : Pool) → is_plan_built plan ≡ true → found ≡ is_kept_covered owner (grants_of pool.locks) plan → found ≡ is
-      → is_plan_covered owner plan (grants_of pool.locks) ≡ is
-  covered_as owner plan pool built tested answer = sym (covered_same (λ (r : NumberRange). is_covered_for_writing owner r (grants_of pool.locks)) plan built) ∙ sym tested ∙ answer
+  pub covered_as : (owner : ℕ) (plan : List Shape) (pool : Pool) → is_plan_built plan ≡ true → found ≡ is_kept_covered owner pool.locks.locks plan → found ≡ is
+      → is_plan_covered owner plan pool.locks.locks ≡ is
+  covered_as owner plan pool built tested answer = sym (covered_same (λ (r : NumberRange). is_covered_for_writing owner r pool.locks.locks) plan built) ∙ sym tested ∙ answer
 
   pub blocked_as : (plan : List Shape) (pool : Pool) (opens : List OpenTransaction) → is_plan_built plan ≡ true → opens ≡ pool.transactions.items → found ≡ overlaps_open plan opens → found ≡ is
       → is_plan_blocked plan (map admission_of pool.transactions.items) ≡ is

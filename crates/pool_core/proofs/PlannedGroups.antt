@@ -1,5 +1,5 @@
 -- The plan of a group, made of what its transactions did to the synced contents.
-use Rattle.std.proofs.Common.{◌≡◌, ℕ, zero, suc, ◌+◌, ◌*◌, ◌<◌, ◌≤◌, Bool, true, false, not, ◌&&◌, ◌||◌, cond, List, [], ◌∷◌, ◌++◌, length, map, filter, refl, ap, sym, subst, ◌∙◌, ◌⊎◌, inl, inr, arith, nat_lt}
+use Rattle.std.proofs.Common.{◌≡◌, ℕ, ◌+◌, ◌*◌, ◌<◌, ◌≤◌, Bool, true, false, not, ◌&&◌, cond, List, [], ◌∷◌, ◌++◌, length, map, filter, refl, ap, sym, subst, ◌∙◌, ◌⊎◌, inl, inr, arith, nat_lt}
 use Rattle.std.specs.Prelude.{Option, Some, None, Ok, slice_get, is_some, option_map, IfSome, All, ◌==◌}
 use Rattle.std.specs.List.{list_all, list_any, enumerate_from, flat_map}
 use Rattle.std.specs.FinMap as finite

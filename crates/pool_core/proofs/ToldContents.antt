@@ -1,16 +1,14 @@
 -- What is told of an object and of the contents, step by step.
-use Rattle.std.proofs.Common.{ℕ, ◌≡◌, true, false, List, nat_le, refl}
+use Rattle.std.proofs.Common.{ℕ, ◌≡◌, true, false, List, refl}
 use Rattle.std.specs.Prelude.{Some, None, Result, Ok, Err}
 use Rattle.base.specs.declared.error.PoolError.{PoolError}
 use Rattle.base.specs.declared.error.PoolError.TheVariants as error
 use Rattle.base.specs.formats.Digest.{digest_of}
-use Rattle.base.specs.formats.Limits.{object_count}
-use Rattle.base.specs.history.Contents.{length_of}
 use Rattle.base.specs.steps.Refusals.{length_refusal}
 use Rattle.base.specs.steps.Shown.{Shown}
 use Rattle.base.specs.steps.Stage.{Digest}
 use Rattle.base.specs.steps.Steps.{Length}
-use Rattle.pool_core.specs.Meets.{FindsLength, Meets, object_refusal}
+use Rattle.pool_core.specs.Meets.{FindsLength, Meets}
 
 pub length_suspended : (n : ℕ) (s : Shown) → s.suspended ≡ true → Meets (Length n) (Err error.Suspended) s s
 length_suspended n s h = λ past. (past, rw h (refl, refl))

@@ -6,8 +6,6 @@ pub mod Targets
 pub mod Meets
 pub mod StepAnswers
 pub mod Lines
-pub mod HeldLocks
-pub mod GrantedLocks
 pub mod OpenTransactions
 pub mod StepReplies
 pub mod ExplainedRuns

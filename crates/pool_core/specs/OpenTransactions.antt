@@ -5,8 +5,8 @@ use Rattle.base.specs.declared.operation.Shape.{Shape}
 use Rattle.base.specs.formats.Limits.{last_number, max_transactions}
 use Rattle.base.specs.history.Plans.{NumberRange, number_range}
 use Rattle.base.specs.steps.Locks.{is_reader}
+use Rattle.range_locks.specs.declared.held.HeldLock.{HeldLock}
 use Rattle.pool_core.specs.Targets.{has_shape_in, kept_ranges_overlap}
-use Rattle.pool_core.specs.declared.range_locks.HeldLock.{HeldLock}
 use Rattle.pool_core.specs.declared.transactions.OpenTransaction.{OpenTransaction}
 
 abbrev pub is_of_name : ℕ → OpenTransaction → Bool
@@ -24,7 +24,7 @@ abbrev pub is_range_in_use : NumberRange → List OpenTransaction → Bool
 is_range_in_use range ts = list_any (λ (t : OpenTransaction). has_shape_in range t.plan) ts
 
 abbrev pub is_held_in_use : HeldLock → List OpenTransaction → Bool
-is_held_in_use held ts = not (is_reader held.mode) && is_range_in_use (number_range held.target) ts
+is_held_in_use held ts = not (is_reader held.mode) && is_range_in_use (number_range held.range) ts
 
 -- whether, where so many are open and this is the next name, one more is too many
 abbrev pub is_full : ℕ → ℕ → Bool

@@ -12,7 +12,6 @@ use Rattle.base.specs.steps.Logs.{Log}
 use Rattle.base.specs.steps.Shown.{Shown, SyncPlan}
 use Rattle.space.specs.FreeSets.{free_of}
 use Rattle.object_maps.specs.ContentsShown.{contents_of}
-use Rattle.pool_core.specs.GrantedLocks.{grants_of}
 use Rattle.pool_core.specs.Lines.{line_of}
 use Rattle.pool_core.specs.declared.transactions.OpenTransaction.{OpenTransaction}
 use Rattle.tree_plans.specs.declared.planner.Committed.{Committed}
@@ -59,7 +58,7 @@ shown_of objects p = record {
   blocks = block_count p.geometry;
   import_number = p.import_number;
   dirty_max = p.dirty_max;
-  locks = grants_of p.locks;
+  locks = p.locks.locks;
   next_lock = p.locks.next;
   line = line_of p.groups;
   transactions = map admission_of p.transactions.items;

@@ -1,5 +1,5 @@
 -- Ranges as definitions speak of them.
-use Rattle.std.specs.Prelude.{ℕ, ◌+◌, ◌-◌, ◌^◌, ◌||◌, Bool, List, min, nat_le, nat_lt, not}
+use Rattle.std.specs.Prelude.{ℕ, ◌+◌, ◌-◌, ◌^◌, ◌||◌, Bool, List, min, nat_le, not}
 use Rattle.std.specs.List.{list_all, list_any}
 use Rattle.base.specs.declared.operation.Shape.{Shape}
 use Rattle.base.specs.declared.operation.Shape.TheVariants as shape
@@ -8,10 +8,7 @@ use Rattle.base.specs.formats.Limits.{name_number, object_count}
 use Rattle.base.specs.history.Plans.{NumberRange, lies_in, overlaps, whole_range}
 use Rattle.base.specs.steps.Locks.{Grant, is_covered_for_writing, is_range_allowed}
 
--- whether a range of this number may be locked, or read
-abbrev pub is_lockable : ℕ → Range → Bool
-is_lockable number range = not (nat_lt name_number number || not (is_range_allowed range.low range.high))
-
+-- whether a range of this number may be read
 abbrev pub is_readable : ℕ → Range → Bool
 is_readable number range = not (nat_le object_count number || not (is_range_allowed range.low range.high))
 

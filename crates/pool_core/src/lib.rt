@@ -3,7 +3,6 @@
 
 mod groups;
 mod pool;
-mod range_locks;
 mod runs;
 mod state;
 mod transactions;

@@ -6,6 +6,7 @@ ghost use Rattle.std.specs.List.{list_any};
 ghost use Rattle.std.specs.Option.{ForSome};
 ghost use Rattle.base.specs.formats.Fields.{part};
 ghost use Rattle.base.specs.formats.Geometry.{IsGeometry, block_count};
+ghost use Rattle.base.specs.history.Contents.{length_of};
 ghost use Rattle.base.specs.tree.PlacedTrees.{ArePlaced};
 ghost use Rattle.base.specs.steps.Groups.{Admission};
 ghost use Rattle.base.specs.steps.Refusals.{is_lock_in_use, transaction_of};
@@ -22,25 +23,26 @@ ghost use Rattle.pool_core.specs.Numbers.{IsGroup};
 ghost use Rattle.pool_core.specs.Pending.{pending_after};
 ghost use Rattle.pool_core.specs.Pointers.{pointers_after};
 ghost use Rattle.pool_core.specs.RunningUberblocks.{WritesUberblock, uberblock_with};
-ghost use Rattle.pool_core.specs.Targets.{is_lockable, is_readable};
+ghost use Rattle.pool_core.specs.Targets.{is_readable};
 ghost use Rattle.pool_core.specs.declared.transactions.OpenTransaction.{OpenTransaction};
 
 use crate::groups::Groups;
-use crate::range_locks::{HeldLock, RangeLocks};
 use crate::state::Progress;
 use crate::transactions::{
     OpenTransaction, find_transaction, is_blocked, is_group_held, is_held_in_use, is_in_plan,
     is_plan_allowed, is_too_large, range_of, remove_transaction,
 };
 use base::{
-    Bytes, Group, LAST_NUMBER, LockId, MAX_LENGTH, MAX_TRANSACTIONS, Mode, OBJECT_COUNT, ObjectId,
-    ObjectRange, Op, Ops, Ordinal, Owner, Plan, Pointer, PoolError, PoolName, Range, Receipt,
-    Shape, TxId, WRITTEN_VERSION,
+    Bytes, Group, LAST_NUMBER, LockId, MAX_TRANSACTIONS, Mode, OBJECT_COUNT, ObjectId, ObjectRange,
+    Op, Ops, Ordinal, Owner, Plan, Pointer, PoolError, PoolName, Range, Receipt, Shape, TxId,
+    WRITTEN_VERSION,
 };
 use device_model::SectorDevice;
 use import_replay::Mounted;
+use indexmap::map::Iter;
 use labels::Geometry;
 use object_maps::{Contents, ObjectMap, Tree};
+use range_locks::{HeldLock, HeldPiece, RangeLocks};
 use space::FreeSet;
 use std::alloc::Global;
 use std::collections::BTreeMap;
@@ -104,14 +106,17 @@ pub(crate) struct Pool {
 }
 
 impl Pool {
+    ghost use Rattle.std.specs.Map.Iter.{ShowsInOrder, deref_pair};
     ghost use Rattle.import_replay.specs.Mounts.{shown_of_import};
     ghost use Rattle.base.specs.disk.Disk.{bytes_of};
     ghost use Rattle.base.specs.disk.Calls.{counted};
+    ghost use Rattle.base.specs.formats.Limits.{max_locks};
+    ghost use Rattle.base.specs.steps.Locks.{AreLocksSound};
+    ghost use Rattle.range_locks.specs.Locks.{grant_of};
+    ghost use Rattle.range_locks.specs.Pieces.{pieces_of};
     ghost use Rattle.sync.specs.Calls.{plain_answer};
     ghost use Rattle.pool_core.specs.Calls.{MakesNextOf};
-    ghost use Rattle.pool_core.specs.GrantedLocks.{grants_of};
     ghost use Rattle.pool_core.specs.GroupPlans.{BeginsPlan, FitsIn, IsRefusedShort, MakesGroupTree, TakesLowest, begun_plan, uberblock_for};
-    ghost use Rattle.pool_core.specs.HeldLocks.{grant_of};
     ghost use Rattle.pool_core.specs.Holds.{Leads, SamePlaces, sync_step_reply, pool_told, tree_after};
     ghost use Rattle.pool_core.specs.Lines.{ChecksStart, line_of};
     ghost use Rattle.pool_core.specs.Meets.{ChecksBegin, ChecksCommit, FindsLength, RefusesIf};
@@ -196,9 +201,6 @@ impl Pool {
         ensures kept { KeepsTree self.old self.new }
     {
         self.check_running()?;
-        if !is_lockable(object, range) {
-            return Err(PoolError::BadRange);
-        }
         self.locks.lock(owner, ObjectRange { object, range }, mode)
     }
 
@@ -211,18 +213,8 @@ impl Pool {
         ensures kept { KeepsTree self.old self.new }
     {
         self.check_running()?;
-        let low = self.object_length(object)?;
-        if low >= MAX_LENGTH {
-            return Err(PoolError::BadRange);
-        }
-        let range = Range {
-            low,
-            high: MAX_LENGTH,
-        };
-        let id = self
-            .locks
-            .lock(owner, ObjectRange { object, range }, Mode::Writer)?;
-        Ok((id, range))
+        let length = self.shown_length(object);
+        self.locks.lock_append(owner, object, length)
     }
 
     pub(crate) fn unlock(&mut self, owner: Owner, id: LockId) -> Result<(), PoolError>
@@ -233,17 +225,34 @@ impl Pool {
         let Some(held) = self.locks.find(owner, id) else {
             return Err(PoolError::NoSuchLock);
         };
-        if self.is_in_use(&held) {
+        if self.is_in_use(held) {
             return Err(PoolError::LockInUse);
         }
-        self.locks.unlock(id);
-        Ok(())
+        self.locks.unlock(owner, id)
     }
 
     fn is_in_use(&self, held: &HeldLock) -> bool
-        ensures { result ≡ is_lock_in_use (grant_of held.now) (pool_shown self.now) }
+        ensures { (id : LockId)
+            → result ≡ is_lock_in_use (grant_of (id, held.now)) (pool_shown self.now) }
     {
         is_held_in_use(held, &self.transactions)
+    }
+
+    pub(crate) fn held(&self) -> Iter<'_, LockId, HeldLock>
+        ensures locks { map grant_of result ≡ (pool_shown self.now).locks }
+        ensures sound { AreLocksSound (pool_shown self.now).locks }
+        ensures count { length result ≤ max_locks }
+        ensures runs { ShowsInOrder (deref_pair {K = LockId} {X = HeldLock}) }
+    {
+        self.locks.held()
+    }
+
+    pub(crate) fn pieces(&self, number: ObjectId) -> Result<Vec<HeldPiece>, PoolError>
+        ensures pieces { IfOk result
+            (λ pieces. pieces.items ≡ pieces_of number.0 (pool_shown self.now).locks) }
+        ensures refused { IfErr result (λ e. e ≡ PoolError.NoMemory) }
+    {
+        self.locks.pieces(number)
     }
 
     pub(crate) fn begin(&mut self, owner: Owner, plan: &Plan) -> Result<(TxId, Group), PoolError>
@@ -291,7 +300,7 @@ impl Pool {
     }
 
     fn is_covered(&self, owner: Owner, plan: &[Shape]) -> bool
-        ensures { result ≡ is_kept_covered owner.0 (grants_of self.now.locks) plan.now }
+        ensures { result ≡ is_kept_covered owner.0 self.now.locks.locks plan.now }
     {
         plan.iter().all(|shape| self.locks.covers_for_writing(owner, &range_of(shape)))
     }
@@ -390,10 +399,15 @@ impl Pool {
         if object.0 >= OBJECT_COUNT {
             return Err(PoolError::BadRange);
         }
-        let Some(bytes) = self.contents.object(object) else {
-            return Err(PoolError::NoObject);
-        };
-        Ok(bytes.len() as u64)
+        self.shown_length(object).ok_or(PoolError::NoObject)
+    }
+
+    // The length of an object, `None` where there is none of this number.
+    fn shown_length(&self, object: ObjectId) -> Option<u64>
+        ensures { result ≡ length_of (pool_shown self.now).contents object.0 }
+    {
+        let bytes = self.contents.object(object)?;
+        Some(bytes.len() as u64)
     }
 
     pub(crate) fn digest(&self) -> Result<[u8; 32], PoolError>
@@ -587,13 +601,6 @@ impl Pool {
         give_all(&mut self.free, self.geometry, &freed);
         drop_synced(&mut self.pending, group);
     }
-}
-
-// Whether a lock may have this number and range.
-fn is_lockable(object: ObjectId, range: Range) -> bool
-    ensures { result ≡ is_lockable object.0 range }
-{
-    object.0 <= OBJECT_COUNT && range.is_allowed()
 }
 
 // Whether this range of an object may be read.

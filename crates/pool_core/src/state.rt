@@ -1,6 +1,6 @@
 //! A running pool on its device, and each of its steps.
 
-ghost use Rattle.std.specs.Prelude.{◌≡◌, IsTrue, option_map};
+ghost use Rattle.std.specs.Prelude.{◌≡◌, ◌≤◌, IfErr, IfOk, IsTrue, length, map, option_map};
 ghost use Rattle.base.specs.steps.Groups.{Admission};
 ghost use Rattle.base.specs.steps.Refusals.{transaction_of};
 
@@ -11,6 +11,8 @@ use base::{
 };
 use device_model::{Fault, MemDevice, SectorDevice};
 use import_replay::Imported;
+use indexmap::map::Iter;
+use range_locks::{HeldLock, HeldPiece};
 use std::alloc::Global;
 
 /// What a step of a sync answers.
@@ -34,6 +36,11 @@ pub struct PoolState<D: SectorDevice> {
 }
 
 impl<D: SectorDevice> PoolState<D> {
+    ghost use Rattle.std.specs.Map.Iter.{ShowsInOrder, deref_pair};
+    ghost use Rattle.base.specs.formats.Limits.{max_locks};
+    ghost use Rattle.base.specs.steps.Locks.{AreLocksSound};
+    ghost use Rattle.range_locks.specs.Locks.{grant_of};
+    ghost use Rattle.range_locks.specs.Pieces.{pieces_of};
     ghost use Rattle.import_replay.specs.Mounts.{shown_of_import};
     ghost use Rattle.sync.specs.Calls.{plain_answer};
     ghost use Rattle.pool_core.specs.Calls.{CallsNext};
@@ -117,6 +124,30 @@ impl<D: SectorDevice> PoolState<D> {
         ensures unmoved { MovesNothing result self.old self.new }
     {
         self.pool.unlock(owner, id)
+    }
+
+    /// The held locks in order of grant, each with its name, also of a suspended pool. It takes no memory.
+    pub fn held(&self) -> Iter<'_, LockId, HeldLock>
+        ensures locks { map grant_of result ≡ (shown self.now).locks }
+        ensures sound { AreLocksSound (shown self.now).locks }
+        ensures count { length result ≤ max_locks }
+        ensures runs { ShowsInOrder (deref_pair {K = LockId} {X = HeldLock}) }
+    {
+        self.pool.held()
+    }
+
+    /// The pieces of an object, or of the number behind the last object, rising: the parts between neighbouring ends of its
+    /// held locks that some lock covers, each with its readers and whether a writer covers it (`zfs_rlock.c`). A suspended
+    /// pool tells them too.
+    ///
+    /// # Errors
+    /// `NoMemory`.
+    pub fn pieces(&self, number: ObjectId) -> Result<Vec<HeldPiece>, PoolError>
+        ensures pieces { IfOk result
+            (λ pieces. pieces.items ≡ pieces_of number.0 (shown self.now).locks) }
+        ensures refused { IfErr result (λ e. e ≡ PoolError.NoMemory) }
+    {
+        self.pool.pieces(number)
     }
 
     /// Opens a transaction of the open group that keeps to a plan, of which it takes a copy.

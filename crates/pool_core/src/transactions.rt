@@ -12,11 +12,11 @@ ghost use Rattle.base.specs.history.Plans.{number_range};
 ghost use Rattle.pool_core.specs.Targets.{has_shape_in, kept_range_of, overlaps_plan, kept_ranges_overlap};
 ghost use Rattle.pool_core.specs.declared.transactions.OpenTransaction.{OpenTransaction};
 
-use crate::range_locks::HeldLock;
 use base::{
     Group, MAX_LENGTH, MAX_LOG_RECORD, MAX_NAME, OBJECT_COUNT, ObjectId, ObjectRange, Op, Owner,
     Plan, Range, Shape, TxId,
 };
+use range_locks::HeldLock;
 
 /// A transaction that was admitted and has not ended.
 #[derive(Drop)]
@@ -189,7 +189,7 @@ fn is_in_use(target: &ObjectRange, open: &[OpenTransaction]) -> bool
 pub fn is_held_in_use(held: &HeldLock, open: &[OpenTransaction]) -> bool
     ensures { result ≡ is_held_in_use held.now «open».now }
 {
-    !held.mode.is_reader() && is_in_use(&held.target, open)
+    !held.mode.is_reader() && is_in_use(&held.range, open)
 }
 
 fn lies_any_in(plan: &[Shape], target: &ObjectRange) -> bool

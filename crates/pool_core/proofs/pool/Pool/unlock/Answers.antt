@@ -1,7 +1,7 @@
-use Rattle.std.proofs.Common.{◌∙◌, sym, refl}
+use Rattle.std.proofs.Common.{◌∙◌, sym}
 use Rattle.std.proofs.lemmas.Result.{err_from_is_err_and}
-use Rattle.pool_core.proofs.LockSteps.{unlock_suspended, unlock_none, unlock_used, unlock_done}
-use Rattle.pool_core.specs.HeldLocks.{grant_of}
+use Rattle.range_locks.specs.Locks.{grant_of}
+use Rattle.pool_core.proofs.LockSteps.{unlock_suspended, unlock_none, unlock_used, unlock_ends}
 use Rattle.pool_core.specs.Shows.{pool_shown}
 use Rattle.pool_core.proofs.pool.Pool.unlock.Goals as goal
 
@@ -17,9 +17,11 @@ returns-in_default-clause-step c =
 
 pub returns-then-is_in_use-clause-step : goal.returns-then-is_in_use-clause-step
 returns-then-is_in_use-clause-step c =
-    unlock_used c.args.owner.0 c.args.id.0 (grant_of c.in-Some.held) (pool_shown c.args.self.now) c.in_ok-check_running.ensures (sym c.in-Some.ensures) (sym c.is_in_use.ensures ∙ c.if-is_in_use.true)
+    let g = grant_of (c.args.id, c.in-Some.held.now) in
+    unlock_used c.args.owner.0 c.args.id.0 g (pool_shown c.args.self.now) c.in_ok-check_running.ensures (sym c.in-Some.ensures) (sym (c.is_in_use.ensures c.args.id) ∙ c.if-is_in_use.true)
 
 pub returns-clause-step : goal.returns-clause-step
 returns-clause-step c =
-    unlock_done c.args.owner.0 c.args.id.0 (grant_of c.in-Some.held) (pool_shown c.args.self.now) _ c.in_ok-check_running.ensures (sym c.in-Some.ensures) (sym c.is_in_use.ensures ∙ c.if-is_in_use.false)
-    (rw (c.unlock.ensures.locks, c.unlock.ensures.next) refl)
+    let g = grant_of (c.args.id, c.in-Some.held.now) in
+    unlock_ends c.args.owner.0 c.args.id.0 g c.unlock.result (pool_shown c.args.self.now) c.unlock.new.self c.in_ok-check_running.ensures (sym c.in-Some.ensures)
+    (sym (c.is_in_use.ensures c.args.id) ∙ c.if-is_in_use.false) c.unlock.ensures.found c.unlock.ensures.let_go
