@@ -126,7 +126,8 @@ impl<D: SectorDevice> PoolState<D> {
         self.pool.unlock(owner, id)
     }
 
-    /// The held locks in order of grant, each with its name, also of a suspended pool. It takes no memory.
+    /// The held locks in order of grant, each with its name. It is no step, so a suspended pool tells them too, and takes no
+    /// memory.
     pub fn held(&self) -> Iter<'_, LockId, HeldLock>
         ensures locks { map grant_of result ≡ (shown self.now).locks }
         ensures sound { AreLocksSound (shown self.now).locks }
@@ -137,8 +138,8 @@ impl<D: SectorDevice> PoolState<D> {
     }
 
     /// The pieces of an object, or of the number behind the last object, rising: the parts between neighbouring ends of its
-    /// held locks that some lock covers, each with its readers and whether a writer covers it (`zfs_rlock.c`). A suspended
-    /// pool tells them too.
+    /// held locks that some lock covers, each with its number of readers and whether a writer covers it (`zfs_rlock.c`). It is
+    /// no step, so a suspended pool tells them too.
     ///
     /// # Errors
     /// `NoMemory`.
