@@ -1,21 +1,19 @@
--- Range locks and the transactions that keep to them, step by step.
+-- Range locks, step by step.
 use Rattle.std.proofs.Common.{ℕ, ◌≡◌, ◌+◌, Bool, true, false, ◌||◌, List, [], ◌∷◌, ◌++◌, not, filter, length, nat_le, nat_lt, refl, sym, subst, ◌<◌, ◌≤◌}
 use Rattle.std.specs.Prelude.{Option, Some, None, Result, Ok, Err, is_none, ◌==◌}
 use Rattle.std.proofs.lemmas.Bool.{le-leb, lt-leb}
 use Rattle.base.specs.declared.error.PoolError.{PoolError}
 use Rattle.base.specs.declared.error.PoolError.TheVariants as error
-use Rattle.base.specs.declared.operation.Shape.{Shape}
 use Rattle.base.specs.declared.range.Mode.{Mode}
 use Rattle.base.specs.declared.range.Mode.TheVariants.{Writer}
-use Rattle.base.specs.formats.Limits.{last_number, max_length, max_log_record, max_transactions, name_number, object_count}
+use Rattle.base.specs.formats.Limits.{last_number, max_length, name_number, object_count}
 use Rattle.base.specs.history.Contents.{length_of}
 use Rattle.base.specs.steps.Locks.{Grant, is_blocked, is_range_allowed}
 use Rattle.base.specs.history.Past.{Past}
-use Rattle.base.specs.history.Plans.{NumberRange, log_record_size}
-use Rattle.base.specs.steps.Refusals.{Test, append_range, append_refusal, first_refusal, has_too_many_locks, object_range, refused_if, lock_refusal, lock_of, is_lock_in_use, unlock_refusal, is_plan_covered, is_plan_blocked}
+use Rattle.base.specs.history.Plans.{NumberRange}
+use Rattle.base.specs.steps.Refusals.{Test, append_range, append_refusal, first_refusal, has_too_many_locks, object_range, refused_if, lock_refusal, lock_of, is_lock_in_use, unlock_refusal}
 use Rattle.base.specs.steps.Shown.{Shown}
-use Rattle.base.specs.steps.Stage.{has_older_group, is_plan_built, begin_refusal, Begin}
-use Rattle.base.specs.steps.Steps.{Lock, LockAppend, State, Unlock, next_grant, next_admission, state_after_grant}
+use Rattle.base.specs.steps.Steps.{Lock, LockAppend, State, Unlock, next_grant, state_after_grant}
 use Rattle.pool_core.specs.Meets.{Meets, object_refusal}
 use Rattle.pool_core.specs.Tables.{Grants, GrantsBy, lock_refusal_of, result_map}
 
@@ -107,51 +105,3 @@ pub unlock_done : (owner id : ℕ) (g : Grant) (s n : Shown) → s.suspended ≡
     → n ≡ record s { locks = filter (λ (x : Grant). not (x.id == id)) s.locks } → Meets (Unlock owner id) (Ok tt) s n
 unlock_done owner id g s n h some unused same =
     λ past. (record past { let_go = past.let_go ++ id ∷ [] }, let none : unlock_refusal owner id s ≡ None = rw (h, some, unused) refl in rw none (rw same refl))
-
-pub begin_suspended : (owner : ℕ) (plan : List Shape) (s : Shown) → s.suspended ≡ true → begin_refusal owner plan s ≡ Some error.Suspended
-begin_suspended owner plan s h = rw h refl
-
-pub begin_older : (owner : ℕ) (plan : List Shape) (s : Shown) → s.suspended ≡ false → has_older_group s.line ≡ true → begin_refusal owner plan s ≡ Some error.NotReady
-begin_older owner plan s h older = rw (h, older) refl
-
-pub begin_bad : (owner : ℕ) (plan : List Shape) (s : Shown) → s.suspended ≡ false → has_older_group s.line ≡ false → is_plan_built plan ≡ false → begin_refusal owner plan s ≡ Some error.BadRange
-begin_bad owner plan s h older bad = rw (h, older, bad) refl
-
--- no older group is unsynced, and the plan is one that is built
-pub record MayBegin (plan : List Shape) (s : Shown) : Type 0 where
-  pub running : s.suspended ≡ false
-  pub no_older : has_older_group s.line ≡ false
-  pub built : is_plan_built plan ≡ true
-
-pub begin_large : (owner : ℕ) (plan : List Shape) (s : Shown) → MayBegin plan s → nat_lt max_log_record (log_record_size plan) ≡ true → begin_refusal owner plan s ≡ Some error.TooLarge
-begin_large owner plan s m large = rw (m.running, m.no_older, m.built, large) refl
-
-pub begin_open : (owner : ℕ) (plan : List Shape) (s : Shown) → MayBegin plan s → nat_lt max_log_record (log_record_size plan) ≡ false → is_plan_covered owner plan s.locks ≡ false
-    → begin_refusal owner plan s ≡ Some error.NotLocked
-begin_open owner plan s m large covered = rw (m.running, m.no_older, m.built, large, covered) refl
-
-pub begin_busy : (owner : ℕ) (plan : List Shape) (s : Shown) → MayBegin plan s → nat_lt max_log_record (log_record_size plan) ≡ false → is_plan_covered owner plan s.locks ≡ true
-    → is_plan_blocked plan s.transactions ≡ true → begin_refusal owner plan s ≡ Some error.Busy
-begin_busy owner plan s m large covered blocked = rw (m.running, m.no_older, m.built, large, covered, blocked) refl
-
-abbrev pub has_too_many : Shown → Bool
-has_too_many s = nat_le max_transactions (length s.transactions) || nat_lt last_number s.next_tx
-
-pub begin_many : (owner : ℕ) (plan : List Shape) (s : Shown) → MayBegin plan s → nat_lt max_log_record (log_record_size plan) ≡ false → is_plan_covered owner plan s.locks ≡ true
-    → is_plan_blocked plan s.transactions ≡ false → has_too_many s ≡ true → begin_refusal owner plan s ≡ Some error.TooMany
-begin_many owner plan s m large covered blocked many = rw (m.running, m.no_older, m.built, large, covered, blocked, many) refl
-
-pub begin_passes : (owner : ℕ) (plan : List Shape) (s : Shown) → MayBegin plan s → nat_lt max_log_record (log_record_size plan) ≡ false → is_plan_covered owner plan s.locks ≡ true
-    → is_plan_blocked plan s.transactions ≡ false → has_too_many s ≡ false → begin_refusal owner plan s ≡ None
-begin_passes owner plan s m large covered blocked few = rw (m.running, m.no_older, m.built, large, covered, blocked, few) refl
-
-pub begin_refused : (owner : ℕ) (plan : List Shape) (e : PoolError) (s : Shown) → begin_refusal owner plan s ≡ Some e → Meets (Begin owner plan) (Err e) s s
-begin_refused owner plan e s refused = λ past. (past, rw refused (refl, refl))
-
-pub begin_wants : (owner : ℕ) (plan : List Shape) (s : Shown) → begin_refusal owner plan s ≡ None → Meets (Begin owner plan) (Err error.NoMemory) s s
-begin_wants owner plan s none = λ past. (past, rw none (refl, refl))
-
-pub begin_done : (owner : ℕ) (plan : List Shape) (s n : Shown) → begin_refusal owner plan s ≡ None
-    → n ≡ record s { transactions = s.transactions ++ next_admission owner plan s ∷ []; next_tx = s.next_tx + 1 } → Meets (Begin owner plan) (Ok (s.next_tx, s.line.open_group)) s n
-begin_done owner plan s n none same =
-    λ past. (record past { admissions = past.admissions ++ next_admission owner plan s ∷ [] }, rw none (refl, rw same refl))

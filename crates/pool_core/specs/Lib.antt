@@ -8,7 +8,7 @@ pub mod StepAnswers
 pub mod Lines
 pub mod HeldLocks
 pub mod GrantedLocks
-pub mod OpenTransactions
+pub mod BeginTests
 pub mod StepReplies
 pub mod ExplainedRuns
 pub mod Holds

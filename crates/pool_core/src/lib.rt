@@ -1,12 +1,11 @@
 //! The state of a pool, one step at a time.
 #![tactic(auto)]
 
-mod groups;
+mod plans;
 mod pool;
 mod range_locks;
 mod runs;
 mod state;
-mod transactions;
 
 pub use runs::run;
 pub use state::{PoolState, Progress};

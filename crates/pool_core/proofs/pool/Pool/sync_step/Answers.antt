@@ -57,7 +57,8 @@ invariant_of-self-in-Ok-More g c =
     record {
       free_sized = pool.free_sized;
       import_fits = pool.import_fits;
-      next_tx_fits = pool.next_tx_fits;
+      counted = pool.counted;
+      holds_exact = pool.holds_exact;
       next_ordinal_fits = pool.next_ordinal_fits;
       plans_built = pool.plans_built;
       running = λ x e. let same = kept_sync _ x e in (
@@ -82,7 +83,8 @@ invariant_of-self-in-Err g c =
     record {
       free_sized = pool.free_sized;
       import_fits = pool.import_fits;
-      next_tx_fits = pool.next_tx_fits;
+      counted = pool.counted;
+      holds_exact = pool.holds_exact;
       next_ordinal_fits = pool.next_ordinal_fits;
       plans_built = pool.plans_built;
       running = λ x e. let same = kept_sync _ x e in (
