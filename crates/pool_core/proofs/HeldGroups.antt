@@ -1,8 +1,8 @@
 -- The groups of a pool are a line, and its counts of holds are those of the open transactions, whatever step is made.
 use Rattle.std.proofs.Common.{rules, ◌≡◌, ℕ, ◌+◌, ◌<◌, ◌≤◌, Bool, true, false, cond, not, ◌↔◌, List, [], ◌∷◌, ◌++◌, length, refl, sym, subst, ap, ◌∙◌, arith}
-use Rattle.std.specs.Prelude.{Option, Some, ◌==◌, filter, is_some, Result, Ok, Err, IfOk, IsErr, IsTrue, OnErr, OnOk}
+use Rattle.std.specs.Prelude.{Option, Some, ◌==◌, ◌||◌, filter, is_none, is_some, Result, Ok, Err, IfOk, IsErr, IsTrue, OnErr, OnOk}
 use Rattle.std.specs.List.{find}
-use Rattle.std.proofs.lemmas.Bool.{eqb-true}
+use Rattle.std.proofs.lemmas.Bool.{eqb-true, false≢true}
 use Rattle.std.proofs.lemmas.List.{length-append}
 use Rattle.std.proofs.lemmas.List.Elements.{filter-append}
 use Rattle.base.specs.declared.error.PoolError.{PoolError}
@@ -13,10 +13,11 @@ use Rattle.base.specs.steps.Refusals.{quiesced_group, quiescing_group}
 use Rattle.base.specs.steps.Steps.{transactions_without}
 use Rattle.base.proofs.common.KeptLists.{Some-injective}
 use Rattle.base.proofs.steps.KeptGroups.{line_close, line_quiesce, line_start, line_sync, none_there, quiesced_is, quiescing_is}
-use Rattle.groups.specs.CountedLines.{CountedLine, IsCounted, after_close, after_hold, after_quiesce, after_release, after_start, after_sync, counted_behind, hold_total, holds_of, is_close_refused, is_quiesce_refused}
+use Rattle.groups.specs.CountedLines.{CountedLine, IsCounted, after_close, after_hold, after_quiesce, after_release, after_start, after_sync, counted_behind, hold_total, holds_of, is_close_refused, is_quiesce_refused, is_start_refused}
 use Rattle.groups.specs.Laws.{AreHoldsExact, BeginsAreHeld, MovesKeepHolds}
 use Rattle.groups.proofs.ExactHolds.{count_transactions, is_released}
 use Rattle.transactions.specs.Open.{AreNamedApart}
+use Rattle.pool_core.specs.Lines.{MayStart}
 use Rattle.pool_core.proofs.Flags.{from_not_false, same_test}
 use Rattle.pool_core.proofs.Opens.{found_index, found_name}
 
@@ -96,6 +97,14 @@ module _ (ts : List Admission) (l : CountedLine) (tx : ℕ) (a : Admission) (gro
 -- what is made of a group, made of the group of this number
 pub of_group : (made : ℕ → CountedLine) (o : Option ℕ) (group other : ℕ) {new : CountedLine} → o ≡ Some group → o ≡ Some other → new ≡ made other → new ≡ made group
 of_group made o group other {new} is also at = subst (λ g. new ≡ made g) (Some-injective (sym also ∙ is)) at
+
+-- where the sync of a group may start it is not refused
+pub started : (answer : Result Group PoolError) (l new : CountedLine) (group : ℕ) → MayStart group l.line → (IsErr answer ↔ IsTrue (is_start_refused l.line)) → IfOk answer (λ g. new ≡ after_start g.0 l)
+    → IfOk answer (λ g. quiesced_group l.line ≡ Some g.0) → new ≡ after_start group l
+started (Ok g) l new group may refused is at = of_group (λ n. after_start n l) (quiesced_group l.line) group g.0 may.0 at is
+started (Err e) l new group may refused is at =
+    let passes : is_start_refused l.line ≡ false = λ i. is_none (may.0 i) || may.1 i in
+    absurd (false≢true (sym passes ∙ refused.0 refl))
 
 -- a close and a quiesce, refused or not
 module _ (answer : Result Group PoolError) (ts : List Admission) (old new : CountedLine) (counted : IsCounted old) (exact : AreHoldsExact ts old) where

@@ -445,7 +445,7 @@ impl Pool {
         let planned = self.plan_group(group)?;
         take_all(&mut self.free, &planned.blocks);
         self.sync = Some(self.running_sync(group, moment, planned));
-        let Ok(group) = self.groups.start_sync() else {
+        let Ok(_) = self.groups.start_sync() else {
             unreachable!();
         };
         Ok(group)
@@ -545,7 +545,8 @@ impl Pool {
                 let Some(synced) = self.sync.take() else {
                     unreachable!();
                 };
-                let Ok(group) = self.groups.finish_sync() else {
+                let group = synced.group;
+                let Ok(_) = self.groups.finish_sync() else {
                     unreachable!();
                 };
                 self.finish_tree(synced);
