@@ -1,51 +1,24 @@
 -- A commit, step by step.
-use Rattle.std.proofs.Common.{ℕ, ◌≡◌, ◌+◌, ◌↔◌, Bool, true, false, List, [], ◌∷◌, ◌++◌, map, nat_lt, refl, sym, subst, ◌∙◌, eq-eqb}
-use Rattle.std.specs.Prelude.{Some, None, Ok, Err, IsTrue, ◌==◌}
+use Rattle.std.proofs.Common.{ℕ, ◌≡◌, ◌+◌, Bool, true, false, List, [], ◌∷◌, ◌++◌, map, nat_lt, refl}
+use Rattle.std.specs.Prelude.{Some, None, Ok, Err}
 use Rattle.std.specs.List.{list_any, list_all}
 use Rattle.std.proofs.lemmas.List.Folds.{list_any_none}
 use Rattle.base.specs.declared.error.PoolError.{PoolError}
 use Rattle.base.specs.declared.error.PoolError.TheVariants as error
 use Rattle.base.specs.declared.operation.Op.{Op}
 use Rattle.base.specs.declared.operation.Op.TheVariants as op
-use Rattle.base.specs.declared.operation.Shape.{Shape}
-use Rattle.base.specs.declared.operation.Shape.TheVariants as shape
 use Rattle.base.specs.history.Contents.{Contents}
 use Rattle.base.specs.steps.Groups.{Admission}
 use Rattle.base.specs.history.History.{apply_all}
 use Rattle.base.specs.formats.Limits.{last_number}
 use Rattle.base.specs.history.Plans.{shape_of}
 use Rattle.base.specs.formats.Records.{is_content_allowed}
-use Rattle.base.specs.steps.Refusals.{transaction_of, is_same_shape, is_same_plan, gives_bad_name}
+use Rattle.base.specs.steps.Refusals.{transaction_of, is_same_plan, gives_bad_name}
 use Rattle.base.specs.steps.Shown.{Shown}
 use Rattle.base.specs.steps.Stage.{has_older_group, commit_refusal, Commit}
 use Rattle.base.specs.steps.Steps.{transactions_without}
-use Rattle.base.proofs.history.CommitOrder.{same_plan}
 use Rattle.pool_core.specs.Meets.{Meets, MayCommit}
 use Rattle.object_maps.specs.Ops.{AreOpsAllowed, IsOpAllowed}
-
-same_number : (n : ℕ) → (n == n) ≡ true
-same_number n = eq-eqb n n refl
-
-shape_same : (x : Shape) → is_same_shape x x ≡ true
-shape_same (shape.Create n) = same_number n.0
-shape_same (shape.Remove n) = same_number n.0
-shape_same (shape.Write n o c) = rw (same_number n.0, same_number o, same_number c) refl
-shape_same (shape.SetLength n k) = rw (same_number n.0, same_number k) refl
-shape_same (shape.SetName c) = same_number c
-
-plan_same : (p : List Shape) → is_same_plan p p ≡ true
-plan_same [] = refl
-plan_same (x ∷ xs) = rw (shape_same x, plan_same xs) refl
-
--- a test that says whether two plans are equal
-pub plan_test : (r : Bool) (p q : List Shape) → (IsTrue r ↔ (p ≡ q)) → r ≡ is_same_plan p q
-plan_test r p q h = go r (is_same_plan p q) h refl
-  where
-    go : (a b : Bool) → (IsTrue a ↔ (p ≡ q)) → is_same_plan p q ≡ b → a ≡ b
-    go true true k e = refl
-    go false false k e = refl
-    go true false k e = sym (subst (λ (l : List Shape). is_same_plan p l ≡ true) (k.0 refl) (plan_same p)) ∙ e
-    go false true k e = k.1 (same_plan p q e)
 
 -- operations that create and write give the pool no name
 names_none : (o : Op) → IsOpAllowed o → gives_bad_name o ≡ false

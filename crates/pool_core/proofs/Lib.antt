@@ -2,7 +2,6 @@ pub mod SamePlans
 pub mod SameSyncs
 pub mod Mapped
 pub mod Closes
-pub mod KeptRanges
 pub mod LockSteps
 pub mod BeginTests
 pub mod CommitTests
@@ -12,6 +11,7 @@ pub mod ReadSteps
 pub mod ToldContents
 pub mod OfNoDevice
 pub mod Opens
+pub mod HeldGroups
 pub mod RepliedSteps
 pub mod HeldSteps
 pub mod Turns

@@ -1,41 +1,19 @@
--- Operations that have a plan's shapes, one for one.
-use Rattle.std.proofs.Common.{ℕ, ◌≡◌, ◌<◌, Bool, true, false, ◌||◌, List, [], ◌∷◌, length, map, get_or, refl, sym, subst, ◌∙◌}
-use Rattle.std.proofs.lemmas.List.{ext_get_or, get_or-map, length-map}
-use Rattle.base.specs.declared.operation.Op.{Op}
-use Rattle.base.specs.declared.operation.Op.TheVariants as op
-use Rattle.base.specs.declared.operation.Shape.{Shape}
-use Rattle.base.specs.declared.operation.Shape.TheVariants as shape
+-- Operations that have the shapes of a plan that is built.
+use Rattle.std.proofs.Common.{◌≡◌, Bool, true, false, ◌||◌, List, [], ◌∷◌, length, map, refl, sym, subst, ◌∙◌}
 use Rattle.std.specs.Prelude.{nat_lt}
 use Rattle.std.specs.List.{list_all, list_any}
 use Rattle.std.proofs.lemmas.Bool.{false≢true}
 use Rattle.std.proofs.lemmas.List.Elements.{All-head, All-tail}
-use Rattle.std.proofs.lemmas.List.Folds.{list_all_at, list_all-map}
+use Rattle.std.proofs.lemmas.List.Folds.{list_all-map}
+use Rattle.base.specs.declared.operation.Op.{Op}
+use Rattle.base.specs.declared.operation.Op.TheVariants as op
+use Rattle.base.specs.declared.operation.Shape.{Shape}
 use Rattle.base.specs.history.Plans.{shape_of, is_shape_allowed, is_plan_allowed}
 use Rattle.base.specs.steps.Stage.{is_shape_built, is_plan_built}
 use Rattle.base.proofs.history.CommitOrder.{and-true}
 use Rattle.base.specs.tree.Syncs.{is_rename}
 use Rattle.object_maps.specs.Ops.{AreOpsAllowed, IsOpAllowed}
-
-abbrev some_op : Op
-some_op = op.Create (record { 0 = 0 })
-
-abbrev some_shape : Shape
-some_shape = shape.Create (record { 0 = 0 })
-
-pub all_shapes : (ops : List Op) (plan : List Shape) → length ops ≡ length plan
-    → ((k : ℕ) (d : Op) (e : Shape) → k < length ops → shape_of (get_or ops k d) ≡ get_or plan k e) → map shape_of ops ≡ plan
-all_shapes ops plan long each =
-    ext_get_or some_shape (map shape_of ops) plan (simp length-map long)
-    (λ k below. let low : k < length ops = simp length-map at below in
-    get_or-map shape_of ops k some_op some_shape low ∙ each k some_op some_shape low)
-
--- where each element passes a test
-pub each_passes : {X : Type 0} (p : X → Bool) (xs : List X) → list_all p xs ≡ true → (k : ℕ) (d : X) → k < length xs → p (get_or xs k d) ≡ true
-each_passes p xs all k d below = go (p (get_or xs k d)) refl
-  where
-    go : (b : Bool) → p (get_or xs k d) ≡ b → p (get_or xs k d) ≡ true
-    go true e = e
-    go false e = absurd (let none = list_all_at p xs k d below e in let no : true ≡ false = sym all ∙ none in cc)
+use Rattle.transactions.proofs.KeptRanges.{each_passes}
 
 -- operations with the shapes of a plan that creates and writes within the limits do so
 pub allowed_ops : (ops : List Op) (plan : List Shape) → map shape_of ops ≡ plan → is_plan_built plan ≡ true → AreOpsAllowed ops

@@ -27,7 +27,7 @@ use Rattle.pool_core.specs.declared.pool.Pool.{Pool}
 use Rattle.pool_core.specs.declared.pool.RunningSync.{RunningSync}
 use Rattle.pool_core.specs.GroupPlans.{IsPlannedGroup, IsShortOfBlocks}
 use Rattle.pool_core.specs.Holds.{held_with, new_tree_of, pool_told}
-use Rattle.pool_core.specs.Lines.{MayStart, line_of}
+use Rattle.pool_core.specs.Lines.{MayStart}
 use Rattle.pool_core.specs.Pointers.{pointers_after}
 use Rattle.pool_core.specs.Shows.{new_plan, pool_shown}
 use Rattle.pool_core.proofs.PlannedCounts.{enough_blocks, taken_fit, takes_for_each, takes_in_order}
@@ -46,7 +46,7 @@ nothing_made tree r root directories maps blocks root_is directories_are maps_ar
 
 -- what the plan of a group says is what a start of its sync asks, with each past
 pub group_planned : (now : List ℕ) (past : Past) (pool : Pool) (group moment : ℕ) (blocks : List PlannedBlock) (freed : List ℕ) (root : Pointer) (directories : List Pointer) (maps : BTreeMap ObjectId ObjectMap)
-    → MayStart group (line_of pool.groups)
+    → MayStart group pool.groups.line
     → IsPlannedGroup group pool.pending.items (frame_at (pool_shown pool) group) (pointers_of pool.tree) (pointers_after root directories maps pool.tree) (map new_block blocks) (contents_of pool.contents).objects
     → (AreBornBefore group (pointers_of pool.tree) → AreFreed (pointers_of pool.tree) (pointers_after root directories maps pool.tree) freed)
     → AreUsed (map new_block blocks) (pointers_after root directories maps pool.tree) → ((i : ℕ) (b : NewBlock) → slice_get (map new_block blocks) i ≡ Some b → length b.content ≡ 4096)
@@ -54,13 +54,13 @@ pub group_planned : (now : List ℕ) (past : Past) (pool : Pool) (group moment :
     → IsPlannedSync (frame_at (pool_shown pool) group) (pointers_of pool.tree) (pointers_after root directories maps pool.tree) (map new_block blocks) x.kept.stored.synced.objects (contents_of pool.contents).objects
     (new_plan moment pool.log_address (map address_of blocks) freed root)
 group_planned now past pool group moment blocks freed root directories maps may planned freed_are used whole x =
-    planned_sync now (pool_shown pool) past (pointers_of pool.tree) x.kept.stored x.explained group (none_there (line_of pool.groups).syncing may.1) (quiesced_is (line_of pool.groups) group may.0)
+    planned_sync now (pool_shown pool) past (pointers_of pool.tree) x.kept.stored x.explained group (none_there pool.groups.line.syncing may.1) (quiesced_is pool.groups.line group may.0)
     pool.pending.items refl (pointers_after root directories maps pool.tree) (map new_block blocks) (new_plan moment pool.log_address (map address_of blocks) freed root)
     planned (addresses_are blocks) whole freed_are used refl
 
 -- what a started sync takes is what its tree has at the places that it writes, in order
 module _ (now : List ℕ) (past : Past) (pool : Pool) (group moment : ℕ) (blocks : List PlannedBlock) (freed : List ℕ) (root : Pointer) (directories : List Pointer) (maps : BTreeMap ObjectId ObjectMap)
-    (may : MayStart group (line_of pool.groups))
+    (may : MayStart group pool.groups.line)
     (planned : IsPlannedGroup group pool.pending.items (frame_at (pool_shown pool) group) (pointers_of pool.tree) (pointers_after root directories maps pool.tree) (map new_block blocks) (contents_of pool.contents).objects)
     (x : IsHeld (held_with (pool_told pool now) past)) where
   abbrev pub plan : SyncPlan
@@ -68,26 +68,26 @@ module _ (now : List ℕ) (past : Past) (pool : Pool) (group moment : ℕ) (bloc
 
   pub group_takes : map (λ (place : Place). (pointers_after root directories maps pool.tree place).address) (written_places (ops_of_group group past.entries) x.kept.stored.synced (has_block now (pool_shown pool).root)) ≡ plan.taken
   group_takes =
-      takes_in_order now (pool_shown pool) past (pointers_of pool.tree) x.kept.stored x.explained group (none_there (line_of pool.groups).syncing may.1) (quiesced_is (line_of pool.groups) group may.0) pool.pending.items refl
+      takes_in_order now (pool_shown pool) past (pointers_of pool.tree) x.kept.stored x.explained group (none_there pool.groups.line.syncing may.1) (quiesced_is pool.groups.line group may.0) pool.pending.items refl
       (pointers_after root directories maps pool.tree) (map new_block blocks) plan planned (addresses_are blocks)
 
   pub group_takes_each : TakesForEach now (record { shown = pool_shown pool; past = past }) group plan
   group_takes_each =
-      takes_for_each now (pool_shown pool) past (pointers_of pool.tree) x.kept.stored x.explained group (none_there (line_of pool.groups).syncing may.1) (quiesced_is (line_of pool.groups) group may.0) pool.pending.items refl
+      takes_for_each now (pool_shown pool) past (pointers_of pool.tree) x.kept.stored x.explained group (none_there pool.groups.line.syncing may.1) (quiesced_is pool.groups.line group may.0) pool.pending.items refl
       (pointers_after root directories maps pool.tree) (map new_block blocks) plan planned (addresses_are blocks)
 
 -- Whatever the device holds: it takes no more blocks than its operations are estimated at.
-pub group_fits : (past : Past) (pool : Pool) (group : ℕ) (blocks : List PlannedBlock) (new : Place → Pointer) → MayStart group (line_of pool.groups) → IsExplainedNow (pool_shown pool) past
+pub group_fits : (past : Past) (pool : Pool) (group : ℕ) (blocks : List PlannedBlock) (new : Place → Pointer) → MayStart group pool.groups.line → IsExplainedNow (pool_shown pool) past
     → IsPlannedGroup group pool.pending.items (frame_at (pool_shown pool) group) (pointers_of pool.tree) new (map new_block blocks) (contents_of pool.contents).objects
     → length (map address_of blocks) ≤ estimate_of (map shape_of (ops_of_group group past.entries))
 group_fits past pool group blocks new may explained planned =
-    let fits = taken_fit (pool_shown pool) past explained group (none_there (line_of pool.groups).syncing may.1) (quiesced_is (line_of pool.groups) group may.0) refl pool.pending.items refl (pointers_of pool.tree)
+    let fits = taken_fit (pool_shown pool) past explained group (none_there pool.groups.line.syncing may.1) (quiesced_is pool.groups.line group may.0) refl pool.pending.items refl (pointers_of pool.tree)
         new (map new_block blocks) planned in
     subst (λ (n : ℕ). n ≤ estimate_of (map shape_of (ops_of_group group past.entries))) (length-map blocks new_block ∙ sym (length-map blocks address_of)) fits
 
 -- and its plan is not short of blocks
-pub never_short : (past : Past) (pool : Pool) (group : ℕ) → MayStart group (line_of pool.groups) → IsExplainedNow (pool_shown pool) past
+pub never_short : (past : Past) (pool : Pool) (group : ℕ) → MayStart group pool.groups.line → IsExplainedNow (pool_shown pool) past
     → IsShortOfBlocks group pool.pending.items (pointers_of pool.tree) (contents_of pool.contents).objects pool.free.flags.items → ⊥
 never_short past pool group may explained short =
-    enough_blocks (pool_shown pool) past explained group (none_there (line_of pool.groups).syncing may.1) (quiesced_is (line_of pool.groups) group may.0) refl pool.pending.items refl (pointers_of pool.tree)
+    enough_blocks (pool_shown pool) past explained group (none_there pool.groups.line.syncing may.1) (quiesced_is pool.groups.line group may.0) refl pool.pending.items refl (pointers_of pool.tree)
         pool.free.flags.items refl short

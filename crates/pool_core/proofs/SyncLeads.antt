@@ -153,7 +153,7 @@ pub was_running : (pool : Pool) (r : RunningSync) → pool.sync ≡ Some r → o
 was_running pool r is = ap (λ (o : Option RunningSync). option_map (new_tree_of pool.tree) o) is
 
 -- and its group
-pub was_syncing : (pool : Pool) (r : RunningSync) → pool.sync ≡ Some r → option_map (λ (g : Group). g.0) pool.groups.syncing ≡ Some r.group.0
+pub was_syncing : (pool : Pool) (r : RunningSync) → pool.sync ≡ Some r → pool.groups.line.syncing ≡ Some r.group.0
 was_syncing pool r is = sym pool.sync_line ∙ ap (λ (o : Option RunningSync). option_map (λ (r : RunningSync). r.group.0) o) is
 
 -- after a refused call it is as before

@@ -6,7 +6,7 @@ pub mod Targets
 pub mod Meets
 pub mod StepAnswers
 pub mod Lines
-pub mod OpenTransactions
+pub mod BeginTests
 pub mod StepReplies
 pub mod ExplainedRuns
 pub mod Holds

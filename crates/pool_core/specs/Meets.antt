@@ -13,9 +13,9 @@ use Rattle.base.specs.steps.ExactNow.{IsExplainedNow}
 use Rattle.base.specs.steps.Groups.{Admission}
 use Rattle.base.specs.history.History.{apply_all}
 use Rattle.base.specs.history.Past.{Past}
-use Rattle.base.specs.steps.Refusals.{first_refusal, refused_if, transaction_of}
+use Rattle.base.specs.steps.Refusals.{Test, first_refusal, refused_if, transaction_of}
 use Rattle.base.specs.steps.Shown.{Shown}
-use Rattle.base.specs.steps.Stage.{begin_refusal, commit_refusal}
+use Rattle.base.specs.steps.Stage.{begin_tests, commit_refusal}
 use Rattle.base.specs.steps.Steps.{State}
 
 -- whatever the past of a run, the step leads with this answer from what was shown before to what is shown after, and to a later past
@@ -49,10 +49,14 @@ abbrev pub FindsLength : ℕ → Result ℕ PoolError → Shown → Type 0
 FindsLength n (Ok length) s = (nat_le object_count n ≡ false) × (length_of s.contents n ≡ Some length)
 FindsLength n (Err e) s = object_refusal n s ≡ Some e
 
+-- none of these tests applies, or it is refused by the first that does
+abbrev pub Passes : {A : Type 0} → List Test → Result A PoolError → Type 0
+Passes tests (Ok a) = first_refusal tests ≡ None
+Passes tests (Err e) = first_refusal tests ≡ Some e
+
 -- the tests of a begin and of a commit: passed, or the first refusal that applies
 abbrev pub ChecksBegin : Owner → List Shape → Result (Unit {0}) PoolError → Shown → Type 0
-ChecksBegin owner plan (Ok done) s = begin_refusal owner.0 plan s ≡ None
-ChecksBegin owner plan (Err e) s = begin_refusal owner.0 plan s ≡ Some e
+ChecksBegin owner plan answer s = Passes (begin_tests owner.0 plan s) answer
 
 abbrev pub ChecksCommit : TxId → List Op → Result Group PoolError → Shown → Type 0
 ChecksCommit tx ops (Ok group) s = MayCommit tx.0 ops group.0 s

@@ -5,23 +5,17 @@ use Rattle.std.specs.FinMap.{FinMap}
 use Rattle.std.specs.Ordering.{nat_cmp}
 use Rattle.std.specs.FinSet as set
 use Rattle.base.specs.declared.pointer.Pointer.{Pointer}
-use Rattle.base.specs.steps.Groups.{Admission}
 use Rattle.base.specs.formats.Geometry.{block_address, block_count}
 use Rattle.base.specs.formats.Records.{Record}
 use Rattle.base.specs.steps.Logs.{Log}
 use Rattle.base.specs.steps.Shown.{Shown, SyncPlan}
 use Rattle.space.specs.FreeSets.{free_of}
 use Rattle.object_maps.specs.ContentsShown.{contents_of}
-use Rattle.pool_core.specs.Lines.{line_of}
-use Rattle.pool_core.specs.declared.transactions.OpenTransaction.{OpenTransaction}
 use Rattle.tree_plans.specs.declared.planner.Committed.{Committed}
 use Rattle.tree_plans.specs.declared.planner.PlannedBlock.{PlannedBlock}
 use Rattle.pool_core.specs.declared.pool.RunningSync.{RunningSync}
 use Rattle.pool_core.specs.declared.pool.Pool.{Pool}
 use Rattle.sync.specs.Runs.{call_count}
-
-abbrev pub admission_of : OpenTransaction → Admission
-admission_of t = record { tx = t.tx.0; group = t.group.0; owner = t.owner.0; plan = t.plan }
 
 abbrev pub record_of : Committed → Record
 record_of c = record { group = c.group.0; ordinal = c.ordinal; ops = c.ops }
@@ -60,9 +54,9 @@ shown_of objects p = record {
   dirty_max = p.dirty_max;
   locks = p.locks.locks;
   next_lock = p.locks.next;
-  line = line_of p.groups;
-  transactions = map admission_of p.transactions.items;
-  next_tx = p.next_tx;
+  line = p.groups.line;
+  transactions = p.transactions.transactions;
+  next_tx = p.transactions.next;
   contents = record { name = p.contents.name; objects = objects };
   next_ordinal = p.next_ordinal;
   dirty = finite.empty;

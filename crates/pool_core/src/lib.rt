@@ -1,11 +1,10 @@
 //! The state of a pool, one step at a time.
 #![tactic(auto)]
 
-mod groups;
+mod plans;
 mod pool;
 mod runs;
 mod state;
-mod transactions;
 
 pub use runs::run;
 pub use state::{PoolState, Progress};

@@ -1,16 +1,19 @@
 //! A pool without its device, and each of its steps.
 
-ghost use Rattle.std.specs.Prelude.{◌≡◌, ◌<◌, ◌+◌, ◌-◌, ◌≤◌, ◌^◌, ◌⊎◌, All, IfErr, IfOk, IsTrue, None, OnOk, false, is_some, length, map, option_map, true, vec_len};
+ghost use Rattle.std.specs.Prelude.{◌≡◌, ◌<◌, ◌-◌, ◌+◌, ◌≤◌, ◌^◌, ◌⊎◌, All, IfErr, IfOk, IsTrue, None, OnOk, false, is_some, length, map, option_map, true, vec_len};
 ghost use Rattle.std.proofs.Props.{props};
 ghost use Rattle.std.specs.List.{list_any};
 ghost use Rattle.std.specs.Option.{ForSome};
 ghost use Rattle.base.specs.formats.Fields.{part};
 ghost use Rattle.base.specs.formats.Geometry.{IsGeometry, block_count};
+ghost use Rattle.base.specs.formats.Limits.{max_transactions};
 ghost use Rattle.base.specs.history.Contents.{length_of};
 ghost use Rattle.base.specs.tree.PlacedTrees.{ArePlaced};
 ghost use Rattle.base.specs.steps.Groups.{Admission};
 ghost use Rattle.base.specs.steps.Refusals.{is_lock_in_use, transaction_of};
 ghost use Rattle.base.specs.steps.Stage.{has_older_group, is_plan_built};
+ghost use Rattle.groups.specs.CountedLines.{IsCounted};
+ghost use Rattle.groups.specs.Laws.{AreHoldsExact};
 ghost use Rattle.base.specs.tree.Syncs.{is_rename};
 ghost use Rattle.object_maps.specs.Ops.{AreOpsAllowed};
 ghost use Rattle.object_maps.specs.Pointers.{pointers_of};
@@ -24,20 +27,15 @@ ghost use Rattle.pool_core.specs.Pending.{pending_after};
 ghost use Rattle.pool_core.specs.Pointers.{pointers_after};
 ghost use Rattle.pool_core.specs.RunningUberblocks.{WritesUberblock, uberblock_with};
 ghost use Rattle.pool_core.specs.Targets.{is_readable};
-ghost use Rattle.pool_core.specs.declared.transactions.OpenTransaction.{OpenTransaction};
 
-use crate::groups::Groups;
+use crate::plans::check_plan;
 use crate::state::Progress;
-use crate::transactions::{
-    OpenTransaction, find_transaction, is_blocked, is_group_held, is_held_in_use, is_in_plan,
-    is_plan_allowed, is_too_large, range_of, remove_transaction,
-};
 use base::{
-    Bytes, Group, LAST_NUMBER, LockId, MAX_TRANSACTIONS, Mode, OBJECT_COUNT, ObjectId, ObjectRange,
-    Op, Ops, Ordinal, Owner, Plan, Pointer, PoolError, PoolName, Range, Receipt, Shape, TxId,
-    WRITTEN_VERSION,
+    Bytes, Group, LAST_NUMBER, LockId, Mode, OBJECT_COUNT, ObjectId, ObjectRange, Op, Ops, Ordinal,
+    Owner, Plan, Pointer, PoolError, PoolName, Range, Receipt, Shape, TxId, WRITTEN_VERSION,
 };
 use device_model::SectorDevice;
+use groups::Groups;
 use import_replay::Mounted;
 use indexmap::map::Iter;
 use labels::Geometry;
@@ -47,6 +45,7 @@ use space::FreeSet;
 use std::alloc::Global;
 use std::collections::BTreeMap;
 use sync::{SyncCall, SyncRun};
+use transactions::{OpenTransactions, is_in_plan, range_of};
 use tree_plans::{Committed, PlanSource, PlannedBlock, TreePlan, changed_objects, plan};
 use uberblocks::{Uberblock, slot};
 
@@ -81,8 +80,7 @@ pub(crate) struct Pool {
     suspended: bool,
     locks: RangeLocks,
     groups: Groups,
-    transactions: Vec<OpenTransaction>,
-    next_tx: u64,
+    transactions: OpenTransactions,
     contents: Contents,
     next_ordinal: u64,
     // the committed transactions of unsynced groups, in order
@@ -93,14 +91,15 @@ pub(crate) struct Pool {
     sync: Option<RunningSync>,
     ghost free_sized: { vec_len free.flags ≡ block_count geometry },
     ghost import_fits: { import_number ≤ 2 ^ 60 },
-    ghost next_tx_fits: { next_tx ≤ 2 ^ 60 + 1 },
     ghost next_ordinal_fits: { next_ordinal ≤ 2 ^ 60 + 1 },
-    ghost plans_built: { All (λ (t : OpenTransaction). is_plan_built t.plan ≡ true) transactions.items },
+    ghost counted: { IsCounted groups } by { Prim.hlevel props },
+    ghost holds_exact: { AreHoldsExact transactions.transactions groups },
+    ghost plans_built: { All (λ (a : Admission). is_plan_built a.plan ≡ true) transactions.transactions },
     ghost running: { ForSome sync (λ r. (r.run.geometry ≡ geometry) × (r.run.done < call_count r.run)) },
     ghost uberblock: { ForSome sync (λ r. WritesUberblock
         (uberblock_with guid import_number log_address r.group.0 r.moment r.root) r.run) },
     ghost planned: { ForSome sync (λ r. ∥ ArePlaced (block_count geometry) (pointers_after r.root r.directories.items r.maps tree) ∥₁) },
-    ghost sync_line: { option_map (λ r. r.group.0) sync ≡ option_map (λ g. g.0) groups.syncing } by { Prim.hlevel props },
+    ghost sync_line: { option_map (λ r. r.group.0) sync ≡ groups.line.syncing } by { Prim.hlevel props },
     ghost pending_built: { All (λ (c : Committed). list_any is_rename c.ops ≡ false) pending.items },
     ghost tree_placed: { ∥ ArePlaced (block_count geometry) (pointers_of tree) ∥₁ },
 }
@@ -118,13 +117,13 @@ impl Pool {
     ghost use Rattle.pool_core.specs.Calls.{MakesNextOf};
     ghost use Rattle.pool_core.specs.GroupPlans.{BeginsPlan, FitsIn, IsRefusedShort, MakesGroupTree, TakesLowest, begun_plan, uberblock_for};
     ghost use Rattle.pool_core.specs.Holds.{Leads, SamePlaces, sync_step_reply, pool_told, tree_after};
-    ghost use Rattle.pool_core.specs.Lines.{ChecksStart, line_of};
-    ghost use Rattle.pool_core.specs.Meets.{ChecksBegin, ChecksCommit, FindsLength, RefusesIf};
+    ghost use Rattle.pool_core.specs.Lines.{ChecksStart};
+    ghost use Rattle.pool_core.specs.BeginTests.{range_tests, room_tests};
+    ghost use Rattle.pool_core.specs.Meets.{ChecksBegin, ChecksCommit, FindsLength, Passes, RefusesIf};
     ghost use Rattle.pool_core.specs.Shows.{plan_of, shown_after_tree, pool_shown};
     ghost use Rattle.pool_core.specs.States.{IsOfNoDevice, KeepsTree};
     ghost use Rattle.pool_core.specs.StepAnswers.{Begins, ClosesGroup, Commits, Locks, LocksAppend, MarksQuiesced, Reads, StartsSync, StepsSync, TellsDigest, TellsLength, Unlocks};
     ghost use Rattle.pool_core.specs.SyncStarts.{StartLeads, StartsHeld, StartsInOrder};
-    ghost use Rattle.pool_core.specs.OpenTransactions.{is_full};
     ghost use Rattle.pool_core.specs.Targets.{is_kept_covered};
 
     pub(crate) fn new(mounted: Mounted) -> Self
@@ -154,8 +153,7 @@ impl Pool {
             suspended: false,
             locks: RangeLocks::new(alloc),
             groups: Groups::new(group),
-            transactions: Vec::new(alloc),
-            next_tx: 0,
+            transactions: OpenTransactions::new(alloc),
             contents,
             next_ordinal: 0,
             pending: Vec::new(alloc),
@@ -181,12 +179,18 @@ impl Pool {
 
     // A transaction begins and commits, and a group is closed, only where no older group is unsynced.
     fn check_no_older(&self) -> Result<(), PoolError>
-        ensures { RefusesIf (has_older_group (line_of self.now.groups)) PoolError.NotReady result }
+        ensures { RefusesIf (has_older_group self.now.groups.line) PoolError.NotReady result }
     {
-        if self.groups.has_older() {
+        if self.has_older() {
             return Err(PoolError::NotReady);
         }
         Ok(())
+    }
+
+    fn has_older(&self) -> bool
+        ensures { result ≡ has_older_group self.now.groups.line }
+    {
+        self.groups.middle().is_some() || self.groups.syncing().is_some()
     }
 
     pub(crate) fn lock(
@@ -235,7 +239,7 @@ impl Pool {
         ensures { (id : LockId)
             → result ≡ is_lock_in_use (grant_of (id, held.now)) (pool_shown self.now) }
     {
-        is_held_in_use(held, &self.transactions)
+        !held.mode.is_reader() && self.transactions.is_lock_in_use(&held.range)
     }
 
     pub(crate) fn held(&self) -> Iter<'_, LockId, HeldLock>
@@ -260,16 +264,10 @@ impl Pool {
         ensures kept { KeepsTree self.old self.new }
     {
         self.check_begin(owner, plan.as_slice())?;
-        let tx = TxId(self.next_tx);
-        let group = self.groups.open_group;
         let plan = plan.try_clone(self.alloc)?;
-        self.transactions.push(OpenTransaction {
-            tx,
-            group,
-            owner,
-            plan,
-        })?;
-        self.next_tx += 1;
+        let group = self.groups.open_group();
+        let tx = self.transactions.admit(owner, group, plan)?;
+        self.groups.hold();
         Ok((tx, group))
     }
 
@@ -277,23 +275,35 @@ impl Pool {
     fn check_begin(&self, owner: Owner, plan: &[Shape]) -> Result<(), PoolError>
         ensures refusal { ChecksBegin owner plan.now result (pool_shown self.now) }
         ensures built { OnOk result (is_plan_built plan.now ≡ true) }
-        ensures named { OnOk result (self.now.next_tx ≤ 2 ^ 60) }
+        ensures room { OnOk result (length self.now.transactions.transactions < max_transactions) }
     {
         self.check_running()?;
         self.check_no_older()?;
-        if !is_plan_allowed(plan) {
-            return Err(PoolError::BadRange);
-        }
-        if is_too_large(plan) {
-            return Err(PoolError::TooLarge);
-        }
+        check_plan(plan)?;
+        self.check_ranges(owner, plan)?;
+        self.check_room()
+    }
+
+    // Each range of a plan lies in a writer lock of the owner, and overlaps none of an open transaction.
+    fn check_ranges(&self, owner: Owner, plan: &[Shape]) -> Result<(), PoolError>
+        requires { is_plan_built plan.now ≡ true }
+        ensures { Passes (range_tests owner.0 plan.now (pool_shown self.now)) result }
+    {
         if !self.is_covered(owner, plan) {
             return Err(PoolError::NotLocked);
         }
-        if is_blocked(plan, &self.transactions) {
+        if self.transactions.is_blocked(plan) {
             return Err(PoolError::Busy);
         }
-        if self.has_too_many() {
+        Ok(())
+    }
+
+    // One more transaction may be open.
+    fn check_room(&self) -> Result<(), PoolError>
+        ensures refusal { Passes (room_tests (pool_shown self.now)) result }
+        ensures room { OnOk result (length self.now.transactions.transactions < max_transactions) }
+    {
+        if self.transactions.is_full() {
             return Err(PoolError::TooMany);
         }
         Ok(())
@@ -305,19 +315,12 @@ impl Pool {
         plan.iter().all(|shape| self.locks.covers_for_writing(owner, &range_of(shape)))
     }
 
-    // Whether one more transaction is too many.
-    fn has_too_many(&self) -> bool
-        ensures { result ≡ is_full (vec_len self.now.transactions) self.now.next_tx }
-    {
-        self.transactions.len() >= MAX_TRANSACTIONS || self.next_tx > LAST_NUMBER
-    }
-
     // The plan of an open transaction.
     pub(crate) fn open_plan(&self, tx: TxId) -> Option<&Plan>
         ensures { option_map (λ p. p.now) result
             ≡ option_map (λ (a : Admission). a.plan) (transaction_of tx.0 (pool_shown self.now)) }
     {
-        let transaction = find_transaction(&self.transactions, tx)?;
+        let transaction = self.transactions.find(tx)?;
         Some(&transaction.plan)
     }
 
@@ -329,7 +332,7 @@ impl Pool {
     {
         self.check_running()?;
         self.check_no_older()?;
-        let Some(transaction) = find_transaction(&self.transactions, tx) else {
+        let Some(transaction) = self.transactions.find(tx) else {
             return Err(PoolError::NoSuchTransaction);
         };
         if !is_in_plan(ops, transaction.plan.as_slice()) {
@@ -350,7 +353,8 @@ impl Pool {
         self.pending.reserve(1)?;
         self.contents.reserve(ops.as_slice())?;
         self.contents.apply(ops.as_slice());
-        remove_transaction(&mut self.transactions, tx);
+        self.transactions.end(tx);
+        self.groups.release(group);
         let ordinal = self.next_ordinal;
         self.next_ordinal += 1;
         self.pending.push_reserved(Committed {
@@ -437,14 +441,7 @@ impl Pool {
         ensures kept { KeepsTree self.old self.new }
     {
         self.check_running()?;
-        let Some(group) = self.groups.quiescing() else {
-            return Err(PoolError::NotReady);
-        };
-        if is_group_held(&self.transactions, group) {
-            return Err(PoolError::NotReady);
-        }
-        self.groups.mark_quiesced(group);
-        Ok(group)
+        self.groups.mark_quiesced()
     }
 
     pub(crate) fn start_sync(&mut self, moment: u64) -> Result<Group, PoolError>
@@ -460,19 +457,18 @@ impl Pool {
         let planned = self.plan_group(group)?;
         take_all(&mut self.free, &planned.blocks);
         self.sync = Some(self.running_sync(group, moment, planned));
-        self.groups.start_sync(group);
+        let Ok(_) = self.groups.start_sync() else {
+            unreachable!();
+        };
         Ok(group)
     }
 
     // The quiesced group, where a sync of it may start.
     fn check_start(&self) -> Result<Group, PoolError>
         ensures group { IfOk result (λ group. IsGroup group.0) }
-        ensures may { ChecksStart result (line_of self.now.groups) }
+        ensures may { ChecksStart result self.now.groups.line }
     {
-        if self.sync.is_some() {
-            return Err(PoolError::NotReady);
-        }
-        self.groups.quiesced().ok_or(PoolError::NotReady)
+        self.groups.ready_to_sync()
     }
 
     fn plan_group(&self, group: Group) -> Result<TreePlan, PoolError>
@@ -562,7 +558,9 @@ impl Pool {
                     unreachable!();
                 };
                 let group = synced.group;
-                self.groups.finish_sync(group);
+                let Ok(_) = self.groups.finish_sync() else {
+                    unreachable!();
+                };
                 self.finish_tree(synced);
                 Ok(Progress::Synced(group))
             }

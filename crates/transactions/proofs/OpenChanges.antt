@@ -1,17 +1,19 @@
 -- How the admissions change as a transaction is admitted, and as one ends.
-use Rattle.std.proofs.Common.{ℕ, ◌≡◌, ◌≢◌, Bool, true, false, List, [], ◌∷◌, ◌++◌, Option, Some, None, option_map, refl, sym, ap, subst, ◌∙◌}
+use Rattle.std.proofs.Common.{ℕ, ◌≡◌, ◌≢◌, ◌<◌, ◌+◌, arith, Bool, true, false, List, [], ◌∷◌, ◌++◌, Option, Some, None, option_map, refl, sym, ap, subst, ◌∙◌}
 use Rattle.std.specs.Prelude.{◌==◌, cond, slice_index_or, is_some, not}
 use Rattle.std.specs.List.{cons_option, list_all}
 use Rattle.std.specs.Option.{option_map_or}
 use Rattle.std.proofs.lemmas.Bool.{and_parts}
-use Rattle.std.proofs.lemmas.List.Elements.{filter_map-append}
+use Rattle.std.proofs.lemmas.List.Elements.{All-filter, All-push, filter_map-append}
+use Rattle.std.proofs.lemmas.List.Kept.{AllPairs-filter}
+use Rattle.std.proofs.lemmas.List.Quantifiers.{all_pairs_push}
 use Rattle.std.proofs.lemmas.List.Folds.{list_all-append}
 use Rattle.slab.specs.Slab.{Slab, get, Updates}
 use Rattle.base.specs.history.Plans.{is_plan_allowed}
 use Rattle.base.specs.steps.Groups.{Admission}
 use Rattle.base.specs.steps.Steps.{transactions_without}
 use Rattle.transactions.specs.declared.«open».OpenTransaction.{OpenTransaction}
-use Rattle.transactions.specs.Open.{admission_of, admissions_at, passes_at, is_of_name, keys_without, AreHeld, admission_of_name}
+use Rattle.transactions.specs.Open.{admission_of, admissions_at, passes_at, is_of_name, keys_without, AreHeld, AreNamed, admission_of_name}
 
 abbrev is_present : Slab OpenTransaction → ℕ → Bool
 is_present slots key = is_some (get slots key)
@@ -22,6 +24,19 @@ has_allowed_plan a = is_plan_allowed a.plan
 -- another key than one that differs in some way
 differs : {X : Type 0} (f : ℕ → X) (k key : ℕ) (x y : X) → f k ≡ x → f key ≡ y → (x ≡ y → ⊥) → k ≢ key
 differs f k key x y a b apart same = apart (sym a ∙ ap f same ∙ b)
+
+-- names stay apart with the next one behind them, and without one of them
+pub named_push : (next : ℕ) (ts : List Admission) (a : Admission) → a.tx ≡ next → AreNamed next ts → AreNamed (next + 1) (ts ++ a ∷ [])
+named_push next ts a is named = record {
+  apart = all_pairs_push (λ (x y : Admission). x.tx ≢ y.tx) ts a named.apart (λ k d below same. let low = named.before k d below in omega (arith, low, same, is));
+  before = All-push (λ (x : Admission). x.tx < next + 1) ts a (λ k d below. let low = named.before k d below in omega (arith, low)) (omega (arith, is));
+}
+
+named_without : (tx next : ℕ) (ts : List Admission) → AreNamed next ts → AreNamed next (transactions_without tx ts)
+named_without tx next ts named = record {
+  apart = AllPairs-filter (λ (x y : Admission). x.tx ≢ y.tx) (λ (a : Admission). not (a.tx == tx)) ts named.apart;
+  before = All-filter (λ (a : Admission). not (a.tx == tx)) (λ (a : Admission). a.tx < next) ts named.before;
+}
 
 -- a transaction at a key that had none
 module _ (old new : Slab OpenTransaction) (key : ℕ) (t : OpenTransaction) (vacant : get old key ≡ None) (updates : Updates old new key (Some t)) where
@@ -45,18 +60,19 @@ module _ (old new : Slab OpenTransaction) (key : ℕ) (t : OpenTransaction) (vac
       filter_map-append (λ k. option_map admission_of (get new k)) keys (key ∷ [])
       ∙ (λ i. admissions_stay keys present i ++ cons_option (option_map admission_of (updates.changed i)) [])
 
-  pub held_push : (keys : List ℕ) → AreHeld old keys → is_plan_allowed t.plan ≡ true → AreHeld new (keys ++ key ∷ [])
-  held_push keys held allowed =
+  pub held_push : (keys : List ℕ) (next : ℕ) → AreHeld old keys next → t.tx.0 ≡ next → is_plan_allowed t.plan ≡ true → AreHeld new (keys ++ key ∷ []) (next + 1)
+  held_push keys next held named allowed =
       let here : is_present new key ≡ true = ap is_some updates.changed in
       let before = held.allowed in
       record {
         present = list_all-append (is_present new) keys (key ∷ []) ∙ rw (present_stay keys held.present, here) refl;
         allowed = ap (list_all has_allowed_plan) (admissions-push keys held.present) ∙ list_all-append has_allowed_plan (admissions_at old keys) (admission_of t ∷ []) ∙ rw (before, allowed) refl;
+        named = subst (AreNamed (next + 1)) (sym (admissions-push keys held.present)) (named_push next (admissions_at old keys) (admission_of t) named held.named);
       }
 
 -- behind a reserve of room, which leaves the slots
-module _ (slots reserved new : Slab OpenTransaction) (order keys : List ℕ) (key : ℕ) (t : OpenTransaction) (same : reserved.slots ≡ slots.slots) (vacant : get reserved key ≡ None) (updates : Updates reserved new key (Some t))
-    (keys_are : keys ≡ order ++ key ∷ []) (held : AreHeld slots order) where
+module _ (slots reserved new : Slab OpenTransaction) (order keys : List ℕ) (key next : ℕ) (t : OpenTransaction) (same : reserved.slots ≡ slots.slots) (vacant : get reserved key ≡ None) (updates : Updates reserved new key (Some t))
+    (keys_are : keys ≡ order ++ key ∷ []) (held : AreHeld slots order next) where
   get_same : (k : ℕ) → get reserved k ≡ get slots k
   get_same k = ap (λ (l : List (Option OpenTransaction)). slice_index_or l k None) same
 
@@ -66,8 +82,9 @@ module _ (slots reserved new : Slab OpenTransaction) (order keys : List ℕ) (ke
   pub admitted : admissions_at new keys ≡ admissions_at slots order ++ admission_of t ∷ []
   admitted = ap (admissions_at new) keys_are ∙ admissions-push slots new key t (sym (get_same key) ∙ vacant) updates_slots order held.present
 
-  pub held_admitted : is_plan_allowed t.plan ≡ true → AreHeld new keys
-  held_admitted allowed = subst (λ (l : List ℕ). AreHeld new l) (sym keys_are) (held_push slots new key t (sym (get_same key) ∙ vacant) updates_slots order held allowed)
+  pub held_admitted : t.tx.0 ≡ next → is_plan_allowed t.plan ≡ true → AreHeld new keys (next + 1)
+  held_admitted named allowed =
+      subst (λ (l : List ℕ). AreHeld new l (next + 1)) (sym keys_are) (held_push slots new key t (sym (get_same key) ∙ vacant) updates_slots order next held named allowed)
 
 all_step : (b : Bool) (a : Admission) (rest : List Admission) → has_allowed_plan a ≡ true → list_all has_allowed_plan rest ≡ true → list_all has_allowed_plan (cond b (a ∷ rest) rest) ≡ true
 all_step true a rest this others = rw (this, others) refl
@@ -112,10 +129,11 @@ module _ (tx : ℕ) (old new : Slab OpenTransaction) (key : ℕ) (named : passes
       let parts = and_parts (is_present old k) (list_all (is_present old) keys) present in
       present_step k (passes_at (is_of_name tx) old k) (keys_without tx old keys) parts.0 refl (present_without keys parts.1)
 
-  pub held_without : (keys : List ℕ) → AreHeld old keys → AreHeld new (keys_without tx old keys)
-  held_without keys held = record {
+  pub held_without : (keys : List ℕ) (next : ℕ) → AreHeld old keys next → AreHeld new (keys_without tx old keys) next
+  held_without keys next held = record {
     present = present_without keys held.present;
     allowed = ap (list_all has_allowed_plan) (admissions-without keys) ∙ all_without tx (admissions_at old keys) held.allowed;
+    named = subst (AreNamed next) (sym (admissions-without keys)) (named_without tx next (admissions_at old keys) held.named);
   }
 
 -- where none has a name all stay

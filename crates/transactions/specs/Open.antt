@@ -1,5 +1,5 @@
 -- The open transactions of a pool: their admissions in order, and how one is admitted.
-use Rattle.std.specs.Prelude.{ℕ, ◌≡◌, ◌==◌, ◌+◌, ◌||◌, ◌++◌, ◌∷◌, [], Bool, true, false, not, List, length, filter, filter_map, nat_le, nat_lt, Option, is_some, option_map}
+use Rattle.std.specs.Prelude.{ℕ, ◌≡◌, ◌≢◌, ◌<◌, ◌==◌, ◌+◌, ◌||◌, ◌++◌, ◌∷◌, [], All, AllPairs, Bool, true, false, not, List, length, filter, filter_map, nat_le, nat_lt, Option, is_some, option_map}
 use Rattle.std.specs.List.{find, list_all, list_any}
 use Rattle.std.specs.Option.{option_map_or}
 use Rattle.slab.specs.Slab.{Slab, get}
@@ -46,10 +46,20 @@ has_plan_in range t = has_kept_in range t.plan
 abbrev pub keys_without : ℕ → Slab OpenTransaction → List ℕ → List ℕ
 keys_without tx slots keys = filter (λ key. not (passes_at (is_of_name tx) slots key)) keys
 
--- each key has a transaction, and its plan is allowed
-pub record AreHeld (slots : Slab OpenTransaction) (keys : List ℕ) : Type 0 where
+-- no two have one name
+abbrev pub AreNamedApart : List Admission → Type 0
+AreNamedApart transactions = AllPairs (λ (a b : Admission). a.tx ≢ b.tx) transactions
+
+-- and each name comes before this one
+pub record AreNamed (next : ℕ) (transactions : List Admission) : Type 0 where
+  pub apart : AreNamedApart transactions
+  pub before : All (λ (a : Admission). a.tx < next) transactions
+
+-- each key has a transaction, its plan is allowed, and its name is its own and comes before the next one
+pub record AreHeld (slots : Slab OpenTransaction) (keys : List ℕ) (next : ℕ) : Type 0 where
   pub present : list_all (λ key. is_some (get slots key)) keys ≡ true
   pub allowed : list_all (λ (a : Admission). is_plan_allowed a.plan) (admissions_at slots keys) ≡ true
+  pub named : AreNamed next (admissions_at slots keys)
 
 -- the admission of the next name, and the state after it
 abbrev pub next_admission : ℕ → ℕ → List Shape → Open → Admission

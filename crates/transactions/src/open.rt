@@ -13,7 +13,7 @@ ghost use Rattle.base.specs.steps.Groups.{hold_count};
 ghost use Rattle.base.specs.steps.Refusals.{is_plan_blocked};
 ghost use Rattle.base.specs.steps.Steps.{transactions_without};
 ghost use Rattle.transactions.specs.Open as words;
-ghost use Rattle.transactions.specs.Open.{admission_of, admit_refusal, has_plan_in, has_too_many, is_of_group, is_of_name, is_range_in_use, keys_without, next_admission, overlaps_plan_of, passes_at, admission_of_name, with_admission};
+ghost use Rattle.transactions.specs.Open.{AreNamedApart, admission_of, admit_refusal, has_plan_in, has_too_many, is_of_group, is_of_name, is_range_in_use, keys_without, next_admission, overlaps_plan_of, passes_at, admission_of_name, with_admission};
 ghost use Rattle.transactions.specs.Refusals.{Refuses};
 
 use crate::plan::{has_range_in, ranges_overlap};
@@ -50,7 +50,7 @@ impl Model for OpenTransactions {
 
     ghost view = { λ o. record { transactions = admissions_at o.slots o.order.items; next = o.next } };
 
-    ghost invariant = { λ o. AreHeld o.slots o.order.items };
+    ghost invariant = { λ o. AreHeld o.slots o.order.items o.next };
 }
 
 impl OpenTransactions {
@@ -132,6 +132,7 @@ impl OpenTransactions {
         ensures others { self.new.transactions
             ≡ transactions_without tx.0 self.old.transactions }
         ensures next { self.new.next ≡ self.old.next }
+        ensures apart { AreNamedApart self.old.transactions }
     {
         let key = key_of(&self.slots, &self.order, tx)?;
         remove_named(&self.slots, &mut self.order, tx);

@@ -18,4 +18,5 @@ returns-in_err-check_no_older-clause-step c =
 
 pub returns-clause-step : goal.returns-clause-step
 returns-clause-step c =
-    close_ends c.close_open.result c.args.self.now.groups c.close_open.new.self (pool_shown c.args.self.now) c.in_ok-check_running.ensures refl c.in_ok-check_no_older.ensures c.close_open.ensures.refused c.close_open.ensures.closed
+    let told = c.close_open.ensures in
+    close_ends c.close_open.result c.args.self.now.groups c.close_open.new.self (pool_shown c.args.self.now) c.in_ok-check_running.ensures refl c.in_ok-check_no_older.ensures told.refused told.error told.unchanged told.closed told.group

@@ -11,15 +11,16 @@ use Rattle.base.specs.history.History.{apply_all}
 use Rattle.base.specs.formats.Records.{is_content_allowed}
 use Rattle.base.specs.steps.Stage.{commit_refusal, Commit}
 use Rattle.base.specs.tree.Syncs.{is_rename}
+use Rattle.groups.specs.CountedLines.{after_release}
+use Rattle.groups.specs.Laws.{AreHoldsExact}
 use Rattle.object_maps.specs.ContentsShown.{contents_of}
 use Rattle.object_maps.specs.Ops.{AreOpsAllowed}
 use Rattle.tree_plans.specs.declared.planner.Committed.{Committed}
 use Rattle.pool_core.specs.Meets.{Meets, MayCommit}
-use Rattle.pool_core.specs.Shows.{admission_of, pool_shown}
-use Rattle.pool_core.specs.declared.transactions.OpenTransaction.{OpenTransaction}
+use Rattle.pool_core.specs.Shows.{pool_shown}
 use Rattle.pool_core.proofs.CommitSteps.{commit_refused, commit_wants, commit_done}
-use Rattle.pool_core.proofs.KeptRanges.{IsBuilt}
-use Rattle.pool_core.proofs.Mapped.{filter-map}
+use Rattle.pool_core.proofs.HeldGroups.{counted_release, exact_end, has_hold, line-after_release}
+use Rattle.pool_core.proofs.Opens.{IsBuilt}
 use Rattle.pool_core.proofs.SamePlans.{built_names}
 use Rattle.pool_core.proofs.pool.Pool.commit.Goals as goal
 
@@ -60,10 +61,29 @@ apply-requires-clause-judged c =
     let new = contents_of c.reserve-2.new.self in
     (may.after, ap (λ (l : List Op). apply_all l new) c.as_slice-3.ensures ∙ ap (λ (x : Contents). apply_all ops x) c.in_ok-reserve-2.ensures.kept ∙ may.applied)
 
+pub release-requires : goal.release-requires
+release-requires c =
+    let pool = c.args.self.now in
+    let ops = c.args.ops in
+    let may : MayCommit c.args.tx.0 ops c.in_ok-group.group.0 (pool_shown pool) = subst (λ (l : List Op). MayCommit c.args.tx.0 l c.in_ok-group.group.0 (pool_shown pool)) c.as_slice.ensures c.in_ok-group.ensures.refusal in
+    has_hold pool.transactions.transactions pool.groups c.args.tx.0 may.admission c.in_ok-group.group.0 pool.holds_exact c.end.ensures.apart may.found may.group_is
+
+pub invariant_of-self-2-clause-counted : goal.invariant_of-self-2-clause-counted
+invariant_of-self-2-clause-counted c = rw c.release.ensures (counted_release c.args.self.now.groups c.args.self.now.counted c.in_ok-group.group.0)
+
+pub invariant_of-self-2-clause-holds_exact : goal.invariant_of-self-2-clause-holds_exact
+invariant_of-self-2-clause-holds_exact c =
+    let pool = c.args.self.now in
+    let ops = c.args.ops in
+    let may : MayCommit c.args.tx.0 ops c.in_ok-group.group.0 (pool_shown pool) = subst (λ (l : List Op). MayCommit c.args.tx.0 l c.in_ok-group.group.0 (pool_shown pool)) c.as_slice.ensures c.in_ok-group.ensures.refusal in
+    subst (AreHoldsExact c.end.new.self.transactions) (sym c.release.ensures)
+    (subst (λ (ts : List Admission). AreHoldsExact ts (after_release c.in_ok-group.group.0 pool.groups)) (sym c.end.ensures.others)
+    (exact_end pool.transactions.transactions pool.groups c.args.tx.0 may.admission c.in_ok-group.group.0 pool.holds_exact c.end.ensures.apart may.found may.group_is))
+
 pub invariant_of-self-2-clause-plans_built : goal.invariant_of-self-2-clause-plans_built
 invariant_of-self-2-clause-plans_built c =
-    let p : OpenTransaction → Bool = λ (t : OpenTransaction). not (t.tx.0 == c.args.tx.0) in
-    rw c.remove_transaction.ensures (All-filter p IsBuilt c.args.self.now.transactions.items c.args.self.now.plans_built)
+    let p : Admission → Bool = λ (a : Admission). not (a.tx == c.args.tx.0) in
+    rw c.end.ensures.others (All-filter p IsBuilt c.args.self.now.transactions.transactions c.args.self.now.plans_built)
 
 pub invariant_of-self-2-clause-pending_built : goal.invariant_of-self-2-clause-pending_built
 invariant_of-self-2-clause-pending_built c =
@@ -79,6 +99,5 @@ returns-clause-step c =
     let new = contents_of c.reserve-2.new.self in
     let ok = sym (ap (λ (l : List Op). apply_all l new) c.as_slice-3.ensures ∙ ap (λ (x : Contents). apply_all ops x) c.in_ok-reserve-2.ensures.kept) ∙ c.apply.ensures in
     let bytes = subst (λ (l : List Op). list_all is_content_allowed l ≡ true) c.as_slice-2.ensures c.in_ok-reserve-2.ensures.bytes in
-    let p : Admission → Bool = λ (a : Admission). not (a.tx == tx) in
     commit_done tx ops c.in_ok-group.group.0 (contents_of c.apply.new.self) s _ may ok bytes
-    (rw (c.remove_transaction.ensures, c.push_reserved.ensures.items, c.in_ok-reserve.ensures.items, map-append, filter-map p admission_of c.args.self.now.transactions.items) refl)
+    (rw (c.end.ensures.others, c.end.ensures.next, c.release.ensures, line-after_release c.args.self.now.groups c.args.self.now.counted c.in_ok-group.group.0, c.push_reserved.ensures.items, c.in_ok-reserve.ensures.items, map-append) refl)

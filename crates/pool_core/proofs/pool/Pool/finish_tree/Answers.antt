@@ -19,7 +19,8 @@ invariant_of-self-3 c =
     record {
       free_sized = c.give_all.ensures.count ∙ pool.free_sized;
       import_fits = pool.import_fits;
-      next_tx_fits = pool.next_tx_fits;
+      counted = pool.counted;
+      holds_exact = pool.holds_exact;
       next_ordinal_fits = pool.next_ordinal_fits;
       plans_built = pool.plans_built;
       running = pool.running;

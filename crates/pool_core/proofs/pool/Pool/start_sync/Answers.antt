@@ -1,8 +1,9 @@
-use Rattle.std.proofs.Common.{◌<◌, ◌∙◌, ap, sym, subst, refl, map, List, [], Some, None}
+use Rattle.std.proofs.Common.{◌≡◌, ◌<◌, ◌∙◌, ap, sym, subst, refl, map, List, [], Some, None}
 use Rattle.std.specs.FinSet as set
 use Rattle.std.proofs.lemmas.Result.{err_from_is_err_and}
 use Rattle.base.specs.formats.Geometry.{block_count}
-use Rattle.base.specs.steps.Groups.{Line}
+use Rattle.groups.specs.CountedLines.{CountedLine, IsCounted, after_start}
+use Rattle.groups.specs.Laws.{AreHoldsExact}
 use Rattle.base.specs.tree.PlacedTrees.{ArePlaced}
 use Rattle.sync.specs.Runs.{call_count}
 use Rattle.tree_plans.specs.declared.planner.PlannedBlock.{PlannedBlock}
@@ -19,6 +20,7 @@ use Rattle.base.specs.stored.Stored.{NewTree}
 use Rattle.tree_plans.specs.Plans.{new_block}
 use Rattle.pool_core.specs.Holds.{start_reply}
 use Rattle.pool_core.proofs.StartLeads.{group_fits, group_planned, group_takes, group_takes_each, never_short, nothing_made}
+use Rattle.pool_core.proofs.HeldGroups.{counted_start, exact_moves, started}
 use Rattle.pool_core.proofs.OfNoDevice.{plan_own}
 use Rattle.pool_core.proofs.StillSteps.{still_pool}
 use Rattle.pool_core.proofs.SameSyncs.{kept_sync}
@@ -81,12 +83,17 @@ returns-in_err-planned-clause-order c =
 pub invariant_of-self-2 : goal.invariant_of-self-2
 invariant_of-self-2 c =
     let pool = c.args.self.now in
+    let group = c.in_ok-group.group.0 in
+    let may = c.in_ok-group.ensures.may in
+    let told = c.start_sync.ensures in
+    let now : c.start_sync.new.self ≡ after_start group pool.groups = started c.start_sync.result pool.groups c.start_sync.new.self group may told.refused told.started told.group in
     let rs = c.running_sync.result in
     let ens = c.running_sync.ensures in
     record {
       free_sized = c.take_all.ensures.count ∙ pool.free_sized;
       import_fits = pool.import_fits;
-      next_tx_fits = pool.next_tx_fits;
+      counted = subst IsCounted (sym now) (counted_start pool.groups pool.counted group may.0 may.1);
+      holds_exact = subst (AreHoldsExact pool.transactions.transactions) (sym now) ((exact_moves pool.transactions.transactions pool.groups pool.counted pool.holds_exact).start group may.0);
       next_ordinal_fits = pool.next_ordinal_fits;
       plans_built = pool.plans_built;
       running = λ x e. let same = kept_sync rs x e in (
@@ -97,7 +104,7 @@ invariant_of-self-2 c =
           (rw (ens.group, ens.moment, ens.begins.root) ens.uberblock);
       planned = λ x e. subst (λ (r : RunningSync). ∥ ArePlaced (block_count pool.geometry) (pointers_after r.root r.directories.items r.maps pool.tree) ∥₁) (kept_sync rs x e)
           (rw (ens.begins.root, ens.begins.directories, ens.begins.maps) c.in_ok-planned.ensures.tree.placed);
-      sync_line = ap (λ (g : _). Some g.0) ens.group ∙ sym (ap (λ (l : Line). l.syncing) c.start_sync.ensures);
+      sync_line = ap (λ (g : _). Some g.0) ens.group ∙ sym (ap (λ (l : CountedLine). l.line.syncing) now);
       pending_built = pool.pending_built;
       tree_placed = pool.tree_placed;
     }
@@ -108,14 +115,16 @@ returns-clause-step c = λ past explained.
     let s = pool_shown pool in
     let blocks : List PlannedBlock = c.in_ok-planned.planned.blocks.items in
     let plan = new_plan c.args.moment pool.log_address (map address_of blocks) c.in_ok-planned.planned.freed.items c.in_ok-planned.planned.root in
-    let may = c.in_ok-group.ensures.may in (
+    let may = c.in_ok-group.ensures.may in
+    let told = c.start_sync.ensures in
+    let line = started c.start_sync.result pool.groups c.start_sync.new.self c.in_ok-group.group.0 may told.refused told.started told.group in (
       past,
       start_done ⊥ [] past s c.args.moment _ c.in_ok-group.group.0 plan explained (λ never. absurd never)
           c.in_ok-check_running.ensures may.0 may.1
           (group_fits past pool c.in_ok-group.group.0 blocks (pointers_after c.in_ok-planned.planned.root c.in_ok-planned.planned.directories.items c.in_ok-planned.planned.maps pool.tree) may explained c.in_ok-planned.ensures.tree.planned)
           (pending_names pool.pending.items pool.pending_built) refl refl
           (lowest_taken blocks pool.free.flags.items c.in_ok-planned.ensures.taken) refl refl
-          (rw (c.start_sync.ensures, c.take_all.ensures.free, c.running_sync.ensures.plan) (ap (λ (l : List PlannedBlock). record s { line = record s.line { syncing = Some c.in_ok-group.group.0; middle = None }; free = set.difference s.free (set.from_list (map address_of l)); sync = Some plan }) c.deref.ensures.value)),
+          (rw (line, c.take_all.ensures.free, c.running_sync.ensures.plan) (ap (λ (l : List PlannedBlock). record s { line = record s.line { syncing = Some c.in_ok-group.group.0; middle = None }; free = set.difference s.free (set.from_list (map address_of l)); sync = Some plan }) c.deref.ensures.value)),
     )
 
 pub returns-clause-held : goal.returns-clause-held
@@ -125,7 +134,9 @@ returns-clause-held c = λ now past x.
     let planned = c.in_ok-planned.planned in
     let blocks : List PlannedBlock = planned.blocks.items in
     let plan = new_plan c.args.moment pool.log_address (map address_of blocks) planned.freed.items planned.root in
-    let may = c.in_ok-group.ensures.may in (
+    let may = c.in_ok-group.ensures.may in
+    let told = c.start_sync.ensures in
+    let line = started c.start_sync.result pool.groups c.start_sync.new.self c.in_ok-group.group.0 may told.refused told.started told.group in (
       past,
       start_done (Unit {0}) now past s c.args.moment _ c.in_ok-group.group.0 plan x.explained
           (λ keeps. group_takes_each now past pool c.in_ok-group.group.0 c.args.moment blocks planned.freed.items planned.root planned.directories.items planned.maps may c.in_ok-planned.ensures.tree.planned x)
@@ -133,7 +144,7 @@ returns-clause-held c = λ now past x.
           (group_fits past pool c.in_ok-group.group.0 blocks (pointers_after c.in_ok-planned.planned.root c.in_ok-planned.planned.directories.items c.in_ok-planned.planned.maps pool.tree) may x.explained c.in_ok-planned.ensures.tree.planned)
           (pending_names pool.pending.items pool.pending_built) refl refl
           (lowest_taken blocks pool.free.flags.items c.in_ok-planned.ensures.taken) refl refl
-          (rw (c.start_sync.ensures, c.take_all.ensures.free, c.running_sync.ensures.plan) (ap (λ (l : List PlannedBlock). record s { line = record s.line { syncing = Some c.in_ok-group.group.0; middle = None }; free = set.difference s.free (set.from_list (map address_of l)); sync = Some plan }) c.deref.ensures.value)),
+          (rw (line, c.take_all.ensures.free, c.running_sync.ensures.plan) (ap (λ (l : List PlannedBlock). record s { line = record s.line { syncing = Some c.in_ok-group.group.0; middle = None }; free = set.difference s.free (set.from_list (map address_of l)); sync = Some plan }) c.deref.ensures.value)),
     )
 
 pub returns-clause-order : goal.returns-clause-order

@@ -13,7 +13,8 @@ use Rattle.pool_core.specs.Shows.{plan_of, pool_shown, shown_after_tree}
 use Rattle.pool_core.proofs.SameSyncs.{as_many, kept_sync, left_as_before, more_left, one_left, one_less, refused_as, same_taken, same_uberblock}
 use Rattle.base.specs.disk.Disk.{bytes_of}
 use Rattle.base.specs.declared.step.Reply.TheVariants as reply
-use Rattle.pool_core.specs.Lines.{line_after_sync}
+use Rattle.groups.specs.CountedLines.{after_sync, line_after_sync}
+use Rattle.pool_core.proofs.HeldGroups.{of_group}
 use Rattle.base.specs.declared.error.PoolError.{PoolError}
 use Rattle.pool_core.specs.declared.state.Progress.{Progress}
 use Rattle.pool_core.specs.Holds.{SamePlaces, pool_told, made_by, sync_step_reply, tree_after}
@@ -57,7 +58,8 @@ invariant_of-self-in-Ok-More g c =
     record {
       free_sized = pool.free_sized;
       import_fits = pool.import_fits;
-      next_tx_fits = pool.next_tx_fits;
+      counted = pool.counted;
+      holds_exact = pool.holds_exact;
       next_ordinal_fits = pool.next_ordinal_fits;
       plans_built = pool.plans_built;
       running = λ x e. let same = kept_sync _ x e in (
@@ -82,7 +84,8 @@ invariant_of-self-in-Err g c =
     record {
       free_sized = pool.free_sized;
       import_fits = pool.import_fits;
-      next_tx_fits = pool.next_tx_fits;
+      counted = pool.counted;
+      holds_exact = pool.holds_exact;
       next_ordinal_fits = pool.next_ordinal_fits;
       plans_built = pool.plans_built;
       running = λ x e. let same = kept_sync _ x e in (
@@ -97,8 +100,8 @@ invariant_of-self-in-Err g c =
       tree_placed = pool.tree_placed;
     }
 
-pub returns-in-Some-take-clause-step : goal.returns-in-Some-take-clause-step
-returns-in-Some-take-clause-step g c =
+pub returns-in-Ok-clause-step : goal.returns-in-Ok-clause-step
+returns-in-Ok-clause-step g c =
     let pool = c.args.self.now in
     let s = pool_shown pool in
     let is = c.in-Some.is in
@@ -107,9 +110,11 @@ returns-in-Some-take-clause-step g c =
     let syncing = sym pool.sync_line ∙ ap (λ (o : Option RunningSync). option_map (λ (r : RunningSync). r.group.0) o) is in
     let same = kept_sync c.in-Some-take.synced _ c.in-Some-take.ensures.value in
     let running = ap (λ (o : Option RunningSync). option_map (plan_of pool.log_address) o) is in
+    let finished : c.finish_sync.new.self ≡ after_sync c.in-Some-take.synced.group.0 pool.groups =
+    of_group (λ n. after_sync n pool.groups) pool.groups.line.syncing c.in-Some-take.synced.group.0 _ (syncing ∙ ap (λ (r : RunningSync). Some r.group.0) (sym same)) c.in-Ok.ensures.group c.in-Ok.ensures.synced in
     step_synced s _ c.in-Some.running.group.0 c.in-Some-take.synced.group.0 plan c.in_ok-check_running.ensures syncing running
     (one_left c.in-Some.running.run c.next.new.self told.counts.same told.counts.done (told.counts.last.0 c.in-Ok-Last.field-0-is)) (ap (λ (r : RunningSync). r.group.0) same) refl refl refl
-    (c.finish_tree.ensures.shown ∙ rw (c.finish_sync.ensures, c.take.ensures.after) (λ k. shown_after_tree (same k) (record s { line = line_after_sync (same k).group.0 s.line; sync = None })))
+    (c.finish_tree.ensures.shown ∙ rw (finished, c.take.ensures.after) (λ k. shown_after_tree (same k) (record s { line = line_after_sync (same k).group.0 s.line; sync = None })))
 
 pub returns-in-Ok-More-clause-step : goal.returns-in-Ok-More-clause-step
 returns-in-Ok-More-clause-step g c =
@@ -152,8 +157,8 @@ returns-in_err-check_running-clause-leads g c = λ keeps.
 pub returns-in_default-clause-leads : goal.returns-in_default-clause-leads
 returns-in_default-clause-leads g c = λ keeps past later. (refl, refl, refl)
 
-pub returns-in-Some-take-clause-leads : goal.returns-in-Some-take-clause-leads
-returns-in-Some-take-clause-leads g c = λ keeps.
+pub returns-in-Ok-clause-leads : goal.returns-in-Ok-clause-leads
+returns-in-Ok-clause-leads g c = λ keeps.
     let pool = c.args.self.now in
     let is = c.in-Some.is in
     let was = pool.running c.in-Some.running is in
@@ -195,8 +200,8 @@ returns-in_err-check_running-clause-called g c = rw c.in_err-check_running.ensur
 pub returns-in_default-clause-called : goal.returns-in_default-clause-called
 returns-in_default-clause-called g c = rw (c.in_ok-check_running.ensures, c.in_default.is) refl
 
-pub returns-in-Some-take-clause-called : goal.returns-in-Some-take-clause-called
-returns-in-Some-take-clause-called g c =
+pub returns-in-Ok-clause-called : goal.returns-in-Ok-clause-called
+returns-in-Ok-clause-called g c =
     let told = c.in-Ok-Last.ensures in
     rw (c.in_ok-check_running.ensures, c.in-Some.is)
     (record { call = told.called.call; next = told.called.next; refusal = tt; made = λ keeps. told.called.made keeps })

@@ -18,7 +18,7 @@ pub invariant_of-self : goal.invariant_of-self
 invariant_of-self c =
     let inside = c.self.inside in
     let named = found_passes (passes_at (is_of_name c.args.tx.0) inside.slots) inside.order.items c.in_ok-key.key (sym (rw c.deref.ensures.value at c.key_of.ensures) ∙ c.in_ok-key.was) in
-    rw c.remove_named.ensures (held_without c.args.tx.0 inside.slots c.try_remove.new.self c.in_ok-key.key named c.try_remove.ensures.updates inside.order.items c.self.invariant)
+    rw c.remove_named.ensures (held_without c.args.tx.0 inside.slots c.try_remove.new.self c.in_ok-key.key named c.try_remove.ensures.updates inside.order.items inside.next c.self.invariant)
 
 pub returns-clause-ended : goal.returns-clause-ended
 returns-clause-ended c =

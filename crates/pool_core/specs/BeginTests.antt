@@ -1,0 +1,22 @@
+-- The tests of a begin, by what they ask: of the plan alone, of its ranges, and of the room for one more transaction.
+use Rattle.std.specs.Prelude.{ℕ, ◌||◌, List, [], ◌∷◌, length, nat_le, nat_lt, not}
+use Rattle.base.specs.declared.error.PoolError.TheVariants as error
+use Rattle.base.specs.declared.operation.Shape.{Shape}
+use Rattle.base.specs.formats.Limits.{last_number, max_log_record, max_transactions}
+use Rattle.base.specs.history.Plans.{log_record_size}
+use Rattle.base.specs.steps.Refusals.{Test, refused_if, is_plan_covered, is_plan_blocked}
+use Rattle.base.specs.steps.Shown.{Shown}
+use Rattle.base.specs.steps.Stage.{is_plan_built}
+
+abbrev pub plan_tests : List Shape → List Test
+plan_tests plan =
+    refused_if (not (is_plan_built plan)) error.BadRange
+    ∷ refused_if (nat_lt max_log_record (log_record_size plan)) error.TooLarge ∷ []
+
+abbrev pub range_tests : ℕ → List Shape → Shown → List Test
+range_tests owner plan s =
+    refused_if (not (is_plan_covered owner plan s.locks)) error.NotLocked
+    ∷ refused_if (is_plan_blocked plan s.transactions) error.Busy ∷ []
+
+abbrev pub room_tests : Shown → List Test
+room_tests s = refused_if (nat_le max_transactions (length s.transactions) || nat_lt last_number s.next_tx) error.TooMany ∷ []
