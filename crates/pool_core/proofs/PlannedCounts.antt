@@ -77,7 +77,7 @@ module _ (s : Shown) (p : Past) (explained : IsExplainedNow s p) (group : ℕ) (
   enough_blocks free counted short =
       let quiesced : quiesced_group s.line ≡ Some group = rw middle refl in
       let room = syncs_have_room (record { shown = s; past = p }) group synced_now.0 named explained.exact.groups explained.exact.sync
-          (record { charges = explained.exact.charges; blocks = explained.exact.blocks }) idle quiesced in
+      (record { charges = explained.exact.charges; blocks = explained.exact.blocks }) idle quiesced in
       let written = count_told short.objects short.changes in
       let fewer = short.fewer (in_range s p explained group idle middle no_log pending log short.objects short.changes) in
       omega (arith, room, written, fewer, counted)

@@ -82,7 +82,7 @@ pub group_fits : (past : Past) (pool : Pool) (group : ℕ) (blocks : List Planne
     → length (map address_of blocks) ≤ estimate_of (map shape_of (ops_of_group group past.entries))
 group_fits past pool group blocks new may explained planned =
     let fits = taken_fit (pool_shown pool) past explained group (none_there pool.groups.line.syncing may.1) (quiesced_is pool.groups.line group may.0) refl pool.pending.items refl (pointers_of pool.tree)
-        new (map new_block blocks) planned in
+    new (map new_block blocks) planned in
     subst (λ (n : ℕ). n ≤ estimate_of (map shape_of (ops_of_group group past.entries))) (length-map blocks new_block ∙ sym (length-map blocks address_of)) fits
 
 -- and its plan is not short of blocks
@@ -90,4 +90,4 @@ pub never_short : (past : Past) (pool : Pool) (group : ℕ) → MayStart group p
     → IsShortOfBlocks group pool.pending.items (pointers_of pool.tree) (contents_of pool.contents).objects pool.free.flags.items → ⊥
 never_short past pool group may explained short =
     enough_blocks (pool_shown pool) past explained group (none_there pool.groups.line.syncing may.1) (quiesced_is pool.groups.line group may.0) refl pool.pending.items refl (pointers_of pool.tree)
-        pool.free.flags.items refl short
+    pool.free.flags.items refl short

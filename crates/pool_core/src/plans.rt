@@ -39,5 +39,8 @@ fn are_built(plan: &[Shape]) -> bool
 fn is_shape_built(shape: &Shape) -> bool
     ensures { result ≡ stage.is_shape_built shape.now }
 {
-    matches!(shape, Shape::Create(_) | Shape::Remove(_) | Shape::Write(_, _, _))
+    matches!(
+        shape,
+        Shape::Create(_) | Shape::Remove(_) | Shape::Write(_, _, _)
+    )
 }

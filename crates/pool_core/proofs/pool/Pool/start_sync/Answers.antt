@@ -43,8 +43,11 @@ pub returns-in_err-planned-clause-step : goal.returns-in_err-planned-clause-step
 returns-in_err-planned-clause-step c =
     let p = err_from_is_err_and c.from_residual-in_err-planned.result c.from_residual-in_err-planned.ensures.1 in
     let may = c.in_ok-group.ensures.may in
-    rw (p.1, p.2) (λ past explained. (past, start_wants ⊥ [] past (pool_shown c.args.self.now) c.args.moment c.in_ok-group.group.0 c.in_err-planned.field-0.0 c.in_ok-check_running.ensures may.0 may.1
-        (wants_only c.in_err-planned.field-0.0 c.in_err-planned.ensures.refused (λ space. never_short past c.args.self.now c.in_ok-group.group.0 may explained (c.in_err-planned.ensures.no_space space)))))
+    rw (p.1, p.2) (λ past explained. (
+      past,
+      start_wants ⊥ [] past (pool_shown c.args.self.now) c.args.moment c.in_ok-group.group.0 c.in_err-planned.field-0.0 c.in_ok-check_running.ensures may.0 may.1
+          (wants_only c.in_err-planned.field-0.0 c.in_err-planned.ensures.refused (λ space. never_short past c.args.self.now c.in_ok-group.group.0 may explained (c.in_err-planned.ensures.no_space space))),
+    ))
 
 pub returns-in_err-check_running-clause-held : goal.returns-in_err-check_running-clause-held
 returns-in_err-check_running-clause-held c =
@@ -62,8 +65,11 @@ pub returns-in_err-planned-clause-held : goal.returns-in_err-planned-clause-held
 returns-in_err-planned-clause-held c =
     let p = err_from_is_err_and c.from_residual-in_err-planned.result c.from_residual-in_err-planned.ensures.1 in
     let may = c.in_ok-group.ensures.may in
-    rw (p.1, p.2) (λ now past x. (past, start_wants (Unit {0}) now past (pool_shown c.args.self.now) c.args.moment c.in_ok-group.group.0 c.in_err-planned.field-0.0 c.in_ok-check_running.ensures may.0 may.1
-        (wants_only c.in_err-planned.field-0.0 c.in_err-planned.ensures.refused (λ space. never_short past c.args.self.now c.in_ok-group.group.0 may x.explained (c.in_err-planned.ensures.no_space space)))))
+    rw (p.1, p.2) (λ now past x. (
+      past,
+      start_wants (Unit {0}) now past (pool_shown c.args.self.now) c.args.moment c.in_ok-group.group.0 c.in_err-planned.field-0.0 c.in_ok-check_running.ensures may.0 may.1
+          (wants_only c.in_err-planned.field-0.0 c.in_err-planned.ensures.refused (λ space. never_short past c.args.self.now c.in_ok-group.group.0 may x.explained (c.in_err-planned.ensures.no_space space))),
+    ))
 
 pub returns-in_err-check_running-clause-order : goal.returns-in_err-check_running-clause-order
 returns-in_err-check_running-clause-order c =
