@@ -1,12 +1,12 @@
 -- Range locks, step by step.
-use Rattle.std.proofs.Common.{ℕ, ◌≡◌, ◌+◌, Bool, true, false, ◌||◌, List, [], ◌∷◌, ◌++◌, not, filter, length, nat_le, nat_lt, refl, sym, subst, ◌<◌, ◌≤◌}
+use Rattle.std.proofs.Common.{ℕ, ◌≡◌, Bool, true, false, ◌||◌, List, [], ◌∷◌, ◌++◌, not, filter, nat_le, nat_lt, refl, sym, subst, ◌<◌, ◌≤◌}
 use Rattle.std.specs.Prelude.{Option, Some, None, Result, Ok, Err, is_none, ◌==◌}
 use Rattle.std.proofs.lemmas.Bool.{le-leb, lt-leb}
 use Rattle.base.specs.declared.error.PoolError.{PoolError}
 use Rattle.base.specs.declared.error.PoolError.TheVariants as error
 use Rattle.base.specs.declared.range.Mode.{Mode}
 use Rattle.base.specs.declared.range.Mode.TheVariants.{Writer}
-use Rattle.base.specs.formats.Limits.{last_number, max_length, name_number, object_count}
+use Rattle.base.specs.formats.Limits.{max_length, name_number, object_count}
 use Rattle.base.specs.history.Contents.{length_of}
 use Rattle.base.specs.steps.Locks.{Grant, is_blocked, is_range_allowed}
 use Rattle.base.specs.history.Past.{Past}

@@ -31,9 +31,9 @@ use crate::plans::check_plan;
 use crate::range_locks::{HeldLock, RangeLocks};
 use crate::state::Progress;
 use base::{
-    Bytes, Group, LAST_NUMBER, LockId, MAX_LENGTH, Mode, OBJECT_COUNT, ObjectId,
-    ObjectRange, Op, Ops, Ordinal, Owner, Plan, Pointer, PoolError, PoolName, Range, Receipt,
-    Shape, TxId, WRITTEN_VERSION,
+    Bytes, Group, LAST_NUMBER, LockId, MAX_LENGTH, Mode, OBJECT_COUNT, ObjectId, ObjectRange, Op,
+    Ops, Ordinal, Owner, Plan, Pointer, PoolError, PoolName, Range, Receipt, Shape, TxId,
+    WRITTEN_VERSION,
 };
 use device_model::SectorDevice;
 use groups::Groups;
