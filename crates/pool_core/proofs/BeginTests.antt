@@ -1,13 +1,13 @@
 -- A begin: its tests in order, each list of them behind the other, and what it makes of what a pool shows.
-use Rattle.std.proofs.Common.{ℕ, ◌≡◌, ◌+◌, ◌&&◌, Bool, true, false, List, [], ◌∷◌, ◌++◌, not, refl, ◌∙◌}
+use Rattle.std.proofs.Common.{ℕ, ◌≡◌, ◌+◌, Bool, true, false, List, [], ◌∷◌, ◌++◌, not, refl, ◌∙◌}
 use Rattle.std.specs.Prelude.{Some, None, Result, Ok, Err}
 use Rattle.std.specs.List.{list_all}
 use Rattle.std.proofs.lemmas.Bool.{and_parts}
 use Rattle.base.specs.declared.error.PoolError.{PoolError}
 use Rattle.base.specs.declared.error.PoolError.TheVariants as error
 use Rattle.base.specs.declared.operation.Shape.{Shape}
-use Rattle.base.specs.history.Plans.{NumberRange, range_of, is_plan_allowed, is_shape_allowed}
-use Rattle.base.specs.steps.Locks.{Grant, is_covered_for_writing}
+use Rattle.base.specs.history.Plans.{is_plan_allowed, is_shape_allowed}
+use Rattle.base.specs.steps.Locks.{Grant}
 use Rattle.base.specs.steps.Refusals.{Test, first_refusal, refused_if, is_plan_covered}
 use Rattle.base.specs.steps.Shown.{Shown}
 use Rattle.base.specs.steps.Stage.{has_older_group, is_plan_built, is_shape_built, waits_for_older, begin_refusal, begin_tests, Begin}

@@ -1,6 +1,6 @@
 -- Closing a group, and marking it quiesced, step by step.
 use Rattle.std.proofs.Common.{ℕ, ◌≡◌, ◌+◌, ◌↔◌, ◌∙◌, Bool, true, false, ◌||◌, nat_le, refl, sym}
-use Rattle.std.specs.Prelude.{Some, None, Result, Ok, Err, IfErr, IfOk, IsErr, IsTrue, OnErr, OnOk, is_err, is_some, not, ◌==◌}
+use Rattle.std.specs.Prelude.{Some, None, Result, Ok, Err, IfErr, IfOk, IsErr, IsTrue, OnErr, OnOk, is_some, not, ◌==◌}
 use Rattle.std.specs.Option.{option_map_or}
 use Rattle.base.specs.declared.names.Group.{Group}
 use Rattle.base.specs.declared.error.PoolError.{PoolError}

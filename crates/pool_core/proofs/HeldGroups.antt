@@ -12,7 +12,7 @@ use Rattle.base.specs.steps.Groups.{Admission, hold_count}
 use Rattle.base.specs.steps.Refusals.{quiesced_group, quiescing_group}
 use Rattle.base.specs.steps.Steps.{transactions_without}
 use Rattle.base.proofs.common.KeptLists.{Some-injective}
-use Rattle.base.proofs.steps.KeptGroups.{line_close, line_quiesce, line_start, line_sync, none_there, quiesced_is, quiescing_is}
+use Rattle.base.proofs.steps.KeptGroups.{line_quiesce, line_start, line_sync, none_there, quiesced_is, quiescing_is}
 use Rattle.groups.specs.CountedLines.{CountedLine, IsCounted, after_close, after_hold, after_quiesce, after_release, after_start, after_sync, counted_behind, hold_total, holds_of, is_close_refused, is_quiesce_refused, is_start_refused}
 use Rattle.groups.specs.Laws.{AreHoldsExact, BeginsAreHeld, MovesKeepHolds}
 use Rattle.groups.proofs.ExactHolds.{count_transactions, is_released}

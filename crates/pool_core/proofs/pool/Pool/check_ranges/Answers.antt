@@ -1,4 +1,4 @@
-use Rattle.std.proofs.Common.{◌≡◌, ◌∙◌, Bool, true, false, refl, sym}
+use Rattle.std.proofs.Common.{◌∙◌, refl, sym}
 use Rattle.pool_core.proofs.BeginTests.{built_allowed, covered_same}
 use Rattle.pool_core.proofs.pool.Pool.check_ranges.Goals as goal
 
