@@ -41,7 +41,7 @@ pub enum Command {
 /// What a line asks a pool for.
 #[derive(Debug, PartialEq, Eq, Drop)]
 pub enum PoolCommand {
-    /// Commits a transaction, with the bytes of its writes in order.
+    /// Commits a transaction, with the bytes of its writes and names in order.
     Commit(TxId, Vec<Bytes>),
     /// Starts the sync of the quiesced group.
     Start,
@@ -287,11 +287,14 @@ fn parse_parts(parts: &[&str]) -> Result<Shape, LineError>
 {
     match parts {
         ["c", object] => Ok(Shape::Create(parse_object(object)?)),
+        ["d", object] => Ok(Shape::Remove(parse_object(object)?)),
         ["w", object, offset, length] => Ok(Shape::Write(
             parse_object(object)?,
             wide(offset)?,
             wide(length)?,
         )),
+        ["l", object, length] => Ok(Shape::SetLength(parse_object(object)?, wide(length)?)),
+        ["n", length] => Ok(Shape::SetName(wide(length)?)),
         _ => Err(LineError::BadCommand),
     }
 }
