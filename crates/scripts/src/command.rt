@@ -163,7 +163,7 @@ fn parse_step(alloc: Global, words: &[&str]) -> Result<Step, LineError>
     }
 }
 
-// A step that tells what the contents are, or where an object ends.
+// A step that tells what the contents are, where an object ends, or what the pool's groups and sums are.
 fn parse_telling(words: &[&str]) -> Result<Step, LineError>
     ensures step { ReadsTelling (λ s. s) words.now result }
     ensures form { IsOk result → IsTellingForm words.now }
@@ -176,6 +176,7 @@ fn parse_telling(words: &[&str]) -> Result<Step, LineError>
         ["length", object] => Ok(Step::Length(parse_object(object)?)),
         ["digest"] => Ok(Step::Digest),
         ["name"] => Ok(Step::Name),
+        ["status"] => Ok(Step::Status),
         _ => Err(LineError::BadCommand),
     }
 }

@@ -1,7 +1,7 @@
 //! Whole scripts with their answers, lines that are no commands, and readers and writers that fail.
 
-use crate::{Command, LineError, PoolCommand, parse_command, run_script};
-use base::{ObjectId, Owner, Plan, Shape, Step};
+use crate::{Answer, Command, LineError, PoolCommand, parse_command, run_script};
+use base::{Group, ObjectId, Owner, Plan, Reply, Shape, Status, Step};
 use std::alloc::Global;
 use std::io::{self, ErrorKind, Read, Write};
 use std::test::Fail;
@@ -268,6 +268,48 @@ fn reads_each_shape_of_a_plan(rt: HostRuntime) -> Result<(), Fail> {
 }
 
 #[test]
+fn reads_a_status_line_and_prints_the_groups_and_sums(rt: HostRuntime) -> Result<(), Fail> {
+    assert_eq!(rt;
+        parse_command(rt.alloc(), "status"),
+        Ok(Command::Pool(PoolCommand::Step(Step::Status)))
+    );
+    let busy = Status {
+        synced: Group(7),
+        syncing: Some(Group(8)),
+        middle: Some(Group(9)),
+        open_group: Group(10),
+        dirty: 1_048_576,
+        free: 891,
+        available: 845,
+    };
+    let rows = [
+        (
+            busy,
+            "synced 7 syncing 8 middle 9 open 10 dirty 1048576 free 891 available 845",
+        ),
+        (
+            Status {
+                syncing: None,
+                ..busy
+            },
+            "synced 7 syncing - middle 9 open 10 dirty 1048576 free 891 available 845",
+        ),
+        (
+            Status {
+                middle: None,
+                ..busy
+            },
+            "synced 7 syncing 8 middle - open 10 dirty 1048576 free 891 available 845",
+        ),
+    ];
+    for (status, text) in rows {
+        let answer = format!(in rt.alloc(); "{}", Answer::Reply(Reply::Status(status)))?;
+        assert_eq!(rt; answer.as_str(), text);
+    }
+    Ok(())
+}
+
+#[test]
 fn takes_no_other_form_of_a_line(rt: HostRuntime) -> Result<(), Fail> {
     for line in [
         "create tank +7",
@@ -305,7 +347,7 @@ fn takes_no_other_form_of_a_line(rt: HostRuntime) -> Result<(), Fail> {
         "append 1",
         "length x",
         "name tank",
-        "status",
+        "status 9",
     ] {
         assert_eq!(rt;
             parse_command(rt.alloc(), line),
