@@ -37,9 +37,10 @@ abbrev pub IsCommitOf : List ℕ → List (Bor (List ℕ)) → PoolCommand → T
 IsCommitOf tx words (pool.Commit t contents) = (t.0 ≡ spelled_number tx) × (vec_len contents ≡ length words) × AreContentsOf words contents.items
 IsCommitOf tx words _ = ⊥
 
--- the lines of a step that tells what the contents are, or where an object ends
+-- the lines of a step that tells what the contents are, where an object ends, or what the pool's groups and sums are
 abbrev pub IsTellingForm : Words → Type 0
-IsTellingForm words = HasForm words (codes "append") 3 ⊎ (HasForm words (codes "length") 2 ⊎ (HasForm words (codes "digest") 1 ⊎ HasForm words (codes "name") 1))
+IsTellingForm words = HasForm words (codes "append") 3 ⊎ (HasForm words (codes "length") 2 ⊎ (HasForm words (codes "digest") 1
+    ⊎ (HasForm words (codes "name") 1 ⊎ HasForm words (codes "status") 1)))
 
 -- the lines that are a step
 abbrev pub IsStepForm : Words → Type 0
@@ -105,6 +106,7 @@ pub record ReadsTelling {A : Type 0} (of : Step → A) (words : Words) (r : Resu
   pub length_of : ReadsLength of words r
   pub digest : HasForm words (codes "digest") 1 → r ≡ Ok (of step.Digest)
   pub name : HasForm words (codes "name") 1 → r ≡ Ok (of step.Name)
+  pub status : HasForm words (codes "status") 1 → r ≡ Ok (of step.Status)
 
 -- what the words of a step are read as
 pub record ReadsStep {A : Type 0} (of : Step → A) (words : Words) (r : Result A LineError) : Type 0 where

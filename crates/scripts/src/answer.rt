@@ -2,7 +2,7 @@
 
 ghost use Rattle.std.specs.Prelude.{◌≡◌};
 
-use base::{Bytes, Group, PoolError, PoolName, Reply};
+use base::{Bytes, Group, PoolError, PoolName, Reply, Status};
 use std::fmt;
 
 /// The answer to a command, one line of text.
@@ -59,6 +59,7 @@ fn write_reply<W: fmt::Write>(reply: &Reply, f: &mut fmt::Formatter<W>) -> fmt::
         Reply::Length(length) => write!(f, "length {length}"),
         Reply::Digest(digest) => write_digest(digest, f),
         Reply::Name(name) => write_name(name, f),
+        Reply::Status(status) => write_status(status, f),
         Reply::Opened(group) => write!(f, "open {}", group.0),
         Reply::Quiesced(group) => write!(f, "quiesced {}", group.0),
         Reply::Syncing(group) => write!(f, "syncing {}", group.0),
@@ -96,4 +97,22 @@ fn write_name<W: fmt::Write>(name: &PoolName, f: &mut fmt::Formatter<W>) -> fmt:
         write!(f, "{}", *byte as char)?;
     }
     Ok(())
+}
+
+// The groups and the sums of a pool.
+fn write_status<W: fmt::Write>(status: &Status, f: &mut fmt::Formatter<W>) -> fmt::Result {
+    write!(f, "synced {} syncing ", status.synced.0)?;
+    write_group(status.syncing, f)?;
+    write!(f, " middle ")?;
+    write_group(status.middle, f)?;
+    write!(f, " open {} dirty {}", status.open_group.0, status.dirty)?;
+    write!(f, " free {} available {}", status.free, status.available)
+}
+
+// The group, or `-` where there is none.
+fn write_group<W: fmt::Write>(group: Option<Group>, f: &mut fmt::Formatter<W>) -> fmt::Result {
+    match group {
+        Some(group) => write!(f, "{}", group.0),
+        None => write!(f, "-"),
+    }
 }

@@ -41,7 +41,7 @@ pub enum Command {
 /// What a line asks a pool for.
 #[derive(Debug, PartialEq, Eq, Drop)]
 pub enum PoolCommand {
-    /// Commits a transaction, with the bytes of its writes in order.
+    /// Commits a transaction, with the bytes of its writes and names in order.
     Commit(TxId, Vec<Bytes>),
     /// Starts the sync of the quiesced group.
     Start,
@@ -163,7 +163,7 @@ fn parse_step(alloc: Global, words: &[&str]) -> Result<Step, LineError>
     }
 }
 
-// A step that tells what the contents are, or where an object ends.
+// A step that tells what the contents are, where an object ends, or what the pool's groups and sums are.
 fn parse_telling(words: &[&str]) -> Result<Step, LineError>
     ensures step { ReadsTelling (λ s. s) words.now result }
     ensures form { IsOk result → IsTellingForm words.now }
@@ -176,6 +176,7 @@ fn parse_telling(words: &[&str]) -> Result<Step, LineError>
         ["length", object] => Ok(Step::Length(parse_object(object)?)),
         ["digest"] => Ok(Step::Digest),
         ["name"] => Ok(Step::Name),
+        ["status"] => Ok(Step::Status),
         _ => Err(LineError::BadCommand),
     }
 }
@@ -287,11 +288,14 @@ fn parse_parts(parts: &[&str]) -> Result<Shape, LineError>
 {
     match parts {
         ["c", object] => Ok(Shape::Create(parse_object(object)?)),
+        ["d", object] => Ok(Shape::Remove(parse_object(object)?)),
         ["w", object, offset, length] => Ok(Shape::Write(
             parse_object(object)?,
             wide(offset)?,
             wide(length)?,
         )),
+        ["l", object, length] => Ok(Shape::SetLength(parse_object(object)?, wide(length)?)),
+        ["n", length] => Ok(Shape::SetName(wide(length)?)),
         _ => Err(LineError::BadCommand),
     }
 }

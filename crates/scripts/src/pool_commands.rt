@@ -39,8 +39,8 @@ fn make_step(pool: &mut PoolState<MemDevice>, step: Step) -> Reply
     pool.step(step)
 }
 
-// Commits with the bytes that the script gives. Where there is no such transaction, or they are not one for each write of
-// its plan, the pool is given no operations, which no plan has, so that it refuses them in its own order.
+// Commits with the bytes that the script gives. Where there is no such transaction, or they are not one for each write and
+// set name of its plan, the pool is given no operations, which no plan has, so that it refuses them in its own order.
 fn commit(alloc: Global, pool: &mut PoolState<MemDevice>, tx: TxId, contents: Vec<Bytes>) -> Reply
     ensures { CommitsWords tx contents.items result pool.old pool.new }
 {
@@ -102,7 +102,7 @@ fn make_ops(
     }
 }
 
-// The operations of a plan with these bytes for its writes, in order; none where there are not as many.
+// The operations of a plan with these bytes for its writes and names, in order; none where there are not as many.
 fn fill_plan(alloc: Global, shapes: &[Shape], contents: Vec<Bytes>) -> Result<Ops, AllocError>
     ensures { IfOk result (λ ops. ops ≡ unwrap_or (ops_of shapes.now contents.items) []) }
 {

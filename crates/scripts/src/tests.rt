@@ -1,6 +1,7 @@
 //! Whole scripts with their answers, lines that are no commands, and readers and writers that fail.
 
-use crate::run_script;
+use crate::{Answer, Command, LineError, PoolCommand, parse_command, run_script};
+use base::{Group, ObjectId, Owner, Plan, Reply, Shape, Status, Step};
 use std::alloc::Global;
 use std::io::{self, ErrorKind, Read, Write};
 use std::test::Fail;
@@ -247,6 +248,68 @@ fn answer(alloc: Global, line: &[u8]) -> Result<String, Fail> {
 }
 
 #[test]
+fn reads_each_shape_of_a_plan(rt: HostRuntime) -> Result<(), Fail> {
+    let shapes = vec![in rt.alloc();
+        Shape::Create(ObjectId(1)),
+        Shape::Remove(ObjectId(u32::MAX)),
+        Shape::Write(ObjectId(2), 5, 4),
+        Shape::SetLength(ObjectId(3), u64::MAX),
+        Shape::SetName(7),
+        Shape::Remove(ObjectId(1)),
+    ]?;
+    assert_eq!(rt;
+        parse_command(
+            rt.alloc(),
+            "begin 9 c:1 d:4294967295 w:2:5:4 l:3:18446744073709551615 n:007 d:1"
+        ),
+        Ok(Command::Pool(PoolCommand::Step(Step::Begin(Owner(9), Plan::new(shapes)))))
+    );
+    Ok(())
+}
+
+#[test]
+fn reads_a_status_line_and_prints_the_groups_and_sums(rt: HostRuntime) -> Result<(), Fail> {
+    assert_eq!(rt;
+        parse_command(rt.alloc(), "status"),
+        Ok(Command::Pool(PoolCommand::Step(Step::Status)))
+    );
+    let busy = Status {
+        synced: Group(7),
+        syncing: Some(Group(8)),
+        middle: Some(Group(9)),
+        open_group: Group(10),
+        dirty: 1_048_576,
+        free: 891,
+        available: 845,
+    };
+    let rows = [
+        (
+            busy,
+            "synced 7 syncing 8 middle 9 open 10 dirty 1048576 free 891 available 845",
+        ),
+        (
+            Status {
+                syncing: None,
+                ..busy
+            },
+            "synced 7 syncing - middle 9 open 10 dirty 1048576 free 891 available 845",
+        ),
+        (
+            Status {
+                middle: None,
+                ..busy
+            },
+            "synced 7 syncing 8 middle - open 10 dirty 1048576 free 891 available 845",
+        ),
+    ];
+    for (status, text) in rows {
+        let answer = format!(in rt.alloc(); "{}", Answer::Reply(Reply::Status(status)))?;
+        assert_eq!(rt; answer.as_str(), text);
+    }
+    Ok(())
+}
+
+#[test]
 fn takes_no_other_form_of_a_line(rt: HostRuntime) -> Result<(), Fail> {
     for line in [
         "create tank +7",
@@ -260,7 +323,21 @@ fn takes_no_other_form_of_a_line(rt: HostRuntime) -> Result<(), Fail> {
         "lock 1 1 x 0 4",
         "lock 4294967296 1 w 0 4",
         "begin 1 c:1:2",
-        "begin 1 d:1",
+        "begin 1 c:1 x:1",
+        "begin 1 D:1",
+        "begin 1 d",
+        "begin 1 d:",
+        "begin 1 d:1:2",
+        "begin 1 d:4294967296",
+        "begin 1 w:1:2",
+        "begin 1 l:1",
+        "begin 1 l:1:2:3",
+        "begin 1 l:4294967296:2",
+        "begin 1 l:1:18446744073709551616",
+        "begin 1 n",
+        "begin 1 n:tank",
+        "begin 1 n:1:2",
+        "begin 1 n:18446744073709551616",
         "commit 0 \u{e9}",
         "commit 0 @0:a",
         "commit 0 @338689:a",
@@ -270,11 +347,11 @@ fn takes_no_other_form_of_a_line(rt: HostRuntime) -> Result<(), Fail> {
         "append 1",
         "length x",
         "name tank",
-        "status",
+        "status 9",
     ] {
         assert_eq!(rt;
-            answer(rt.alloc(), line.as_bytes())?.as_str(),
-            "line 1: bad command\n",
+            parse_command(rt.alloc(), line),
+            Err(LineError::BadCommand),
             "{line}"
         );
     }
