@@ -12,8 +12,8 @@ use Rattle.base.specs.history.Plans.{NumberRange, is_plan_allowed, plans_overlap
 use Rattle.base.specs.steps.Groups.{Admission, hold_count}
 use Rattle.base.specs.steps.Refusals.{is_plan_blocked}
 use Rattle.transactions.specs.declared.«open».OpenTransaction.{OpenTransaction}
-use Rattle.transactions.specs.Open.{admission_of, admissions_at, passes_at, is_of_name, is_of_group, overlaps_plan_of, has_plan_in, is_range_in_use, admission_of_name}
-use Rattle.transactions.specs.Ranges.{has_range_in}
+use Rattle.transactions.specs.Open.{admission_of, admissions_at, passes_at, is_of_name, is_of_group, overlaps_plan_of, has_plan_in, is_kept_blocked, is_range_in_use, admission_of_name}
+use Rattle.transactions.specs.Ranges.{has_range_in, kept_ranges_overlap}
 use Rattle.transactions.proofs.KeptRanges.{overlap_same, lies_same}
 
 -- an admission, if there is one, before others
@@ -39,6 +39,9 @@ has_allowed_plan a = is_plan_allowed a.plan
 module _ (slots : Slab OpenTransaction) (keys : List ℕ) (allowed : list_all has_allowed_plan (admissions_at slots keys) ≡ true) where
   pub blocked_at : (plan : List Shape) → is_plan_allowed plan ≡ true → list_any (passes_at (overlaps_plan_of plan) slots) keys ≡ is_plan_blocked plan (admissions_at slots keys)
   blocked_at plan h = any_at has_allowed_plan (λ (a : Admission). plans_overlap plan a.plan) (overlaps_plan_of plan) (λ t k. overlap_same plan t.plan h k) slots keys allowed
+
+  pub kept_blocked_at : (plan : List Shape) → list_any (passes_at (overlaps_plan_of plan) slots) keys ≡ is_kept_blocked plan (admissions_at slots keys)
+  kept_blocked_at plan = any_at has_allowed_plan (λ (a : Admission). kept_ranges_overlap plan a.plan) (overlaps_plan_of plan) (λ t k. refl) slots keys allowed
 
   pub in_use_at : (range : NumberRange) → list_any (passes_at (has_plan_in range) slots) keys ≡ is_range_in_use range (admissions_at slots keys)
   in_use_at range = any_at has_allowed_plan (λ (a : Admission). has_range_in range a.plan) (has_plan_in range) (λ t k. lies_same range t.plan k) slots keys allowed

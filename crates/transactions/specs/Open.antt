@@ -68,6 +68,10 @@ next_admission owner group plan o = record { tx = o.next; group = group; owner =
 abbrev pub with_admission : Admission → Open → Open
 with_admission a o = record { transactions = o.transactions ++ a ∷ []; next = o.next + 1 }
 
+-- whether a range of a plan overlaps one of an open transaction, with ends that fit 64 bits
+abbrev pub is_kept_blocked : List Shape → List Admission → Bool
+is_kept_blocked plan transactions = list_any (λ (a : Admission). kept_ranges_overlap plan a.plan) transactions
+
 -- whether, where so many are open and this is the next name, one more is too many
 abbrev pub is_too_many : ℕ → ℕ → Bool
 is_too_many count next = nat_le max_transactions count || nat_lt last_number next

@@ -13,7 +13,7 @@ ghost use Rattle.base.specs.steps.Groups.{hold_count};
 ghost use Rattle.base.specs.steps.Refusals.{is_plan_blocked};
 ghost use Rattle.base.specs.steps.Steps.{transactions_without};
 ghost use Rattle.transactions.specs.Open as words;
-ghost use Rattle.transactions.specs.Open.{AreNamedApart, admission_of, admit_refusal, has_plan_in, has_too_many, is_of_group, is_of_name, is_range_in_use, keys_without, next_admission, overlaps_plan_of, passes_at, admission_of_name, with_admission};
+ghost use Rattle.transactions.specs.Open.{AreNamedApart, admission_of, admit_refusal, has_plan_in, has_too_many, is_kept_blocked, is_of_group, is_of_name, is_range_in_use, keys_without, next_admission, overlaps_plan_of, passes_at, admission_of_name, with_admission};
 ghost use Rattle.transactions.specs.Refusals.{Refuses};
 
 use crate::plan::{has_range_in, ranges_overlap};
@@ -66,10 +66,12 @@ impl OpenTransactions {
         }
     }
 
-    /// Whether a range of an allowed plan overlaps one of an open transaction.
+    /// Whether a range of a plan overlaps one of an open transaction. The plan should be allowed: else the ranges are those of
+    /// `range_of`.
     pub fn is_blocked(&self, plan: &[Shape]) -> bool
-        ensures { is_plan_allowed plan.now ≡ true
+        ensures blocked { is_plan_allowed plan.now ≡ true
             → result ≡ is_plan_blocked plan.now self.now.transactions }
+        ensures kept { result ≡ is_kept_blocked plan.now self.now.transactions }
     {
         any_blocks(&self.slots, &self.order, plan)
     }

@@ -130,8 +130,10 @@ fn whole(object: ObjectId) -> ObjectRange
 
 /// Whether a range of a plan overlaps one of the other. Both plans should be allowed: else the ranges are those of `range_of`.
 pub fn plans_overlap(plan: &[Shape], other: &[Shape]) -> bool
-    ensures { plans.is_plan_allowed plan.now ≡ true → plans.is_plan_allowed other.now ≡ true
+    ensures overlap { plans.is_plan_allowed plan.now ≡ true
+        → plans.is_plan_allowed other.now ≡ true
         → result ≡ plans.plans_overlap plan.now other.now }
+    ensures kept { result ≡ kept_ranges_overlap plan.now other.now }
 {
     ranges_overlap(plan, other)
 }

@@ -1,14 +1,15 @@
 //! The record of a committed transaction for the intent log (`zil.c`): little-endian, and of one spelling.
 
-ghost use Rattle.std.specs.Prelude.{◌≡◌, ◌<◌, ◌≤◌, ◌++◌, List, ℕ, IfErr, IfNone, IfOk, IfSome, OnErr, OnOk, map};
+ghost use Rattle.std.specs.Prelude.{◌≡◌, ◌<◌, ◌≤◌, ◌++◌, List, ℕ, IfErr, IfNone, IfOk, IfSome, IsOk, None, OnErr, OnOk, map, vec_capacity};
 ghost use Rattle.std.specs.List.{list_all};
 ghost use Rattle.base.specs.formats.Limits.{max_log_record};
 ghost use Rattle.base.specs.history.Plans.{log_record_size, shape_of};
 ghost use Rattle.base.specs.formats.Records as records;
-ghost use Rattle.base.specs.formats.Records.{HasNoRecord, IsAllowed, IsDecoded, bytes_of_record};
+ghost use Rattle.base.specs.formats.Records.{HasNoRecord, IsAllowed, IsDecoded, bytes_of_record, size_of};
 ghost use Rattle.transactions.specs.Refusals.{Refuses};
 ghost use Rattle.transactions.specs.Records as words;
 ghost use Rattle.transactions.specs.Records.{Decodes, encode_refusal, fields_of};
+ghost use Rattle.transactions.specs.Writing.{HasRoomFor};
 
 use crate::plan::{RECORD_HEAD, with_shape};
 use crate::reading::{ReadError, is_op_allowed, read_record};
@@ -47,12 +48,15 @@ pub fn encode_record(alloc: Global, committed: &Record) -> Result<Vec<u8>, PoolE
 ///
 /// # Errors
 ///
-/// As those of `encode_record`.
+/// As those of `encode_record`, and `NoMemory` only where the bytes have no room for the record.
 pub fn encode_into(out: &mut Vec<u8>, committed: &Record) -> Result<(), PoolError>
     ensures bytes { OnOk result
         (out.new.items ≡ out.old.items ++ bytes_of_record (fields_of committed.now)) }
     ensures allowed { OnOk result (IsAllowed (fields_of committed.now)) }
     ensures refused { IfErr result (λ e. Refuses (encode_refusal (fields_of committed.now)) e) }
+    ensures room { HasRoomFor out.old (size_of (fields_of committed.now))
+        → encode_refusal (fields_of committed.now) ≡ None → IsOk result }
+    ensures capacity { vec_capacity out.old ≤ vec_capacity out.new }
     ensures unchanged { OnErr result (out.new.items ≡ out.old.items) }
 {
     if !is_in_limits(committed) {
