@@ -1,5 +1,5 @@
 -- The blocks of a map of sums, and what each call of the dirty bytes does to them.
-use Rattle.std.proofs.Common.{◌≡◌, ℕ, ◌+◌, ◌-◌, ◌*◌, ◌%◌, Bool, true, false, cond, List, [], ◌∷◌, map, Option, Some, None, refl, ap, sym, ◌∙◌, arith}
+use Rattle.std.proofs.Common.{◌≡◌, ℕ, zero, suc, ◌+◌, ◌-◌, ◌*◌, ◌%◌, ◌<◌, Bool, true, false, cond, List, [], ◌∷◌, map, Option, Some, None, refl, ap, sym, ◌∙◌, arith}
 use Rattle.std.specs.Prelude.{option_map, unwrap_or, sum_by}
 use Rattle.std.specs.List.{fold}
 use Rattle.std.specs.Ordering.{nat_cmp, eq_by_cmp}
@@ -8,6 +8,8 @@ use Rattle.std.specs.FinMap as finite
 use Rattle.std.specs.FinMap.{FinMap, find, get-entries, get-from_entries, get-empty, get-insert, get-remove, same_map, nat_cmp-IsAntisymmetric}
 use Rattle.base.specs.formats.Geometry.{block_size}
 use Rattle.throttle.specs.Blocks.{blocks_in, blocks_of}
+use Rattle.throttle.specs.DirtyBytes.{with_sum}
+use Rattle.throttle.proofs.GroupSums.{with_sum-some}
 
 option_map-cond : (b : Bool) (n : ℕ) (o : Option ℕ) → cond b (Some (blocks_in n)) (option_map blocks_in o) ≡ option_map blocks_in (cond b (Some n) o)
 option_map-cond true n o = refl
@@ -48,6 +50,16 @@ blocks_of-remove sums group = are_blocks _ (finite.remove sums group) (λ q.
     ∙ option_map-cond_none (eq_by_cmp nat_cmp q group) (finite.get sums q)
     ∙ ap (option_map blocks_in) (sym (get-remove nat_cmp_total sums group q)))
 
+-- a sum of whole blocks that is set, or that ends
+some_blocks : (n : ℕ) → 0 < n → n % block_size ≡ 0 → 0 < blocks_in n
+some_blocks n some whole = omega arith
+
+pub blocks_of-with_sum : (sums : FinMap nat_cmp ℕ) (group n : ℕ) → n % block_size ≡ 0 → blocks_of (with_sum group n sums) ≡ with_sum group (blocks_in n) (blocks_of sums)
+unfolding with_sum
+blocks_of-with_sum sums group zero whole = blocks_of-remove sums group
+blocks_of-with_sum sums group (suc n) whole =
+    blocks_of-insert sums group (suc n) ∙ sym (with_sum-some group (blocks_in (suc n)) (blocks_of sums) (some_blocks (suc n) (omega arith) whole))
+
 -- the blocks of one group
 blocks_in-none : (o : Option ℕ) → unwrap_or (option_map blocks_in o) 0 ≡ blocks_in (unwrap_or o 0)
 blocks_in-none None = refl
@@ -59,6 +71,9 @@ block_sum sums group = ap (λ o. unwrap_or o 0) (get-blocks_of sums group) ∙ b
 -- numbers of blocks
 pub blocks_in-charged : (sum count : ℕ) → blocks_in (sum + block_size * count) ≡ blocks_in sum + count
 blocks_in-charged sum count = omega arith
+
+pub blocks_in-canceled : (sum count : ℕ) → blocks_in (sum - block_size * count) ≡ blocks_in sum - count
+blocks_in-canceled sum count = omega arith
 
 pub whole-charged : (sum count : ℕ) → sum % block_size ≡ 0 → (sum + block_size * count) % block_size ≡ 0
 whole-charged sum count whole = omega arith

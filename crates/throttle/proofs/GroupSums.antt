@@ -13,6 +13,11 @@ pub unwrap_or-entry_of : (n : ℕ) → unwrap_or (entry_of n) 0 ≡ n
 unwrap_or-entry_of zero = refl
 unwrap_or-entry_of (suc n) = refl
 
+pub with_sum-some : (group n : ℕ) (m : FinMap nat_cmp ℕ) → 0 < n → with_sum group n m ≡ finite.insert m group n
+unfolding with_sum
+with_sum-some group zero m some = absurd (omega arith)
+with_sum-some group (suc n) m some = refl
+
 get-with_sum : (g n : ℕ) (m : FinMap nat_cmp ℕ) (q : ℕ) → finite.get (with_sum g n m) q ≡ cond (eq_by_cmp nat_cmp q g) (entry_of n) (finite.get m q)
 unfolding with_sum
 get-with_sum g zero m q = get-remove nat_cmp_total m g q

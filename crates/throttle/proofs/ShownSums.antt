@@ -14,10 +14,10 @@ use Rattle.base.specs.steps.Groups.{Line, IsLine, Admission, MayHold}
 use Rattle.base.specs.steps.Shown.{Shown, SyncPlan, dirty_of, reserved_of, dirty_total, unsynced_groups}
 use Rattle.base.specs.steps.Steps.{State, state_after_charged_admission, state_after_sync}
 use Rattle.base.proofs.steps.KeptGroups.{held_above}
-use Rattle.throttle.specs.Blocks.{blocks_in, blocks_of, block_sum_of, AreSumsOn, ShowsSums}
+use Rattle.throttle.specs.Blocks.{blocks_in, blocks_of, block_sum_of, AreSumsOn, AreWholeBlocks, ShowsSums}
 use Rattle.throttle.specs.DirtyBytes.{DirtyBytes, MayBeUnsynced, sum_of, total_of, with_sum, dirty_behind, after_admit, after_cancel, after_synced}
 use Rattle.throttle.specs.Laws.{BlocksFollowSums, SameTotals, StaySumsOn}
-use Rattle.throttle.proofs.BlockSums.{get-blocks_of, blocks_of-empty, blocks_of-insert, blocks_of-remove, block_sum, blocks_in-charged, blocks_in-sum, whole-charged, whole-canceled}
+use Rattle.throttle.proofs.BlockSums.{get-blocks_of, blocks_of-empty, blocks_of-insert, blocks_of-remove, blocks_of-with_sum, block_sum, blocks_in-charged, blocks_in-canceled, blocks_in-sum, whole-charged, whole-canceled}
 use Rattle.throttle.proofs.GroupSums.{unwrap_or-entry_of, get-with_sum_own, get-with_sum_other, get-removed, get-removed_other}
 use Rattle.throttle.proofs.SumLaws.{open_within, totals_agree, admits_are_entered}
 
@@ -53,11 +53,18 @@ module _ (d : DirtyBytes) (group : ℕ) (plan : List Shape) (allowed : is_plan_a
       ap blocks_of sums-admitted ∙ blocks_of-insert d.sums group (sum_of d group + charge_of plan)
       ∙ ap (finite.insert (blocks_of d.sums) group) (blocks_in-charged (sum_of d group) (estimate_of plan) ∙ ap (λ n. n + estimate_of plan) (sym (block_sum d.sums group)))
 
+pub blocks_of-canceled : (d : DirtyBytes) (group : ℕ) (plan : List Shape) → AreWholeBlocks d
+    → blocks_of (after_cancel group (charge_of plan) d).sums ≡ with_sum group (block_sum_of d group - estimate_of plan) (blocks_of d.sums)
+blocks_of-canceled d group plan whole =
+    blocks_of-with_sum d.sums group (sum_of d group - charge_of plan) (whole-canceled (sum_of d group) (estimate_of plan) (whole.each group))
+    ∙ ap (λ n. with_sum group n (blocks_of d.sums)) (blocks_in-canceled (sum_of d group) (estimate_of plan) ∙ ap (λ n. n - estimate_of plan) (sym (block_sum d.sums group)))
+
 pub blocks_follow_sums : BlocksFollowSums
 blocks_follow_sums = record {
   none = blocks_of-empty;
   each = get-blocks_of;
   admitted = blocks_of-admitted;
+  canceled = blocks_of-canceled;
   synced = blocks_of-remove;
 }
 

@@ -11,7 +11,7 @@ use Rattle.base.specs.steps.Groups.{Line, IsLine}
 use Rattle.base.specs.steps.Shown.{Shown, dirty_of, dirty_total}
 use Rattle.throttle.specs.DirtyBytes.{DirtyBytes, AreWithinLimit, sum_of, total_of, entry_of, with_sum, after_admit, after_cancel}
 use Rattle.throttle.specs.Laws.{AreSumsOf}
-use Rattle.throttle.proofs.GroupSums.{unwrap_or-entry_of, get-with_sum_own, get-with_sum_other}
+use Rattle.throttle.proofs.GroupSums.{with_sum-some, unwrap_or-entry_of, get-with_sum_own, get-with_sum_other}
 
 -- one to three groups are behind the synced one
 width : (l : Line) → IsLine l → (l.open_group - l.synced ≡ 1) ⊎ (l.open_group - l.synced ≡ 2) ⊎ (l.open_group - l.synced ≡ 3)
@@ -56,11 +56,6 @@ totals_agree s d line x =
     above (inl one) = omega arith
     above (inr (inl two)) = omega arith
     above (inr (inr three)) = omega arith
-
-with_sum-some : (group n : ℕ) (m : FinMap nat_cmp ℕ) → 0 < n → with_sum group n m ≡ finite.insert m group n
-unfolding with_sum
-with_sum-some group zero m some = absurd (omega arith)
-with_sum-some group (suc n) m some = refl
 
 pub admits_are_entered : (d : DirtyBytes) (group charge : ℕ) → 0 < charge → after_admit group charge d ≡ record d { sums = finite.insert d.sums group (sum_of d group + charge) }
 admits_are_entered d group charge some = λ k. record { limit = d.limit; synced = d.synced; sums = with_sum-some group (sum_of d group + charge) d.sums (omega arith) k }

@@ -1,5 +1,5 @@
 -- What holds of the dirty bytes beside the tables of a running pool.
-use Rattle.std.specs.Prelude.{ℕ, ◌≡◌, ◌+◌, ◌<◌, ◌≤◌, true, List, option_map, nat_lt}
+use Rattle.std.specs.Prelude.{ℕ, ◌≡◌, ◌+◌, ◌-◌, ◌<◌, ◌≤◌, true, List, option_map, nat_lt}
 use Rattle.std.specs.Ordering.{nat_cmp}
 use Rattle.std.specs.FinMap as finite
 use Rattle.std.specs.FinMap.{FinMap}
@@ -8,8 +8,8 @@ use Rattle.base.specs.history.Plans.{is_plan_allowed, estimate_of, charge_of}
 use Rattle.base.specs.steps.Groups.{Line, IsLine, Admission, MayHold}
 use Rattle.base.specs.steps.Shown.{Shown, SyncPlan, dirty_of, dirty_total, reserved_total}
 use Rattle.base.specs.steps.Steps.{State, state_after_charged_admission, state_after_sync}
-use Rattle.throttle.specs.Blocks.{blocks_in, blocks_of, block_sum_of, AreSumsOn, ShowsSums}
-use Rattle.throttle.specs.DirtyBytes.{DirtyBytes, AreWithinLimit, MayBeUnsynced, sum_of, total_of, is_throttled, dirty_behind, after_admit, after_cancel, after_synced}
+use Rattle.throttle.specs.Blocks.{blocks_in, blocks_of, block_sum_of, AreSumsOn, AreWholeBlocks, ShowsSums}
+use Rattle.throttle.specs.DirtyBytes.{DirtyBytes, AreWithinLimit, MayBeUnsynced, sum_of, total_of, with_sum, is_throttled, dirty_behind, after_admit, after_cancel, after_synced}
 
 -- the sums are those of a pool: the groups behind its open one have none
 pub record AreSumsOf (s : Shown) (d : DirtyBytes) : Type 0 where
@@ -34,12 +34,15 @@ AdmitsAreEntered = (d : DirtyBytes) (group charge : ℕ) → 0 < charge
 abbrev pub PlansAskForBlocks : Type 0
 PlansAskForBlocks = (plan : List Shape) → is_plan_allowed plan ≡ true → 0 < estimate_of plan
 
--- The blocks of sums: none of none, and for each sum its own. They follow the sums where a plan is admitted, and where a group is synced.
+-- The blocks of sums: none of none, and for each sum its own. They follow the sums where a plan is admitted
+-- or given up, and where a group is synced.
 pub record BlocksFollowSums : Type 0 where
   pub none : blocks_of finite.empty ≡ finite.empty
   pub each : (sums : FinMap nat_cmp ℕ) (group : ℕ) → finite.get (blocks_of sums) group ≡ option_map blocks_in (finite.get sums group)
   pub admitted : (d : DirtyBytes) (group : ℕ) (plan : List Shape) → is_plan_allowed plan ≡ true
       → blocks_of (after_admit group (charge_of plan) d).sums ≡ finite.insert (blocks_of d.sums) group (block_sum_of d group + estimate_of plan)
+  pub canceled : (d : DirtyBytes) (group : ℕ) (plan : List Shape) → AreWholeBlocks d
+      → blocks_of (after_cancel group (charge_of plan) d).sums ≡ with_sum group (block_sum_of d group - estimate_of plan) (blocks_of d.sums)
   pub synced : (sums : FinMap nat_cmp ℕ) (group : ℕ) → blocks_of (finite.remove sums group) ≡ finite.remove (blocks_of sums) group
 
 -- what a pool shows before anything is charged

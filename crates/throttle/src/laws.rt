@@ -38,7 +38,7 @@ pub fn plans_ask_for_blocks()
     ensures { PlansAskForBlocks }
 {}
 
-/// The blocks follow the sums: of each group, after the admission of a plan, and after a sync.
+/// The blocks follow the sums: of each group, after the admission of a plan and its end, and after a sync.
 pub fn blocks_follow_sums()
     ensures { BlocksFollowSums }
 {}
