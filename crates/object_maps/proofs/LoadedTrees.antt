@@ -1,6 +1,6 @@
 -- A tree as it is loaded is the one that the image holds.
 use Rattle.std.proofs.Common.{◌≡◌, ℕ, zero, suc, false, take, drop, replicate, ◌++◌, ◌∷◌, ◌+◌, ◌*◌, ◌/◌, ◌%◌, ◌<◌, ◌≤◌, List, [], length, refl, ap, sym, subst, ◌∙◌, arith, ◌⊎◌, inl, inr, Some, None}
-use Rattle.std.specs.Prelude.{Bool, IsTrue, Option, IfSome, All}
+use Rattle.std.specs.Prelude.{Bool, IsTrue, Option, IfSome, All, option_map}
 use Rattle.std.specs.Option.{option_map_or}
 use Rattle.std.specs.FinMap as finite
 use Rattle.std.proofs.lemmas.List.{take_at, get_or-replicate, get_or_past, length-replicate}
@@ -21,6 +21,7 @@ use Rattle.object_maps.specs.declared.tree.ObjectMap.{ObjectMap}
 use Rattle.object_maps.specs.ContentsShown.{object_in, object_of}
 use Rattle.object_maps.specs.Pointers.{objects_of, pointers_at, pointer_of_list, indirect_of, records_of}
 use Rattle.object_maps.specs.EmptyMaps.{IsEmptyMap}
+use Rattle.object_maps.specs.Lengths.{map_length, HaveSlotLengths}
 use Rattle.object_maps.specs.Loading.{IsLoadedAt, IsLimitedObject, IsObjectContent, AreEmptyFrom, DirectoryStands, AreLoadedDirectories, IsLoadedTree}
 use Rattle.object_maps.proofs.ContentsShown.{get-objects, absent_at}
 use Rattle.object_maps.proofs.LoadedEntries.{no_directory}
@@ -110,6 +111,10 @@ no_records : (maps : List ObjectMap) → All IsEmptyMap maps → (n : ℕ) → r
 no_records [] empty n = refl
 no_records (m ∷ maps) empty zero = (All-head IsEmptyMap m maps empty).1
 no_records (m ∷ maps) empty (suc n) = no_records maps (All-tail IsEmptyMap m maps empty) n
+
+-- the lengths of slots are those of their objects
+pub lengths_told : (slots : List Slot) (maps : List ObjectMap) → HaveSlotLengths slots maps → (n : ℕ) → map_length maps n ≡ option_map length (finite.get (objects_of slots) n)
+lengths_told slots maps lengths n = lengths n ∙ ap (option_map length) (sym (get-objects slots n))
 
 -- new slots and pointers have no object
 pub all_empty : (slots : List Slot) (maps : List ObjectMap) → All (λ (s : Slot). s.present ≡ false) slots → All IsEmptyMap maps → AreEmptyFrom 0 slots maps

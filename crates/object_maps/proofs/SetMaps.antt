@@ -1,4 +1,4 @@
--- The pointers of a tree after those of some objects are set.
+-- The lengths and pointers of a tree after those of some objects are set.
 use Rattle.std.proofs.Common.{◌≡◌, ℕ, zero, suc, ◌<◌, ◌≤◌, ◌≢◌, List, [], ◌∷◌, Option, Some, None, refl, ap, sym, ◌∙◌, inl, inr, ◌⊎◌, length, arith, true, false, cond}
 use Rattle.std.specs.Prelude.{slice_get}
 use Rattle.std.specs.Option.{option_map_or}
@@ -22,6 +22,7 @@ use Rattle.base.specs.tree.Places.{Place, IsPlace}
 use Rattle.base.specs.tree.Places.Place.{Root, Directory, Indirect, Data}
 use Rattle.object_maps.specs.declared.tree.ObjectMap.{ObjectMap}
 use Rattle.object_maps.specs.Pointers.{pointers_at, pointer_of_list, indirect_of, records_of, with_maps, map_among, id_cmp}
+use Rattle.object_maps.specs.Lengths.{map_length, with_lengths}
 use Rattle.object_maps.specs.SetMaps.{set_maps}
 
 pub map-set_same : (maps : List ObjectMap) (n : ℕ) (m : ObjectMap) → n < length maps → slice_get (set maps n m) n ≡ Some m
@@ -83,6 +84,15 @@ found (e ∷ es) maps n m low sorted some = go (cases_eq e.0.0 n) (found es (set
         let behind : AllByRecursion (λ (y : ObjectId). nat_cmp e.0.0 y.0 ≡ Less) (keys_of es) = sorted_head id_cmp e.0 (keys_of es) sorted in
         kept es rest n (none_behind n es (rw here at behind)) ∙ rw here (map-set_same maps n e.1 low) ∙ (rw (is_here n e.0.0 here) at some)
     go (inr ne) more = more (rw (is_elsewhere n e.0.0 ne) at some)
+
+-- the length of each object after they are set
+pub set_all-lengths : (old : List ObjectMap) (maps : BTreeMap ObjectId ObjectMap) → length old ≡ object_count → tree.IsOrdered id_cmp maps
+    → (n : ℕ) → n < object_count → map_length (set_maps maps.entries old) n ≡ with_lengths (map_among maps) (map_length old) n
+set_all-lengths old maps long sorted n there = go (map_among maps n) refl
+  where
+    go : (o : Option ObjectMap) → map_among maps n ≡ o → map_length (set_maps maps.entries old) n ≡ option_map_or (λ (m : ObjectMap). m.length) o (map_length old n)
+    go None e = ap (λ (p : Option ObjectMap). option_map_or (λ (m : ObjectMap). m.length) p None) (kept maps.entries old n e)
+    go (Some m) e = ap (λ (p : Option ObjectMap). option_map_or (λ (m : ObjectMap). m.length) p None) (found maps.entries old n m (rw long there) sorted e)
 
 -- the pointer at each place after they are set
 pub set_all-pointers : (root : Pointer) (directories : List Pointer) (old : List ObjectMap) (maps : BTreeMap ObjectId ObjectMap) → length old ≡ object_count → tree.IsOrdered id_cmp maps

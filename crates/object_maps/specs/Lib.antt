@@ -3,6 +3,7 @@ pub mod Presence
 pub mod ContentsShown
 pub mod Digests
 pub mod Pointers
+pub mod Lengths
 pub mod EmptyMaps
 pub mod SetMaps
 pub mod Loading

@@ -1,5 +1,5 @@
 -- What the parts of a load say: of the objects that are loaded so far, and of the image that the device has.
-use Rattle.std.specs.Prelude.{ℕ, ◌≡◌, ◌<◌, Bool, true, IsTrue, List, length}
+use Rattle.std.specs.Prelude.{ℕ, ◌≡◌, ◌<◌, Bool, true, IsTrue, List, length, Some}
 use Rattle.base.specs.declared.pointer.Pointer.{Pointer}
 use Rattle.base.specs.disk.Disk.{Disk, bytes_of}
 use Rattle.base.specs.formats.Blocks.{Frame}
@@ -48,3 +48,4 @@ pub record IsObjectOf (entry : Entry) (slot : Slot) (map : ObjectMap) : Type 0 w
   pub present : slot.present ≡ true
   pub size : length slot.bytes.items ≡ entry.length
   pub indirect : map.indirect ≡ entry.pointer
+  pub length : map.length ≡ Some entry.length

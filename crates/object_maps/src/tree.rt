@@ -1,5 +1,5 @@
 //! The tree of blocks that holds a pool's objects (On-Disk Specification, chapter 2): a root, directories, and for each
-//! object an indirect block over its records. Its pointers are kept in memory.
+//! object an indirect block over its records. Its pointers, and the lengths of its objects, are kept in memory.
 
 ghost use Rattle.std.specs.Prelude.{◌≡◌, IfOk, All, vec_len};
 ghost use Rattle.object_maps.specs.EmptyMaps.{IsEmptyMap};
@@ -8,9 +8,11 @@ use base::{OBJECT_COUNT, ObjectId, Pointer};
 use std::alloc::{AllocError, Global};
 use std::collections::BTreeMap;
 
-/// The pointers of one object: to its indirect block, and to its records, of which none are kept where all are holes.
+/// What a tree has of one object: its length in bytes, `None` where it has no such object, and the pointers to its indirect
+/// block and to its records, of which none are kept where all are holes.
 #[derive(Debug, PartialEq, Eq, Drop)]
 pub struct ObjectMap {
+    pub length: Option<u64>,
     pub indirect: Pointer,
     pub records: Vec<Pointer>,
 }
@@ -30,7 +32,7 @@ impl ObjectMap {
     }
 }
 
-/// The pointers of a tree, by place.
+/// The pointers of a tree, by place, and the lengths of its objects.
 #[derive(Debug, PartialEq, Eq, Drop)]
 pub struct Tree {
     pub root: Pointer,
@@ -40,7 +42,7 @@ pub struct Tree {
     ghost all_objects: { vec_len maps ≡ 5292 },
 }
 
-/// The pointers of objects of which none is there.
+/// The maps of objects of which none is there.
 pub fn empty_maps(alloc: Global) -> Result<Vec<ObjectMap>, AllocError>
     ensures count { IfOk result (λ maps. vec_len maps ≡ 5292) }
     ensures empty { IfOk result (λ maps. All IsEmptyMap maps.items) }
@@ -48,6 +50,7 @@ pub fn empty_maps(alloc: Global) -> Result<Vec<ObjectMap>, AllocError>
     let mut maps = Vec::with_capacity(alloc, OBJECT_COUNT as usize)?;
     for _i in 0..OBJECT_COUNT {
         maps.push_reserved(ObjectMap {
+            length: None,
             indirect: Pointer::NONE,
             records: Vec::new(alloc),
         });
@@ -56,15 +59,19 @@ pub fn empty_maps(alloc: Global) -> Result<Vec<ObjectMap>, AllocError>
 }
 
 impl Tree {
-    ghost use Rattle.std.specs.Prelude.{◌≡◌};
+    ghost use Rattle.std.specs.Prelude.{◌≡◌, ◌<◌, ℕ};
+    ghost use Rattle.base.specs.formats.Limits.{object_count};
     ghost use Rattle.base.specs.tree.Places.{Place, IsPlace};
+    ghost use Rattle.object_maps.specs.Lengths.{lengths_of, with_lengths};
     ghost use Rattle.object_maps.specs.Pointers.{pointers_of, with_maps, map_among};
     ghost use Rattle.std.proofs.Math.ListN.{set};
 
-    /// Sets the pointers of these objects. Those with no place in the tree are let go.
+    /// Sets the lengths and the pointers of these objects. Those with no place in the tree are let go.
     pub fn set_all(&mut self, maps: BTreeMap<ObjectId, ObjectMap>)
         ensures pointers { (place : Place) → IsPlace place
             → pointers_of self.new place ≡ with_maps (map_among maps) (pointers_of self.old) place }
+        ensures lengths { (n : ℕ) → n < object_count
+            → lengths_of self.new n ≡ with_lengths (map_among maps) (lengths_of self.old) n }
         ensures root { self.new.root ≡ self.old.root }
         ensures directories { self.new.directories ≡ self.old.directories }
     {

@@ -18,6 +18,7 @@ ghost use Rattle.device_model.specs.Reading.{OnlyReads};
 ghost use Rattle.checked_blocks.proofs.NamedBlocks.{IsNamed};
 ghost use Rattle.object_maps.specs.Pointers.{pointers_of, objects_of, pointer_of_list};
 ghost use Rattle.object_maps.specs.Kinds.{kind_number};
+ghost use Rattle.object_maps.specs.Lengths.{HasLengthsOf};
 ghost use Rattle.object_maps.specs.Loading.{IsLimitedObject, IsLoadRefusal, IsLoadedRecord, AreLoadedRecords, IsZeroRecord, IsLoadedObject, IsLoadedDirectory, AreLoadedDirectories, IsLoadedTree};
 ghost use Rattle.base.specs.declared.pointer.Pointer.{Pointer};
 ghost use Rattle.base.specs.tree.Places.{IsPlace, walk_index_of, walk_index_of_indirect, pointer_of};
@@ -227,7 +228,8 @@ pub fn load<D: SectorDevice>(
     ensures bounded { IfOk result (λ l. (n : ℕ) → IfSome (finite.get (objects_of l.slots.items) n)
         (IsLimitedObject n)) }
 
-    // It is the one that the image holds.
+    // It has the lengths of these objects, and is the one that the image holds.
+    ensures lengths { IfOk result (λ l. HasLengthsOf l.tree (objects_of l.slots.items)) }
     ensures tree { IsTrue D.keeps_model → IfOk result (λ l.
         HoldsTree (bytes_of (D.disk device.old).now)
         frame.now (pointers_of l.tree) (objects_of l.slots.items)) }
@@ -416,8 +418,7 @@ impl Loader<'_> {
             }
             let number = ENTRY_COUNT * directory + index;
             let (slot, map) = self.load_object(device, number, &entry)?;
-            objects.slots[number] = slot;
-            objects.maps[number] = map;
+            objects.put(number, slot, map);
         }
         Ok(())
     }
@@ -450,6 +451,7 @@ impl Loader<'_> {
             bytes,
         };
         let map = ObjectMap {
+            length: Some(entry.length),
             indirect: entry.pointer,
             records,
         };

@@ -1,6 +1,6 @@
 -- What a whole walk makes of a tree, place by place.
 use Rattle.std.proofs.Common.{◌≡◌, ◌≢◌, ◌==◌, ℕ, zero, suc, ◌+◌, ◌*◌, ◌/◌, ◌<◌, ◌≤◌, inl, inr, Bool, true, false, not, ◌&&◌, ◌||◌, ◌⊎◌, List, [], ◌∷◌, ◌++◌, length, map, take, Option, Some, None, refl, sym, ◌∙◌, ap, subst, arith}
-use Rattle.std.specs.Prelude.{slice_get, slice_index_or, is_some, unwrap_or, All, IfSome, if◌then◌else◌}
+use Rattle.std.specs.Prelude.{slice_get, slice_index_or, is_some, option_map, unwrap_or, All, IfSome, if◌then◌else◌}
 use Rattle.std.specs.List.{list_any}
 use Rattle.std.specs.Option.{option_map_or}
 use Rattle.std.specs.Ordering.{nat_cmp}
@@ -24,6 +24,7 @@ use Rattle.base.specs.tree.PlannedTrees.{IsNewAt, IsPlannedAt, IsTreePlan, NewBl
 use Rattle.space.specs.FreeSets.{addresses_from, free_from}
 use Rattle.object_maps.specs.declared.tree.ObjectMap.{ObjectMap}
 use Rattle.object_maps.specs.declared.tree.Tree.{Tree}
+use Rattle.object_maps.specs.Lengths.{lengths_of}
 use Rattle.tree_plans.specs.declared.changes.ObjectChanges.{ObjectChanges}
 use Rattle.tree_plans.specs.declared.planner.PlannedBlock.{PlannedBlock}
 use Rattle.tree_plans.specs.Pointers.{entry_of, record_in, planned_map, pointers_from, pointers_before}
@@ -132,6 +133,18 @@ module _ (s : Progress) (t : Tree) (after : FinMap nat_cmp (List ℕ)) (objects 
           let there = w.objects_planned.all p.0 p.1 changes p.2 (rw (← same) low) in
           let none_there : is_some (entry_of planned n) ≡ true = rw (← same) at there in
           absurd (none_some (entry_of planned n) none none_there)
+
+  -- the length of each object
+  pub length_planned : (n : ℕ) → n < object_count → option_map_or (λ (m : ObjectMap). m.length) (entry_of planned n) (lengths_of t n)
+      ≡ (if is_some (entry_of objects n) then option_map length (finite.get after n) else lengths_of t n)
+  length_planned n low = by (entry_of planned n) refl
+    where
+      after_them : Option ObjectChanges → Option ℕ
+      after_them o = if is_some o then option_map length (finite.get after n) else lengths_of t n
+
+      by : (o : Option ObjectMap) → entry_of planned n ≡ o → option_map_or (λ (m : ObjectMap). m.length) o (lengths_of t n) ≡ after_them (entry_of objects n)
+      by None e = sym (ap after_them (not_touched n low e))
+      by (Some m) e = let f = w.objects_planned.each n m e in f.length ∙ sym (ap after_them f.changes_are)
 
   unchanged_there : (n r : ℕ) → n < object_count → entry_of planned n ≡ None → state_in objects n r ≡ Unchanged
   unchanged_there n r low none = ap (λ (o : Option ObjectChanges). option_map_or (λ (c : ObjectChanges). state_at c r) o Unchanged) (not_touched n low none)

@@ -44,6 +44,7 @@ module _ {flags : List Bool} {s t : Progress} (maps : List ObjectMap) (after : F
     old = f.old;
     old_is = f.old_is;
     planned = object_stays n (unwrap_or (finite.get after n) []) f.changes f.old m g f.planned;
+    length = f.length;
   }
 
   pub objects_stay : (done : List (ObjectId × ObjectChanges)) (planned : List (ObjectId × ObjectMap)) → Goes flags s t → AreObjectsPlanned s maps after objects done planned → AreObjectsPlanned t maps after objects done planned

@@ -1,5 +1,5 @@
 -- What each part of a walk has done, from the plan before it (old) to the plan after it (new).
-use Rattle.std.specs.Prelude.{ℕ, ◌≡◌, ◌<◌, ◌==◌, ◌++◌, ◌∷◌, [], Bool, false, List, map, slice_index_or, Some, None, vec_len}
+use Rattle.std.specs.Prelude.{ℕ, ◌≡◌, ◌<◌, ◌==◌, ◌++◌, ◌∷◌, [], Bool, false, List, map, slice_index_or, Option, Some, None, unwrap_or, vec_len}
 use Rattle.std.specs.BTreeMap.{BTreeMap}
 use Rattle.std.specs.Ordering.{nat_cmp}
 use Rattle.std.specs.FinMap.{FinMap}
@@ -99,9 +99,9 @@ pub record PlansIndirect (free : FreeSet) (id : ObjectId) (records : List Pointe
   pub adds : Adds (blocks_of old) (blocks_of new) (address_if (is_dirty (indirect_state is_changed records)) pointer)
 
 -- an object: its records, and then its indirect block
-pub record PlansObject (free : FreeSet) (id : ObjectId) (bytes : List ℕ) (was : ObjectMap) (changes : ObjectChanges) (old new : Planner) (map : ObjectMap) : Type 0 where
+pub record PlansObject (free : FreeSet) (id : ObjectId) (object : Option (List ℕ)) (was : ObjectMap) (changes : ObjectChanges) (old new : Planner) (map : ObjectMap) : Type 0 where
   pub goes : ExtendsPlan free old new
-  pub planned : IsObjectPlanned (progress_of new) id.0 bytes changes was map
+  pub planned : IsObjectPlanned (progress_of new) id.0 (unwrap_or object []) changes was map
   pub frees : ObjectFrees old.freed.items new.freed.items changes was
   pub uses : ObjectUses (blocks_of old) (blocks_of new) map
   pub adds : Adds (blocks_of old) (blocks_of new)

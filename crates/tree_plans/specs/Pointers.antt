@@ -9,6 +9,7 @@ use Rattle.base.specs.tree.Places.{Place}
 use Rattle.base.specs.tree.Places.Place.{Root, Directory, Indirect, Data}
 use Rattle.object_maps.specs.declared.tree.ObjectMap.{ObjectMap}
 use Rattle.object_maps.specs.declared.tree.Tree.{Tree}
+use Rattle.object_maps.specs.Lengths.{lengths_of}
 use Rattle.object_maps.specs.Pointers.{pointer_of_list}
 use Rattle.tree_plans.specs.declared.planner.TreePlan.{TreePlan}
 
@@ -38,6 +39,10 @@ pointers_before tree = pointers_from tree.root tree.directories.items (λ n. sli
 -- what a plan has for an object, and what the tree has where the plan has nothing
 abbrev pub planned_map : List ObjectMap → List (ObjectId × ObjectMap) → ℕ → Option ObjectMap
 planned_map maps planned n = option_map_or (λ (m : ObjectMap). Some m) (entry_of planned n) (slice_get maps n)
+
+-- the length of each object of a tree after a plan
+abbrev pub planned_lengths : Tree → TreePlan → ℕ → Option ℕ
+planned_lengths tree plan n = option_map_or (λ (m : ObjectMap). m.length) (entry_of plan.maps.entries n) (lengths_of tree n)
 
 -- the pointers of a tree after a plan
 abbrev pub planned_pointers : Tree → TreePlan → Place → Pointer

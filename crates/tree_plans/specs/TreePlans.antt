@@ -1,16 +1,19 @@
 -- What a plan promises: the blocks that it takes, the tree that they make, and the blocks that come back.
-use Rattle.std.specs.Prelude.{ℕ, ◌≡◌, ◌<◌, ◌⊎◌, [], true, false, List, All, length, map, slice_get, take, Some}
+use Rattle.std.specs.Prelude.{ℕ, ◌≡◌, ◌<◌, ◌⊎◌, [], true, false, List, All, length, map, slice_get, take, Some, is_some, option_map, if◌then◌else◌}
 use Rattle.std.specs.BTreeMap.{BTreeMap}
 use Rattle.std.specs.Ordering.{nat_cmp}
+use Rattle.std.specs.FinMap as finite
 use Rattle.std.specs.FinMap.{FinMap}
 use Rattle.base.specs.declared.names.ObjectId.{ObjectId}
 use Rattle.base.specs.formats.Geometry.{IsBlockAddress, block_count, block_size}
+use Rattle.base.specs.formats.Limits.{object_count}
 use Rattle.base.specs.stored.Stored.{AreUsed}
 use Rattle.base.specs.tree.Places.{Place}
 use Rattle.base.specs.tree.PlacedTrees.{ArePlaced}
 use Rattle.base.specs.tree.PlannedTrees.{AreFreed, IsTreePlan, NewBlock}
 use Rattle.base.specs.tree.Syncs.{written_by}
 use Rattle.base.specs.formats.Fields.{no_pointer}
+use Rattle.object_maps.specs.Lengths.{lengths_of}
 use Rattle.space.specs.FreeSets.{addresses_from}
 use Rattle.tree_plans.specs.declared.changes.ObjectChanges.{ObjectChanges}
 use Rattle.tree_plans.specs.declared.planner.PlannedBlock.{PlannedBlock}
@@ -19,7 +22,7 @@ use Rattle.tree_plans.specs.declared.walk.PlanSource.{PlanSource}
 use Rattle.tree_plans.specs.Changes.{AreBornBefore, AreChanges, AreInRange, AreTreePointers, IsCoveredBy, written_frame}
 use Rattle.tree_plans.specs.Parts.{group_in, objects_after}
 use Rattle.tree_plans.specs.Plans.{address_of, new_block}
-use Rattle.tree_plans.specs.Pointers.{planned_pointers, pointers_before}
+use Rattle.tree_plans.specs.Pointers.{entry_of, planned_lengths, planned_pointers, pointers_before}
 use Rattle.tree_plans.specs.Walks.{is_any_touched}
 
 -- the places of a source that the sync of a group with these changes writes, in the order of a walk
@@ -48,6 +51,11 @@ pub record MakesTree (source : PlanSource) (objects : BTreeMap ObjectId ObjectCh
   pub used : AreUsed (map new_block plan.blocks.items) (planned_pointers source.tree.now plan)
   pub kept_root : is_any_touched objects.entries ≡ false → plan.root ≡ source.tree.now.root
   pub new_root : is_any_touched objects.entries ≡ true → (plan.root.birth ≡ source.group.0) ⊎ (plan.root ≡ no_pointer)
+
+-- the length of each object after a plan: that of the contents where an operation is on it, and elsewhere the one that the tree had
+abbrev pub HasLengths : PlanSource → BTreeMap ObjectId ObjectChanges → TreePlan → Type 0
+HasLengths source objects plan = (n : ℕ) → n < object_count → planned_lengths source.tree.now plan n
+    ≡ (if is_some (entry_of objects.entries n) then option_map length (finite.get (objects_after source) n) else lengths_of source.tree.now n)
 
 -- the blocks that come back are in the area, and are those that the plan replaces or clears
 pub record GivesBack (source : PlanSource) (plan : TreePlan) : Type 0 where

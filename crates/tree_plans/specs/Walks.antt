@@ -1,5 +1,5 @@
 -- What a walk over a tree plans: objects, directories, the root.
-use Rattle.std.specs.Prelude.{ℕ, ◌≡◌, ◌<◌, ◌+◌, ◌*◌, ◌/◌, ◌==◌, ◌&&◌, ◌||◌, ◌⊎◌, Bool, true, not, List, [], length, replicate, slice_get, slice_index_or, Option, Some, None, is_some, unwrap_or}
+use Rattle.std.specs.Prelude.{ℕ, ◌≡◌, ◌<◌, ◌+◌, ◌*◌, ◌/◌, ◌==◌, ◌&&◌, ◌||◌, ◌⊎◌, Bool, true, not, List, [], length, replicate, slice_get, slice_index_or, Option, Some, None, is_some, option_map, unwrap_or}
 use Rattle.std.specs.List.{list_any, range_with_len}
 use Rattle.std.specs.Option.{option_map_or}
 use Rattle.std.specs.Map.{keys_of}
@@ -33,7 +33,7 @@ abbrev pub AreEntriesWritten : List ObjectMap → List (ObjectId × ObjectMap) �
 AreEntriesWritten maps planned after d count payload = (k : ℕ) → k < count
     → IsEntryWritten (entry_in payload k) (indirect_after maps planned (entry_count * d + k)) (finite.get after (entry_count * d + k))
 
--- where an object comes from that is planned: its changes, and the pointers that it had
+-- where an object comes from that is planned: its changes, and the pointers that it had; it has the length that it has after them
 pub record IsPlannedFrom (s : Progress) (maps : List ObjectMap) (after : FinMap nat_cmp (List ℕ)) (objects : List (ObjectId × ObjectChanges)) (n : ℕ) (new : ObjectMap) : Type 0 where
   pub low : n < object_count
   pub changes : ObjectChanges
@@ -41,6 +41,7 @@ pub record IsPlannedFrom (s : Progress) (maps : List ObjectMap) (after : FinMap 
   pub old : ObjectMap
   pub old_is : slice_get maps n ≡ Some old
   pub planned : IsObjectPlanned s n (unwrap_or (finite.get after n) []) changes old new
+  pub length : new.length ≡ option_map length (finite.get after n)
 
 -- of objects, those that were gone over are planned
 pub record AreObjectsPlanned (s : Progress) (maps : List ObjectMap) (after : FinMap nat_cmp (List ℕ)) (objects done : List (ObjectId × ObjectChanges)) (planned : List (ObjectId × ObjectMap)) : Type 0 where

@@ -38,7 +38,7 @@ pub struct PlannedBlock {
 pub struct TreePlan {
     /// The blocks to be written, in the order of their places in the walk of a sync.
     pub blocks: Vec<PlannedBlock>,
-    /// The new pointers of each object that changes, rising.
+    /// The new length and pointers of each object that changes, rising.
     pub maps: BTreeMap<ObjectId, ObjectMap>,
     /// The pointers to all directories, and to the root.
     pub directories: Vec<Pointer>,
@@ -64,7 +64,7 @@ pub struct Planner {
 }
 
 impl Planner {
-    ghost use Rattle.std.specs.Prelude.{◌≤◌, ◌<◌, ◌+◌, [], length, IfOk, IfErr};
+    ghost use Rattle.std.specs.Prelude.{◌≤◌, ◌<◌, ◌+◌, [], length, option_map, IfOk, IfErr};
     ghost use Rattle.base.specs.declared.error.PoolError.TheVariants as error;
     ghost use Rattle.base.specs.tree.Places.{IsPlace};
     ghost use Rattle.space.specs.FreeSets.{free_from};
@@ -203,26 +203,33 @@ impl Planner {
         self.place(free, BlockPlace::Indirect(id), &payload_of(records), old)
     }
 
-    /// The records of an object, rising, and then its indirect block.
+    /// The records of an object, rising, and then its indirect block. The object is what is there after the group.
     pub fn place_object(
         &mut self,
         free: &FreeSet,
         id: ObjectId,
-        bytes: &[u8],
+        object: Option<&[u8]>,
         old: &ObjectMap,
         changes: &ObjectChanges,
     ) -> Result<ObjectMap, PoolError>
         requires number { id.0 < 5292 }
         requires free { vec_len free.now.flags ≡ block_count self.old.geometry }
         ensures geometry { self.new.geometry ≡ self.old.geometry }
-        ensures planned { IfOk result
-            (PlansObject free.now id bytes.now old.now changes.now self.old self.new) }
+        ensures planned { IfOk result (PlansObject free.now id
+            (option_map (λ b. b.now) object.entry) old.now changes.now self.old self.new) }
+        ensures length { IfOk result (λ map.
+            map.length ≡ option_map length (option_map (λ b. b.now) object.entry)) }
         ensures full { IfErr result
             (TellsLack free.now self.old (needed_blocks changes.now old.now)) }
         ensures refused { IfErr result IsWant }
     {
+        let bytes = object.unwrap_or(&[]);
         let records = self.place_records(free, id, bytes, old, changes)?;
         let indirect = self.place_indirect(free, id, &records, &old.indirect, changes.is_changed)?;
-        Ok(ObjectMap { indirect, records })
+        Ok(ObjectMap {
+            length: object.map(|bytes| bytes.len() as u64),
+            indirect,
+            records,
+        })
     }
 }

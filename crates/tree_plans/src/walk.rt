@@ -26,7 +26,7 @@ ghost use Rattle.tree_plans.specs.Parts.{GoesOver, HasNothing, PlansDirectories,
 ghost use Rattle.tree_plans.specs.Plans.{IsWant, state_above};
 ghost use Rattle.tree_plans.specs.Pointers.{entry_of};
 ghost use Rattle.tree_plans.specs.Room.{changed_blocks, count_if, directory_blocks, object_blocks, tree_blocks};
-ghost use Rattle.tree_plans.specs.TreePlans.{GivesBack, MakesTree, TakesBlocks, free_addresses, places_written};
+ghost use Rattle.tree_plans.specs.TreePlans.{GivesBack, HasLengths, MakesTree, TakesBlocks, free_addresses, places_written};
 ghost use Rattle.tree_plans.specs.Walks.{has_object, has_objects, is_directory_touched, is_emptied, root_state};
 
 use crate::changes::ObjectChanges;
@@ -116,6 +116,8 @@ pub struct PlanSource<'a> {
 /// - `tree`: what becomes of each place of the tree. The states of the records have to cover all that differs from before
 ///   (`IsCoveredBy`), and to fit the objects after (`AreChanges`); the pointers before have to be those of a tree
 ///   (`AreTreePointers`). Each block is behind a pointer, and the root stays where no operation is on an object.
+/// - `lengths`: of each object that an operation is on, the tree has the length that the contents have, and of any other the
+///   one that it had.
 /// - `freed`: what comes back lies in the block area, and is what the plan replaces or clears.
 ///
 /// # Errors
@@ -128,6 +130,7 @@ pub fn plan(
     requires { vec_len source.now.free.now.flags ≡ block_count source.now.geometry }
     ensures taken { IfOk result (TakesBlocks source.now objects.now) }
     ensures tree { IfOk result (MakesTree source.now objects.now) }
+    ensures lengths { IfOk result (HasLengths source.now objects.now) }
     ensures freed { IfOk result (GivesBack source.now) }
     ensures full { IfErr result (λ e. e ≡ error.NoSpace → AreInRange objects.now.entries
         → length (free_addresses source.now) < length (places_written source.now objects.now.entries)) }
@@ -266,9 +269,9 @@ fn place_changed(
     if id.0 >= OBJECT_COUNT {
         return Ok(());
     }
-    let bytes = source.contents.object(id).unwrap_or(&[]);
+    let object = source.contents.object(id);
     let old = &source.tree.maps[id.0 as usize];
-    let map = planner.place_object(source.free, id, bytes, old, changes)?;
+    let map = planner.place_object(source.free, id, object, old, changes)?;
     maps.insert(id, map)?;
     Ok(())
 }

@@ -1,7 +1,7 @@
 use Rattle.std.proofs.Common.{◌≡◌, ◌∙◌, ℕ, List, length, refl, arith}
 use Rattle.base.specs.disk.Disk.{bytes_of}
 use Rattle.object_maps.specs.declared.objects.Objects.{Objects}
-use Rattle.object_maps.proofs.LoadedTrees.{all_empty, no_pointers, standing_tree, tree_placed, tree_bounded, tree_holds}
+use Rattle.object_maps.proofs.LoadedTrees.{all_empty, lengths_told, no_pointers, standing_tree, tree_placed, tree_bounded, tree_holds}
 use Rattle.std.proofs.lemmas.Result.{err_from_is_err_and}
 use Rattle.object_maps.proofs.WalkParts.{first_fault}
 use Rattle.object_maps.proofs.walk.load.Goals as goal
@@ -32,6 +32,9 @@ returns-clause-bounded g c =
     (c.in_ok-load_tree.ensures.loaded image (λ keeps. refl)) in
     let long : length objects.slots.items ≡ 5292 = omega (arith, objects.all_slots, objects.slots.ok.0) in
     tree_bounded g.D.SectorDevice.keeps_model image c.args.frame.now c.args.root _ _ _ long tree
+
+pub returns-clause-lengths : goal.returns-clause-lengths
+returns-clause-lengths g c = λ n low. lengths_told c.load_tree.new.objects.slots.items c.load_tree.new.objects.maps.items c.load_tree.new.objects.lengths n
 
 pub returns-clause-tree : goal.returns-clause-tree
 returns-clause-tree g c =

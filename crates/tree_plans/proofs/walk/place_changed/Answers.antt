@@ -1,12 +1,10 @@
-use Rattle.std.proofs.Common.{◌≡◌, ◌<◌, List, [], length, arith, ap, ◌∙◌, refl}
-use Rattle.std.specs.Prelude.{unwrap_or}
+use Rattle.std.proofs.Common.{◌<◌, List, length, arith, refl}
 use Rattle.std.specs.Cmp.{unsigned_tied}
-use Rattle.std.specs.FinMap as finite
 use Rattle.object_maps.specs.ContentsShown.{contents_of}
 use Rattle.object_maps.specs.declared.tree.ObjectMap.{ObjectMap}
 use Rattle.tree_plans.specs.Parts.{group_in}
 use Rattle.tree_plans.specs.Pointers.{IsPut, pointers_before}
-use Rattle.tree_plans.proofs.Walks.{get_at, object_passed, object_put, objects_free_put, put_of, unwrapped}
+use Rattle.tree_plans.proofs.Walks.{get_at, object_passed, object_put, objects_free_put, put_of}
 use Rattle.tree_plans.proofs.Uses.{objects_use_put, others_put}
 use Rattle.tree_plans.proofs.Progress.{goes_nowhere}
 use Rattle.tree_plans.proofs.Order.{data_before, entry-indirect, entry-written, map_put, object_added}
@@ -33,13 +31,12 @@ returns-clause-planned c =
     let here = c.if-id-ge-OBJECT_COUNT.false in
     let low : c.args.id.0 < length maps = omega (arith, source.tree.now.all_objects, source.tree.now.maps.ok.0, here) in
     let put : IsPut c.args.maps.now.entries c.args.id map c.insert.new.self.entries = put_of _ (λ a b. unsigned_tied a.0 b.0) c.args.maps.now c.insert.new.self c.args.id map c.in_ok-insert.ensures.updates.0 in
-    let bytes : c.unwrap_or-bytes.result.now ≡ unwrap_or (finite.get after c.args.id.0) [] = ap (λ b. b.now) c.unwrap_or-bytes.ensures ∙ unwrapped c.object.result _ (finite.get after c.args.id.0) c.object.ensures refl in
     let was = get_at maps c.args.id.0 c.index-old.result.now low c.index-old.ensures in
     record {
       goes = told.goes;
       planned = λ objects done is planned.
           object_put maps after objects done c.args.maps.now.entries c.insert.new.self.entries c.args.id c.args.changes.now map told.goes put
-          (record { low = here; changes = c.args.changes.now; changes_are = is; old = c.index-old.result.now; old_is = was; planned = rw (← bytes) told.planned }) planned;
+          (record { low = here; changes = c.args.changes.now; changes_are = is; old = c.index-old.result.now; old_is = was; planned = rw c.object-object.ensures at told.planned; length = rw c.object-object.ensures at c.in_ok-map.ensures.length }) planned;
       frees = λ objects first is frees.
           objects_free_put first _ _ maps objects c.args.maps.now.entries c.insert.new.self.entries c.args.id c.args.changes.now c.index-old.result.now map put here is was told.frees frees;
       uses = λ first none uses. objects_use_put first _ _ c.args.maps.now.entries c.insert.new.self.entries c.args.id map put none here told.uses uses;

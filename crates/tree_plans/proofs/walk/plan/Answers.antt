@@ -14,7 +14,7 @@ use Rattle.base.specs.formats.Fields.{no_pointer}
 use Rattle.tree_plans.specs.Parts.{group_in}
 use Rattle.tree_plans.specs.Plans.{new_block, progress_of}
 use Rattle.tree_plans.specs.Pointers.{planned_map, pointers_from, pointers_before}
-use Rattle.tree_plans.proofs.Planned.{all_freed, freed_in_area, root_cases, taken_lowest, tree_placed, tree_planned}
+use Rattle.tree_plans.proofs.Planned.{all_freed, freed_in_area, length_planned, root_cases, taken_lowest, tree_placed, tree_planned}
 use Rattle.tree_plans.proofs.Uses.{all_whole}
 use Rattle.tree_plans.proofs.Order.{planned_in_order}
 use Rattle.tree_plans.proofs.Room.{handed_on, plan_lacks}
@@ -51,6 +51,11 @@ returns-clause-tree c =
       kept_root = cases.0;
       new_root = λ any. subst (λ (f : Frame). (tree.root.birth ≡ f.group) ⊎ (tree.root ≡ no_pointer)) told.goes.frame (cases.1 any);
     }
+
+pub returns-clause-lengths : goal.returns-clause-lengths
+returns-clause-lengths c =
+    length_planned (progress_of c.place_tree.new.planner) c.args.source.now.tree.now (contents_of c.args.source.now.contents.now).objects c.args.objects.now.entries
+    c.in_ok-tree.tree.maps.entries c.in_ok-tree.tree.directories.items c.in_ok-tree.tree.root c.in_ok-tree.ensures.planned.walked
 
 pub returns-clause-freed : goal.returns-clause-freed
 returns-clause-freed c =

@@ -53,10 +53,10 @@ loop-index-preserved g c =
           (call.walked keeps image top (ap (λ (d : Disk). bytes_of d.now) (i.disk keeps) ∙ shows)
           (linked_entry image c.args.self.now.frame.now top c.args.directory k payload c.read_entry-entry.result.pointer c.read_entry-entry.result.length
           c.loop-index-test.true of_directory entry.pointer entry.length));
-      loaded = λ image shows. entries_put g.D.SectorDevice.keeps_model image c.args.self.now.frame.now c.args.directory payload k
+      loaded = λ image shows. rw (c.put.ensures.slots, c.put.ensures.maps) (entries_put g.D.SectorDevice.keeps_model image c.args.self.now.frame.now c.args.directory payload k
           c.args.objects.now.slots.items c.loop-index.objects.slots.items c.args.objects.now.maps.items c.loop-index.objects.maps.items c.in_ok-slot.slot c.in_ok-slot.map (i.loaded image shows) slot_in map_in call.object.present
           (call.loaded image (still_shows g.D.SectorDevice.keeps_model (g.D.SectorDevice.disk c.args.device.now) (g.D.SectorDevice.disk c.loop-index.device) image i.disk shows))
-          is_present size (omega (arith, size, most)) (sym entry.pointer ∙ sym call.object.indirect);
+          is_present size (omega (arith, size, most)) (sym entry.pointer ∙ sym call.object.indirect));
     }
 
 pub returns-clause-loaded : goal.returns-clause-loaded
