@@ -21,6 +21,7 @@ use Rattle.base.specs.tree.Syncs.{contents_after, contents_after_all, is_change_
 use Rattle.base.proofs.common.Sequences.{joined, parted}
 use Rattle.base.proofs.history.Writes.{length-bytes_after_write, length-resize}
 use Rattle.base.proofs.tree.RecordStates.{at-object, bytes-changed, bytes-created, bytes-removed, contents-after_all, elsewhere}
+use Rattle.object_maps.specs.declared.tree.ObjectMap.{ObjectMap}
 use Rattle.tree_plans.specs.declared.changes.ObjectChanges.{ObjectChanges}
 use Rattle.tree_plans.specs.Marks.{AreToldSoFar, NotesOp, length_in, length_with, sets_length, size_of, state_with}
 
@@ -119,8 +120,8 @@ any_last : (p : Op → Bool) (done : List Op) (op : Op) → p op ≡ true → li
 any_last p done op is = list_any-append p done (op ∷ []) ∙ or_right (list_any p done) (p op || false) (or_left (p op) false is)
 
 -- one operation more
-pub told_more : (done : List Op) (op : Op) (lengths : List ℕ) (old new : List (ObjectId × ObjectChanges)) → AreToldSoFar done lengths old → NotesOp op lengths old new → AreToldSoFar (done ++ op ∷ []) lengths new
-told_more done op lengths old new told noted = record {
+pub told_more : (done : List Op) (op : Op) (maps : List ObjectMap) (old new : List (ObjectId × ObjectChanges)) → AreToldSoFar done maps old → NotesOp op maps old new → AreToldSoFar (done ++ op ∷ []) maps new
+told_more done op maps old new told noted = record {
   changes = record {
     there = λ n. noted.there n ∙ ap (λ (b : Bool). is_on n op || b) (told.changes.there n) ∙ or_swapped (list_any (is_on n) done) (is_on n op) ∙ sym (list_any-append (is_on n) done (op ∷ []));
     changed = λ n. noted.changed n ∙ ap (λ (b : Bool). is_change_of n op || b) (told.changes.changed n) ∙ or_swapped (list_any (is_change_of n) done) (is_change_of n op) ∙ sym (list_any-append (is_change_of n) done (op ∷ []));
@@ -129,8 +130,8 @@ told_more done op lengths old new told noted = record {
         let parts = front_ranges done op within in
         let middle : contents_after_all done before ≡ p.0 = contents-after_all done before p.0 p.1 in
         noted.states n r low
-        ∙ ap (λ (s : RecordState). state_with n r op (length_in lengths old n) s) (told.changes.states before p.0 p.1 parts.0 n r low (λ sets. is (any_first (sets_length n) done op sets)))
-        ∙ state-by_length n r op p.0 (length_in lengths old n) (record_state n r done before Unchanged) (λ sets. told.sizes before p.0 p.1 parts.0 n (is (any_last (sets_length n) done op sets)))
+        ∙ ap (λ (s : RecordState). state_with n r op (length_in maps old n) s) (told.changes.states before p.0 p.1 parts.0 n r low (λ sets. is (any_first (sets_length n) done op sets)))
+        ∙ state-by_length n r op p.0 (length_in maps old n) (record_state n r done before Unchanged) (λ sets. told.sizes before p.0 p.1 parts.0 n (is (any_last (sets_length n) done op sets)))
         ∙ ap (λ (c : Contents). state_after_op n r op c (record_state n r done before Unchanged)) (sym middle)
         ∙ sym (state-append n r done op before Unchanged);
   };

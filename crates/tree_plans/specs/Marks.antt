@@ -1,5 +1,5 @@
 -- What the operations of a group do to the objects, in their order.
-use Rattle.std.specs.Prelude.{ℕ, ◌≡◌, ◌<◌, ◌+◌, ◌==◌, ◌&&◌, ◌||◌, Bool, true, false, List, [], All, Ok, filter, get_or, is_some, length, max, nat_lt, unwrap_or, if◌then◌else◌}
+use Rattle.std.specs.Prelude.{ℕ, ◌≡◌, ◌<◌, ◌+◌, ◌==◌, ◌&&◌, ◌||◌, Bool, true, false, List, [], All, Ok, filter, is_some, length, max, nat_lt, unwrap_or, if◌then◌else◌}
 use Rattle.std.specs.List.{flat_map, list_any}
 use Rattle.std.specs.Option.{option_map_or}
 use Rattle.std.specs.FinMap as finite
@@ -9,10 +9,12 @@ use Rattle.base.specs.declared.operation.Op.TheVariants.{Create, Remove, Write, 
 use Rattle.base.specs.declared.record_state.RecordState.{RecordState}
 use Rattle.base.specs.declared.record_state.RecordState.TheVariants.{Unchanged, Dirty, Hole}
 use Rattle.base.specs.formats.Limits.{pointer_count}
-use Rattle.base.specs.history.Contents.{Contents}
+use Rattle.base.specs.history.Contents.{Contents, length_of}
 use Rattle.base.specs.history.History.{apply_all}
 use Rattle.base.specs.history.Plans.{IsRange, ranges, touched}
 use Rattle.base.specs.tree.Syncs.{is_change_of, is_on, is_record_touched, record_state, state_after_cut}
+use Rattle.object_maps.specs.declared.tree.ObjectMap.{ObjectMap}
+use Rattle.object_maps.specs.Lengths.{map_length}
 use Rattle.tree_plans.specs.declared.changes.ObjectChanges.{ObjectChanges}
 use Rattle.tree_plans.specs.declared.planner.Committed.{Committed}
 use Rattle.tree_plans.specs.Pointers.{entry_of}
@@ -22,9 +24,9 @@ use Rattle.tree_plans.specs.Changes.{is_changed_in, state_in}
 abbrev pub pending_ops : ℕ → List Committed → List Op
 pending_ops group pending = flat_map (λ (c : Committed). c.ops) (filter (λ (c : Committed). c.group.0 == group) pending)
 
--- the length of an object by its changes so far, or before them
-abbrev pub length_in : List ℕ → List (ObjectId × ObjectChanges) → ℕ → ℕ
-length_in lengths objects n = option_map_or (λ (changes : ObjectChanges). changes.length) (entry_of objects n) (get_or lengths n 0)
+-- the length of an object by its changes so far, or as the tree before them has it
+abbrev pub length_in : List ObjectMap → List (ObjectId × ObjectChanges) → ℕ → ℕ
+length_in maps objects n = option_map_or (λ (changes : ObjectChanges). changes.length) (entry_of objects n) (unwrap_or (map_length maps n) 0)
 
 -- the length of object n after an operation, from the one before it
 abbrev pub length_with : ℕ → Op → ℕ → ℕ
@@ -43,11 +45,11 @@ state_with n r (SetLength m new) old state = if (m.0 == n) && nat_lt new old the
 state_with n r (SetName bytes) old state = state
 
 -- entries after one operation more
-pub record NotesOp (op : Op) (lengths : List ℕ) (old new : List (ObjectId × ObjectChanges)) : Type 0 where
+pub record NotesOp (op : Op) (maps : List ObjectMap) (old new : List (ObjectId × ObjectChanges)) : Type 0 where
   pub there : (n : ℕ) → is_some (entry_of new n) ≡ (is_on n op || is_some (entry_of old n))
   pub changed : (n : ℕ) → is_changed_in new n ≡ (is_change_of n op || is_changed_in old n)
-  pub states : (n r : ℕ) → r < pointer_count → state_in new n r ≡ state_with n r op (length_in lengths old n) (state_in old n r)
-  pub sizes : IsRange (touched op) → (n : ℕ) → length_in lengths new n ≡ length_with n op (length_in lengths old n)
+  pub states : (n r : ℕ) → r < pointer_count → state_in new n r ≡ state_with n r op (length_in maps old n) (state_in old n r)
+  pub sizes : IsRange (touched op) → (n : ℕ) → length_in maps new n ≡ length_with n op (length_in maps old n)
 
 -- the bytes of an object, and none where it is absent
 abbrev pub size_of : Contents → ℕ → ℕ
@@ -61,20 +63,20 @@ sets_length n (Write m offset bytes) = false
 sets_length n (SetLength m new) = m.0 == n
 sets_length n (SetName bytes) = false
 
--- where operations set the length of an object, its length in these contents is told
-abbrev pub IsLengthTold : List Op → List ℕ → Contents → ℕ → Type 0
-IsLengthTold ops lengths c n = list_any (sets_length n) ops ≡ true → get_or lengths n 0 ≡ size_of c n
+-- where operations set the length of an object, the tree has its length in these contents
+abbrev pub IsLengthTold : List Op → List ObjectMap → Contents → ℕ → Type 0
+IsLengthTold ops maps c n = list_any (sets_length n) ops ≡ true → map_length maps n ≡ length_of c n
 
 -- Entries of just the objects that operations are on. From contents on which the operations take place, each record has the state that the
--- definitions give it, where the length of its object is told if it is set.
-pub record AreChangesOf (ops : List Op) (lengths : List ℕ) (objects : List (ObjectId × ObjectChanges)) : Type 0 where
+-- definitions give it, where the tree has the length of its object if an operation sets it.
+pub record AreChangesOf (ops : List Op) (maps : List ObjectMap) (objects : List (ObjectId × ObjectChanges)) : Type 0 where
   pub there : (n : ℕ) → is_some (entry_of objects n) ≡ list_any (is_on n) ops
   pub changed : (n : ℕ) → is_changed_in objects n ≡ list_any (is_change_of n) ops
   pub states : (before after : Contents) → apply_all ops before ≡ Ok after → All IsRange (ranges ops)
-      → (n r : ℕ) → r < pointer_count → IsLengthTold ops lengths before n → state_in objects n r ≡ record_state n r ops before Unchanged
+      → (n r : ℕ) → r < pointer_count → IsLengthTold ops maps before n → state_in objects n r ≡ record_state n r ops before Unchanged
 
--- and the length of each object that was told is the one after them
-pub record AreToldSoFar (ops : List Op) (lengths : List ℕ) (objects : List (ObjectId × ObjectChanges)) : Type 0 where
-  pub changes : AreChangesOf ops lengths objects
+-- and the length of each object of which the tree has the one before them is the one after them
+pub record AreToldSoFar (ops : List Op) (maps : List ObjectMap) (objects : List (ObjectId × ObjectChanges)) : Type 0 where
+  pub changes : AreChangesOf ops maps objects
   pub sizes : (before after : Contents) → apply_all ops before ≡ Ok after → All IsRange (ranges ops)
-      → (n : ℕ) → get_or lengths n 0 ≡ size_of before n → length_in lengths objects n ≡ size_of after n
+      → (n : ℕ) → map_length maps n ≡ length_of before n → length_in maps objects n ≡ size_of after n

@@ -7,16 +7,18 @@
 //!
 //! OpenZFS does the same in `dbuf_dirty` and `dnode_free_range`.
 
-ghost use Rattle.std.specs.Prelude.{◌≡◌, ◌<◌, ◌++◌, ◌∷◌, [], ℕ, List, get_or, IfErr, IfOk, OnOk};
+ghost use Rattle.std.specs.Prelude.{◌≡◌, ◌<◌, ◌++◌, ◌∷◌, [], ℕ, List, unwrap_or, IfErr, IfOk, OnOk};
 ghost use Rattle.base.specs.declared.error.PoolError.TheVariants as error;
 ghost use Rattle.base.specs.declared.operation.Op.{Op};
 ghost use Rattle.base.specs.tree.Syncs.{is_record_touched, state_after_cut};
+ghost use Rattle.object_maps.specs.Lengths.{map_length};
 ghost use Rattle.tree_plans.specs.Changes.{is_changed_in, state_at, state_in};
 ghost use Rattle.tree_plans.specs.Marks.{AreChangesOf, AreToldSoFar, NotesOp, length_in, pending_ops};
 ghost use Rattle.tree_plans.specs.Pointers.{IsPut};
 
 use crate::planner::Committed;
 use base::{Group, ObjectId, Op, POINTER_COUNT, PoolError, RECORD_SIZE, RecordState};
+use object_maps::ObjectMap;
 use std::alloc::Global;
 use std::collections::BTreeMap;
 
@@ -128,84 +130,84 @@ fn state_after(index: usize, length: u64, state: RecordState) -> RecordState
 
 /// The objects that a group's operations are on, rising, with what they do to each.
 ///
-/// `lengths` has the length of objects before the group by their numbers, 0 where they are absent. It is asked only for those
-/// whose length an operation sets.
+/// `maps` are those of the tree before the group, with the length of each object there: a set length is a cut where it is
+/// below the length that the object has by then.
 ///
 /// # Errors
 /// `NoMemory`.
 pub fn changed_objects(
     alloc: Global,
-    lengths: &[u64],
+    maps: &[ObjectMap],
     pending: &[Committed],
     group: Group,
 ) -> Result<BTreeMap<ObjectId, ObjectChanges>, PoolError>
     ensures changes { IfOk result (λ objects.
-        AreChangesOf (pending_ops group.0 pending.now) lengths.now objects.entries) }
+        AreChangesOf (pending_ops group.0 pending.now) maps.now objects.entries) }
     ensures refused { IfErr result (λ e. e ≡ error.NoMemory) }
 {
     let mut objects = BTreeMap::new(alloc);
     for committed in pending {
-        note_committed(&mut objects, lengths, committed, group)?;
+        note_committed(&mut objects, maps, committed, group)?;
     }
     Ok(objects)
 }
 
 fn note_committed(
     objects: &mut BTreeMap<ObjectId, ObjectChanges>,
-    lengths: &[u64],
+    maps: &[ObjectMap],
     committed: &Committed,
     group: Group,
 ) -> Result<(), PoolError>
     ensures told { OnOk result ((done : List Op)
-        → AreToldSoFar done lengths.now objects.old.entries
-        → AreToldSoFar (done ++ pending_ops group.0 (committed.now ∷ [])) lengths.now objects.new.entries) }
+        → AreToldSoFar done maps.now objects.old.entries
+        → AreToldSoFar (done ++ pending_ops group.0 (committed.now ∷ [])) maps.now objects.new.entries) }
     ensures refused { IfErr result (λ e. e ≡ error.NoMemory) }
 {
     if committed.group != group {
         return Ok(());
     }
-    note_ops(objects, lengths, committed.ops.as_slice())?;
+    note_ops(objects, maps, committed.ops.as_slice())?;
     Ok(())
 }
 
 fn note_ops(
     objects: &mut BTreeMap<ObjectId, ObjectChanges>,
-    lengths: &[u64],
+    maps: &[ObjectMap],
     ops: &[Op],
 ) -> Result<(), PoolError>
     ensures told { OnOk result ((done : List Op)
-        → AreToldSoFar done lengths.now objects.old.entries
-        → AreToldSoFar (done ++ ops.now) lengths.now objects.new.entries) }
+        → AreToldSoFar done maps.now objects.old.entries
+        → AreToldSoFar (done ++ ops.now) maps.now objects.new.entries) }
     ensures refused { IfErr result (λ e. e ≡ error.NoMemory) }
 {
     for op in ops {
-        note_op(objects, lengths, op)?;
+        note_op(objects, maps, op)?;
     }
     Ok(())
 }
 
 fn note_op(
     objects: &mut BTreeMap<ObjectId, ObjectChanges>,
-    lengths: &[u64],
+    maps: &[ObjectMap],
     op: &Op,
 ) -> Result<(), PoolError>
     ensures noted { OnOk result
-        (NotesOp op.now lengths.now objects.old.entries objects.new.entries) }
+        (NotesOp op.now maps.now objects.old.entries objects.new.entries) }
     ensures refused { IfErr result (λ e. e ≡ error.NoMemory) }
 {
     match op {
         Op::Create(id) | Op::Remove(id) => {
-            let mut changes = changes_of(objects, lengths, *id);
+            let mut changes = changes_of(objects, maps, *id);
             changes.clear();
             put_changes(objects, *id, changes)
         }
         Op::Write(id, offset, bytes) => {
-            let mut changes = changes_of(objects, lengths, *id);
+            let mut changes = changes_of(objects, maps, *id);
             changes.write(*offset, bytes.len());
             put_changes(objects, *id, changes)
         }
         Op::SetLength(id, length) => {
-            let mut changes = changes_of(objects, lengths, *id);
+            let mut changes = changes_of(objects, maps, *id);
             changes.set_length(*length);
             put_changes(objects, *id, changes)
         }
@@ -216,27 +218,26 @@ fn note_op(
 // What was done to an object so far.
 fn changes_of(
     objects: &BTreeMap<ObjectId, ObjectChanges>,
-    lengths: &[u64],
+    maps: &[ObjectMap],
     id: ObjectId,
 ) -> ObjectChanges
     ensures records { (r : ℕ) → state_at result r ≡ state_in objects.now.entries id.0 r }
     ensures changed { result.is_changed ≡ is_changed_in objects.now.entries id.0 }
-    ensures length { result.length ≡ length_in lengths.now objects.now.entries id.0 }
+    ensures length { result.length ≡ length_in maps.now objects.now.entries id.0 }
 {
     match objects.get(&id) {
         Some(changes) => *changes,
-        None => ObjectChanges::none(length_before(lengths, id)),
+        None => ObjectChanges::none(length_before(maps, id)),
     }
 }
 
 // The length of an object before the group, 0 where it is absent.
-fn length_before(lengths: &[u64], id: ObjectId) -> u64
-    ensures { result ≡ get_or lengths.now id.0 0 }
+fn length_before(maps: &[ObjectMap], id: ObjectId) -> u64
+    ensures { result ≡ unwrap_or (map_length maps.now id.0) 0 }
 {
-    match lengths.get(id.0 as usize) {
-        Some(length) => *length,
-        None => 0,
-    }
+    maps.get(id.0 as usize)
+        .and_then(|map| map.length)
+        .unwrap_or(0)
 }
 
 fn put_changes(

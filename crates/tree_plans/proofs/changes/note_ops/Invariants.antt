@@ -4,4 +4,4 @@ use Rattle.tree_plans.specs.Marks.{AreToldSoFar}
 use Rattle.tree_plans.proofs.changes.note_ops.Given as goal
 
 abbrev pub invariant-loop-op : goal.invariant-loop-op
-invariant-loop-op l = (done : List Op) → AreToldSoFar done l.lengths l.fn.objects.entries → AreToldSoFar (done ++ take l.op-index l.ops) l.lengths l.objects.entries
+invariant-loop-op l = (done : List Op) → AreToldSoFar done l.maps l.fn.objects.entries → AreToldSoFar (done ++ take l.op-index l.ops) l.maps l.objects.entries
