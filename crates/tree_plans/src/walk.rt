@@ -125,7 +125,7 @@ pub fn plan(
     source: &PlanSource<'_>,
     objects: &BTreeMap<ObjectId, ObjectChanges>,
 ) -> Result<TreePlan, PoolError>
-    requires { vec_len source.now.free.now.flags ≡ block_count source.now.geometry }
+    requires { source.now.free.now.blocks ≡ block_count source.now.geometry }
     ensures taken { IfOk result (TakesBlocks source.now objects.now) }
     ensures tree { IfOk result (MakesTree source.now objects.now) }
     ensures freed { IfOk result (GivesBack source.now) }
@@ -167,7 +167,7 @@ fn place_tree(
     objects: &BTreeMap<ObjectId, ObjectChanges>,
 ) -> Result<NewTree, PoolError>
     requires geometry { planner.old.geometry ≡ source.now.geometry }
-    requires free { vec_len source.now.free.now.flags ≡ block_count source.now.geometry }
+    requires free { source.now.free.now.blocks ≡ block_count source.now.geometry }
     requires begun { HasNothing planner.old }
     ensures geometry { planner.new.geometry ≡ planner.old.geometry }
     ensures planned { IfOk result
@@ -195,7 +195,7 @@ fn place_root(
     directories: &[Pointer],
 ) -> Result<Pointer, PoolError>
     requires geometry { planner.old.geometry ≡ source.now.geometry }
-    requires free { vec_len source.now.free.now.flags ≡ block_count source.now.geometry }
+    requires free { source.now.free.now.blocks ≡ block_count source.now.geometry }
     requires count { length directories.now ≡ 84 }
     ensures geometry { planner.new.geometry ≡ planner.old.geometry }
     ensures planned { IfOk result
@@ -227,7 +227,7 @@ fn place_objects(
     objects: &BTreeMap<ObjectId, ObjectChanges>,
 ) -> Result<BTreeMap<ObjectId, ObjectMap>, PoolError>
     requires geometry { planner.old.geometry ≡ source.now.geometry }
-    requires free { vec_len source.now.free.now.flags ≡ block_count source.now.geometry }
+    requires free { source.now.free.now.blocks ≡ block_count source.now.geometry }
     ensures geometry { planner.new.geometry ≡ planner.old.geometry }
     ensures planned { IfOk result
         (PlansObjects source.now objects.now planner.old planner.new) }
@@ -253,7 +253,7 @@ fn place_changed(
     changes: &ObjectChanges,
 ) -> Result<(), PoolError>
     requires geometry { planner.old.geometry ≡ source.now.geometry }
-    requires free { vec_len source.now.free.now.flags ≡ block_count source.now.geometry }
+    requires free { source.now.free.now.blocks ≡ block_count source.now.geometry }
     ensures geometry { planner.new.geometry ≡ planner.old.geometry }
     ensures planned { OnOk result
         (GoesOver source.now id changes.now maps.old.entries planner.old planner.new maps.new.entries) }
@@ -280,7 +280,7 @@ fn place_directories(
     maps: &BTreeMap<ObjectId, ObjectMap>,
 ) -> Result<Vec<Pointer>, PoolError>
     requires geometry { planner.old.geometry ≡ source.now.geometry }
-    requires free { vec_len source.now.free.now.flags ≡ block_count source.now.geometry }
+    requires free { source.now.free.now.blocks ≡ block_count source.now.geometry }
     ensures geometry { planner.new.geometry ≡ planner.old.geometry }
     ensures count { IfOk result (λ directories. vec_len directories ≡ 84) }
     ensures planned { IfOk result (λ directories. PlansDirectories
@@ -310,7 +310,7 @@ fn place_directory(
     touched: bool,
 ) -> Result<Pointer, PoolError>
     requires geometry { planner.old.geometry ≡ source.now.geometry }
-    requires free { vec_len source.now.free.now.flags ≡ block_count source.now.geometry }
+    requires free { source.now.free.now.blocks ≡ block_count source.now.geometry }
     requires index { index < 84 }
     ensures geometry { planner.new.geometry ≡ planner.old.geometry }
     ensures planned { IfOk result
