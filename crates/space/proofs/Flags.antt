@@ -18,11 +18,11 @@ use Rattle.space.specs.Flags.{addresses_from, free_of}
 abbrev pub is_among : ℕ → List ℕ → Bool
 is_among address addresses = list_any (λ y. nat_eq y address) addresses
 
-other : (a b : ℕ) → a ≢ b → nat_eq a b ≡ false
+pub other : (a b : ℕ) → a ≢ b → nat_eq a b ≡ false
 other a b ne = elim (nat_eq a b) as (λ t. nat_eq a b ≡ t → t ≡ false) [ true ↦ λ e. absurd (ne (eqb-true a b e)) | false ↦ λ _. refl ] refl
 
 -- no address lies below the first block
-pub none_below : (k : ℕ) (flags : List Bool) (q : ℕ) → q < block_address k → is_among q (addresses_from k flags) ≡ false
+none_below : (k : ℕ) (flags : List Bool) (q : ℕ) → q < block_address k → is_among q (addresses_from k flags) ≡ false
 unfolding addresses_from
 none_below k [] q low = refl
 none_below k (true ∷ flags) q low =

@@ -1,21 +1,22 @@
 -- The free addresses from an index on, as a rising list, by the flags.
-use Rattle.std.proofs.Common.{◌≡◌, ℕ, zero, suc, ◌+◌, ◌-◌, ◌*◌, ◌/◌, ◌<◌, ◌≤◌, Bool, true, false, ◌&&◌, cond, List, [], ◌∷◌, drop, length, map, get_or, refl, sym, ◌∙◌, ap, add-one, arith, Option, Some, None, Less, Equal, Greater, nat_eq, nat_le}
+use Rattle.std.proofs.Common.{◌≡◌, ℕ, zero, suc, ◌+◌, ◌-◌, ◌*◌, ◌/◌, ◌<◌, ◌≤◌, Bool, true, false, ◌&&◌, cond, List, [], ◌∷◌, drop, length, map, get_or, inl, inr, refl, sym, subst, ◌∙◌, ap, add-one, arith, Option, Some, None, Less, Equal, Greater, nat_eq, nat_le}
 use Rattle.std.specs.Prelude.{T, is_some, filter}
 use Rattle.std.specs.List.{list_any}
 use Rattle.std.specs.Ordering.{nat_cmp, eq_by_cmp, is_lt}
 use Rattle.std.proofs.Math.Seq.{drop-cons}
 use Rattle.std.proofs.Math.Nat.{mul-div_cancel_left}
 use Rattle.std.proofs.lemmas.List.{drop_all}
-use Rattle.std.proofs.lemmas.Bool.{lt-ltb}
+use Rattle.std.proofs.lemmas.Bool.{cases_lt, le-ltb, lt-ltb}
 use Rattle.std.proofs.lemmas.Cmp.{nat_cmp_total}
 use Rattle.std.specs.FinMap as finite
-use Rattle.std.specs.FinMap.{entries-from_sorted, get-from_sorted, get-from_entries, same_map, is_sorted, find}
+use Rattle.std.specs.FinMap.{FinMap, entries_sorted, contains_key-keys, entries-from_sorted, get-from_sorted, get-from_entries, same_map, is_sorted, find}
 use Rattle.std.specs.FinMap.Entries.{below_all, is_some-find}
 use Rattle.std.specs.FinSet as set
-use Rattle.std.specs.FinSet.{FinSet, contains-items, contains-from_list, nat_cmp-IsAntisymmetric}
+use Rattle.std.specs.FinSet.{FinSet, contains-items, contains-from_list, contains-from_list_nat, len-empty, len-insert, same_set, nat_cmp-IsAntisymmetric}
 use Rattle.base.specs.formats.Geometry.{block_address, block_area, block_size}
 use Rattle.base.specs.common.Rising.{as_keys, rising}
 use Rattle.space.specs.FreeSets.{block_index, free_from}
+use Rattle.space.proofs.Flags.{other}
 use Rattle.space.specs.Flags.{AreTaken, IsFirstFree, addresses_from, free_of}
 
 less : (x y : ℕ) → x < y → is_lt (nat_cmp x y) ≡ true
@@ -31,7 +32,7 @@ below_addresses q k [] low = tt
 below_addresses q k (true ∷ flags) low = both _ _ (less q (block_address k) low) (below_addresses q (k + 1) flags (omega arith))
 below_addresses q k (false ∷ flags) low = below_addresses q (k + 1) flags (omega arith)
 
-rise : (k : ℕ) (flags : List Bool) → T (is_sorted nat_cmp (as_keys (addresses_from k flags)))
+pub rise : (k : ℕ) (flags : List Bool) → T (is_sorted nat_cmp (as_keys (addresses_from k flags)))
 unfolding addresses_from
 rise k [] = tt
 rise k (true ∷ flags) = both_T _ _ (below_addresses (block_address k) (k + 1) flags (omega arith)) (rise (k + 1) flags)
@@ -67,6 +68,54 @@ rising-from_list xs sorted =
 -- so the free addresses in their order are those of the flags, and the lowest ones are a front of them
 pub rising-free_of : (flags : List Bool) → rising (free_of flags) ≡ addresses_from 0 flags
 rising-free_of flags = rising-from_list (addresses_from 0 flags) (rise 0 flags)
+
+less-by_cmp : (x y : ℕ) → T (is_lt (nat_cmp x y)) → x < y
+less-by_cmp x y h = elim (cases_lt x y) as (λ _. x < y) [
+  | inl below ↦ below
+  | inr above ↦ absurd (not_less (nat_eq x y) (subst (λ b. T (is_lt (cond b Less (cond (nat_eq x y) Equal Greater)))) (le-ltb x y above) h))
+]
+  where
+    not_less : (b : Bool) → T (is_lt (cond b Equal Greater)) → ⊥
+    not_less true h = h
+    not_less false h = h
+
+split : (a b : Bool) → T (a && b) → T a × T b
+split true b h = (tt, h)
+split false b h = absurd h
+
+-- a number below those of a list is none of them
+not_among : (x : ℕ) (xs : List ℕ) → T (below_all nat_cmp x (as_keys xs)) → list_any (λ y. nat_eq y x) xs ≡ false
+not_among x [] low = refl
+not_among x (y ∷ xs) low =
+    let parts = split (is_lt (nat_cmp x y)) (below_all nat_cmp x (as_keys xs)) low in
+    let less : x < y = less-by_cmp x y parts.0 in
+    rw (other y x (λ same. omega (arith, less, same))) (not_among x xs parts.1)
+
+-- the set of a rising list has as many numbers as the list
+pub len-from_list : (xs : List ℕ) → T (is_sorted nat_cmp (as_keys xs)) → set.len (set.from_list {R = nat_cmp} xs) ≡ length xs
+len-from_list [] sorted = len-empty nat_cmp
+len-from_list (x ∷ xs) sorted =
+    let parts = split (below_all nat_cmp x (as_keys xs)) (is_sorted nat_cmp (as_keys xs)) sorted in
+    let rest : FinSet nat_cmp = set.from_list xs in
+    let apart : set.contains rest x ≡ false = contains-from_list_nat xs x ∙ not_among x xs parts.0 in
+    len-insert nat_cmp_total rest x ∙ rw apart (ap (λ n. n + 1) (len-from_list xs parts.1) ∙ omega arith)
+
+-- and a set has as many as its rising list
+pub length-rising : (numbers : FinSet nat_cmp) → length (rising numbers) ≡ set.len numbers
+length-rising numbers =
+    let items : List ℕ = set.items numbers in
+    let m : FinMap nat_cmp (Unit {0}) = finite.from_entries (as_keys items) in
+    let keys : as_keys (rising numbers) ≡ finite.entries m = as_keys-keys (finite.entries m) in
+    let sorted : T (is_sorted nat_cmp (as_keys (rising numbers))) = subst (λ es. T (is_sorted nat_cmp es)) (sym keys) (entries_sorted m) in
+    let same : set.from_list {R = nat_cmp} (rising numbers) ≡ numbers =
+    same_set nat_cmp_total nat_cmp-IsAntisymmetric _ _ (λ q.
+    contains-from_list nat_cmp_total (rising numbers) q ∙ sym (contains_key-keys m q) ∙ ap is_some (get-from_entries nat_cmp_total (as_keys items) q)
+    ∙ any_key q items ∙ sym (contains-items numbers q)) in
+    sym (len-from_list (rising numbers) sorted) ∙ ap (λ s. set.len s) same
+  where
+    as_keys-keys : (es : List (ℕ × Unit {0})) → as_keys (map (λ (e : ℕ × Unit {0}). e.0) es) ≡ es
+    as_keys-keys [] = refl
+    as_keys-keys (e ∷ es) = ap (λ l. e ∷ l) (as_keys-keys es)
 
 -- the index of a block's address is the block's
 block_index-block_address : (k : ℕ) → block_index (block_address k) ≡ k

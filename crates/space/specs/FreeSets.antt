@@ -1,5 +1,5 @@
 -- The free blocks of a pool, with what is reserved of them, and what each call makes of them.
-use Rattle.std.specs.Prelude.{ℕ, ◌≡◌, refl, ◌+◌, ◌-◌, ◌/◌, ◌↔◌, IsTrue, Bool, List, filter, nat_le, nat_lt}
+use Rattle.std.specs.Prelude.{ℕ, ◌≡◌, refl, ◌+◌, ◌-◌, ◌/◌, ◌<◌, ◌≤◌, ◌↔◌, IsTrue, Bool, true, false, List, [], ◌∷◌, filter, take, nat_le, nat_lt}
 use Rattle.std.specs.Coded.{Coded, code_by, coded×, coded_ℕ}
 use Rattle.std.specs.Ordering.{nat_cmp}
 use Rattle.std.specs.FinSet as set
@@ -44,6 +44,17 @@ pub record IsIdle (s : FreeSpace) : Type 0 where
 
 abbrev pub is_free : ℕ → FreeSpace → Bool
 is_free block s = set.contains s.free (block_address block)
+
+-- none of the blocks of a range of indices is free
+abbrev pub AreNotFree : ℕ → ℕ → FreeSpace → Type 0
+AreNotFree low high s = (block : ℕ) → low ≤ block → block < high → is_free block s ≡ false
+
+-- this block is free, and none below it
+pub record IsLowestFree (s : FreeSpace) (block : ℕ) : Type 0 where
+  pub within : block < s.blocks
+  pub free : is_free block s ≡ true
+  pub below : AreNotFree 0 block s
+  pub first : take 1 (rising s.free) ≡ block_address block ∷ []
 
 -- the free blocks that no unsynced transaction may still ask for
 abbrev pub available_in : FreeSpace → ℕ

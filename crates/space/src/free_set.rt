@@ -8,11 +8,10 @@
 //! What the syncing group has taken is counted apart, for it is in its own reservation: the blocks that are available are
 //! those that are free, but for what is reserved and not yet taken.
 
-ghost use Rattle.std.specs.Prelude.{◌≡◌, ◌+◌, ◌<◌, ◌≤◌, ◌∷◌, [], ◌↔◌, IsErr, IsTrue, IfErr, IfNone, IfOk, IfSome, OnErr, OnOk, false, get_or, length, take};
+ghost use Rattle.std.specs.Prelude.{◌≡◌, ◌+◌, ◌<◌, ◌≤◌, ◌∷◌, [], ◌↔◌, IsErr, IsTrue, IfErr, IfNone, IfOk, IfSome, OnErr, OnOk, false, get_or, length};
 ghost use Rattle.std.specs.FinSet as set;
-ghost use Rattle.base.specs.common.Rising.{rising};
 ghost use Rattle.base.specs.formats.Geometry.{block_address};
-ghost use Rattle.space.specs.FreeSets.{AreBlocks, HasAllOf, IsIdle, after_give, after_reserve, after_sync_end, after_sync_take, after_take, after_unreserve, available_in, free_from, is_free, is_short};
+ghost use Rattle.space.specs.FreeSets.{AreBlocks, AreNotFree, HasAllOf, IsIdle, IsLowestFree, after_give, after_reserve, after_sync_end, after_sync_take, after_take, after_unreserve, available_in, free_from, is_free, is_short};
 ghost use Rattle.space.specs.Flags.{AreTaken, IsFirstFree};
 
 use base::PoolError;
@@ -100,6 +99,7 @@ impl FreeSet {
         ensures within { IfSome result (λ block. block < self.now.blocks) }
         ensures from { IfSome result (λ block. first ≤ block) }
         ensures free { IfSome result (λ block. IsTrue (is_free block self.now)) }
+        ensures skipped { IfSome result (λ block. AreNotFree first block self.now) }
         ensures lowest { IfSome result (λ block. free_from first self.now.free
             ≡ block_address block ∷ free_from (block + 1) self.now.free) }
         ensures none { IfNone result (free_from first self.now.free ≡ []) }
@@ -136,11 +136,9 @@ impl FreeSet {
     /// # Errors
     /// `NoSpace` exactly where no block is free. Then nothing has changed.
     pub fn take_lowest(&mut self) -> Result<usize, PoolError>
-        ensures within { IfOk result (λ block. block < self.old.blocks) }
-        ensures lowest { IfOk result
-            (λ block. take 1 (rising self.old.free) ≡ block_address block ∷ []) }
+        ensures lowest { IfOk result (IsLowestFree self.old) }
         ensures taken { IfOk result (λ block. self.new ≡ after_take block self.old) }
-        ensures refused { IsErr result ↔ rising self.old.free ≡ [] }
+        ensures refused { IsErr result ↔ set.len self.old.free ≡ 0 }
         ensures error { IfErr result (λ e. e ≡ PoolError.NoSpace) }
         ensures unchanged { OnErr result (self.new ≡ self.old) }
     {

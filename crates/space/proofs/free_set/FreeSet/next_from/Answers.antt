@@ -22,6 +22,12 @@ returns-clause-free c =
     rw (← c.self.view_is) (found c.first_free.result _ c.args.first c.self.inside.hint flags c.self.invariant.hint
     (λ block f. contains-free_of flags block ∙ f.free) (rw (c.deref.ensures.value, c.max.ensures) at c.first_free.ensures.found))
 
+pub returns-clause-skipped : goal.returns-clause-skipped
+returns-clause-skipped c =
+    let flags : List Bool = c.self.inside.flags.items in
+    rw (← c.self.view_is) (found c.first_free.result _ c.args.first c.self.inside.hint flags c.self.invariant.hint
+    (λ block f k low high. contains-free_of flags k ∙ f.lowest k low high) (rw (c.deref.ensures.value, c.max.ensures) at c.first_free.ensures.found))
+
 pub returns-clause-lowest : goal.returns-clause-lowest
 returns-clause-lowest c =
     let flags : List Bool = c.self.inside.flags.items in
