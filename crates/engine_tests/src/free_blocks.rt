@@ -1,5 +1,6 @@
-//! Free blocks: the lowest first, and the most that a device has.
+//! Free blocks: the lowest first, reservations, and the most that a device has.
 
+use base::PoolError;
 use space::FreeSet;
 use std::test::Fail;
 
@@ -22,6 +23,34 @@ fn the_lowest_free_block_is_taken_and_comes_back(rt: HostRuntime) -> Result<(), 
 }
 
 #[test]
+fn a_transaction_reserves_what_its_sync_takes(rt: HostRuntime) -> Result<(), Fail> {
+    let mut free = FreeSet::new(rt.alloc(), 24)?;
+    free.reserve(6, 16)?;
+    assert_eq!(rt; free.available(), 18);
+
+    // two are left beside the sixteen that are kept back
+    assert_eq!(rt; free.reserve(3, 16), Err(PoolError::NoSpace));
+    free.reserve(3, 0)?;
+    assert_eq!(rt; free.available(), 15);
+    free.unreserve(3);
+
+    // a block for the log, and two of the six for the sync, which are no longer to come
+    assert_eq!(rt; free.take_lowest()?, 0);
+    assert_eq!(rt; free.available(), 17);
+    free.take_for_sync(1);
+    free.take_for_sync(2);
+    assert_eq!(rt; free.free(), 21);
+    assert_eq!(rt; free.available(), 17);
+
+    // four were reserved in vain, and come back when the group is synced
+    free.end_sync(6);
+    assert_eq!(rt; free.available(), 21);
+    assert_eq!(rt; free.is_free(2), false);
+    assert_eq!(rt; free.take_lowest()?, 3);
+    Ok(())
+}
+
+#[test]
 fn a_set_runs_out_and_finds_what_is_given_back(rt: HostRuntime) -> Result<(), Fail> {
     let mut free = FreeSet::new(rt.alloc(), 8)?;
     for block in 0..8 {
@@ -29,10 +58,12 @@ fn a_set_runs_out_and_finds_what_is_given_back(rt: HostRuntime) -> Result<(), Fa
         free.take(block);
     }
     assert_eq!(rt; free.next_from(0), None);
+    assert_eq!(rt; free.take_lowest(), Err(PoolError::NoSpace));
 
     // a block that is not one of the set changes nothing
     free.give(8);
     assert_eq!(rt; free.next_from(0), None);
+    assert_eq!(rt; free.free(), 0);
 
     free.give(5);
     assert_eq!(rt; free.next_from(0), Some(5));

@@ -1,13 +1,15 @@
--- The free blocks of a tree, from flags that say which its pointers name.
-use Rattle.std.proofs.Common.{◌≡◌, ◌≢◌, ℕ, zero, suc, ◌+◌, ◌<◌, Bool, true, false, not, ◌&&◌, ◌||◌, List, [], ◌∷◌, length, take, get_or, Option, Some, None, ◌⊎◌, inl, inr, refl, sym, subst, ap, ◌∙◌, arith}
+-- The free blocks of a tree: those that its pointers name are taken one after another.
+use Rattle.std.proofs.Common.{◌≡◌, ℕ, zero, suc, ◌+◌, ◌<◌, Bool, true, false, not, ◌&&◌, ◌||◌, List, [], ◌∷◌, length, take, get_or, nat_eq, Option, Some, None, ◌⊎◌, inl, inr, refl, sym, subst, ap, ◌∙◌, arith}
 use Rattle.std.specs.Prelude.{slice_get}
 use Rattle.std.specs.List.{list_any}
 use Rattle.std.specs.Option.{option_map_or}
-use Rattle.std.specs.Ordering.{nat_cmp}
+use Rattle.std.specs.Ordering.{nat_cmp, eq_by_cmp}
+use Rattle.std.specs.Cmp.{unsigned_tied, nat_eq_equiv}
 use Rattle.std.specs.FinSet as set
-use Rattle.std.proofs.Math.ListN.{set as list_set}
-use Rattle.std.proofs.lemmas.Bool.{cases_eq, eq-eqb, eqb-true, false≢true}
-use Rattle.std.proofs.lemmas.List.{get_or-take, get_or-set_same, get_or-set_other, length-take}
+use Rattle.std.specs.FinSet.{FinSet, contains-empty, contains-remove, empty_of_len}
+use Rattle.std.proofs.lemmas.Cmp.{nat_cmp_total}
+use Rattle.std.proofs.lemmas.Bool.{cases_eq, eq-eqb, eqb-true, ne_eqb, false≢true}
+use Rattle.std.proofs.lemmas.List.{get_or-take, length-take}
 use Rattle.std.proofs.lemmas.List.Folds.{list_any_more}
 use Rattle.std.proofs.lemmas.Option.{get_or_from_slice_get}
 use Rattle.base.specs.declared.pointer.Pointer.{Pointer}
@@ -18,9 +20,8 @@ use Rattle.base.specs.tree.Places.Place.{Root, Directory, Indirect, Data}
 use Rattle.object_maps.specs.declared.tree.ObjectMap.{ObjectMap}
 use Rattle.object_maps.specs.declared.tree.Tree.{Tree}
 use Rattle.object_maps.specs.Pointers.{pointers_of}
-use Rattle.space.specs.FreeSets.{addresses_from, free_from, free_of}
-use Rattle.space.proofs.Flags.{contains-free_of, free_of-contains}
-use Rattle.import_replay.specs.FreeBlocks.{AreAllNamed, IsNamed, AreUnnamed, HasTakenLowest, names_block, map_names, tree_names, FlagsTaken}
+use Rattle.space.specs.FreeSets.{FreeSpace, HasAllOf, IsLowestFree, after_take, is_free}
+use Rattle.import_replay.specs.FreeBlocks.{AreAllNamed, IsNamed, AreUnnamed, HasTakenLowest, names_block, map_names, tree_names, BlocksTaken}
 
 -- two takes one after another
 both_taken : (a b c : Bool) → ((a && not b) && not c) ≡ (a && not (b || c))
@@ -28,15 +29,49 @@ both_taken true true c = refl
 both_taken true false c = refl
 both_taken false b c = refl
 
-pub taken_twice : (p q : ℕ → Bool) (old mid new : List Bool) → FlagsTaken p old mid → FlagsTaken q mid new → FlagsTaken (λ k. p k || q k) old new
-taken_twice p q old mid new first second k = second k ∙ ap (λ (b : Bool). b && not (q k)) (first k) ∙ both_taken (get_or old k false) (p k) (q k)
+blocks_kept : (p : ℕ → Bool) (old new : FreeSpace) → BlocksTaken p old new → new.blocks ≡ old.blocks
+blocks_kept p old new t = ap (λ (s : FreeSpace). s.blocks) t.rest
+
+pub taken_twice : (p q : ℕ → Bool) (old mid new : FreeSpace) → BlocksTaken p old mid → BlocksTaken q mid new → BlocksTaken (λ k. p k || q k) old new
+taken_twice p q old mid new first second = record {
+  each = λ k low. second.each k (let same = blocks_kept p old mid first in omega (arith, low, same)) ∙ ap (λ (b : Bool). b && not (q k)) (first.each k low) ∙ both_taken (is_free k old) (p k) (q k);
+  fewer = λ address h. first.fewer address (second.fewer address h);
+  rest = second.rest ∙ ap (λ (s : FreeSpace). record s { free = new.free }) first.rest;
+}
+
+taken_same : (p q : ℕ → Bool) (old new : FreeSpace) → ((k : ℕ) → p k ≡ q k) → BlocksTaken p old new → BlocksTaken q old new
+taken_same p q old new same t = record { each = λ k low. t.each k low ∙ ap (λ (b : Bool). is_free k old && not b) (same k); fewer = t.fewer; rest = t.rest }
 
 -- one more of a list
-pub taken_more : {A : Type 0} (p : ℕ → A → Bool) (xs : List A) (i : ℕ) (x : A) (old mid new : List Bool) → i < length xs → x ≡ get_or xs i x
-    → FlagsTaken (λ k. list_any (p k) (take i xs)) old mid → FlagsTaken (λ k. p k x) mid new → FlagsTaken (λ k. list_any (p k) (take (i + 1) xs)) old new
-taken_more p xs i x old mid new low is first second k =
-    taken_twice (λ j. list_any (p j) (take i xs)) (λ j. p j x) old mid new first second k
-    ∙ ap (λ (b : Bool). get_or old k false && not b) (sym (list_any_more (p k) xs i x low ∙ ap (λ y. list_any (p k) (take i xs) || p k y) (sym is)))
+pub taken_more : {A : Type 0} (p : ℕ → A → Bool) (xs : List A) (i : ℕ) (x : A) (old mid new : FreeSpace) → i < length xs → x ≡ get_or xs i x
+    → BlocksTaken (λ k. list_any (p k) (take i xs)) old mid → BlocksTaken (λ k. p k x) mid new → BlocksTaken (λ k. list_any (p k) (take (i + 1) xs)) old new
+taken_more p xs i x old mid new low is first second =
+    taken_same _ _ old new (λ k. sym (list_any_more (p k) xs i x low ∙ ap (λ y. list_any (p k) (take i xs) || p k y) (sym is)))
+    (taken_twice (λ j. list_any (p j) (take i xs)) (λ j. p j x) old mid new first second)
+
+tied : (q k : ℕ) → eq_by_cmp nat_cmp q k ≡ nat_eq k q
+tied q k = unsigned_tied q k ∙ nat_eq_equiv.symm q k
+
+contains-without : (numbers : FinSet nat_cmp) (n q : ℕ) → set.contains (set.remove numbers n) q ≡ (not (nat_eq n q) && set.contains numbers q)
+contains-without numbers n q = contains-remove nat_cmp_total numbers n q ∙ ap (λ (b : Bool). not b && set.contains numbers q) (tied q n)
+
+swapped : (a b : Bool) → (a && b) ≡ (b && a)
+swapped true true = refl
+swapped true false = refl
+swapped false true = refl
+swapped false false = refl
+
+and_right : (a b : Bool) → (a && b) ≡ true → b ≡ true
+and_right true b h = h
+and_right false b h = absurd (false≢true h)
+
+-- the block that a pointer names is taken
+pub pointer_taken : (pointer : Pointer) (i : ℕ) (s : FreeSpace) → block_address i ≡ pointer.address → BlocksTaken (λ k. names_block k pointer) s (after_take i s)
+pointer_taken pointer i s is = record {
+  each = λ k low. contains-without s.free (block_address i) (block_address k) ∙ swapped (not (nat_eq (block_address i) (block_address k))) (is_free k s) ∙ ap (λ (a : ℕ). is_free k s && not (nat_eq a (block_address k))) is;
+  fewer = λ address h. and_right (not (nat_eq (block_address i) address)) (set.contains s.free address) (sym (contains-without s.free (block_address i) address) ∙ h);
+  rest = refl;
+}
 
 or_left : (a b : Bool) → a ≡ true → (a || b) ≡ true
 or_left true b h = refl
@@ -162,84 +197,61 @@ not-false : (b : Bool) → not b ≡ false → b ≡ true
 not-false true h = refl
 not-false false h = absurd (false≢true (sym h))
 
--- flags that say of each block whether the tree names it
-pub unnamed-from_flags : (t : Tree) (blocks : ℕ) (flags : List Bool) → length t.directories.items ≡ 84 → length t.maps.items ≡ 5292 → length flags ≡ blocks
-    → ((k : ℕ) → k < blocks → get_or flags k false ≡ not (tree_names k t)) → AreUnnamed (pointers_of t) blocks (free_of flags)
-unnamed-from_flags t blocks flags directories maps long each = record {
-  in_area = λ q h. (let f = free_of-contains flags q h in (f.0, (let low = f.1 in omega arith), f.2));
+-- where all were free, and the blocks of a tree are taken
+pub unnamed-from_taken : (t : Tree) (blocks : ℕ) (all left : FreeSpace) → length t.directories.items ≡ 84 → length t.maps.items ≡ 5292 → all.blocks ≡ blocks → HasAllOf blocks all.free
+    → BlocksTaken (λ k. tree_names k t) all left → AreUnnamed (pointers_of t) blocks left.free
+unnamed-from_taken t blocks all left directories maps count whole taken = record {
+  in_area = in_area;
   unnamed = λ q h named.
-      (let f = free_of-contains flags q h in
-      let low : f.0 < blocks = (let l = f.1 in omega arith) in
-      not-true (tree_names f.0 t) (sym (each f.0 low) ∙ f.3) (is_found t directories maps f.0 (subst (λ (a : ℕ). IsNamed (pointers_of t) a) f.2 named)));
+      (let is = in_area q h in
+      let free : is_free is.0 left ≡ true = ap (λ (a : ℕ). set.contains left.free a) (sym is.2) ∙ h in
+      not-true (tree_names is.0 t) (sym (each is.0 is.1) ∙ free) (is_found t directories maps is.0 (subst (λ (a : ℕ). IsNamed (pointers_of t) a) is.2 named)));
   others = λ q h is.
-      (let flag : get_or flags is.0 false ≡ false = sym (contains-free_of flags is.0) ∙ ap (λ (a : ℕ). set.contains (free_of flags) a) (sym is.2) ∙ h in
-      subst (λ (a : ℕ). IsNamed (pointers_of t) a) (sym is.2) (found-named t directories maps is.0 (not-false (tree_names is.0 t) (sym (each is.0 is.1) ∙ flag))));
+      (let free : is_free is.0 left ≡ false = ap (λ (a : ℕ). set.contains left.free a) (sym is.2) ∙ h in
+      subst (λ (a : ℕ). IsNamed (pointers_of t) a) (sym is.2) (found-named t directories maps is.0 (not-false (tree_names is.0 t) (sym (each is.0 is.1) ∙ free))));
 }
+  where
+    in_area : (q : ℕ) → set.contains left.free q ≡ true → IsBlockAddress blocks q
+    in_area q h = (whole q).0 (taken.fewer q h)
 
-block_same : (i k : ℕ) → block_address i ≡ block_address k → i ≡ k
-block_same i k e = omega arith
+    each : (k : ℕ) → k < blocks → is_free k left ≡ not (tree_names k t)
+    each k low =
+        let was : is_free k all ≡ true = (whole (block_address k)).1 (k, low, refl) in
+        taken.each k (omega (arith, low, count)) ∙ ap (λ (b : Bool). b && not (tree_names k t)) was
 
 block_below : (i k : ℕ) → block_address i < block_address k → i < k
 block_below i k e = omega arith
 
--- no flag before that of the first free block is set
-none_before : (flags : List Bool) (start b : ℕ) (rest : List ℕ) → addresses_from start flags ≡ block_address b ∷ rest → (k : ℕ) → start + k < b → get_or flags k false ≡ false
-unfolding addresses_from
-none_before [] start b rest is k low = absurd (let e : [] ≡ block_address b ∷ rest = is in cc)
-none_before (true ∷ flags) start b rest is k low =
-    let e : block_address start ≡ block_address b = (let whole : block_address start ∷ addresses_from (start + 1) flags ≡ block_address b ∷ rest = is in cc) in
-    absurd (omega (arith, block_same start b e))
-none_before (false ∷ flags) start b rest is zero low = refl
-none_before (false ∷ flags) start b rest is (suc k) low = none_before flags (start + 1) b rest is k (omega arith)
+-- the lowest free block is taken
+pub lowest_taken : (pointers : Place → Pointer) (blocks : ℕ) (s : FreeSpace) (b : ℕ) → AreUnnamed pointers blocks s.free → IsLowestFree s b
+    → HasTakenLowest pointers blocks (block_address b) (after_take b s).free
+lowest_taken pointers blocks s b were first = record {
+  is_block = were.in_area (block_address b) first.free;
+  is_unnamed = were.unnamed (block_address b) first.free;
+  lowest = λ q below is.
+      (let low : is.0 < b = block_below is.0 b (subst (λ (a : ℕ). a < block_address b) is.2 below) in
+      were.others q (ap (λ (a : ℕ). set.contains s.free a) is.2 ∙ first.below is.0 (omega arith) low) is);
+  in_area = λ q h. were.in_area q (was_free q h);
+  unnamed = λ q h. were.unnamed q (was_free q h);
+  not_taken = λ q h same. not-true (nat_eq (block_address b) q) (and_left (not (nat_eq (block_address b) q)) (set.contains s.free q) (sym (contains-without s.free (block_address b) q) ∙ h)) (eq-eqb (block_address b) q (sym same));
+  others = λ q h is. elim (cases_eq q (block_address b)) as (λ _. IsNamed pointers q ⊎ (q ≡ block_address b)) [
+    | inl same ↦ inr same
+    | inr other ↦ inl (were.others q (stays (nat_eq (block_address b) q) (set.contains s.free q) (ne_eqb (block_address b) q (λ same. other (sym same))) (sym (contains-without s.free (block_address b) q) ∙ h)) is)
+  ];
+}
+  where
+    was_free : (q : ℕ) → set.contains (set.remove s.free (block_address b)) q ≡ true → set.contains s.free q ≡ true
+    was_free q h = and_right (not (nat_eq (block_address b) q)) (set.contains s.free q) (sym (contains-without s.free (block_address b) q) ∙ h)
 
-module _ (pointers : Place → Pointer) (blocks : ℕ) (flags : List Bool) (b : ℕ) (were : AreUnnamed pointers blocks (free_of flags)) (here : slice_get flags b ≡ Some true)
-    (first : free_from 0 flags ≡ block_address b ∷ free_from (b + 1) flags) (low : b < length flags) where
-  abbrev after : List Bool
-  after = list_set flags b false
+    and_left : (a b : Bool) → (a && b) ≡ true → a ≡ true
+    and_left true b h = refl
+    and_left false b h = absurd (false≢true h)
 
-  flag_here : get_or flags b false ≡ true
-  flag_here = get_or_from_slice_get flags b true false here
-
-  free_here : set.contains (free_of flags) (block_address b) ≡ true
-  free_here = contains-free_of flags b ∙ flag_here
-
-  -- a free block is another than the one taken, and was free
-  was_free : (q : ℕ) → set.contains (free_of after) q ≡ true → (q ≢ block_address b) × (set.contains (free_of flags) q ≡ true)
-  was_free q h =
-      let f = free_of-contains after q h in
-      let other : f.0 ≢ b = λ same. false≢true (sym (get_or-set_same flags b false false low) ∙ ap (λ (i : ℕ). get_or after i false) (sym same) ∙ f.3) in (
-        λ is. other (block_same f.0 b (sym f.2 ∙ is)),
-        ap (λ (a : ℕ). set.contains (free_of flags) a) f.2 ∙ contains-free_of flags f.0 ∙ sym (get_or-set_other flags b f.0 false false other) ∙ f.3,
-      )
-
-  not_free : (q : ℕ) → set.contains (free_of after) q ≡ false → IsBlockAddress blocks q → IsNamed pointers q ⊎ (q ≡ block_address b)
-  not_free q h is = elim (cases_eq is.0 b) as (λ _. IsNamed pointers q ⊎ (q ≡ block_address b)) [
-    | inl same ↦ inr (is.2 ∙ ap block_address same)
-    | inr other ↦ inl (were.others q (
-        ap (λ (a : ℕ). set.contains (free_of flags) a) is.2 ∙ contains-free_of flags is.0 ∙ sym (get_or-set_other flags b is.0 false false other)
-        ∙ sym (contains-free_of after is.0) ∙ ap (λ (a : ℕ). set.contains (free_of after) a) (sym is.2) ∙ h
-        ) is)
-  ]
-
-  below_named : (q : ℕ) → q < block_address b → IsBlockAddress blocks q → IsNamed pointers q
-  below_named q below is =
-      let k_below : is.0 < b = block_below is.0 b (subst (λ (a : ℕ). a < block_address b) is.2 below) in
-      let none : get_or flags is.0 false ≡ false = none_before flags 0 b (free_from (b + 1) flags) first is.0 (omega arith) in
-      were.others q (ap (λ (a : ℕ). set.contains (free_of flags) a) is.2 ∙ contains-free_of flags is.0 ∙ none) is
-
-  -- the lowest free block is taken
-  pub lowest_taken : HasTakenLowest pointers blocks (block_address b) (free_of after)
-  lowest_taken = record {
-    is_block = were.in_area (block_address b) free_here;
-    is_unnamed = were.unnamed (block_address b) free_here;
-    lowest = below_named;
-    in_area = λ q h. were.in_area q (was_free q h).1;
-    unnamed = λ q h. were.unnamed q (was_free q h).1;
-    not_taken = λ q h. (was_free q h).0;
-    others = not_free;
-  }
+    stays : (a b : Bool) → a ≡ false → (not a && b) ≡ false → b ≡ false
+    stays true b is h = absurd (false≢true (sym is))
+    stays false b is h = h
 
 -- where no block is free, each is named
-pub all_named : (pointers : Place → Pointer) (blocks : ℕ) (flags : List Bool) → AreUnnamed pointers blocks (free_of flags) → free_from 0 flags ≡ [] → AreAllNamed pointers blocks
-all_named pointers blocks flags were none address is =
-    were.others address (ap (λ (l : List ℕ). set.contains (set.from_list {R = nat_cmp} l) address) none ∙ set.contains-from_list_nat [] address) is
+pub all_named : (pointers : Place → Pointer) (blocks : ℕ) (s : FreeSpace) → AreUnnamed pointers blocks s.free → set.len s.free ≡ 0 → AreAllNamed pointers blocks
+all_named pointers blocks s were none address is =
+    were.others address (ap (λ (l : FinSet nat_cmp). set.contains l address) (empty_of_len s.free none) ∙ contains-empty nat_cmp address) is

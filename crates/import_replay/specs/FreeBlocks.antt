@@ -1,5 +1,5 @@
 -- The free blocks of a tree, and the one that an import takes for its log.
-use Rattle.std.specs.Prelude.{ℕ, ◌≡◌, ◌≢◌, ◌<◌, ◌⊎◌, ◌==◌, ◌||◌, ◌&&◌, Bool, true, false, not, List, get_or, take}
+use Rattle.std.specs.Prelude.{ℕ, ◌≡◌, ◌≢◌, ◌<◌, ◌⊎◌, ◌==◌, ◌||◌, ◌&&◌, Bool, true, false, not, take}
 use Rattle.std.specs.List.{list_any}
 use Rattle.std.specs.Ordering.{nat_cmp}
 use Rattle.std.specs.FinSet as set
@@ -9,6 +9,7 @@ use Rattle.base.specs.formats.Geometry.{block_address, IsBlockAddress}
 use Rattle.base.specs.tree.Places.{Place, IsPlace}
 use Rattle.object_maps.specs.declared.tree.ObjectMap.{ObjectMap}
 use Rattle.object_maps.specs.declared.tree.Tree.{Tree}
+use Rattle.space.specs.FreeSets.{FreeSpace, is_free}
 
 -- the pointer at some place has this address
 abbrev pub IsNamed : (Place → Pointer) → ℕ → Type 0
@@ -46,6 +47,8 @@ map_names k map = names_block k map.indirect || list_any (names_block k) (take 8
 abbrev pub tree_names : ℕ → Tree → Bool
 tree_names k tree = names_block k tree.root || (list_any (names_block k) tree.directories.items || list_any (map_names k) tree.maps.items)
 
--- the flags after the blocks of these numbers are taken
-abbrev pub FlagsTaken : (ℕ → Bool) → List Bool → List Bool → Type 0
-FlagsTaken is_taken old new = (k : ℕ) → get_or new k false ≡ (get_or old k false && not (is_taken k))
+-- of a set's blocks those of these numbers are taken, and nothing else has changed
+pub record BlocksTaken (is_taken : ℕ → Bool) (old new : FreeSpace) : Type 0 where
+  pub each : (k : ℕ) → k < old.blocks → is_free k new ≡ (is_free k old && not (is_taken k))
+  pub fewer : (address : ℕ) → set.contains new.free address ≡ true → set.contains old.free address ≡ true
+  pub rest : new ≡ record old { free = new.free }

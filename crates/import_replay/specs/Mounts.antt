@@ -18,7 +18,6 @@ use Rattle.object_maps.specs.declared.contents.Slot.{Slot}
 use Rattle.object_maps.specs.declared.tree.Tree.{Tree}
 use Rattle.object_maps.specs.ContentsShown.{contents_of}
 use Rattle.object_maps.specs.Pointers.{pointers_of}
-use Rattle.space.specs.FreeSets.{free_of}
 use Rattle.import_replay.specs.FreeBlocks.{HasTakenLowest}
 use Rattle.import_replay.specs.declared.mounted.Mounted.{Mounted}
 
@@ -39,7 +38,7 @@ shown_of_import m = record {
   next_ordinal = 0;
   dirty = finite.empty;
   reserved = finite.empty;
-  free = free_of m.free.flags.items;
+  free = m.free.free;
   log = record { pending = []; kept = []; next = record { address = m.log_address; number = 0 } };
   root = m.tree.root;
   sync = None;
@@ -59,7 +58,7 @@ pub record IsMountedFrom (u : Uberblock) (name : List ℕ) (slots : List Slot) (
   pub slots_are : m.contents.slots.items ≡ slots
   pub tree_is : m.tree ≡ tree
   pub limit : m.dirty_max ≡ dirty_max
-  pub log : HasTakenLowest (pointers_of m.tree) (block_count m.geometry) m.log_address (free_of m.free.flags.items)
+  pub log : HasTakenLowest (pointers_of m.tree) (block_count m.geometry) m.log_address m.free.free
 
 -- What an import gives stands on a device with these bytes: the device holds its tree, its log block is a block of the area that the
 -- tree does not have, and the free blocks are all others.

@@ -27,7 +27,7 @@ ghost use Rattle.import_replay.specs.LabelSyncs.{HasSameBlocks, after_calls, is_
 ghost use Rattle.import_replay.specs.Mounts.{IsImport, IsMountedFrom, frame_of_import, shown_of_import};
 
 use crate::finding::{Found, copy_name, find_pool};
-use crate::free_blocks::{free_set, take_lowest};
+use crate::free_blocks::free_set;
 use crate::imported_pool::Imported;
 use crate::label_sync::sync_labels;
 use crate::mounted::Mounted;
@@ -250,7 +250,7 @@ fn open_pool<D: SectorDevice>(
     ensures settled { IsTrue D.keeps_model → OnOk result ((D.disk device.new).now.unflushed ≡ []) }
 {
     let mut free = free_set(alloc, geometry, &loaded.tree)?;
-    let log_block = take_lowest(&mut free)?;
+    let log_block = free.take_lowest()?;
     let next = Uberblock {
         version: WRITTEN_VERSION,
         group: Group(found.uberblock.group.0 + 4),

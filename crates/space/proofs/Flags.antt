@@ -1,43 +1,25 @@
--- The free addresses of flags, and what a flag that is set does to them.
-use Rattle.std.proofs.Common.{◌≡◌, ◌≢◌, ℕ, zero, suc, ◌+◌, ◌<◌, ◌≤◌, Bool, true, false, not, ◌&&◌, ◌||◌, IsTrue, List, [], ◌∷◌, drop, length, get_or, refl, sym, ◌∙◌, ap, add-one, arith, nat_eq}
+-- The set of free addresses of flags, and what a flag that is set does to it.
+use Rattle.std.proofs.Common.{◌≡◌, ◌≢◌, ℕ, zero, suc, ◌+◌, ◌<◌, Bool, true, false, not, ◌&&◌, ◌||◌, IsTrue, List, [], ◌∷◌, length, get_or, refl, sym, ◌∙◌, ap, arith, nat_eq}
 use Rattle.std.specs.Prelude.{replicate}
 use Rattle.std.specs.List.{list_any}
 use Rattle.std.specs.Ordering.{nat_cmp, eq_by_cmp}
 use Rattle.std.specs.Cmp.{unsigned_tied, nat_eq_equiv}
 use Rattle.std.proofs.Math.ListN.{set as list_set}
-use Rattle.std.proofs.Math.Seq.{drop-cons}
-use Rattle.std.proofs.lemmas.List.{drop_all}
+use Rattle.std.proofs.lemmas.List.{get_or-replicate, length-replicate, set-get_or}
 use Rattle.std.proofs.lemmas.Bool.{eq-eqb, eqb-true}
 use Rattle.std.proofs.lemmas.Cmp.{nat_cmp_total}
 use Rattle.std.specs.FinSet as set
 use Rattle.std.specs.FinSet.{contains-from_list_nat, contains-remove, contains-insert, same_set, nat_cmp-IsAntisymmetric}
-use Rattle.base.specs.formats.Geometry.{block_address}
-use Rattle.space.specs.FreeSets.{addresses_from, free_from, free_of, HasAllOf}
+use Rattle.base.specs.formats.Geometry.{block_address, IsBlockAddress}
+use Rattle.space.specs.FreeSets.{HasAllOf}
+use Rattle.space.specs.Flags.{addresses_from, free_of}
 
 -- whether an address is one of these
 abbrev pub is_among : ℕ → List ℕ → Bool
 is_among address addresses = list_any (λ y. nat_eq y address) addresses
 
-other : (a b : ℕ) → a ≢ b → nat_eq a b ≡ false
+pub other : (a b : ℕ) → a ≢ b → nat_eq a b ≡ false
 other a b ne = elim (nat_eq a b) as (λ t. nat_eq a b ≡ t → t ≡ false) [ true ↦ λ e. absurd (ne (eqb-true a b e)) | false ↦ λ _. refl ] refl
-
--- from a free block on: its address, and those behind it
-pub free_here : (flags : List Bool) (i : ℕ) → i < length flags → get_or flags i false ≡ true → free_from i flags ≡ block_address i ∷ free_from (i + 1) flags
-unfolding addresses_from
-free_here flags i low is =
-    let e : drop i flags ≡ true ∷ drop (i + 1) flags = rw add-one (drop-cons flags i false low ∙ ap (λ b. b ∷ drop (suc i) flags) is) in
-    ap (addresses_from i) e
-
--- from a taken block on: those behind it
-pub free_behind : (flags : List Bool) (i : ℕ) → i < length flags → get_or flags i false ≡ false → free_from i flags ≡ free_from (i + 1) flags
-unfolding addresses_from
-free_behind flags i low is =
-    let e : drop i flags ≡ false ∷ drop (i + 1) flags = rw add-one (drop-cons flags i false low ∙ ap (λ b. b ∷ drop (suc i) flags) is) in
-    ap (addresses_from i) e
-
-pub free_past : (flags : List Bool) (i : ℕ) → length flags ≤ i → free_from i flags ≡ []
-unfolding addresses_from
-free_past flags i past = ap (addresses_from i) (drop_all i flags past)
 
 -- no address lies below the first block
 none_below : (k : ℕ) (flags : List Bool) (q : ℕ) → q < block_address k → is_among q (addresses_from k flags) ≡ false
@@ -87,31 +69,26 @@ pub contains-free_of : (flags : List Bool) (i : ℕ) → set.contains (free_of f
 contains-free_of flags i = contains-is_among flags (block_address i) ∙ among 0 flags i (block_address i) (omega arith)
 
 -- and nothing but blocks is free
-pub free_of-contains : (flags : List Bool) (q : ℕ) → set.contains (free_of flags) q ≡ true → (i : ℕ) × (i < length flags) × (q ≡ block_address i) × (get_or flags i false ≡ true)
+free_of-contains : (flags : List Bool) (q : ℕ) → set.contains (free_of flags) q ≡ true → (i : ℕ) × (i < length flags) × (q ≡ block_address i) × (get_or flags i false ≡ true)
 free_of-contains flags q e =
     let f = from_among 0 flags q (sym (contains-is_among flags q) ∙ e) in
     let is : q ≡ block_address f.index = (let h = f.is in omega arith) in
     (f.index, f.low, is, f.free)
 
-get_or-replicate : (n i : ℕ) → i < n → get_or (replicate n true) i false ≡ true
-get_or-replicate zero i low = absurd (omega arith)
-get_or-replicate (suc n) zero low = refl
-get_or-replicate (suc n) (suc i) low = get_or-replicate n i (omega arith)
-
-length-flags : (n : ℕ) → length (replicate n true) ≡ n
-length-flags zero = refl
-length-flags (suc n) = ap suc (length-flags n)
-
 -- where all flags are true, all addresses are free
 pub all_free : (n : ℕ) (flags : List Bool) → flags ≡ replicate n true → HasAllOf n (free_of flags)
 all_free n flags e q = (
-  (λ t. let f = free_of-contains flags q (is_true (set.contains (free_of flags) q) t) in (f.0, (let h = f.1 in let l = ap length e ∙ length-flags n in omega arith), f.2)),
+  (λ t. let f = free_of-contains flags q (is_true (set.contains (free_of flags) q) t) in (f.0, (let h = f.1 in let l = ap length e ∙ length-replicate n true in omega arith), f.2)),
   (λ a. let here : set.contains (free_of flags) q ≡ true =
-      ap (set.contains (free_of flags)) a.2 ∙ contains-free_of flags a.0 ∙ ap (λ l. get_or l a.0 false) e ∙ get_or-replicate n a.0 a.1 in here),
+      ap (set.contains (free_of flags)) a.2 ∙ contains-free_of flags a.0 ∙ ap (λ l. get_or l a.0 false) e ∙ get_or-replicate n a.0 true false a.1 in here),
 )
   where
     is_true : (b : Bool) → IsTrue b → b ≡ true
     is_true b t = t
+
+-- each free address is that of a block
+pub all_placed : (blocks : ℕ) (flags : List Bool) → blocks ≡ length flags → (address : ℕ) → IsTrue (set.contains (free_of flags) address) → IsBlockAddress blocks address
+all_placed blocks flags count address t = let f = free_of-contains flags address t in (f.0, (let low = f.1 in omega (arith, low, count)), f.2)
 
 -- a flag that is cleared
 among-cleared : (k : ℕ) (flags : List Bool) (i q : ℕ) → is_among q (addresses_from k (list_set flags i false)) ≡ (not (nat_eq (block_address (k + i)) q) && is_among q (addresses_from k flags))
@@ -197,8 +174,10 @@ free_of-given flags i low = same_set nat_cmp_total nat_cmp-IsAntisymmetric _ _ (
     ∙ ap (λ b. eq_by_cmp nat_cmp q (block_address i) || b) (sym (contains-is_among flags q))
     ∙ sym (contains-insert nat_cmp_total (free_of flags) (block_address i) q))
 
--- what a flag is, whatever is told where there is none
-pub flag_is : (flags : List Bool) (i : ℕ) (b : Bool) → i < length flags → b ≡ get_or flags i b → get_or flags i false ≡ b
-flag_is [] i b low is = absurd (omega arith)
-flag_is (a ∷ flags) zero b low is = sym is
-flag_is (a ∷ flags) (suc i) b low is = flag_is flags i b (omega arith) is
+-- one that is taken already leaves it as it is
+pub taken_already : (flags : List Bool) (i : ℕ) → get_or flags i false ≡ false → set.remove (free_of flags) (block_address i) ≡ free_of flags
+taken_already flags i is = sym (free_of-taken flags i) ∙ ap (λ l. free_of l) (rw is at (set-get_or flags i false))
+
+-- and so does one that comes back and is free
+pub free_already : (flags : List Bool) (i : ℕ) → i < length flags → get_or flags i false ≡ true → set.insert (free_of flags) (block_address i) ≡ free_of flags
+free_already flags i low is = sym (free_of-given flags i low) ∙ ap (λ l. free_of l) (rw is at (set-get_or flags i false))

@@ -1,2 +1,4 @@
 pub mod Flags
 pub mod FreeLists
+pub mod Counts
+pub mod Hints

@@ -1,1 +1,2 @@
 pub mod FreeSets
+pub mod Flags

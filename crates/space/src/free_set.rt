@@ -1,74 +1,231 @@
-//! The free blocks: a flag for each block.
+//! The free blocks of a pool, and what is reserved of them (`metaslab.c`, `dsl_dir.c`).
+//!
+//! A flag for each block says whether it is free. Beside the flags stand counts that are kept with each change, and a hint:
+//! no block below it is free. Taking the block at the hint moves it up to the next free one, and giving a lower one moves it
+//! down. So the lowest free block is found at once, and a count is a look at a field.
+//!
+//! A transaction reserves the blocks that its sync may take, before it begins. They stay reserved until its group is synced.
+//! What the syncing group has taken is counted apart, for it is in its own reservation: the blocks that are available are
+//! those that are free, but for what is reserved and not yet taken.
 
-ghost use Rattle.std.specs.Prelude.{◌≡◌, ◌+◌, ◌<◌, ◌≤◌, ◌∷◌, [], true, false, replicate, set as list_set, slice_get, vec_len, IfOk, IfSome, IfNone, Some};
-ghost use Rattle.std.specs.FinSet as finite;
+ghost use Rattle.std.specs.Prelude.{◌≡◌, ◌+◌, ◌<◌, ◌≤◌, ◌∷◌, [], ◌↔◌, IsErr, IsTrue, IfErr, IfNone, IfOk, IfSome, OnErr, OnOk, false, get_or, length};
+ghost use Rattle.std.specs.FinSet as set;
 ghost use Rattle.base.specs.formats.Geometry.{block_address};
-ghost use Rattle.space.specs.FreeSets.{HasAllOf, free_from, free_of};
+ghost use Rattle.space.specs.FreeSets.{AreBlocks, AreNotFree, HasAllOf, IsIdle, IsLowestFree, after_give, after_reserve, after_sync_end, after_sync_take, after_take, after_unreserve, available_in, free_from, is_free, is_short};
+ghost use Rattle.space.specs.Flags.{AreTaken, IsFirstFree};
 
+use base::PoolError;
 use std::alloc::{AllocError, Global};
+use std::marker::Model;
 
-/// Which blocks are free, by their index in the block area.
-#[derive(Debug, Drop, PartialEq, Eq)]
+/// Which blocks are free, by their index in the block area, how many are reserved, and how many the syncing group has taken.
+#[derive(Debug, Drop)]
 pub struct FreeSet {
-    /// Whether the block of each index is free.
-    pub flags: Vec<bool>,
+    // whether the block of each index is free
+    flags: Vec<bool>,
+    // no block below this one is free
+    hint: usize,
+    // how many blocks are free
+    free: u64,
+    reserved: u64,
+    taken: u64,
+}
+
+impl Model for FreeSet {
+    ghost use Rattle.space.specs.FreeSets.{FreeSpace, space_code};
+
+    ghost Value = { FreeSpace };
+
+    ghost coded = { space_code };
+
+    ghost use Rattle.space.specs.Flags.{IsKept, space_of};
+
+    ghost view = { space_of };
+
+    ghost invariant = { IsKept };
 }
 
 impl FreeSet {
-    /// All of so many blocks are free. It is refused where there is no memory.
+    /// All of so many blocks are free, and nothing is reserved. It is refused where there is no memory.
     pub fn new(alloc: Global, blocks: usize) -> Result<Self, AllocError>
-        ensures count { IfOk result (λ free. vec_len free.flags ≡ blocks) }
-        ensures flags { IfOk result (λ free. free.flags.items ≡ replicate blocks true) }
-        ensures all { IfOk result (λ free. HasAllOf blocks (free_of free.flags.items)) }
+        ensures blocks { IfOk result (λ set. set.blocks ≡ blocks) }
+        ensures all { IfOk result (λ set. HasAllOf blocks set.free) }
+        ensures idle { IfOk result IsIdle }
     {
         Ok(FreeSet {
             flags: vec![in alloc; true; blocks]?,
+            hint: 0,
+            free: blocks as u64,
+            reserved: 0,
+            taken: 0,
         })
+    }
+
+    /// How many blocks the area has.
+    pub fn blocks(&self) -> usize
+        ensures blocks { result ≡ self.now.blocks }
+        ensures placed { AreBlocks self.now }
+    {
+        self.flags.len()
+    }
+
+    /// How many blocks are free.
+    pub fn free(&self) -> u64
+        ensures count { result ≡ set.len self.now.free }
+        ensures within { result ≤ self.now.blocks }
+    {
+        self.free
+    }
+
+    /// How many of the free blocks no unsynced transaction may still ask for: all but those that are reserved and that the
+    /// syncing group has not taken.
+    pub fn available(&self) -> u64
+        ensures count { result ≡ available_in self.now }
+        ensures within { result ≤ set.len self.now.free }
+    {
+        let wanted = self.reserved.saturating_sub(self.taken);
+        self.free.saturating_sub(wanted)
+    }
+
+    /// Whether a block is free. A block that the set does not have is not.
+    pub fn is_free(&self, block: usize) -> bool
+        ensures { result ≡ is_free block self.now }
+    {
+        is_set(&self.flags, block)
     }
 
     /// The lowest free block from this one on. `None` where there is none, or where the set has no such block.
     pub fn next_from(&self, first: usize) -> Option<usize>
-        ensures within { IfSome result (λ block. block < vec_len self.now.flags) }
+        ensures within { IfSome result (λ block. block < self.now.blocks) }
         ensures from { IfSome result (λ block. first ≤ block) }
-        ensures free { IfSome result (λ block. slice_get self.now.flags.items block ≡ Some true) }
-        ensures lowest { IfSome result (λ block. free_from first self.now.flags.items
-            ≡ block_address block ∷ free_from (block + 1) self.now.flags.items) }
-        ensures none { IfNone result (free_from first self.now.flags.items ≡ []) }
+        ensures free { IfSome result (λ block. IsTrue (is_free block self.now)) }
+        ensures skipped { IfSome result (λ block. AreNotFree first block self.now) }
+        ensures lowest { IfSome result (λ block. free_from first self.now.free
+            ≡ block_address block ∷ free_from (block + 1) self.now.free) }
+        ensures none { IfNone result (free_from first self.now.free ≡ []) }
     {
-        for block in first..self.flags.len() {
-            if self.flags[block] {
-                return Some(block);
-            }
-        }
-        None
+        first_free(&self.flags, first.max(self.hint))
     }
 
-    /// The block is taken. A block that the set does not have changes nothing.
+    /// The block is taken. One that is not free, or that the set does not have, changes nothing. It takes no memory.
     pub fn take(&mut self, block: usize)
-        ensures flags { self.new.flags.items ≡ list_set self.old.flags.items block false }
-        ensures count { vec_len self.new.flags ≡ vec_len self.old.flags }
-        ensures free { free_of self.new.flags.items
-            ≡ finite.remove (free_of self.old.flags.items) (block_address block) }
+        ensures { self.new ≡ after_take block self.old }
     {
-        self.set(block, false);
+        if !is_set(&self.flags, block) {
+            return;
+        }
+        self.flags[block] = false;
+        self.free -= 1;
+        self.hint = raised(&self.flags, self.hint);
     }
 
-    /// The block comes back. A block that the set does not have changes nothing.
+    /// The block comes back. One that is free, or that the set does not have, changes nothing. It takes no memory.
     pub fn give(&mut self, block: usize)
-        ensures flags { self.new.flags.items ≡ list_set self.old.flags.items block true }
-        ensures count { vec_len self.new.flags ≡ vec_len self.old.flags }
-        ensures free { block < vec_len self.old.flags → free_of self.new.flags.items
-            ≡ finite.insert (free_of self.old.flags.items) (block_address block) }
+        ensures given { block < self.old.blocks → self.new ≡ after_give block self.old }
+        ensures unchanged { self.old.blocks ≤ block → self.new ≡ self.old }
     {
-        self.set(block, true);
-    }
-
-    fn set(&mut self, block: usize, free: bool)
-        ensures flags { self.new.flags.items ≡ list_set self.old.flags.items block free }
-        ensures count { vec_len self.new.flags ≡ vec_len self.old.flags }
-    {
-        if block < self.flags.len() {
-            self.flags[block] = free;
+        if block < self.flags.len() && !is_set(&self.flags, block) {
+            self.flags[block] = true;
+            self.free += 1;
+            self.hint = self.hint.min(block);
         }
     }
+
+    /// The lowest free block is taken, and answered. It takes no memory.
+    ///
+    /// # Errors
+    /// `NoSpace` exactly where no block is free. Then nothing has changed.
+    pub fn take_lowest(&mut self) -> Result<usize, PoolError>
+        ensures lowest { IfOk result (IsLowestFree self.old) }
+        ensures taken { IfOk result (λ block. self.new ≡ after_take block self.old) }
+        ensures refused { IsErr result ↔ set.len self.old.free ≡ 0 }
+        ensures error { IfErr result (λ e. e ≡ PoolError.NoSpace) }
+        ensures unchanged { OnErr result (self.new ≡ self.old) }
+    {
+        match self.next_from(0) {
+            Some(block) => {
+                self.take(block);
+                Ok(block)
+            }
+            None => Err(PoolError::NoSpace),
+        }
+    }
+
+    /// So many blocks more are reserved. So many of those that are available are kept back: they are not given to this
+    /// reservation, and stay available. It takes no memory.
+    ///
+    /// # Errors
+    /// `NoSpace` exactly where both together are more than are available. Then nothing has changed.
+    pub fn reserve(&mut self, count: u64, kept_back: u64) -> Result<(), PoolError>
+        ensures refused { IsErr result ↔ IsTrue (is_short count kept_back self.old) }
+        ensures error { IfErr result (λ e. e ≡ PoolError.NoSpace) }
+        ensures unchanged { OnErr result (self.new ≡ self.old) }
+        ensures reserved { OnOk result (self.new ≡ after_reserve count self.old) }
+    {
+        let available = self.available();
+        if count > available || kept_back > available - count {
+            return Err(PoolError::NoSpace);
+        }
+        self.reserved += count;
+        Ok(())
+    }
+
+    /// So many of the reserved blocks are reserved no more: their transaction was given up. It takes no memory.
+    pub fn unreserve(&mut self, count: u64)
+        requires { count ≤ self.old.reserved }
+        ensures { self.new ≡ after_unreserve count self.old }
+    {
+        self.reserved -= count;
+    }
+
+    /// The syncing group takes the block. It is counted as taken until the sync has ended. It takes no memory.
+    pub fn take_for_sync(&mut self, block: usize)
+        requires room { self.old.taken < self.old.blocks }
+        ensures { self.new ≡ after_sync_take block self.old }
+    {
+        self.take(block);
+        self.taken += 1;
+    }
+
+    /// The syncing group is synced: what it had reserved is reserved no more, and it counts no block as taken. The blocks stay
+    /// taken. It takes no memory.
+    pub fn end_sync(&mut self, reserved: u64)
+        requires { reserved ≤ self.old.reserved }
+        ensures { self.new ≡ after_sync_end reserved self.old }
+    {
+        self.reserved -= reserved;
+        self.taken = 0;
+    }
+}
+
+// Whether a block has a flag, and it is free by it.
+fn is_set(flags: &[bool], block: usize) -> bool
+    ensures flag { result ≡ get_or flags.now block false }
+    ensures within { IsTrue result → block < length flags.now }
+{
+    block < flags.len() && flags[block]
+}
+
+// The hint at the first free block, or behind the last block where none is free.
+fn raised(flags: &[bool], hint: usize) -> usize
+    requires { AreTaken 0 hint flags.now }
+    ensures { AreTaken 0 result flags.now }
+{
+    match first_free(flags, hint) {
+        Some(block) => block,
+        None => flags.len(),
+    }
+}
+
+// The first free block from this one on.
+fn first_free(flags: &[bool], first: usize) -> Option<usize>
+    ensures found { IfSome result (IsFirstFree first flags.now) }
+    ensures none { IfNone result (AreTaken first (length flags.now) flags.now) }
+{
+    for block in first..flags.len() {
+        if flags[block] {
+            return Some(block);
+        }
+    }
+    None
 }

@@ -10,7 +10,7 @@ use Rattle.base.specs.declared.record_state.RecordState.TheVariants.{Unchanged, 
 use Rattle.base.specs.tree.PlacedTrees.{padded_record}
 use Rattle.base.specs.tree.Syncs.{is_dirty}
 use Rattle.checked_blocks.specs.Sealing.{padded}
-use Rattle.space.specs.declared.free_set.FreeSet.{FreeSet}
+use Rattle.space.specs.FreeSets.{FreeSpace}
 use Rattle.tree_plans.specs.declared.place.BlockPlace.{BlockPlace}
 use Rattle.tree_plans.specs.declared.place.BlockPlace.TheVariants.{Data, Directory, Indirect, Root}
 use Rattle.tree_plans.specs.declared.place.RecordPlace.{RecordPlace}
@@ -33,7 +33,7 @@ use Rattle.tree_plans.proofs.Progress.{goes_nowhere}
 use Rattle.tree_plans.proofs.Walks.{frees_weaker, not-is_empty}
 
 -- what a plan has done at a place in a state
-pub record IsDone (free : FreeSet) (place : BlockPlace) (state : RecordState) (was : Pointer) (Fits : List ℕ → Type 0) (old new : Planner) (pointer : Pointer) : Type 0 where
+pub record IsDone (free : FreeSpace) (place : BlockPlace) (state : RecordState) (was : Pointer) (Fits : List ℕ → Type 0) (old new : Planner) (pointer : Pointer) : Type 0 where
   pub goes : ExtendsPlan free old new
   pub planned : HasBecome (progress_of new) (place_of place) state was pointer Fits
   pub frees : PlaceFrees old.freed.items new.freed.items state was
@@ -41,7 +41,7 @@ pub record IsDone (free : FreeSet) (place : BlockPlace) (state : RecordState) (w
   pub adds : Adds (blocks_of old) (blocks_of new) (address_if (is_dirty state) pointer)
 
 -- it stays as it was
-pub kept : (free : FreeSet) (place : BlockPlace) (state : RecordState) (was : Pointer) (Fits : List ℕ → Type 0) → state ≡ Unchanged → (planner : Planner) → IsDone free place state was Fits planner planner was
+pub kept : (free : FreeSpace) (place : BlockPlace) (state : RecordState) (was : Pointer) (Fits : List ℕ → Type 0) → state ≡ Unchanged → (planner : Planner) → IsDone free place state was Fits planner planner was
 kept free place state was Fits is planner = record {
   goes = goes_nowhere _ _;
   planned = rw is refl;
@@ -51,7 +51,7 @@ kept free place state was Fits is planner = record {
 }
 
 -- it has no block any more
-pub cleared : (free : FreeSet) (place : BlockPlace) (state : RecordState) (was : Pointer) (Fits : List ℕ → Type 0) → state ≡ Hole → (old new : Planner) (pointer : Pointer) → ClearsPlace was old new pointer
+pub cleared : (free : FreeSpace) (place : BlockPlace) (state : RecordState) (was : Pointer) (Fits : List ℕ → Type 0) → state ≡ Hole → (old new : Planner) (pointer : Pointer) → ClearsPlace was old new pointer
     → IsDone free place state was Fits old new pointer
 cleared free place state was Fits is old new pointer done =
     let same : blocks_of new ≡ blocks_of old = ap (λ (l : List PlannedBlock). map new_block l) (ap (λ b. b.items) done.none_taken) in
@@ -64,7 +64,7 @@ cleared free place state was Fits is old new pointer done =
     }
 
 -- it has a new block
-pub taken : (free : FreeSet) (place : BlockPlace) (state : RecordState) (was : Pointer) (Fits : List ℕ → Type 0) (payload : List ℕ) → state ≡ Dirty → Fits (padded payload)
+pub taken : (free : FreeSpace) (place : BlockPlace) (state : RecordState) (was : Pointer) (Fits : List ℕ → Type 0) (payload : List ℕ) → state ≡ Dirty → Fits (padded payload)
     → (old new : Planner) (pointer : Pointer) → TakesBlock free place payload was old new pointer → IsDone free place state was Fits old new pointer
 taken free place state was Fits payload is fits old new pointer done = record {
   goes = done.goes;
@@ -75,7 +75,7 @@ taken free place state was Fits payload is fits old new pointer done = record {
 }
 
 -- a record of an object
-pub record_done : (free : FreeSet) (place : RecordPlace) (bytes : List ℕ) (was : Pointer) (state : RecordState) (old new : Planner) (pointer : Pointer)
+pub record_done : (free : FreeSpace) (place : RecordPlace) (bytes : List ℕ) (was : Pointer) (state : RecordState) (old new : Planner) (pointer : Pointer)
     → IsDone free (Data place.id place.index) state was (λ payload. payload ≡ padded_record place.index bytes) old new pointer → PlansRecord free place bytes was state old new pointer
 record_done free place bytes was state old new pointer done = record { goes = done.goes; planned = done.planned; frees = done.frees; uses = done.uses; adds = done.adds }
 
@@ -83,7 +83,7 @@ record_done free place bytes was state old new pointer done = record { goes = do
 abbrev pub FitsRecords : List Pointer → List ℕ → Type 0
 FitsRecords records payload = (r : ℕ) → r < 84 → pointer_in payload r ≡ slice_index_or records r no_pointer
 
-indirect_done : (free : FreeSet) (id : ObjectId) (records : List Pointer) (was : Pointer) (is_changed : Bool) (old new : Planner) (pointer : Pointer)
+indirect_done : (free : FreeSpace) (id : ObjectId) (records : List Pointer) (was : Pointer) (is_changed : Bool) (old new : Planner) (pointer : Pointer)
     → IsDone free (Indirect id) (indirect_state is_changed records) was (FitsRecords records) old new pointer → FreesOnly old.freed.items new.freed.items was
     → PlansIndirect free id records was is_changed old new pointer
 indirect_done free id records was is_changed old new pointer done only = record { goes = done.goes; planned = done.planned; frees = only; uses = done.uses; adds = done.adds }
@@ -92,7 +92,7 @@ state_if : (b : Bool) (s t u : RecordState) → ((b ≡ true) × (s ≡ u)) ⊎ 
 state_if b s t u (inl h) = rw (h.0, h.1) refl
 state_if b s t u (inr h) = rw (h.0, h.1) refl
 
-pub indirect_cleared : (free : FreeSet) (id : ObjectId) (records : List Pointer) (was : Pointer) (is_changed : Bool) (old new : Planner) (pointer : Pointer) → (is_changed && list_any names_block records) ≡ false
+pub indirect_cleared : (free : FreeSpace) (id : ObjectId) (records : List Pointer) (was : Pointer) (is_changed : Bool) (old new : Planner) (pointer : Pointer) → (is_changed && list_any names_block records) ≡ false
     → ClearsPlace was old new pointer → PlansIndirect free id records was is_changed old new pointer
 indirect_cleared free id records was is_changed old new pointer no_block done =
     indirect_done free id records was is_changed old new pointer (cleared _ (Indirect id) _ was (FitsRecords records) (state_if _ Dirty Hole Hole (inr (no_block, refl))) old new pointer done) done.frees

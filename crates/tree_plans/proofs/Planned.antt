@@ -6,6 +6,7 @@ use Rattle.std.specs.Option.{option_map_or}
 use Rattle.std.specs.Ordering.{nat_cmp}
 use Rattle.std.specs.FinMap as finite
 use Rattle.std.specs.FinMap.{FinMap}
+use Rattle.std.specs.FinSet.{FinSet}
 use Rattle.std.proofs.lemmas.Bool.{cases_Bool, eq-eqb, eqb-true, false_from_ne_true, false≢true, or_parts, true≢false}
 use Rattle.std.proofs.Math.Bool.{and-false}
 use Rattle.std.proofs.lemmas.List.{take_at}
@@ -21,7 +22,9 @@ use Rattle.base.specs.tree.Places.{Place, IsPlace}
 use Rattle.base.specs.tree.Places.Place.{Root, Directory, Indirect, Data}
 use Rattle.base.specs.tree.PlacedTrees.{IsEntryFor, IsPlaced, ArePlaced, padded_record}
 use Rattle.base.specs.tree.PlannedTrees.{IsNewAt, IsPlannedAt, IsTreePlan, NewBlock, AreFreed}
-use Rattle.space.specs.FreeSets.{addresses_from, free_from}
+use Rattle.base.specs.common.Rising.{rising}
+use Rattle.space.specs.FreeSets.{free_from}
+use Rattle.space.proofs.FreeLists.{free_from-0}
 use Rattle.object_maps.specs.declared.tree.ObjectMap.{ObjectMap}
 use Rattle.object_maps.specs.declared.tree.Tree.{Tree}
 use Rattle.object_maps.specs.Lengths.{lengths_of}
@@ -37,15 +40,15 @@ use Rattle.base.proofs.common.KeptLists.{any_none, none_any}
 use Rattle.tree_plans.proofs.Order.{entry-state, left-left, passes_at}
 
 -- the addresses that a plan has taken
-pub taken_lowest : (flags : List Bool) (start : Progress) (blocks : List PlannedBlock) (next : ℕ) (freed : List ℕ) (frame : Frame) → start.next ≡ 0 → start.blocks ≡ []
-    → Goes flags start (record { next = next; blocks = map new_block blocks; freed = freed; frame = frame }) → map address_of blocks ≡ take (length blocks) (addresses_from 0 flags)
-taken_lowest flags start blocks next freed frame at_first none g =
-    let begun : HasTaken flags start = ap (λ (l : List NewBlock). map (λ (b : NewBlock). b.address) l ++ free_from start.next flags) none ∙ ap (λ (k : ℕ). free_from k flags) at_first in
-    let taken : map (λ (b : NewBlock). b.address) (map new_block blocks) ++ free_from next flags ≡ addresses_from 0 flags = g.taken begun in
+pub taken_lowest : (free : FinSet nat_cmp) (start : Progress) (blocks : List PlannedBlock) (next : ℕ) (freed : List ℕ) (frame : Frame) → start.next ≡ 0 → start.blocks ≡ []
+    → Goes free start (record { next = next; blocks = map new_block blocks; freed = freed; frame = frame }) → map address_of blocks ≡ take (length blocks) (rising free)
+taken_lowest free start blocks next freed frame at_first none g =
+    let begun : HasTaken free start = ap (λ (l : List NewBlock). map (λ (b : NewBlock). b.address) l ++ free_from start.next free) none ∙ ap (λ (k : ℕ). free_from k free) at_first ∙ free_from-0 free in
+    let taken : map (λ (b : NewBlock). b.address) (map new_block blocks) ++ free_from next free ≡ rising free = g.taken begun in
     let same = both blocks in
     let long : length (map address_of blocks) ≡ length blocks = as_many blocks in
-    let whole : map address_of blocks ++ free_from next flags ≡ addresses_from 0 flags = rw same at taken in
-    rw (← whole) (sym (take_at (map address_of blocks) (free_from next flags) (length blocks) long))
+    let whole : map address_of blocks ++ free_from next free ≡ rising free = rw same at taken in
+    rw (← whole) (sym (take_at (map address_of blocks) (free_from next free) (length blocks) long))
   where
     both : (bs : List PlannedBlock) → map (λ (b : NewBlock). b.address) (map new_block bs) ≡ map address_of bs
     both [] = refl

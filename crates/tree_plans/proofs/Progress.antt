@@ -1,6 +1,8 @@
 -- How a plan goes on: what it has stays, and the next block is the lowest free one.
-use Rattle.std.proofs.Common.{◌≡◌, ◌≢◌, ℕ, zero, suc, ◌+◌, ◌<◌, ◌⊎◌, inl, inr, Bool, List, [], ◌∷◌, ◌++◌, length, map, ◌≤◌, Some, refl, sym, ◌∙◌, ap, append_assoc, arith}
+use Rattle.std.proofs.Common.{◌≡◌, ◌≢◌, ℕ, zero, suc, ◌+◌, ◌<◌, ◌⊎◌, inl, inr, List, [], ◌∷◌, ◌++◌, length, map, ◌≤◌, Some, refl, sym, ◌∙◌, ap, append_assoc, arith}
 use Rattle.std.specs.Prelude.{slice_get, slice_index_or}
+use Rattle.std.specs.Ordering.{nat_cmp}
+use Rattle.std.specs.FinSet.{FinSet}
 use Rattle.base.specs.declared.pointer.Pointer.{Pointer}
 use Rattle.base.specs.formats.Fields.{no_pointer, part}
 use Rattle.base.specs.formats.Geometry.{block_address}
@@ -37,10 +39,10 @@ pub last_push : {A : Type 0} (xs : List A) (a : A) → slice_get (xs ++ a ∷ []
 last_push [] a = refl
 last_push (x ∷ xs) a = last_push xs a
 
-pub goes_nowhere : (flags : List Bool) (s : Progress) → Goes flags s s
-goes_nowhere flags s = record { frame = refl; taken = λ h. h; blocks = λ i b e. e; freed = λ i a e. e }
+pub goes_nowhere : (free : FinSet nat_cmp) (s : Progress) → Goes free s s
+goes_nowhere free s = record { frame = refl; taken = λ h. h; blocks = λ i b e. e; freed = λ i a e. e }
 
-pub goes_twice : {flags : List Bool} {r s t : Progress} → Goes flags r s → Goes flags s t → Goes flags r t
+pub goes_twice : {free : FinSet nat_cmp} {r s t : Progress} → Goes free r s → Goes free s t → Goes free r t
 goes_twice g h = record {
   frame = h.frame ∙ g.frame;
   taken = λ e. h.taken (g.taken e);
@@ -49,15 +51,15 @@ goes_twice g h = record {
 }
 
 -- a block is taken
-pub goes_on : (flags : List Bool) (next index : ℕ) (blocks after : List NewBlock) (block : NewBlock) (freed released : List ℕ) (frame : Frame)
-    → after ≡ blocks ++ block ∷ [] → block.address ≡ block_address index → free_from next flags ≡ block_address index ∷ free_from (index + 1) flags → Keeps freed released
-    → Goes flags (record { next = next; blocks = blocks; freed = freed; frame = frame }) (record { next = index + 1; blocks = after; freed = released; frame = frame })
-goes_on flags next index blocks after block freed released frame pushed here lowest kept = record {
+pub goes_on : (free : FinSet nat_cmp) (next index : ℕ) (blocks after : List NewBlock) (block : NewBlock) (freed released : List ℕ) (frame : Frame)
+    → after ≡ blocks ++ block ∷ [] → block.address ≡ block_address index → free_from next free ≡ block_address index ∷ free_from (index + 1) free → Keeps freed released
+    → Goes free (record { next = next; blocks = blocks; freed = freed; frame = frame }) (record { next = index + 1; blocks = after; freed = released; frame = frame })
+goes_on free next index blocks after block freed released frame pushed here lowest kept = record {
   frame = refl;
-  taken = λ all. ap (λ (l : List NewBlock). map (λ (b : NewBlock). b.address) l ++ free_from (index + 1) flags) pushed
-      ∙ ap (λ (l : List ℕ). l ++ free_from (index + 1) flags) (addresses-push blocks block)
-      ∙ append_assoc (map (λ (b : NewBlock). b.address) blocks) (block.address ∷ []) (free_from (index + 1) flags)
-      ∙ ap (λ (a : ℕ). map (λ (b : NewBlock). b.address) blocks ++ (a ∷ free_from (index + 1) flags)) here
+  taken = λ all. ap (λ (l : List NewBlock). map (λ (b : NewBlock). b.address) l ++ free_from (index + 1) free) pushed
+      ∙ ap (λ (l : List ℕ). l ++ free_from (index + 1) free) (addresses-push blocks block)
+      ∙ append_assoc (map (λ (b : NewBlock). b.address) blocks) (block.address ∷ []) (free_from (index + 1) free)
+      ∙ ap (λ (a : ℕ). map (λ (b : NewBlock). b.address) blocks ++ (a ∷ free_from (index + 1) free)) here
       ∙ ap (λ (l : List ℕ). map (λ (b : NewBlock). b.address) blocks ++ l) (sym lowest)
       ∙ all;
   blocks = λ i b e. rw pushed (keeps_push blocks block i b e);
@@ -65,9 +67,9 @@ goes_on flags next index blocks after block freed released frame pushed here low
 }
 
 -- none is taken, and one comes back
-pub goes_back : (flags : List Bool) (next : ℕ) (blocks : List NewBlock) (freed released : List ℕ) (frame : Frame) → Keeps freed released
-    → Goes flags (record { next = next; blocks = blocks; freed = freed; frame = frame }) (record { next = next; blocks = blocks; freed = released; frame = frame })
-goes_back flags next blocks freed released frame kept = record { frame = refl; taken = λ h. h; blocks = λ i b e. e; freed = kept }
+pub goes_back : (free : FinSet nat_cmp) (next : ℕ) (blocks : List NewBlock) (freed released : List ℕ) (frame : Frame) → Keeps freed released
+    → Goes free (record { next = next; blocks = blocks; freed = freed; frame = frame }) (record { next = next; blocks = blocks; freed = released; frame = frame })
+goes_back free next blocks freed released frame kept = record { frame = refl; taken = λ h. h; blocks = λ i b e. e; freed = kept }
 
 -- and it stands at its place
 pub written_at : (s : Progress) (blocks : List NewBlock) (block : NewBlock) (index kind number : ℕ) (place : Place) (old new : Pointer) (payload : List ℕ)
@@ -89,7 +91,7 @@ written_at s blocks block index kind number place old new payload pushed here lo
 }
 
 -- what is planned stays planned
-pub new_stays : {flags : List Bool} {s t : Progress} {place : Place} {pointer : Pointer} {payload : List ℕ} → Goes flags s t → IsNewAt s.blocks s.frame place pointer payload → IsNewAt t.blocks t.frame place pointer payload
+pub new_stays : {free : FinSet nat_cmp} {s t : Progress} {place : Place} {pointer : Pointer} {payload : List ℕ} → Goes free s t → IsNewAt s.blocks s.frame place pointer payload → IsNewAt t.blocks t.frame place pointer payload
 new_stays g n = record {
   index = n.index;
   block = n.block;
@@ -100,22 +102,22 @@ new_stays g n = record {
   sealed = rw g.frame n.sealed;
 }
 
-pub written_stays : {flags : List Bool} {s t : Progress} {place : Place} {old new : Pointer} {payload : List ℕ} → Goes flags s t → IsWritten s place old new payload → IsWritten t place old new payload
+pub written_stays : {free : FinSet nat_cmp} {s t : Progress} {place : Place} {old new : Pointer} {payload : List ℕ} → Goes free s t → IsWritten s place old new payload → IsWritten t place old new payload
 written_stays g w = record {
   block = new_stays g w.block;
   in_area = rw g.frame w.in_area;
   freed = λ there. let f = w.freed there in (f.0, g.freed f.0 _ f.1);
 }
 
-pub cleared_stays : {flags : List Bool} {s t : Progress} {old new : Pointer} → Goes flags s t → IsCleared s old new → IsCleared t old new
+pub cleared_stays : {free : FinSet nat_cmp} {s t : Progress} {old new : Pointer} → Goes free s t → IsCleared s old new → IsCleared t old new
 cleared_stays g c = record { none = c.none; freed = λ there. let f = c.freed there in (f.0, g.freed f.0 _ f.1) }
 
-pub become_stays : {flags : List Bool} {s t : Progress} (place : Place) (state : RecordState) (old new : Pointer) (Fits : List ℕ → Type 0) → Goes flags s t → HasBecome s place state old new Fits → HasBecome t place state old new Fits
+pub become_stays : {free : FinSet nat_cmp} {s t : Progress} (place : Place) (state : RecordState) (old new : Pointer) (Fits : List ℕ → Type 0) → Goes free s t → HasBecome s place state old new Fits → HasBecome t place state old new Fits
 become_stays place Unchanged old new Fits g h = h
 become_stays place Dirty old new Fits g h = (h.0, written_stays g h.1, h.2)
 become_stays place Hole old new Fits g h = cleared_stays g h
 
-pub record_stays : {flags : List Bool} {s t : Progress} (n r : ℕ) (bytes : List ℕ) (state : RecordState) (old new : Pointer) → Goes flags s t → IsRecordPlanned s n r bytes state old new → IsRecordPlanned t n r bytes state old new
+pub record_stays : {free : FinSet nat_cmp} {s t : Progress} (n r : ℕ) (bytes : List ℕ) (state : RecordState) (old new : Pointer) → Goes free s t → IsRecordPlanned s n r bytes state old new → IsRecordPlanned t n r bytes state old new
 record_stays n r bytes state old new g h = become_stays (Data n r) state old new (λ payload. payload ≡ padded_record r bytes) g h
 
 pub last_of : {A : Type 0} (xs : List A) (a d : A) → slice_index_or (xs ++ a ∷ []) (length xs) d ≡ a
@@ -142,8 +144,8 @@ each_push P xs a d i long each here r low = go (cases_lt r i)
         rw (e, last_of xs a d) (rw f here)
 
 -- one record more is planned
-pub records_push : {flags : List Bool} {s t : Progress} (n : ℕ) (bytes : List ℕ) (changes : ObjectChanges) (old : ObjectMap) (i : ℕ) (records : List Pointer) (state : RecordState) (was new : Pointer)
-    → Goes flags s t → length records ≡ i → was ≡ record_in old i → state ≡ state_at changes i → AreRecordsPlanned s n bytes changes old i records → IsRecordPlanned t n i bytes state was new
+pub records_push : {free : FinSet nat_cmp} {s t : Progress} (n : ℕ) (bytes : List ℕ) (changes : ObjectChanges) (old : ObjectMap) (i : ℕ) (records : List Pointer) (state : RecordState) (was new : Pointer)
+    → Goes free s t → length records ≡ i → was ≡ record_in old i → state ≡ state_at changes i → AreRecordsPlanned s n bytes changes old i records → IsRecordPlanned t n i bytes state was new
     → AreRecordsPlanned t n bytes changes old (i + 1) (records ++ new ∷ [])
 records_push {s = s} {t = t} n bytes changes old i records state was new g long is state_is each here =
     each_push (λ r p. IsRecordPlanned t n r bytes (state_at changes r) (record_in old r) p) records new no_pointer i long
@@ -157,13 +159,13 @@ frees_push first old new changes map i state was is state_is frees more address 
       | inr here ↦ inr (record { index = i; low = omega arith; replaced = rw (← state_is) here.0; was = rw (← is) here.1 })
     ]
 
-pub records_stay : {flags : List Bool} {s t : Progress} (n : ℕ) (bytes : List ℕ) (changes : ObjectChanges) (old : ObjectMap) (count : ℕ) (records : List Pointer)
-    → Goes flags s t → AreRecordsPlanned s n bytes changes old count records → AreRecordsPlanned t n bytes changes old count records
+pub records_stay : {free : FinSet nat_cmp} {s t : Progress} (n : ℕ) (bytes : List ℕ) (changes : ObjectChanges) (old : ObjectMap) (count : ℕ) (records : List Pointer)
+    → Goes free s t → AreRecordsPlanned s n bytes changes old count records → AreRecordsPlanned t n bytes changes old count records
 records_stay n bytes changes old count records g each r low = record_stays n r bytes (state_at changes r) (record_in old r) (slice_index_or records r no_pointer) g (each r low)
 
 -- an object whose records are planned, and then its indirect block
-pub object_planned : {flags : List Bool} {s t : Progress} (n : ℕ) (bytes : List ℕ) (changes : ObjectChanges) (old new : ObjectMap)
-    → Goes flags s t → length new.records.items ≡ 84 → AreRecordsPlanned s n bytes changes old 84 new.records.items
+pub object_planned : {free : FinSet nat_cmp} {s t : Progress} (n : ℕ) (bytes : List ℕ) (changes : ObjectChanges) (old new : ObjectMap)
+    → Goes free s t → length new.records.items ≡ 84 → AreRecordsPlanned s n bytes changes old 84 new.records.items
     → IsIndirectPlanned t n changes.is_changed new.records.items old.indirect new.indirect → IsObjectPlanned t n bytes changes old new
 object_planned n bytes changes old new g count records indirect = record {
   count = count;
@@ -171,7 +173,7 @@ object_planned n bytes changes old new g count records indirect = record {
   indirect = indirect;
 }
 
-pub object_stays : {flags : List Bool} {s t : Progress} (n : ℕ) (bytes : List ℕ) (changes : ObjectChanges) (old new : ObjectMap) → Goes flags s t → IsObjectPlanned s n bytes changes old new → IsObjectPlanned t n bytes changes old new
+pub object_stays : {free : FinSet nat_cmp} {s t : Progress} (n : ℕ) (bytes : List ℕ) (changes : ObjectChanges) (old new : ObjectMap) → Goes free s t → IsObjectPlanned s n bytes changes old new → IsObjectPlanned t n bytes changes old new
 object_stays n bytes changes old new g p = record {
   count = p.count;
   records = records_stay n bytes changes old 84 new.records.items g p.records;

@@ -4,6 +4,7 @@ use Rattle.std.specs.Prelude.{is_some}
 use Rattle.std.specs.List.{flat_map, range_with_len}
 use Rattle.std.specs.Ordering.{nat_cmp}
 use Rattle.std.specs.FinMap.{FinMap}
+use Rattle.std.specs.FinSet.{FinSet}
 use Rattle.std.specs.List.Sorted.{IsStrictlySortedBy}
 use Rattle.std.specs.Map.{keys_of}
 use Rattle.std.specs.Option.{option_map_or}
@@ -21,7 +22,9 @@ use Rattle.base.specs.declared.record_state.RecordState.TheVariants.{Dirty}
 use Rattle.base.specs.tree.Syncs.{GroupChanges, is_dirty, is_directory_written, is_indirect_written, is_record_written, is_root_written, places_of_object, written_by}
 use Rattle.base.specs.tree.PlannedTrees.{NewBlock}
 use Rattle.object_maps.specs.declared.tree.ObjectMap.{ObjectMap}
-use Rattle.space.specs.FreeSets.{addresses_from, free_from}
+use Rattle.base.specs.common.Rising.{rising}
+use Rattle.space.specs.FreeSets.{free_from}
+use Rattle.space.proofs.FreeLists.{free_from-0}
 use Rattle.tree_plans.specs.declared.changes.ObjectChanges.{ObjectChanges}
 use Rattle.tree_plans.specs.Pointers.{entry_of, planned_map, record_in}
 use Rattle.tree_plans.specs.Changes.{AreInRange, group_of}
@@ -33,20 +36,20 @@ use Rattle.tree_plans.proofs.Order.{absent-indirect_written, absent-written, add
 use Rattle.tree_plans.proofs.Progress.{goes_twice}
 
 -- no free block is left for the next one
-pub lacks_one : (flags : List Bool) (s : Progress) → free_from s.next flags ≡ [] → Lacks flags s 1
-lacks_one flags s none taken =
+pub lacks_one : (free : FinSet nat_cmp) (s : Progress) → free_from s.next free ≡ [] → Lacks free s 1
+lacks_one free s none taken =
     let addresses : List ℕ = addresses_of s.blocks in
-    let all : length (addresses_from 0 flags) ≡ length addresses =
+    let all : length (rising free) ≡ length addresses =
     ap (λ (l : List ℕ). length l) (sym taken) ∙ ap (λ (l : List ℕ). length (addresses ++ l)) none ∙ ap (λ (l : List ℕ). length l) (append-nil addresses) in
     let each : length addresses ≡ length s.blocks = length-map s.blocks (λ (b : NewBlock). b.address) in
     omega (arith, all, each)
 
-pub lacks_more : (flags : List Bool) (s : Progress) (few many : ℕ) → few ≤ many → Lacks flags s few → Lacks flags s many
-lacks_more flags s few many more lacks taken = let h = lacks taken in omega (arith, h, more)
+pub lacks_more : (free : FinSet nat_cmp) (s : Progress) (few many : ℕ) → few ≤ many → Lacks free s few → Lacks free s many
+lacks_more free s few many more lacks taken = let h = lacks taken in omega (arith, h, more)
 
 -- a later step is refused: what the steps before it took counts too
-pub lacks_behind : (flags : List Bool) (s t : Progress) (added : List ℕ) (count all : ℕ) → Goes flags s t → Adds s.blocks t.blocks added → length added + count ≤ all → Lacks flags t count → Lacks flags s all
-lacks_behind flags s t added count all goes adds fits lacks taken =
+pub lacks_behind : (free : FinSet nat_cmp) (s t : Progress) (added : List ℕ) (count all : ℕ) → Goes free s t → Adds s.blocks t.blocks added → length added + count ≤ all → Lacks free t count → Lacks free s all
+lacks_behind free s t added count all goes adds fits lacks taken =
     let h = lacks (goes.taken taken) in
     let old : length (addresses_of s.blocks) ≡ length s.blocks = length-map s.blocks (λ (b : NewBlock). b.address) in
     let new : length (addresses_of t.blocks) ≡ length t.blocks = length-map t.blocks (λ (b : NewBlock). b.address) in
@@ -80,13 +83,13 @@ where_grows p n (suc more) all sum =
     rw next at up
 
 -- a number is refused, where those below it are done
-pub lacks_at : (flags : List Bool) (s t : Progress) (p : ℕ → Bool) (f : ℕ → Pointer) (index count : ℕ) (b : Bool) → index < count → b ≡ p index → Goes flags s t → Adds s.blocks t.blocks (addresses_where p f index)
-    → Lacks flags t (count_if b) → Lacks flags s (count_where p count)
-lacks_at flags s t p f index count b low is goes adds lacks =
+pub lacks_at : (free : FinSet nat_cmp) (s t : Progress) (p : ℕ → Bool) (f : ℕ → Pointer) (index count : ℕ) (b : Bool) → index < count → b ≡ p index → Goes free s t → Adds s.blocks t.blocks (addresses_where p f index)
+    → Lacks free t (count_if b) → Lacks free s (count_where p count)
+lacks_at free s t p f index count b low is goes adds lacks =
     let below = where_length p f index in
     let next : count_where p (index + 1) ≡ count_where p index + count_if b = where_more p index ∙ ap (λ (c : Bool). count_where p index + count_if c) (sym is) in
     let rest : count_where p (index + 1) ≤ count_where p count = where_grows p (index + 1) (count - (index + 1)) count (omega (arith, low)) in
-    lacks_behind flags s t (addresses_where p f index) (count_if b) (count_where p count) goes adds (omega (arith, below, next, rest)) lacks
+    lacks_behind free s t (addresses_where p f index) (count_if b) (count_where p count) goes adds (omega (arith, below, next, rest)) lacks
 
 -- the addresses of an object are as many as the places that it has to write
 object_length : (g : GroupChanges) (n : ℕ) (o : Option ObjectMap) → length (object_addresses g n o) ≡ object_blocks g n
@@ -141,13 +144,13 @@ module _ (R : ObjectId → ObjectId → Ordering) (less : (a b : ObjectId) → R
       (all_numbers (places_of_object g) count 0 count objects (omega arith) (rising_of R less 0 count objects (all_from_none R less (keys_of objects)) sorted within)
       (λ n low absent. nothing n absent))
 
-  pub lacks_object : (flags : List Bool) (s t : Progress) (g : GroupChanges) (maps : List ObjectMap) (planned : List (ObjectId × ObjectMap)) (count : ℕ) (objects done rest : List (ObjectId × ObjectChanges)) (e : ObjectId × ObjectChanges)
+  pub lacks_object : (free : FinSet nat_cmp) (s t : Progress) (g : GroupChanges) (maps : List ObjectMap) (planned : List (ObjectId × ObjectMap)) (count : ℕ) (objects done rest : List (ObjectId × ObjectChanges)) (e : ObjectId × ObjectChanges)
       → objects ≡ done ++ (e ∷ rest) → IsStrictlySortedBy R (keys_of objects) → ((n : ℕ) → is_some (entry_of objects n) ≡ true → n < count)
-      → ((n : ℕ) → entry_of objects n ≡ None → places_of_object g n ≡ []) → Goes flags s t
+      → ((n : ℕ) → entry_of objects n ≡ None → places_of_object g n ≡ []) → Goes free s t
       → Adds s.blocks t.blocks (flat_map (λ (x : ObjectId × ObjectChanges). object_addresses g x.0.0 (planned_map maps planned x.0.0)) done)
-      → Lacks flags t (object_blocks g e.0.0) → Lacks flags s (all_blocks g count)
+      → Lacks free t (object_blocks g e.0.0) → Lacks free s (all_blocks g count)
   unfolding object_blocks
-  lacks_object flags s t g maps planned count objects done rest e split sorted within nothing goes adds lacks =
+  lacks_object free s t g maps planned count objects done rest e split sorted within nothing goes adds lacks =
       let F : ObjectId × ObjectChanges → List ℕ = λ x. object_addresses g x.0.0 (planned_map maps planned x.0.0) in
       let G : ObjectId × ObjectChanges → List Place = λ x. places_of_object g x.0.0 in
       let all : length (flat_map G objects) ≡ all_blocks g count = entries_length count g objects sorted within nothing in
@@ -155,7 +158,7 @@ module _ (R : ObjectId → ObjectId → Ordering) (less : (a b : ObjectId) → R
       let sum : length (flat_map G objects) ≡ length (flat_map G done) + (length (G e) + length (flat_map G rest)) =
       ap (λ (l : List (ObjectId × ObjectChanges)). length (flat_map G l)) split ∙ ap (λ (l : List Place). length l) (flat_map-append G done (e ∷ rest))
       ∙ length-append (flat_map G done) (G e ++ flat_map G rest) ∙ ap (λ (k : ℕ). length (flat_map G done) + k) (length-append (G e) (flat_map G rest)) in
-      lacks_behind flags s t (flat_map F done) (length (G e)) (all_blocks g count) goes adds (omega (arith, all, before, sum)) lacks
+      lacks_behind free s t (flat_map F done) (length (G e)) (all_blocks g count) goes adds (omega (arith, all, before, sum)) lacks
 
 -- an object that no operation is on has no place that is written
 pub no_places : (objects : List (ObjectId × ObjectChanges)) (pointers : Place → Pointer) (after : FinMap nat_cmp (List ℕ)) (n : ℕ) → entry_of objects n ≡ None → places_of_object (group_of objects pointers after) n ≡ []
@@ -182,7 +185,7 @@ parts g written count directory_count b =
     last true = refl
     last false = refl
 
-module _ (flags : List Bool) (objects : List (ObjectId × ObjectChanges)) (pointers : Place → Pointer) (after : FinMap nat_cmp (List ℕ)) (within : AreInRange objects) where
+module _ (free : FinSet nat_cmp) (objects : List (ObjectId × ObjectChanges)) (pointers : Place → Pointer) (after : FinMap nat_cmp (List ℕ)) (within : AreInRange objects) where
   abbrev group : GroupChanges
   group = group_of objects pointers after
 
@@ -197,43 +200,43 @@ module _ (flags : List Bool) (objects : List (ObjectId × ObjectChanges)) (point
       ∙ ap (λ (t : Bool). all_blocks group 5292 + (length (filter (is_directory_dirty objects after) (range_with_len 0 84)) + count_if t)) (root-written objects pointers after within)
 
   -- the objects of a walk are refused, or its directories behind them, or its root behind these
-  pub objects_lack : (s : Progress) → Lacks flags s (all_blocks group 5292) → Lacks flags s all
-  objects_lack s lacks = let sum = tree_length in lacks_more flags s (all_blocks group 5292) all (omega (arith, sum)) lacks
+  pub objects_lack : (s : Progress) → Lacks free s (all_blocks group 5292) → Lacks free s all
+  objects_lack s lacks = let sum = tree_length in lacks_more free s (all_blocks group 5292) all (omega (arith, sum)) lacks
 
-  pub directories_lack : (s t : Progress) (map_of : ℕ → Option ObjectMap) → Goes flags s t → Adds s.blocks t.blocks (all_addresses group map_of 5292)
-      → Lacks flags t (count_where (is_directory_dirty objects after) 84) → Lacks flags s all
+  pub directories_lack : (s t : Progress) (map_of : ℕ → Option ObjectMap) → Goes free s t → Adds s.blocks t.blocks (all_addresses group map_of 5292)
+      → Lacks free t (count_where (is_directory_dirty objects after) 84) → Lacks free s all
   directories_lack s t map_of goes adds lacks =
       let sum = tree_length in
       let first = all_length group map_of 5292 in
-      lacks_behind flags s t (all_addresses group map_of 5292) (count_where (is_directory_dirty objects after) 84) all goes adds (omega (arith, sum, first)) lacks
+      lacks_behind free s t (all_addresses group map_of 5292) (count_where (is_directory_dirty objects after) 84) all goes adds (omega (arith, sum, first)) lacks
 
-  pub root_lacks : (r s t : Progress) (map_of : ℕ → Option ObjectMap) (directories : ℕ → Pointer) → Goes flags r s → Adds r.blocks s.blocks (all_addresses group map_of 5292)
-      → Goes flags s t → Adds s.blocks t.blocks (addresses_where (is_directory_dirty objects after) directories 84) → Lacks flags t (count_if (is_dirty (root_state objects after))) → Lacks flags r all
+  pub root_lacks : (r s t : Progress) (map_of : ℕ → Option ObjectMap) (directories : ℕ → Pointer) → Goes free r s → Adds r.blocks s.blocks (all_addresses group map_of 5292)
+      → Goes free s t → Adds s.blocks t.blocks (addresses_where (is_directory_dirty objects after) directories 84) → Lacks free t (count_if (is_dirty (root_state objects after))) → Lacks free r all
   root_lacks r s t map_of directories goes adds goes_on adds_more lacks =
       let sum = tree_length in
       let first = all_length group map_of 5292 in
       let second = where_length (is_directory_dirty objects after) directories 84 in
       let counted = length-append (all_addresses group map_of 5292) (addresses_where (is_directory_dirty objects after) directories 84) in
-      lacks_behind flags r t (all_addresses group map_of 5292 ++ addresses_where (is_directory_dirty objects after) directories 84) (count_if (is_dirty (root_state objects after))) all
+      lacks_behind free r t (all_addresses group map_of 5292 ++ addresses_where (is_directory_dirty objects after) directories 84) (count_if (is_dirty (root_state objects after))) all
       (goes_twice goes goes_on) (adds_twice r.blocks s.blocks t.blocks _ _ adds adds_more) (omega (arith, sum, first, second, counted)) lacks
 
 -- a plan begins with no block
-lacks_in_all : (flags : List Bool) (next : ℕ) (blocks : List NewBlock) (count : ℕ) → next ≡ 0 → blocks ≡ [] → (addresses_of blocks ++ free_from next flags ≡ addresses_from 0 flags → length (addresses_from 0 flags) < length blocks + count)
-    → length (addresses_from 0 flags) < count
-lacks_in_all flags next blocks count at_first none lacks =
-    let h = lacks (ap (λ (l : List NewBlock). addresses_of l ++ free_from next flags) none ∙ ap (λ (k : ℕ). free_from k flags) at_first) in
+lacks_in_all : (free : FinSet nat_cmp) (next : ℕ) (blocks : List NewBlock) (count : ℕ) → next ≡ 0 → blocks ≡ [] → (addresses_of blocks ++ free_from next free ≡ rising free → length (rising free) < length blocks + count)
+    → length (rising free) < count
+lacks_in_all free next blocks count at_first none lacks =
+    let h = lacks (ap (λ (l : List NewBlock). addresses_of l ++ free_from next free) none ∙ ap (λ (k : ℕ). free_from k free) at_first ∙ free_from-0 free) in
     let no_blocks : length blocks ≡ 0 = ap (λ (l : List NewBlock). length l) none in
     omega (arith, h, no_blocks)
 
-pub plan_lacks : (flags : List Bool) (next : ℕ) (blocks : List NewBlock) (g : GroupChanges) → next ≡ 0 → blocks ≡ []
-    → (addresses_of blocks ++ free_from next flags ≡ addresses_from 0 flags → length (addresses_from 0 flags) < length blocks + tree_blocks g)
-    → length (addresses_from 0 flags) < length (written_by g)
+pub plan_lacks : (free : FinSet nat_cmp) (next : ℕ) (blocks : List NewBlock) (g : GroupChanges) → next ≡ 0 → blocks ≡ []
+    → (addresses_of blocks ++ free_from next free ≡ rising free → length (rising free) < length blocks + tree_blocks g)
+    → length (rising free) < length (written_by g)
 unfolding tree_blocks
-plan_lacks flags next blocks g at_first none lacks = lacks_in_all flags next blocks _ at_first none lacks
+plan_lacks free next blocks g at_first none lacks = lacks_in_all free next blocks _ at_first none lacks
 
 -- a place that takes one block is refused for want of it
-pub lacks_here : (flags : List Bool) (s : Progress) (state : RecordState) → state ≡ Dirty → free_from s.next flags ≡ [] → Lacks flags s (count_if (is_dirty state))
-lacks_here flags s state is none = rw is (lacks_one flags s none)
+pub lacks_here : (free : FinSet nat_cmp) (s : Progress) (state : RecordState) → state ≡ Dirty → free_from s.next free ≡ [] → Lacks free s (count_if (is_dirty state))
+lacks_here free s state is none = rw is (lacks_one free s none)
 
 -- an error is handed on
 pub handed_on : {A : Type 0} (r : Result A PoolError) (x : PoolError) (P : PoolError → Type 0) → IsErrAnd r (λ e. e ≡ x) → P x → IfErr r P

@@ -9,6 +9,7 @@ use Rattle.std.specs.Ordering.{is_eq}
 use Rattle.std.specs.Ordering.{nat_cmp}
 use Rattle.std.specs.FinMap as finite
 use Rattle.std.specs.FinMap.{FinMap}
+use Rattle.std.specs.FinSet.{FinSet}
 use Rattle.std.proofs.lemmas.Bool.{eq-eqb, eqb-true}
 use Rattle.base.specs.declared.pointer.Pointer.{Pointer}
 use Rattle.base.specs.declared.names.ObjectId.{ObjectId}
@@ -35,8 +36,8 @@ some_either true a o e = refl
 some_either false a o (inl e) = absurd (cc)
 some_either false a o (inr e) = e
 
-module _ {flags : List Bool} {s t : Progress} (maps : List ObjectMap) (after : FinMap nat_cmp (List ℕ)) (objects : List (ObjectId × ObjectChanges)) where
-  pub from_stays : (n : ℕ) (m : ObjectMap) → Goes flags s t → IsPlannedFrom s maps after objects n m → IsPlannedFrom t maps after objects n m
+module _ {free : FinSet nat_cmp} {s t : Progress} (maps : List ObjectMap) (after : FinMap nat_cmp (List ℕ)) (objects : List (ObjectId × ObjectChanges)) where
+  pub from_stays : (n : ℕ) (m : ObjectMap) → Goes free s t → IsPlannedFrom s maps after objects n m → IsPlannedFrom t maps after objects n m
   from_stays n m g f = record {
     low = f.low;
     changes = f.changes;
@@ -47,7 +48,7 @@ module _ {flags : List Bool} {s t : Progress} (maps : List ObjectMap) (after : F
     length = f.length;
   }
 
-  pub objects_stay : (done : List (ObjectId × ObjectChanges)) (planned : List (ObjectId × ObjectMap)) → Goes flags s t → AreObjectsPlanned s maps after objects done planned → AreObjectsPlanned t maps after objects done planned
+  pub objects_stay : (done : List (ObjectId × ObjectChanges)) (planned : List (ObjectId × ObjectMap)) → Goes free s t → AreObjectsPlanned s maps after objects done planned → AreObjectsPlanned t maps after objects done planned
   objects_stay done planned g a = record { each = λ n m e. from_stays n m g (a.each n m e); all = a.all }
 
 -- an object that has no place in the tree is gone over
@@ -64,9 +65,9 @@ object_passed s maps after objects done planned id changes none a = record {
 }
 
 -- an object is planned
-pub object_put : {flags : List Bool} {s t : Progress} (maps : List ObjectMap) (after : FinMap nat_cmp (List ℕ)) (objects done : List (ObjectId × ObjectChanges)) (old new : List (ObjectId × ObjectMap)) (id : ObjectId) (changes : ObjectChanges) (m : ObjectMap)
-    → Goes flags s t → IsPut old id m new → IsPlannedFrom t maps after objects id.0 m → AreObjectsPlanned s maps after objects done old → AreObjectsPlanned t maps after objects (done ++ (id, changes) ∷ []) new
-object_put {flags} {s} {t} maps after objects done old new id changes m g put here a = record {
+pub object_put : {free : FinSet nat_cmp} {s t : Progress} (maps : List ObjectMap) (after : FinMap nat_cmp (List ℕ)) (objects done : List (ObjectId × ObjectChanges)) (old new : List (ObjectId × ObjectMap)) (id : ObjectId) (changes : ObjectChanges) (m : ObjectMap)
+    → Goes free s t → IsPut old id m new → IsPlannedFrom t maps after objects id.0 m → AreObjectsPlanned s maps after objects done old → AreObjectsPlanned t maps after objects (done ++ (id, changes) ∷ []) new
+object_put {free} {s} {t} maps after objects done old new id changes m g put here a = record {
   each = λ n other e. found n other (id.0 == n) refl (sym (put n) ∙ e);
   all = λ i other more at low. ap is_some (put other.0) ∙ some_either (id.0 == other.0) m (entry_of old other.0)
       (elim (push_cases done (id, changes) (other, more) i at) [
@@ -113,13 +114,13 @@ objects_free_put first freed released maps objects old new id changes was m put 
     ]
 
 -- directories
-pub directories_stay : {flags : List Bool} {s t : Progress} (maps : List ObjectMap) (planned : List (ObjectId × ObjectMap)) (after : FinMap nat_cmp (List ℕ)) (objects : List (ObjectId × ObjectChanges)) (old : List Pointer) (count : ℕ) (new : List Pointer)
-    → Goes flags s t → AreDirectoriesPlanned s maps planned after objects old count new → AreDirectoriesPlanned t maps planned after objects old count new
+pub directories_stay : {free : FinSet nat_cmp} {s t : Progress} (maps : List ObjectMap) (planned : List (ObjectId × ObjectMap)) (after : FinMap nat_cmp (List ℕ)) (objects : List (ObjectId × ObjectChanges)) (old : List Pointer) (count : ℕ) (new : List Pointer)
+    → Goes free s t → AreDirectoriesPlanned s maps planned after objects old count new → AreDirectoriesPlanned t maps planned after objects old count new
 directories_stay maps planned after objects old count new g each d low =
     become_stays (Directory d) (directory_state objects after d) (slice_index_or old d no_pointer) (slice_index_or new d no_pointer) (AreEntriesWritten maps planned after d 63) g (each d low)
 
-pub directories_push : {flags : List Bool} {s t : Progress} (maps : List ObjectMap) (planned : List (ObjectId × ObjectMap)) (after : FinMap nat_cmp (List ℕ)) (objects : List (ObjectId × ObjectChanges)) (old : List Pointer) (i : ℕ) (directories : List Pointer) (state : RecordState) (new : Pointer)
-    → Goes flags s t → length directories ≡ i → state ≡ directory_state objects after i → AreDirectoriesPlanned s maps planned after objects old i directories
+pub directories_push : {free : FinSet nat_cmp} {s t : Progress} (maps : List ObjectMap) (planned : List (ObjectId × ObjectMap)) (after : FinMap nat_cmp (List ℕ)) (objects : List (ObjectId × ObjectChanges)) (old : List Pointer) (i : ℕ) (directories : List Pointer) (state : RecordState) (new : Pointer)
+    → Goes free s t → length directories ≡ i → state ≡ directory_state objects after i → AreDirectoriesPlanned s maps planned after objects old i directories
     → IsDirectoryPlanned t maps planned after i state (slice_index_or old i no_pointer) new → AreDirectoriesPlanned t maps planned after objects old (i + 1) (directories ++ new ∷ [])
 directories_push {s = s} {t = t} maps planned after objects old i directories state new g long is each here =
     each_push (λ d p. IsDirectoryPlanned t maps planned after d (directory_state objects after d) (slice_index_or old d no_pointer) p) directories new no_pointer i long

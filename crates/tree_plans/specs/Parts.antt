@@ -17,7 +17,7 @@ use Rattle.checked_blocks.specs.Sealing.{padded}
 use Rattle.object_maps.specs.declared.tree.ObjectMap.{ObjectMap}
 use Rattle.object_maps.specs.ContentsShown.{contents_of}
 use Rattle.object_maps.specs.Pointers.{pointer_of_list}
-use Rattle.space.specs.declared.free_set.FreeSet.{FreeSet}
+use Rattle.space.specs.FreeSets.{FreeSpace}
 use Rattle.tree_plans.specs.declared.place.BlockPlace.{BlockPlace}
 use Rattle.tree_plans.specs.declared.place.RecordPlace.{RecordPlace}
 use Rattle.tree_plans.specs.declared.changes.ObjectChanges.{ObjectChanges}
@@ -37,12 +37,12 @@ abbrev pub blocks_of : Planner → List NewBlock
 blocks_of p = map new_block p.blocks.items
 
 -- what every part keeps: it takes the lowest free blocks, and what the plan has stays
-abbrev pub ExtendsPlan : FreeSet → Planner → Planner → Type 0
-ExtendsPlan free old new = Goes free.flags.items (progress_of old) (progress_of new)
+abbrev pub ExtendsPlan : FreeSpace → Planner → Planner → Type 0
+ExtendsPlan free old new = Goes free.free (progress_of old) (progress_of new)
 
 -- an error tells that the plan so far and so many blocks more are more than are free
-abbrev pub TellsLack : FreeSet → Planner → ℕ → PoolError → Type 0
-TellsLack free planner count e = e ≡ error.NoSpace → Lacks free.flags.items (progress_of planner) count
+abbrev pub TellsLack : FreeSpace → Planner → ℕ → PoolError → Type 0
+TellsLack free planner count e = e ≡ error.NoSpace → Lacks free.free (progress_of planner) count
 
 -- the objects that a source has after its group
 abbrev pub objects_after : PlanSource → FinMap nat_cmp (List ℕ)
@@ -60,7 +60,7 @@ abbrev pub group_in : PlanSource → List (ObjectId × ObjectChanges) → GroupC
 group_in source objects = group_of objects (pointers_before source.tree.now) (objects_after source)
 
 -- one block is taken: it stands at its place, and the one that it replaces comes back
-pub record TakesBlock (free : FreeSet) (place : BlockPlace) (payload : List ℕ) (replaced : Pointer) (old new : Planner) (pointer : Pointer) : Type 0 where
+pub record TakesBlock (free : FreeSpace) (place : BlockPlace) (payload : List ℕ) (replaced : Pointer) (old new : Planner) (pointer : Pointer) : Type 0 where
   pub goes : ExtendsPlan free old new
   pub written : IsWritten (progress_of new) (place_of place) replaced pointer (padded payload)
   pub frees : FreesOnly old.freed.items new.freed.items replaced
@@ -69,13 +69,13 @@ pub record TakesBlock (free : FreeSet) (place : BlockPlace) (payload : List ℕ)
 
 -- a place has no block any more: none is taken, and the one that it had comes back
 pub record ClearsPlace (replaced : Pointer) (old new : Planner) (pointer : Pointer) : Type 0 where
-  pub goes : (free : FreeSet) → ExtendsPlan free old new
+  pub goes : (free : FreeSpace) → ExtendsPlan free old new
   pub cleared : IsCleared (progress_of new) replaced pointer
   pub frees : FreesOnly old.freed.items new.freed.items replaced
   pub none_taken : new.blocks ≡ old.blocks
 
 -- a record of an object: it takes a block where it is dirty, and has none where it is a hole
-pub record PlansRecord (free : FreeSet) (place : RecordPlace) (bytes : List ℕ) (was : Pointer) (state : RecordState) (old new : Planner) (pointer : Pointer) : Type 0 where
+pub record PlansRecord (free : FreeSpace) (place : RecordPlace) (bytes : List ℕ) (was : Pointer) (state : RecordState) (old new : Planner) (pointer : Pointer) : Type 0 where
   pub goes : ExtendsPlan free old new
   pub planned : IsRecordPlanned (progress_of new) place.id.0 place.index bytes state was pointer
   pub frees : PlaceFrees old.freed.items new.freed.items state was
@@ -83,7 +83,7 @@ pub record PlansRecord (free : FreeSet) (place : RecordPlace) (bytes : List ℕ)
   pub adds : Adds (blocks_of old) (blocks_of new) (address_if (is_dirty state) pointer)
 
 -- the records of an object, rising
-pub record PlansRecords (free : FreeSet) (id : ObjectId) (bytes : List ℕ) (was : ObjectMap) (changes : ObjectChanges) (old new : Planner) (records : List Pointer) : Type 0 where
+pub record PlansRecords (free : FreeSpace) (id : ObjectId) (bytes : List ℕ) (was : ObjectMap) (changes : ObjectChanges) (old new : Planner) (records : List Pointer) : Type 0 where
   pub goes : ExtendsPlan free old new
   pub planned : AreRecordsPlanned (progress_of new) id.0 bytes changes was pointer_count records
   pub frees : RecordsFree old.freed.items new.freed.items changes was pointer_count
@@ -91,7 +91,7 @@ pub record PlansRecords (free : FreeSet) (id : ObjectId) (bytes : List ℕ) (was
   pub adds : Adds (blocks_of old) (blocks_of new) (addresses_where (is_dirty_in changes) (pointer_of_list records) pointer_count)
 
 -- the indirect block over these records
-pub record PlansIndirect (free : FreeSet) (id : ObjectId) (records : List Pointer) (was : Pointer) (is_changed : Bool) (old new : Planner) (pointer : Pointer) : Type 0 where
+pub record PlansIndirect (free : FreeSpace) (id : ObjectId) (records : List Pointer) (was : Pointer) (is_changed : Bool) (old new : Planner) (pointer : Pointer) : Type 0 where
   pub goes : ExtendsPlan free old new
   pub planned : IsIndirectPlanned (progress_of new) id.0 is_changed records was pointer
   pub frees : FreesOnly old.freed.items new.freed.items was
@@ -99,7 +99,7 @@ pub record PlansIndirect (free : FreeSet) (id : ObjectId) (records : List Pointe
   pub adds : Adds (blocks_of old) (blocks_of new) (address_if (is_dirty (indirect_state is_changed records)) pointer)
 
 -- an object: its records, and then its indirect block
-pub record PlansObject (free : FreeSet) (id : ObjectId) (object : Option (List ℕ)) (was : ObjectMap) (changes : ObjectChanges) (old new : Planner) (map : ObjectMap) : Type 0 where
+pub record PlansObject (free : FreeSpace) (id : ObjectId) (object : Option (List ℕ)) (was : ObjectMap) (changes : ObjectChanges) (old new : Planner) (map : ObjectMap) : Type 0 where
   pub goes : ExtendsPlan free old new
   pub planned : IsObjectPlanned (progress_of new) id.0 (unwrap_or object []) changes was map
   pub frees : ObjectFrees old.freed.items new.freed.items changes was

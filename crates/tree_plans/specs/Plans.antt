@@ -1,6 +1,8 @@
 -- What a plan of a sync has done so far, and what its steps do.
 use Rattle.std.specs.Prelude.{ℕ, ◌≡◌, ◌≢◌, ◌<◌, ◌⊎◌, ◌++◌, ◌&&◌, Bool, true, false, List, length, map, slice_get, slice_index_or, Some, if◌then◌else◌}
 use Rattle.std.specs.List.{list_any}
+use Rattle.std.specs.Ordering.{nat_cmp}
+use Rattle.std.specs.FinSet.{FinSet}
 use Rattle.base.specs.declared.error.PoolError.{PoolError}
 use Rattle.base.specs.declared.error.PoolError.TheVariants as error
 use Rattle.base.specs.declared.pointer.Pointer.{Pointer}
@@ -16,7 +18,8 @@ use Rattle.base.specs.tree.Places.Place.{Root as AtRoot, Directory as AtDirector
 use Rattle.base.specs.tree.PlacedTrees.{padded_record}
 use Rattle.base.specs.tree.PlannedTrees.{NewBlock, IsNewAt}
 use Rattle.base.specs.tree.Syncs.{has_block_after, is_dirty, record_numbers}
-use Rattle.space.specs.FreeSets.{addresses_from, free_from}
+use Rattle.base.specs.common.Rising.{rising}
+use Rattle.space.specs.FreeSets.{free_from}
 use Rattle.object_maps.specs.declared.tree.ObjectMap.{ObjectMap}
 use Rattle.tree_plans.specs.declared.changes.ObjectChanges.{ObjectChanges}
 use Rattle.tree_plans.specs.declared.planner.PlannedBlock.{PlannedBlock}
@@ -64,13 +67,13 @@ abbrev pub IsAmong : List ℕ → ℕ → Type 0
 IsAmong addresses address = (i : ℕ) × (slice_get addresses i ≡ Some address)
 
 -- the blocks have the lowest free addresses, and those from the next block on are left
-abbrev pub HasTaken : List Bool → Progress → Type 0
-HasTaken flags s = map (λ (b : NewBlock). b.address) s.blocks ++ free_from s.next flags ≡ addresses_from 0 flags
+abbrev pub HasTaken : FinSet nat_cmp → Progress → Type 0
+HasTaken free s = map (λ (b : NewBlock). b.address) s.blocks ++ free_from s.next free ≡ rising free
 
 -- a plan goes on: it takes the lowest free addresses, and what it has stays
-pub record Goes (flags : List Bool) (old new : Progress) : Type 0 where
+pub record Goes (free : FinSet nat_cmp) (old new : Progress) : Type 0 where
   pub frame : new.frame ≡ old.frame
-  pub taken : HasTaken flags old → HasTaken flags new
+  pub taken : HasTaken free old → HasTaken free new
   pub blocks : Keeps old.blocks new.blocks
   pub freed : Keeps old.freed new.freed
 

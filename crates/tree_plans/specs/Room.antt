@@ -3,18 +3,19 @@ use Rattle.std.specs.Prelude.{ℕ, ◌<◌, ◌+◌, Bool, List, length, filter,
 use Rattle.std.specs.List.{flat_map, range_with_len}
 use Rattle.std.specs.Ordering.{nat_cmp}
 use Rattle.std.specs.FinMap.{FinMap}
+use Rattle.std.specs.FinSet.{FinSet}
 use Rattle.object_maps.specs.declared.tree.ObjectMap.{ObjectMap}
 use Rattle.base.specs.declared.names.ObjectId.{ObjectId}
 use Rattle.base.specs.formats.Limits.{object_count, pointer_count}
 use Rattle.base.specs.tree.Syncs.{GroupChanges, places_of_object, written_by}
-use Rattle.space.specs.FreeSets.{addresses_from}
+use Rattle.base.specs.common.Rising.{rising}
 use Rattle.tree_plans.specs.declared.changes.ObjectChanges.{ObjectChanges}
 use Rattle.tree_plans.specs.Plans.{HasTaken, Progress, is_dirty_in, is_indirect_written_in}
 use Rattle.tree_plans.specs.Walks.{is_directory_dirty}
 
 -- the blocks of a plan so far and so many more are more than are free
-abbrev pub Lacks : List Bool → Progress → ℕ → Type 0
-Lacks flags s count = HasTaken flags s → length (addresses_from 0 flags) < length s.blocks + count
+abbrev pub Lacks : FinSet nat_cmp → Progress → ℕ → Type 0
+Lacks free s count = HasTaken free s → length (rising free) < length s.blocks + count
 
 -- one block if a test holds
 abbrev pub count_if : Bool → ℕ

@@ -13,8 +13,8 @@ use Rattle.base.specs.tree.PlacedTrees.{ArePlaced}
 use Rattle.base.specs.tree.PlannedTrees.{AreFreed, IsTreePlan, NewBlock}
 use Rattle.base.specs.tree.Syncs.{written_by}
 use Rattle.base.specs.formats.Fields.{no_pointer}
+use Rattle.base.specs.common.Rising.{rising}
 use Rattle.object_maps.specs.Lengths.{lengths_of}
-use Rattle.space.specs.FreeSets.{addresses_from}
 use Rattle.tree_plans.specs.declared.changes.ObjectChanges.{ObjectChanges}
 use Rattle.tree_plans.specs.declared.planner.PlannedBlock.{PlannedBlock}
 use Rattle.tree_plans.specs.declared.planner.TreePlan.{TreePlan}
@@ -31,7 +31,7 @@ places_written source objects = written_by (group_in source objects)
 
 -- the addresses of the free blocks of a source, rising
 abbrev pub free_addresses : PlanSource → List ℕ
-free_addresses source = addresses_from 0 source.free.now.flags.items
+free_addresses source = rising source.free.now.free
 
 -- the blocks of a plan are whole, and the lowest free ones: one for each place that is written, in the order of these places
 pub record TakesBlocks (source : PlanSource) (objects : BTreeMap ObjectId ObjectChanges) (plan : TreePlan) : Type 0 where

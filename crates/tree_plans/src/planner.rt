@@ -83,12 +83,12 @@ impl Planner {
     ) -> Result<Pointer, PoolError>
         requires place { IsPlace (place_of place) }
         requires payload { length payload.now ≤ 4032 }
-        requires free { vec_len free.now.flags ≡ block_count self.old.geometry }
+        requires free { free.now.blocks ≡ block_count self.old.geometry }
         ensures geometry { self.new.geometry ≡ self.old.geometry }
         ensures taken { IfOk result
             (TakesBlock free.now place payload.now replaced.now self.old self.new) }
         ensures full { IfErr result (λ e. e ≡ error.NoSpace
-            → free_from self.old.next free.now.flags.items ≡ []) }
+            → free_from self.old.next free.now.free ≡ []) }
         ensures refused { IfErr result IsWant }
     {
         let Some(index) = free.next_from(self.next) else {
@@ -130,7 +130,7 @@ impl Planner {
     ) -> Result<Pointer, PoolError>
         requires number { place.id.0 < 5292 }
         requires index { place.index < 84 }
-        requires free { vec_len free.now.flags ≡ block_count self.old.geometry }
+        requires free { free.now.blocks ≡ block_count self.old.geometry }
         ensures geometry { self.new.geometry ≡ self.old.geometry }
         ensures planned { IfOk result
             (PlansRecord free.now place bytes.now old.now state self.old self.new) }
@@ -159,7 +159,7 @@ impl Planner {
         changes: &ObjectChanges,
     ) -> Result<Vec<Pointer>, PoolError>
         requires number { id.0 < 5292 }
-        requires free { vec_len free.now.flags ≡ block_count self.old.geometry }
+        requires free { free.now.blocks ≡ block_count self.old.geometry }
         ensures geometry { self.new.geometry ≡ self.old.geometry }
         ensures count { IfOk result (λ records. vec_len records ≡ 84) }
         ensures planned { IfOk result (λ records.
@@ -189,7 +189,7 @@ impl Planner {
     ) -> Result<Pointer, PoolError>
         requires number { id.0 < 5292 }
         requires count { length records.now ≡ 84 }
-        requires free { vec_len free.now.flags ≡ block_count self.old.geometry }
+        requires free { free.now.blocks ≡ block_count self.old.geometry }
         ensures geometry { self.new.geometry ≡ self.old.geometry }
         ensures planned { IfOk result
             (PlansIndirect free.now id records.now old.now is_changed self.old self.new) }
@@ -213,7 +213,7 @@ impl Planner {
         changes: &ObjectChanges,
     ) -> Result<ObjectMap, PoolError>
         requires number { id.0 < 5292 }
-        requires free { vec_len free.now.flags ≡ block_count self.old.geometry }
+        requires free { free.now.blocks ≡ block_count self.old.geometry }
         ensures geometry { self.new.geometry ≡ self.old.geometry }
         ensures planned { IfOk result (PlansObject free.now id
             (option_map (λ b. b.now) object.entry) old.now changes.now self.old self.new) }

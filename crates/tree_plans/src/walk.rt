@@ -127,7 +127,7 @@ pub fn plan(
     source: &PlanSource<'_>,
     objects: &BTreeMap<ObjectId, ObjectChanges>,
 ) -> Result<TreePlan, PoolError>
-    requires { vec_len source.now.free.now.flags ≡ block_count source.now.geometry }
+    requires { source.now.free.now.blocks ≡ block_count source.now.geometry }
     ensures taken { IfOk result (TakesBlocks source.now objects.now) }
     ensures tree { IfOk result (MakesTree source.now objects.now) }
     ensures lengths { IfOk result (HasLengths source.now objects.now) }
@@ -170,7 +170,7 @@ fn place_tree(
     objects: &BTreeMap<ObjectId, ObjectChanges>,
 ) -> Result<NewTree, PoolError>
     requires geometry { planner.old.geometry ≡ source.now.geometry }
-    requires free { vec_len source.now.free.now.flags ≡ block_count source.now.geometry }
+    requires free { source.now.free.now.blocks ≡ block_count source.now.geometry }
     requires begun { HasNothing planner.old }
     ensures geometry { planner.new.geometry ≡ planner.old.geometry }
     ensures planned { IfOk result
@@ -198,7 +198,7 @@ fn place_root(
     directories: &[Pointer],
 ) -> Result<Pointer, PoolError>
     requires geometry { planner.old.geometry ≡ source.now.geometry }
-    requires free { vec_len source.now.free.now.flags ≡ block_count source.now.geometry }
+    requires free { source.now.free.now.blocks ≡ block_count source.now.geometry }
     requires count { length directories.now ≡ 84 }
     ensures geometry { planner.new.geometry ≡ planner.old.geometry }
     ensures planned { IfOk result
@@ -230,7 +230,7 @@ fn place_objects(
     objects: &BTreeMap<ObjectId, ObjectChanges>,
 ) -> Result<BTreeMap<ObjectId, ObjectMap>, PoolError>
     requires geometry { planner.old.geometry ≡ source.now.geometry }
-    requires free { vec_len source.now.free.now.flags ≡ block_count source.now.geometry }
+    requires free { source.now.free.now.blocks ≡ block_count source.now.geometry }
     ensures geometry { planner.new.geometry ≡ planner.old.geometry }
     ensures planned { IfOk result
         (PlansObjects source.now objects.now planner.old planner.new) }
@@ -256,7 +256,7 @@ fn place_changed(
     changes: &ObjectChanges,
 ) -> Result<(), PoolError>
     requires geometry { planner.old.geometry ≡ source.now.geometry }
-    requires free { vec_len source.now.free.now.flags ≡ block_count source.now.geometry }
+    requires free { source.now.free.now.blocks ≡ block_count source.now.geometry }
     ensures geometry { planner.new.geometry ≡ planner.old.geometry }
     ensures planned { OnOk result
         (GoesOver source.now id changes.now maps.old.entries planner.old planner.new maps.new.entries) }
@@ -283,7 +283,7 @@ fn place_directories(
     maps: &BTreeMap<ObjectId, ObjectMap>,
 ) -> Result<Vec<Pointer>, PoolError>
     requires geometry { planner.old.geometry ≡ source.now.geometry }
-    requires free { vec_len source.now.free.now.flags ≡ block_count source.now.geometry }
+    requires free { source.now.free.now.blocks ≡ block_count source.now.geometry }
     ensures geometry { planner.new.geometry ≡ planner.old.geometry }
     ensures count { IfOk result (λ directories. vec_len directories ≡ 84) }
     ensures planned { IfOk result (λ directories. PlansDirectories
@@ -313,7 +313,7 @@ fn place_directory(
     touched: bool,
 ) -> Result<Pointer, PoolError>
     requires geometry { planner.old.geometry ≡ source.now.geometry }
-    requires free { vec_len source.now.free.now.flags ≡ block_count source.now.geometry }
+    requires free { source.now.free.now.blocks ≡ block_count source.now.geometry }
     requires index { index < 84 }
     ensures geometry { planner.new.geometry ≡ planner.old.geometry }
     ensures planned { IfOk result

@@ -1,4 +1,4 @@
-use Rattle.std.proofs.Common.{◌≡◌, ◌+◌, ◌∙◌, refl, sym, subst, ap, ℕ, Bool, List, vec_len, arith}
+use Rattle.std.proofs.Common.{◌≡◌, ◌+◌, ◌∙◌, refl, sym, subst, ap, ℕ, Bool, List, arith}
 use Rattle.std.specs.Global.{Vec}
 use Rattle.object_maps.specs.declared.contents.Slot.{Slot}
 use Rattle.std.specs.Ordering.{nat_cmp}
@@ -13,11 +13,11 @@ use Rattle.base.specs.declared.error.PoolError.{PoolError}
 use Rattle.base.specs.declared.error.PoolError.TheVariants.{NoSpace}
 use Rattle.object_maps.specs.Pointers.{pointers_of}
 use Rattle.uberblocks.specs.Slots.{fields_of}
-use Rattle.space.specs.FreeSets.{free_of}
-use Rattle.import_replay.specs.FreeBlocks.{AreAllNamed, AreUnnamed, HasTakenLowest}
+use Rattle.import_replay.specs.FreeBlocks.{AreAllNamed, HasTakenLowest}
 use Rattle.import_replay.specs.ImportRefusals.{IsReadingRefusal, IsSyncRefusal}
 use Rattle.import_replay.specs.ImportStops.{IsOpenStopped, next_config, next_uberblock}
 use Rattle.import_replay.specs.LabelSyncs.{is_even}
+use Rattle.import_replay.proofs.FreeBlocks.{all_named, lowest_taken}
 use Rattle.import_replay.proofs.LabelCalls.{stopped_same}
 use Rattle.import_replay.proofs.MountedPools.{group-within, import-within, labels_same}
 use Rattle.import_replay.proofs.Reasons.{not_both, passed_on}
@@ -29,11 +29,8 @@ invariant_of-result-clause-tree_placed g c = ∣ c.requires.placed ∣₁
 pub returns-clause-mounted : goal.returns-clause-mounted
 returns-clause-mounted g c =
     let tree : Tree = c.args.loaded.tree in
-    let count = c.in_ok-free.ensures.count in
-    let free : FinSet nat_cmp = free_of c.in_ok-free.free.flags.items in
-    let taken : HasTakenLowest (pointers_of tree) (block_count c.args.geometry) (block_address c.in_ok-log_block.log_block) (free_of c.take_lowest.new.free.flags.items) =
-    subst (λ (n : ℕ). HasTakenLowest (pointers_of tree) n (block_address c.in_ok-log_block.log_block) (free_of c.take_lowest.new.free.flags.items)) count
-    (c.in_ok-log_block.ensures.taken (pointers_of tree) (subst (λ (n : ℕ). AreUnnamed (pointers_of tree) n free) (sym count) c.in_ok-free.ensures.free)) in
+    let taken : HasTakenLowest (pointers_of tree) (block_count c.args.geometry) (block_address c.in_ok-log_block.log_block) c.take_lowest.new.self.free =
+    rw c.in_ok-log_block.ensures.taken (lowest_taken (pointers_of tree) (block_count c.args.geometry) c.in_ok-free.free c.in_ok-log_block.log_block c.in_ok-free.ensures.free c.in_ok-log_block.ensures.lowest) in
     record {
       guid = refl;
       group = refl;
@@ -43,17 +40,15 @@ returns-clause-mounted g c =
       slots_are = ap (λ (v : Vec Slot). v.items) c.of.ensures.slots;
       tree_is = refl;
       limit = refl;
-      log = subst (λ (a : ℕ). HasTakenLowest (pointers_of tree) (block_count c.args.geometry) a (free_of c.take_lowest.new.free.flags.items)) (sym c.block_address.ensures.address) taken;
+      log = subst (λ (a : ℕ). HasTakenLowest (pointers_of tree) (block_count c.args.geometry) a c.take_lowest.new.self.free) (sym c.block_address.ensures.address) taken;
     }
 
 pub returns-in_err-log_block-clause-full : goal.returns-in_err-log_block-clause-full
 returns-in_err-log_block-clause-full g c =
     let tree : Tree = c.args.loaded.tree in
     let size : ℕ = block_count c.args.geometry in
-    let count : vec_len c.in_ok-free.free.flags ≡ size = c.in_ok-free.ensures.count in
-    let free : FinSet nat_cmp = free_of c.in_ok-free.free.flags.items in
-    let were : AreUnnamed (pointers_of tree) (vec_len c.in_ok-free.free.flags) free = subst (λ (n : ℕ). AreUnnamed (pointers_of tree) n free) (sym count) c.in_ok-free.ensures.free in
-    let named : AreAllNamed (pointers_of tree) size = subst (λ (n : ℕ). AreAllNamed (pointers_of tree) n) count (c.in_err-log_block.ensures.full (pointers_of tree) were) in
+    let none = c.in_err-log_block.ensures.refused.0 refl in
+    let named : AreAllNamed (pointers_of tree) size = all_named (pointers_of tree) size c.in_ok-free.free c.in_ok-free.ensures.free none in
     passed_on c.from_residual-in_err-log_block.result c.in_err-log_block.field-0.0 (λ (e : PoolError). e ≡ NoSpace → AreAllNamed (pointers_of tree) size)
     c.from_residual-in_err-log_block.ensures.1 (λ is. named)
 
@@ -102,12 +97,9 @@ returns-in_err-sync_labels-clause-stopped g c = λ keeps.
     let even : Bool = is_even c.args.found.first in
     let old = g.D.SectorDevice.disk c.args.device.now in
     let new = g.D.SectorDevice.disk c.sync_labels.new.device in
-    let count = c.in_ok-free.ensures.count in
-    let free : FinSet nat_cmp = free_of c.in_ok-free.free.flags.items in
-    let left : FinSet nat_cmp = free_of c.take_lowest.new.free.flags.items in
+    let left : FinSet nat_cmp = c.take_lowest.new.self.free in
     let taken : HasTakenLowest (pointers_of tree) (block_count size) (block_address c.in_ok-log_block.log_block) left =
-    subst (λ (n : ℕ). HasTakenLowest (pointers_of tree) n (block_address c.in_ok-log_block.log_block) left) count
-    (c.in_ok-log_block.ensures.taken (pointers_of tree) (subst (λ (n : ℕ). AreUnnamed (pointers_of tree) n free) (sym count) c.in_ok-free.ensures.free)) in
+    rw c.in_ok-log_block.ensures.taken (lowest_taken (pointers_of tree) (block_count size) c.in_ok-free.free c.in_ok-log_block.log_block c.in_ok-free.ensures.free c.in_ok-log_block.ensures.lowest) in
     let config : Config = next_config u name size in
     passed_on c.from_residual-in_err-sync_labels.result x (λ (e : PoolError). IsSyncRefusal e → IsOpenStopped size u name tree c.args.moment even e old new) c.from_residual-in_err-sync_labels.ensures.1
     (λ is. record {

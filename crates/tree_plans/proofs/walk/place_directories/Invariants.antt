@@ -13,7 +13,7 @@ invariant-loop-index l = record {
   count : vec_len l.directories ≡ l.index;
   room : 84 ≤ vec_capacity l.directories;
   kept : l.objects.entries ≡ [] → l.planner ≡ l.fn.planner;
-  goes : Goes l.source.free.now.flags.items (progress_of l.fn.planner) (progress_of l.planner);
+  goes : Goes l.source.free.now.free (progress_of l.fn.planner) (progress_of l.planner);
   planned : AreDirectoriesPlanned (progress_of l.planner) l.source.tree.now.maps.items l.maps.entries (contents_of l.source.contents.now).objects l.objects.entries l.source.tree.now.directories.items l.index l.directories.items;
   frees : DirectoriesFree l.fn.planner.freed.items l.planner.freed.items l.objects.entries (contents_of l.source.contents.now).objects l.source.tree.now.directories.items l.index;
   uses : PointersUse (progress_of l.fn.planner).blocks (progress_of l.planner).blocks l.directories.items l.index;

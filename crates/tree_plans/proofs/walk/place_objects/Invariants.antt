@@ -17,7 +17,7 @@ invariant-loop-id l = record {
   ends : (goal.iterator-loop-id).is_finite l.id-iterator;
   geometry : l.planner.geometry ≡ l.fn.planner.geometry;
   kept : l.objects.entries ≡ [] → l.planner ≡ l.fn.planner;
-  goes : Goes l.source.free.now.flags.items (progress_of l.fn.planner) (progress_of l.planner);
+  goes : Goes l.source.free.now.free (progress_of l.fn.planner) (progress_of l.planner);
   done : List (ObjectId × ObjectChanges);
   split : l.objects.entries ≡ done ++ l.id-iterator;
   planned : AreObjectsPlanned (progress_of l.planner) l.source.tree.now.maps.items (contents_of l.source.contents.now).objects l.objects.entries done l.maps.entries;

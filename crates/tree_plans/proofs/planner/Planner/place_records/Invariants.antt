@@ -10,7 +10,7 @@ invariant-loop-index l = record {
   geometry : l.self.geometry ≡ l.fn.self.geometry;
   count : vec_len l.records ≡ l.index;
   room : 84 ≤ vec_capacity l.records;
-  goes : Goes l.free.flags.items (progress_of l.fn.self) (progress_of l.self);
+  goes : Goes l.free.free (progress_of l.fn.self) (progress_of l.self);
   planned : AreRecordsPlanned (progress_of l.self) l.id.0 l.bytes l.changes l.old l.index l.records.items;
   frees : RecordsFree l.fn.self.freed.items l.self.freed.items l.changes l.old l.index;
   uses : PointersUse (progress_of l.fn.self).blocks (progress_of l.self).blocks l.records.items l.index;

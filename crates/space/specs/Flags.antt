@@ -1,0 +1,38 @@
+-- The free blocks by a flag for each, and what the fields of a free set stand for.
+use Rattle.std.specs.Prelude.{ℕ, ◌≡◌, ◌≤◌, ◌<◌, ◌+◌, ◌*◌, Bool, true, false, List, [], ◌∷◌, get_or, length, vec_len}
+use Rattle.std.specs.Ordering.{nat_cmp}
+use Rattle.std.specs.FinSet as set
+use Rattle.std.specs.FinSet.{FinSet}
+use Rattle.base.specs.formats.Geometry.{block_address}
+use Rattle.space.specs.FreeSets.{FreeSpace}
+use Rattle.space.specs.declared.free_set.FreeSet.TheInside.{Inside}
+
+-- the addresses of the free ones of blocks from this index on
+unfoldable pub addresses_from : ℕ → List Bool → List ℕ
+addresses_from k [] = []
+addresses_from k (true ∷ flags) = block_address k ∷ addresses_from (k + 1) flags
+addresses_from k (false ∷ flags) = addresses_from (k + 1) flags
+
+abbrev pub free_of : List Bool → FinSet nat_cmp
+free_of flags = set.from_list (addresses_from 0 flags)
+
+-- none of the blocks of a range of indices is free
+abbrev pub AreTaken : ℕ → ℕ → List Bool → Type 0
+AreTaken low high flags = (k : ℕ) → low ≤ k → k < high → get_or flags k false ≡ false
+
+-- the first free block from an index on
+pub record IsFirstFree (first : ℕ) (flags : List Bool) (block : ℕ) : Type 0 where
+  pub from : first ≤ block
+  pub within : block < length flags
+  pub free : get_or flags block false ≡ true
+  pub lowest : AreTaken first block flags
+
+abbrev pub space_of : Inside → FreeSpace
+space_of a = record { blocks = vec_len a.flags; free = free_of a.flags.items; reserved = a.reserved; taken = a.taken }
+
+-- the count and the hint are right, and the counts of blocks fit
+pub record IsKept (a : Inside) : Type 0 where
+  pub count : a.free ≡ set.len (free_of a.flags.items)
+  pub hint : AreTaken 0 a.hint a.flags.items
+  pub taken : a.taken ≤ vec_len a.flags
+  pub reserved : a.reserved ≤ 2 * vec_len a.flags
