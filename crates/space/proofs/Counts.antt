@@ -1,5 +1,5 @@
 -- How many blocks of flags are free.
-use Rattle.std.proofs.Common.{◌≡◌, ℕ, zero, suc, ◌+◌, ◌-◌, ◌*◌, ◌<◌, ◌≤◌, Bool, true, false, List, [], ◌∷◌, length, get_or, refl, sym, ◌∙◌, ap, arith}
+use Rattle.std.proofs.Common.{◌≡◌, ℕ, zero, suc, ◌+◌, ◌-◌, ◌<◌, ◌≤◌, Bool, true, false, List, [], ◌∷◌, length, get_or, refl, sym, ◌∙◌, ap, arith}
 use Rattle.std.specs.Prelude.{replicate}
 use Rattle.std.specs.Ordering.{nat_cmp}
 use Rattle.std.proofs.Math.ListN.{set as list_set}
@@ -63,5 +63,5 @@ one_taken flags i low is =
     omega (arith, after, room, same)
 
 -- what is reserved is not more than the free blocks and the taken ones
-pub reserve_fits : (free reserved taken count blocks : ℕ) → count ≤ available_of free reserved taken → free ≤ blocks → taken ≤ blocks → reserved ≤ 2 * blocks → reserved + count ≤ 2 * blocks
-reserve_fits free reserved taken count blocks fits within few kept = omega (arith, fits, within, few, kept)
+pub reserve_fits : (free reserved taken count blocks most : ℕ) → count ≤ available_of free reserved taken → free ≤ blocks → taken ≤ most → reserved ≤ blocks + most → reserved + count ≤ blocks + most
+reserve_fits free reserved taken count blocks most fits within few kept = omega (arith, fits, within, few, kept)

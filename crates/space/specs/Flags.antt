@@ -1,10 +1,10 @@
 -- The free blocks by a flag for each, and what the fields of a free set stand for.
-use Rattle.std.specs.Prelude.{ℕ, ◌≡◌, ◌≤◌, ◌<◌, ◌+◌, ◌*◌, Bool, true, false, List, [], ◌∷◌, get_or, length, vec_len}
+use Rattle.std.specs.Prelude.{ℕ, ◌≡◌, ◌≤◌, ◌<◌, ◌+◌, Bool, true, false, List, [], ◌∷◌, get_or, length, vec_len}
 use Rattle.std.specs.Ordering.{nat_cmp}
 use Rattle.std.specs.FinSet as set
 use Rattle.std.specs.FinSet.{FinSet}
 use Rattle.base.specs.formats.Geometry.{block_address}
-use Rattle.space.specs.FreeSets.{FreeSpace}
+use Rattle.space.specs.FreeSets.{FreeSpace, most_taken}
 use Rattle.space.specs.declared.free_set.FreeSet.TheInside.{Inside}
 
 -- the addresses of the free ones of blocks from this index on
@@ -30,9 +30,9 @@ pub record IsFirstFree (first : ℕ) (flags : List Bool) (block : ℕ) : Type 0 
 abbrev pub space_of : Inside → FreeSpace
 space_of a = record { blocks = vec_len a.flags; free = free_of a.flags.items; reserved = a.reserved; taken = a.taken }
 
--- the count and the hint are right, and the counts of blocks fit
+-- the count and the hint are right, and a reservation that fits the available blocks fits beside the others
 pub record IsKept (a : Inside) : Type 0 where
   pub count : a.free ≡ set.len (free_of a.flags.items)
   pub hint : AreTaken 0 a.hint a.flags.items
-  pub taken : a.taken ≤ vec_len a.flags
-  pub reserved : a.reserved ≤ 2 * vec_len a.flags
+  pub taken : a.taken ≤ most_taken
+  pub reserved : a.reserved ≤ vec_len a.flags + most_taken

@@ -1,5 +1,5 @@
 -- The free blocks of a pool, with what is reserved of them, and what each call makes of them.
-use Rattle.std.specs.Prelude.{ℕ, ◌≡◌, refl, ◌+◌, ◌-◌, ◌/◌, ◌<◌, ◌≤◌, ◌↔◌, IsTrue, Bool, true, false, List, [], ◌∷◌, filter, take, nat_le, nat_lt}
+use Rattle.std.specs.Prelude.{ℕ, ◌≡◌, refl, ◌+◌, ◌-◌, ◌/◌, ◌^◌, ◌<◌, ◌≤◌, ◌↔◌, IsTrue, Bool, true, false, List, [], ◌∷◌, filter, take, nat_le, nat_lt}
 use Rattle.std.specs.Coded.{Coded, code_by, coded×, coded_ℕ}
 use Rattle.std.specs.Ordering.{nat_cmp}
 use Rattle.std.specs.FinSet as set
@@ -36,6 +36,10 @@ HasAllOf blocks free = (address : ℕ) → IsTrue (set.contains free address) �
 -- each free address is that of a block
 abbrev pub AreBlocks : FreeSpace → Type 0
 AreBlocks s = (address : ℕ) → IsTrue (set.contains s.free address) → IsBlockAddress s.blocks address
+
+-- a sync takes fewer blocks than this: no list has as many
+abbrev pub most_taken : ℕ
+most_taken = 2 ^ 63
 
 -- nothing is reserved, and no group is syncing
 pub record IsIdle (s : FreeSpace) : Type 0 where

@@ -11,7 +11,7 @@
 ghost use Rattle.std.specs.Prelude.{◌≡◌, ◌+◌, ◌<◌, ◌≤◌, ◌∷◌, [], ◌↔◌, IsErr, IsTrue, IfErr, IfNone, IfOk, IfSome, OnErr, OnOk, false, get_or, length};
 ghost use Rattle.std.specs.FinSet as set;
 ghost use Rattle.base.specs.formats.Geometry.{block_address};
-ghost use Rattle.space.specs.FreeSets.{AreBlocks, AreNotFree, HasAllOf, IsIdle, IsLowestFree, after_give, after_reserve, after_sync_end, after_sync_take, after_take, after_unreserve, available_in, free_from, is_free, is_short};
+ghost use Rattle.space.specs.FreeSets.{AreBlocks, AreNotFree, HasAllOf, IsIdle, IsLowestFree, after_give, after_reserve, after_sync_end, after_sync_take, after_take, after_unreserve, available_in, free_from, is_free, is_short, most_taken};
 ghost use Rattle.space.specs.Flags.{AreTaken, IsFirstFree};
 
 use base::PoolError;
@@ -180,7 +180,7 @@ impl FreeSet {
 
     /// The syncing group takes the block. It is counted as taken until the sync has ended. It takes no memory.
     pub fn take_for_sync(&mut self, block: usize)
-        requires room { self.old.taken < self.old.blocks }
+        requires room { self.old.taken < most_taken }
         ensures { self.new ≡ after_sync_take block self.old }
     {
         self.take(block);

@@ -1,17 +1,18 @@
-use Rattle.std.proofs.Common.{◌≤◌, ◌+◌, ◌*◌, vec_len, arith}
+use Rattle.std.proofs.Common.{◌≤◌, ◌+◌, vec_len, arith}
 use Rattle.std.specs.FinSet as set
 use Rattle.base.specs.steps.Charges.{available_of}
+use Rattle.space.specs.FreeSets.{most_taken}
 use Rattle.space.specs.Flags.{free_of}
 use Rattle.space.proofs.Counts.{free_of-le, reserve_fits}
 use Rattle.space.proofs.free_set.FreeSet.reserve.Goals as goal
 
-fits : (c : goal.Else-kept_back-available) → c.self.inside.reserved + c.args.count ≤ 2 * vec_len c.self.inside.flags
+fits : (c : goal.Else-kept_back-available) → c.self.inside.reserved + c.args.count ≤ vec_len c.self.inside.flags + most_taken
 fits c =
     let inside = c.self.inside in
     let few = free_of-le inside.flags.items in
     let asked : c.args.count ≤ available_of (set.len (free_of inside.flags.items)) inside.reserved inside.taken =
     (let count = rw (← c.self.view_is) at c.available-available.ensures.count in let low = c.if-count-available.false in omega (arith, count, low)) in
-    reserve_fits (set.len (free_of inside.flags.items)) inside.reserved inside.taken c.args.count (vec_len inside.flags) asked
+    reserve_fits (set.len (free_of inside.flags.items)) inside.reserved inside.taken c.args.count (vec_len inside.flags) most_taken asked
     (omega (arith, few, inside.flags.ok.0)) c.self.invariant.taken c.self.invariant.reserved
 
 pub overflow_add-self : goal.overflow_add-self
