@@ -161,12 +161,30 @@ const FULL_OBJECT: Row = Row {
     answers: "ok\nsynced 8 open 9 records 0\nlock 0\ntx 0 group 9\nentry 0 group 9\nok\nrefused 11 BadRange\nlength 338688\n",
 };
 
-/// The flush of a sync is refused, and each later step but the name is refused as suspended.
+/// The flush of a sync is refused, and each later step but the name and the status is refused as suspended.
 const SUSPENDED: Row = Row {
     size: SIZE,
-    script: "create tank 77\nimport 1048576\nlock 1 1 w 0 338688\nbegin 1 c:1\ncommit 0\nclose\nquiesce\nstart\nfail flush 1\nfinish\nlength 1\ndigest\nappend 1 1\nstep\nname\n",
+    script: "create tank 77\nimport 1048576\nlock 1 1 w 0 338688\nbegin 1 c:1\ncommit 0\nclose\nquiesce\nstart\nfail flush 1\nfinish\nlength 1\ndigest\nappend 1 1\nstep\nname\nstatus\n",
     status: 0,
-    answers: "ok\nsynced 8 open 9 records 0\nlock 0\ntx 0 group 9\nentry 0 group 9\nopen 10\nquiesced 9\nsyncing 9\nok\nrefused 4 Flush\nrefused 5 Suspended\nrefused 5 Suspended\nrefused 5 Suspended\nrefused 5 Suspended\nname tank\n",
+    answers: "ok\nsynced 8 open 9 records 0\nlock 0\ntx 0 group 9\nentry 0 group 9\nopen 10\nquiesced 9\nsyncing 9\nok\nrefused 4 Flush\nrefused 5 Suspended\nrefused 5 Suspended\nrefused 5 Suspended\nrefused 5 Suspended\nname tank\nsynced 8 syncing 9 middle - open 10 dirty 8192 free 893 available 893\n",
+};
+
+/// With a limit of 40,960 bytes two writes of one record are charged 16,384 each, a third is refused, and a create of 8,192
+/// reaches the limit.
+const CHARGES: Row = Row {
+    size: SIZE,
+    script: "create tank 77\nimport 40960\nstatus\nlock 1 1 w 0 4\nlock 1 2 w 0 4\nlock 1 3 w 0 4\nlock 1 4 w 0 338688\nbegin 1 w:1:0:4\nbegin 1 w:2:0:4\nbegin 1 w:3:0:4\nbegin 1 c:4\nstatus\n",
+    status: 0,
+    answers: "ok\nsynced 8 open 9 records 0\nsynced 8 syncing - middle - open 9 dirty 0 free 895 available 895\nlock 0\nlock 1\nlock 2\nlock 3\ntx 0 group 9\ntx 1 group 9\nrefused 17 Throttled\ntx 2 group 9\nsynced 8 syncing - middle - open 9 dirty 40960 free 895 available 885\n",
+};
+
+/// A write across two records is charged five blocks until its group is synced. An object that is removed gives all its
+/// blocks back, with those of the tree.
+const REMOVES: Row = Row {
+    size: SIZE,
+    script: "create tank 77\nimport 1048576\nlock 1 1 w 0 338688\nbegin 1 c:1 w:1:4030:4\nstatus\ncommit 0 abcd\nstatus\nsync\nstatus\nbegin 1 d:1\ncommit 1\nlength 1\nsync\nstatus\ncrash\nimport 1048576\nlength 1\n",
+    status: 0,
+    answers: "ok\nsynced 8 open 9 records 0\nlock 0\ntx 0 group 9\nsynced 8 syncing - middle - open 9 dirty 28672 free 895 available 888\nentry 0 group 9\nsynced 8 syncing - middle - open 9 dirty 28672 free 895 available 888\nsynced 9\nsynced 9 syncing - middle - open 10 dirty 0 free 890 available 890\ntx 1 group 10\nentry 1 group 10\nrefused 9 NoObject\nsynced 10\nsynced 10 syncing - middle - open 11 dirty 0 free 895 available 895\ncrashed 0\nsynced 14 open 15 records 0\nrefused 9 NoObject\n",
 };
 
 /// A device without a pool fails as planned, once, and a call is not planned to fail as the 0th.
@@ -204,6 +222,16 @@ fn prints_the_answers_of_whole_scripts(rt: HostRuntime) -> Result<(), Fail> {
 #[test]
 fn tells_lengths_digests_and_the_name(rt: HostRuntime) -> Result<(), Fail> {
     for row in [APPENDS, DIGESTS, FULL_OBJECT, SUSPENDED] {
+        let (status, text) = run(rt.alloc(), &row)?;
+        assert_eq!(rt; text.as_str(), row.answers);
+        assert_eq!(rt; status, row.status);
+    }
+    Ok(())
+}
+
+#[test]
+fn charges_reserves_and_removes(rt: HostRuntime) -> Result<(), Fail> {
+    for row in [CHARGES, REMOVES] {
         let (status, text) = run(rt.alloc(), &row)?;
         assert_eq!(rt; text.as_str(), row.answers);
         assert_eq!(rt; status, row.status);
