@@ -20,13 +20,13 @@ use Rattle.base.specs.steps.Steps.{transactions_without}
 use Rattle.pool_core.specs.Meets.{Meets, MayCommit}
 use Rattle.object_maps.specs.Ops.{AreOpsAllowed, IsOpAllowed}
 
--- operations that create and write give the pool no name
+-- operations that give no new name give no bad one
 names_none : (o : Op) → IsOpAllowed o → gives_bad_name o ≡ false
 names_none (op.Create n) h = refl
 names_none (op.Remove n) h = refl
 names_none (op.Write n offset bytes) h = refl
 names_none (op.SetLength n new) h = refl
-names_none (op.SetName bytes) h = absurd (let no_way : false ≡ true = h.0 in cc)
+names_none (op.SetName bytes) h = absurd (let no_way : true ≡ false = h.0 in cc)
 
 pub no_names : (ops : List Op) → AreOpsAllowed ops → list_any gives_bad_name ops ≡ false
 no_names ops all = list_any_none gives_bad_name ops (λ k d below. names_none _ (all k d below))

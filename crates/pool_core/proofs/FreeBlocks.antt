@@ -1,10 +1,10 @@
 -- Blocks that are taken from the free ones, or come back to them, one after another.
-use Rattle.std.proofs.Common.{◌≡◌, ℕ, ◌+◌, ◌-◌, ◌/◌, ◌%◌, ◌<◌, ◌≤◌, Bool, true, false, not, ◌&&◌, ◌||◌, List, [], ◌∷◌, ◌++◌, length, map, take, refl, sym, ◌∙◌, ap, subst, arith, nat_le, nat_lt}
+use Rattle.std.proofs.Common.{◌≡◌, ℕ, ◌+◌, ◌-◌, ◌/◌, ◌%◌, ◌<◌, ◌≤◌, Bool, true, false, not, ◌&&◌, ◌||◌, List, [], ◌∷◌, ◌++◌, length, map, take, refl, sym, ◌∙◌, ap, subst, arith, nat_le, nat_lt, add-zero}
 use Rattle.std.specs.Prelude.{All, get_or, ◌==◌}
 use Rattle.std.specs.List.{list_any}
 use Rattle.std.specs.Ordering.{nat_cmp, eq_by_cmp}
 use Rattle.std.proofs.Math.Nat.{div-add-mod}
-use Rattle.std.proofs.lemmas.List.{take_more, map-append}
+use Rattle.std.proofs.lemmas.List.{length-append, length-map, length-take-le, take_more, map-append}
 use Rattle.std.proofs.lemmas.List.Folds.{list_any-append}
 use Rattle.std.proofs.lemmas.Cmp.{nat_cmp_total}
 use Rattle.std.proofs.Math.Logic.{∥∥₁_elim}
@@ -13,13 +13,14 @@ use Rattle.std.proofs.lemmas.Bool.{and_from, and_parts, eq-eqb, eqb-true, le-leb
 use Rattle.std.specs.FinSet as set
 use Rattle.std.specs.FinSet.{FinSet, contains-empty, contains-insert, contains-remove, contains-from_list, contains-difference, contains-union, same_set, nat_cmp-IsAntisymmetric}
 use Rattle.base.specs.formats.Geometry.{IsBlockAddress, block_address, block_area, block_size}
+use Rattle.space.specs.FreeSets.{FreeSpace, after_give, after_sync_take}
 use Rattle.tree_plans.specs.declared.planner.PlannedBlock.{PlannedBlock}
 use Rattle.base.specs.tree.PlacedTrees.{ArePlaced, IsPlaced}
 use Rattle.object_maps.specs.declared.tree.Tree.{Tree}
 use Rattle.object_maps.specs.Pointers as kept
 use Rattle.tree_plans.specs.Pointers as plans
 use Rattle.tree_plans.specs.Plans.{address_of}
-use Rattle.pool_core.specs.Areas.{is_block_of}
+use Rattle.pool_core.specs.Areas.{after_gives, after_sync_takes, is_block_of}
 use Rattle.pool_core.proofs.PlannedPointers.{same_tree}
 
 and_true : (b : Bool) → (b && true) ≡ b
@@ -79,22 +80,39 @@ union_more s xs x = same_set nat_cmp_total nat_cmp-IsAntisymmetric _ _ (λ q.
 pub front_more : {A : Type 0} (xs : List A) (i : ℕ) (x : A) → i < length xs → x ≡ get_or xs i x → take (i + 1) xs ≡ take i xs ++ x ∷ []
 front_more {A} xs i x low is = take_more xs i x low ∙ ap (λ (y : A). take i xs ++ y ∷ []) (sym is)
 
-pub taken_more : (first old new : FinSet nat_cmp) (blocks : List PlannedBlock) (i : ℕ) (b : PlannedBlock) → i < length blocks → b ≡ get_or blocks i b
-    → old ≡ set.difference first (set.from_list (map address_of (take i blocks))) → new ≡ set.remove old (block_address b.index)
-    → new ≡ set.difference first (set.from_list (map address_of (take (i + 1) blocks)))
-taken_more first old new blocks i b low is so_far now =
-    let front : map address_of (take (i + 1) blocks) ≡ map address_of (take i blocks) ++ block_address b.index ∷ [] =
-    ap (map address_of) (front_more blocks i b low is) ∙ map-append address_of (take i blocks) (b ∷ []) in
-    now ∙ ap (λ (s : FinSet nat_cmp). set.remove s (block_address b.index)) so_far
-    ∙ difference_more first (map address_of (take i blocks)) (block_address b.index)
-    ∙ ap (λ (l : List ℕ). set.difference first (set.from_list l)) (sym front)
+-- a sync that starts has taken none yet, and one more each time
+pub none_taken : (s : FreeSpace) → s ≡ after_sync_takes [] s
+none_taken s = λ k. record s { free = difference_none s.free k; taken = sym (add-zero s.taken) k }
 
-pub given_more : (first old new : FinSet nat_cmp) (addresses : List ℕ) (i k : ℕ) → i < length addresses → block_address k ≡ get_or addresses i 0
-    → old ≡ set.union first (set.from_list (take i addresses)) → new ≡ set.insert old (block_address k)
-    → new ≡ set.union first (set.from_list (take (i + 1) addresses))
+pub taken_more : (first old new : FreeSpace) (blocks : List PlannedBlock) (i : ℕ) (b : PlannedBlock) → i < length blocks → b ≡ get_or blocks i b
+    → old ≡ after_sync_takes (map address_of (take i blocks)) first → new ≡ after_sync_take b.index old
+    → new ≡ after_sync_takes (map address_of (take (i + 1) blocks)) first
+taken_more first old new blocks i b low is so_far now =
+    let before : List ℕ = map address_of (take i blocks) in
+    let front : map address_of (take (i + 1) blocks) ≡ before ++ address_of b ∷ [] =
+    ap (map address_of) (front_more blocks i b low is) ∙ map-append address_of (take i blocks) (b ∷ []) in
+    let count : first.taken + length before + 1 ≡ first.taken + length (before ++ address_of b ∷ []) = omega (arith, length-append before (address_of b ∷ [])) in
+    now ∙ ap (after_sync_take b.index) so_far
+    ∙ (λ k. record first { free = difference_more first.free before (address_of b) k; taken = count k })
+    ∙ ap (λ (l : List ℕ). after_sync_takes l first) (sym front)
+
+-- where none was taken before, it took as many as went before
+pub taken_so_far : (first old : FreeSpace) (blocks : List PlannedBlock) (i : ℕ) → i < length blocks → first.taken ≡ 0 → old ≡ after_sync_takes (map address_of (take i blocks)) first → old.taken ≡ i
+taken_so_far first old blocks i low none so_far =
+    let count : length (map address_of (take i blocks)) ≡ i = length-map (take i blocks) address_of ∙ length-take-le i blocks (omega (arith, low)) in
+    omega (arith, none, count, ap (λ (s : FreeSpace). s.taken) so_far)
+
+-- of addresses none has come back yet, and one more each time
+pub none_given : (s : FreeSpace) → s ≡ after_gives [] s
+none_given s = λ k. record s { free = union_none s.free k }
+
+pub given_more : (first old new : FreeSpace) (addresses : List ℕ) (i k : ℕ) → i < length addresses → block_address k ≡ get_or addresses i 0
+    → old ≡ after_gives (take i addresses) first → new ≡ after_give k old → new ≡ after_gives (take (i + 1) addresses) first
 given_more first old new addresses i k low at so_far now =
     let a = get_or addresses i 0 in
-    now ∙ (λ j. set.insert (so_far j) (at j)) ∙ union_more first (take i addresses) a ∙ ap (λ (l : List ℕ). set.union first (set.from_list l)) (sym (take_more addresses i 0 low))
+    now ∙ (λ j. record (so_far j) { free = set.insert (so_far j).free (at j) })
+    ∙ (λ j. record first { free = union_more first.free (take i addresses) a j })
+    ∙ ap (λ (l : List ℕ). after_gives l first) (sym (take_more addresses i 0 low))
 
 -- what passes the test is the address of a block
 pub block_of : (blocks address : ℕ) → is_block_of blocks address ≡ true → IsBlockAddress blocks address

@@ -4,6 +4,7 @@ pub mod Mapped
 pub mod Closes
 pub mod LockSteps
 pub mod BeginTests
+pub mod Charges
 pub mod CommitTests
 pub mod Flags
 pub mod CommitSteps

@@ -8,8 +8,10 @@ use Rattle.base.specs.declared.step.Step.TheVariants as step
 use Rattle.base.specs.declared.step.Reply.{Reply}
 use Rattle.base.specs.declared.step.Reply.TheVariants as reply
 use Rattle.base.specs.declared.refused.RefusedCalls.{RefusedCalls}
+use Rattle.base.specs.declared.status.Status.{Status}
 use Rattle.base.specs.disk.Calls.{counted}
 use Rattle.base.specs.steps.Runs.{Replies, is_start, progress_reply, reply_of}
+use Rattle.base.specs.steps.Shown.{status_of}
 use Rattle.base.specs.steps.Stage as stage
 use Rattle.base.specs.steps.Steps as steps
 use Rattle.base.specs.steps.Steps.{Answers, State}
@@ -137,3 +139,9 @@ pub name_step : {Dev : Type 0} {G : Ghosts Dev} {state : PoolState Dev G} (name 
 name_step name is =
     plain_step {s = step.Name} {Does = λ answer x y. Answers None answer x y (λ name. steps.Name name x y) steps.Never} {make = λ name. reply.Name name} {answer = Ok name}
     (Ok (reply.Name name)) (λ r x y h. h) refl (λ b. refl) (λ r d. d) (λ past. (past, (is, refl))) (read_moves_nothing (record { device = refl; own = λ calls. refl })) refl
+
+-- and the status
+pub status_step : {Dev : Type 0} {G : Ghosts Dev} {state : PoolState Dev G} (status : Status) → status ≡ status_of (shown state) → MakesStep step.Status (reply.Status status) state state
+status_step status is =
+    plain_step {s = step.Status} {Does = λ answer x y. Answers None answer x y (λ status. steps.Status status x y) steps.Never} {make = λ status. reply.Status status} {answer = Ok status}
+    (Ok (reply.Status status)) (λ r x y h. h) refl (λ b. refl) (λ r d. d) (λ past. (past, (is, refl))) (read_moves_nothing (record { device = refl; own = λ calls. refl })) refl

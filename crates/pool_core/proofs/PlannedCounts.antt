@@ -1,5 +1,5 @@
 -- The places that the sync of a group writes, told by the changes of its plan: it takes one block for each, in their order.
-use Rattle.std.proofs.Common.{◌≡◌, ℕ, ◌≤◌, Bool, List, [], length, map, refl, ap, sym, subst, ◌∙◌, arith}
+use Rattle.std.proofs.Common.{◌≡◌, ℕ, ◌<◌, ◌≤◌, Bool, true, List, [], length, map, refl, ap, sym, subst, ◌∙◌, arith}
 use Rattle.std.specs.Prelude.{Some, None, Ok, ◌==◌, not}
 use Rattle.std.proofs.lemmas.List.{length-map}
 use Rattle.base.specs.declared.names.ObjectId.{ObjectId}
@@ -24,6 +24,7 @@ use Rattle.base.proofs.steps.WaitingGroups.{synced-contents}
 use Rattle.base.proofs.tree.Estimates.{syncs_fit}
 use Rattle.base.proofs.tree.PlacedTrees.{pointers-told}
 use Rattle.base.proofs.tree.WrittenPlaces.{written-places}
+use Rattle.object_maps.specs.declared.tree.ObjectMap.{ObjectMap}
 use Rattle.tree_plans.specs.declared.planner.Committed.{Committed}
 use Rattle.tree_plans.specs.declared.changes.ObjectChanges.{ObjectChanges}
 use Rattle.tree_plans.specs.Changes.{group_of, names_block}
@@ -34,15 +35,15 @@ use Rattle.pool_core.proofs.PlannedGroups.{follows, in_range, ops_are, states_ar
 
 -- Whatever the device holds, and from whichever pointers it is planned.
 module _ (s : Shown) (p : Past) (explained : IsExplainedNow s p) (group : ℕ) (idle : s.line.syncing ≡ None) (middle : s.line.middle ≡ Some (record { group = group; quiesced = true })) (no_log : s.log.kept ≡ [])
-    (pending : List Committed) (log : s.log.pending ≡ map shown_record pending) (pointers : Place → Pointer) where
+    (pending : List Committed) (log : s.log.pending ≡ map shown_record pending) (maps : List ObjectMap) (pointers : Place → Pointer) where
   -- the places that are written are those that the changes tell
-  pub places_told : (objects : List (ObjectId × ObjectChanges)) → AreChangesOf (pending_ops group pending) [] objects → (synced : Contents) → replay (entries_up_to s.line.synced p.entries) p.base ≡ Ok synced
+  pub places_told : (objects : List (ObjectId × ObjectChanges)) → AreChangesOf (pending_ops group pending) maps objects → (synced : Contents) → replay (entries_up_to s.line.synced p.entries) p.base ≡ Ok synced
       → (had : Place → Bool) → ((n r : ℕ) → n < object_count → r < pointer_count → names_block (pointers (Data n r)) ≡ had (Data n r))
       → written_places (ops_of_group group p.entries) synced had ≡ written_by (group_of objects pointers s.contents.objects)
   places_told objects changes synced replayed had same =
       ap (λ (ops : List Op). written_places ops synced had) (ops_are s p explained group idle middle no_log pending log)
       ∙ written-places (group_of objects pointers s.contents.objects) (pending_ops group pending) synced s.contents had (follows s p explained group idle middle no_log pending log synced replayed) (record {
-        states = λ n r low below. states_are s p explained group idle middle no_log pending log synced replayed objects changes n r below;
+        states = λ n r low below. states_are s p explained group idle middle no_log pending log synced replayed maps objects changes n r below;
         blocks = same;
         changed = λ n low. changes.changed n;
         touched = λ n low. changes.there n;
@@ -57,40 +58,40 @@ module _ (s : Shown) (p : Past) (explained : IsExplainedNow s p) (group : ℕ) (
   synced_now = synced-contents s p explained
 
   -- they are as many as some operations write
-  count_told : (objects : List (ObjectId × ObjectChanges)) → AreChangesOf (pending_ops group pending) [] objects
+  count_told : (objects : List (ObjectId × ObjectChanges)) → AreChangesOf (pending_ops group pending) maps objects
       → length (written_places (ops_of_group group p.entries) synced_now.0 named) ≡ length (written_by (group_of objects pointers s.contents.objects))
   count_told objects changes = ap (λ (l : List Place). length l) (places_told objects changes synced_now.0 synced_now.1 named (λ n r low below. refl))
 
   -- a plan takes no more blocks than the operations are estimated at
-  pub taken_fit : (new : Place → Pointer) (bs : List NewBlock) → IsPlannedGroup group pending (frame_at s group) pointers new bs s.contents.objects
+  pub taken_fit : (new : Place → Pointer) (bs : List NewBlock) → IsPlannedGroup group pending maps (frame_at s group) pointers new bs s.contents.objects
       → length bs ≤ estimate_of (map shape_of (ops_of_group group p.entries))
   taken_fit new bs from =
       let each : length bs ≡ length (written_by (group_of from.objects pointers s.contents.objects)) =
       sym (length-map bs (λ (b : NewBlock). b.address))
-      ∙ ap (λ (l : List ℕ). length l) (from.order (in_range s p explained group idle middle no_log pending log from.objects from.changes))
+      ∙ ap (λ (l : List ℕ). length l) (from.order (in_range s p explained group idle middle no_log pending log maps from.objects from.changes))
       ∙ length-map (written_by (group_of from.objects pointers s.contents.objects)) (λ (place : Place). (new place).address) in
       subst (λ (n : ℕ). n ≤ estimate_of (map shape_of (ops_of_group group p.entries))) (count_told from.objects from.changes ∙ sym each)
       (syncs_fit (ops_of_group group p.entries) synced_now.0 named)
 
   -- and with what is reserved for the group no plan is short of blocks
-  pub enough_blocks : (free : List ℕ) → length free ≡ free_count s → IsShortOfBlocks group pending pointers s.contents.objects free → ⊥
+  pub enough_blocks : (free : List ℕ) → length free ≡ free_count s → IsShortOfBlocks group pending maps pointers s.contents.objects free → ⊥
   enough_blocks free counted short =
       let quiesced : quiesced_group s.line ≡ Some group = rw middle refl in
       let room = syncs_have_room (record { shown = s; past = p }) group synced_now.0 named explained.exact.groups explained.exact.sync
       (record { charges = explained.exact.charges; blocks = explained.exact.blocks }) idle quiesced in
       let written = count_told short.objects short.changes in
-      let fewer = short.fewer (in_range s p explained group idle middle no_log pending log short.objects short.changes) in
+      let fewer = short.fewer (in_range s p explained group idle middle no_log pending log maps short.objects short.changes) in
       omega (arith, room, written, fewer, counted)
 
 module _ (now : List ℕ) (s : Shown) (p : Past) (pointers : Place → Pointer) (x : IsStored now s pointers p) (explained : IsExplainedNow s p) (group : ℕ) (idle : s.line.syncing ≡ None)
     (middle : s.line.middle ≡ Some (record { group = group; quiesced = true })) (pending : List Committed) (log : s.log.pending ≡ map shown_record pending)
-    (new : Place → Pointer) (bs : List NewBlock) (plan : SyncPlan) (from : IsPlannedGroup group pending (frame_at s group) pointers new bs s.contents.objects) (taken : map (λ (b : NewBlock). b.address) bs ≡ plan.taken) where
+    (maps : List ObjectMap) (new : Place → Pointer) (bs : List NewBlock) (plan : SyncPlan) (from : IsPlannedGroup group pending maps (frame_at s group) pointers new bs s.contents.objects) (taken : map (λ (b : NewBlock). b.address) bs ≡ plan.taken) where
   -- the places that the sync of the group writes
   abbrev pub places : List Place
   places = written_places (ops_of_group group p.entries) x.synced (has_block now s.root)
 
   places_are : places ≡ written_by (group_of from.objects pointers s.contents.objects)
-  places_are = places_told s p explained group idle middle x.no_log pending log pointers from.objects from.changes x.synced x.replayed (has_block now s.root)
+  places_are = places_told s p explained group idle middle x.no_log pending log maps pointers from.objects from.changes x.synced x.replayed (has_block now s.root)
       (λ n r low below. ap (λ (q : Pointer). not (q.address == 0)) (sym (pointers-told now (frame_at s s.line.synced) pointers x.synced.objects x.tree (Data n r) (low, below)))
       ∙ ap (λ (q : Pointer). has_block now q (Data n r)) x.root)
 
@@ -98,7 +99,7 @@ module _ (now : List ℕ) (s : Shown) (p : Past) (pointers : Place → Pointer) 
   pub takes_in_order : map (λ (place : Place). (new place).address) places ≡ plan.taken
   takes_in_order =
       ap (λ (ps : List Place). map (λ (place : Place). (new place).address) ps) places_are
-      ∙ sym (from.order (in_range s p explained group idle middle x.no_log pending log from.objects from.changes)) ∙ taken
+      ∙ sym (from.order (in_range s p explained group idle middle x.no_log pending log maps from.objects from.changes)) ∙ taken
 
   -- so it takes one for each
   pub takes_for_each : TakesForEach now (record { shown = s; past = p }) group plan

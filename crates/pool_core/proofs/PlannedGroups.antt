@@ -33,6 +33,7 @@ use Rattle.base.proofs.tree.WrittenPlaces.{group-numbers, group-ranges}
 use Rattle.base.proofs.common.Sequences.{in_turn-append, parted}
 use Rattle.base.proofs.steps.WaitingGroups.{All-passing, entry-built, group-follows, next-group}
 use Rattle.base.proofs.stored.StoredTrees.{stored-births}
+use Rattle.object_maps.specs.declared.tree.ObjectMap.{ObjectMap}
 use Rattle.tree_plans.specs.declared.planner.Committed.{Committed}
 use Rattle.tree_plans.specs.declared.changes.ObjectChanges.{ObjectChanges}
 use Rattle.tree_plans.specs.Changes.{AreBornBefore, AreChanges, AreInRange, AreTreePointers, IsCoveredBy, is_changed_in, state_in}
@@ -142,8 +143,8 @@ module _ (s : Shown) (p : Past) (explained : IsExplainedNow s p) (group : ℕ) (
   within = subst (λ (ops : List Op). All IsRange (ranges ops)) ops_are (group-ranges s p explained group)
 
   -- each object that operations are on is in range
-  pub in_range : (objects : List (ObjectId × ObjectChanges)) → AreChangesOf (pending_ops group pending) [] objects → AreInRange objects
-  in_range objects changes n is = group-numbers s p explained group n (ap (λ (ops : List Op). list_any (is_on n) ops) ops_are ∙ sym (changes.there n) ∙ is)
+  pub in_range : (maps : List ObjectMap) (objects : List (ObjectId × ObjectChanges)) → AreChangesOf (pending_ops group pending) maps objects → AreInRange objects
+  in_range maps objects changes n is = group-numbers s p explained group n (ap (λ (ops : List Op). list_any (is_on n) ops) ops_are ∙ sym (changes.there n) ∙ is)
 
   module _ (synced : Contents) (replayed : replay (entries_up_to s.line.synced p.entries) p.base ≡ Ok synced) where
     -- they lead from the synced contents to those of now
@@ -151,9 +152,9 @@ module _ (s : Shown) (p : Past) (explained : IsExplainedNow s p) (group : ℕ) (
     follows = subst (λ (ops : List Op). apply_all ops synced ≡ Ok s.contents) ops_are (flat_replay (entries_in group p.entries) synced s.contents (group-follows s p explained group idle middle synced replayed))
 
     -- each record is in the state that the definitions give it
-    pub states_are : (objects : List (ObjectId × ObjectChanges)) → AreChangesOf (pending_ops group pending) [] objects
+    pub states_are : (maps : List ObjectMap) (objects : List (ObjectId × ObjectChanges)) → AreChangesOf (pending_ops group pending) maps objects
         → (n r : ℕ) → r < pointer_count → state_in objects n r ≡ record_state n r (pending_ops group pending) synced Unchanged
-    states_are objects changes n r below = changes.states synced s.contents follows within n r below (λ sets. absurd (sets_none n (pending_ops group pending) built sets))
+    states_are maps objects changes n r below = changes.states synced s.contents follows within n r below (λ sets. absurd (sets_none n (pending_ops group pending) built sets))
 
 -- and of its plan, with what the device holds
 module _ (now : List ℕ) (s : Shown) (p : Past) (pointers : Place → Pointer) (x : IsStored now s pointers p) (explained : IsExplainedNow s p) (group : ℕ) (idle : s.line.syncing ≡ None)
@@ -161,9 +162,9 @@ module _ (now : List ℕ) (s : Shown) (p : Past) (pointers : Place → Pointer) 
   leads : apply_all (pending_ops group pending) x.synced ≡ Ok s.contents
   leads = follows s p explained group idle middle x.no_log pending log x.synced x.replayed
 
-  module _ (objects : List (ObjectId × ObjectChanges)) (changes : AreChangesOf (pending_ops group pending) [] objects) where
+  module _ (maps : List ObjectMap) (objects : List (ObjectId × ObjectChanges)) (changes : AreChangesOf (pending_ops group pending) maps objects) where
     in_state : (n r : ℕ) → r < pointer_count → state_in objects n r ≡ record_state n r (pending_ops group pending) x.synced Unchanged
-    in_state = states_are s p explained group idle middle x.no_log pending log x.synced x.replayed objects changes
+    in_state = states_are s p explained group idle middle x.no_log pending log x.synced x.replayed maps objects changes
 
     covered : IsCoveredBy objects pointers x.synced.objects s.contents.objects
     covered = record {
@@ -204,11 +205,11 @@ module _ (now : List ℕ) (s : Shown) (p : Past) (pointers : Place → Pointer) 
       omega (arith, next, birth)
 
   -- what is planned is a sync from the stored tree to the contents
-  pub planned_sync : (new : Place → Pointer) (bs : List NewBlock) (plan : SyncPlan) → IsPlannedGroup group pending (frame_at s group) pointers new bs s.contents.objects
+  pub planned_sync : (maps : List ObjectMap) (new : Place → Pointer) (bs : List NewBlock) (plan : SyncPlan) → IsPlannedGroup group pending maps (frame_at s group) pointers new bs s.contents.objects
       → map (λ (b : NewBlock). b.address) bs ≡ plan.taken → ((i : ℕ) (b : NewBlock) → slice_get bs i ≡ Some b → length b.content ≡ 4096) → (AreBornBefore group pointers → AreFreed pointers new plan.freed)
       → AreUsed bs new → new Root ≡ plan.root → IsPlannedSync (frame_at s group) pointers new bs x.synced.objects s.contents.objects plan
-  planned_sync new bs plan from taken whole freed used root = record {
-    planned = from.planned x.synced.objects (covered from.objects from.changes) (group_is from.objects from.changes) (of_tree from.objects from.changes);
+  planned_sync maps new bs plan from taken whole freed used root = record {
+    planned = from.planned x.synced.objects (covered maps from.objects from.changes) (group_is maps from.objects from.changes) (of_tree maps from.objects from.changes);
     taken = taken;
     whole = whole;
     freed = freed born_before;

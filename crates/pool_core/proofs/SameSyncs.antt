@@ -1,9 +1,10 @@
 -- A sync that goes on as it was.
-use Rattle.std.proofs.Common.{◌≡◌, ◌∙◌, ◌<◌, ◌+◌, ◌-◌, ◌⊎◌, inl, inr, ℕ, false, List, map, vec_len, ap, sym, subst, arith}
+use Rattle.std.proofs.Common.{◌≡◌, ◌∙◌, ◌<◌, ◌+◌, ◌-◌, ◌⊎◌, inl, inr, ℕ, false, List, length, map, vec_len, ap, sym, subst, arith}
 use Rattle.std.proofs.Math.Logic.{∥∥₁_map}
 use Rattle.std.proofs.lemmas.Bool.{cases_lt, true≢false}
 use Rattle.std.specs.Prelude.{Option, Some, is_some}
 use Rattle.std.specs.Global.{Vec}
+use Rattle.std.specs.Option.{option_map_or}
 use Rattle.base.specs.declared.error.PoolError.{PoolError}
 use Rattle.base.specs.declared.error.PoolError.TheVariants as error
 use Rattle.base.specs.declared.pointer.Pointer.{Pointer}
@@ -65,6 +66,13 @@ one_left old new same done last = let count = same_count old new same in omega a
 -- the blocks that it writes lie where they did
 pub same_taken : (old new : SyncRun) → SameSync old new → map (λ (b : PlannedBlock). block_address b.index) new.blocks.items ≡ map (λ (b : PlannedBlock). block_address b.index) old.blocks.items
 same_taken old new same = ap (λ (v : Vec PlannedBlock). map (λ (b : PlannedBlock). block_address b.index) v.items) same.blocks
+
+-- and are as many
+abbrev pub taken_count : Option RunningSync → ℕ
+taken_count sync = option_map_or (λ (r : RunningSync). length r.run.blocks.items) sync 0
+
+pub same_taken_count : (sync : Option RunningSync) (r : RunningSync) (new : SyncRun) → SameSync r.run new → sync ≡ Some r → taken_count sync ≡ length new.blocks.items
+same_taken_count sync r new same is = ap taken_count is ∙ ap (λ (v : Vec PlannedBlock). length v.items) (sym same.blocks)
 
 -- and its uberblock is the one that it was
 pub same_uberblock : (old new : SyncRun) → SameSync old new → (u : Fields) → WritesUberblock u old → WritesUberblock u new

@@ -1,9 +1,10 @@
 -- The start of a sync, with what is planned of its tree.
-use Rattle.std.proofs.Common.{◌≡◌, ◌≤◌, ℕ, List, [], ◌∷◌, length, map, refl, ap, sym, subst, ◌∙◌}
-use Rattle.std.specs.Prelude.{Some, slice_get}
+use Rattle.std.proofs.Common.{◌≡◌, ◌≤◌, ◌+◌, ℕ, false, arith, List, [], ◌∷◌, length, map, refl, ap, sym, subst, ◌∙◌}
+use Rattle.std.specs.Prelude.{Option, Some, is_some, slice_get}
 use Rattle.std.specs.BTreeMap.{BTreeMap}
 use Rattle.std.specs.Global.{Vec}
 use Rattle.std.proofs.lemmas.List.{length-map}
+use Rattle.base.specs.common.Rising.{rising}
 use Rattle.base.specs.declared.names.ObjectId.{ObjectId}
 use Rattle.base.specs.declared.pointer.Pointer.{Pointer}
 use Rattle.base.specs.history.Past.{Past}
@@ -20,6 +21,7 @@ use Rattle.object_maps.specs.declared.tree.ObjectMap.{ObjectMap}
 use Rattle.object_maps.specs.declared.tree.Tree.{Tree}
 use Rattle.object_maps.specs.ContentsShown.{contents_of}
 use Rattle.object_maps.specs.Pointers.{pointers_of}
+use Rattle.space.proofs.FreeLists.{length-rising}
 use Rattle.tree_plans.specs.declared.planner.PlannedBlock.{PlannedBlock}
 use Rattle.tree_plans.specs.Changes.{AreBornBefore}
 use Rattle.tree_plans.specs.Plans.{address_of, new_block}
@@ -30,6 +32,8 @@ use Rattle.pool_core.specs.Holds.{held_with, new_tree_of, pool_told}
 use Rattle.pool_core.specs.Lines.{MayStart}
 use Rattle.pool_core.specs.Pointers.{pointers_after}
 use Rattle.pool_core.specs.Shows.{new_plan, pool_shown}
+use Rattle.pool_core.proofs.Flags.{is_some-map}
+use Rattle.pool_core.proofs.SameSyncs.{taken_count}
 use Rattle.pool_core.proofs.PlannedCounts.{enough_blocks, taken_fit, takes_for_each, takes_in_order}
 use Rattle.pool_core.proofs.PlannedGroups.{planned_sync}
 
@@ -44,10 +48,22 @@ pub nothing_made : (tree : Tree) (r : RunningSync) (root : Pointer) (directories
 nothing_made tree r root directories maps blocks root_is directories_are maps_are blocks_are none =
     λ k. record { pointers = pointers_after (root_is k) (directories_are k).items (maps_are k) tree; blocks = map new_block (blocks_are k).items; slot = r.run.uberblock; done = none k }
 
+-- the blocks that it writes are those of its plan
+pub blocks_kept : (r : RunningSync) (planned : Vec PlannedBlock) (told : List PlannedBlock) → r.run.blocks ≡ planned → told ≡ r.run.blocks.items → told ≡ planned.items
+blocks_kept r planned told kept is = is ∙ ap (λ (v : Vec PlannedBlock). v.items) kept
+
+-- where no sync runs none is counted as taken, so those that it takes are all
+pub none_counted : (pool : Pool) → is_some pool.groups.line.syncing ≡ false → pool.free.taken ≡ 0
+none_counted pool idle =
+    pool.free_taken ∙ ap taken_count (none_there pool.sync (sym (is_some-map (λ (r : RunningSync). r.group.0) pool.sync) ∙ ap (λ (o : Option ℕ). is_some o) pool.sync_line ∙ idle))
+
+pub taken_anew : (pool : Pool) (blocks : List PlannedBlock) → is_some pool.groups.line.syncing ≡ false → pool.free.taken + length (map address_of blocks) ≡ length blocks
+taken_anew pool blocks idle = omega (arith, none_counted pool idle, length-map blocks address_of)
+
 -- what the plan of a group says is what a start of its sync asks, with each past
 pub group_planned : (now : List ℕ) (past : Past) (pool : Pool) (group moment : ℕ) (blocks : List PlannedBlock) (freed : List ℕ) (root : Pointer) (directories : List Pointer) (maps : BTreeMap ObjectId ObjectMap)
     → MayStart group pool.groups.line
-    → IsPlannedGroup group pool.pending.items (frame_at (pool_shown pool) group) (pointers_of pool.tree) (pointers_after root directories maps pool.tree) (map new_block blocks) (contents_of pool.contents).objects
+    → IsPlannedGroup group pool.pending.items pool.tree.maps.items (frame_at (pool_shown pool) group) (pointers_of pool.tree) (pointers_after root directories maps pool.tree) (map new_block blocks) (contents_of pool.contents).objects
     → (AreBornBefore group (pointers_of pool.tree) → AreFreed (pointers_of pool.tree) (pointers_after root directories maps pool.tree) freed)
     → AreUsed (map new_block blocks) (pointers_after root directories maps pool.tree) → ((i : ℕ) (b : NewBlock) → slice_get (map new_block blocks) i ≡ Some b → length b.content ≡ 4096)
     → (x : IsHeld (held_with (pool_told pool now) past))
@@ -55,39 +71,39 @@ pub group_planned : (now : List ℕ) (past : Past) (pool : Pool) (group moment :
     (new_plan moment pool.log_address (map address_of blocks) freed root)
 group_planned now past pool group moment blocks freed root directories maps may planned freed_are used whole x =
     planned_sync now (pool_shown pool) past (pointers_of pool.tree) x.kept.stored x.explained group (none_there pool.groups.line.syncing may.1) (quiesced_is pool.groups.line group may.0)
-    pool.pending.items refl (pointers_after root directories maps pool.tree) (map new_block blocks) (new_plan moment pool.log_address (map address_of blocks) freed root)
+    pool.pending.items refl pool.tree.maps.items (pointers_after root directories maps pool.tree) (map new_block blocks) (new_plan moment pool.log_address (map address_of blocks) freed root)
     planned (addresses_are blocks) whole freed_are used refl
 
 -- what a started sync takes is what its tree has at the places that it writes, in order
 module _ (now : List ℕ) (past : Past) (pool : Pool) (group moment : ℕ) (blocks : List PlannedBlock) (freed : List ℕ) (root : Pointer) (directories : List Pointer) (maps : BTreeMap ObjectId ObjectMap)
     (may : MayStart group pool.groups.line)
-    (planned : IsPlannedGroup group pool.pending.items (frame_at (pool_shown pool) group) (pointers_of pool.tree) (pointers_after root directories maps pool.tree) (map new_block blocks) (contents_of pool.contents).objects)
+    (planned : IsPlannedGroup group pool.pending.items pool.tree.maps.items (frame_at (pool_shown pool) group) (pointers_of pool.tree) (pointers_after root directories maps pool.tree) (map new_block blocks) (contents_of pool.contents).objects)
     (x : IsHeld (held_with (pool_told pool now) past)) where
   abbrev pub plan : SyncPlan
   plan = new_plan moment pool.log_address (map address_of blocks) freed root
 
   pub group_takes : map (λ (place : Place). (pointers_after root directories maps pool.tree place).address) (written_places (ops_of_group group past.entries) x.kept.stored.synced (has_block now (pool_shown pool).root)) ≡ plan.taken
   group_takes =
-      takes_in_order now (pool_shown pool) past (pointers_of pool.tree) x.kept.stored x.explained group (none_there pool.groups.line.syncing may.1) (quiesced_is pool.groups.line group may.0) pool.pending.items refl
+      takes_in_order now (pool_shown pool) past (pointers_of pool.tree) x.kept.stored x.explained group (none_there pool.groups.line.syncing may.1) (quiesced_is pool.groups.line group may.0) pool.pending.items refl pool.tree.maps.items
       (pointers_after root directories maps pool.tree) (map new_block blocks) plan planned (addresses_are blocks)
 
   pub group_takes_each : TakesForEach now (record { shown = pool_shown pool; past = past }) group plan
   group_takes_each =
-      takes_for_each now (pool_shown pool) past (pointers_of pool.tree) x.kept.stored x.explained group (none_there pool.groups.line.syncing may.1) (quiesced_is pool.groups.line group may.0) pool.pending.items refl
+      takes_for_each now (pool_shown pool) past (pointers_of pool.tree) x.kept.stored x.explained group (none_there pool.groups.line.syncing may.1) (quiesced_is pool.groups.line group may.0) pool.pending.items refl pool.tree.maps.items
       (pointers_after root directories maps pool.tree) (map new_block blocks) plan planned (addresses_are blocks)
 
 -- Whatever the device holds: it takes no more blocks than its operations are estimated at.
 pub group_fits : (past : Past) (pool : Pool) (group : ℕ) (blocks : List PlannedBlock) (new : Place → Pointer) → MayStart group pool.groups.line → IsExplainedNow (pool_shown pool) past
-    → IsPlannedGroup group pool.pending.items (frame_at (pool_shown pool) group) (pointers_of pool.tree) new (map new_block blocks) (contents_of pool.contents).objects
+    → IsPlannedGroup group pool.pending.items pool.tree.maps.items (frame_at (pool_shown pool) group) (pointers_of pool.tree) new (map new_block blocks) (contents_of pool.contents).objects
     → length (map address_of blocks) ≤ estimate_of (map shape_of (ops_of_group group past.entries))
 group_fits past pool group blocks new may explained planned =
-    let fits = taken_fit (pool_shown pool) past explained group (none_there pool.groups.line.syncing may.1) (quiesced_is pool.groups.line group may.0) refl pool.pending.items refl (pointers_of pool.tree)
+    let fits = taken_fit (pool_shown pool) past explained group (none_there pool.groups.line.syncing may.1) (quiesced_is pool.groups.line group may.0) refl pool.pending.items refl pool.tree.maps.items (pointers_of pool.tree)
     new (map new_block blocks) planned in
     subst (λ (n : ℕ). n ≤ estimate_of (map shape_of (ops_of_group group past.entries))) (length-map blocks new_block ∙ sym (length-map blocks address_of)) fits
 
 -- and its plan is not short of blocks
 pub never_short : (past : Past) (pool : Pool) (group : ℕ) → MayStart group pool.groups.line → IsExplainedNow (pool_shown pool) past
-    → IsShortOfBlocks group pool.pending.items (pointers_of pool.tree) (contents_of pool.contents).objects pool.free.flags.items → ⊥
+    → IsShortOfBlocks group pool.pending.items pool.tree.maps.items (pointers_of pool.tree) (contents_of pool.contents).objects (rising pool.free.free) → ⊥
 never_short past pool group may explained short =
-    enough_blocks (pool_shown pool) past explained group (none_there pool.groups.line.syncing may.1) (quiesced_is pool.groups.line group may.0) refl pool.pending.items refl (pointers_of pool.tree)
-    pool.free.flags.items refl short
+    enough_blocks (pool_shown pool) past explained group (none_there pool.groups.line.syncing may.1) (quiesced_is pool.groups.line group may.0) refl pool.pending.items refl pool.tree.maps.items (pointers_of pool.tree)
+    (rising pool.free.free) (length-rising pool.free.free) short

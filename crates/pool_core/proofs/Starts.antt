@@ -22,9 +22,6 @@ use Rattle.base.specs.steps.Stage.{StartSync}
 use Rattle.base.specs.steps.Steps.{IsPlanned, TakesForEach, lowest_free, ops_of_group, State}
 use Rattle.base.specs.tree.Syncs.{is_rename, other_step_count}
 use Rattle.base.proofs.steps.KeptGroups.{quiesced_is}
-use Rattle.base.specs.common.Rising.{rising}
-use Rattle.space.specs.FreeSets.{addresses_from, free_of}
-use Rattle.space.proofs.FreeLists.{rising-free_of}
 use Rattle.tree_plans.specs.declared.planner.Committed.{Committed}
 use Rattle.tree_plans.specs.declared.planner.PlannedBlock.{PlannedBlock}
 use Rattle.tree_plans.specs.declared.planner.TreePlan.{TreePlan}
@@ -121,9 +118,8 @@ pending_names (c ∷ cs) h =
     All-cons HasNoName (shown_record c) (map shown_record cs) (All-head Built c cs h) (pending_names cs (All-tail Built c cs h))
 
 -- the addresses of planned blocks are the lowest free ones
-pub lowest_taken : (blocks : List PlannedBlock) (flags : List Bool) → map address_of blocks ≡ take (length blocks) (addresses_from 0 flags)
-    → map address_of blocks ≡ take (length (map address_of blocks)) (rising (free_of flags))
-lowest_taken blocks flags taken = taken ∙ sym (ap (λ n. take n (rising (free_of flags))) (length-map blocks address_of) ∙ ap (take (length blocks)) (rising-free_of flags))
+pub lowest_taken : (blocks : List PlannedBlock) (free : List ℕ) → map address_of blocks ≡ take (length blocks) free → map address_of blocks ≡ take (length (map address_of blocks)) free
+lowest_taken blocks free taken = taken ∙ sym (ap (λ n. take n free) (length-map blocks address_of))
 
 -- where it never lacks blocks, it is for want of memory
 pub wants_only : (e : PoolError) → (e ≡ error.NoMemory) ⊎ (e ≡ error.NoSpace) → (e ≡ error.NoSpace → ⊥) → e ≡ error.NoMemory

@@ -38,48 +38,37 @@ pub step_failed : (s n : Shown) (group : ℕ) (plan : SyncPlan) (e : PoolError) 
 step_failed s n group plan e h is failed same = λ past.
     (past, rw (goes_on s group h is) (failed, ap (λ (x : Shown). let state : State = record { shown = x; past = past } in state) same))
 
-none_left : (b : Bool) (o : Option ℕ) → o ≡ None → cond b None o ≡ None
-none_left true o e = refl
-none_left false o e = e
-
--- nothing is taken out of nothing
-remove-empty : (m : FinMap nat_cmp ℕ) (k : ℕ) → m ≡ finite.empty → m ≡ finite.remove m k
-remove-empty m k e =
-    let none : FinMap nat_cmp ℕ = finite.empty in
-    e
-    ∙ same_map nat_cmp_total nat_cmp-IsAntisymmetric none (finite.remove none k) (λ q.
-    get-empty nat_cmp q ∙ sym (get-remove nat_cmp_total none k q ∙ none_left (eq_by_cmp nat_cmp q k) (finite.get none q) (get-empty nat_cmp q)))
-    ∙ ap (λ (x : FinMap nat_cmp ℕ). finite.remove x k) (sym e)
-
--- the last call of a sync: its group is synced, where no log block is kept and nothing is charged or reserved
+-- the last call of a sync: its group is synced, where no log block is kept
 pub step_synced : (s n : Shown) (group g : ℕ) (plan : SyncPlan) → s.suspended ≡ false → s.line.syncing ≡ Some group → s.sync ≡ Some plan → plan.steps_left ≡ 1 → g ≡ group
-    → s.dirty ≡ finite.empty → s.reserved ≡ finite.empty → s.log.kept ≡ []
+    → s.log.kept ≡ []
     → n ≡ record s {
       line = record s.line { synced = group; syncing = None };
+      dirty = finite.remove s.dirty group;
+      reserved = finite.remove s.reserved group;
       free = set.union s.free (set.from_list plan.freed);
       log = record s.log { pending = filter (λ (r : Record). nat_lt group r.group) s.log.pending };
       root = plan.root;
       sync = None;
     }
     → Meets SyncStep (Ok (Synced g)) s n
-step_synced s n group g plan h is running last same_group no_dirty no_reserved no_kept same = λ past.
+step_synced s n group g plan h is running last same_group no_kept same = λ past.
     let later : Past = record past { acknowledged = past.acknowledged ++ ordinals_of group past.entries } in
     let back : plan.freed ≡ returned_addresses plan s.log = sym (append-nil plan.freed)
     ∙ ap (λ (kept : List KeptBlock). plan.freed ++ map (λ (b : KeptBlock). b.address) (blocks_before plan.header kept)) (sym no_kept) in
     let kept : s.log.kept ≡ filter (λ (b : KeptBlock). nat_le plan.header.number b.number) s.log.kept =
     no_kept ∙ ap (λ (l : List KeptBlock). filter (λ (b : KeptBlock). nat_le plan.header.number b.number) l) (sym no_kept) in
-    let dirty = remove-empty s.dirty group no_dirty in
-    let reserved = remove-empty s.reserved group no_reserved in
     let all : record s {
       line = record s.line { synced = group; syncing = None };
+      dirty = finite.remove s.dirty group;
+      reserved = finite.remove s.reserved group;
       free = set.union s.free (set.from_list plan.freed);
       log = record s.log { pending = filter (λ (r : Record). nat_lt group r.group) s.log.pending };
       root = plan.root;
       sync = None;
     } ≡ (state_after_sync group plan (record { shown = s; past = past })).shown = λ k. record s {
       line = record s.line { synced = group; syncing = None };
-      dirty = dirty k;
-      reserved = reserved k;
+      dirty = finite.remove s.dirty group;
+      reserved = finite.remove s.reserved group;
       free = set.union s.free (set.from_list (back k));
       log = record s.log { pending = filter (λ (r : Record). nat_lt group r.group) s.log.pending; kept = kept k };
       root = plan.root;

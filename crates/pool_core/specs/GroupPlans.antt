@@ -1,5 +1,5 @@
 -- What the plan of a group says of its blocks and of the tree that they make.
-use Rattle.std.specs.Prelude.{ℕ, ◌≡◌, ◌<◌, All, Bool, List, [], Some, length, map, slice_get, take}
+use Rattle.std.specs.Prelude.{ℕ, ◌≡◌, ◌<◌, All, Bool, List, Some, length, map, slice_get, take}
 use Rattle.std.specs.Ordering.{nat_cmp}
 use Rattle.std.specs.FinMap.{FinMap}
 use Rattle.base.specs.declared.names.ObjectId.{ObjectId}
@@ -8,7 +8,8 @@ use Rattle.base.specs.formats.Blocks.{Frame}
 use Rattle.base.specs.tree.Places.{Place}
 use Rattle.base.specs.tree.PlannedTrees.{IsTreePlan, NewBlock}
 use Rattle.base.specs.tree.Syncs.{written_by}
-use Rattle.space.specs.FreeSets.{addresses_from}
+use Rattle.base.specs.common.Rising.{rising}
+use Rattle.object_maps.specs.declared.tree.ObjectMap.{ObjectMap}
 use Rattle.tree_plans.specs.declared.planner.Committed.{Committed}
 use Rattle.tree_plans.specs.declared.changes.ObjectChanges.{ObjectChanges}
 use Rattle.tree_plans.specs.Changes.{AreChanges, AreInRange, AreTreePointers, IsCoveredBy, group_of}
@@ -34,20 +35,20 @@ use Rattle.pool_core.specs.Pointers.{pointers_after}
 use Rattle.pool_core.specs.RunningUberblocks.{uberblock_with}
 use Rattle.pool_core.specs.Shows.{new_plan, shown_objects, pool_shown}
 
--- Some changes are those of the group's pending operations, none of which sets a length so far. By them these blocks make the tree after the
+-- Some changes are those of the group's pending operations on a tree with these maps. By them these blocks make the tree after the
 -- group from the old one, whatever objects were there before of which the changes cover all that differs; and they are those of the places
 -- that are written, one for each, in their order.
-pub record IsPlannedGroup (group : ℕ) (pending : List Committed) (frame : Frame) (old new : Place → Pointer) (bs : List NewBlock) (after : FinMap nat_cmp (List ℕ)) : Type 0 where
+pub record IsPlannedGroup (group : ℕ) (pending : List Committed) (maps : List ObjectMap) (frame : Frame) (old new : Place → Pointer) (bs : List NewBlock) (after : FinMap nat_cmp (List ℕ)) : Type 0 where
   pub objects : List (ObjectId × ObjectChanges)
-  pub changes : AreChangesOf (pending_ops group pending) [] objects
+  pub changes : AreChangesOf (pending_ops group pending) maps objects
   pub planned : (before : FinMap nat_cmp (List ℕ)) → IsCoveredBy objects old before after → AreChanges objects after → AreTreePointers objects old after → IsTreePlan bs frame old new before after
   pub order : AreInRange objects → map (λ (b : NewBlock). b.address) bs ≡ map (λ (place : Place). (new place).address) (written_by (group_of objects old after))
 
 -- Some changes are those of the group's pending operations. Where they are in range, fewer of these blocks are free than there are places
 -- that are written.
-pub record IsShortOfBlocks (group : ℕ) (pending : List Committed) (old : Place → Pointer) (after : FinMap nat_cmp (List ℕ)) (free : List ℕ) : Type 0 where
+pub record IsShortOfBlocks (group : ℕ) (pending : List Committed) (maps : List ObjectMap) (old : Place → Pointer) (after : FinMap nat_cmp (List ℕ)) (free : List ℕ) : Type 0 where
   pub objects : List (ObjectId × ObjectChanges)
-  pub changes : AreChangesOf (pending_ops group pending) [] objects
+  pub changes : AreChangesOf (pending_ops group pending) maps objects
   pub fewer : AreInRange objects → length free < length (written_by (group_of objects old after))
 
 -- the pointers of the tree that a plan makes of a pool's
@@ -61,20 +62,20 @@ pub record FitsIn (size : ℕ) (p : TreePlan) : Type 0 where
 
 -- it takes the lowest free blocks of a pool, in their order
 abbrev pub TakesLowest : Pool → TreePlan → Type 0
-TakesLowest pool p = map address_of p.blocks.items ≡ take (length p.blocks.items) (addresses_from 0 pool.free.flags.items)
+TakesLowest pool p = map address_of p.blocks.items ≡ take (length p.blocks.items) (rising pool.free.free)
 
 -- It makes of a pool's tree that of a group: its pointers are placed, its blocks are whole and each one is used, and where no pointer was born
 -- in the group or later, what comes back is what the old tree has and the new one has not.
 pub record MakesGroupTree (pool : Pool) (group : ℕ) (p : TreePlan) : Type 0 where
   pub placed : ∥ ArePlaced (block_count pool.geometry) (plan_pointers pool p) ∥₁
-  pub planned : IsPlannedGroup group pool.pending.items (frame_at (pool_shown pool) group) (pointers_of pool.tree) (plan_pointers pool p) (map new_block p.blocks.items) (shown_objects pool)
+  pub planned : IsPlannedGroup group pool.pending.items pool.tree.maps.items (frame_at (pool_shown pool) group) (pointers_of pool.tree) (plan_pointers pool p) (map new_block p.blocks.items) (shown_objects pool)
   pub freed : AreBornBefore group (pointers_of pool.tree) → AreFreed (pointers_of pool.tree) (plan_pointers pool p) p.freed.items
   pub used : AreUsed (map new_block p.blocks.items) (plan_pointers pool p)
   pub whole : (i : ℕ) (b : NewBlock) → slice_get (map new_block p.blocks.items) i ≡ Some b → length b.content ≡ block_size
 
 -- refused NoSpace, a pool is short of blocks
 abbrev pub IsRefusedShort : Pool → ℕ → PoolError → Type 0
-IsRefusedShort pool group e = e ≡ NoSpace → IsShortOfBlocks group pool.pending.items (pointers_of pool.tree) (shown_objects pool) (addresses_from 0 pool.free.flags.items)
+IsRefusedShort pool group e = e ≡ NoSpace → IsShortOfBlocks group pool.pending.items pool.tree.maps.items (pointers_of pool.tree) (shown_objects pool) (rising pool.free.free)
 
 -- a sync of a plan that has made no call yet
 pub record BeginsPlan (p : TreePlan) (r : RunningSync) : Type 0 where

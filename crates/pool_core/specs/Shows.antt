@@ -1,6 +1,5 @@
 -- What contracts show of a pool, read off its fields.
 use Rattle.std.specs.Prelude.{ℕ, ◌-◌, ◌+◌, List, [], filter, length, map, nat_lt, option_map}
-use Rattle.std.specs.FinMap as finite
 use Rattle.std.specs.FinMap.{FinMap}
 use Rattle.std.specs.Ordering.{nat_cmp}
 use Rattle.std.specs.FinSet as set
@@ -9,13 +8,13 @@ use Rattle.base.specs.formats.Geometry.{block_address, block_count}
 use Rattle.base.specs.formats.Records.{Record}
 use Rattle.base.specs.steps.Logs.{Log}
 use Rattle.base.specs.steps.Shown.{Shown, SyncPlan}
-use Rattle.space.specs.FreeSets.{free_of}
 use Rattle.object_maps.specs.ContentsShown.{contents_of}
 use Rattle.tree_plans.specs.declared.planner.Committed.{Committed}
 use Rattle.tree_plans.specs.declared.planner.PlannedBlock.{PlannedBlock}
 use Rattle.pool_core.specs.declared.pool.RunningSync.{RunningSync}
 use Rattle.pool_core.specs.declared.pool.Pool.{Pool}
 use Rattle.sync.specs.Runs.{call_count}
+use Rattle.throttle.specs.Blocks.{blocks_of}
 
 abbrev pub record_of : Committed → Record
 record_of c = record { group = c.group.0; ordinal = c.ordinal; ops = c.ops }
@@ -51,7 +50,7 @@ shown_of objects p = record {
   guid = p.guid;
   blocks = block_count p.geometry;
   import_number = p.import_number;
-  dirty_max = p.dirty_max;
+  dirty_max = p.dirty.limit;
   locks = p.locks.locks;
   next_lock = p.locks.next;
   line = p.groups.line;
@@ -59,9 +58,9 @@ shown_of objects p = record {
   next_tx = p.transactions.next;
   contents = record { name = p.contents.name; objects = objects };
   next_ordinal = p.next_ordinal;
-  dirty = finite.empty;
-  reserved = finite.empty;
-  free = free_of p.free.flags.items;
+  dirty = p.dirty.sums;
+  reserved = blocks_of p.dirty.sums;
+  free = p.free.free;
   log = log_of p.pending.items p.log_address;
   root = p.tree.root;
   sync = option_map (plan_of p.log_address) p.sync;

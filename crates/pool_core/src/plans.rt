@@ -1,7 +1,9 @@
 //! Plans of transactions, as far as they are built: they create, remove and write.
 
-ghost use Rattle.std.specs.Prelude.{◌≡◌, OnOk, true};
+ghost use Rattle.std.specs.Prelude.{◌≡◌, ◌≤◌, OnOk, true};
 ghost use Rattle.std.specs.List.{list_all};
+ghost use Rattle.base.specs.formats.Limits.{max_log_record};
+ghost use Rattle.base.specs.history.Plans.{log_record_size};
 ghost use Rattle.base.specs.steps.Stage as stage;
 ghost use Rattle.pool_core.specs.BeginTests.{plan_tests};
 ghost use Rattle.pool_core.specs.Meets.{Passes};
@@ -9,11 +11,15 @@ ghost use Rattle.pool_core.specs.Meets.{Passes};
 use base::{PoolError, Shape};
 use transactions::{is_plan_allowed, is_too_large};
 
+/// The blocks that are kept back for plans that shrink and for syncs.
+pub const KEPT_BACK: u64 = 16;
+
 /// A transaction may have this plan. Refused `BadRange` where it has no shape, or one that isn't built or is outside its
 /// limits; `TooLarge` where its log record would have more than 4,008 bytes.
 pub fn check_plan(plan: &[Shape]) -> Result<(), PoolError>
     ensures refusal { Passes (plan_tests plan.now) result }
     ensures built { OnOk result (stage.is_plan_built plan.now ≡ true) }
+    ensures small { OnOk result (log_record_size plan.now ≤ max_log_record) }
 {
     if !is_plan_built(plan) {
         return Err(PoolError::BadRange);

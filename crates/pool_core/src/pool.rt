@@ -1,38 +1,42 @@
 //! A pool without its device, and each of its steps.
 
-ghost use Rattle.std.specs.Prelude.{◌≡◌, ◌<◌, ◌-◌, ◌+◌, ◌≤◌, ◌^◌, ◌⊎◌, All, IfErr, IfOk, IsTrue, None, OnOk, false, is_some, length, map, option_map, true, vec_len};
+ghost use Rattle.std.specs.Prelude.{◌≡◌, ◌<◌, ◌-◌, ◌+◌, ◌≤◌, ◌^◌, ◌⊎◌, All, IfErr, IfOk, IsTrue, None, OnOk, false, is_some, length, map, nat_lt, option_map, true, vec_len};
 ghost use Rattle.std.proofs.Props.{props};
 ghost use Rattle.std.specs.List.{list_any};
-ghost use Rattle.std.specs.Option.{ForSome};
+ghost use Rattle.std.specs.Option.{ForSome, option_map_or};
 ghost use Rattle.base.specs.formats.Fields.{part};
 ghost use Rattle.base.specs.formats.Geometry.{IsGeometry, block_count};
-ghost use Rattle.base.specs.formats.Limits.{max_transactions};
+ghost use Rattle.base.specs.formats.Limits.{max_log_record};
 ghost use Rattle.base.specs.history.Contents.{length_of};
+ghost use Rattle.base.specs.history.Plans.{estimate_of, log_record_size};
 ghost use Rattle.base.specs.tree.PlacedTrees.{ArePlaced};
 ghost use Rattle.base.specs.steps.Groups.{Admission};
-ghost use Rattle.base.specs.steps.Refusals.{is_lock_in_use, transaction_of};
+ghost use Rattle.base.specs.steps.Refusals.{blocks_wanted, is_lock_in_use, transaction_of};
+ghost use Rattle.base.specs.steps.Shown as show;
 ghost use Rattle.base.specs.steps.Stage.{has_older_group, is_plan_built};
 ghost use Rattle.groups.specs.CountedLines.{IsCounted};
 ghost use Rattle.groups.specs.Laws.{AreHoldsExact};
 ghost use Rattle.base.specs.tree.Syncs.{is_rename};
 ghost use Rattle.object_maps.specs.Ops.{AreOpsAllowed};
 ghost use Rattle.object_maps.specs.Pointers.{pointers_of};
-ghost use Rattle.space.specs.FreeSets.{free_of};
 ghost use Rattle.sync.specs.Runs.{call_count};
+ghost use Rattle.space.specs.FreeSets.{after_sync_end};
+ghost use Rattle.throttle.specs.Blocks.{AreSumsOn, AreWholeBlocks, blocks_in};
+ghost use Rattle.throttle.specs.DirtyBytes.{after_synced, sum_of, total_of};
 ghost use Rattle.tree_plans.specs.Plans.{address_of};
 ghost use Rattle.tree_plans.specs.declared.planner.Committed.{Committed};
-ghost use Rattle.pool_core.specs.Areas.{AreBlocksOf, free_with, free_without, is_block_of};
+ghost use Rattle.pool_core.specs.Areas.{AreBlocksOf, after_gives, after_sync_takes, is_block_of};
 ghost use Rattle.pool_core.specs.Numbers.{IsGroup};
 ghost use Rattle.pool_core.specs.Pending.{pending_after};
 ghost use Rattle.pool_core.specs.Pointers.{pointers_after};
 ghost use Rattle.pool_core.specs.RunningUberblocks.{WritesUberblock, uberblock_with};
 ghost use Rattle.pool_core.specs.Targets.{is_readable};
 
-use crate::plans::check_plan;
+use crate::plans::{KEPT_BACK, check_plan};
 use crate::state::Progress;
 use base::{
     Bytes, Group, LAST_NUMBER, LockId, Mode, OBJECT_COUNT, ObjectId, ObjectRange, Op, Ops, Ordinal,
-    Owner, Plan, Pointer, PoolError, PoolName, Range, Receipt, Shape, TxId, WRITTEN_VERSION,
+    Owner, Plan, Pointer, PoolError, PoolName, Range, Receipt, Shape, Status, TxId, WRITTEN_VERSION,
 };
 use device_model::SectorDevice;
 use groups::Groups;
@@ -45,9 +49,13 @@ use space::FreeSet;
 use std::alloc::Global;
 use std::collections::BTreeMap;
 use sync::{SyncCall, SyncRun};
-use transactions::{OpenTransactions, is_in_plan, range_of};
+use throttle::Dirty;
+use transactions::{OpenTransactions, charge, estimate, is_in_plan, is_shrinking, range_of};
 use tree_plans::{Committed, PlanSource, PlannedBlock, TreePlan, changed_objects, plan};
 use uberblocks::{Uberblock, slot};
+
+// The bytes of a block.
+const BLOCK_SIZE: u64 = 4096;
 
 // A sync that runs, and what it makes of the tree.
 #[derive(Drop)]
@@ -76,11 +84,12 @@ pub(crate) struct Pool {
     geometry: Geometry,
     guid: u64,
     import_number: u64,
-    dirty_max: u64,
     suspended: bool,
     locks: RangeLocks,
     groups: Groups,
     transactions: OpenTransactions,
+    // the bytes charged to the unsynced groups; their blocks are reserved
+    dirty: Dirty,
     contents: Contents,
     next_ordinal: u64,
     // the committed transactions of unsynced groups, in order
@@ -89,11 +98,14 @@ pub(crate) struct Pool {
     log_address: u64,
     tree: Tree,
     sync: Option<RunningSync>,
-    ghost free_sized: { vec_len free.flags ≡ block_count geometry },
+    ghost free_sized: { free.blocks ≡ block_count geometry },
+    ghost free_taken: { free.taken ≡ option_map_or (λ r. length r.run.blocks.items) sync 0 },
     ghost import_fits: { import_number ≤ 2 ^ 60 },
     ghost next_ordinal_fits: { next_ordinal ≤ 2 ^ 60 + 1 },
     ghost counted: { IsCounted groups } by { Prim.hlevel props },
     ghost holds_exact: { AreHoldsExact transactions.transactions groups },
+    ghost charged: { AreSumsOn groups.line dirty } by { Prim.hlevel props },
+    ghost reserved: { free.reserved ≡ blocks_in (total_of dirty) },
     ghost plans_built: { All (λ (a : Admission). is_plan_built a.plan ≡ true) transactions.transactions },
     ghost running: { ForSome sync (λ r. (r.run.geometry ≡ geometry) × (r.run.done < call_count r.run)) },
     ghost uberblock: { ForSome sync (λ r. WritesUberblock
@@ -149,11 +161,11 @@ impl Pool {
             geometry,
             guid,
             import_number,
-            dirty_max,
             suspended: false,
             locks: RangeLocks::new(alloc),
             groups: Groups::new(group),
             transactions: OpenTransactions::new(alloc),
+            dirty: Dirty::new(dirty_max, group),
             contents,
             next_ordinal: 0,
             pending: Vec::new(alloc),
@@ -263,25 +275,30 @@ impl Pool {
         ensures step { Begins owner plan.now result (pool_shown self.old) (pool_shown self.new) }
         ensures kept { KeepsTree self.old self.new }
     {
-        self.check_begin(owner, plan.as_slice())?;
+        let shapes = plan.as_slice();
+        self.check_begin(owner, shapes)?;
         let plan = plan.try_clone(self.alloc)?;
         let group = self.groups.open_group();
         let tx = self.transactions.admit(owner, group, plan)?;
+        let Ok(()) = self.dirty.admit(group, charge(shapes)) else {
+            unreachable!();
+        };
+        let Ok(()) = self.free.reserve(estimate(shapes), 0) else {
+            unreachable!();
+        };
         self.groups.hold();
         Ok((tx, group))
     }
 
     // Refused where a begin is, but for want of memory.
     fn check_begin(&self, owner: Owner, plan: &[Shape]) -> Result<(), PoolError>
-        ensures refusal { ChecksBegin owner plan.now result (pool_shown self.now) }
-        ensures built { OnOk result (is_plan_built plan.now ≡ true) }
-        ensures room { OnOk result (length self.now.transactions.transactions < max_transactions) }
+        ensures { ChecksBegin owner plan.now result (pool_shown self.now) }
     {
         self.check_running()?;
         self.check_no_older()?;
         check_plan(plan)?;
         self.check_ranges(owner, plan)?;
-        self.check_room()
+        self.check_room(plan)
     }
 
     // Each range of a plan lies in a writer lock of the owner, and overlaps none of an open transaction.
@@ -298,15 +315,62 @@ impl Pool {
         Ok(())
     }
 
-    // One more transaction may be open.
-    fn check_room(&self) -> Result<(), PoolError>
-        ensures refusal { Passes (room_tests (pool_shown self.now)) result }
-        ensures room { OnOk result (length self.now.transactions.transactions < max_transactions) }
+    // One more transaction may be open, its charge passes no limit, and the blocks that it may take are available.
+    fn check_room(&self, plan: &[Shape]) -> Result<(), PoolError>
+        requires built { is_plan_built plan.now ≡ true }
+        requires small { log_record_size plan.now ≤ max_log_record }
+        ensures { Passes (room_tests plan.now (pool_shown self.now)) result }
     {
         if self.transactions.is_full() {
             return Err(PoolError::TooMany);
         }
+        if self.dirty.is_throttled(charge(plan)) {
+            return Err(PoolError::Throttled);
+        }
+        if self.is_short_for(plan) {
+            return Err(PoolError::NoSpace);
+        }
         Ok(())
+    }
+
+    // Whether fewer blocks are available than a plan may take and, unless it shrinks, 16 more.
+    fn is_short_for(&self, plan: &[Shape]) -> bool
+        requires built { is_plan_built plan.now ≡ true }
+        requires small { log_record_size plan.now ≤ max_log_record }
+        ensures { result ≡ nat_lt (show.available (pool_shown self.now))
+            (blocks_wanted (pool_shown self.now).contents plan.now) }
+    {
+        let kept_back = self.kept_back(plan);
+        let blocks = estimate(plan);
+        let available = self.available();
+        available < blocks || available - blocks < kept_back
+    }
+
+    // How many blocks stay available beside those of a plan: 16, or none where it only removes objects and shortens
+    // present ones.
+    fn kept_back(&self, plan: &[Shape]) -> u64
+        ensures { estimate_of plan.now + result
+            ≡ blocks_wanted (pool_shown self.now).contents plan.now }
+    {
+        if is_shrinking(plan, &|object| self.shown_length(object)) {
+            0
+        } else {
+            KEPT_BACK
+        }
+    }
+
+    // How many blocks are free.
+    fn free_count(&self) -> u64
+        ensures { result ≡ show.free_count (pool_shown self.now) }
+    {
+        self.free.free()
+    }
+
+    // How many of them no unsynced transaction may still ask for.
+    fn available(&self) -> u64
+        ensures { result ≡ show.available (pool_shown self.now) }
+    {
+        self.free.available()
     }
 
     fn is_covered(&self, owner: Owner, plan: &[Shape]) -> bool
@@ -427,6 +491,20 @@ impl Pool {
         self.contents.name.copy()
     }
 
+    pub(crate) fn status(&self) -> Status
+        ensures { result ≡ show.status_of (pool_shown self.now) }
+    {
+        Status {
+            synced: self.groups.synced(),
+            syncing: self.groups.syncing(),
+            middle: self.groups.middle(),
+            open_group: self.groups.open_group(),
+            dirty: self.dirty.total(),
+            free: self.free_count(),
+            available: self.available(),
+        }
+    }
+
     pub(crate) fn close_group(&mut self) -> Result<Group, PoolError>
         ensures step { ClosesGroup result (pool_shown self.old) (pool_shown self.new) }
         ensures kept { KeepsTree self.old self.new }
@@ -455,8 +533,9 @@ impl Pool {
         self.check_running()?;
         let group = self.check_start()?;
         let planned = self.plan_group(group)?;
-        take_all(&mut self.free, &planned.blocks);
-        self.sync = Some(self.running_sync(group, moment, planned));
+        let running = self.running_sync(group, moment, planned);
+        take_all(&mut self.free, &running.run.blocks);
+        self.sync = Some(running);
         let Ok(_) = self.groups.start_sync() else {
             unreachable!();
         };
@@ -478,8 +557,7 @@ impl Pool {
         ensures no_space { IfErr result (IsRefusedShort self.now group.0) }
         ensures refused { IfErr result (λ e. (e ≡ PoolError.NoMemory) ⊎ (e ≡ PoolError.NoSpace)) }
     {
-        // No plan sets a length so far, so none is asked for.
-        let objects = changed_objects(self.alloc, &[], &self.pending, group)?;
+        let objects = changed_objects(self.alloc, &self.tree.maps, &self.pending, group)?;
         let source = PlanSource {
             alloc: self.alloc,
             geometry: self.geometry,
@@ -561,6 +639,7 @@ impl Pool {
                 let Ok(_) = self.groups.finish_sync() else {
                     unreachable!();
                 };
+                end_charges(&mut self.dirty, &mut self.free, group);
                 self.finish_tree(synced);
                 Ok(Progress::Synced(group))
             }
@@ -619,23 +698,35 @@ fn bytes_in(bytes: &[u8], range: Range) -> &[u8]
     &bytes[low..high]
 }
 
-// These blocks are taken.
+// What a group was charged ends once it is synced, and so does what was reserved for it.
+fn end_charges(dirty: &mut Dirty, free: &mut FreeSet, group: Group)
+    requires next { group.0 ≡ dirty.old.synced + 1 }
+    requires whole { AreWholeBlocks dirty.old }
+    requires reserved { free.old.reserved ≡ blocks_in (total_of dirty.old) }
+    ensures dirty { dirty.new ≡ after_synced group.0 dirty.old }
+    ensures free { free.new ≡ after_sync_end (blocks_in (sum_of dirty.old group.0)) free.old }
+    ensures reserved { free.new.reserved ≡ blocks_in (total_of dirty.new) }
+{
+    let reserved = dirty.of(group) / BLOCK_SIZE;
+    dirty.synced(group);
+    free.end_sync(reserved);
+}
+
+// The sync that starts takes these blocks.
 fn take_all(free: &mut FreeSet, blocks: &[PlannedBlock])
-    ensures count { vec_len free.new.flags ≡ vec_len free.old.flags }
-    ensures free { free_of free.new.flags.items
-        ≡ free_without free.old (map address_of blocks.now) }
+    requires { free.old.taken ≡ 0 }
+    ensures { free.new ≡ after_sync_takes (map address_of blocks.now) free.old }
 {
     for planned in blocks {
-        free.take(planned.index);
+        free.take_for_sync(planned.index);
     }
 }
 
 // The blocks at these addresses come back.
 fn give_all(free: &mut FreeSet, geometry: Geometry, addresses: &[u64])
-    requires count { vec_len free.old.flags ≡ block_count geometry }
+    requires count { free.old.blocks ≡ block_count geometry }
     requires placed { AreBlocksOf (block_count geometry) addresses.now }
-    ensures count { vec_len free.new.flags ≡ vec_len free.old.flags }
-    ensures free { free_of free.new.flags.items ≡ free_with free.old addresses.now }
+    ensures { free.new ≡ after_gives addresses.now free.old }
 {
     for address in addresses {
         free.give(geometry.block_index(*address) as usize);

@@ -50,6 +50,7 @@ impl<D: SectorDevice> PoolState<D> {
             Step::Length(object) => self.length(object).map(Reply::Length),
             Step::Digest => self.digest().map(Reply::Digest),
             Step::Name => Ok(Reply::Name(self.name())),
+            Step::Status => Ok(Reply::Status(self.status())),
             Step::CloseGroup => self.close_group().map(Reply::Opened),
             Step::MarkQuiesced => self.mark_quiesced().map(Reply::Quiesced),
             Step::StartSync(moment) => self.start_sync(moment).map(Reply::Syncing),

@@ -3,11 +3,12 @@
 ghost use Rattle.std.specs.Prelude.{◌≡◌, ◌≤◌, IfErr, IfOk, IsTrue, length, map, option_map};
 ghost use Rattle.base.specs.steps.Groups.{Admission};
 ghost use Rattle.base.specs.steps.Refusals.{transaction_of};
+ghost use Rattle.base.specs.steps.Shown.{status_of};
 
 use crate::pool::Pool;
 use base::{
     Bytes, Group, LockId, Mode, ObjectId, Ops, Owner, Plan, PoolError, PoolName, Range, Receipt,
-    TxId,
+    Status, TxId,
 };
 use device_model::{Fault, MemDevice, SectorDevice};
 use import_replay::Imported;
@@ -26,8 +27,8 @@ pub enum Progress {
 
 /// A pool that runs on a device, which it owns. One step at a time changes it.
 ///
-/// After a device refused a write or a flush the pool is suspended: each later step but `name` is refused `Suspended`. Every
-/// other refusal leaves the pool as it was.
+/// After a device refused a write or a flush the pool is suspended: it still tells its name and its status, and each other
+/// later step is refused `Suspended`. Every other refusal leaves the pool as it was.
 #[derive(Drop)]
 pub struct PoolState<D: SectorDevice> {
     device: D,
@@ -151,14 +152,16 @@ impl<D: SectorDevice> PoolState<D> {
         self.pool.pieces(number)
     }
 
-    /// Opens a transaction of the open group that keeps to a plan, of which it takes a copy.
+    /// Opens a transaction of the open group that keeps to a plan, of which it takes a copy. The group is charged 4,096 bytes
+    /// for each block that the plan is estimated at, and so many blocks are reserved for it, both until it is synced.
     ///
     /// # Errors
     /// In this order: `Suspended`; `NotReady` where an older group is unsynced; `BadRange` where the plan has no shape, or
-    /// one that neither creates nor writes or is outside its limits; `TooLarge` where its log record would have more than
-    /// 4,008 bytes; `NotLocked` where a range of it does not lie in one writer lock of the owner; `Busy` where one overlaps
-    /// a range of an open transaction; `TooMany` where 64 transactions are open or the next name would pass 2^60;
-    /// `NoMemory`.
+    /// one that neither creates, removes nor writes or is outside its limits; `TooLarge` where its log record would have more
+    /// than 4,008 bytes; `NotLocked` where a range of it does not lie in one writer lock of the owner; `Busy` where one
+    /// overlaps a range of an open transaction; `TooMany` where 64 transactions are open or the next name would pass 2^60;
+    /// `Throttled` where the charges of all unsynced groups would pass the import's limit; `NoSpace` where fewer blocks are
+    /// available than the plan is estimated at and, unless it only removes objects, 16 more; `NoMemory`.
     pub fn begin(&mut self, owner: Owner, plan: &Plan) -> Result<(TxId, Group), PoolError>
         ensures step { Begins owner plan.now result (shown self.old) (shown self.new) }
         ensures unmoved { MovesNothing result self.old self.new }
@@ -230,6 +233,14 @@ impl<D: SectorDevice> PoolState<D> {
         self.pool.name()
     }
 
+    /// The groups of the pool, and its sums: the bytes that are charged, the free blocks, and how many of them no unsynced
+    /// transaction may still ask for. It is never refused, also of a suspended pool, and takes no memory.
+    pub fn status(&self) -> Status
+        ensures { result ≡ status_of (shown self.now) }
+    {
+        self.pool.status()
+    }
+
     /// The open group quiesces, and the next one is open (`txg.c`). It takes no memory.
     ///
     /// # Errors
@@ -268,8 +279,8 @@ impl<D: SectorDevice> PoolState<D> {
         self.pool.start_sync(moment)
     }
 
-    /// Makes the next device call of the running sync. With the last one its group is synced, and the blocks that it
-    /// replaced come back. It takes no memory of its own.
+    /// Makes the next device call of the running sync. With the last one its group is synced: the blocks that it replaced
+    /// come back, and what it was charged and what was reserved for it ends. It takes no memory of its own.
     ///
     /// # Errors
     /// In this order: `Suspended`; `NotReady` where no group is syncing; `Write` or `Flush` where the device refused, and then

@@ -1,11 +1,20 @@
-use Rattle.std.proofs.Common.{◌≡◌, List, subst, refl}
-use Rattle.std.specs.Prelude.{Some, None}
+use Rattle.std.proofs.Common.{◌≡◌, ◌∙◌, List, subst, sym, true, refl, arith}
+use Rattle.std.specs.Prelude.{All, Some, None}
+use Rattle.std.proofs.lemmas.Bool.{false≢true}
+use Rattle.std.proofs.lemmas.List.Elements.{All-push}
 use Rattle.std.proofs.lemmas.Result.{err_from_is_err_and}
 use Rattle.base.specs.declared.operation.Shape.{Shape}
-use Rattle.base.specs.steps.Stage.{begin_refusal}
+use Rattle.base.specs.history.Plans.{is_plan_allowed}
+use Rattle.base.specs.steps.Stage.{begin_refusal, is_plan_built}
+use Rattle.groups.specs.CountedLines.{after_hold}
+use Rattle.groups.specs.Laws.{AreHoldsExact}
+use Rattle.transactions.specs.Open.{Open}
+use Rattle.throttle.proofs.ShownSums.{sums_stay_on_lines}
 use Rattle.pool_core.specs.Shows.{pool_shown}
-use Rattle.pool_core.proofs.BeginTests.{begin_admits, begin_done, begin_refused, begin_wants}
-use Rattle.pool_core.proofs.HeldGroups.{few_holds}
+use Rattle.pool_core.proofs.BeginTests.{begin_admits, begin_done, begin_refused, begin_wants, built_allowed, may_begin}
+use Rattle.pool_core.proofs.Charges.{charge_throttled, enough_free, open_charged, shows_sums}
+use Rattle.pool_core.proofs.HeldGroups.{exact_begin, few_holds}
+use Rattle.pool_core.proofs.Opens.{IsBuilt}
 use Rattle.pool_core.proofs.pool.Pool.begin.Goals as goal
 
 pub returns-in_err-check_begin-clause-step : goal.returns-in_err-check_begin-clause-step
@@ -13,32 +22,93 @@ returns-in_err-check_begin-clause-step c =
     let p = err_from_is_err_and c.from_residual.result c.from_residual.ensures.1 in
     let s = pool_shown c.args.self.now in
     let e = c.in_err-check_begin.field-0.0 in
-    rw (p.1, p.2) (begin_refused c.args.owner.0 c.args.plan.now s e (subst (λ (l : List Shape). begin_refusal c.args.owner.0 l s ≡ Some e) c.as_slice.ensures c.in_err-check_begin.ensures.refusal))
+    rw (p.1, p.2) (begin_refused c.args.owner.0 c.args.plan.now s e (subst (λ (l : List Shape). begin_refusal c.args.owner.0 l s ≡ Some e) c.as_slice-shapes.ensures c.in_err-check_begin.ensures))
 
 pub returns-in_err-plan-clause-step : goal.returns-in_err-plan-clause-step
 returns-in_err-plan-clause-step c =
     let p = err_from_is_err_and c.from_residual-in_err-plan.result c.from_residual-in_err-plan.ensures.1 in
     let s = pool_shown c.args.self.now in
-    let none = subst (λ (l : List Shape). begin_refusal c.args.owner.0 l s ≡ None) c.as_slice.ensures c.in_ok-check_begin.ensures.refusal in
+    let none = subst (λ (l : List Shape). begin_refusal c.args.owner.0 l s ≡ None) c.as_slice-shapes.ensures c.in_ok-check_begin.ensures in
     rw (p.1, p.2) (begin_wants c.args.owner.0 c.args.plan.now s none)
 
 pub returns-in_err-tx-clause-step : goal.returns-in_err-tx-clause-step
 returns-in_err-tx-clause-step c =
     let p = err_from_is_err_and c.from_residual-in_err-tx.result c.from_residual-in_err-tx.ensures.1 in
     let s = pool_shown c.args.self.now in
-    let none = subst (λ (l : List Shape). begin_refusal c.args.owner.0 l s ≡ None) c.as_slice.ensures c.in_ok-check_begin.ensures.refusal in
-    let wants = rw (c.in_ok-plan.ensures, begin_admits c.args.owner.0 c.args.plan.now s none) at c.in_err-tx.ensures.refused in
+    let none = subst (λ (l : List Shape). begin_refusal c.args.owner.0 l s ≡ None) c.as_slice-shapes.ensures c.in_ok-check_begin.ensures in
+    let may = may_begin c.args.owner.0 c.args.plan.now s none in
+    let wants = rw (c.in_ok-plan.ensures, begin_admits c.args.owner.0 c.args.plan.now s may) at c.in_err-tx.ensures.refused in
     rw (p.1, p.2, c.in_err-tx.ensures.unchanged, wants) (begin_wants c.args.owner.0 c.args.plan.now s none)
+
+pub admit-requires : goal.admit-requires
+admit-requires c =
+    let may = may_begin c.args.owner.0 c.as_slice-shapes.result.now (pool_shown c.args.self.now) c.in_ok-check_begin.ensures in
+    let allowed = built_allowed c.as_slice-shapes.result.now may.built in
+    subst (λ (l : List Shape). is_plan_allowed l ≡ true) (c.as_slice-shapes.ensures ∙ sym c.in_ok-plan.ensures) allowed
+
+pub charge-requires-clause-allowed : goal.charge-requires-clause-allowed
+charge-requires-clause-allowed c =
+    let may = may_begin c.args.owner.0 c.as_slice-shapes.result.now (pool_shown c.args.self.now) c.in_ok-check_begin.ensures in
+    built_allowed c.as_slice-shapes.result.now may.built
+
+pub charge-requires-clause-small : goal.charge-requires-clause-small
+charge-requires-clause-small c = (may_begin c.args.owner.0 c.as_slice-shapes.result.now (pool_shown c.args.self.now) c.in_ok-check_begin.ensures).small
+
+pub admit-requires-2 : goal.admit-requires-2
+admit-requires-2 c = rw c.open_group-group.ensures.open_group (open_charged c.args.self.now)
+
+pub unreachable-requires : goal.unreachable-requires
+unreachable-requires c =
+    let shapes = c.as_slice-shapes.result.now in
+    let may = may_begin c.args.owner.0 shapes (pool_shown c.args.self.now) c.in_ok-check_begin.ensures in
+    let passes = sym (charge_throttled c.args.self.now shapes c.charge.result _ c.charge.ensures refl) ∙ may.charge in
+    false≢true (sym passes ∙ c.in_default.ensures.throttled.0 refl)
+
+pub estimate-requires-clause-allowed : goal.estimate-requires-clause-allowed
+estimate-requires-clause-allowed c =
+    let may = may_begin c.args.owner.0 c.as_slice-shapes.result.now (pool_shown c.args.self.now) c.in_ok-check_begin.ensures in
+    built_allowed c.as_slice-shapes.result.now may.built
+
+pub estimate-requires-clause-small : goal.estimate-requires-clause-small
+estimate-requires-clause-small c = (may_begin c.args.owner.0 c.as_slice-shapes.result.now (pool_shown c.args.self.now) c.in_ok-check_begin.ensures).small
+
+pub unreachable-requires-in_default-reserve : goal.unreachable-requires-in_default-reserve
+unreachable-requires-in_default-reserve c =
+    let shapes = c.as_slice-shapes.result.now in
+    let may = may_begin c.args.owner.0 shapes (pool_shown c.args.self.now) c.in_ok-check_begin.ensures in
+    enough_free c.args.self.now shapes c.estimate.result c.estimate.ensures may.blocks (c.in_default-reserve.ensures.refused.0 refl)
 
 pub hold-requires : goal.hold-requires
 hold-requires c =
     let pool = c.args.self.now in
-    few_holds pool.groups pool.counted pool.transactions.transactions pool.holds_exact c.in_ok-check_begin.ensures.room
+    let may = may_begin c.args.owner.0 c.as_slice-shapes.result.now (pool_shown pool) c.in_ok-check_begin.ensures in
+    few_holds pool.groups pool.counted pool.transactions.transactions pool.holds_exact may.few
+
+pub invariant_of-self-2-clause-holds_exact : goal.invariant_of-self-2-clause-holds_exact
+invariant_of-self-2-clause-holds_exact c =
+    let pool = c.args.self.now in
+    let admitted = exact_begin pool.transactions.transactions pool.groups _ pool.holds_exact c.open_group-group.ensures.open_group in
+    subst (AreHoldsExact c.admit.new.self.transactions) (sym c.hold.ensures.counted)
+    (subst (λ (o : Open). AreHoldsExact o.transactions (after_hold pool.groups)) (sym c.in_ok-tx.ensures.admitted) admitted)
+
+pub invariant_of-self-2-clause-charged : goal.invariant_of-self-2-clause-charged
+invariant_of-self-2-clause-charged c =
+    let pool = c.args.self.now in
+    let opened = c.open_group-group.ensures.open_group in
+    rw (c.hold.ensures.counted, c.in-Ok.ensures.admitted, c.charge.ensures, opened) ((sums_stay_on_lines pool.groups.line pool.dirty pool.charged).admit pool.groups.line.open_group c.as_slice-shapes.result.now (omega arith))
+
+pub invariant_of-self-2-clause-plans_built : goal.invariant_of-self-2-clause-plans_built
+invariant_of-self-2-clause-plans_built c =
+    let pool = c.args.self.now in
+    let may = may_begin c.args.owner.0 c.as_slice-shapes.result.now (pool_shown pool) c.in_ok-check_begin.ensures in
+    let built = subst (λ (l : List Shape). is_plan_built l ≡ true) (c.as_slice-shapes.ensures ∙ sym c.in_ok-plan.ensures) may.built in
+    subst (λ (o : Open). All IsBuilt o.transactions) (sym c.in_ok-tx.ensures.admitted) (All-push IsBuilt pool.transactions.transactions _ pool.plans_built built)
 
 pub returns-clause-step : goal.returns-clause-step
 returns-clause-step c =
-    let s = pool_shown c.args.self.now in
-    let none = subst (λ (l : List Shape). begin_refusal c.args.owner.0 l s ≡ None) c.as_slice.ensures c.in_ok-check_begin.ensures.refusal in
+    let pool = c.args.self.now in
+    let s = pool_shown pool in
+    let none = subst (λ (l : List Shape). begin_refusal c.args.owner.0 l s ≡ None) c.as_slice-shapes.ensures c.in_ok-check_begin.ensures in
     let opened = c.open_group-group.ensures.open_group in
     rw (c.in_ok-tx.ensures.name, opened)
-    (begin_done c.args.owner.0 c.args.plan.now s _ none (rw (c.hold.ensures.counted, c.in_ok-tx.ensures.admitted, c.in_ok-plan.ensures, opened) refl))
+    (begin_done c.args.owner.0 c.args.plan.now s pool.dirty _ none (shows_sums pool) (rw (c.hold.ensures.counted, c.in_ok-tx.ensures.admitted, c.in_ok-plan.ensures, c.in-Ok.ensures.admitted, c.charge.ensures, c.as_slice-shapes.ensures, c.in-Ok-reserve.ensures.reserved, opened) refl))

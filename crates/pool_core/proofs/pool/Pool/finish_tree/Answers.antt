@@ -5,6 +5,7 @@ use Rattle.std.proofs.lemmas.List.Elements.{All-filter}
 use Rattle.base.specs.formats.Geometry.{block_count}
 use Rattle.base.specs.formats.Records.{Record}
 use Rattle.base.specs.tree.Syncs.{is_rename}
+use Rattle.space.specs.FreeSets.{FreeSpace}
 use Rattle.tree_plans.specs.declared.planner.Committed.{Committed}
 use Rattle.pool_core.specs.Shows.{record_of, pool_shown}
 use Rattle.pool_core.proofs.Mapped.{filter-map}
@@ -17,10 +18,13 @@ invariant_of-self-3 c =
     let later : Committed → Bool = λ (x : Committed). nat_lt c.args.running.group.0 x.group.0 in
     let Built : Committed → Type 0 = λ (x : Committed). list_any is_rename x.ops ≡ false in
     record {
-      free_sized = c.give_all.ensures.count ∙ pool.free_sized;
+      free_sized = ap (λ (s : FreeSpace). s.blocks) c.give_all.ensures ∙ pool.free_sized;
+      free_taken = ap (λ (s : FreeSpace). s.taken) c.give_all.ensures ∙ pool.free_taken;
       import_fits = pool.import_fits;
       counted = pool.counted;
       holds_exact = pool.holds_exact;
+      charged = pool.charged;
+      reserved = ap (λ (s : FreeSpace). s.reserved) c.give_all.ensures ∙ pool.reserved;
       next_ordinal_fits = pool.next_ordinal_fits;
       plans_built = pool.plans_built;
       running = pool.running;
@@ -37,6 +41,6 @@ returns-clause-shown c =
     let s = pool_shown pool in
     let rs = c.args.running in
     let later : Record → Bool = λ (r : Record). nat_lt rs.group.0 r.group in
-    let free = c.give_all.ensures.free ∙ ap (λ (l : List ℕ). set.union s.free (set.from_list l)) c.deref.ensures.value in
+    let free = ap (λ (f : FreeSpace). f.free) c.give_all.ensures ∙ ap (λ (l : List ℕ). set.union s.free (set.from_list l)) c.deref.ensures.value in
     let pending = ap (map record_of) c.drop_synced.ensures ∙ sym (filter-map later record_of pool.pending.items) in
     rw c.set_all.ensures.root (λ k. record s { free = free k; log = record s.log { pending = pending k }; root = rs.root })

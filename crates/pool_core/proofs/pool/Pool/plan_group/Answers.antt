@@ -1,4 +1,4 @@
-use Rattle.std.proofs.Common.{◌≡◌, ◌<◌, List, [], length, map, inl, subst, sym, ◌∙◌}
+use Rattle.std.proofs.Common.{◌≡◌, ◌<◌, List, length, map, inl, subst, sym, ◌∙◌}
 use Rattle.std.proofs.lemmas.Result.{IfErr-weaker, IfOk-weaker, err_from_is_err_and}
 use Rattle.base.specs.declared.names.ObjectId.{ObjectId}
 use Rattle.base.specs.declared.pointer.Pointer.{Pointer}
@@ -9,8 +9,7 @@ use Rattle.base.specs.stored.Stored.{AreUsed, frame_at}
 use Rattle.base.specs.tree.Syncs.{written_by}
 use Rattle.object_maps.specs.ContentsShown.{contents_of}
 use Rattle.object_maps.specs.Pointers.{pointers_of}
-use Rattle.space.specs.FreeSets.{addresses_from}
-use Rattle.tree_plans.specs.declared.planner.Committed.{Committed}
+use Rattle.base.specs.common.Rising.{rising}
 use Rattle.tree_plans.specs.declared.changes.ObjectChanges.{ObjectChanges}
 use Rattle.tree_plans.specs.declared.planner.TreePlan.{TreePlan}
 use Rattle.tree_plans.specs.Changes.{AreBornBefore, AreInRange, group_of}
@@ -43,11 +42,11 @@ returns-clause-tree c =
     let pool = c.args.self.now in
     let group = c.args.group.0 in
     let objects : List (ObjectId × ObjectChanges) = c.in_ok-objects.objects.entries in
-    let changes : AreChangesOf (pending_ops group pool.pending.items) [] objects = subst (λ (l : List Committed). AreChangesOf (pending_ops group l) [] objects) c.deref.ensures.value c.in_ok-objects.ensures.changes in
+    let changes : AreChangesOf (pending_ops group pool.pending.items) pool.tree.maps.items objects = rw (← c.deref.ensures.value, ← c.deref-2.ensures.value) c.in_ok-objects.ensures.changes in
     IfOk_all c.plan.result (λ (p : TreePlan) taken tree back. record {
       placed = plan_placed pool.tree p.root p.directories.items p.maps (block_count pool.geometry) pool.tree_placed tree.placed;
       planned = retold pool.tree p.root p.directories.items p.maps
-          (λ (old new : Place → Pointer). IsPlannedGroup group pool.pending.items (frame_at (pool_shown pool) group) old new (map new_block p.blocks.items) (contents_of pool.contents).objects)
+          (λ (old new : Place → Pointer). IsPlannedGroup group pool.pending.items pool.tree.maps.items (frame_at (pool_shown pool) group) old new (map new_block p.blocks.items) (contents_of pool.contents).objects)
           (record { objects = objects; changes = changes; planned = tree.planned; order = λ in_range. addresses_are p.blocks.items ∙ taken.order in_range });
       freed = retold pool.tree p.root p.directories.items p.maps (λ (old new : Place → Pointer). AreBornBefore group old → AreFreed old new p.freed.items) back.freed;
       used = retold pool.tree p.root p.directories.items p.maps (λ (old new : Place → Pointer). AreUsed (map new_block p.blocks.items) new) tree.used;
@@ -61,10 +60,10 @@ pub returns-clause-no_space : goal.returns-clause-no_space
 returns-clause-no_space c =
     let pool = c.args.self.now in
     let objects : List (ObjectId × ObjectChanges) = c.in_ok-objects.objects.entries in
-    let changes : AreChangesOf (pending_ops c.args.group.0 pool.pending.items) [] objects = subst (λ (l : List Committed). AreChangesOf (pending_ops c.args.group.0 l) [] objects) c.deref.ensures.value c.in_ok-objects.ensures.changes in
+    let changes : AreChangesOf (pending_ops c.args.group.0 pool.pending.items) pool.tree.maps.items objects = rw (← c.deref.ensures.value, ← c.deref-2.ensures.value) c.in_ok-objects.ensures.changes in
     let old : pointers_of pool.tree ≡ pointers_before pool.tree = λ k place. same_tree pool.tree place k in
     IfErr-weaker c.plan.result _ _ (λ e full no_space. record {
       objects = objects;
       changes = changes;
-      fewer = subst (λ (f : Place → Pointer). AreInRange objects → length (addresses_from 0 pool.free.flags.items) < length (written_by (group_of objects f (contents_of pool.contents).objects))) (sym old) (full no_space);
+      fewer = subst (λ (f : Place → Pointer). AreInRange objects → length (rising pool.free.free) < length (written_by (group_of objects f (contents_of pool.contents).objects))) (sym old) (full no_space);
     }) c.plan.ensures.full

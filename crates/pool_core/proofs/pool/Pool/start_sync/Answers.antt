@@ -1,12 +1,16 @@
-use Rattle.std.proofs.Common.{◌≡◌, ◌<◌, ◌∙◌, ap, sym, subst, refl, map, List, [], Some, None}
+use Rattle.std.proofs.Common.{◌≡◌, ◌<◌, ◌∙◌, ap, sym, subst, refl, length, map, List, [], Some, None, arith}
 use Rattle.std.specs.FinSet as set
 use Rattle.std.proofs.lemmas.Result.{err_from_is_err_and}
 use Rattle.base.specs.formats.Geometry.{block_count}
+use Rattle.base.specs.common.Rising.{rising}
 use Rattle.groups.specs.CountedLines.{CountedLine, IsCounted, after_start}
 use Rattle.groups.specs.Laws.{AreHoldsExact}
 use Rattle.base.specs.tree.PlacedTrees.{ArePlaced}
 use Rattle.sync.specs.Runs.{call_count}
+use Rattle.space.specs.FreeSets.{FreeSpace}
 use Rattle.tree_plans.specs.declared.planner.PlannedBlock.{PlannedBlock}
+use Rattle.throttle.specs.Blocks.{AreSumsOn}
+use Rattle.throttle.proofs.ShownSums.{sums_stay_on_lines}
 use Rattle.pool_core.specs.declared.pool.RunningSync.{RunningSync}
 use Rattle.tree_plans.specs.Plans.{address_of}
 use Rattle.pool_core.specs.Pointers.{pointers_after}
@@ -19,7 +23,7 @@ use Rattle.base.specs.steps.Shown.{SyncPlan}
 use Rattle.base.specs.stored.Stored.{NewTree}
 use Rattle.tree_plans.specs.Plans.{new_block}
 use Rattle.pool_core.specs.Holds.{start_reply}
-use Rattle.pool_core.proofs.StartLeads.{group_fits, group_planned, group_takes, group_takes_each, never_short, nothing_made}
+use Rattle.pool_core.proofs.StartLeads.{blocks_kept, group_fits, group_planned, group_takes, group_takes_each, never_short, none_counted, nothing_made, taken_anew}
 use Rattle.pool_core.proofs.HeldGroups.{counted_start, exact_moves, started}
 use Rattle.pool_core.proofs.OfNoDevice.{plan_own}
 use Rattle.pool_core.proofs.StillSteps.{still_pool}
@@ -86,19 +90,25 @@ returns-in_err-planned-clause-order c =
     let p = err_from_is_err_and c.from_residual-in_err-planned.result c.from_residual-in_err-planned.ensures.1 in
     rw (p.1) (λ now past x. tt)
 
-pub invariant_of-self-2 : goal.invariant_of-self-2
-invariant_of-self-2 c =
+pub take_all-requires : goal.take_all-requires
+take_all-requires c = none_counted c.args.self.now c.in_ok-group.ensures.may.1
+
+pub invariant_of-self : goal.invariant_of-self
+invariant_of-self c =
     let pool = c.args.self.now in
     let group = c.in_ok-group.group.0 in
     let may = c.in_ok-group.ensures.may in
     let told = c.start_sync.ensures in
     let now : c.start_sync.new.self ≡ after_start group pool.groups = started c.start_sync.result pool.groups c.start_sync.new.self group may told.refused told.started told.group in
-    let rs = c.running_sync.result in
-    let ens = c.running_sync.ensures in
+    let rs = c.running_sync-running.result in
+    let ens = c.running_sync-running.ensures in
     record {
-      free_sized = c.take_all.ensures.count ∙ pool.free_sized;
+      free_sized = ap (λ (s : FreeSpace). s.blocks) c.take_all.ensures ∙ pool.free_sized;
+      free_taken = ap (λ (s : FreeSpace). s.taken) c.take_all.ensures ∙ taken_anew pool c.deref.result.now may.1 ∙ ap (λ (l : List PlannedBlock). length l) c.deref.ensures.value;
       import_fits = pool.import_fits;
       counted = subst IsCounted (sym now) (counted_start pool.groups pool.counted group may.0 may.1);
+      charged = subst (λ (l : CountedLine). AreSumsOn l.line pool.dirty) (sym now) ((sums_stay_on_lines pool.groups.line pool.dirty pool.charged).moved (after_start group pool.groups).line refl (omega arith));
+      reserved = ap (λ (s : FreeSpace). s.reserved) c.take_all.ensures ∙ pool.reserved;
       holds_exact = subst (AreHoldsExact pool.transactions.transactions) (sym now) ((exact_moves pool.transactions.transactions pool.groups pool.counted pool.holds_exact).start group may.0);
       next_ordinal_fits = pool.next_ordinal_fits;
       plans_built = pool.plans_built;
@@ -129,8 +139,8 @@ returns-clause-step c = λ past explained.
           c.in_ok-check_running.ensures may.0 may.1
           (group_fits past pool c.in_ok-group.group.0 blocks (pointers_after c.in_ok-planned.planned.root c.in_ok-planned.planned.directories.items c.in_ok-planned.planned.maps pool.tree) may explained c.in_ok-planned.ensures.tree.planned)
           (pending_names pool.pending.items pool.pending_built) refl refl
-          (lowest_taken blocks pool.free.flags.items c.in_ok-planned.ensures.taken) refl refl
-          (rw (line, c.take_all.ensures.free, c.running_sync.ensures.plan) (ap (λ (l : List PlannedBlock). record s { line = record s.line { syncing = Some c.in_ok-group.group.0; middle = None }; free = set.difference s.free (set.from_list (map address_of l)); sync = Some plan }) c.deref.ensures.value)),
+          (lowest_taken blocks (rising pool.free.free) c.in_ok-planned.ensures.taken) refl refl
+          (rw (line, c.take_all.ensures, c.running_sync-running.ensures.plan) (ap (λ (l : List PlannedBlock). record s { line = record s.line { syncing = Some c.in_ok-group.group.0; middle = None }; free = set.difference s.free (set.from_list (map address_of l)); sync = Some plan }) (blocks_kept c.running_sync-running.result c.in_ok-planned.planned.blocks c.deref.result.now c.running_sync-running.ensures.begins.blocks c.deref.ensures.value))),
     )
 
 pub returns-clause-held : goal.returns-clause-held
@@ -149,16 +159,16 @@ returns-clause-held c = λ now past x.
           c.in_ok-check_running.ensures may.0 may.1
           (group_fits past pool c.in_ok-group.group.0 blocks (pointers_after c.in_ok-planned.planned.root c.in_ok-planned.planned.directories.items c.in_ok-planned.planned.maps pool.tree) may x.explained c.in_ok-planned.ensures.tree.planned)
           (pending_names pool.pending.items pool.pending_built) refl refl
-          (lowest_taken blocks pool.free.flags.items c.in_ok-planned.ensures.taken) refl refl
-          (rw (line, c.take_all.ensures.free, c.running_sync.ensures.plan) (ap (λ (l : List PlannedBlock). record s { line = record s.line { syncing = Some c.in_ok-group.group.0; middle = None }; free = set.difference s.free (set.from_list (map address_of l)); sync = Some plan }) c.deref.ensures.value)),
+          (lowest_taken blocks (rising pool.free.free) c.in_ok-planned.ensures.taken) refl refl
+          (rw (line, c.take_all.ensures, c.running_sync-running.ensures.plan) (ap (λ (l : List PlannedBlock). record s { line = record s.line { syncing = Some c.in_ok-group.group.0; middle = None }; free = set.difference s.free (set.from_list (map address_of l)); sync = Some plan }) (blocks_kept c.running_sync-running.result c.in_ok-planned.planned.blocks c.deref.result.now c.running_sync-running.ensures.begins.blocks c.deref.ensures.value))),
     )
 
 pub returns-clause-order : goal.returns-clause-order
 returns-clause-order c = λ now past x.
     let pool = c.args.self.now in
     let planned = c.in_ok-planned.planned in
-    let rs = c.running_sync.result in
-    let ens = c.running_sync.ensures in
+    let rs = c.running_sync-running.result in
+    let ens = c.running_sync-running.ensures in
     record {
       synced = x.kept.stored.synced;
       replayed = x.kept.stored.replayed;
@@ -190,8 +200,8 @@ returns-clause-leads c = λ now past later.
     let pool = c.args.self.now in
     let planned = c.in_ok-planned.planned in
     let told = c.in_ok-planned.ensures in
-    let rs = c.running_sync.result in
-    let ens = c.running_sync.ensures in
+    let rs = c.running_sync-running.result in
+    let ens = c.running_sync-running.ensures in
     let made = nothing_made pool.tree rs planned.root planned.directories planned.maps planned.blocks ens.begins.root ens.begins.directories ens.begins.maps ens.begins.blocks ens.begins.done in
     record {
       same = refl;

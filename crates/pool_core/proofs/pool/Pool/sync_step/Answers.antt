@@ -10,10 +10,14 @@ use Rattle.object_maps.specs.Pointers.{pointers_of}
 use Rattle.pool_core.specs.declared.pool.RunningSync.{RunningSync}
 use Rattle.pool_core.specs.RunningUberblocks.{WritesUberblock, uberblock_with}
 use Rattle.pool_core.specs.Shows.{plan_of, pool_shown, shown_after_tree}
-use Rattle.pool_core.proofs.SameSyncs.{as_many, kept_sync, left_as_before, more_left, one_left, one_less, refused_as, same_taken, same_uberblock}
+use Rattle.pool_core.proofs.SameSyncs.{as_many, kept_sync, left_as_before, more_left, one_left, one_less, refused_as, same_taken, same_taken_count, same_uberblock}
 use Rattle.base.specs.disk.Disk.{bytes_of}
 use Rattle.base.specs.declared.step.Reply.TheVariants as reply
-use Rattle.groups.specs.CountedLines.{after_sync, line_after_sync}
+use Rattle.groups.specs.CountedLines.{CountedLine, after_sync, line_after_sync}
+use Rattle.std.specs.FinMap as finite
+use Rattle.throttle.proofs.BlockSums.{blocks_of-remove}
+use Rattle.throttle.specs.Blocks.{AreSumsOn}
+use Rattle.pool_core.proofs.Charges.{synced_charged, syncing_next}
 use Rattle.pool_core.proofs.HeldGroups.{of_group}
 use Rattle.base.specs.declared.error.PoolError.{PoolError}
 use Rattle.pool_core.specs.declared.state.Progress.{Progress}
@@ -48,6 +52,23 @@ finish_tree-requires-clause-placed g c =
     let same = kept_sync c.in-Some-take.synced _ c.in-Some-take.ensures.value in
     subst (λ (r : RunningSync). ∥ ArePlaced (block_count pool.geometry) (tree_after r pool.tree) ∥₁) (sym same) (pool.planned c.in-Some.running c.in-Some.is)
 
+pub end_charges-requires-clause-next : goal.end_charges-requires-clause-next
+end_charges-requires-clause-next g c =
+    let pool = c.args.self.now in
+    let same = kept_sync c.in-Some-take.synced _ c.in-Some-take.ensures.value in
+    let syncing = sym pool.sync_line ∙ ap (λ (o : Option RunningSync). option_map (λ (r : RunningSync). r.group.0) o) c.in-Some.is in
+    syncing_next pool c.in-Some-take.synced.group.0 (syncing ∙ ap (λ (r : RunningSync). Some r.group.0) (sym same))
+
+pub invariant_of-self-in-Ok-Last-clause-charged : goal.invariant_of-self-in-Ok-Last-clause-charged
+invariant_of-self-in-Ok-Last-clause-charged g c =
+    let pool = c.args.self.now in
+    let same = kept_sync c.in-Some-take.synced _ c.in-Some-take.ensures.value in
+    let syncing = sym pool.sync_line ∙ ap (λ (o : Option RunningSync). option_map (λ (r : RunningSync). r.group.0) o) c.in-Some.is in
+    let finished : c.finish_sync.new.self ≡ after_sync c.in-Some-take.synced.group.0 pool.groups =
+    of_group (λ n. after_sync n pool.groups) pool.groups.line.syncing c.in-Some-take.synced.group.0 _ (syncing ∙ ap (λ (r : RunningSync). Some r.group.0) (sym same)) c.in-Ok.ensures.group c.in-Ok.ensures.synced in
+    subst (λ (l : CountedLine). AreSumsOn l.line c.end_charges.new.dirty) (sym finished)
+    (subst (AreSumsOn (line_after_sync c.in-Some-take.synced.group.0 pool.groups.line)) (sym c.end_charges.ensures.dirty) (synced_charged pool c.in-Some-take.synced.group.0))
+
 pub invariant_of-self-in-Ok-More : goal.invariant_of-self-in-Ok-More
 invariant_of-self-in-Ok-More g c =
     let pool = c.args.self.now in
@@ -57,9 +78,12 @@ invariant_of-self-in-Ok-More g c =
     let left = more_left c.in-Some.running.run c.next.new.self told.counts.same told.counts.done was.1 (λ e. let other = sym c.in-Ok-More.field-0-is ∙ told.counts.last.1 e in cc) in
     record {
       free_sized = pool.free_sized;
+      free_taken = pool.free_taken ∙ same_taken_count pool.sync c.in-Some.running c.next.new.self told.counts.same is;
       import_fits = pool.import_fits;
       counted = pool.counted;
       holds_exact = pool.holds_exact;
+      charged = pool.charged;
+      reserved = pool.reserved;
       next_ordinal_fits = pool.next_ordinal_fits;
       plans_built = pool.plans_built;
       running = λ x e. let same = kept_sync _ x e in (
@@ -83,9 +107,12 @@ invariant_of-self-in-Err g c =
     let left = left_as_before c.in-Some.running.run c.next.new.self told.counts.same told.counts.done was.1 in
     record {
       free_sized = pool.free_sized;
+      free_taken = pool.free_taken ∙ same_taken_count pool.sync c.in-Some.running c.next.new.self told.counts.same is;
       import_fits = pool.import_fits;
       counted = pool.counted;
       holds_exact = pool.holds_exact;
+      charged = pool.charged;
+      reserved = pool.reserved;
       next_ordinal_fits = pool.next_ordinal_fits;
       plans_built = pool.plans_built;
       running = λ x e. let same = kept_sync _ x e in (
@@ -113,8 +140,14 @@ returns-in-Ok-clause-step g c =
     let finished : c.finish_sync.new.self ≡ after_sync c.in-Some-take.synced.group.0 pool.groups =
     of_group (λ n. after_sync n pool.groups) pool.groups.line.syncing c.in-Some-take.synced.group.0 _ (syncing ∙ ap (λ (r : RunningSync). Some r.group.0) (sym same)) c.in-Ok.ensures.group c.in-Ok.ensures.synced in
     step_synced s _ c.in-Some.running.group.0 c.in-Some-take.synced.group.0 plan c.in_ok-check_running.ensures syncing running
-    (one_left c.in-Some.running.run c.next.new.self told.counts.same told.counts.done (told.counts.last.0 c.in-Ok-Last.field-0-is)) (ap (λ (r : RunningSync). r.group.0) same) refl refl refl
-    (c.finish_tree.ensures.shown ∙ rw (finished, c.take.ensures.after) (λ k. shown_after_tree (same k) (record s { line = line_after_sync (same k).group.0 s.line; sync = None })))
+    (one_left c.in-Some.running.run c.next.new.self told.counts.same told.counts.done (told.counts.last.0 c.in-Ok-Last.field-0-is)) (ap (λ (r : RunningSync). r.group.0) same) refl
+    (c.finish_tree.ensures.shown ∙ rw (finished, c.take.ensures.after, c.end_charges.ensures.dirty, c.end_charges.ensures.free, blocks_of-remove)
+    (λ k. shown_after_tree (same k) (record s {
+      line = line_after_sync (same k).group.0 s.line;
+      dirty = finite.remove s.dirty (same k).group.0;
+      reserved = finite.remove s.reserved (same k).group.0;
+      sync = None;
+    })))
 
 pub returns-in-Ok-More-clause-step : goal.returns-in-Ok-More-clause-step
 returns-in-Ok-More-clause-step g c =

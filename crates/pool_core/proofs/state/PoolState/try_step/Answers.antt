@@ -1,6 +1,6 @@
 use Rattle.std.proofs.Common.{refl, rules}
 use Rattle.pool_core.specs.StepAnswers.{admitted_numbers, appended_numbers, group_number, lock_number, receipt_numbers}
-use Rattle.pool_core.proofs.MadeSteps.{name_step, plain_step, start_step, read_moves_nothing, still_step, sync_step}
+use Rattle.pool_core.proofs.MadeSteps.{name_step, plain_step, start_step, status_step, read_moves_nothing, still_step, sync_step}
 use Rattle.pool_core.proofs.state.PoolState.try_step.Goals as goal
 
 pub returns-in-Lock : goal.returns-in-Lock
@@ -35,6 +35,9 @@ returns-in-Digest g c = rw c.in-Digest.is (plain_step _ (λ r x y h. h) refl (λ
 
 pub returns-in-Name : goal.returns-in-Name
 returns-in-Name g c = rw c.in-Name.is (name_step c.name.result c.name.ensures)
+
+pub returns-in-Status : goal.returns-in-Status
+returns-in-Status g c = rw c.in-Status.is (status_step c.status.result c.status.ensures)
 
 pub returns-in-StartSync : goal.returns-in-StartSync
 returns-in-StartSync g c = rw c.in-StartSync.is (start_step _ c.start_sync.ensures.step c.start_sync.ensures.held c.start_sync.ensures.leads c.start_sync.ensures.no_call c.map-in-StartSync.ensures.cases)
