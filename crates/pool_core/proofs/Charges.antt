@@ -2,7 +2,10 @@
 use Rattle.std.proofs.Common.{◌≡◌, ◌∙◌, ℕ, ◌+◌, ◌-◌, ◌%◌, ◌<◌, ◌≤◌, Bool, true, false, List, length, nat_lt, subst, ap, refl, sym, arith, inl}
 use Rattle.std.proofs.lemmas.Bool.Decides.{nat_tests}
 use Rattle.std.proofs.lemmas.List.{length-map}
-use Rattle.std.specs.Prelude.{IfSome, Option, Some, None, option_map}
+use Rattle.std.specs.FinMap.{get-empty}
+use Rattle.std.specs.Ordering.{nat_cmp}
+use Rattle.std.specs.Prelude.{IfSome, Option, Some, None, OnErr, OnOk, Result, Ok, Err, option_map}
+use Rattle.base.specs.declared.error.PoolError.{PoolError}
 use Rattle.base.specs.declared.names.Group.{Group}
 use Rattle.base.specs.declared.status.Status.{Status}
 use Rattle.base.specs.declared.operation.Shape.{Shape}
@@ -14,9 +17,9 @@ use Rattle.base.specs.steps.Refusals.{blocks_wanted}
 use Rattle.base.specs.steps.Shown.{Shown, available, dirty_total, free_count, status_of, taken_of}
 use Rattle.space.specs.FreeSets.{available_in, is_short}
 use Rattle.tree_plans.specs.declared.planner.PlannedBlock.{PlannedBlock}
-use Rattle.groups.specs.CountedLines.{line_after_sync, middle_group, number_of}
+use Rattle.groups.specs.CountedLines.{CountedLine, after_close, line_after_sync, middle_group, number_of}
 use Rattle.throttle.specs.Blocks.{AreSumsOn, ShowsSums, blocks_in}
-use Rattle.throttle.specs.DirtyBytes.{MayBeUnsynced, after_synced, is_throttled}
+use Rattle.throttle.specs.DirtyBytes.{MayBeUnsynced, after_synced, dirty_behind, is_throttled, total_of}
 use Rattle.throttle.specs.Laws.{SameTotals}
 use Rattle.throttle.proofs.ShownSums.{holding_groups_are_charged, same_totals, sums_stay_on_lines}
 use Rattle.pool_core.specs.declared.pool.Pool.{Pool}
@@ -45,6 +48,10 @@ short_of blocks kept wanted ready is few = subst (λ n. nat_lt ready blocks ≡ 
 -- by those that are left
 pub short_by : (blocks kept wanted ready : ℕ) → blocks + kept ≡ wanted → blocks ≤ ready → nat_lt (ready - blocks) kept ≡ nat_lt ready wanted
 short_by blocks kept wanted ready is enough = subst (λ n. nat_lt (ready - blocks) kept ≡ nat_lt ready n) is (grind (arith, nat_tests))
+
+-- nothing is charged at first
+pub total-behind : (limit synced : ℕ) → total_of (dirty_behind limit synced) ≡ 0
+total-behind limit synced = rw (get-empty nat_cmp (synced + 1), get-empty nat_cmp (synced + 1 + 1), get-empty nat_cmp (synced + 1 + 1 + 1)) refl
 
 -- how many blocks a running sync has taken
 length-taken : (address : ℕ) (sync : Option RunningSync) → length (taken_of (option_map (plan_of address) sync)) ≡ taken_count sync
@@ -83,6 +90,12 @@ module _ (p : Pool) where
   syncing_next group is =
       let next : IfSome (Some group) (λ g. g ≡ p.groups.line.synced + 1) = subst (λ (o : Option ℕ). IfSome o (λ g. g ≡ p.groups.line.synced + 1)) is p.counted.line.syncing in
       next ∙ ap (λ n. n + 1) p.charged.synced
+
+  -- they stay those of the line where a group is closed, or the close is refused
+  pub close_charged : (answer : Result Group PoolError) (new : CountedLine) → OnErr answer (new ≡ p.groups) → OnOk answer (new ≡ after_close p.groups) → AreSumsOn new.line p.dirty
+  close_charged (Ok group) new unchanged closed =
+      subst (λ (l : CountedLine). AreSumsOn l.line p.dirty) (sym closed) ((sums_stay_on_lines p.groups.line p.dirty p.charged).moved (after_close p.groups).line refl (omega arith))
+  close_charged (Err e) new unchanged closed = subst (λ (l : CountedLine). AreSumsOn l.line p.dirty) (sym unchanged) p.charged
 
   -- once it is synced the sums are those of the line then
   pub synced_charged : (group : ℕ) → AreSumsOn (line_after_sync group p.groups.line) (after_synced group p.dirty)

@@ -1,6 +1,8 @@
 use Rattle.std.proofs.Common.{refl}
 use Rattle.std.proofs.lemmas.Result.{err_from_is_err_and}
 use Rattle.pool_core.proofs.Closes.{close_suspended, close_older, close_ends}
+use Rattle.pool_core.proofs.Charges.{close_charged}
+use Rattle.pool_core.proofs.HeldGroups.{close_keeps}
 use Rattle.pool_core.specs.Shows.{pool_shown}
 use Rattle.pool_core.proofs.pool.Pool.close_group.Goals as goal
 
@@ -15,6 +17,21 @@ returns-in_err-check_no_older-clause-step c =
     let p = err_from_is_err_and c.from_residual-in_err-check_no_older.result c.from_residual-in_err-check_no_older.ensures.1 in
     let told = c.in_err-check_no_older.ensures in
     rw (p.1, p.2, told.0) (close_older (pool_shown c.args.self.now) c.in_ok-check_running.ensures told.1)
+
+pub invariant_of-self-clause-counted : goal.invariant_of-self-clause-counted
+invariant_of-self-clause-counted c =
+    let pool = c.args.self.now in
+    let told = c.close_open.ensures in
+    (close_keeps c.close_open.result pool.transactions.transactions pool.groups c.close_open.new.self pool.counted pool.holds_exact told.refused told.unchanged told.closed).0
+
+pub invariant_of-self-clause-holds_exact : goal.invariant_of-self-clause-holds_exact
+invariant_of-self-clause-holds_exact c =
+    let pool = c.args.self.now in
+    let told = c.close_open.ensures in
+    (close_keeps c.close_open.result pool.transactions.transactions pool.groups c.close_open.new.self pool.counted pool.holds_exact told.refused told.unchanged told.closed).1
+
+pub invariant_of-self-clause-charged : goal.invariant_of-self-clause-charged
+invariant_of-self-clause-charged c = close_charged c.args.self.now c.close_open.result c.close_open.new.self c.close_open.ensures.unchanged c.close_open.ensures.closed
 
 pub returns-clause-step : goal.returns-clause-step
 returns-clause-step c =
