@@ -16,7 +16,7 @@ use Rattle.base.specs.stored.Stored.{Held, IsHeld}
 use Rattle.base.specs.formats.Uberblocks.{Uberblock}
 use Rattle.base.proofs.steps.Additions.{runs_grow}
 use Rattle.base.proofs.stored.HeldMounts.{held_mounts, steps_write_no_log}
-use Rattle.base.proofs.stored.StoredSyncs.{up_to-all}
+use Rattle.base.proofs.steps.WaitingGroups.{up_to-all}
 use Rattle.device_model.specs.declared.device.SectorDevice.{Ghosts}
 use Rattle.pool_core.specs.declared.state.PoolState.{PoolState}
 use Rattle.pool_core.specs.Holds.{KeepsHeld, Leads, Told, held_with, state_with}

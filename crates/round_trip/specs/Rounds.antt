@@ -11,7 +11,8 @@ use Rattle.base.specs.crash.Mount.{MountsTo}
 use Rattle.base.specs.history.Past.{new_past}
 use Rattle.base.specs.steps.Runs.{Run}
 use Rattle.base.specs.stored.ShownLabels.{HasNoLogBlock}
-use Rattle.base.specs.stored.Stored.{AreUpTo, Held, IsHeld}
+use Rattle.base.specs.steps.Stage.{AreUpTo}
+use Rattle.base.specs.stored.Stored.{Held, IsHeld}
 use Rattle.import_replay.specs.CreateRefusals.{CanCreate, IsCreateRefusal}
 use Rattle.import_replay.specs.Creations.{IsNewPool}
 use Rattle.import_replay.specs.ImportRefusals.{IsImportRefusal}

@@ -34,4 +34,4 @@ returns-in-Ok-clause-opened g c = λ keeps.
     }
 
 pub returns-in-Ok-clause-limit : goal.returns-in-Ok-clause-limit
-returns-in-Ok-clause-limit g c = (c.in-Ok.ensures.explained 0).exact.limit
+returns-in-Ok-clause-limit g c = (c.in-Ok.ensures.explained 0).exact.charges.limit
