@@ -11,7 +11,7 @@ use Rattle.base.specs.declared.status.Status.{Status}
 use Rattle.base.specs.declared.operation.Shape.{Shape}
 use Rattle.base.specs.formats.Geometry.{block_address, block_size}
 use Rattle.base.specs.history.Plans.{charge_of, estimate_of}
-use Rattle.base.specs.steps.Groups.{Line, Middle}
+use Rattle.base.specs.steps.Groups.{Middle}
 use Rattle.base.specs.steps.Charges.{available_of}
 use Rattle.base.specs.steps.Refusals.{blocks_wanted}
 use Rattle.base.specs.steps.Shown.{Shown, available, dirty_total, free_count, status_of, taken_of}

@@ -1,23 +1,20 @@
 -- Range locks and the transactions that keep to them, step by step.
-use Rattle.std.proofs.Common.{ℕ, ◌≡◌, ◌+◌, Bool, true, false, ◌||◌, List, [], ◌∷◌, ◌++◌, length, nat_le, nat_lt, refl, ap}
+use Rattle.std.proofs.Common.{ℕ, ◌≡◌, true, false, [], ◌∷◌, ◌++◌, length, refl, ap}
 use Rattle.std.specs.Prelude.{Option, Some, None, Result, Ok, Err, ◌↔◌, IfOk, IsOk, IsSome, OnErr, OnOk}
 use Rattle.base.specs.declared.error.PoolError.{PoolError}
 use Rattle.base.specs.declared.error.PoolError.TheVariants as error
 use Rattle.base.specs.declared.names.LockId.{LockId}
 use Rattle.base.specs.declared.names.ObjectId.{ObjectId}
 use Rattle.base.specs.declared.names.Owner.{Owner}
-use Rattle.base.specs.declared.operation.Shape.{Shape}
 use Rattle.base.specs.declared.range.Mode.{Mode}
 use Rattle.base.specs.declared.range.Mode.TheVariants.{Writer}
 use Rattle.base.specs.declared.range.Range.{Range}
-use Rattle.base.specs.formats.Limits.{last_number, max_log_record, max_transactions}
 use Rattle.base.specs.history.Contents.{length_of}
-use Rattle.base.specs.history.Plans.{NumberRange, log_record_size}
+use Rattle.base.specs.history.Plans.{NumberRange}
 use Rattle.base.specs.steps.Locks.{Grant}
-use Rattle.base.specs.steps.Refusals.{append_range, append_refusal, lock_refusal, lock_of, is_lock_in_use, unlock_refusal, is_plan_covered, is_plan_blocked}
+use Rattle.base.specs.steps.Refusals.{append_range, append_refusal, lock_refusal, lock_of, is_lock_in_use, unlock_refusal}
 use Rattle.base.specs.steps.Shown.{Shown}
-use Rattle.base.specs.steps.Stage.{has_older_group, is_plan_built, begin_refusal, Begin}
-use Rattle.base.specs.steps.Steps.{Lock, LockAppend, Unlock, next_grant, next_admission}
+use Rattle.base.specs.steps.Steps.{Lock, LockAppend, Unlock, next_grant}
 use Rattle.range_locks.specs.Locks as locks
 use Rattle.range_locks.specs.Locks.{Held}
 use Rattle.pool_core.specs.Meets.{Meets}

@@ -5,7 +5,6 @@ use Rattle.base.specs.formats.Geometry.{block_count}
 use Rattle.base.specs.history.Past.{new_past}
 use Rattle.base.specs.steps.Shown.{Shown}
 use Rattle.base.specs.stored.Stored.{IsHeld, IsStored}
-use Rattle.base.proofs.common.KeptLists.{none_at}
 use Rattle.object_maps.specs.ContentsShown.{contents_of}
 use Rattle.object_maps.specs.Pointers.{pointers_of}
 use Rattle.import_replay.specs.declared.mounted.Mounted.{Mounted}

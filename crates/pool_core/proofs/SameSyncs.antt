@@ -67,10 +67,11 @@ one_left old new same done last = let count = same_count old new same in omega a
 pub same_taken : (old new : SyncRun) → SameSync old new → map (λ (b : PlannedBlock). block_address b.index) new.blocks.items ≡ map (λ (b : PlannedBlock). block_address b.index) old.blocks.items
 same_taken old new same = ap (λ (v : Vec PlannedBlock). map (λ (b : PlannedBlock). block_address b.index) v.items) same.blocks
 
--- and are as many
+-- how many blocks the running sync took, 0 where none runs
 abbrev pub taken_count : Option RunningSync → ℕ
 taken_count sync = option_map_or (λ (r : RunningSync). length r.run.blocks.items) sync 0
 
+-- after a call it has as many
 pub same_taken_count : (sync : Option RunningSync) (r : RunningSync) (new : SyncRun) → SameSync r.run new → sync ≡ Some r → taken_count sync ≡ length new.blocks.items
 same_taken_count sync r new same is = ap taken_count is ∙ ap (λ (v : Vec PlannedBlock). length v.items) (sym same.blocks)
 

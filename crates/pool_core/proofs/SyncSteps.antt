@@ -1,11 +1,8 @@
 -- A step of a running sync, by what its device call answered.
-use Rattle.std.proofs.Common.{Bool, cond, ℕ, ◌≡◌, ◌-◌, ◌<◌, true, false, List, [], ◌++◌, map, nat_le, nat_lt, refl, ap, sym, ◌∙◌, ◌⊎◌}
-use Rattle.std.specs.Prelude.{Option, Some, None, Ok, Err, filter}
-use Rattle.std.specs.Ordering.{eq_by_cmp, nat_cmp}
+use Rattle.std.proofs.Common.{ℕ, ◌≡◌, ◌-◌, ◌<◌, true, false, List, [], ◌++◌, map, nat_le, nat_lt, refl, ap, sym, ◌∙◌, ◌⊎◌}
+use Rattle.std.specs.Prelude.{Some, None, Ok, Err, filter}
 use Rattle.std.specs.FinMap as finite
-use Rattle.std.specs.FinMap.{FinMap, get-empty, get-remove, same_map, nat_cmp-IsAntisymmetric}
 use Rattle.std.specs.FinSet as set
-use Rattle.std.proofs.lemmas.Cmp.{nat_cmp_total}
 use Rattle.std.proofs.lemmas.List.{append-nil}
 use Rattle.base.specs.declared.error.PoolError.{PoolError}
 use Rattle.base.specs.declared.error.PoolError.TheVariants as error

@@ -1,5 +1,5 @@
 -- What the plan of a group says of its blocks and of the tree that they make.
-use Rattle.std.specs.Prelude.{ℕ, ◌≡◌, ◌<◌, All, Bool, List, Some, length, map, slice_get, take}
+use Rattle.std.specs.Prelude.{ℕ, ◌≡◌, ◌<◌, All, List, Some, length, map, slice_get, take}
 use Rattle.std.specs.Ordering.{nat_cmp}
 use Rattle.std.specs.FinMap.{FinMap}
 use Rattle.base.specs.declared.names.ObjectId.{ObjectId}
@@ -44,8 +44,8 @@ pub record IsPlannedGroup (group : ℕ) (pending : List Committed) (maps : List 
   pub planned : (before : FinMap nat_cmp (List ℕ)) → IsCoveredBy objects old before after → AreChanges objects after → AreTreePointers objects old after → IsTreePlan bs frame old new before after
   pub order : AreInRange objects → map (λ (b : NewBlock). b.address) bs ≡ map (λ (place : Place). (new place).address) (written_by (group_of objects old after))
 
--- Some changes are those of the group's pending operations. Where they are in range, fewer of these blocks are free than there are places
--- that are written.
+-- Some changes are those of the group's pending operations on a tree with these maps. Where they are in range, fewer of these blocks are
+-- free than there are places that are written.
 pub record IsShortOfBlocks (group : ℕ) (pending : List Committed) (maps : List ObjectMap) (old : Place → Pointer) (after : FinMap nat_cmp (List ℕ)) (free : List ℕ) : Type 0 where
   pub objects : List (ObjectId × ObjectChanges)
   pub changes : AreChangesOf (pending_ops group pending) maps objects

@@ -3,7 +3,7 @@ use Rattle.std.specs.Prelude.{ℕ, ◌||◌, Bool, List, nat_le, not}
 use Rattle.std.specs.List.{list_all}
 use Rattle.base.specs.declared.operation.Shape.{Shape}
 use Rattle.base.specs.declared.range.Range.{Range}
-use Rattle.base.specs.formats.Limits.{name_number, object_count}
+use Rattle.base.specs.formats.Limits.{object_count}
 use Rattle.base.specs.steps.Locks.{Grant, is_covered_for_writing, is_range_allowed}
 use Rattle.transactions.specs.Ranges.{kept_range_of}
 

@@ -36,7 +36,8 @@ use crate::plans::{KEPT_BACK, check_plan};
 use crate::state::Progress;
 use base::{
     Bytes, Group, LAST_NUMBER, LockId, Mode, OBJECT_COUNT, ObjectId, ObjectRange, Op, Ops, Ordinal,
-    Owner, Plan, Pointer, PoolError, PoolName, Range, Receipt, Shape, Status, TxId, WRITTEN_VERSION,
+    Owner, Plan, Pointer, PoolError, PoolName, Range, Receipt, Shape, Status, TxId,
+    WRITTEN_VERSION,
 };
 use device_model::SectorDevice;
 use groups::Groups;

@@ -1,4 +1,4 @@
-use Rattle.std.proofs.Common.{◌≡◌, ◌∙◌, ℕ, ◌≤◌, ap, subst, sym}
+use Rattle.std.proofs.Common.{◌∙◌, ◌≤◌, ap, subst, sym}
 use Rattle.space.specs.FreeSets.{FreeSpace, after_sync_end}
 use Rattle.throttle.specs.Blocks.{blocks_in}
 use Rattle.throttle.specs.DirtyBytes.{sum_of, total_of}

@@ -1,5 +1,4 @@
 use Rattle.std.proofs.Common.{◌∙◌, refl, sym}
-use Rattle.pool_core.specs.Shows.{pool_shown}
 use Rattle.pool_core.proofs.Charges.{charge_throttled}
 use Rattle.pool_core.proofs.pool.Pool.check_room.Goals as goal
 

@@ -1,8 +1,4 @@
-use Rattle.std.proofs.Common.{◌≡◌, ◌∙◌, ◌+◌, ◌<◌, true, ap, nat_lt, subst, sym, arith}
-use Rattle.std.proofs.lemmas.Bool.{lt-ltb}
-use Rattle.base.specs.steps.Refusals.{blocks_wanted}
-use Rattle.base.specs.steps.Shown.{available}
-use Rattle.pool_core.specs.Shows.{pool_shown}
+use Rattle.std.proofs.Common.{◌∙◌, ◌+◌, ap, sym}
 use Rattle.pool_core.proofs.Charges.{short_by, short_of}
 use Rattle.pool_core.proofs.pool.Pool.is_short_for.Goals as goal
 

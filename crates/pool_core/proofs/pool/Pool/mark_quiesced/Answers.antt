@@ -2,6 +2,7 @@ use Rattle.std.proofs.Common.{refl}
 use Rattle.std.proofs.lemmas.Result.{err_from_is_err_and}
 use Rattle.groups.proofs.ExactHolds.{count_transactions}
 use Rattle.pool_core.proofs.Closes.{quiesce_ends, quiesce_suspended}
+use Rattle.pool_core.proofs.HeldGroups.{quiesce_keeps}
 use Rattle.pool_core.specs.Shows.{pool_shown}
 use Rattle.pool_core.proofs.pool.Pool.mark_quiesced.Goals as goal
 
@@ -10,6 +11,18 @@ returns-in_err-check_running-clause-step c =
     let p = err_from_is_err_and c.from_residual.result c.from_residual.ensures.1 in
     let told = c.in_err-check_running.ensures in
     rw (p.1, p.2, told.0) (quiesce_suspended (pool_shown c.args.self.now) told.1)
+
+pub invariant_of-self-clause-counted : goal.invariant_of-self-clause-counted
+invariant_of-self-clause-counted c =
+    let pool = c.args.self.now in
+    let told = c.mark_quiesced.ensures in
+    (quiesce_keeps c.mark_quiesced.result pool.transactions.transactions pool.groups c.mark_quiesced.new.self pool.counted pool.holds_exact told.refused told.unchanged told.quiesced told.group).0
+
+pub invariant_of-self-clause-holds_exact : goal.invariant_of-self-clause-holds_exact
+invariant_of-self-clause-holds_exact c =
+    let pool = c.args.self.now in
+    let told = c.mark_quiesced.ensures in
+    (quiesce_keeps c.mark_quiesced.result pool.transactions.transactions pool.groups c.mark_quiesced.new.self pool.counted pool.holds_exact told.refused told.unchanged told.quiesced told.group).1
 
 pub returns-clause-step : goal.returns-clause-step
 returns-clause-step c =
