@@ -139,24 +139,31 @@ def count(program, pool, folder):
     return {kind: sum(some) / len(some) for kind, some in costs.items()}
 
 
+def numbers(costs):
+    return "".join(f"{cost:8.0f}" for cost in costs)
+
+
 def main():
     if len(sys.argv) != 2:
         fail("usage: python3 tools/costs.py PROGRAM")
-    print(f"{'MiB':>5}{'locks':>6}{'objects':>8}" + "".join(f"{it:>8}" for it in [*KINDS, "all"]) + f"{'sync':>11}")
+    print("  MiB locks objects" + "".join(f"{kind:>8}" for kind in [*KINDS, "all", "sync"]))
     sums = {}
     with tempfile.TemporaryDirectory() as folder:
         for pool in dict.fromkeys(pool for pair in PAIRS.values() for pool in pair):
             costs = count(sys.argv[1], pool, pathlib.Path(folder))
             sums[pool] = sum(costs[kind] for kind in KINDS)
-            row = "".join(f"{it:8.0f}" for it in [*(costs[kind] for kind in KINDS), sums[pool]])
-            print(f"{pool.size // MIB:5}{pool.locks:6}{pool.objects:8}{row}{costs['sync']:11.0f}", flush=True)
-    passed = True
+            row = [*(costs[kind] for kind in KINDS), sums[pool], costs["sync"]]
+            print(f"{pool.size // MIB:5}{pool.locks:6}{pool.objects:8}{numbers(row)}", flush=True)
+    status = 0
     for name, (one, other) in PAIRS.items():
         low, high = sorted([sums[one], sums[other]])
         apart = high / low - 1
-        passed = passed and apart <= MOST_APART
-        print(f"{name}: {100 * apart:.1f} percent apart: {'within' if apart <= MOST_APART else 'not within'} {MOST_APART:.0%}")
-    sys.exit(0 if passed else 1)
+        if apart <= MOST_APART:
+            verdict = "within"
+        else:
+            verdict, status = "not within", 1
+        print(f"{name}: {apart:.1%} apart, {verdict} {MOST_APART:.0%}")
+    sys.exit(status)
 
 
 main()
