@@ -7,7 +7,7 @@ returns-in-Ok-clause-imports c =
     (record {
       device = c.in-Ok.imported.device;
       mounted = c.in-Ok.imported.mounted;
-      imported = record { limit = (c.in-Ok.ensures.explained 0).exact.limit; synced = c.in-Ok.ensures.synced refl };
+      imported = record { limit = (c.in-Ok.ensures.explained 0).exact.charges.limit; synced = c.in-Ok.ensures.synced refl };
       told_is = refl;
       pool = c.keep_pool.ensures.pool;
     })
