@@ -5,7 +5,7 @@
 //!
 //! - Locks (`zfs_rlock.c`): `Lock`, `LockAppend` from the end of an object on, `Unlock`.
 //! - Transactions (`dmu_tx.c`): `Begin` with a plan whose ranges lie in writer locks of the owner, `Commit` with operations of
-//!   just these shapes, `Read` under a lock of the owner.
+//!   just these shapes, `Abort` which gives it up, `Read` under a lock of the owner.
 //! - What the current contents are: the `Length` of an object, the pool's `Name`, and the `Digest` of them all. `Status` tells of
 //!   the groups, and of what is charged and free.
 //! - Groups (`txg.c`): `CloseGroup` opens the next group, `MarkQuiesced` says that no transaction of the closed one is open,
@@ -35,6 +35,8 @@ pub enum Step {
     Begin(Owner, Plan),
     /// Commits a transaction with these operations.
     Commit(TxId, Ops),
+    /// Gives a transaction up.
+    Abort(TxId),
     /// Reads the bytes of a range that lie below an object's length.
     Read(Owner, ObjectId, Range),
     /// Tells an object's length.

@@ -18,12 +18,14 @@ use Rattle.base.specs.steps.Shown.{Shown, available, dirty_total, free_count, st
 use Rattle.space.specs.FreeSets.{available_in, is_short}
 use Rattle.tree_plans.specs.declared.planner.PlannedBlock.{PlannedBlock}
 use Rattle.groups.specs.CountedLines.{CountedLine, after_close, line_after_sync, middle_group, number_of}
-use Rattle.throttle.specs.Blocks.{AreSumsOn, ShowsSums, blocks_in}
+use Rattle.throttle.specs.Blocks.{AreOpenOnesCharged, AreSumsOn, ShowsSums, blocks_in}
 use Rattle.throttle.specs.DirtyBytes.{MayBeUnsynced, after_synced, dirty_behind, is_throttled, total_of}
 use Rattle.throttle.specs.Laws.{SameTotals}
+use Rattle.throttle.proofs.OpenCharges.{stay_charged}
 use Rattle.throttle.proofs.ShownSums.{holding_groups_are_charged, same_totals, sums_stay_on_lines}
 use Rattle.pool_core.specs.declared.pool.Pool.{Pool}
 use Rattle.pool_core.specs.declared.pool.RunningSync.{RunningSync}
+use Rattle.pool_core.proofs.HeldGroups.{none_syncing}
 use Rattle.pool_core.proofs.SameSyncs.{taken_count}
 use Rattle.pool_core.specs.Shows.{plan_of, pool_shown}
 
@@ -90,6 +92,11 @@ module _ (p : Pool) where
   syncing_next group is =
       let next : IfSome (Some group) (λ g. g ≡ p.groups.line.synced + 1) = subst (λ (o : Option ℕ). IfSome o (λ g. g ≡ p.groups.line.synced + 1)) is p.counted.line.syncing in
       next ∙ ap (λ n. n + 1) p.charged.synced
+
+  -- and no open transaction is of it, so once it is synced the groups are charged for the open ones
+  pub synced_open_charged : (group : ℕ) → p.groups.line.syncing ≡ Some group → AreOpenOnesCharged p.transactions.transactions (after_synced group p.dirty)
+  synced_open_charged group is =
+      (stay_charged p.transactions.transactions p.dirty p.open_charged).synced group (none_syncing p.groups p.counted p.transactions.transactions p.holds_exact group is)
 
   -- they stay those of the line where a group is closed, or the close is refused
   pub close_charged : (answer : Result Group PoolError) (new : CountedLine) → OnErr answer (new ≡ p.groups) → OnOk answer (new ≡ after_close p.groups) → AreSumsOn new.line p.dirty

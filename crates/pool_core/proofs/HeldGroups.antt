@@ -1,6 +1,6 @@
 -- The groups of a pool are a line, and its counts of holds are those of the open transactions, whatever step is made.
-use Rattle.std.proofs.Common.{rules, ◌≡◌, ℕ, ◌+◌, ◌<◌, ◌≤◌, Bool, true, false, cond, not, ◌↔◌, List, [], ◌∷◌, ◌++◌, length, refl, sym, subst, ap, ◌∙◌, arith}
-use Rattle.std.specs.Prelude.{Option, Some, ◌==◌, ◌||◌, filter, is_none, is_some, Result, Ok, Err, IfOk, IsErr, IsTrue, OnErr, OnOk}
+use Rattle.std.proofs.Common.{rules, ◌≡◌, ◌≢◌, ℕ, ◌+◌, ◌<◌, ◌≤◌, Bool, true, false, cond, not, ◌↔◌, List, [], ◌∷◌, ◌++◌, length, refl, sym, subst, ap, ◌∙◌, arith}
+use Rattle.std.specs.Prelude.{Option, Some, ◌==◌, ◌||◌, filter, is_none, is_some, slice_get, Result, Ok, Err, IfOk, IsErr, IsTrue, OnErr, OnOk}
 use Rattle.std.specs.List.{find}
 use Rattle.std.proofs.lemmas.Bool.{eqb-true, false≢true}
 use Rattle.std.proofs.lemmas.List.{length-append}
@@ -8,13 +8,14 @@ use Rattle.std.proofs.lemmas.List.Elements.{filter-append}
 use Rattle.base.specs.declared.error.PoolError.{PoolError}
 use Rattle.base.specs.declared.names.Group.{Group}
 use Rattle.base.specs.formats.Limits.{first_group, last_number, max_transactions}
-use Rattle.base.specs.steps.Groups.{Admission, hold_count}
+use Rattle.base.specs.steps.Groups.{Admission, MayHold, hold_count}
 use Rattle.base.specs.steps.Refusals.{quiesced_group, quiescing_group}
 use Rattle.base.specs.steps.Steps.{transactions_without}
 use Rattle.base.proofs.common.KeptLists.{Some-injective}
-use Rattle.base.proofs.steps.KeptGroups.{line_quiesce, line_start, line_sync, none_there, quiesced_is, quiescing_is}
-use Rattle.groups.specs.CountedLines.{CountedLine, IsCounted, after_close, after_hold, after_quiesce, after_release, after_start, after_sync, counted_behind, hold_total, holds_of, is_close_refused, is_quiesce_refused, is_start_refused}
+use Rattle.base.proofs.steps.KeptGroups.{held_above, line_quiesce, line_start, line_sync, none_there, quiesced_is, quiescing_is}
+use Rattle.groups.specs.CountedLines.{CountedLine, IsCounted, after_close, after_hold, after_quiesce, after_release, after_start, after_sync, counted_behind, hold_total, holds_of, is_close_refused, is_quiesce_refused, is_start_refused, line_after_sync}
 use Rattle.groups.specs.Laws.{AreHoldsExact, BeginsAreHeld, MovesKeepHolds}
+use Rattle.groups.proofs.HoldCounts as holds
 use Rattle.groups.proofs.ExactHolds.{count_transactions, is_released}
 use Rattle.transactions.specs.Open.{AreNamedApart}
 use Rattle.pool_core.specs.Lines.{MayStart}
@@ -77,6 +78,17 @@ module _ (l : CountedLine) (counted : IsCounted l) where
 
   pub counted_sync : (group : ℕ) → l.line.syncing ≡ Some group → IsCounted (after_sync group l)
   counted_sync group is = record { line = line_sync l.line group counted.line is; quiesced = counted.quiesced }
+
+  -- a group with a hold may have open transactions
+  pub may_hold : (group : ℕ) → 0 < holds_of l group → MayHold l.line group
+  may_hold group held = search rules
+
+  -- so no open transaction is of the syncing group
+  pub none_syncing : (ts : List Admission) → AreHoldsExact ts l → (group : ℕ) → l.line.syncing ≡ Some group → (i : ℕ) (a : Admission) → slice_get ts i ≡ Some a → a.group ≢ group
+  none_syncing ts exact group is i a at same =
+      let held : 0 < holds_of l a.group = subst (λ n. 0 < n) (sym (exact a.group)) (holds.has_hold ts i a at) in
+      let above : (group < a.group) × (a.group ≤ l.line.open_group) = held_above (line_after_sync group l.line) a.group (line_sync l.line group counted.line is) (may_hold a.group held) in
+      omega (arith, same, above.0)
 
   -- where fewer than 64 transactions are open, so many holds are there
   pub few_holds : (ts : List Admission) → AreHoldsExact ts l → length ts < max_transactions → hold_total l < max_transactions

@@ -29,3 +29,4 @@ pub mod SyncSteps
 pub mod FreeBlocks
 pub mod PlannedPointers
 pub mod NewStates
+pub mod Aborts

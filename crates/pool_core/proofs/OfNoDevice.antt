@@ -16,7 +16,7 @@ use Rattle.base.specs.history.Contents.{Contents, apply, created, removed, chang
 use Rattle.base.specs.history.History.{apply_all}
 use Rattle.base.specs.history.Past.{Past, new_past}
 use Rattle.base.specs.history.Plans.{NumberRange}
-use Rattle.base.specs.steps.Refusals.{Test, first_refusal, append_tests, digest_tests, length_tests, ops_tests, lock_tests, unlock_tests, read_tests, commit_tests, close_tests, quiesce_tests}
+use Rattle.base.specs.steps.Refusals.{Test, first_refusal, abort_tests, append_tests, digest_tests, length_tests, ops_tests, lock_tests, unlock_tests, read_tests, commit_tests, close_tests, quiesce_tests}
 use Rattle.base.specs.history.Sequences.{and_then, in_turn}
 use Rattle.base.specs.steps.Shown.{Shown}
 use Rattle.base.specs.steps.Stage as stage
@@ -106,6 +106,9 @@ module _ (old new : Shown) where
 
   pub commit_own : (tx : ℕ) (ops : List Op) (answer : Result (ℕ × ℕ) PoolError) → Meets (stage.Commit tx ops) answer old new → is_own_answer answer ≡ true
   commit_own tx ops answer meets = own_answer (stage.waits_for_older old (commit_tests tx ops old)) _ answer _ _ _ _ (ops_tests_own (apply_all ops old.contents) _ (ops_own ops old.contents) refl) refl (λ e own. wants_memory e own.0) (meets (some_past old)).1
+
+  pub abort_own : (tx : ℕ) (answer : Result (Unit {0}) PoolError) → Meets (steps.Abort tx) answer old new → is_own_answer answer ≡ true
+  abort_own tx answer meets = own_answer (abort_tests tx old) _ answer _ _ _ _ refl refl (λ e own. absurd own) (meets (some_past old)).1
 
   pub read_own : (owner : ℕ) (range : NumberRange) (answer : Result (List ℕ) PoolError) → Meets (stage.Read owner range) answer old new → is_own_answer answer ≡ true
   read_own owner range answer meets = own_answer (read_tests owner range old) _ answer _ _ _ _ refl refl (λ e own. wants_memory e own.0) (meets (some_past old)).1

@@ -6,7 +6,8 @@ use Rattle.std.proofs.lemmas.Bool.{eqb-true}
 use Rattle.std.proofs.lemmas.Bool.Decides.{nat_tests}
 use Rattle.std.proofs.lemmas.List.Folds.{find_at}
 use Rattle.base.specs.steps.Groups.{Admission}
-use Rattle.base.specs.formats.Limits.{last_number}
+use Rattle.base.specs.formats.Limits.{last_number, max_log_record}
+use Rattle.base.specs.history.Plans.{log_record_size}
 use Rattle.base.specs.steps.Stage.{is_plan_built}
 
 -- what is found passes the test, and has what all elements have
@@ -21,9 +22,15 @@ found_has {X} P p (y ∷ ys) x all h = go (p y) refl (λ e. found_has P p ys x (
 abbrev pub IsBuilt : Admission → Type 0
 IsBuilt a = is_plan_built a.plan ≡ true
 
+abbrev pub IsSmall : Admission → Type 0
+IsSmall a = log_record_size a.plan ≤ max_log_record
+
 module _ (tx : ℕ) (ts : List Admission) (a : Admission) (found : find (λ (x : Admission). x.tx == tx) ts ≡ Some a) where
   pub found_built : All IsBuilt ts → IsBuilt a
   found_built all = (found_has IsBuilt (λ (x : Admission). x.tx == tx) ts a all found).1
+
+  pub found_small : All IsSmall ts → IsSmall a
+  found_small all = (found_has IsSmall (λ (x : Admission). x.tx == tx) ts a all found).1
 
   pub found_name : a.tx ≡ tx
   found_name = eqb-true a.tx tx (found_has (λ x. Unit {0}) (λ (x : Admission). x.tx == tx) ts a (λ k d below. tt) found).0

@@ -51,6 +51,9 @@ Begins owner plan answer = Meets (stage.Begin owner.0 plan) (result_map admitted
 abbrev pub Commits : TxId → List Op → Result Receipt PoolError → Shown → Shown → Type 0
 Commits tx ops answer = Meets (stage.Commit tx.0 ops) (result_map receipt_numbers answer)
 
+abbrev pub Aborts : TxId → Result (Unit {0}) PoolError → Shown → Shown → Type 0
+Aborts tx answer = Meets (steps.Abort tx.0) answer
+
 abbrev pub Reads : Owner → ObjectId → Range → Result (List ℕ) PoolError → Shown → Type 0
 Reads owner object range answer shown = Meets (stage.Read owner.0 (object_range object.0 range.low range.high)) answer shown shown
 

@@ -21,7 +21,7 @@ ghost use Rattle.object_maps.specs.Ops.{AreOpsAllowed};
 ghost use Rattle.object_maps.specs.Pointers.{pointers_of};
 ghost use Rattle.sync.specs.Runs.{call_count};
 ghost use Rattle.space.specs.FreeSets.{after_sync_end};
-ghost use Rattle.throttle.specs.Blocks.{AreSumsOn, AreWholeBlocks, blocks_in};
+ghost use Rattle.throttle.specs.Blocks.{AreOpenOnesCharged, AreSumsOn, AreWholeBlocks, blocks_in};
 ghost use Rattle.throttle.specs.DirtyBytes.{after_synced, sum_of, total_of};
 ghost use Rattle.tree_plans.specs.Plans.{address_of};
 ghost use Rattle.tree_plans.specs.declared.planner.Committed.{Committed};
@@ -106,8 +106,10 @@ pub(crate) struct Pool {
     ghost counted: { IsCounted groups } by { Prim.hlevel props },
     ghost holds_exact: { AreHoldsExact transactions.transactions groups },
     ghost charged: { AreSumsOn groups.line dirty } by { Prim.hlevel props },
+    ghost open_charged: { AreOpenOnesCharged transactions.transactions dirty },
     ghost reserved: { free.reserved ≡ blocks_in (total_of dirty) },
     ghost plans_built: { All (λ (a : Admission). is_plan_built a.plan ≡ true) transactions.transactions },
+    ghost plans_small: { All (λ (a : Admission). log_record_size a.plan ≤ max_log_record) transactions.transactions },
     ghost running: { ForSome sync (λ r. (r.run.geometry ≡ geometry) × (r.run.done < call_count r.run)) },
     ghost uberblock: { ForSome sync (λ r. WritesUberblock
         (uberblock_with guid import_number log_address r.group.0 r.moment r.root) r.run) },
@@ -135,7 +137,7 @@ impl Pool {
     ghost use Rattle.pool_core.specs.Meets.{ChecksBegin, ChecksCommit, FindsLength, Passes, RefusesIf};
     ghost use Rattle.pool_core.specs.Shows.{plan_of, shown_after_tree, pool_shown};
     ghost use Rattle.pool_core.specs.States.{IsOfNoDevice, KeepsTree};
-    ghost use Rattle.pool_core.specs.StepAnswers.{Begins, ClosesGroup, Commits, Locks, LocksAppend, MarksQuiesced, Reads, StartsSync, StepsSync, TellsDigest, TellsLength, Unlocks};
+    ghost use Rattle.pool_core.specs.StepAnswers.{Aborts, Begins, ClosesGroup, Commits, Locks, LocksAppend, MarksQuiesced, Reads, StartsSync, StepsSync, TellsDigest, TellsLength, Unlocks};
     ghost use Rattle.pool_core.specs.SyncStarts.{StartLeads, StartsHeld, StartsInOrder};
     ghost use Rattle.pool_core.specs.Targets.{is_kept_covered};
 
@@ -431,6 +433,21 @@ impl Pool {
             ordinal: Ordinal(ordinal),
             group,
         })
+    }
+
+    pub(crate) fn abort(&mut self, tx: TxId) -> Result<(), PoolError>
+        ensures step { Aborts tx result (pool_shown self.old) (pool_shown self.new) }
+        ensures kept { KeepsTree self.old self.new }
+    {
+        self.check_running()?;
+        let Some(transaction) = self.transactions.end(tx) else {
+            return Err(PoolError::NoSuchTransaction);
+        };
+        let shapes = transaction.plan.as_slice();
+        self.dirty.cancel(transaction.group, charge(shapes));
+        self.free.unreserve(estimate(shapes));
+        self.groups.release(transaction.group);
+        Ok(())
     }
 
     pub(crate) fn read(

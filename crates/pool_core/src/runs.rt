@@ -46,6 +46,7 @@ impl<D: SectorDevice> PoolState<D> {
                 .begin(owner, &plan)
                 .map(|(tx, group)| Reply::Began(tx, group)),
             Step::Commit(tx, ops) => self.commit(tx, ops).map(Reply::Committed),
+            Step::Abort(tx) => self.abort(tx).map(|()| Reply::Done),
             Step::Read(owner, object, range) => self.read(owner, object, range).map(Reply::Bytes),
             Step::Length(object) => self.length(object).map(Reply::Length),
             Step::Digest => self.digest().map(Reply::Digest),

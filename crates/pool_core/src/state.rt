@@ -48,7 +48,7 @@ impl<D: SectorDevice> PoolState<D> {
     ghost use Rattle.pool_core.specs.Holds.{Leads, sync_step_reply};
     ghost use Rattle.pool_core.specs.NewStates.{IsExplainedAtFirst, IsHeldAtFirst};
     ghost use Rattle.pool_core.specs.States.{CountsRefused, MakesNoCall, MovesNothing, device_of, shown, told, told_over};
-    ghost use Rattle.pool_core.specs.StepAnswers.{Begins, ClosesGroup, Commits, Locks, LocksAppend, MarksQuiesced, Reads, StartsSync, StepsSync, TellsDigest, TellsLength, Unlocks};
+    ghost use Rattle.pool_core.specs.StepAnswers.{Aborts, Begins, ClosesGroup, Commits, Locks, LocksAppend, MarksQuiesced, Reads, StartsSync, StepsSync, TellsDigest, TellsLength, Unlocks};
     ghost use Rattle.pool_core.specs.SyncStarts.{StartLeads, StartsHeld, StartsInOrder};
 
     /// The pool that an import gave. It takes no memory.
@@ -189,6 +189,18 @@ impl<D: SectorDevice> PoolState<D> {
         ensures unmoved { MovesNothing result self.old self.new }
     {
         self.pool.commit(tx, ops)
+    }
+
+    /// Gives a transaction up, in the open or in the quiescing group: it holds its group no more, and what the group was
+    /// charged for it and the blocks that were reserved for it are so no more. It takes no memory.
+    ///
+    /// # Errors
+    /// In this order: `Suspended`; `NoSuchTransaction` where none of this name is open.
+    pub fn abort(&mut self, tx: TxId) -> Result<(), PoolError>
+        ensures step { Aborts tx result (shown self.old) (shown self.new) }
+        ensures unmoved { MovesNothing result self.old self.new }
+    {
+        self.pool.abort(tx)
     }
 
     /// The bytes of a range that lie below the object's length.

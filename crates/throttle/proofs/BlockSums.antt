@@ -7,8 +7,8 @@ use Rattle.std.proofs.lemmas.Cmp.{nat_cmp_total}
 use Rattle.std.specs.FinMap as finite
 use Rattle.std.specs.FinMap.{FinMap, find, get-entries, get-from_entries, get-empty, get-insert, get-remove, same_map, nat_cmp-IsAntisymmetric}
 use Rattle.base.specs.formats.Geometry.{block_size}
+use Rattle.base.specs.steps.Charges.{with_sum}
 use Rattle.throttle.specs.Blocks.{blocks_in, blocks_of}
-use Rattle.throttle.specs.DirtyBytes.{with_sum}
 use Rattle.throttle.proofs.GroupSums.{with_sum-some}
 
 option_map-cond : (b : Bool) (n : ℕ) (o : Option ℕ) → cond b (Some (blocks_in n)) (option_map blocks_in o) ≡ option_map blocks_in (cond b (Some n) o)

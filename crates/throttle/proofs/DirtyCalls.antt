@@ -7,7 +7,8 @@ use Rattle.std.specs.FinMap.{FinMap}
 use Rattle.std.proofs.lemmas.Bool.{ltb-false}
 use Rattle.std.proofs.lemmas.List.{length-set}
 use Rattle.base.specs.declared.names.Group.{Group}
-use Rattle.throttle.specs.DirtyBytes.{DirtyBytes, MayBeUnsynced, sum_of, total_of, with_sum, is_throttled, after_admit, after_cancel, after_synced}
+use Rattle.base.specs.steps.Charges.{with_sum}
+use Rattle.throttle.specs.DirtyBytes.{DirtyBytes, MayBeUnsynced, sum_of, total_of, is_throttled, after_admit, after_cancel, after_synced}
 use Rattle.throttle.specs.DirtyFields.{dirty_bytes_of, three_total, IsWithinLimit}
 use Rattle.throttle.specs.declared.dirty.Dirty.TheInside.{Inside}
 use Rattle.throttle.proofs.GroupSums.{unwrap_or-entry_of, get-with_sum_own}

@@ -6,7 +6,8 @@ use Rattle.std.proofs.lemmas.Cmp.{nat_cmp_total}
 use Rattle.std.proofs.lemmas.Bool.{cases_lt, eq-eqb, ne_eqb}
 use Rattle.std.specs.FinMap as finite
 use Rattle.std.specs.FinMap.{FinMap, get-insert, get-remove, get-empty, same_map, nat_cmp-IsAntisymmetric}
-use Rattle.throttle.specs.DirtyBytes.{entry_of, with_sum}
+use Rattle.base.specs.steps.Charges.{with_sum}
+use Rattle.throttle.specs.DirtyBytes.{entry_of}
 use Rattle.throttle.specs.DirtyFields.{sums_from}
 
 pub unwrap_or-entry_of : (n : ℕ) → unwrap_or (entry_of n) 0 ≡ n

@@ -4,3 +4,4 @@ pub mod DirtyCalls
 pub mod SumLaws
 pub mod BlockSums
 pub mod ShownSums
+pub mod OpenCharges

@@ -1,4 +1,4 @@
--- What a pool shows of its sums and their blocks: after an admission and after a sync, and that its totals are theirs.
+-- What a pool shows of its sums and their blocks: after an admission, an abort and a sync, and that its totals are theirs.
 use Rattle.std.proofs.Common.{rules, ◌≡◌, ◌≢◌, ℕ, ◌+◌, ◌-◌, ◌%◌, ◌<◌, ◌≤◌, true, List, [], ◌∷◌, refl, ap, sym, subst, ◌∙◌, arith, ◌⊎◌, inl, inr}
 use Rattle.std.specs.Prelude.{unwrap_or, sum_by}
 use Rattle.std.specs.List.{fold}
@@ -10,12 +10,13 @@ use Rattle.base.specs.declared.operation.Shape.{Shape}
 use Rattle.base.specs.declared.operation.Shape.TheVariants.{Create, Remove, Write, SetLength, SetName}
 use Rattle.base.specs.formats.Geometry.{block_size}
 use Rattle.base.specs.history.Plans.{is_plan_allowed, estimate_of, estimate_of_shape, charge_of}
+use Rattle.base.specs.steps.Charges.{with_sum}
 use Rattle.base.specs.steps.Groups.{Line, IsLine, Admission, MayHold}
 use Rattle.base.specs.steps.Shown.{Shown, SyncPlan, dirty_of, reserved_of, dirty_total, unsynced_groups}
-use Rattle.base.specs.steps.Steps.{State, state_after_charged_admission, state_after_sync}
+use Rattle.base.specs.steps.Steps.{State, state_after_abort, state_after_charged_admission, state_after_sync}
 use Rattle.base.proofs.steps.KeptGroups.{held_above}
 use Rattle.throttle.specs.Blocks.{blocks_in, blocks_of, block_sum_of, AreSumsOn, AreWholeBlocks, ShowsSums}
-use Rattle.throttle.specs.DirtyBytes.{DirtyBytes, MayBeUnsynced, sum_of, total_of, with_sum, dirty_behind, after_admit, after_cancel, after_synced}
+use Rattle.throttle.specs.DirtyBytes.{DirtyBytes, MayBeUnsynced, sum_of, total_of, dirty_behind, after_admit, after_cancel, after_synced}
 use Rattle.throttle.specs.Laws.{BlocksFollowSums, SameTotals, StaySumsOn}
 use Rattle.throttle.proofs.BlockSums.{get-blocks_of, blocks_of-empty, blocks_of-insert, blocks_of-remove, blocks_of-with_sum, block_sum, blocks_in-charged, blocks_in-canceled, blocks_in-sum, whole-charged, whole-canceled}
 use Rattle.throttle.proofs.GroupSums.{unwrap_or-entry_of, get-with_sum_own, get-with_sum_other, get-removed, get-removed_other}
@@ -77,6 +78,14 @@ admissions_are_shown s d a allowed x = record {
   limit = x.limit;
   dirty = rw x.dirty (sym (sums-admitted d a.group a.plan allowed));
   reserved = rw x.reserved (sym (blocks_of-admitted d a.group a.plan allowed));
+}
+
+pub aborts_are_shown : (s : State) (d : DirtyBytes) (tx : ℕ) (a : Admission) → AreWholeBlocks d → ShowsSums s.shown d
+    → ShowsSums (state_after_abort tx a s).shown (after_cancel a.group (charge_of a.plan) d)
+aborts_are_shown s d tx a whole x = record {
+  limit = x.limit;
+  dirty = rw x.dirty refl;
+  reserved = rw x.reserved (sym (blocks_of-canceled d a.group a.plan whole));
 }
 
 pub syncs_are_shown : (s : State) (d : DirtyBytes) (group : ℕ) (plan : SyncPlan) → ShowsSums s.shown d → ShowsSums (state_after_sync group plan s).shown (after_synced group d)

@@ -9,7 +9,8 @@ use Rattle.std.specs.FinMap as finite
 use Rattle.std.specs.FinMap.{FinMap, same_map, nat_cmp-IsAntisymmetric}
 use Rattle.base.specs.steps.Groups.{Line, IsLine}
 use Rattle.base.specs.steps.Shown.{Shown, dirty_of, dirty_total}
-use Rattle.throttle.specs.DirtyBytes.{DirtyBytes, AreWithinLimit, sum_of, total_of, entry_of, with_sum, after_admit, after_cancel}
+use Rattle.base.specs.steps.Charges.{with_sum}
+use Rattle.throttle.specs.DirtyBytes.{DirtyBytes, AreWithinLimit, sum_of, total_of, entry_of, after_admit, after_cancel}
 use Rattle.throttle.specs.Laws.{AreSumsOf}
 use Rattle.throttle.proofs.GroupSums.{with_sum-some, unwrap_or-entry_of, get-with_sum_own, get-with_sum_other}
 

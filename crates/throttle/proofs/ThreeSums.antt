@@ -6,7 +6,8 @@ use Rattle.std.proofs.lemmas.List.{length-set, get_or-set_same, get_or-set_other
 use Rattle.std.specs.Ordering.{nat_cmp}
 use Rattle.std.specs.FinMap as finite
 use Rattle.std.specs.FinMap.{FinMap, get-empty}
-use Rattle.throttle.specs.DirtyBytes.{MayBeUnsynced, AreWithinLimit, sum_of, total_of, entry_of, with_sum}
+use Rattle.base.specs.steps.Charges.{with_sum}
+use Rattle.throttle.specs.DirtyBytes.{MayBeUnsynced, AreWithinLimit, sum_of, total_of, entry_of}
 use Rattle.throttle.specs.DirtyFields.{sums_from, dirty_bytes_of, three_total}
 use Rattle.throttle.specs.declared.dirty.Dirty.TheInside.{Inside}
 use Rattle.throttle.proofs.GroupSums.{unwrap_or-entry_of, get-with_sum_own, get-with_sum_other, get-removed, get-removed_other, get-before, get-past, get-at, same_sums}

@@ -1,10 +1,11 @@
 -- The blocks that the dirty bytes stand for. Each unsynced group has as many reserved as it is charged for, so no count of them is stored.
-use Rattle.std.specs.Prelude.{ℕ, ◌≡◌, ◌<◌, ◌/◌, ◌%◌, map, unwrap_or}
+use Rattle.std.specs.Prelude.{ℕ, ◌≡◌, ◌<◌, ◌≤◌, ◌/◌, ◌%◌, ◌==◌, List, map, sum_by, unwrap_or, if◌then◌else◌}
 use Rattle.std.specs.Ordering.{nat_cmp}
 use Rattle.std.specs.FinMap as finite
 use Rattle.std.specs.FinMap.{FinMap}
 use Rattle.base.specs.formats.Geometry.{block_size}
-use Rattle.base.specs.steps.Groups.{Line}
+use Rattle.base.specs.history.Plans.{charge_of}
+use Rattle.base.specs.steps.Groups.{Line, Admission}
 use Rattle.base.specs.steps.Shown.{Shown}
 use Rattle.throttle.specs.DirtyBytes.{DirtyBytes, sum_of}
 
@@ -29,6 +30,17 @@ pub record AreSumsOn (l : Line) (d : DirtyBytes) : Type 0 where
   pub synced : l.synced ≡ d.synced
   pub not_open_yet : (group : ℕ) → l.open_group < group → sum_of d group ≡ 0
   pub blocks : AreWholeBlocks d
+
+-- what a group is charged for a transaction, and for all open ones
+abbrev pub charge_in : ℕ → Admission → ℕ
+charge_in group a = if a.group == group then charge_of a.plan else 0
+
+abbrev pub open_charge : ℕ → List Admission → ℕ
+open_charge group transactions = sum_by (charge_in group) transactions
+
+-- each group is charged for its open transactions at least
+abbrev pub AreOpenOnesCharged : List Admission → DirtyBytes → Type 0
+AreOpenOnesCharged transactions d = (group : ℕ) → open_charge group transactions ≤ sum_of d group
 
 -- a pool shows these sums, and their blocks as reserved
 pub record ShowsSums (s : Shown) (d : DirtyBytes) : Type 0 where

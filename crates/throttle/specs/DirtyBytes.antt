@@ -5,6 +5,7 @@ use Rattle.std.specs.Coded.{Coded, code_by, coded×, coded_ℕ}
 use Rattle.std.specs.Ordering.{nat_cmp}
 use Rattle.std.specs.FinMap as finite
 use Rattle.std.specs.FinMap.{FinMap}
+use Rattle.base.specs.steps.Charges.{with_sum}
 
 -- the limit of all sums, the synced group, and the bytes charged to each group behind it; a group without bytes has no entry
 pub record DirtyBytes : Type 0 where
@@ -42,11 +43,6 @@ is_throttled charge d = nat_lt d.limit (total_of d + charge)
 abbrev pub entry_of : ℕ → Option ℕ
 entry_of zero = None
 entry_of (suc n) = Some (suc n)
-
--- the sums where that of one group is this one
-unfoldable pub with_sum : ℕ → ℕ → FinMap nat_cmp ℕ → FinMap nat_cmp ℕ
-with_sum group zero sums = finite.remove sums group
-with_sum group (suc n) sums = finite.insert sums group (suc n)
 
 abbrev pub dirty_behind : ℕ → ℕ → DirtyBytes
 dirty_behind limit synced = record { limit = limit; synced = synced; sums = finite.empty }

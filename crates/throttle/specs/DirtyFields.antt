@@ -3,7 +3,8 @@ use Rattle.std.specs.Prelude.{ℕ, ◌≡◌, ◌+◌, ◌≤◌, List, [], ◌�
 use Rattle.std.specs.Ordering.{nat_cmp}
 use Rattle.std.specs.FinMap as finite
 use Rattle.std.specs.FinMap.{FinMap}
-use Rattle.throttle.specs.DirtyBytes.{DirtyBytes, with_sum}
+use Rattle.base.specs.steps.Charges.{with_sum}
+use Rattle.throttle.specs.DirtyBytes.{DirtyBytes}
 use Rattle.throttle.specs.declared.dirty.Dirty.TheInside.{Inside}
 
 -- the sums of groups one after another, from the first of them on

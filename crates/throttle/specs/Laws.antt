@@ -1,15 +1,16 @@
 -- What holds of the dirty bytes beside the tables of a running pool.
-use Rattle.std.specs.Prelude.{ℕ, ◌≡◌, ◌+◌, ◌-◌, ◌<◌, ◌≤◌, true, List, option_map, nat_lt}
+use Rattle.std.specs.Prelude.{ℕ, ◌≡◌, ◌≢◌, ◌+◌, ◌-◌, ◌<◌, ◌≤◌, ◌++◌, ◌∷◌, true, List, [], Some, option_map, nat_lt, slice_get}
 use Rattle.std.specs.Ordering.{nat_cmp}
 use Rattle.std.specs.FinMap as finite
 use Rattle.std.specs.FinMap.{FinMap}
 use Rattle.base.specs.declared.operation.Shape.{Shape}
 use Rattle.base.specs.history.Plans.{is_plan_allowed, estimate_of, charge_of}
+use Rattle.base.specs.steps.Charges.{with_sum}
 use Rattle.base.specs.steps.Groups.{Line, IsLine, Admission, MayHold}
 use Rattle.base.specs.steps.Shown.{Shown, SyncPlan, dirty_of, dirty_total, reserved_total}
-use Rattle.base.specs.steps.Steps.{State, state_after_charged_admission, state_after_sync}
-use Rattle.throttle.specs.Blocks.{blocks_in, blocks_of, block_sum_of, AreSumsOn, AreWholeBlocks, ShowsSums}
-use Rattle.throttle.specs.DirtyBytes.{DirtyBytes, AreWithinLimit, MayBeUnsynced, sum_of, total_of, with_sum, is_throttled, dirty_behind, after_admit, after_cancel, after_synced}
+use Rattle.base.specs.steps.Steps.{State, state_after_abort, state_after_charged_admission, state_after_sync, transactions_without}
+use Rattle.throttle.specs.Blocks.{blocks_in, blocks_of, block_sum_of, AreOpenOnesCharged, AreSumsOn, AreWholeBlocks, ShowsSums}
+use Rattle.throttle.specs.DirtyBytes.{DirtyBytes, AreWithinLimit, MayBeUnsynced, sum_of, total_of, is_throttled, dirty_behind, after_admit, after_cancel, after_synced}
 
 -- the sums are those of a pool: the groups behind its open one have none
 pub record AreSumsOf (s : Shown) (d : DirtyBytes) : Type 0 where
@@ -54,6 +55,11 @@ abbrev pub AdmissionsAreShown : Type 0
 AdmissionsAreShown = (s : State) (d : DirtyBytes) (a : Admission) → is_plan_allowed a.plan ≡ true → ShowsSums s.shown d
     → ShowsSums (state_after_charged_admission a s).shown (after_admit a.group (charge_of a.plan) d)
 
+-- the end of a transaction that is given up shows its charge and its estimate no more
+abbrev pub AbortsAreShown : Type 0
+AbortsAreShown = (s : State) (d : DirtyBytes) (tx : ℕ) (a : Admission) → AreWholeBlocks d → ShowsSums s.shown d
+    → ShowsSums (state_after_abort tx a s).shown (after_cancel a.group (charge_of a.plan) d)
+
 -- the end of a group's sync shows neither its sum nor its blocks any more
 abbrev pub SyncsAreShown : Type 0
 SyncsAreShown = (s : State) (d : DirtyBytes) (group : ℕ) (plan : SyncPlan) → ShowsSums s.shown d
@@ -87,3 +93,17 @@ pub record StaySumsOn (l : Line) (d : DirtyBytes) : Type 0 where
 
 abbrev pub SumsStayOnLines : Type 0
 SumsStayOnLines = (l : Line) (d : DirtyBytes) → AreSumsOn l d → StaySumsOn l d
+
+-- The groups stay charged for the open transactions: for one more that is charged, for the others once one has ended, for the others
+-- without the charge of one that is given up, and once a group is synced of which none is open.
+pub record StayCharged (transactions : List Admission) (d : DirtyBytes) : Type 0 where
+  pub admitted : (a : Admission) → AreOpenOnesCharged (transactions ++ a ∷ []) (after_admit a.group (charge_of a.plan) d)
+  pub ended : (tx : ℕ) → AreOpenOnesCharged (transactions_without tx transactions) d
+  pub charged : (i : ℕ) (a : Admission) → slice_get transactions i ≡ Some a → charge_of a.plan ≤ sum_of d a.group
+  pub canceled : (i : ℕ) (a : Admission) → slice_get transactions i ≡ Some a
+      → AreOpenOnesCharged (transactions_without a.tx transactions) (after_cancel a.group (charge_of a.plan) d)
+  pub synced : (group : ℕ) → ((i : ℕ) (a : Admission) → slice_get transactions i ≡ Some a → a.group ≢ group)
+      → AreOpenOnesCharged transactions (after_synced group d)
+
+abbrev pub OpenOnesStayCharged : Type 0
+OpenOnesStayCharged = (transactions : List Admission) (d : DirtyBytes) → AreOpenOnesCharged transactions d → StayCharged transactions d

@@ -4,6 +4,7 @@
 //! So a pool stores its sums of bytes alone: what it shows as reserved is their blocks.
 
 ghost use Rattle.throttle.specs.Laws.{
+  AbortsAreShown,
   AdmissionsAreShown,
   AdmitsAreEntered,
   BlocksFollowSums,
@@ -11,6 +12,7 @@ ghost use Rattle.throttle.specs.Laws.{
   HoldingGroupsAreCharged,
   NewSumsAreOnLines,
   NewSumsAreShown,
+  OpenOnesStayCharged,
   PlansAskForBlocks,
   ShownTotalsAgree,
   SumsStayOnLines,
@@ -53,6 +55,11 @@ pub fn admissions_are_shown()
     ensures { AdmissionsAreShown }
 {}
 
+/// And after the end of a transaction that is given up.
+pub fn aborts_are_shown()
+    ensures { AbortsAreShown }
+{}
+
 /// And after the last step of a sync.
 pub fn syncs_are_shown()
     ensures { SyncsAreShown }
@@ -76,4 +83,9 @@ pub fn new_sums_are_on_lines()
 /// They stay so: with charges of whole blocks and without them again, and as groups are closed and synced.
 pub fn sums_stay_on_lines()
     ensures { SumsStayOnLines }
+{}
+
+/// Where each group is charged for its open transactions it stays so: with one more, as they end, and as groups are synced.
+pub fn open_ones_stay_charged()
+    ensures { OpenOnesStayCharged }
 {}

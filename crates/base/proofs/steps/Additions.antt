@@ -9,9 +9,9 @@ use Rattle.base.specs.declared.step.Reply as declared_reply
 use Rattle.base.specs.steps.Locks.{is_in}
 use Rattle.base.specs.history.Past.{Past, Grows, IsPrefixOf}
 use Rattle.base.specs.steps.Additions.{past_after}
-use Rattle.base.specs.steps.Steps.{State, state_after_charged_admission, state_after_commit, state_after_grant, state_after_log_flush, state_after_sync, state_after_unlock}
+use Rattle.base.specs.steps.Steps.{State, state_after_abort, state_after_charged_admission, state_after_commit, state_after_grant, state_after_log_flush, state_after_sync, state_after_unlock}
 use Rattle.base.specs.steps.Effects.{Effect, HasEffect, state_after}
-use Rattle.base.specs.steps.Effects.Effect.{AddsGrant, LetsGo, AddsAdmission, AddsEntry, EndsSync, FlushesLog}
+use Rattle.base.specs.steps.Effects.Effect.{AddsGrant, LetsGo, AddsAdmission, AddsEntry, EndsAdmission, EndsSync, FlushesLog}
 use Rattle.base.specs.steps.Runs.{Step}
 use Rattle.base.specs.steps.ExactNow.{IsRun}
 use Rattle.base.proofs.steps.StepEffects.{step_does}
@@ -67,6 +67,7 @@ effect-grows (LetsGo owner id) s = grows-to s.past (state_after_unlock id s).pas
 effect-grows (AddsAdmission a) s = grows-to s.past (state_after_charged_admission a s).past (same-prefix _) (same-prefix _) (same-prefix _) (_, refl) (same-prefix _) (λ o h. h)
 effect-grows (AddsEntry tx a ops contents) s =
     grows-to s.past (state_after_commit tx a.group ops contents s).past (_, refl) (same-prefix _) (same-prefix _) (same-prefix _) (same-prefix _) (λ o h. h)
+effect-grows (EndsAdmission tx a) s = grows-to s.past (state_after_abort tx a s).past (same-prefix _) (same-prefix _) (same-prefix _) (same-prefix _) (_, refl) (λ o h. h)
 effect-grows (EndsSync group plan) s =
     grows-to s.past (state_after_sync group plan s).past (same-prefix _) (same-prefix _) (same-prefix _) (same-prefix _) (same-prefix _) (λ o h. still-in o s.past.acknowledged _ h)
 effect-grows FlushesLog s = grows-to s.past (state_after_log_flush s).past (same-prefix _) (same-prefix _) (same-prefix _) (same-prefix _) (same-prefix _) (λ o h. still-in o s.past.acknowledged _ h)

@@ -14,7 +14,7 @@ use Rattle.std.proofs.lemmas.List.Sums.{sum_by-append, sum_by-cons}
 use Rattle.std.proofs.lemmas.Option.{slice_get-get_or, slice_get_within}
 use Rattle.base.specs.steps.Locks.{is_in}
 use Rattle.base.specs.steps.Groups.{Admission}
-use Rattle.base.specs.steps.Charges.{transactions_of}
+use Rattle.base.specs.steps.Charges.{transactions_of, with_sum}
 use Rattle.base.proofs.common.KeptLists.{any_push, Some-injective}
 use Rattle.base.proofs.tree.Sums.{sum_by-none, sum_by-filter, sum_by-same, sum_by-one_other}
 
@@ -33,10 +33,25 @@ module _ (amounts : FinMap nat_cmp ℕ) (group value : ℕ) where
       ap (λ o. unwrap_or o 0) (get-insert nat_cmp_total amounts group value other)
       ∙ ap (λ b. unwrap_or (cond b (Some value) (finite.get amounts other)) 0) (unsigned_tied other group ∙ ne_eqb other group ne)
 
+amount-remove_same : (amounts : FinMap nat_cmp ℕ) (group : ℕ) → amount (finite.remove amounts group) group ≡ 0
+amount-remove_same amounts group =
+    ap (λ o. unwrap_or o 0) (get-remove nat_cmp_total amounts group group)
+    ∙ ap (λ b. unwrap_or (cond b None (finite.get amounts group)) 0) (unsigned_tied group group ∙ eq-eqb group group refl)
+
 pub amount-remove_other : (amounts : FinMap nat_cmp ℕ) (group other : ℕ) → other ≢ group → amount (finite.remove amounts group) other ≡ amount amounts other
 amount-remove_other amounts group other ne =
     ap (λ o. unwrap_or o 0) (get-remove nat_cmp_total amounts group other)
     ∙ ap (λ b. unwrap_or (cond b None (finite.get amounts other)) 0) (unsigned_tied other group ∙ ne_eqb other group ne)
+
+amount-with_sum_same : (amounts : FinMap nat_cmp ℕ) (group value : ℕ) → amount (with_sum group value amounts) group ≡ value
+unfolding with_sum
+amount-with_sum_same amounts group zero = amount-remove_same amounts group
+amount-with_sum_same amounts group (suc n) = amount-insert_same amounts group (suc n)
+
+pub amount-with_sum_other : (amounts : FinMap nat_cmp ℕ) (group value other : ℕ) → other ≢ group → amount (with_sum group value amounts) other ≡ amount amounts other
+unfolding with_sum
+amount-with_sum_other amounts group zero other ne = amount-remove_other amounts group other ne
+amount-with_sum_other amounts group (suc n) other ne = amount-insert_other amounts group (suc n) other ne
 
 -- numbers in a row by their places
 range-at : (low count i : ℕ) → i < count → slice_get (range_with_len low count) i ≡ Some (low + i)
@@ -51,15 +66,21 @@ at-range low count i n at =
     (Some-injective (sym at ∙ range-at low count i below), below)
 
 -- the sum over groups in a row after one of them has another amount
-pub total-insert : (amounts : FinMap nat_cmp ℕ) (group value low count : ℕ) → low ≤ group → group < low + count
-    → sum_by (amount (finite.insert amounts group value)) (range_with_len low count) + amount amounts group ≡ sum_by (amount amounts) (range_with_len low count) + value
-total-insert amounts group value low count from to =
-    let place : slice_get (range_with_len low count) (group - low) ≡ Some group = range-at low count (group - low) (omega arith) ∙ ap (λ (n : ℕ). Some n) (let back : low + (group - low) ≡ group = omega arith in back) in
-    let moved : sum_by (amount (finite.insert amounts group value)) (range_with_len low count) + amount amounts group
-    ≡ sum_by (amount amounts) (range_with_len low count) + amount (finite.insert amounts group value) group =
-    sum_by-one_other (amount (finite.insert amounts group value)) (amount amounts) (range_with_len low count) (group - low) group place
-    (λ i n ne at. amount-insert_other amounts group value n (λ e. ne (let is : n ≡ low + i = (at-range low count i n at).0 in omega arith))) in
-    moved ∙ ap (λ n. sum_by (amount amounts) (range_with_len low count) + n) (amount-insert_same amounts group value)
+module _ (amounts : FinMap nat_cmp ℕ) (group value low count : ℕ) (from : low ≤ group) (to : group < low + count) where
+  total-one_other : (next : FinMap nat_cmp ℕ) → amount next group ≡ value → ((other : ℕ) → other ≢ group → amount next other ≡ amount amounts other)
+      → sum_by (amount next) (range_with_len low count) + amount amounts group ≡ sum_by (amount amounts) (range_with_len low count) + value
+  total-one_other next own others =
+      let place : slice_get (range_with_len low count) (group - low) ≡ Some group = range-at low count (group - low) (omega arith) ∙ ap (λ (n : ℕ). Some n) (let back : low + (group - low) ≡ group = omega arith in back) in
+      let moved : sum_by (amount next) (range_with_len low count) + amount amounts group ≡ sum_by (amount amounts) (range_with_len low count) + amount next group =
+      sum_by-one_other (amount next) (amount amounts) (range_with_len low count) (group - low) group place
+      (λ i n ne at. others n (λ e. ne (let is : n ≡ low + i = (at-range low count i n at).0 in omega arith))) in
+      moved ∙ ap (λ n. sum_by (amount amounts) (range_with_len low count) + n) own
+
+  pub total-insert : sum_by (amount (finite.insert amounts group value)) (range_with_len low count) + amount amounts group ≡ sum_by (amount amounts) (range_with_len low count) + value
+  total-insert = total-one_other (finite.insert amounts group value) (amount-insert_same amounts group value) (amount-insert_other amounts group value)
+
+  pub total-with_sum : sum_by (amount (with_sum group value amounts)) (range_with_len low count) + amount amounts group ≡ sum_by (amount amounts) (range_with_len low count) + value
+  total-with_sum = total-one_other (with_sum group value amounts) (amount-with_sum_same amounts group value) (amount-with_sum_other amounts group value)
 
 -- a transaction is of a group, and was not aborted
 abbrev is_counted : ℕ → List ℕ → Admission → Bool
@@ -141,17 +162,17 @@ module _ (weight : Admission → ℕ) (synced : ℕ) (admissions : List Admissio
 
   -- one that is given up takes from it
   pub aborted_sums : (a : Admission) (tx : ℕ) → ((i : ℕ) (b : Admission) → slice_get admissions i ≡ Some b → b.tx ≡ i) → slice_get admissions tx ≡ Some a → is_in tx aborted ≡ false
-      → AreSums weight synced admissions (aborted ++ tx ∷ []) (finite.insert amounts a.group (amount amounts a.group - weight a))
+      → AreSums weight synced admissions (aborted ++ tx ∷ []) (with_sum a.group (amount amounts a.group - weight a) amounts)
   aborted_sums a tx numbered at kept group above = elim (cases_eq group a.group)
-      as (λ _. amount (finite.insert amounts a.group (amount amounts a.group - weight a)) group ≡ sum_by weight (transactions_of group admissions (aborted ++ tx ∷ []))) [
+      as (λ _. amount (with_sum a.group (amount amounts a.group - weight a) amounts) group ≡ sum_by weight (transactions_of group admissions (aborted ++ tx ∷ []))) [
         | inl e ↦ (
-            let now : amount (finite.insert amounts a.group (amount amounts a.group - weight a)) group ≡ amount amounts a.group - weight a =
-            ap (λ g. amount (finite.insert amounts a.group (amount amounts a.group - weight a)) g) e ∙ amount-insert_same amounts a.group (amount amounts a.group - weight a) in
+            let now : amount (with_sum a.group (amount amounts a.group - weight a) amounts) group ≡ amount amounts a.group - weight a =
+            ap (λ g. amount (with_sum a.group (amount amounts a.group - weight a) amounts) g) e ∙ amount-with_sum_same amounts a.group (amount amounts a.group - weight a) in
             let then : amount amounts a.group ≡ sum_by weight (transactions_of group admissions aborted) = ap (λ g. amount amounts g) (sym e) ∙ sums group above in
             let one : cond (a.group == group) (weight a) 0 ≡ weight a = ap (λ b. cond b (weight a) 0) (eq-eqb a.group group (sym e)) in
             omega (arith, sum-aborted weight admissions aborted a tx group numbered at kept))
         | inr ne ↦ (
-            let now : amount (finite.insert amounts a.group (amount amounts a.group - weight a)) group ≡ amount amounts group = amount-insert_other amounts a.group (amount amounts a.group - weight a) group ne in
+            let now : amount (with_sum a.group (amount amounts a.group - weight a) amounts) group ≡ amount amounts group = amount-with_sum_other amounts a.group (amount amounts a.group - weight a) group ne in
             let then : amount amounts group ≡ sum_by weight (transactions_of group admissions aborted) = sums group above in
             let one : cond (a.group == group) (weight a) 0 ≡ 0 = ap (λ b. cond b (weight a) 0) (ne_eqb a.group group (λ e. ne (sym e))) in
             omega (arith, sum-aborted weight admissions aborted a tx group numbered at kept))

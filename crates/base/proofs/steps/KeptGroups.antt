@@ -106,6 +106,34 @@ module _ (l : Line) (admissions : List Admission) (entries : List Entry) (aborte
           m.holding found.0 b found.1;
     }
 
+  -- the others stay open where one is given up
+  pub open_abort : (tx : ℕ) → filter (λ (b : Admission). not (b.tx == tx)) (open_transactions admissions entries aborted) ≡ open_transactions admissions entries (aborted ++ tx ∷ [])
+  open_abort tx = filter-filter (λ (b : Admission). not (b.tx == tx)) (λ (b : Admission). not (is_committed b.tx entries) && not (is_in b.tx aborted)) (λ (b : Admission). not (is_committed b.tx entries) && not (is_in b.tx (aborted ++ tx ∷ [])))
+      (λ b. ap (λ c. not (is_committed b.tx entries) && not c) (any_push (λ y. b.tx == y) aborted tx) ∙ turned (is_committed b.tx entries) (is_in b.tx aborted) (b.tx == tx)) admissions
+    where
+      turned : (c i d : Bool) → (not c && not (i || d)) ≡ (not d && (not c && not i))
+      turned true i true = refl
+      turned true i false = refl
+      turned false true true = refl
+      turned false true false = refl
+      turned false false true = refl
+      turned false false false = refl
+
+  pub members_abort : (tx k : ℕ) (a : Admission) → slice_get (open_transactions admissions entries aborted) k ≡ Some a → a.tx ≡ tx → AreMembers l admissions entries (aborted ++ tx ∷ [])
+  members_abort tx k a at_a named = record {
+    numbered = m.numbered;
+    known = m.known;
+    allowed = m.allowed;
+    committed = m.committed;
+    once = m.once;
+    never_committed = λ i t at. elim (push-cases aborted tx t i at) as (λ _. (t < length admissions) × (is_committed t entries ≡ false)) [
+      | inl old ↦ m.never_committed i t old
+      | inr is ↦ let o = open_is k a at_a in subst (λ u. (u < length admissions) × (is_committed u entries ≡ false)) (named ∙ is.1) (slice_get_within admissions a.tx a o.0, o.1)
+    ];
+    holding = λ i b at. let found = at_filter (λ (c : Admission). not (c.tx == tx)) (open_transactions admissions entries aborted) i b (subst (λ ts. slice_get ts i ≡ Some b) (sym (open_abort tx)) at) in
+        m.holding found.0 b found.1;
+  }
+
   -- where the line moves on, and each group that an open transaction has may still have it
   pub members_line : (n : Line) → l.open_group ≤ n.open_group → ((i : ℕ) (a : Admission) → slice_get (open_transactions admissions entries aborted) i ≡ Some a → MayHold l a.group → MayHold n a.group)
       → AreMembers n admissions entries aborted
@@ -136,6 +164,16 @@ commit_keeps s t p e k a x at named in_group of_plan = record {
   line = x.line;
   members = members_commit s.line p.admissions p.entries p.aborted x.members e k a (subst (λ ts. slice_get ts k ≡ Some a) x.transactions at) named in_group of_plan;
   transactions = ap (λ ts. filter (λ (b : Admission). not (b.tx == e.tx)) ts) x.transactions ∙ open_commit s.line p.admissions p.entries p.aborted x.members e;
+  next = x.next;
+}
+
+-- one is given up
+pub abort_keeps : (s t : Shown) (p : Past) (tx k : ℕ) (a : Admission) → AreGroupsExact s p → slice_get s.transactions k ≡ Some a → a.tx ≡ tx
+    → AreGroupsExact (record t { line = s.line; transactions = filter (λ (b : Admission). not (b.tx == tx)) s.transactions; next_tx = s.next_tx }) (record p { aborted = p.aborted ++ tx ∷ [] })
+abort_keeps s t p tx k a x at named = record {
+  line = x.line;
+  members = members_abort s.line p.admissions p.entries p.aborted x.members tx k a (subst (λ ts. slice_get ts k ≡ Some a) x.transactions at) named;
+  transactions = ap (λ ts. filter (λ (b : Admission). not (b.tx == tx)) ts) x.transactions ∙ open_abort s.line p.admissions p.entries p.aborted x.members tx;
   next = x.next;
 }
 

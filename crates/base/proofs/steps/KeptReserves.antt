@@ -13,7 +13,7 @@ use Rattle.base.specs.history.Plans.{NumberRange, shape_of, estimate_of, charge_
 use Rattle.base.specs.history.Past.{Past}
 use Rattle.base.specs.steps.Locks.{Grant, is_in}
 use Rattle.base.specs.steps.Groups.{Line, Admission, MayHold, open_transactions}
-use Rattle.base.specs.steps.Charges.{transactions_of, estimate_sum}
+use Rattle.base.specs.steps.Charges.{transactions_of, estimate_sum, with_sum}
 use Rattle.base.specs.steps.Shown.{Shown, SyncPlan, dirty_of, reserved_of, dirty_total, reserved_total, unsynced_groups, free_count, taken_of, available}
 use Rattle.base.specs.steps.Refusals as refusal
 use Rattle.base.specs.steps.Steps as steps
@@ -27,7 +27,7 @@ use Rattle.base.proofs.history.CommitOrder.{no_refusal}
 use Rattle.base.proofs.tree.Sums.{sum_by-none}
 use Rattle.base.proofs.steps.FreeCounts.{removed_len, difference_len, union_len}
 use Rattle.base.proofs.steps.KeptGroups.{open_is, held_above, line_sync}
-use Rattle.base.proofs.steps.KeptCharges.{amount, amount-insert_other, amount_more, total-insert, total-close, total-synced, sum-above, begun_sums, aborted_sums, synced_sums}
+use Rattle.base.proofs.steps.KeptCharges.{amount, amount-with_sum_other, amount_more, total-insert, total-with_sum, total-close, total-synced, sum-above, begun_sums, aborted_sums, synced_sums}
 use Rattle.base.proofs.steps.Reservations.{groups_fit, none-taken, quiesced_next}
 use Rattle.base.proofs.steps.StepEffects.{none_syncs, block_available}
 
@@ -84,7 +84,7 @@ module _ (s : State) (groups : AreGroupsExact s.shown s.past) (x : HasReserves s
       }
 
   -- an abort
-  abort_state : (tx : ℕ) (a : Admission) → refusal.transaction_of tx s.shown ≡ Some a → HasReserves (steps.state_after_abort tx a s)
+  pub abort_state : (tx : ℕ) (a : Admission) → refusal.transaction_of tx s.shown ≡ Some a → HasReserves (steps.state_after_abort tx a s)
   abort_state tx a is_open =
       let found = found_at (λ (b : Admission). b.tx == tx) s.shown.transactions a is_open in
       let at_open : slice_get (open_transactions s.past.admissions s.past.entries s.past.aborted) found.0 ≡ Some a = subst (λ ts. slice_get ts found.0 ≡ Some a) groups.transactions found.1 in
@@ -94,8 +94,8 @@ module _ (s : State) (groups : AreGroupsExact s.shown s.past) (x : HasReserves s
       let kept : is_in tx s.past.aborted ≡ false = subst (λ t. is_in t s.past.aborted ≡ false) named member.2 in
       let may : MayHold s.shown.line a.group = groups.members.holding found.0 a at_open in
       let above : (s.shown.line.synced < a.group) × (a.group ≤ s.shown.line.open_group) = held_above s.shown.line a.group groups.line may in
-      let dirty = total-insert s.shown.dirty a.group (dirty_of s.shown a.group - charge_of a.plan) (s.shown.line.synced + 1) (s.shown.line.open_group - s.shown.line.synced) (omega arith) (omega arith) in
-      let reserved = total-insert s.shown.reserved a.group (reserved_of s.shown a.group - estimate_of a.plan) (s.shown.line.synced + 1) (s.shown.line.open_group - s.shown.line.synced) (omega arith) (omega arith) in
+      let dirty = total-with_sum s.shown.dirty a.group (dirty_of s.shown a.group - charge_of a.plan) (s.shown.line.synced + 1) (s.shown.line.open_group - s.shown.line.synced) (omega arith) (omega arith) in
+      let reserved = total-with_sum s.shown.reserved a.group (reserved_of s.shown a.group - estimate_of a.plan) (s.shown.line.synced + 1) (s.shown.line.open_group - s.shown.line.synced) (omega arith) (omega arith) in
       let within : dirty_total s.shown ≤ s.shown.dirty_max = x.charges.within in
       let room : reserved_total s.shown ≤ free_count s.shown + length (taken_of s.shown.sync) = x.blocks.room in
       record {
@@ -107,10 +107,10 @@ module _ (s : State) (groups : AreGroupsExact s.shown s.past) (x : HasReserves s
         };
         blocks = record {
           taken = if_weaker s.shown.line.syncing (λ g. length (taken_of s.shown.sync) ≤ reserved_of s.shown g)
-              (λ g. length (taken_of s.shown.sync) ≤ amount (finite.insert s.shown.reserved a.group (reserved_of s.shown a.group - estimate_of a.plan)) g)
+              (λ g. length (taken_of s.shown.sync) ≤ amount (with_sum a.group (reserved_of s.shown a.group - estimate_of a.plan) s.shown.reserved) g)
               (λ g is h.
               let later : (g < a.group) × (a.group ≤ s.shown.line.open_group) = held_above (record s.shown.line { synced = g; syncing = None }) a.group (line_sync s.shown.line g groups.line is) may in
-              let same = amount-insert_other s.shown.reserved a.group (reserved_of s.shown a.group - estimate_of a.plan) g (λ e. absurd (omega arith)) in
+              let same = amount-with_sum_other s.shown.reserved a.group (reserved_of s.shown a.group - estimate_of a.plan) g (λ e. absurd (omega arith)) in
               omega (arith, same, h)) x.blocks.taken;
           room = omega (arith, reserved);
         };

@@ -31,24 +31,24 @@ use Rattle.base.specs.steps.Steps.{State}
 use Rattle.base.specs.steps.Stage as stage
 use Rattle.base.specs.steps.Space.{HasReserves}
 use Rattle.base.specs.steps.Effects.{Effect, HasEffect, MayHave, MayAddEntry, state_after}
-use Rattle.base.specs.steps.Effects.Effect.{Suspends, AddsGrant, LetsGo, AddsAdmission, AddsEntry, OpensNext, QuiescesMiddle, PlansSync, CountsStep, EndsSync, WritesLog, FlushesLog}
+use Rattle.base.specs.steps.Effects.Effect.{Suspends, AddsGrant, LetsGo, AddsAdmission, AddsEntry, EndsAdmission, OpensNext, QuiescesMiddle, PlansSync, CountsStep, EndsSync, WritesLog, FlushesLog}
 use Rattle.base.specs.steps.Runs.{Step}
 use Rattle.base.specs.steps.ExactNow.{IsExplainedNow, IsRun, IsLogStep}
 use Rattle.base.proofs.history.Cuts.{histories_grow}
 use Rattle.base.proofs.history.Projections.{plans_touch}
 use Rattle.base.proofs.history.CommitOrder.{no_refusal, found-plan}
-use Rattle.base.proofs.steps.OpenTransactions.{commit-admitted}
+use Rattle.base.proofs.steps.OpenTransactions.{commit-admitted, filtered}
 use Rattle.base.proofs.history.Admissions.{closes_leave}
 use Rattle.base.proofs.common.KeptLists.{found_at, All-at, push-cases}
 use Rattle.base.proofs.steps.KeptLocks.{same_locks, lock_keeps, unlock_keeps}
-use Rattle.base.proofs.steps.KeptGroups.{same_groups, begin_keeps, commit_keeps, close_keeps, quiesce_keeps, start_keeps, sync_keeps, open_is, held_above, quiescing_is, quiesced_is}
+use Rattle.base.proofs.steps.KeptGroups.{same_groups, begin_keeps, commit_keeps, abort_keeps, close_keeps, quiesce_keeps, start_keeps, sync_keeps, open_is, held_above, quiescing_is, quiesced_is}
 use Rattle.base.proofs.steps.KeptIsolation.{same_isolated, lock_isolated, unlock_isolated, begin_isolated, covered_without}
 use Rattle.base.proofs.steps.KeptLog.{same_log, commit_log, sync_log}
 use Rattle.base.proofs.steps.KeptWrites.{write_log, write_sync}
 use Rattle.base.proofs.steps.KeptFlushes.{flush_log, flush_sync}
 use Rattle.base.proofs.history.KeptContents.{operations_keep}
 use Rattle.base.proofs.steps.KeptSyncs.{same_sync, start_sync, step_sync, end_sync}
-use Rattle.base.proofs.steps.KeptReserves.{same_reserves, begin_state, close_state, start_state, step_state, end_state, log_state}
+use Rattle.base.proofs.steps.KeptReserves.{same_reserves, begin_state, abort_state, close_state, start_state, step_state, end_state, log_state}
 use Rattle.base.proofs.steps.NewPools.{new_pool_is_exact}
 use Rattle.base.proofs.steps.StepEffects.{log_step_has, step_does}
 
@@ -156,6 +156,9 @@ module _ (old : State) (x : IsExplainedState old) where
       let t : State = state_after (AddsEntry tx a ops contents) old in
       let at = place tx a ops contents may in
       commit_keeps s t.shown p (record { group = a.group; tx = tx; ops = ops }) at.0 a x.exact.groups at.1 (named tx a ops contents may) refl (of_plan tx a ops contents may)
+  groups (EndsAdmission tx a) found =
+      let at = found_at (λ (b : Admission). b.tx == tx) s.transactions a found in
+      abort_keeps s (state_after (EndsAdmission tx a) old).shown p tx at.0 a x.exact.groups at.1 (eqb-true a.tx tx at.2)
   groups OpensNext (none, below) = close_keeps s p x.exact.groups none below
   groups (QuiescesMiddle group) (is, none) = quiesce_keeps s p group x.exact.groups (quiescing_is s.line group is) none
   groups (PlansSync group plan) (moment, is, idle, planned) = start_keeps s (state_after (PlansSync group plan) old).shown p group x.exact.groups (quiesced_is s.line group is) idle
@@ -170,6 +173,10 @@ module _ (old : State) (x : IsExplainedState old) where
   isolated (AddsAdmission a) may = let t : State = state_after (AddsAdmission a) old in begin_isolated s t.shown p t.past a x.exact.isolated may.in_open may.free may.covered
   isolated (AddsEntry tx a ops contents) may = record {
     admitted = commit-admitted tx ops old a x.exact.isolated.admitted may.passed may.found;
+    covered = covered_without s p (λ (b : Admission). not (b.tx == tx)) x.exact.isolated;
+  }
+  isolated (EndsAdmission tx a) found = record {
+    admitted = filtered p.entries s.line.open_group (λ (b : Admission). not (b.tx == tx)) s.transactions x.exact.isolated.admitted;
     covered = covered_without s p (λ (b : Admission). not (b.tx == tx)) x.exact.isolated;
   }
   isolated OpensNext may = record {
@@ -236,6 +243,7 @@ module _ (old : State) (x : IsExplainedState old) where
 
   reserves : (e : Effect) → MayHave e old → HasReserves (state_after e old)
   reserves (AddsAdmission a) may = begin_state old x.exact.groups reserved a (may.named ∙ x.exact.groups.next) may.in_open may.within may.room
+  reserves (EndsAdmission tx a) found = abort_state old x.exact.groups reserved tx a found
   reserves OpensNext may = close_state old x.exact.groups reserved
   reserves (PlansSync group plan) (moment, is, idle, planned) = start_state old x.exact.groups reserved moment group plan x.exact.sync is idle planned
   reserves (CountsStep plan) (running, more) = step_state old x.exact.groups reserved plan running

@@ -1,4 +1,4 @@
--- A commit keeps the other open transactions apart, and each of them can be the next.
+-- A commit and an abort keep the other open transactions apart, and each of them can be the next.
 use Rattle.std.proofs.Common.{◌≡◌, ℕ, zero, suc, ◌≤◌, Bool, true, false, not, List, [], ◌∷◌, ◌++◌, map, get_or, refl, ap, sym, subst, ◌∙◌, arith}
 use Rattle.std.specs.Prelude.{Some, None, cond, slice_get, filter, find, All, AllPairs, ◌==◌}
 use Rattle.std.specs.List.{position_or_len}
@@ -75,7 +75,7 @@ others_apart (t ∷ ts) (suc i) a pairs at =
 abbrev pub AreStillAdmitted : State → Type 0
 AreStillAdmitted s = AreAdmitted s.past.entries s.shown.line.open_group (map admitted_of s.shown.transactions)
 
-filtered : (entries : List Entry) (filling : ℕ) (p : Admission → Bool) (ts : List Admission) → AreAdmitted entries filling (map admitted_of ts) → AreAdmitted entries filling (map admitted_of (filter p ts))
+pub filtered : (entries : List Entry) (filling : ℕ) (p : Admission → Bool) (ts : List Admission) → AreAdmitted entries filling (map admitted_of ts) → AreAdmitted entries filling (map admitted_of (filter p ts))
 filtered entries filling p ts are = record {
   committed = are.committed;
   below = All-map_filter admitted_of (λ (a : Admitted). a.group ≤ filling) p ts are.below;

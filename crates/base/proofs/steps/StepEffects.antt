@@ -16,7 +16,7 @@ use Rattle.base.specs.formats.Records.{Record}
 use Rattle.base.specs.history.Plans.{log_record_size, charge_of}
 use Rattle.base.specs.steps.Additions.{past_after}
 use Rattle.base.specs.steps.Effects.{Effect, HasEffect, MayHave, is_logging, is_turning, state_after}
-use Rattle.base.specs.steps.Effects.Effect.{Stays, AddsGrant, LetsGo, AddsAdmission, AddsEntry, OpensNext, QuiescesMiddle, PlansSync, CountsStep, EndsSync, WritesLog, FlushesLog}
+use Rattle.base.specs.steps.Effects.Effect.{Stays, AddsGrant, LetsGo, AddsAdmission, AddsEntry, EndsAdmission, OpensNext, QuiescesMiddle, PlansSync, CountsStep, EndsSync, WritesLog, FlushesLog}
 use Rattle.base.specs.steps.ExactNow.{IsLogStep}
 use Rattle.base.specs.steps.Groups.{hold_count}
 use Rattle.base.specs.steps.Locks.{Grant}
@@ -180,6 +180,9 @@ step_does keeps now (step.Commit tx ops) r old new (answer, is, h) =
     does s old new _ (AddsEntry tx.0 d.0 ops d.1) none
     (record { found = d.2; passed = commit_passes old.shown tx.0 ops none; applied = d.3; allowed = d.4; no_middle = idle.0; no_sync = idle.1 }) d.6 (rw d.5 refl) refl refl refl)
     (no_memory s old new) is h
+step_does keeps now (step.Abort tx) r old new (answer, is, h) =
+    let s : declared_step.Step = step.Abort tx in
+    by_answer s old new _ r answer _ _ (λ u none d. does s old new _ (EndsAdmission tx.0 d.0) none d.1 d.2 refl refl refl refl) (λ e none never. absurd never) is h
 step_does keeps now (step.Read owner n range) r old new (answer, is, h) =
     let s : declared_step.Step = step.Read owner n range in
     by_answer s old new _ r answer _ _ (λ bytes none d. does s old new _ Stays none tt d.1 refl refl refl refl) (no_memory s old new) is h

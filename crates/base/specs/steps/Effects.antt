@@ -25,6 +25,8 @@ pub data Effect : Type 0 where
   -- a transaction is admitted; the one of a name, with this admission, is committed with operations that lead to some contents
   AddsAdmission : Admission → Effect
   AddsEntry : ℕ → Admission → List Op → Contents → Effect
+  -- the one of a name, with this admission, is given up
+  EndsAdmission : ℕ → Admission → Effect
   -- the open group is closed, and the next one open; the middle group is quiesced
   OpensNext : Effect
   QuiescesMiddle : ℕ → Effect
@@ -43,6 +45,7 @@ state_after (AddsGrant g) s = steps.state_after_grant g s
 state_after (LetsGo owner id) s = steps.state_after_unlock id s
 state_after (AddsAdmission a) s = steps.state_after_charged_admission a s
 state_after (AddsEntry tx a ops contents) s = steps.state_after_commit tx a.group ops contents s
+state_after (EndsAdmission tx a) s = steps.state_after_abort tx a s
 state_after OpensNext s = steps.with_line (steps.line_after_close s.shown.line) s
 state_after (QuiescesMiddle group) s = steps.with_line (steps.line_after_quiesce group s.shown.line) s
 state_after (PlansSync group plan) s = steps.state_after_start group plan s
@@ -73,9 +76,9 @@ pub record MayAddEntry (tx : ℕ) (a : Admission) (ops : List Op) (contents : Co
   pub no_sync : s.shown.line.syncing ≡ None
 
 -- What the tests of a step have made sure of before its effect, as the facts of the tables need it. A grant has the next name, and no held
--- lock blocks it; a lock that is let go is the owner's, and in no use; the open group is closed while there is no middle one; a group without
--- a hold quiesces; while none runs the sync of the quiesced group is planned, and one that runs has more steps, or ends; a log write takes
--- a block that is available.
+-- lock blocks it; a lock that is let go is the owner's, and in no use; a transaction that is given up is open; the open group is closed while
+-- there is no middle one; a group without a hold quiesces; while none runs the sync of the quiesced group is planned, and one that runs has
+-- more steps, or ends; a log write takes a block that is available.
 abbrev pub MayHave : Effect → State → Type 0
 MayHave Stays s = Unit {0}
 MayHave Suspends s = Unit {0}
@@ -83,6 +86,7 @@ MayHave (AddsGrant g) s = (g.id ≡ s.shown.next_lock) × (is_blocked g.range g.
 MayHave (LetsGo owner id) s = (g : Grant) × (lock_of owner id s.shown ≡ Some g) × (is_lock_in_use g s.shown ≡ false)
 MayHave (AddsAdmission a) s = MayAddAdmission a s
 MayHave (AddsEntry tx a ops contents) s = MayAddEntry tx a ops contents s
+MayHave (EndsAdmission tx a) s = transaction_of tx s.shown ≡ Some a
 MayHave OpensNext s = (s.shown.line.middle ≡ None) × (s.shown.line.open_group < last_number)
 MayHave (QuiescesMiddle group) s = (quiescing_group s.shown.line ≡ Some group) × ((hold_count group s.shown.transactions == 0) ≡ true)
 MayHave (PlansSync group plan) s = (moment : ℕ) × (quiesced_group s.shown.line ≡ Some group) × (s.shown.line.syncing ≡ None) × IsPlanned s moment group plan

@@ -44,6 +44,8 @@ Step keeps now (step.Begin owner plan) given old new =
     (λ answer. stage.Begin owner.0 plan answer old new)
 Step keeps now (step.Commit tx ops) given old new =
     Replies receipt_reply given (λ answer. stage.Commit tx.0 ops answer old new)
+Step keeps now (step.Abort tx) given old new =
+    Replies (λ _. reply.Done) given (λ answer. steps.Abort tx.0 answer old new)
 Step keeps now (step.Read owner n range) given old new =
     Replies (λ bytes. reply.Bytes bytes) given
     (λ answer. stage.Read owner.0 (object_range n.0 range.low range.high) answer old new)
@@ -74,6 +76,7 @@ tests_of_step (step.LockAppend owner n) s = refusal.append_tests owner.0 n.0 s
 tests_of_step (step.Unlock owner id) s = refusal.unlock_tests owner.0 id.0 s
 tests_of_step (step.Begin owner plan) s = stage.begin_tests owner.0 plan s
 tests_of_step (step.Commit tx ops) s = stage.waits_for_older s (refusal.commit_tests tx.0 ops s)
+tests_of_step (step.Abort tx) s = refusal.abort_tests tx.0 s
 tests_of_step (step.Read owner n range) s = refusal.read_tests owner.0 (object_range n.0 range.low range.high) s
 tests_of_step (step.Length n) s = refusal.length_tests n.0 s
 tests_of_step step.Digest s = refusal.digest_tests s

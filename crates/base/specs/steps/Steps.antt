@@ -16,6 +16,7 @@ use Rattle.base.specs.history.History.{Entry, apply_all, replay, entries_up_to, 
 use Rattle.base.specs.formats.Fields.{part}
 use Rattle.base.specs.steps.Locks.{Grant}
 use Rattle.base.specs.steps.Groups.{Line, Admission}
+use Rattle.base.specs.steps.Charges.{with_sum}
 use Rattle.base.specs.tree.Places.{has_block}
 use Rattle.base.specs.tree.Syncs as syncs
 use Rattle.base.specs.formats.Records.{Record, is_content_allowed}
@@ -131,8 +132,8 @@ abbrev pub state_after_abort : ℕ → Admission → State → State
 state_after_abort tx a s = record {
   shown = record s.shown {
     transactions = transactions_without tx s.shown.transactions;
-    dirty = finite.insert s.shown.dirty a.group (dirty_of s.shown a.group - charge_of a.plan);
-    reserved = finite.insert s.shown.reserved a.group (reserved_of s.shown a.group - estimate_of a.plan);
+    dirty = with_sum a.group (dirty_of s.shown a.group - charge_of a.plan) s.shown.dirty;
+    reserved = with_sum a.group (reserved_of s.shown a.group - estimate_of a.plan) s.shown.reserved;
   };
   past = record s.past { aborted = s.past.aborted ++ tx ∷ [] };
 }

@@ -1,20 +1,22 @@
-use Rattle.std.proofs.Common.{◌≡◌, ◌∙◌, List, subst, sym, true, refl, arith}
+use Rattle.std.proofs.Common.{◌≡◌, ◌∙◌, ◌≤◌, List, subst, sym, true, refl, arith}
 use Rattle.std.specs.Prelude.{All, Some, None}
 use Rattle.std.proofs.lemmas.Bool.{false≢true}
 use Rattle.std.proofs.lemmas.List.Elements.{All-push}
 use Rattle.std.proofs.lemmas.Result.{err_from_is_err_and}
 use Rattle.base.specs.declared.operation.Shape.{Shape}
-use Rattle.base.specs.history.Plans.{is_plan_allowed}
+use Rattle.base.specs.formats.Limits.{max_log_record}
+use Rattle.base.specs.history.Plans.{is_plan_allowed, log_record_size}
 use Rattle.base.specs.steps.Stage.{begin_refusal, is_plan_built}
 use Rattle.groups.specs.CountedLines.{after_hold}
 use Rattle.groups.specs.Laws.{AreHoldsExact}
 use Rattle.transactions.specs.Open.{Open}
+use Rattle.throttle.proofs.OpenCharges.{stay_charged}
 use Rattle.throttle.proofs.ShownSums.{sums_stay_on_lines}
 use Rattle.pool_core.specs.Shows.{pool_shown}
 use Rattle.pool_core.proofs.BeginTests.{begin_admits, begin_done, begin_refused, begin_wants, built_allowed, may_begin}
 use Rattle.pool_core.proofs.Charges.{charge_throttled, enough_free, open_charged, shows_sums}
 use Rattle.pool_core.proofs.HeldGroups.{exact_begin, few_holds}
-use Rattle.pool_core.proofs.Opens.{IsBuilt}
+use Rattle.pool_core.proofs.Opens.{IsBuilt, IsSmall}
 use Rattle.pool_core.proofs.pool.Pool.begin.Goals as goal
 
 pub returns-in_err-check_begin-clause-step : goal.returns-in_err-check_begin-clause-step
@@ -103,6 +105,19 @@ invariant_of-self-2-clause-plans_built c =
     let may = may_begin c.args.owner.0 c.as_slice-shapes.result.now (pool_shown pool) c.in_ok-check_begin.ensures in
     let built = subst (λ (l : List Shape). is_plan_built l ≡ true) (c.as_slice-shapes.ensures ∙ sym c.in_ok-plan.ensures) may.built in
     subst (λ (o : Open). All IsBuilt o.transactions) (sym c.in_ok-tx.ensures.admitted) (All-push IsBuilt pool.transactions.transactions _ pool.plans_built built)
+
+pub invariant_of-self-2-clause-plans_small : goal.invariant_of-self-2-clause-plans_small
+invariant_of-self-2-clause-plans_small c =
+    let pool = c.args.self.now in
+    let may = may_begin c.args.owner.0 c.as_slice-shapes.result.now (pool_shown pool) c.in_ok-check_begin.ensures in
+    let small = subst (λ (l : List Shape). log_record_size l ≤ max_log_record) (c.as_slice-shapes.ensures ∙ sym c.in_ok-plan.ensures) may.small in
+    subst (λ (o : Open). All IsSmall o.transactions) (sym c.in_ok-tx.ensures.admitted) (All-push IsSmall pool.transactions.transactions _ pool.plans_small small)
+
+pub invariant_of-self-2-clause-open_charged : goal.invariant_of-self-2-clause-open_charged
+invariant_of-self-2-clause-open_charged c =
+    let pool = c.args.self.now in
+    rw (c.in_ok-tx.ensures.admitted, c.in-Ok.ensures.admitted, c.charge.ensures, c.as_slice-shapes.ensures, ← c.in_ok-plan.ensures)
+    ((stay_charged pool.transactions.transactions pool.dirty pool.open_charged).admitted _)
 
 pub returns-clause-step : goal.returns-clause-step
 returns-clause-step c =

@@ -13,6 +13,7 @@ use Rattle.base.specs.steps.Stage.{commit_refusal, Commit}
 use Rattle.base.specs.tree.Syncs.{is_rename}
 use Rattle.groups.specs.CountedLines.{after_release}
 use Rattle.groups.specs.Laws.{AreHoldsExact}
+use Rattle.throttle.proofs.OpenCharges.{stay_charged}
 use Rattle.object_maps.specs.ContentsShown.{contents_of}
 use Rattle.object_maps.specs.Ops.{AreOpsAllowed}
 use Rattle.tree_plans.specs.declared.planner.Committed.{Committed}
@@ -20,7 +21,7 @@ use Rattle.pool_core.specs.Meets.{Meets, MayCommit}
 use Rattle.pool_core.specs.Shows.{pool_shown}
 use Rattle.pool_core.proofs.CommitSteps.{commit_refused, commit_wants, commit_done}
 use Rattle.pool_core.proofs.HeldGroups.{counted_release, exact_end, has_hold, line-after_release}
-use Rattle.pool_core.proofs.Opens.{IsBuilt}
+use Rattle.pool_core.proofs.Opens.{IsBuilt, IsSmall}
 use Rattle.pool_core.proofs.SamePlans.{built_names}
 use Rattle.pool_core.proofs.pool.Pool.commit.Goals as goal
 
@@ -84,6 +85,16 @@ pub invariant_of-self-2-clause-plans_built : goal.invariant_of-self-2-clause-pla
 invariant_of-self-2-clause-plans_built c =
     let p : Admission → Bool = λ (a : Admission). not (a.tx == c.args.tx.0) in
     rw c.end.ensures.others (All-filter p IsBuilt c.args.self.now.transactions.transactions c.args.self.now.plans_built)
+
+pub invariant_of-self-2-clause-plans_small : goal.invariant_of-self-2-clause-plans_small
+invariant_of-self-2-clause-plans_small c =
+    let p : Admission → Bool = λ (a : Admission). not (a.tx == c.args.tx.0) in
+    rw c.end.ensures.others (All-filter p IsSmall c.args.self.now.transactions.transactions c.args.self.now.plans_small)
+
+pub invariant_of-self-2-clause-open_charged : goal.invariant_of-self-2-clause-open_charged
+invariant_of-self-2-clause-open_charged c =
+    let pool = c.args.self.now in
+    rw c.end.ensures.others ((stay_charged pool.transactions.transactions pool.dirty pool.open_charged).ended c.args.tx.0)
 
 pub invariant_of-self-2-clause-pending_built : goal.invariant_of-self-2-clause-pending_built
 invariant_of-self-2-clause-pending_built c =

@@ -112,6 +112,8 @@ invariant_of-self c =
       holds_exact = subst (AreHoldsExact pool.transactions.transactions) (sym now) ((exact_moves pool.transactions.transactions pool.groups pool.counted pool.holds_exact).start group may.0);
       next_ordinal_fits = pool.next_ordinal_fits;
       plans_built = pool.plans_built;
+      plans_small = pool.plans_small;
+      open_charged = pool.open_charged;
       running = λ x e. let same = kept_sync rs x e in (
         ap (λ (r : RunningSync). r.run.geometry) (sym same) ∙ ens.geometry,
         subst (λ (r : RunningSync). r.run.done < call_count r.run) same ens.begins.left,

@@ -16,8 +16,8 @@ use Rattle.base.specs.declared.step.Reply.TheVariants as reply
 use Rattle.groups.specs.CountedLines.{CountedLine, after_sync, line_after_sync}
 use Rattle.std.specs.FinMap as finite
 use Rattle.throttle.proofs.BlockSums.{blocks_of-remove}
-use Rattle.throttle.specs.Blocks.{AreSumsOn}
-use Rattle.pool_core.proofs.Charges.{synced_charged, syncing_next}
+use Rattle.throttle.specs.Blocks.{AreOpenOnesCharged, AreSumsOn}
+use Rattle.pool_core.proofs.Charges.{synced_charged, synced_open_charged, syncing_next}
 use Rattle.pool_core.proofs.HeldGroups.{of_group}
 use Rattle.base.specs.declared.error.PoolError.{PoolError}
 use Rattle.pool_core.specs.declared.state.Progress.{Progress}
@@ -69,6 +69,14 @@ invariant_of-self-in-Ok-Last-clause-charged g c =
     subst (λ (l : CountedLine). AreSumsOn l.line c.end_charges.new.dirty) (sym finished)
     (subst (AreSumsOn (line_after_sync c.in-Some-take.synced.group.0 pool.groups.line)) (sym c.end_charges.ensures.dirty) (synced_charged pool c.in-Some-take.synced.group.0))
 
+pub invariant_of-self-in-Ok-Last-clause-open_charged : goal.invariant_of-self-in-Ok-Last-clause-open_charged
+invariant_of-self-in-Ok-Last-clause-open_charged g c =
+    let pool = c.args.self.now in
+    let same = kept_sync c.in-Some-take.synced _ c.in-Some-take.ensures.value in
+    let syncing = sym pool.sync_line ∙ ap (λ (o : Option RunningSync). option_map (λ (r : RunningSync). r.group.0) o) c.in-Some.is in
+    subst (AreOpenOnesCharged pool.transactions.transactions) (sym c.end_charges.ensures.dirty)
+    (synced_open_charged pool c.in-Some-take.synced.group.0 (syncing ∙ ap (λ (r : RunningSync). Some r.group.0) (sym same)))
+
 pub invariant_of-self-in-Ok-More : goal.invariant_of-self-in-Ok-More
 invariant_of-self-in-Ok-More g c =
     let pool = c.args.self.now in
@@ -83,9 +91,11 @@ invariant_of-self-in-Ok-More g c =
       counted = pool.counted;
       holds_exact = pool.holds_exact;
       charged = pool.charged;
+      open_charged = pool.open_charged;
       reserved = pool.reserved;
       next_ordinal_fits = pool.next_ordinal_fits;
       plans_built = pool.plans_built;
+      plans_small = pool.plans_small;
       running = λ x e. let same = kept_sync _ x e in (
         ap (λ (r : RunningSync). r.run.geometry) (sym same) ∙ told.counts.same.geometry ∙ was.0,
         subst (λ (r : RunningSync). r.run.done < call_count r.run) same left.1,
@@ -112,9 +122,11 @@ invariant_of-self-in-Err g c =
       counted = pool.counted;
       holds_exact = pool.holds_exact;
       charged = pool.charged;
+      open_charged = pool.open_charged;
       reserved = pool.reserved;
       next_ordinal_fits = pool.next_ordinal_fits;
       plans_built = pool.plans_built;
+      plans_small = pool.plans_small;
       running = λ x e. let same = kept_sync _ x e in (
         ap (λ (r : RunningSync). r.run.geometry) (sym same) ∙ told.counts.same.geometry ∙ was.0,
         subst (λ (r : RunningSync). r.run.done < call_count r.run) same left,

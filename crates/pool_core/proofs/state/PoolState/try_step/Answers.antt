@@ -18,6 +18,9 @@ returns-in-Begin g c = rw c.in-Begin.is (still_step admitted_numbers c.map-in-Be
 pub returns-in-Commit : goal.returns-in-Commit
 returns-in-Commit g c = rw c.in-Commit.is (still_step receipt_numbers _ (λ r x y h. h) refl (λ b. refl) (λ r d. d) c.commit.ensures.step c.commit.ensures.unmoved c.map-in-Commit.ensures.cases)
 
+pub returns-in-Abort : goal.returns-in-Abort
+returns-in-Abort g c = rw c.in-Abort.is (plain_step c.map-in-Abort.result (λ r x y h. h) refl (λ b. refl) (λ r d. d) c.abort.ensures.step c.abort.ensures.unmoved (search rules))
+
 pub returns-in-CloseGroup : goal.returns-in-CloseGroup
 returns-in-CloseGroup g c = rw c.in-CloseGroup.is (still_step group_number _ (λ r x y h. h) refl (λ b. refl) (λ r d. d) c.close_group.ensures.step c.close_group.ensures.unmoved c.map-in-CloseGroup.ensures.cases)
 

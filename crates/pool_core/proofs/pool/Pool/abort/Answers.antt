@@ -1,0 +1,125 @@
+use Rattle.std.proofs.Common.{◌≡◌, ◌∙◌, ◌==◌, Bool, not, List, Some, ap, sym, subst, refl}
+use Rattle.std.specs.Prelude.{All}
+use Rattle.std.proofs.lemmas.Result.{err_from_is_err_and}
+use Rattle.std.proofs.lemmas.List.Elements.{All-filter}
+use Rattle.base.specs.history.Plans.{charge_of, estimate_of, is_plan_allowed}
+use Rattle.base.specs.declared.operation.Shape.{Shape}
+use Rattle.base.specs.steps.Groups.{Admission}
+use Rattle.groups.specs.CountedLines.{after_release}
+use Rattle.groups.specs.Laws.{AreHoldsExact}
+use Rattle.space.specs.FreeSets.{FreeSpace}
+use Rattle.throttle.proofs.ShownSums.{sums_stay_on_lines}
+use Rattle.throttle.specs.Blocks.{AreOpenOnesCharged}
+use Rattle.transactions.specs.Open.{Open, admission_of}
+use Rattle.pool_core.specs.Shows.{pool_shown}
+use Rattle.pool_core.proofs.Aborts.{abort_done, abort_none, abort_suspended, ended_allowed, ended_charged, ended_held, ended_reserved, ended_small, ended_unsynced, none_ended, others_charged, others_reserved}
+use Rattle.pool_core.proofs.Charges.{shows_sums}
+use Rattle.pool_core.proofs.HeldGroups.{counted_release, exact_end, line-after_release}
+use Rattle.pool_core.proofs.Opens.{IsBuilt, IsSmall}
+use Rattle.pool_core.proofs.pool.Pool.abort.Goals as goal
+
+pub returns-in_err-check_running-clause-step : goal.returns-in_err-check_running-clause-step
+returns-in_err-check_running-clause-step c =
+    let p = err_from_is_err_and c.from_residual.result c.from_residual.ensures.1 in
+    let told = c.in_err-check_running.ensures in
+    rw (p.1, p.2, told.0) (abort_suspended c.args.tx.0 (pool_shown c.args.self.now) told.1)
+
+pub invariant_of-self-clause-holds_exact : goal.invariant_of-self-clause-holds_exact
+invariant_of-self-clause-holds_exact c =
+    let pool = c.args.self.now in
+    let same = none_ended c.args.tx.0 pool.transactions c.end.new.self (sym c.in_default.ensures.ended) c.in_default.ensures.others c.in_default.ensures.next in
+    rw same pool.holds_exact
+
+pub invariant_of-self-clause-open_charged : goal.invariant_of-self-clause-open_charged
+invariant_of-self-clause-open_charged c =
+    let pool = c.args.self.now in
+    let same = none_ended c.args.tx.0 pool.transactions c.end.new.self (sym c.in_default.ensures.ended) c.in_default.ensures.others c.in_default.ensures.next in
+    rw same pool.open_charged
+
+pub invariant_of-self-clause-plans_built : goal.invariant_of-self-clause-plans_built
+invariant_of-self-clause-plans_built c =
+    let pool = c.args.self.now in
+    let same = none_ended c.args.tx.0 pool.transactions c.end.new.self (sym c.in_default.ensures.ended) c.in_default.ensures.others c.in_default.ensures.next in
+    rw same pool.plans_built
+
+pub invariant_of-self-clause-plans_small : goal.invariant_of-self-clause-plans_small
+invariant_of-self-clause-plans_small c =
+    let pool = c.args.self.now in
+    let same = none_ended c.args.tx.0 pool.transactions c.end.new.self (sym c.in_default.ensures.ended) c.in_default.ensures.others c.in_default.ensures.next in
+    rw same pool.plans_small
+
+pub returns-in_default-clause-step : goal.returns-in_default-clause-step
+returns-in_default-clause-step c =
+    let pool = c.args.self.now in
+    let same = none_ended c.args.tx.0 pool.transactions c.end.new.self (sym c.in_default.ensures.ended) c.in_default.ensures.others c.in_default.ensures.next in
+    rw same (abort_none c.args.tx.0 (pool_shown pool) c.in_ok-check_running.ensures (sym c.in_default.ensures.ended))
+
+pub charge-requires-clause-allowed : goal.charge-requires-clause-allowed
+charge-requires-clause-allowed c = rw c.as_slice-shapes.ensures (ended_allowed c.args.self.now c.args.tx.0 (admission_of c.in-Some.transaction) (sym c.in-Some.ensures.ended))
+
+pub charge-requires-clause-small : goal.charge-requires-clause-small
+charge-requires-clause-small c = rw c.as_slice-shapes.ensures (ended_small c.args.self.now c.args.tx.0 (admission_of c.in-Some.transaction) (sym c.in-Some.ensures.ended))
+
+pub cancel-requires-clause-unsynced : goal.cancel-requires-clause-unsynced
+cancel-requires-clause-unsynced c = ended_unsynced c.args.self.now c.args.tx.0 (admission_of c.in-Some.transaction) (sym c.in-Some.ensures.ended) c.in-Some.ensures.apart
+
+pub cancel-requires-clause-charged : goal.cancel-requires-clause-charged
+cancel-requires-clause-charged c = rw (c.charge.ensures, c.as_slice-shapes.ensures) (ended_charged c.args.self.now c.args.tx.0 (admission_of c.in-Some.transaction) (sym c.in-Some.ensures.ended))
+
+pub estimate-requires-clause-allowed : goal.estimate-requires-clause-allowed
+estimate-requires-clause-allowed c = rw c.as_slice-shapes.ensures (ended_allowed c.args.self.now c.args.tx.0 (admission_of c.in-Some.transaction) (sym c.in-Some.ensures.ended))
+
+pub estimate-requires-clause-small : goal.estimate-requires-clause-small
+estimate-requires-clause-small c = rw c.as_slice-shapes.ensures (ended_small c.args.self.now c.args.tx.0 (admission_of c.in-Some.transaction) (sym c.in-Some.ensures.ended))
+
+pub unreserve-requires : goal.unreserve-requires
+unreserve-requires c =
+    rw (c.estimate.ensures, c.as_slice-shapes.ensures)
+    (ended_reserved c.args.self.now c.args.tx.0 (admission_of c.in-Some.transaction) (sym c.in-Some.ensures.ended) _ (rw (c.charge.ensures, c.as_slice-shapes.ensures) at c.cancel.ensures.total))
+
+pub release-requires : goal.release-requires
+release-requires c = ended_held c.args.self.now c.args.tx.0 (admission_of c.in-Some.transaction) (sym c.in-Some.ensures.ended) c.in-Some.ensures.apart
+
+pub invariant_of-self-2-clause-counted : goal.invariant_of-self-2-clause-counted
+invariant_of-self-2-clause-counted c = rw c.release.ensures (counted_release c.args.self.now.groups c.args.self.now.counted c.in-Some.transaction.group.0)
+
+pub invariant_of-self-2-clause-holds_exact : goal.invariant_of-self-2-clause-holds_exact
+invariant_of-self-2-clause-holds_exact c =
+    let pool = c.args.self.now in
+    let a = admission_of c.in-Some.transaction in
+    subst (AreHoldsExact c.end.new.self.transactions) (sym c.release.ensures)
+    (subst (λ (ts : List Admission). AreHoldsExact ts (after_release a.group pool.groups)) (sym c.in-Some.ensures.others)
+    (exact_end pool.transactions.transactions pool.groups c.args.tx.0 a a.group pool.holds_exact c.in-Some.ensures.apart (sym c.in-Some.ensures.ended) refl))
+
+pub invariant_of-self-2-clause-charged : goal.invariant_of-self-2-clause-charged
+invariant_of-self-2-clause-charged c =
+    let pool = c.args.self.now in
+    let group = c.in-Some.transaction.group.0 in
+    rw (c.release.ensures, line-after_release pool.groups pool.counted group, c.cancel.ensures.canceled, c.charge.ensures)
+    ((sums_stay_on_lines pool.groups.line pool.dirty pool.charged).cancel group c.as_slice-shapes.result.now)
+
+pub invariant_of-self-2-clause-open_charged : goal.invariant_of-self-2-clause-open_charged
+invariant_of-self-2-clause-open_charged c =
+    rw (c.in-Some.ensures.others, c.cancel.ensures.canceled, c.charge.ensures, c.as_slice-shapes.ensures)
+    (others_charged c.args.self.now c.args.tx.0 (admission_of c.in-Some.transaction) (sym c.in-Some.ensures.ended))
+
+pub invariant_of-self-2-clause-reserved : goal.invariant_of-self-2-clause-reserved
+invariant_of-self-2-clause-reserved c =
+    ap (λ (f : FreeSpace). f.reserved) c.unreserve.ensures
+    ∙ rw (c.estimate.ensures, c.as_slice-shapes.ensures)
+    (others_reserved c.args.self.now c.args.tx.0 (admission_of c.in-Some.transaction) (sym c.in-Some.ensures.ended) _ (rw (c.charge.ensures, c.as_slice-shapes.ensures) at c.cancel.ensures.total))
+
+pub invariant_of-self-2-clause-plans_built : goal.invariant_of-self-2-clause-plans_built
+invariant_of-self-2-clause-plans_built c =
+    rw c.in-Some.ensures.others (All-filter (λ (a : Admission). not (a.tx == c.args.tx.0)) IsBuilt c.args.self.now.transactions.transactions c.args.self.now.plans_built)
+
+pub invariant_of-self-2-clause-plans_small : goal.invariant_of-self-2-clause-plans_small
+invariant_of-self-2-clause-plans_small c =
+    rw c.in-Some.ensures.others (All-filter (λ (a : Admission). not (a.tx == c.args.tx.0)) IsSmall c.args.self.now.transactions.transactions c.args.self.now.plans_small)
+
+pub returns-clause-step : goal.returns-clause-step
+returns-clause-step c =
+    let pool = c.args.self.now in
+    let a = admission_of c.in-Some.transaction in
+    abort_done c.args.tx.0 a (pool_shown pool) _ pool.dirty c.in_ok-check_running.ensures (sym c.in-Some.ensures.ended) pool.charged (shows_sums pool)
+    (rw (c.in-Some.ensures.others, c.in-Some.ensures.next, c.release.ensures, line-after_release pool.groups pool.counted a.group, c.cancel.ensures.canceled, c.charge.ensures, c.as_slice-shapes.ensures, c.unreserve.ensures) refl)
