@@ -8,6 +8,7 @@ pub mod KeptLocks
 pub mod KeptGroups
 pub mod KeptIsolation
 pub mod KeptSyncs
+pub mod KeptLengths
 pub mod KeptLog
 pub mod KeptWrites
 pub mod KeptFlushes

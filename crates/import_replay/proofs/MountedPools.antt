@@ -1,6 +1,6 @@
 -- The pool that an import gives, from what it found, loaded and wrote.
 use Rattle.std.proofs.Common.{◌≡◌, ◌≢◌, ◌⊎◌, inl, inr, ℕ, ◌+◌, ◌<◌, ◌≤◌, true, false, List, [], length, Some, None, refl, sym, subst, ap, ◌∙◌, arith}
-use Rattle.std.specs.Prelude.{IfSome, nat_lt}
+use Rattle.std.specs.Prelude.{IfSome, nat_lt, option_map}
 use Rattle.std.specs.Ordering.{nat_cmp}
 use Rattle.std.specs.FinMap as finite
 use Rattle.std.specs.FinMap.{FinMap, get-empty}
@@ -34,6 +34,7 @@ use Rattle.object_maps.specs.declared.contents.Slot.{Slot}
 use Rattle.object_maps.specs.declared.tree.Tree.{Tree}
 use Rattle.object_maps.specs.declared.contents.Contents as declared
 use Rattle.object_maps.specs.ContentsShown.{contents_of}
+use Rattle.object_maps.specs.Lengths.{HasLengthsOf, lengths_of}
 use Rattle.object_maps.specs.Loading.{IsLimitedObject}
 use Rattle.object_maps.specs.Pointers.{objects_of, pointers_of}
 use Rattle.import_replay.specs.FreeBlocks.{AreAllNamed, HasTakenLowest, IsNamed}
@@ -122,7 +123,8 @@ pub labels_same : (size : ℕ) (config other : Config) (u v : Uberblock) (image 
 labels_same size config other u v image same agree held =
     subst (λ (w : Uberblock). HoldLabels size other w image) agree (subst (λ (c : Config). HoldLabels size c u image) same held)
 
-module _ (size : ℕ) (u : Uberblock) (name : List ℕ) (slots : List Slot) (tree : Tree) (dirty_max : ℕ) (m : Mounted) (from : IsMountedFrom u name slots tree dirty_max m) (sized : m.geometry ≡ size) where
+module _ (size : ℕ) (u : Uberblock) (name : List ℕ) (slots : List Slot) (tree : Tree) (dirty_max : ℕ) (m : Mounted) (from : IsMountedFrom u name slots tree dirty_max m) (sized : m.geometry ≡ size)
+    (told : HasLengthsOf tree (objects_of slots)) where
   abbrev shown : Shown
   shown = shown_of_import m
 
@@ -146,6 +148,7 @@ module _ (size : ℕ) (u : Uberblock) (name : List ℕ) (slots : List Slot) (tre
     kept = refl;
     log_number = refl;
     sync = refl;
+    lengths = λ n below. ap (λ (t : Tree). lengths_of t n) from.tree_is ∙ told n below ∙ ap (λ (l : List Slot). option_map length (finite.get (objects_of l) n)) (sym from.slots_are);
   }
 
   within_last : u.group + 5 ≤ last_number

@@ -17,6 +17,7 @@ use Rattle.base.specs.formats.Uberblocks.{Uberblock, IsActive}
 use Rattle.object_maps.specs.declared.contents.Slot.{Slot}
 use Rattle.object_maps.specs.declared.tree.Tree.{Tree}
 use Rattle.object_maps.specs.ContentsShown.{contents_of}
+use Rattle.object_maps.specs.Lengths.{lengths_of}
 use Rattle.object_maps.specs.Pointers.{pointers_of}
 use Rattle.import_replay.specs.FreeBlocks.{HasTakenLowest}
 use Rattle.import_replay.specs.declared.mounted.Mounted.{Mounted}
@@ -41,6 +42,7 @@ shown_of_import m = record {
   free = m.free.free;
   log = record { pending = []; kept = []; next = record { address = m.log_address; number = 0 } };
   root = m.tree.root;
+  lengths = lengths_of m.tree;
   sync = None;
 }
 

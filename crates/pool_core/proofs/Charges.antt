@@ -23,6 +23,7 @@ use Rattle.throttle.specs.DirtyBytes.{MayBeUnsynced, after_synced, dirty_behind,
 use Rattle.throttle.specs.Laws.{SameTotals}
 use Rattle.throttle.proofs.OpenCharges.{stay_charged}
 use Rattle.throttle.proofs.ShownSums.{holding_groups_are_charged, same_totals, sums_stay_on_lines}
+use Rattle.object_maps.specs.declared.tree.Tree.{Tree}
 use Rattle.pool_core.specs.declared.pool.Pool.{Pool}
 use Rattle.pool_core.specs.declared.pool.RunningSync.{RunningSync}
 use Rattle.pool_core.proofs.HeldGroups.{none_syncing}
@@ -56,9 +57,9 @@ pub total-behind : (limit synced : ℕ) → total_of (dirty_behind limit synced)
 total-behind limit synced = rw (get-empty nat_cmp (synced + 1), get-empty nat_cmp (synced + 1 + 1), get-empty nat_cmp (synced + 1 + 1 + 1)) refl
 
 -- how many blocks a running sync has taken
-length-taken : (address : ℕ) (sync : Option RunningSync) → length (taken_of (option_map (plan_of address) sync)) ≡ taken_count sync
-length-taken address None = refl
-length-taken address (Some r) = length-map r.run.blocks.items (λ (b : PlannedBlock). block_address b.index)
+length-taken : (address : ℕ) (tree : Tree) (sync : Option RunningSync) → length (taken_of (option_map (plan_of address tree) sync)) ≡ taken_count sync
+length-taken address tree None = refl
+length-taken address tree (Some r) = length-map r.run.blocks.items (λ (b : PlannedBlock). block_address b.index)
 
 module _ (p : Pool) where
   pub shows_sums : ShowsSums (pool_shown p) p.dirty
@@ -69,7 +70,7 @@ module _ (p : Pool) where
 
   -- what is available is what the free set says
   pub available_told : available_in p.free ≡ available (pool_shown p)
-  available_told k = available_of (free_count (pool_shown p)) ((p.reserved ∙ sym pool_totals.reserved) k) ((p.free_taken ∙ sym (length-taken p.log_address p.sync)) k)
+  available_told k = available_of (free_count (pool_shown p)) ((p.reserved ∙ sym pool_totals.reserved) k) ((p.free_taken ∙ sym (length-taken p.log_address p.tree p.sync)) k)
 
   -- where a plan's blocks are available they may be reserved
   pub enough_free : (plan : List Shape) (count : ℕ) → count ≡ estimate_of plan → nat_lt (available (pool_shown p)) (blocks_wanted (pool_shown p).contents plan) ≡ false → is_short count 0 p.free ≡ true → ⊥

@@ -25,6 +25,7 @@ use Rattle.base.proofs.tree.Estimates.{syncs_fit}
 use Rattle.base.proofs.tree.PlacedTrees.{pointers-told}
 use Rattle.base.proofs.tree.WrittenPlaces.{written-places}
 use Rattle.object_maps.specs.declared.tree.ObjectMap.{ObjectMap}
+use Rattle.object_maps.specs.Lengths.{map_length}
 use Rattle.tree_plans.specs.declared.planner.Committed.{Committed}
 use Rattle.tree_plans.specs.declared.changes.ObjectChanges.{ObjectChanges}
 use Rattle.tree_plans.specs.Changes.{group_of, names_block}
@@ -35,7 +36,7 @@ use Rattle.pool_core.proofs.PlannedGroups.{follows, in_range, ops_are, states_ar
 
 -- Whatever the device holds, and from whichever pointers it is planned.
 module _ (s : Shown) (p : Past) (explained : IsExplainedNow s p) (group : ℕ) (idle : s.line.syncing ≡ None) (middle : s.line.middle ≡ Some (record { group = group; quiesced = true })) (no_log : s.log.kept ≡ [])
-    (pending : List Committed) (log : s.log.pending ≡ map shown_record pending) (maps : List ObjectMap) (pointers : Place → Pointer) where
+    (pending : List Committed) (log : s.log.pending ≡ map shown_record pending) (maps : List ObjectMap) (told : (n : ℕ) → s.lengths n ≡ map_length maps n) (pointers : Place → Pointer) where
   -- the places that are written are those that the changes tell
   pub places_told : (objects : List (ObjectId × ObjectChanges)) → AreChangesOf (pending_ops group pending) maps objects → (synced : Contents) → replay (entries_up_to s.line.synced p.entries) p.base ≡ Ok synced
       → (had : Place → Bool) → ((n r : ℕ) → n < object_count → r < pointer_count → names_block (pointers (Data n r)) ≡ had (Data n r))
@@ -43,7 +44,7 @@ module _ (s : Shown) (p : Past) (explained : IsExplainedNow s p) (group : ℕ) (
   places_told objects changes synced replayed had same =
       ap (λ (ops : List Op). written_places ops synced had) (ops_are s p explained group idle middle no_log pending log)
       ∙ written-places (group_of objects pointers s.contents.objects) (pending_ops group pending) synced s.contents had (follows s p explained group idle middle no_log pending log synced replayed) (record {
-        states = λ n r low below. states_are s p explained group idle middle no_log pending log synced replayed maps objects changes n r below;
+        states = λ n r low below. states_are s p explained group idle middle no_log pending log synced replayed maps told objects changes n r below;
         blocks = same;
         changed = λ n low. changes.changed n;
         touched = λ n low. changes.there n;
@@ -85,13 +86,13 @@ module _ (s : Shown) (p : Past) (explained : IsExplainedNow s p) (group : ℕ) (
 
 module _ (now : List ℕ) (s : Shown) (p : Past) (pointers : Place → Pointer) (x : IsStored now s pointers p) (explained : IsExplainedNow s p) (group : ℕ) (idle : s.line.syncing ≡ None)
     (middle : s.line.middle ≡ Some (record { group = group; quiesced = true })) (pending : List Committed) (log : s.log.pending ≡ map shown_record pending)
-    (maps : List ObjectMap) (new : Place → Pointer) (bs : List NewBlock) (plan : SyncPlan) (from : IsPlannedGroup group pending maps (frame_at s group) pointers new bs s.contents.objects) (taken : map (λ (b : NewBlock). b.address) bs ≡ plan.taken) where
+    (maps : List ObjectMap) (told : (n : ℕ) → s.lengths n ≡ map_length maps n) (new : Place → Pointer) (bs : List NewBlock) (plan : SyncPlan) (from : IsPlannedGroup group pending maps (frame_at s group) pointers new bs s.contents.objects) (taken : map (λ (b : NewBlock). b.address) bs ≡ plan.taken) where
   -- the places that the sync of the group writes
   abbrev pub places : List Place
   places = written_places (ops_of_group group p.entries) x.synced (has_block now s.root)
 
   places_are : places ≡ written_by (group_of from.objects pointers s.contents.objects)
-  places_are = places_told s p explained group idle middle x.no_log pending log maps pointers from.objects from.changes x.synced x.replayed (has_block now s.root)
+  places_are = places_told s p explained group idle middle x.no_log pending log maps told pointers from.objects from.changes x.synced x.replayed (has_block now s.root)
       (λ n r low below. ap (λ (q : Pointer). not (q.address == 0)) (sym (pointers-told now (frame_at s s.line.synced) pointers x.synced.objects x.tree (Data n r) (low, below)))
       ∙ ap (λ (q : Pointer). has_block now q (Data n r)) x.root)
 

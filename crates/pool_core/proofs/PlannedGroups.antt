@@ -1,15 +1,15 @@
 -- The plan of a group, made of what its transactions did to the synced contents.
-use Rattle.std.proofs.Common.{◌≡◌, ℕ, ◌+◌, ◌*◌, ◌<◌, ◌≤◌, Bool, true, false, not, ◌&&◌, cond, List, [], ◌∷◌, ◌++◌, length, map, filter, refl, ap, sym, subst, ◌∙◌, ◌⊎◌, inl, inr, arith, nat_lt}
-use Rattle.std.specs.Prelude.{Option, Some, None, Ok, slice_get, is_some, option_map, IfSome, All, ◌==◌}
+use Rattle.std.proofs.Common.{◌≡◌, ℕ, ◌+◌, ◌*◌, ◌<◌, ◌≤◌, Bool, true, false, not, ◌&&◌, ◌||◌, cond, List, [], ◌∷◌, ◌++◌, length, map, filter, refl, ap, sym, subst, ◌∙◌, ◌⊎◌, inl, inr, arith, nat_lt}
+use Rattle.std.specs.Prelude.{Option, Some, None, Ok, slice_get, is_some, option_map, IfSome, All, ◌==◌, if◌then◌else◌}
 use Rattle.std.specs.List.{list_all, list_any, enumerate_from, flat_map}
 use Rattle.std.specs.FinMap as finite
-use Rattle.std.proofs.lemmas.Bool.{and_parts, eqb-true, lt-ltb, false≢true}
-use Rattle.std.proofs.lemmas.List.Elements.{All-append, All-nil, All-cons, All-head, All-tail}
+use Rattle.std.proofs.Math.Bool.{or-true}
+use Rattle.std.proofs.lemmas.Bool.{eqb-true, lt-ltb, false≢true}
 use Rattle.base.specs.declared.names.ObjectId.{ObjectId}
 use Rattle.base.specs.declared.operation.Op.{Op}
 use Rattle.base.specs.declared.operation.Op.TheVariants.{Create, Remove, Write, SetLength, SetName}
 use Rattle.base.specs.declared.pointer.Pointer.{Pointer}
-use Rattle.base.specs.history.Contents.{Contents, apply}
+use Rattle.base.specs.history.Contents.{Contents, apply, length_of}
 use Rattle.base.specs.steps.ExactNow.{IsExplainedNow}
 use Rattle.base.specs.history.History.{Entry, apply_all, entries_in, entries_up_to, replay, run}
 use Rattle.base.specs.declared.record_state.RecordState.TheVariants.{Unchanged, Hole}
@@ -19,27 +19,27 @@ use Rattle.base.specs.history.Past.{Past}
 use Rattle.base.specs.tree.Places.{Place}
 use Rattle.base.specs.tree.Places.Place.{Root, Data}
 use Rattle.base.specs.tree.PlannedTrees.{AreFreed, NewBlock}
-use Rattle.base.specs.history.Plans.{IsRange, ranges, shape_of}
+use Rattle.base.specs.history.Plans.{IsRange, ranges}
 use Rattle.base.specs.formats.Records.{Record}
 use Rattle.base.specs.history.Sequences.{in_turn}
 use Rattle.base.specs.steps.Shown.{Shown, SyncPlan}
-use Rattle.base.specs.steps.Stage.{is_shape_built}
-use Rattle.base.specs.steps.Steps.{ops_of_group}
+use Rattle.base.specs.steps.Steps.{AreLengthsUpTo, ops_of_group}
 use Rattle.base.specs.stored.Stored.{AreUsed, IsPlannedSync, IsStored, frame_at}
 use Rattle.base.specs.tree.Syncs.{is_on, record_state}
 use Rattle.base.proofs.tree.PlacedTrees.{absent-indirect, none-by_address}
 use Rattle.base.proofs.tree.RecordStates.{HasRecord, dirty-record, hole-record, object-off, state-gone, state-made, tree-record, unchanged-record}
 use Rattle.base.proofs.tree.WrittenPlaces.{group-numbers, group-ranges}
 use Rattle.base.proofs.common.Sequences.{in_turn-append, parted}
-use Rattle.base.proofs.steps.WaitingGroups.{All-passing, entry-built, group-follows, next-group}
+use Rattle.base.proofs.steps.WaitingGroups.{group-follows, group-replays, next-group, synced-contents}
 use Rattle.base.proofs.stored.StoredTrees.{stored-births}
 use Rattle.object_maps.specs.declared.tree.ObjectMap.{ObjectMap}
+use Rattle.object_maps.specs.Lengths.{map_length}
 use Rattle.tree_plans.specs.declared.planner.Committed.{Committed}
 use Rattle.tree_plans.specs.declared.changes.ObjectChanges.{ObjectChanges}
 use Rattle.tree_plans.specs.Changes.{AreBornBefore, AreChanges, AreInRange, AreTreePointers, IsCoveredBy, is_changed_in, state_in}
 use Rattle.tree_plans.specs.Marks.{AreChangesOf, pending_ops, sets_length}
 use Rattle.tree_plans.specs.Pointers.{entry_of}
-use Rattle.pool_core.specs.GroupPlans.{IsPlannedGroup}
+use Rattle.pool_core.specs.GroupPlans.{HasGroupLengths, IsPlannedGroup}
 use Rattle.pool_core.specs.Shows.{record_of as shown_record}
 
 -- transactions in order are their operations in order
@@ -49,28 +49,21 @@ flat_replay (e ∷ es) a b h =
     let p = parted (run e a) (in_turn run es) b h in
     in_turn-append apply e.ops (flat_map (λ (x : Entry). x.ops) es) a p.0 b p.1 (flat_replay es p.0 b p.2)
 
--- operations whose shapes are built so far
-abbrev IsBuilt : Op → Type 0
-IsBuilt op = is_shape_built (shape_of op) ≡ true
+-- operations that set the length of an object are on it
+sets_on : (n : ℕ) (o : Op) → sets_length n o ≡ true → is_on n o ≡ true
+sets_on n (Create m) sets = absurd (false≢true sets)
+sets_on n (Remove m) sets = absurd (false≢true sets)
+sets_on n (Write m offset bytes) sets = absurd (false≢true sets)
+sets_on n (SetLength m new) sets = sets
+sets_on n (SetName bytes) sets = sets
 
-built_ops : (ops : List Op) → list_all is_shape_built (map shape_of ops) ≡ true → All IsBuilt ops
-built_ops [] built = All-nil IsBuilt
-built_ops (o ∷ ops) built =
-    let both = and_parts (is_shape_built (shape_of o)) (list_all is_shape_built (map shape_of ops)) built in
-    All-cons IsBuilt o ops both.0 (built_ops ops both.1)
-
-built_flat : (es : List Entry) → All (λ (e : Entry). All IsBuilt e.ops) es → All IsBuilt (flat_map (λ (e : Entry). e.ops) es)
-built_flat [] h = All-nil IsBuilt
-built_flat (e ∷ es) h = All-append IsBuilt e.ops (flat_map (λ (x : Entry). x.ops) es) (All-head (λ (x : Entry). All IsBuilt x.ops) e es h) (built_flat es (All-tail (λ (x : Entry). All IsBuilt x.ops) e es h))
-
--- none of them sets a length
-sets_none : (n : ℕ) (ops : List Op) → All IsBuilt ops → list_any (sets_length n) ops ≡ true → ⊥
-sets_none n [] built sets = false≢true sets
-sets_none n (Create m ∷ ops) built sets = sets_none n ops (All-tail IsBuilt (Create m) ops built) sets
-sets_none n (Remove m ∷ ops) built sets = sets_none n ops (All-tail IsBuilt (Remove m) ops built) sets
-sets_none n (Write m offset bytes ∷ ops) built sets = sets_none n ops (All-tail IsBuilt (Write m offset bytes) ops built) sets
-sets_none n (SetLength m new ∷ ops) built sets = false≢true (All-head IsBuilt (SetLength m new) ops built)
-sets_none n (SetName bytes ∷ ops) built sets = sets_none n ops (All-tail IsBuilt (SetName bytes) ops built) sets
+any_on : (n : ℕ) (ops : List Op) → list_any (sets_length n) ops ≡ true → list_any (is_on n) ops ≡ true
+any_on n [] sets = sets
+any_on n (o ∷ ops) sets = by (sets_length n o) refl sets (any_on n ops)
+  where
+    by : (b : Bool) → sets_length n o ≡ b → (b || list_any (sets_length n) ops) ≡ true → (list_any (sets_length n) ops ≡ true → list_any (is_on n) ops ≡ true) → (is_on n o || list_any (is_on n) ops) ≡ true
+    by true is any rest = ap (λ (c : Bool). c || list_any (is_on n) ops) (sets_on n o is)
+    by false is any rest = ap (λ (c : Bool). is_on n o || c) (rest any) ∙ or-true (is_on n o)
 
 -- the operations of a group among pending records
 abbrev record_ops : ℕ → List Record → List Op
@@ -135,26 +128,39 @@ module _ (s : Shown) (p : Past) (explained : IsExplainedNow s p) (group : ℕ) (
       let told : map shown_record pending ≡ all_above [] = sym log ∙ explained.exact.log.pending ∙ ap all_above no_log in
       sym (entry_ops s.line.synced group below 0 p.entries) ∙ ap (λ (rs : List Record). record_ops group rs) (sym told) ∙ told_ops group pending
 
-  built : All IsBuilt (pending_ops group pending)
-  built = subst (λ (ops : List Op). All IsBuilt ops) ops_are (built_flat (entries_in group p.entries)
-      (All-passing (λ (e : Entry). All IsBuilt e.ops) (λ (e : Entry). e.group == group) p.entries (λ i e at is. built_ops e.ops (entry-built s p explained i e at))))
-
   within : All IsRange (ranges (pending_ops group pending))
   within = subst (λ (ops : List Op). All IsRange (ranges ops)) ops_are (group-ranges s p explained group)
 
+  number_below : (n : ℕ) → list_any (is_on n) (pending_ops group pending) ≡ true → n < object_count
+  number_below n on = group-numbers s p explained group n (ap (λ (ops : List Op). list_any (is_on n) ops) ops_are ∙ on)
+
   -- each object that operations are on is in range
   pub in_range : (maps : List ObjectMap) (objects : List (ObjectId × ObjectChanges)) → AreChangesOf (pending_ops group pending) maps objects → AreInRange objects
-  in_range maps objects changes n is = group-numbers s p explained group n (ap (λ (ops : List Op). list_any (is_on n) ops) ops_are ∙ sym (changes.there n) ∙ is)
+  in_range maps objects changes n is = number_below n (sym (changes.there n) ∙ is)
 
   module _ (synced : Contents) (replayed : replay (entries_up_to s.line.synced p.entries) p.base ≡ Ok synced) where
     -- they lead from the synced contents to those of now
     pub follows : apply_all (pending_ops group pending) synced ≡ Ok s.contents
     follows = subst (λ (ops : List Op). apply_all ops synced ≡ Ok s.contents) ops_are (flat_replay (entries_in group p.entries) synced s.contents (group-follows s p explained group idle middle synced replayed))
 
-    -- each record is in the state that the definitions give it
-    pub states_are : (maps : List ObjectMap) (objects : List (ObjectId × ObjectChanges)) → AreChangesOf (pending_ops group pending) maps objects
+    -- each record is in the state that the definitions give it, where the lengths that are shown are those of the maps
+    pub states_are : (maps : List ObjectMap) → ((n : ℕ) → s.lengths n ≡ map_length maps n) → (objects : List (ObjectId × ObjectChanges)) → AreChangesOf (pending_ops group pending) maps objects
         → (n r : ℕ) → r < pointer_count → state_in objects n r ≡ record_state n r (pending_ops group pending) synced Unchanged
-    states_are maps objects changes n r below = changes.states synced s.contents follows within n r below (λ sets. absurd (sets_none n (pending_ops group pending) built sets))
+    states_are maps told objects changes n r below = changes.states synced s.contents follows within n r below
+        (λ sets. sym (told n) ∙ explained.lengths.synced synced replayed n (number_below n (any_on n (pending_ops group pending) sets)))
+
+  -- and the lengths that a plan of the group gives the tree are those after the group
+  pub lengths_told : (maps : List ObjectMap) → ((n : ℕ) → s.lengths n ≡ map_length maps n) → (new : ℕ → Option ℕ) → HasGroupLengths group pending maps new s.contents.objects → AreLengthsUpTo group p new
+  lengths_told maps told new from c replayed n below =
+      let now : s.contents ≡ c = (let both : Ok s.contents ≡ Ok c = sym (group-replays s p explained group idle middle) ∙ replayed in cc) in
+      from.each n below ∙ by (is_some (entry_of from.objects n)) refl ∙ ap (λ (d : Contents). length_of d n) now
+    where
+      by : (b : Bool) → is_some (entry_of from.objects n) ≡ b → (if b then option_map length (finite.get s.contents.objects n) else map_length maps n) ≡ length_of s.contents n
+      by true on = refl
+      by false off =
+          let synced = synced-contents s p explained in
+          sym (told n) ∙ explained.lengths.synced synced.0 synced.1 n below
+          ∙ ap (λ (o : Option (List ℕ)). option_map length o) (object-off n (pending_ops group pending) synced.0 s.contents (sym (from.changes.there n) ∙ off) (follows synced.0 synced.1))
 
 -- and of its plan, with what the device holds
 module _ (now : List ℕ) (s : Shown) (p : Past) (pointers : Place → Pointer) (x : IsStored now s pointers p) (explained : IsExplainedNow s p) (group : ℕ) (idle : s.line.syncing ≡ None)
@@ -162,9 +168,9 @@ module _ (now : List ℕ) (s : Shown) (p : Past) (pointers : Place → Pointer) 
   leads : apply_all (pending_ops group pending) x.synced ≡ Ok s.contents
   leads = follows s p explained group idle middle x.no_log pending log x.synced x.replayed
 
-  module _ (maps : List ObjectMap) (objects : List (ObjectId × ObjectChanges)) (changes : AreChangesOf (pending_ops group pending) maps objects) where
+  module _ (maps : List ObjectMap) (told : (n : ℕ) → s.lengths n ≡ map_length maps n) (objects : List (ObjectId × ObjectChanges)) (changes : AreChangesOf (pending_ops group pending) maps objects) where
     in_state : (n r : ℕ) → r < pointer_count → state_in objects n r ≡ record_state n r (pending_ops group pending) x.synced Unchanged
-    in_state = states_are s p explained group idle middle x.no_log pending log x.synced x.replayed maps objects changes
+    in_state = states_are s p explained group idle middle x.no_log pending log x.synced x.replayed maps told objects changes
 
     covered : IsCoveredBy objects pointers x.synced.objects s.contents.objects
     covered = record {
@@ -205,11 +211,11 @@ module _ (now : List ℕ) (s : Shown) (p : Past) (pointers : Place → Pointer) 
       omega (arith, next, birth)
 
   -- what is planned is a sync from the stored tree to the contents
-  pub planned_sync : (maps : List ObjectMap) (new : Place → Pointer) (bs : List NewBlock) (plan : SyncPlan) → IsPlannedGroup group pending maps (frame_at s group) pointers new bs s.contents.objects
+  pub planned_sync : (maps : List ObjectMap) → ((n : ℕ) → s.lengths n ≡ map_length maps n) → (new : Place → Pointer) (bs : List NewBlock) (plan : SyncPlan) → IsPlannedGroup group pending maps (frame_at s group) pointers new bs s.contents.objects
       → map (λ (b : NewBlock). b.address) bs ≡ plan.taken → ((i : ℕ) (b : NewBlock) → slice_get bs i ≡ Some b → length b.content ≡ 4096) → (AreBornBefore group pointers → AreFreed pointers new plan.freed)
       → AreUsed bs new → new Root ≡ plan.root → IsPlannedSync (frame_at s group) pointers new bs x.synced.objects s.contents.objects plan
-  planned_sync maps new bs plan from taken whole freed used root = record {
-    planned = from.planned x.synced.objects (covered maps from.objects from.changes) (group_is maps from.objects from.changes) (of_tree maps from.objects from.changes);
+  planned_sync maps told new bs plan from taken whole freed used root = record {
+    planned = from.planned x.synced.objects (covered maps told from.objects from.changes) (group_is maps told from.objects from.changes) (of_tree maps told from.objects from.changes);
     taken = taken;
     whole = whole;
     freed = freed born_before;

@@ -1,8 +1,8 @@
 -- A sync that goes on as it was.
-use Rattle.std.proofs.Common.{◌≡◌, ◌∙◌, ◌<◌, ◌+◌, ◌-◌, ◌⊎◌, inl, inr, ℕ, false, List, length, map, vec_len, ap, sym, subst, arith}
+use Rattle.std.proofs.Common.{◌≡◌, ◌∙◌, ◌<◌, ◌+◌, ◌-◌, ◌⊎◌, inl, inr, ℕ, false, List, length, map, vec_len, refl, ap, sym, subst, arith}
 use Rattle.std.proofs.Math.Logic.{∥∥₁_map}
 use Rattle.std.proofs.lemmas.Bool.{cases_lt, true≢false}
-use Rattle.std.specs.Prelude.{Option, Some, is_some}
+use Rattle.std.specs.Prelude.{Option, Some, None, is_some, option_map}
 use Rattle.std.specs.Global.{Vec}
 use Rattle.std.specs.Option.{option_map_or}
 use Rattle.base.specs.declared.error.PoolError.{PoolError}
@@ -17,7 +17,9 @@ use Rattle.tree_plans.specs.declared.planner.PlannedBlock.{PlannedBlock}
 use Rattle.base.specs.tree.Places.{IsPlace, Place}
 use Rattle.base.specs.tree.PlacedTrees.{ArePlaced, IsPlaced}
 use Rattle.sync.specs.declared.run.SyncRun.{SyncRun}
+use Rattle.object_maps.specs.declared.tree.Tree.{Tree}
 use Rattle.pool_core.specs.declared.pool.RunningSync.{RunningSync}
+use Rattle.pool_core.specs.Shows.{plan_of}
 use Rattle.sync.specs.Runs.{SameSync, call_count, other_calls}
 use Rattle.pool_core.specs.RunningUberblocks.{WritesUberblock}
 
@@ -35,6 +37,11 @@ left_as_before old new same done left = let count = same_count old new same in o
 -- there is none where none runs
 pub none_running : (sync : Option RunningSync) (r : RunningSync) → is_some sync ≡ false → sync ≡ Some r → ⊥
 none_running sync r none is = true≢false (ap (λ (o : Option RunningSync). is_some o) (sym is) ∙ none)
+
+-- nor has one a plan, on whichever tree
+pub none_planned : (address : ℕ) (old new : Tree) (sync : Option RunningSync) → is_some sync ≡ false → option_map (plan_of address old) sync ≡ option_map (plan_of address new) sync
+none_planned address old new None none = refl
+none_planned address old new (Some r) none = absurd (true≢false none)
 
 -- pointers that are told otherwise are placed as well
 pub placed_after : (blocks : ℕ) (old new : Place → Pointer) → ((place : Place) → IsPlace place → new place ≡ old place) → ∥ ArePlaced blocks old ∥₁ → ∥ ArePlaced blocks new ∥₁

@@ -13,7 +13,7 @@ use Rattle.base.specs.steps.ExactNow.{IsExplainedNow}
 use Rattle.base.specs.tree.Places.{Place, has_block}
 use Rattle.base.specs.tree.PlannedTrees.{AreFreed, NewBlock}
 use Rattle.base.specs.steps.Shown.{SyncPlan}
-use Rattle.base.specs.steps.Steps.{TakesForEach, ops_of_group}
+use Rattle.base.specs.steps.Steps.{AreLengthsUpTo, TakesForEach, ops_of_group}
 use Rattle.base.specs.stored.Stored.{AreUsed, IsHeld, IsPlannedSync, frame_at}
 use Rattle.base.specs.tree.Syncs.{written_places}
 use Rattle.base.proofs.steps.KeptGroups.{none_there, quiesced_is}
@@ -27,15 +27,15 @@ use Rattle.tree_plans.specs.Changes.{AreBornBefore}
 use Rattle.tree_plans.specs.Plans.{address_of, new_block}
 use Rattle.pool_core.specs.declared.pool.Pool.{Pool}
 use Rattle.pool_core.specs.declared.pool.RunningSync.{RunningSync}
-use Rattle.pool_core.specs.GroupPlans.{IsPlannedGroup, IsShortOfBlocks}
+use Rattle.pool_core.specs.GroupPlans.{HasGroupLengths, IsPlannedGroup, IsShortOfBlocks}
 use Rattle.pool_core.specs.Holds.{held_with, new_tree_of, pool_told}
 use Rattle.pool_core.specs.Lines.{MayStart}
-use Rattle.pool_core.specs.Pointers.{pointers_after}
+use Rattle.pool_core.specs.Pointers.{lengths_after, pointers_after}
 use Rattle.pool_core.specs.Shows.{new_plan, pool_shown}
 use Rattle.pool_core.proofs.Flags.{is_some-map}
 use Rattle.pool_core.proofs.SameSyncs.{taken_count}
 use Rattle.pool_core.proofs.PlannedCounts.{enough_blocks, taken_fit, takes_for_each, takes_in_order}
-use Rattle.pool_core.proofs.PlannedGroups.{planned_sync}
+use Rattle.pool_core.proofs.PlannedGroups.{lengths_told, planned_sync}
 
 -- the addresses of blocks as they are written
 pub addresses_are : (blocks : List PlannedBlock) → map (λ (b : NewBlock). b.address) (map new_block blocks) ≡ map address_of blocks
@@ -68,10 +68,10 @@ pub group_planned : (now : List ℕ) (past : Past) (pool : Pool) (group moment :
     → AreUsed (map new_block blocks) (pointers_after root directories maps pool.tree) → ((i : ℕ) (b : NewBlock) → slice_get (map new_block blocks) i ≡ Some b → length b.content ≡ 4096)
     → (x : IsHeld (held_with (pool_told pool now) past))
     → IsPlannedSync (frame_at (pool_shown pool) group) (pointers_of pool.tree) (pointers_after root directories maps pool.tree) (map new_block blocks) x.kept.stored.synced.objects (contents_of pool.contents).objects
-    (new_plan moment pool.log_address (map address_of blocks) freed root)
+    (new_plan moment pool.log_address (map address_of blocks) freed root (lengths_after maps pool.tree))
 group_planned now past pool group moment blocks freed root directories maps may planned freed_are used whole x =
     planned_sync now (pool_shown pool) past (pointers_of pool.tree) x.kept.stored x.explained group (none_there pool.groups.line.syncing may.1) (quiesced_is pool.groups.line group may.0)
-    pool.pending.items refl pool.tree.maps.items (pointers_after root directories maps pool.tree) (map new_block blocks) (new_plan moment pool.log_address (map address_of blocks) freed root)
+    pool.pending.items refl pool.tree.maps.items (λ n. refl) (pointers_after root directories maps pool.tree) (map new_block blocks) (new_plan moment pool.log_address (map address_of blocks) freed root (lengths_after maps pool.tree))
     planned (addresses_are blocks) whole freed_are used refl
 
 -- what a started sync takes is what its tree has at the places that it writes, in order
@@ -80,16 +80,16 @@ module _ (now : List ℕ) (past : Past) (pool : Pool) (group moment : ℕ) (bloc
     (planned : IsPlannedGroup group pool.pending.items pool.tree.maps.items (frame_at (pool_shown pool) group) (pointers_of pool.tree) (pointers_after root directories maps pool.tree) (map new_block blocks) (contents_of pool.contents).objects)
     (x : IsHeld (held_with (pool_told pool now) past)) where
   abbrev pub plan : SyncPlan
-  plan = new_plan moment pool.log_address (map address_of blocks) freed root
+  plan = new_plan moment pool.log_address (map address_of blocks) freed root (lengths_after maps pool.tree)
 
   pub group_takes : map (λ (place : Place). (pointers_after root directories maps pool.tree place).address) (written_places (ops_of_group group past.entries) x.kept.stored.synced (has_block now (pool_shown pool).root)) ≡ plan.taken
   group_takes =
-      takes_in_order now (pool_shown pool) past (pointers_of pool.tree) x.kept.stored x.explained group (none_there pool.groups.line.syncing may.1) (quiesced_is pool.groups.line group may.0) pool.pending.items refl pool.tree.maps.items
+      takes_in_order now (pool_shown pool) past (pointers_of pool.tree) x.kept.stored x.explained group (none_there pool.groups.line.syncing may.1) (quiesced_is pool.groups.line group may.0) pool.pending.items refl pool.tree.maps.items (λ n. refl)
       (pointers_after root directories maps pool.tree) (map new_block blocks) plan planned (addresses_are blocks)
 
   pub group_takes_each : TakesForEach now (record { shown = pool_shown pool; past = past }) group plan
   group_takes_each =
-      takes_for_each now (pool_shown pool) past (pointers_of pool.tree) x.kept.stored x.explained group (none_there pool.groups.line.syncing may.1) (quiesced_is pool.groups.line group may.0) pool.pending.items refl pool.tree.maps.items
+      takes_for_each now (pool_shown pool) past (pointers_of pool.tree) x.kept.stored x.explained group (none_there pool.groups.line.syncing may.1) (quiesced_is pool.groups.line group may.0) pool.pending.items refl pool.tree.maps.items (λ n. refl)
       (pointers_after root directories maps pool.tree) (map new_block blocks) plan planned (addresses_are blocks)
 
 -- Whatever the device holds: it takes no more blocks than its operations are estimated at.
@@ -97,13 +97,19 @@ pub group_fits : (past : Past) (pool : Pool) (group : ℕ) (blocks : List Planne
     → IsPlannedGroup group pool.pending.items pool.tree.maps.items (frame_at (pool_shown pool) group) (pointers_of pool.tree) new (map new_block blocks) (contents_of pool.contents).objects
     → length (map address_of blocks) ≤ estimate_of (map shape_of (ops_of_group group past.entries))
 group_fits past pool group blocks new may explained planned =
-    let fits = taken_fit (pool_shown pool) past explained group (none_there pool.groups.line.syncing may.1) (quiesced_is pool.groups.line group may.0) refl pool.pending.items refl pool.tree.maps.items (pointers_of pool.tree)
+    let fits = taken_fit (pool_shown pool) past explained group (none_there pool.groups.line.syncing may.1) (quiesced_is pool.groups.line group may.0) refl pool.pending.items refl pool.tree.maps.items (λ n. refl) (pointers_of pool.tree)
     new (map new_block blocks) planned in
     subst (λ (n : ℕ). n ≤ estimate_of (map shape_of (ops_of_group group past.entries))) (length-map blocks new_block ∙ sym (length-map blocks address_of)) fits
+
+-- its lengths are those after the group
+pub group_lengths : (past : Past) (pool : Pool) (group : ℕ) (new : ℕ → Option ℕ) → MayStart group pool.groups.line → IsExplainedNow (pool_shown pool) past
+    → HasGroupLengths group pool.pending.items pool.tree.maps.items new (contents_of pool.contents).objects → AreLengthsUpTo group past new
+group_lengths past pool group new may explained =
+    lengths_told (pool_shown pool) past explained group (none_there pool.groups.line.syncing may.1) (quiesced_is pool.groups.line group may.0) refl pool.pending.items refl pool.tree.maps.items (λ n. refl) new
 
 -- and its plan is not short of blocks
 pub never_short : (past : Past) (pool : Pool) (group : ℕ) → MayStart group pool.groups.line → IsExplainedNow (pool_shown pool) past
     → IsShortOfBlocks group pool.pending.items pool.tree.maps.items (pointers_of pool.tree) (contents_of pool.contents).objects (rising pool.free.free) → ⊥
 never_short past pool group may explained short =
-    enough_blocks (pool_shown pool) past explained group (none_there pool.groups.line.syncing may.1) (quiesced_is pool.groups.line group may.0) refl pool.pending.items refl pool.tree.maps.items (pointers_of pool.tree)
+    enough_blocks (pool_shown pool) past explained group (none_there pool.groups.line.syncing may.1) (quiesced_is pool.groups.line group may.0) refl pool.pending.items refl pool.tree.maps.items (λ n. refl) (pointers_of pool.tree)
     (rising pool.free.free) (length-rising pool.free.free) short

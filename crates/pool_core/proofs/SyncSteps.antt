@@ -45,6 +45,7 @@ pub step_synced : (s n : Shown) (group g : ℕ) (plan : SyncPlan) → s.suspende
       free = set.union s.free (set.from_list plan.freed);
       log = record s.log { pending = filter (λ (r : Record). nat_lt group r.group) s.log.pending };
       root = plan.root;
+      lengths = plan.lengths;
       sync = None;
     }
     → Meets SyncStep (Ok (Synced g)) s n
@@ -61,6 +62,7 @@ step_synced s n group g plan h is running last same_group no_kept same = λ past
       free = set.union s.free (set.from_list plan.freed);
       log = record s.log { pending = filter (λ (r : Record). nat_lt group r.group) s.log.pending };
       root = plan.root;
+      lengths = plan.lengths;
       sync = None;
     } ≡ (state_after_sync group plan (record { shown = s; past = past })).shown = λ k. record s {
       line = record s.line { synced = group; syncing = None };
@@ -69,6 +71,7 @@ step_synced s n group g plan h is running last same_group no_kept same = λ past
       free = set.union s.free (set.from_list (back k));
       log = record s.log { pending = filter (λ (r : Record). nat_lt group r.group) s.log.pending; kept = kept k };
       root = plan.root;
+      lengths = plan.lengths;
       sync = None;
     } in
     (later, rw (goes_on s group h is) (group, plan, is, running, (last, same_group, ap (λ (x : Shown). let state : State = record { shown = x; past = later } in state) (same ∙ all))))

@@ -1,6 +1,7 @@
 -- What the plan of a group says of its blocks and of the tree that they make.
-use Rattle.std.specs.Prelude.{ℕ, ◌≡◌, ◌<◌, All, List, Some, length, map, slice_get, take}
+use Rattle.std.specs.Prelude.{ℕ, ◌≡◌, ◌<◌, All, List, Option, Some, is_some, length, map, option_map, slice_get, take, if◌then◌else◌}
 use Rattle.std.specs.Ordering.{nat_cmp}
+use Rattle.std.specs.FinMap as finite
 use Rattle.std.specs.FinMap.{FinMap}
 use Rattle.base.specs.declared.names.ObjectId.{ObjectId}
 use Rattle.base.specs.declared.pointer.Pointer.{Pointer}
@@ -14,14 +15,17 @@ use Rattle.tree_plans.specs.declared.planner.Committed.{Committed}
 use Rattle.tree_plans.specs.declared.changes.ObjectChanges.{ObjectChanges}
 use Rattle.tree_plans.specs.Changes.{AreChanges, AreInRange, AreTreePointers, IsCoveredBy, group_of}
 use Rattle.tree_plans.specs.Marks.{AreChangesOf, pending_ops}
+use Rattle.tree_plans.specs.Pointers.{entry_of}
 use Rattle.base.specs.declared.error.PoolError.{PoolError}
 use Rattle.base.specs.declared.error.PoolError.TheVariants.{NoSpace}
 use Rattle.base.specs.formats.Geometry.{block_count, block_size}
+use Rattle.base.specs.formats.Limits.{object_count}
 use Rattle.base.specs.formats.Uberblocks.{Uberblock}
 use Rattle.base.specs.steps.Shown.{SyncPlan}
 use Rattle.base.specs.stored.Stored.{AreUsed, frame_at}
 use Rattle.base.specs.tree.PlacedTrees.{ArePlaced}
 use Rattle.base.specs.tree.PlannedTrees.{AreFreed}
+use Rattle.object_maps.specs.Lengths.{map_length}
 use Rattle.object_maps.specs.Pointers.{pointers_of}
 use Rattle.sync.specs.Runs.{call_count}
 use Rattle.tree_plans.specs.declared.planner.PlannedBlock.{PlannedBlock}
@@ -31,7 +35,7 @@ use Rattle.tree_plans.specs.Plans.{address_of, new_block}
 use Rattle.pool_core.specs.declared.pool.Pool.{Pool}
 use Rattle.pool_core.specs.declared.pool.RunningSync.{RunningSync}
 use Rattle.pool_core.specs.Areas.{AreBlocksOf}
-use Rattle.pool_core.specs.Pointers.{pointers_after}
+use Rattle.pool_core.specs.Pointers.{lengths_after, pointers_after}
 use Rattle.pool_core.specs.RunningUberblocks.{uberblock_with}
 use Rattle.pool_core.specs.Shows.{new_plan, shown_objects, pool_shown}
 
@@ -51,6 +55,13 @@ pub record IsShortOfBlocks (group : ℕ) (pending : List Committed) (maps : List
   pub changes : AreChangesOf (pending_ops group pending) maps objects
   pub fewer : AreInRange objects → length free < length (written_by (group_of objects old after))
 
+-- Some changes are those of the group's pending operations on a tree with these maps. An object that an operation is on has the length that it
+-- has among these objects, and any other the one that the tree has.
+pub record HasGroupLengths (group : ℕ) (pending : List Committed) (maps : List ObjectMap) (new : ℕ → Option ℕ) (after : FinMap nat_cmp (List ℕ)) : Type 0 where
+  pub objects : List (ObjectId × ObjectChanges)
+  pub changes : AreChangesOf (pending_ops group pending) maps objects
+  pub each : (n : ℕ) → n < object_count → new n ≡ (if is_some (entry_of objects n) then option_map length (finite.get after n) else map_length maps n)
+
 -- the pointers of the tree that a plan makes of a pool's
 abbrev pub plan_pointers : Pool → TreePlan → Place → Pointer
 plan_pointers pool p = pointers_after p.root p.directories.items p.maps pool.tree
@@ -65,13 +76,14 @@ abbrev pub TakesLowest : Pool → TreePlan → Type 0
 TakesLowest pool p = map address_of p.blocks.items ≡ take (length p.blocks.items) (rising pool.free.free)
 
 -- It makes of a pool's tree that of a group: its pointers are placed, its blocks are whole and each one is used, and where no pointer was born
--- in the group or later, what comes back is what the old tree has and the new one has not.
+-- in the group or later, what comes back is what the old tree has and the new one has not. Its lengths are those after the group.
 pub record MakesGroupTree (pool : Pool) (group : ℕ) (p : TreePlan) : Type 0 where
   pub placed : ∥ ArePlaced (block_count pool.geometry) (plan_pointers pool p) ∥₁
   pub planned : IsPlannedGroup group pool.pending.items pool.tree.maps.items (frame_at (pool_shown pool) group) (pointers_of pool.tree) (plan_pointers pool p) (map new_block p.blocks.items) (shown_objects pool)
   pub freed : AreBornBefore group (pointers_of pool.tree) → AreFreed (pointers_of pool.tree) (plan_pointers pool p) p.freed.items
   pub used : AreUsed (map new_block p.blocks.items) (plan_pointers pool p)
   pub whole : (i : ℕ) (b : NewBlock) → slice_get (map new_block p.blocks.items) i ≡ Some b → length b.content ≡ block_size
+  pub lengths : HasGroupLengths group pool.pending.items pool.tree.maps.items (lengths_after p.maps pool.tree) (shown_objects pool)
 
 -- refused NoSpace, a pool is short of blocks
 abbrev pub IsRefusedShort : Pool → ℕ → PoolError → Type 0
@@ -88,7 +100,7 @@ pub record BeginsPlan (p : TreePlan) (r : RunningSync) : Type 0 where
 
 -- what is shown of it, with this moment, and its uberblock
 abbrev pub begun_plan : Pool → ℕ → TreePlan → SyncPlan
-begun_plan pool moment p = new_plan moment pool.log_address (map address_of p.blocks.items) p.freed.items p.root
+begun_plan pool moment p = new_plan moment pool.log_address (map address_of p.blocks.items) p.freed.items p.root (lengths_after p.maps pool.tree)
 
 abbrev pub uberblock_for : Pool → ℕ → ℕ → Pointer → Uberblock
 uberblock_for pool group moment root = uberblock_with pool.guid pool.import_number pool.log_address group moment root

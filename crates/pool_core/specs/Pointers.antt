@@ -1,13 +1,19 @@
--- The pointers of a tree once a sync is done.
-use Rattle.std.specs.Prelude.{List}
+-- The pointers and the lengths of a tree once a sync is done.
+use Rattle.std.specs.Prelude.{ℕ, List, Option, None, nat_lt, if◌then◌else◌}
 use Rattle.std.specs.BTreeMap.{BTreeMap}
 use Rattle.base.specs.declared.names.ObjectId.{ObjectId}
 use Rattle.base.specs.declared.pointer.Pointer.{Pointer}
+use Rattle.base.specs.formats.Limits.{object_count}
 use Rattle.base.specs.tree.Places.{Place}
 use Rattle.object_maps.specs.declared.tree.ObjectMap.{ObjectMap}
 use Rattle.object_maps.specs.declared.tree.Tree.{Tree}
+use Rattle.object_maps.specs.Lengths.{lengths_of, with_lengths}
 use Rattle.object_maps.specs.Pointers.{map_among, pointers_at, with_maps}
 
 -- the new root and directories, the new pointers of the objects that have some, and those of the tree for all others
 abbrev pub pointers_after : Pointer → List Pointer → BTreeMap ObjectId ObjectMap → Tree → Place → Pointer
 pointers_after root directories maps tree = with_maps (map_among maps) (pointers_at root directories tree.maps.items)
+
+-- the new lengths of the objects that have some, and those of the tree for all others
+abbrev pub lengths_after : BTreeMap ObjectId ObjectMap → Tree → ℕ → Option ℕ
+lengths_after maps tree n = if nat_lt n object_count then with_lengths (map_among maps) (lengths_of tree) n else None

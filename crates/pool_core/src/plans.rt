@@ -1,4 +1,4 @@
-//! Plans of transactions, as far as they are built: they create, remove and write.
+//! Plans of transactions, as far as they are built: they create, remove, write and set lengths.
 
 ghost use Rattle.std.specs.Prelude.{◌≡◌, ◌≤◌, OnOk, true};
 ghost use Rattle.std.specs.List.{list_all};
@@ -45,8 +45,5 @@ fn are_built(plan: &[Shape]) -> bool
 fn is_shape_built(shape: &Shape) -> bool
     ensures { result ≡ stage.is_shape_built shape.now }
 {
-    matches!(
-        shape,
-        Shape::Create(_) | Shape::Remove(_) | Shape::Write(_, _, _)
-    )
+    !matches!(shape, Shape::SetName(_))
 }

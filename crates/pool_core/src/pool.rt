@@ -595,7 +595,8 @@ impl Pool {
         ensures group { result.group ≡ group }
         ensures moment { result.moment ≡ moment }
         ensures begins { BeginsPlan planned result }
-        ensures plan { plan_of self.now.log_address result ≡ begun_plan self.now moment planned }
+        ensures plan { plan_of self.now.log_address self.now.tree result
+            ≡ begun_plan self.now moment planned }
         ensures uberblock { WritesUberblock
             (uberblock_for self.now group.0 moment planned.root) result.run }
     {
@@ -677,7 +678,8 @@ impl Pool {
             (tree_after running self.old.tree) ∥₁ }
         ensures geometry { self.new.geometry ≡ self.old.geometry }
         ensures sync { self.new.sync ≡ self.old.sync }
-        ensures shown { pool_shown self.new ≡ shown_after_tree running (pool_shown self.old) }
+        ensures shown { pool_shown self.new
+            ≡ shown_after_tree running self.old.tree (pool_shown self.old) }
         ensures pointers { SamePlaces (pointers_of self.new.tree)
             (tree_after running self.old.tree) }
     {

@@ -50,6 +50,7 @@ fresh = record {
   free = set.empty;
   log = record { pending = []; kept = []; next = record { address = 4194304; number = 0 } };
   root = no_pointer;
+  lengths = λ n. None;
   sync = None;
 }
 

@@ -1,4 +1,4 @@
--- Transactions that create, remove and write leave the name of the contents.
+-- Transactions that create, remove, write and set lengths leave the name of the contents.
 use Rattle.std.proofs.Common.{◌≡◌, ℕ, zero, suc, true, List, [], ◌∷◌, map, refl, ap, sym, ◌∙◌}
 use Rattle.std.specs.Prelude.{Option, Some, Ok, Result, slice_get, nat_le}
 use Rattle.std.specs.List.{list_all}
@@ -8,7 +8,7 @@ use Rattle.base.specs.declared.error.PoolError.{PoolError}
 use Rattle.base.specs.declared.operation.Op.{Op}
 use Rattle.base.specs.declared.operation.Op.TheVariants.{Create, Remove, Write, SetLength, SetName}
 use Rattle.base.specs.history.Sequences.{in_turn}
-use Rattle.base.specs.history.Contents.{Contents, apply, at_object, with_object, created, removed, changed, bytes_after_write}
+use Rattle.base.specs.history.Contents.{Contents, apply, at_object, with_object, created, removed, changed, bytes_after_write, resize}
 use Rattle.base.specs.history.Plans.{shape_of}
 use Rattle.base.specs.history.History.{Entry, run, replay, entries_up_to}
 use Rattle.base.specs.history.Past.{Past}
@@ -29,7 +29,7 @@ name-apply : (op : Op) (c d : Contents) → is_shape_built (shape_of op) ≡ tru
 name-apply (Create n) c d built h = name-at_object n.0 created c d h
 name-apply (Write n offset bytes) c d built h = name-at_object n.0 (changed (bytes_after_write offset bytes)) c d h
 name-apply (Remove n) c d built h = name-at_object n.0 removed c d h
-name-apply (SetLength n size) c d built h = absurd (false≢true built)
+name-apply (SetLength n size) c d built h = name-at_object n.0 (changed (resize size)) c d h
 name-apply (SetName bytes) c d built h = absurd (false≢true built)
 
 name-apply_all : (ops : List Op) (c d : Contents) → list_all is_shape_built (map shape_of ops) ≡ true → in_turn apply ops c ≡ Ok d → d.name ≡ c.name

@@ -300,3 +300,8 @@ durable_stays entries more synced logged later longer k is l m = record {
     go : (k < logged) ⊎ ((d : Entry) → (get_or entries k d).group ≤ synced) → (k < longer) ⊎ ((d : Entry) → (get_or (entries ++ more) k d).group ≤ later)
     go (inl h) = inl (omega arith)
     go (inr h) = inr (λ d. rw (get_or_append_left entries more d k is.committed) (let low : (get_or entries k d).group ≤ synced = h d in omega arith))
+
+-- entries above a group add nothing to those up to it
+pub up_to_push : (group : ℕ) (entries : List Entry) (e : Entry) → group < e.group → entries_up_to group (entries ++ e ∷ []) ≡ entries_up_to group entries
+up_to_push group [] e above = ap (λ (b : Bool). cond b (e ∷ []) []) (lt-leb e.group group above)
+up_to_push group (x ∷ xs) e above = ap (λ (ys : List Entry). cond (nat_le x.group group) (x ∷ ys) ys) (up_to_push group xs e above)

@@ -1,5 +1,5 @@
 -- Each effect of a step keeps what is shown of a pool exact, and its entries a history: so each step does.
-use Rattle.std.proofs.Common.{rules, ◌≡◌, ℕ, ◌+◌, ◌<◌, ◌≤◌, true, false, not, ◌&&◌, List, [], ◌∷◌, ◌++◌, length, map, refl, ap, sym, subst, ◌∙◌, arith, inl, inr}
+use Rattle.std.proofs.Common.{rules, ◌≡◌, ℕ, ◌+◌, ◌-◌, ◌<◌, ◌≤◌, true, false, not, ◌&&◌, List, [], ◌∷◌, ◌++◌, length, map, refl, ap, sym, subst, ◌∙◌, arith, inl, inr}
 use Rattle.std.specs.Prelude.{Option, Some, None, Result, Ok, is_none, slice_get, option_map, IfSome, nat_lt, nat_le, All, ◌==◌}
 use Rattle.std.specs.List.{list_all, list_any}
 use Rattle.std.specs.Option.{option_map_or}
@@ -33,7 +33,7 @@ use Rattle.base.specs.steps.Space.{HasReserves}
 use Rattle.base.specs.steps.Effects.{Effect, HasEffect, MayHave, MayAddEntry, state_after}
 use Rattle.base.specs.steps.Effects.Effect.{Suspends, AddsGrant, LetsGo, AddsAdmission, AddsEntry, EndsAdmission, OpensNext, QuiescesMiddle, PlansSync, CountsStep, EndsSync, WritesLog, FlushesLog}
 use Rattle.base.specs.steps.Runs.{Step}
-use Rattle.base.specs.steps.ExactNow.{IsExplainedNow, IsRun, IsLogStep}
+use Rattle.base.specs.steps.ExactNow.{AreLengthsExact, IsExplainedNow, IsRun, IsLogStep}
 use Rattle.base.proofs.history.Cuts.{histories_grow}
 use Rattle.base.proofs.history.Projections.{plans_touch}
 use Rattle.base.proofs.history.CommitOrder.{no_refusal, found-plan}
@@ -48,6 +48,7 @@ use Rattle.base.proofs.steps.KeptWrites.{write_log, write_sync}
 use Rattle.base.proofs.steps.KeptFlushes.{flush_log, flush_sync}
 use Rattle.base.proofs.history.KeptContents.{operations_keep}
 use Rattle.base.proofs.steps.KeptSyncs.{same_sync, start_sync, step_sync, end_sync}
+use Rattle.base.proofs.steps.KeptLengths.{same_lengths, commit_lengths, start_lengths, step_lengths, sync_lengths, new_lengths}
 use Rattle.base.proofs.steps.KeptReserves.{same_reserves, begin_state, abort_state, close_state, start_state, step_state, end_state, log_state}
 use Rattle.base.proofs.steps.NewPools.{new_pool_is_exact}
 use Rattle.base.proofs.steps.StepEffects.{log_step_has, step_does}
@@ -241,6 +242,15 @@ module _ (old : State) (x : IsExplainedState old) where
   staged (EndsSync group plan) may = record { middle = x.staged.middle; syncing = tt; built = x.staged.built }
   staged e may = record { middle = x.staged.middle; syncing = x.staged.syncing; built = x.staged.built }
 
+  lengths : (e : Effect) → MayHave e old → AreLengthsExact (state_after e old).shown (state_after e old).past
+  lengths (AddsEntry tx a ops contents) may =
+      let t : State = state_after (AddsEntry tx a ops contents) old in
+      commit_lengths s t.shown p t.past (next tx a ops contents may) x.lengths (within tx a ops contents may).0 may.no_sync
+  lengths (PlansSync group plan) (moment, is, idle, planned) = let t : State = state_after (PlansSync group plan) old in start_lengths s t.shown p t.past group plan x.lengths planned.lengths
+  lengths (CountsStep plan) (running, more) = let t : State = state_after (CountsStep plan) old in step_lengths s t.shown p t.past plan (plan.steps_left - 1) x.lengths running
+  lengths (EndsSync group plan) (syncing, running) = let t : State = state_after (EndsSync group plan) old in sync_lengths s t.shown p t.past group plan x.lengths syncing running
+  lengths e may = let t : State = state_after e old in same_lengths s t.shown p t.past x.lengths
+
   reserves : (e : Effect) → MayHave e old → HasReserves (state_after e old)
   reserves (AddsAdmission a) may = begin_state old x.exact.groups reserved a (may.named ∙ x.exact.groups.next) may.in_open may.within may.room
   reserves (EndsAdmission tx a) found = abort_state old x.exact.groups reserved tx a found
@@ -270,6 +280,7 @@ module _ (old : State) (x : IsExplainedState old) where
     };
     history = history e may;
     staged = staged e may;
+    lengths = lengths e may;
   }
 
 pub effects_keep_tables : (old new : State) → HasEffect old new → IsExplainedNow old.shown old.past → IsExplainedNow new.shown new.past
@@ -308,4 +319,5 @@ new_pools_are_explained u blocks contents created dirty_max s i bounded last = r
     syncing = subst (λ (l : Line). IfSome l.syncing (λ group. stage.AreUpTo group [])) (sym i.line) tt;
     built = λ j a at. cc;
   };
+  lengths = new_lengths u blocks contents created dirty_max s i;
 }

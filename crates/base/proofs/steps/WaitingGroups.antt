@@ -48,11 +48,14 @@ module _ (s : Shown) (p : Past) (explained : IsExplainedNow s p) where
     all_up_to : AreUpTo group p.entries
     all_up_to = subst (λ (o : Option Middle). IfSome o (λ (m : Middle). AreUpTo m.group p.entries)) middle explained.staged.middle
 
+    -- so the contents up to it are those of now
+    pub group-replays : replay (entries_up_to group p.entries) p.base ≡ Ok s.contents
+    group-replays = ap (λ (es : List Entry). replay es p.base) (up_to-all group p.entries all_up_to) ∙ explained.history.replays
+
     -- the operations of the group lead from the synced contents to those of now
     pub group-follows : (synced : Contents) → replay (entries_up_to s.line.synced p.entries) p.base ≡ Ok synced → replay (entries_in group p.entries) synced ≡ Ok s.contents
     group-follows synced replayed =
         let f = trees_follow p.entries s.line.synced p.base s.contents synced explained.history replayed in
         let reached : replay (entries_up_to (s.line.synced + 1) p.entries) p.base ≡ Ok s.contents =
-        ap (λ (g : ℕ). replay (entries_up_to g p.entries) p.base) (sym next-group)
-        ∙ ap (λ (es : List Entry). replay es p.base) (up_to-all group p.entries all_up_to) ∙ explained.history.replays in
+        ap (λ (g : ℕ). replay (entries_up_to g p.entries) p.base) (sym next-group) ∙ group-replays in
         ap (λ (g : ℕ). replay (entries_in g p.entries) synced) next-group ∙ f.1 ∙ sym f.2 ∙ reached

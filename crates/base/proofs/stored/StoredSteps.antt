@@ -2,7 +2,7 @@
 use Rattle.std.proofs.Common.{◌≡◌, ℕ, ◌-◌, ◌<◌, Bool, true, false, cond, List, [], ◌∷◌, ◌++◌, refl, ap, sym, subst, ◌∙◌, ◌⊎◌, inl, inr}
 use Rattle.std.specs.Prelude.{Option, Some, None, slice_get, IfSome, nat_le, ◌==◌}
 use Rattle.std.specs.List.{list_all}
-use Rattle.std.proofs.lemmas.Bool.{and_parts, lt-leb, false≢true}
+use Rattle.std.proofs.lemmas.Bool.{and_parts, false≢true}
 use Rattle.base.specs.declared.operation.Op.{Op}
 use Rattle.base.specs.declared.step.Step as declared_step
 use Rattle.base.specs.declared.step.Reply as declared_reply
@@ -28,6 +28,7 @@ use Rattle.base.specs.steps.ExactNow.{IsExplainedNow}
 use Rattle.base.specs.stored.ShownLabels.{AreLabelsShown}
 use Rattle.base.specs.stored.Stored.{NewTree, IsStored, IsSyncing, RunsAs, IsKept, is_turn}
 use Rattle.base.proofs.common.KeptLists.{found_at, Some-injective, push-cases}
+use Rattle.base.proofs.history.Cuts.{up_to_push}
 use Rattle.base.proofs.steps.KeptGroups.{held_above, quiescing_is}
 use Rattle.base.proofs.steps.StepEffects.{StepDoes, step_does}
 use Rattle.base.proofs.stored.StoredLabels.{synced-state, counted-state, labels-state}
@@ -135,11 +136,6 @@ module _ (now : List ℕ) (s t : Shown) (pointers : Place → Pointer) (p q : Pa
         done = y.done;
         written = y.written;
       }
-
--- entries above a group add nothing to those up to it
-pub up_to_push : (group : ℕ) (entries : List Entry) (e : Entry) → group < e.group → entries_up_to group (entries ++ e ∷ []) ≡ entries_up_to group entries
-up_to_push group [] e above = ap (λ (b : Bool). cond b (e ∷ []) []) (lt-leb e.group group above)
-up_to_push group (x ∷ xs) e above = ap (λ (ys : List Entry). cond (nat_le x.group group) (x ∷ ys) ys) (up_to_push group xs e above)
 
 module _ (now : List ℕ) (pointers : Place → Pointer) (running : Option NewTree) where
   abbrev pub IsKeptState : State → Type 0

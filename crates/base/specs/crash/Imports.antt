@@ -1,8 +1,8 @@
 -- What an import makes of an image, and why it is refused.
 use Rattle.std.specs.Prelude.{ℕ, ◌≡◌, ◌<◌, ◌⊎◌, ◌+◌, ◌||◌, ◌&&◌, Bool, true, false, List, [], length, nat_lt, nat_le, None}
 use Rattle.std.specs.FinMap as finite
-use Rattle.base.specs.formats.Limits.{first_group, last_number}
-use Rattle.base.specs.history.Contents.{Contents}
+use Rattle.base.specs.formats.Limits.{first_group, last_number, object_count}
+use Rattle.base.specs.history.Contents.{Contents, length_of}
 use Rattle.base.specs.declared.pointer.Pointer.{Pointer}
 use Rattle.base.specs.formats.Geometry.{block_count, IsBlockAddress}
 use Rattle.base.specs.tree.Places.{IsInTree}
@@ -39,6 +39,7 @@ pub record IsImported (u : Uberblock) (blocks : ℕ) (contents : Contents) (dirt
   pub kept : s.log.kept ≡ []
   pub log_number : s.log.next.number ≡ 0
   pub sync : s.sync ≡ None
+  pub lengths : (n : ℕ) → n < object_count → s.lengths n ≡ length_of contents n
 
 -- the first log block is the lowest that neither the old tree and chain nor the new tree has
 pub record IsFirstLogBlock (image : List ℕ) (u : Uberblock) (chain : List LogBlock) (now : List ℕ) (root : Pointer) (address : ℕ) : Type 0 where

@@ -1,5 +1,5 @@
 -- What each step keeps: what is shown of a pool is exact, and its entries are a history that leads to its contents.
-use Rattle.std.specs.Prelude.{ℕ, ◌≤◌, ◌+◌, ◌⊎◌, List, Result}
+use Rattle.std.specs.Prelude.{ℕ, ◌≡◌, ◌≤◌, ◌+◌, ◌⊎◌, List, Some, Result}
 use Rattle.base.specs.declared.error.PoolError.{PoolError}
 use Rattle.base.specs.declared.step.Step as declared_step
 use Rattle.base.specs.declared.step.Reply as declared_reply
@@ -8,18 +8,24 @@ use Rattle.base.specs.history.Contents.{Contents}
 use Rattle.base.specs.history.History.{IsHistory}
 use Rattle.base.specs.formats.Uberblocks.{Uberblock}
 use Rattle.base.specs.history.Past.{Past, new_past}
-use Rattle.base.specs.steps.Shown.{Shown}
-use Rattle.base.specs.steps.Steps.{State, LogWrite, LogFlush}
+use Rattle.base.specs.steps.Shown.{Shown, SyncPlan}
+use Rattle.base.specs.steps.Steps.{State, AreLengthsUpTo, LogWrite, LogFlush}
 use Rattle.base.specs.steps.Runs.{Step, Run}
 use Rattle.base.specs.steps.Stage.{IsStaged}
 use Rattle.base.specs.steps.Exact.{IsExact, IsBounded}
 use Rattle.base.specs.crash.Imports.{IsImported}
+
+-- the lengths of the synced tree are those of the synced contents, and those that a running sync writes are those after its group
+pub record AreLengthsExact (s : Shown) (past : Past) : Type 0 where
+  pub synced : AreLengthsUpTo s.line.synced past s.lengths
+  pub planned : (group : ℕ) (plan : SyncPlan) → s.line.syncing ≡ Some group → s.sync ≡ Some plan → AreLengthsUpTo group past plan.lengths
 
 -- what is shown is exactly what the past of the run says, and the entries are a history that leads to the contents
 pub record IsExplainedNow (s : Shown) (past : Past) : Type 0 where
   pub exact : IsExact s past
   pub history : IsHistory past.entries past.base s.contents
   pub staged : IsStaged s past
+  pub lengths : AreLengthsExact s past
 
 -- steps one after another, each over some bytes of a device
 abbrev pub IsRun : Type 0 → List declared_step.Step → List declared_reply.Reply → State → State → Type 0

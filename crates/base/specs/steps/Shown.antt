@@ -27,6 +27,8 @@ pub record SyncPlan : Type 0 where
   pub moment : ℕ
   pub root : Pointer
   pub header : Header
+  -- the length of each object of the tree that it writes
+  pub lengths : ℕ → Option ℕ
 
 pub record Shown : Type 0 where
   -- a write or a flush was refused, and each later step is
@@ -52,8 +54,9 @@ pub record Shown : Type 0 where
   -- the addresses of free blocks
   pub free : FinSet nat_cmp
   pub log : Log
-  -- the root pointer of the synced tree
+  -- the root pointer of the synced tree, and the length of each of its objects
   pub root : Pointer
+  pub lengths : ℕ → Option ℕ
   pub sync : Option SyncPlan
 
 -- the groups after the synced one, up to the open one

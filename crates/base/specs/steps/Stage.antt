@@ -23,12 +23,12 @@ use Rattle.base.specs.steps.Steps.{State, Answers, Never, WantsMemory, next_admi
 abbrev pub has_older_group : Line → Bool
 has_older_group l = is_some l.middle || is_some l.syncing
 
--- plans create, remove and write; other shapes are outside the limits
+-- plans create, remove, write and set lengths; a new name is outside the limits
 abbrev pub is_shape_built : Shape → Bool
 is_shape_built (shape.Create n) = true
 is_shape_built (shape.Remove n) = true
 is_shape_built (shape.Write n offset count) = true
-is_shape_built (shape.SetLength n new) = false
+is_shape_built (shape.SetLength n new) = true
 is_shape_built (shape.SetName count) = false
 
 abbrev pub is_plan_built : List Shape → Bool

@@ -14,6 +14,7 @@ use Rattle.base.specs.history.Contents.{Contents, length_of}
 use Rattle.base.specs.history.Plans.{NumberRange, shape_of, estimate_of, charge_of}
 use Rattle.base.specs.history.History.{Entry, apply_all, replay, entries_up_to, entries_in}
 use Rattle.base.specs.formats.Fields.{part}
+use Rattle.base.specs.formats.Limits.{object_count}
 use Rattle.base.specs.steps.Locks.{Grant}
 use Rattle.base.specs.steps.Groups.{Line, Admission}
 use Rattle.base.specs.steps.Charges.{with_sum}
@@ -187,14 +188,20 @@ ops_of_group group entries = flat_map (λ (e : Entry). e.ops) (entries_in group 
 abbrev pub lowest_free : ℕ → Shown → List ℕ
 lowest_free count s = take count (rising s.free)
 
+-- lengths are those of the objects once the entries up to a group have taken place
+abbrev pub AreLengthsUpTo : ℕ → Past → (ℕ → Option ℕ) → Type 0
+AreLengthsUpTo group past lengths = (c : Contents) → replay (entries_up_to group past.entries) past.base ≡ Ok c
+    → (n : ℕ) → n < object_count → lengths n ≡ length_of c n
+
 -- A sync of a group takes the lowest free addresses, no more than its operations are estimated at, has a step for each and its other
--- steps, and names the log header for its group.
+-- steps, names the log header for its group, and writes the lengths after its group.
 pub record IsPlanned (s : State) (moment group : ℕ) (plan : SyncPlan) : Type 0 where
   pub moment_is : plan.moment ≡ moment
   pub taken : plan.taken ≡ lowest_free (length plan.taken) s.shown
   pub fits : length plan.taken ≤ estimate_of (map shape_of (ops_of_group group s.past.entries))
   pub steps : plan.steps_left ≡ length plan.taken + syncs.other_step_count (ops_of_group group s.past.entries)
   pub header : plan.header ≡ header_for group s.shown.log
+  pub lengths : AreLengthsUpTo group s.past plan.lengths
 
 -- it takes an address for each place that it writes, by what the device holds
 pub record TakesForEach (now : List ℕ) (s : State) (group : ℕ) (plan : SyncPlan) : Type 0 where
@@ -238,6 +245,7 @@ state_after_sync group plan s = record {
     free = set.union s.shown.free (set.from_list (returned_addresses plan s.shown.log));
     log = log_after_sync group plan.header s.shown.log;
     root = plan.root;
+    lengths = plan.lengths;
     sync = None;
   };
   past = record s.past { acknowledged = s.past.acknowledged ++ ordinals_of group s.past.entries };

@@ -92,7 +92,7 @@ returns-clause-explained g c =
     let tree : Tree = c.in_ok-loaded.loaded.tree in
     let size : ℕ = c.args.geometry in
     let sized = ok_both c.open_pool.result _ _ c.open_pool.ensures.mounted c.open_pool.ensures.geometry in
-    ok_weaker c.open_pool.result _ _ (λ m h. is_explained size u name slots tree c.args.dirty_max m h.0.0 h.0.1 h.1) (ok_both c.open_pool.result _ _ sized (returns-clause-bounded g c))
+    ok_weaker c.open_pool.result _ _ (λ m h. is_explained size u name slots tree c.args.dirty_max m h.0.0 h.0.1 c.in_ok-loaded.ensures.lengths h.1) (ok_both c.open_pool.result _ _ sized (returns-clause-bounded g c))
 
 pub returns-clause-imported : goal.returns-clause-imported
 returns-clause-imported g c = λ keeps.
@@ -110,7 +110,7 @@ returns-clause-imported g c = λ keeps.
     (c.open_pool.ensures.same_blocks keeps) in
     let blocks = subst (λ (b : List ℕ). OnOk c.open_pool.result (HasSameBlocks size b now)) (flushed (g.D.SectorDevice.disk c.args.device.now) (g.D.SectorDevice.disk c.flush.new.self) (c.in_ok-flush.ensures.disk keeps)) same in
     let sized = ok_both c.open_pool.result _ _ c.open_pool.ensures.mounted c.open_pool.ensures.geometry in
-    ok_weaker c.open_pool.result _ _ (λ m h. is_import size u name slots tree c.args.dirty_max m h.0.0 h.0.1 image now read.long read.pool read.root c.requires.limit read.held h.1)
+    ok_weaker c.open_pool.result _ _ (λ m h. is_import size u name slots tree c.args.dirty_max m h.0.0 h.0.1 c.in_ok-loaded.ensures.lengths image now read.long read.pool read.root c.requires.limit read.held h.1)
     (ok_both c.open_pool.result _ _ sized (ok_on c.open_pool.result _ blocks))
 
 pub returns-in_err-loaded-clause-reason : goal.returns-in_err-loaded-clause-reason

@@ -9,7 +9,8 @@ use Rattle.space.specs.FreeSets.{FreeSpace}
 use Rattle.tree_plans.specs.declared.planner.Committed.{Committed}
 use Rattle.pool_core.specs.Shows.{record_of, pool_shown}
 use Rattle.pool_core.proofs.Mapped.{filter-map}
-use Rattle.pool_core.proofs.SameSyncs.{none_running, placed_after}
+use Rattle.pool_core.proofs.PlannedPointers.{lengths-set}
+use Rattle.pool_core.proofs.SameSyncs.{none_planned, none_running, placed_after}
 use Rattle.pool_core.proofs.pool.Pool.finish_tree.Goals as goal
 
 pub invariant_of-self-3 : goal.invariant_of-self-3
@@ -45,4 +46,6 @@ returns-clause-shown c =
     let later : Record → Bool = λ (r : Record). nat_lt rs.group.0 r.group in
     let free = ap (λ (f : FreeSpace). f.free) c.give_all.ensures ∙ ap (λ (l : List ℕ). set.union s.free (set.from_list l)) c.deref.ensures.value in
     let pending = ap (map record_of) c.drop_synced.ensures ∙ sym (filter-map later record_of pool.pending.items) in
-    rw c.set_all.ensures.root (λ k. record s { free = free k; log = record s.log { pending = pending k }; root = rs.root })
+    let lengths = lengths-set pool.tree c.set_all.new.self rs.maps c.set_all.ensures.lengths in
+    let idle = none_planned pool.log_address c.set_all.new.self pool.tree pool.sync c.requires.none in
+    rw c.set_all.ensures.root (λ k. record s { free = free k; log = record s.log { pending = pending k }; root = rs.root; lengths = lengths k; sync = idle k })

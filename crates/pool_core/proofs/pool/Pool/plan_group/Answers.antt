@@ -19,7 +19,7 @@ use Rattle.tree_plans.specs.Pointers.{pointers_before}
 use Rattle.pool_core.specs.GroupPlans.{IsPlannedGroup}
 use Rattle.pool_core.specs.Shows.{pool_shown}
 use Rattle.pool_core.proofs.FreeBlocks.{are_blocks}
-use Rattle.pool_core.proofs.PlannedPointers.{IfOk_all, IfOk_both, plan_placed, retold, same_tree}
+use Rattle.pool_core.proofs.PlannedPointers.{IfOk_all, IfOk_both, plan_placed, retold, same_lengths, same_tree}
 use Rattle.pool_core.proofs.StartLeads.{addresses_are}
 use Rattle.pool_core.proofs.Starts.{turn_want}
 use Rattle.pool_core.proofs.pool.Pool.plan_group.Goals as goal
@@ -43,7 +43,7 @@ returns-clause-tree c =
     let group = c.args.group.0 in
     let objects : List (ObjectId × ObjectChanges) = c.in_ok-objects.objects.entries in
     let changes : AreChangesOf (pending_ops group pool.pending.items) pool.tree.maps.items objects = rw (← c.deref.ensures.value, ← c.deref-2.ensures.value) c.in_ok-objects.ensures.changes in
-    IfOk_all c.plan.result (λ (p : TreePlan) taken tree back. record {
+    IfOk_all c.plan.result (λ (p : TreePlan) taken tree lengths back. record {
       placed = plan_placed pool.tree p.root p.directories.items p.maps (block_count pool.geometry) pool.tree_placed tree.placed;
       planned = retold pool.tree p.root p.directories.items p.maps
           (λ (old new : Place → Pointer). IsPlannedGroup group pool.pending.items pool.tree.maps.items (frame_at (pool_shown pool) group) old new (map new_block p.blocks.items) (contents_of pool.contents).objects)
@@ -51,7 +51,8 @@ returns-clause-tree c =
       freed = retold pool.tree p.root p.directories.items p.maps (λ (old new : Place → Pointer). AreBornBefore group old → AreFreed old new p.freed.items) back.freed;
       used = retold pool.tree p.root p.directories.items p.maps (λ (old new : Place → Pointer). AreUsed (map new_block p.blocks.items) new) tree.used;
       whole = taken.whole;
-    }) c.plan.ensures.taken c.plan.ensures.tree c.plan.ensures.freed
+      lengths = record { objects = objects; changes = changes; each = λ n below. same_lengths pool.tree p n below ∙ lengths n below };
+    }) c.plan.ensures.taken c.plan.ensures.tree c.plan.ensures.lengths c.plan.ensures.freed
 
 pub returns-clause-refused : goal.returns-clause-refused
 returns-clause-refused c = turn_want c.plan.result c.plan.ensures.refused

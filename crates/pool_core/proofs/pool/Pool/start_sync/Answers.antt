@@ -13,7 +13,7 @@ use Rattle.throttle.specs.Blocks.{AreSumsOn}
 use Rattle.throttle.proofs.ShownSums.{sums_stay_on_lines}
 use Rattle.pool_core.specs.declared.pool.RunningSync.{RunningSync}
 use Rattle.tree_plans.specs.Plans.{address_of}
-use Rattle.pool_core.specs.Pointers.{pointers_after}
+use Rattle.pool_core.specs.Pointers.{lengths_after, pointers_after}
 use Rattle.pool_core.specs.RunningUberblocks.{WritesUberblock, uberblock_with}
 use Rattle.pool_core.specs.Shows.{new_plan, pool_shown}
 use Rattle.std.specs.Prelude.{Result}
@@ -23,7 +23,7 @@ use Rattle.base.specs.steps.Shown.{SyncPlan}
 use Rattle.base.specs.stored.Stored.{NewTree}
 use Rattle.tree_plans.specs.Plans.{new_block}
 use Rattle.pool_core.specs.Holds.{start_reply}
-use Rattle.pool_core.proofs.StartLeads.{blocks_kept, group_fits, group_planned, group_takes, group_takes_each, never_short, none_counted, nothing_made, taken_anew}
+use Rattle.pool_core.proofs.StartLeads.{blocks_kept, group_fits, group_lengths, group_planned, group_takes, group_takes_each, never_short, none_counted, nothing_made, taken_anew}
 use Rattle.pool_core.proofs.HeldGroups.{counted_start, exact_moves, started}
 use Rattle.pool_core.proofs.OfNoDevice.{plan_own}
 use Rattle.pool_core.proofs.StillSteps.{still_pool}
@@ -132,7 +132,7 @@ returns-clause-step c = λ past explained.
     let pool = c.args.self.now in
     let s = pool_shown pool in
     let blocks : List PlannedBlock = c.in_ok-planned.planned.blocks.items in
-    let plan = new_plan c.args.moment pool.log_address (map address_of blocks) c.in_ok-planned.planned.freed.items c.in_ok-planned.planned.root in
+    let plan = new_plan c.args.moment pool.log_address (map address_of blocks) c.in_ok-planned.planned.freed.items c.in_ok-planned.planned.root (lengths_after c.in_ok-planned.planned.maps pool.tree) in
     let may = c.in_ok-group.ensures.may in
     let told = c.start_sync.ensures in
     let line = started c.start_sync.result pool.groups c.start_sync.new.self c.in_ok-group.group.0 may told.refused told.started told.group in (
@@ -140,6 +140,7 @@ returns-clause-step c = λ past explained.
       start_done ⊥ [] past s c.args.moment _ c.in_ok-group.group.0 plan explained (λ never. absurd never)
           c.in_ok-check_running.ensures may.0 may.1
           (group_fits past pool c.in_ok-group.group.0 blocks (pointers_after c.in_ok-planned.planned.root c.in_ok-planned.planned.directories.items c.in_ok-planned.planned.maps pool.tree) may explained c.in_ok-planned.ensures.tree.planned)
+          (group_lengths past pool c.in_ok-group.group.0 (lengths_after c.in_ok-planned.planned.maps pool.tree) may explained c.in_ok-planned.ensures.tree.lengths)
           (pending_names pool.pending.items pool.pending_built) refl refl
           (lowest_taken blocks (rising pool.free.free) c.in_ok-planned.ensures.taken) refl refl
           (rw (line, c.take_all.ensures, c.running_sync-running.ensures.plan) (ap (λ (l : List PlannedBlock). record s { line = record s.line { syncing = Some c.in_ok-group.group.0; middle = None }; free = set.difference s.free (set.from_list (map address_of l)); sync = Some plan }) (blocks_kept c.running_sync-running.result c.in_ok-planned.planned.blocks c.deref.result.now c.running_sync-running.ensures.begins.blocks c.deref.ensures.value))),
@@ -151,7 +152,7 @@ returns-clause-held c = λ now past x.
     let s = pool_shown pool in
     let planned = c.in_ok-planned.planned in
     let blocks : List PlannedBlock = planned.blocks.items in
-    let plan = new_plan c.args.moment pool.log_address (map address_of blocks) planned.freed.items planned.root in
+    let plan = new_plan c.args.moment pool.log_address (map address_of blocks) planned.freed.items planned.root (lengths_after planned.maps pool.tree) in
     let may = c.in_ok-group.ensures.may in
     let told = c.start_sync.ensures in
     let line = started c.start_sync.result pool.groups c.start_sync.new.self c.in_ok-group.group.0 may told.refused told.started told.group in (
@@ -160,6 +161,7 @@ returns-clause-held c = λ now past x.
           (λ keeps. group_takes_each now past pool c.in_ok-group.group.0 c.args.moment blocks planned.freed.items planned.root planned.directories.items planned.maps may c.in_ok-planned.ensures.tree.planned x)
           c.in_ok-check_running.ensures may.0 may.1
           (group_fits past pool c.in_ok-group.group.0 blocks (pointers_after c.in_ok-planned.planned.root c.in_ok-planned.planned.directories.items c.in_ok-planned.planned.maps pool.tree) may x.explained c.in_ok-planned.ensures.tree.planned)
+          (group_lengths past pool c.in_ok-group.group.0 (lengths_after planned.maps pool.tree) may x.explained c.in_ok-planned.ensures.tree.lengths)
           (pending_names pool.pending.items pool.pending_built) refl refl
           (lowest_taken blocks (rising pool.free.free) c.in_ok-planned.ensures.taken) refl refl
           (rw (line, c.take_all.ensures, c.running_sync-running.ensures.plan) (ap (λ (l : List PlannedBlock). record s { line = record s.line { syncing = Some c.in_ok-group.group.0; middle = None }; free = set.difference s.free (set.from_list (map address_of l)); sync = Some plan }) (blocks_kept c.running_sync-running.result c.in_ok-planned.planned.blocks c.deref.result.now c.running_sync-running.ensures.begins.blocks c.deref.ensures.value))),
@@ -176,7 +178,7 @@ returns-clause-order c = λ now past x.
       replayed = x.kept.stored.replayed;
       tree = record { pointers = pointers_after planned.root planned.directories.items planned.maps pool.tree; blocks = map new_block planned.blocks.items; slot = rs.run.uberblock; done = 0 };
       running = ap (λ (t : NewTree). Some t) (nothing_made pool.tree rs planned.root planned.directories planned.maps planned.blocks ens.begins.root ens.begins.directories ens.begins.maps ens.begins.blocks ens.begins.done);
-      plan = new_plan c.args.moment pool.log_address (map address_of planned.blocks.items) planned.freed.items planned.root;
+      plan = new_plan c.args.moment pool.log_address (map address_of planned.blocks.items) planned.freed.items planned.root (lengths_after planned.maps pool.tree);
       plan_is = ap (λ (q : SyncPlan). Some q) ens.plan;
       each = group_takes now past pool c.in_ok-group.group.0 c.args.moment planned.blocks.items planned.freed.items planned.root planned.directories.items planned.maps
           c.in_ok-group.ensures.may c.in_ok-planned.ensures.tree.planned x;
@@ -211,7 +213,7 @@ returns-clause-leads c = λ now past later.
       tree = pointers_after planned.root planned.directories.items planned.maps pool.tree;
       bs = map new_block planned.blocks.items;
       slot = rs.run.uberblock;
-      plan = new_plan c.args.moment pool.log_address (map address_of planned.blocks.items) planned.freed.items planned.root;
+      plan = new_plan c.args.moment pool.log_address (map address_of planned.blocks.items) planned.freed.items planned.root (lengths_after planned.maps pool.tree);
       running = ap (λ (t : NewTree). Some t) made;
       plan_is = ap (λ (q : SyncPlan). Some q) ens.plan;
       slot_is = ens.uberblock.bytes;

@@ -145,16 +145,16 @@ returns-in-Ok-clause-step g c =
     let s = pool_shown pool in
     let is = c.in-Some.is in
     let told = c.in-Ok-Last.ensures in
-    let plan : SyncPlan = plan_of pool.log_address c.in-Some.running in
+    let plan : SyncPlan = plan_of pool.log_address pool.tree c.in-Some.running in
     let syncing = sym pool.sync_line ∙ ap (λ (o : Option RunningSync). option_map (λ (r : RunningSync). r.group.0) o) is in
     let same = kept_sync c.in-Some-take.synced _ c.in-Some-take.ensures.value in
-    let running = ap (λ (o : Option RunningSync). option_map (plan_of pool.log_address) o) is in
+    let running = ap (λ (o : Option RunningSync). option_map (plan_of pool.log_address pool.tree) o) is in
     let finished : c.finish_sync.new.self ≡ after_sync c.in-Some-take.synced.group.0 pool.groups =
     of_group (λ n. after_sync n pool.groups) pool.groups.line.syncing c.in-Some-take.synced.group.0 _ (syncing ∙ ap (λ (r : RunningSync). Some r.group.0) (sym same)) c.in-Ok.ensures.group c.in-Ok.ensures.synced in
     step_synced s _ c.in-Some.running.group.0 c.in-Some-take.synced.group.0 plan c.in_ok-check_running.ensures syncing running
     (one_left c.in-Some.running.run c.next.new.self told.counts.same told.counts.done (told.counts.last.0 c.in-Ok-Last.field-0-is)) (ap (λ (r : RunningSync). r.group.0) same) refl
     (c.finish_tree.ensures.shown ∙ rw (finished, c.take.ensures.after, c.end_charges.ensures.dirty, c.end_charges.ensures.free, blocks_of-remove)
-    (λ k. shown_after_tree (same k) (record s {
+    (λ k. shown_after_tree (same k) pool.tree (record s {
       line = line_after_sync (same k).group.0 s.line;
       dirty = finite.remove s.dirty (same k).group.0;
       reserved = finite.remove s.reserved (same k).group.0;
@@ -168,9 +168,9 @@ returns-in-Ok-More-clause-step g c =
     let is = c.in-Some.is in
     let was = pool.running c.in-Some.running is in
     let told = c.in-Ok-More.ensures in
-    let plan : SyncPlan = plan_of pool.log_address c.in-Some.running in
+    let plan : SyncPlan = plan_of pool.log_address pool.tree c.in-Some.running in
     let syncing = sym pool.sync_line ∙ ap (λ (o : Option RunningSync). option_map (λ (r : RunningSync). r.group.0) o) is in
-    let running = ap (λ (o : Option RunningSync). option_map (plan_of pool.log_address) o) is in
+    let running = ap (λ (o : Option RunningSync). option_map (plan_of pool.log_address pool.tree) o) is in
     let left = more_left c.in-Some.running.run c.next.new.self told.counts.same told.counts.done was.1 (λ e. let other = sym c.in-Ok-More.field-0-is ∙ told.counts.last.1 e in cc) in
     let steps = one_less c.in-Some.running.run c.next.new.self told.counts.same told.counts.done in
     let taken = same_taken c.in-Some.running.run c.next.new.self told.counts.same in
@@ -183,9 +183,9 @@ returns-in-Err-clause-step g c =
     let s = pool_shown pool in
     let is = c.in-Some.is in
     let told = c.in-Err.ensures in
-    let plan : SyncPlan = plan_of pool.log_address c.in-Some.running in
+    let plan : SyncPlan = plan_of pool.log_address pool.tree c.in-Some.running in
     let syncing = sym pool.sync_line ∙ ap (λ (o : Option RunningSync). option_map (λ (r : RunningSync). r.group.0) o) is in
-    let running = ap (λ (o : Option RunningSync). option_map (plan_of pool.log_address) o) is in
+    let running = ap (λ (o : Option RunningSync). option_map (plan_of pool.log_address pool.tree) o) is in
     let steps = as_many c.in-Some.running.run c.next.new.self told.counts.same told.counts.done in
     let taken = same_taken c.in-Some.running.run c.next.new.self told.counts.same in
     let same : Some (record plan { steps_left = call_count c.next.new.self - c.next.new.self.done; taken = map (λ (b : PlannedBlock). block_address b.index) c.next.new.self.blocks.items }) ≡ s.sync =
