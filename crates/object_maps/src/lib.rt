@@ -4,9 +4,11 @@
 mod contents;
 mod digest;
 mod objects;
+mod source;
 mod tree;
 mod walk;
 
 pub use contents::{Contents, Slot, empty_slots};
+pub use source::ObjectSource;
 pub use tree::{ObjectMap, Tree, empty_maps};
 pub use walk::{Loaded, load};
