@@ -3,8 +3,9 @@
 //! Whoever plans a tree or judges operations asks for objects by this interface, so that it doesn't matter whether they
 //! stand in memory or are read from a device.
 
-ghost use Rattle.std.specs.Prelude.{◌≡◌, ◌<◌, ◌≤◌, ℕ, List, IfErr, OnOk, length};
+ghost use Rattle.std.specs.Prelude.{◌≡◌, ◌<◌, ◌≤◌, ℕ, List, IfErr, OnOk, is_some, length};
 ghost use Rattle.std.specs.Ordering.{nat_cmp};
+ghost use Rattle.std.specs.FinMap as finite;
 ghost use Rattle.std.specs.FinMap.{FinMap};
 ghost use Rattle.base.specs.declared.error.PoolError.{PoolError};
 ghost use Rattle.base.specs.declared.error.PoolError.TheVariants as error;
@@ -27,6 +28,13 @@ pub trait ObjectSource {
     /// The length of an object in bytes, if it is there. It takes no memory.
     fn length(&self, id: ObjectId) -> Option<u64>
         ensures { result ≡ object_length (objects self.now) id.0 };
+
+    /// Whether an object is there. It takes no memory.
+    fn has(&self, id: ObjectId) -> bool
+        ensures { result ≡ is_some (finite.get (objects self.now) id.0) }
+    {
+        self.length(id).is_some()
+    }
 
     /// Reads a record of an object, 4,032 bytes, with zeros behind the object's end. The record of an object that is not
     /// there is zeros. Where it is refused `into` may hold anything.
