@@ -2,6 +2,7 @@ pub mod ContentsShown
 pub mod Digests
 pub mod Growth
 pub mod Judged
+pub mod Records
 pub mod SetMaps
 pub mod LoadedBlocks
 pub mod LoadedRecords

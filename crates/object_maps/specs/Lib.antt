@@ -1,6 +1,8 @@
 pub mod Ops
 pub mod Presence
 pub mod ContentsShown
+pub mod Judging
+pub mod Sources
 pub mod Digests
 pub mod Pointers
 pub mod Lengths

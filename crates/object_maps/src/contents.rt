@@ -5,8 +5,8 @@ ghost use Rattle.std.specs.List.{list_all};
 ghost use Rattle.std.specs.FinMap as finite;
 ghost use Rattle.base.specs.history.Contents.{bytes_after_write, resize};
 ghost use Rattle.base.specs.disk.Disk.{put};
-ghost use Rattle.object_maps.specs.Presence.{is_present_after, is_present_after_all};
 
+use crate::judging::judge;
 use base::{OBJECT_COUNT, ObjectId, Op, PoolError, PoolName};
 use std::alloc::{AllocError, Global};
 
@@ -149,57 +149,13 @@ impl Contents {
         }
     }
 
-    /// Whether an object is there.
-    pub fn has(&self, id: ObjectId) -> bool
-        ensures { result ≡ is_some (finite.get (contents_of self.now).objects id.0) }
-    {
-        self.object(id).is_some()
-    }
-
-    /// Judges operations in order, each on the contents after those before it, and gives the first refusal:
-    /// `Exists` for an object that is created where it is there, `NoObject` for one that is removed, written or set to
-    /// a length where it is not there. The contents stay as they are. It takes no memory.
+    /// Judges operations in order, each on the contents after those before it, and gives the first refusal (`judge`). The
+    /// contents stay as they are. It takes no memory.
     pub fn judge(&self, ops: &[Op]) -> Result<(), PoolError>
         requires { AreOpsAllowed ops.now }
         ensures { Judges ops.now (contents_of self.now) result }
     {
-        for (i, op) in ops.iter().enumerate() {
-            self.judge_after(&ops[..i], op)?;
-        }
-        Ok(())
-    }
-
-    // Judges an operation after others that apply.
-    fn judge_after(&self, before: &[Op], op: &Op) -> Result<(), PoolError>
-        requires allowed { IsOpAllowed op.now }
-        requires before { Apply before.now (contents_of self.now) }
-        ensures { Judges (before.now ++ (op.now ∷ [])) (contents_of self.now) result }
-    {
-        match op {
-            Op::Create(id) => {
-                if self.has_after(before, *id) {
-                    return Err(PoolError::Exists);
-                }
-                Ok(())
-            }
-            Op::Remove(id) | Op::Write(id, _, _) | Op::SetLength(id, _) => {
-                if !self.has_after(before, *id) {
-                    return Err(PoolError::NoObject);
-                }
-                Ok(())
-            }
-            Op::SetName(_) => Err(PoolError::BadRange),
-        }
-    }
-
-    // Whether an object is there after operations that apply: as the last of them that creates or removes it says,
-    // and where none does, as it is now.
-    fn has_after(&self, before: &[Op], id: ObjectId) -> bool
-        requires { Apply before.now (contents_of self.now) }
-        ensures { IfOk (apply_all before.now (contents_of self.now))
-            (λ c. result ≡ is_some (finite.get c.objects id.0)) }
-    {
-        is_there_after_all(before, id, self.has(id))
+        judge(&self, ops)
     }
 
     /// Takes the room that operations need, so that `apply` takes no memory. The contents stay as they are.
@@ -328,23 +284,5 @@ impl Contents {
     {
         let slot = &mut self.slots[id.0 as usize];
         resize_to(&mut slot.bytes, length);
-    }
-}
-
-// Whether an object is there after operations, from whether it was there before them.
-fn is_there_after_all(ops: &[Op], id: ObjectId, was_there: bool) -> bool
-    ensures { result ≡ is_present_after_all id.0 ops.now was_there }
-{
-    ops.iter()
-        .fold(was_there, |there, op| is_there_after(op, id, there))
-}
-
-fn is_there_after(op: &Op, id: ObjectId, was_there: bool) -> bool
-    ensures { result ≡ is_present_after id.0 op.now was_there }
-{
-    match op {
-        Op::Create(created) => id == *created || was_there,
-        Op::Remove(removed) => id != *removed && was_there,
-        _ => was_there,
     }
 }

@@ -3,10 +3,14 @@
 
 mod contents;
 mod digest;
+mod judging;
 mod objects;
+mod source;
 mod tree;
 mod walk;
 
 pub use contents::{Contents, Slot, empty_slots};
+pub use judging::judge;
+pub use source::ObjectSource;
 pub use tree::{ObjectMap, Tree, empty_maps};
 pub use walk::{Loaded, load};

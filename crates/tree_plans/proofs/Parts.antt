@@ -17,7 +17,7 @@ use Rattle.tree_plans.specs.declared.place.RecordPlace.{RecordPlace}
 use Rattle.tree_plans.specs.declared.planner.PlannedBlock.{PlannedBlock}
 use Rattle.tree_plans.specs.declared.planner.Planner.{Planner}
 use Rattle.tree_plans.specs.Order.{Adds, address_if}
-use Rattle.tree_plans.specs.Parts.{ClearsPlace, ExtendsPlan, PlansDirectory, PlansIndirect, PlansRecord, PlansRoot, TakesBlock, blocks_of, directory_before, maps_before, objects_after}
+use Rattle.tree_plans.specs.Parts.{ClearsPlace, ExtendsPlan, PlansDirectory, PlansIndirect, PlansRecord, PlansRoot, TakesBlock, blocks_of, directory_before, maps_before}
 use Rattle.tree_plans.specs.Plans.{FreesOnly, HasBecome, PlaceFrees, indirect_state, new_block, place_of, progress_of, state_above}
 use Rattle.tree_plans.specs.Walks.{AreEntriesWritten, has_object, has_objects, is_any_touched, root_state}
 use Rattle.tree_plans.specs.declared.changes.ObjectChanges.{ObjectChanges}
@@ -102,10 +102,10 @@ pub state_told : (touched left found : Bool) (result state : RecordState) → re
 state_told touched left found result state computed same is = ap (state_above touched) (sym same) ∙ sym computed ∙ is
 
 -- a directory
-pub directory_done : (source : PlanSource) (maps : BTreeMap ObjectId ObjectMap) (index : ℕ) (touched : Bool) (was : Pointer) (old new : Planner) (pointer : Pointer) → was ≡ directory_before source index
-    → IsDone source.free.now (Directory index) (state_above touched (has_object (objects_after source) index)) was (AreEntriesWritten (maps_before source) maps.entries (objects_after source) index 63) old new pointer
-    → PlansDirectory source maps index touched old new pointer
-directory_done source maps index touched was old new pointer is done =
+pub directory_done : (source : PlanSource) (after : FinMap nat_cmp (List ℕ)) (maps : BTreeMap ObjectId ObjectMap) (index : ℕ) (touched : Bool) (was : Pointer) (old new : Planner) (pointer : Pointer) → was ≡ directory_before source index
+    → IsDone source.free.now (Directory index) (state_above touched (has_object after index)) was (AreEntriesWritten (maps_before source) maps.entries after index 63) old new pointer
+    → PlansDirectory source after maps index touched old new pointer
+directory_done source after maps index touched was old new pointer is done =
     record { goes = done.goes; planned = rw (← is) done.planned; frees = rw (← is) done.frees; uses = done.uses; adds = done.adds }
 
 -- the root
@@ -114,7 +114,7 @@ pub root_told : (objects : List (ObjectId × ObjectChanges)) (after : FinMap nat
 root_told objects after empty found result state computed none same is =
     state_told (is_any_touched objects) (has_objects after) found result state (computed ∙ ap (λ (b : Bool). state_above b found) (not-is_empty (length objects) empty none)) same is
 
-pub root_done : (source : PlanSource) (objects : BTreeMap ObjectId ObjectChanges) (directories : List Pointer) (old new : Planner) (pointer : Pointer)
-    → IsDone source.free.now Root (root_state objects.entries (objects_after source)) source.tree.now.root (FitsRecords directories) old new pointer
-    → PlansRoot source objects directories old new pointer
-root_done source objects directories old new pointer done = record { goes = done.goes; planned = done.planned; frees = done.frees; uses = done.uses; adds = done.adds }
+pub root_done : (source : PlanSource) (after : FinMap nat_cmp (List ℕ)) (objects : BTreeMap ObjectId ObjectChanges) (directories : List Pointer) (old new : Planner) (pointer : Pointer)
+    → IsDone source.free.now Root (root_state objects.entries after) source.tree.now.root (FitsRecords directories) old new pointer
+    → PlansRoot source after objects directories old new pointer
+root_done source after objects directories old new pointer done = record { goes = done.goes; planned = done.planned; frees = done.frees; uses = done.uses; adds = done.adds }

@@ -11,30 +11,6 @@ use Rattle.base.proofs.disk.Put.{Apart, part-put_apart}
 use Rattle.base.proofs.formats.FieldsRead.{length-number_bytes, number_at-put_apart, pointers_read_back}
 use Rattle.checked_blocks.specs.Sealing.{padded}
 
-take_none : (k : ℕ) → ◌≡◌ {A = List ℕ} (take k []) []
-take_none k = take_all k [] (omega arith)
-
--- a part that is cut at the end of the bytes
-pub cut-part : (bytes : List ℕ) (a n low high : ℕ) → low ≡ min a (length bytes) → high ≡ min (a + n) (length bytes) → take (high - low) (drop low bytes) ≡ take n (drop a bytes)
-cut-part bytes a n low high l h = go (cases_lt a (length bytes))
-  where
-    go : (a < length bytes) ⊎ (length bytes ≤ a) → take (high - low) (drop low bytes) ≡ take n (drop a bytes)
-    go (inl below) = inside (omega arith) (cases_lt (length bytes) (a + n))
-      where
-        inside : low ≡ a → (length bytes < a + n) ⊎ (a + n ≤ length bytes) → take (high - low) (drop low bytes) ≡ take n (drop a bytes)
-        inside e (inl over) =
-            let long : high ≡ length bytes = omega arith in
-            let rest = length-drop a bytes in
-            rw (e, long, take_rest bytes a) (sym (take_all n (drop a bytes) (omega arith)))
-        inside e (inr within) =
-            let count : high - a ≡ n = omega arith in
-            rw (e, count) refl
-    go (inr past) =
-        let e : low ≡ length bytes = omega arith in
-        let none : drop (length bytes) bytes ≡ [] = drop_all (length bytes) bytes (omega arith) in
-        let none_too : drop a bytes ≡ [] = drop_all a bytes past in
-        rw (e, none, none_too) (take_none (high - length bytes) ∙ sym (take_none n))
-
 -- a payload that is full has no zeros behind it
 pub padded-full : (payload : List ℕ) → length payload ≡ 4032 → padded payload ≡ payload
 padded-full payload long = rw long (append-nil payload)

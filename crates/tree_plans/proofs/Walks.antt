@@ -1,7 +1,6 @@
 -- What a walk plans, step by step.
 use Rattle.std.proofs.Common.{◌≡◌, ◌==◌, ℕ, zero, suc, ◌+◌, ◌<◌, ◌⊎◌, inl, inr, Bool, true, false, not, cond, List, [], ◌∷◌, ◌++◌, length, Option, Ordering, Some, None, refl, sym, ◌∙◌, ap, arith}
 use Rattle.std.specs.Prelude.{slice_get, slice_index_or, is_some, unwrap_or, option_map, All, IsTrue}
-use Rattle.std.specs.Borrow.{Bor}
 use Rattle.std.specs.Map.{lookup}
 use Rattle.std.specs.BTreeMap as tree
 use Rattle.std.specs.BTreeMap.{BTreeMap, is_at}
@@ -183,10 +182,6 @@ next_of {A} P all done rest e split holds =
 pub not-is_empty : (n : ℕ) (b : Bool) → (IsTrue b → n ≡ 0) × (n ≡ 0 → IsTrue b) → not b ≡ not (n == 0)
 not-is_empty n true iff = let none : n ≡ 0 = iff.0 refl in rw none refl
 not-is_empty n false iff = elim (n == 0) as (λ t. (n == 0) ≡ t → true ≡ not t) [ true ↦ λ e. absurd (let h : IsTrue false = iff.1 (eqb-true n 0 e) in cc) | false ↦ λ e. refl ] refl
-
-pub unwrapped : (o : Option (Bor (List ℕ))) (d : Bor (List ℕ)) (after : Option (List ℕ)) → option_map (λ (b : Bor (List ℕ)). b.now) o ≡ after → d.now ≡ [] → (unwrap_or o d).now ≡ unwrap_or after []
-unwrapped None d after e none = none ∙ ap (λ (a : Option (List ℕ)). unwrap_or a []) e
-unwrapped (Some b) d after e none = ap (λ (a : Option (List ℕ)). unwrap_or a []) e
 
 -- entries by number are those that the map has
 lookup_same : {X : Type 0} (f g : ObjectId → Bool) → ((id : ObjectId) → f id ≡ g id) → (es : List (ObjectId × X)) → lookup f es ≡ lookup g es

@@ -15,7 +15,6 @@ use Rattle.base.specs.tree.PlannedTrees.{NewBlock}
 use Rattle.base.specs.tree.Syncs.{GroupChanges, is_dirty}
 use Rattle.checked_blocks.specs.Sealing.{padded}
 use Rattle.object_maps.specs.declared.tree.ObjectMap.{ObjectMap}
-use Rattle.object_maps.specs.ContentsShown.{contents_of}
 use Rattle.object_maps.specs.Pointers.{pointer_of_list}
 use Rattle.space.specs.FreeSets.{FreeSpace}
 use Rattle.tree_plans.specs.declared.place.BlockPlace.{BlockPlace}
@@ -44,10 +43,6 @@ ExtendsPlan free old new = Goes free.free (progress_of old) (progress_of new)
 abbrev pub TellsLack : FreeSpace → Planner → ℕ → PoolError → Type 0
 TellsLack free planner count e = e ≡ error.NoSpace → Lacks free.free (progress_of planner) count
 
--- the objects that a source has after its group
-abbrev pub objects_after : PlanSource → FinMap nat_cmp (List ℕ)
-objects_after source = (contents_of source.contents.now).objects
-
 -- the pointers that the tree of a source has to its objects, and to a directory
 abbrev pub maps_before : PlanSource → List ObjectMap
 maps_before source = source.tree.now.maps.items
@@ -55,9 +50,9 @@ maps_before source = source.tree.now.maps.items
 abbrev pub directory_before : PlanSource → ℕ → Pointer
 directory_before source d = slice_index_or source.tree.now.directories.items d no_pointer
 
--- what a group makes of the objects of a source
-abbrev pub group_in : PlanSource → List (ObjectId × ObjectChanges) → GroupChanges
-group_in source objects = group_of objects (pointers_before source.tree.now) (objects_after source)
+-- what a group makes of the objects of a source, where these are the objects after it
+abbrev pub group_in : PlanSource → FinMap nat_cmp (List ℕ) → List (ObjectId × ObjectChanges) → GroupChanges
+group_in source after objects = group_of objects (pointers_before source.tree.now) after
 
 -- one block is taken: it stands at its place, and the one that it replaces comes back
 pub record TakesBlock (free : FreeSpace) (place : BlockPlace) (payload : List ℕ) (replaced : Pointer) (old new : Planner) (pointer : Pointer) : Type 0 where
@@ -108,51 +103,51 @@ pub record PlansObject (free : FreeSpace) (id : ObjectId) (object : Option (List
       (addresses_where (is_dirty_in changes) (record_in map) pointer_count ++ address_if (is_indirect_written_in changes was) map.indirect)
 
 -- one object of a walk goes over to those that are done, where the objects of the walk have these changes for it
-pub record GoesOver (source : PlanSource) (id : ObjectId) (changes : ObjectChanges) (maps : List (ObjectId × ObjectMap)) (old new : Planner) (planned_maps : List (ObjectId × ObjectMap)) : Type 0 where
+pub record GoesOver (source : PlanSource) (after : FinMap nat_cmp (List ℕ)) (id : ObjectId) (changes : ObjectChanges) (maps : List (ObjectId × ObjectMap)) (old new : Planner) (planned_maps : List (ObjectId × ObjectMap)) : Type 0 where
   pub goes : ExtendsPlan source.free.now old new
   pub planned : (objects done : List (ObjectId × ObjectChanges)) → entry_of objects id.0 ≡ Some changes
-      → AreObjectsPlanned (progress_of old) (maps_before source) (objects_after source) objects done maps
-      → AreObjectsPlanned (progress_of new) (maps_before source) (objects_after source) objects (done ++ ((id, changes) ∷ [])) planned_maps
+      → AreObjectsPlanned (progress_of old) (maps_before source) after objects done maps
+      → AreObjectsPlanned (progress_of new) (maps_before source) after objects (done ++ ((id, changes) ∷ [])) planned_maps
   pub frees : (objects : List (ObjectId × ObjectChanges)) (first : List ℕ) → entry_of objects id.0 ≡ Some changes
       → ObjectsFree first old.freed.items (maps_before source) objects maps
       → ObjectsFree first new.freed.items (maps_before source) objects planned_maps
   pub uses : (first : List NewBlock) → entry_of maps id.0 ≡ None → ObjectsUse first (blocks_of old) maps → ObjectsUse first (blocks_of new) planned_maps
   pub others : (n : ℕ) → (id.0 == n) ≡ false → entry_of planned_maps n ≡ entry_of maps n
   pub adds : (objects : List (ObjectId × ObjectChanges)) → entry_of objects id.0 ≡ Some changes → id.0 < object_count
-      → Adds (blocks_of old) (blocks_of new) (object_addresses (group_in source objects) id.0 (planned_map (maps_before source) planned_maps id.0))
+      → Adds (blocks_of old) (blocks_of new) (object_addresses (group_in source after objects) id.0 (planned_map (maps_before source) planned_maps id.0))
 
 -- the objects that operations are on, rising
-pub record PlansObjects (source : PlanSource) (objects : BTreeMap ObjectId ObjectChanges) (old new : Planner) (maps : BTreeMap ObjectId ObjectMap) : Type 0 where
+pub record PlansObjects (source : PlanSource) (after : FinMap nat_cmp (List ℕ)) (objects : BTreeMap ObjectId ObjectChanges) (old new : Planner) (maps : BTreeMap ObjectId ObjectMap) : Type 0 where
   pub goes : ExtendsPlan source.free.now old new
-  pub planned : AreObjectsPlanned (progress_of new) (maps_before source) (objects_after source) objects.entries objects.entries maps.entries
+  pub planned : AreObjectsPlanned (progress_of new) (maps_before source) after objects.entries objects.entries maps.entries
   pub frees : ObjectsFree old.freed.items new.freed.items (maps_before source) objects.entries maps.entries
   pub uses : ObjectsUse (blocks_of old) (blocks_of new) maps.entries
-  pub adds : AreInRange objects.entries → Adds (blocks_of old) (blocks_of new) (all_addresses (group_in source objects.entries) (planned_map (maps_before source) maps.entries) object_count)
+  pub adds : AreInRange objects.entries → Adds (blocks_of old) (blocks_of new) (all_addresses (group_in source after objects.entries) (planned_map (maps_before source) maps.entries) object_count)
 
 -- a directory: it takes a block where something of it changes and an object of it is there
-pub record PlansDirectory (source : PlanSource) (maps : BTreeMap ObjectId ObjectMap) (index : ℕ) (touched : Bool) (old new : Planner) (pointer : Pointer) : Type 0 where
+pub record PlansDirectory (source : PlanSource) (after : FinMap nat_cmp (List ℕ)) (maps : BTreeMap ObjectId ObjectMap) (index : ℕ) (touched : Bool) (old new : Planner) (pointer : Pointer) : Type 0 where
   pub goes : ExtendsPlan source.free.now old new
-  pub planned : IsDirectoryPlanned (progress_of new) (maps_before source) maps.entries (objects_after source) index
-      (state_above touched (has_object (objects_after source) index)) (directory_before source index) pointer
-  pub frees : PlaceFrees old.freed.items new.freed.items (state_above touched (has_object (objects_after source) index)) (directory_before source index)
+  pub planned : IsDirectoryPlanned (progress_of new) (maps_before source) maps.entries after index
+      (state_above touched (has_object after index)) (directory_before source index) pointer
+  pub frees : PlaceFrees old.freed.items new.freed.items (state_above touched (has_object after index)) (directory_before source index)
   pub uses : UsesOnly (blocks_of old) (blocks_of new) pointer.address
-  pub adds : Adds (blocks_of old) (blocks_of new) (address_if (is_dirty (state_above touched (has_object (objects_after source) index))) pointer)
+  pub adds : Adds (blocks_of old) (blocks_of new) (address_if (is_dirty (state_above touched (has_object after index))) pointer)
 
 -- all directories, rising
-pub record PlansDirectories (source : PlanSource) (objects : BTreeMap ObjectId ObjectChanges) (maps : BTreeMap ObjectId ObjectMap) (old new : Planner) (directories : List Pointer) : Type 0 where
+pub record PlansDirectories (source : PlanSource) (after : FinMap nat_cmp (List ℕ)) (objects : BTreeMap ObjectId ObjectChanges) (maps : BTreeMap ObjectId ObjectMap) (old new : Planner) (directories : List Pointer) : Type 0 where
   pub goes : ExtendsPlan source.free.now old new
-  pub planned : AreDirectoriesPlanned (progress_of new) (maps_before source) maps.entries (objects_after source) objects.entries source.tree.now.directories.items pointer_count directories
-  pub frees : DirectoriesFree old.freed.items new.freed.items objects.entries (objects_after source) source.tree.now.directories.items pointer_count
+  pub planned : AreDirectoriesPlanned (progress_of new) (maps_before source) maps.entries after objects.entries source.tree.now.directories.items pointer_count directories
+  pub frees : DirectoriesFree old.freed.items new.freed.items objects.entries after source.tree.now.directories.items pointer_count
   pub uses : PointersUse (blocks_of old) (blocks_of new) directories pointer_count
-  pub adds : Adds (blocks_of old) (blocks_of new) (addresses_where (is_directory_dirty objects.entries (objects_after source)) (pointer_of_list directories) pointer_count)
+  pub adds : Adds (blocks_of old) (blocks_of new) (addresses_where (is_directory_dirty objects.entries after) (pointer_of_list directories) pointer_count)
 
 -- the root: it takes a block where an operation is on an object and some object is there
-pub record PlansRoot (source : PlanSource) (objects : BTreeMap ObjectId ObjectChanges) (directories : List Pointer) (old new : Planner) (root : Pointer) : Type 0 where
+pub record PlansRoot (source : PlanSource) (after : FinMap nat_cmp (List ℕ)) (objects : BTreeMap ObjectId ObjectChanges) (directories : List Pointer) (old new : Planner) (root : Pointer) : Type 0 where
   pub goes : ExtendsPlan source.free.now old new
-  pub planned : IsRootPlanned (progress_of new) directories (root_state objects.entries (objects_after source)) source.tree.now.root root
-  pub frees : PlaceFrees old.freed.items new.freed.items (root_state objects.entries (objects_after source)) source.tree.now.root
+  pub planned : IsRootPlanned (progress_of new) directories (root_state objects.entries after) source.tree.now.root root
+  pub frees : PlaceFrees old.freed.items new.freed.items (root_state objects.entries after) source.tree.now.root
   pub uses : UsesOnly (blocks_of old) (blocks_of new) root.address
-  pub adds : Adds (blocks_of old) (blocks_of new) (address_if (is_dirty (root_state objects.entries (objects_after source))) root)
+  pub adds : Adds (blocks_of old) (blocks_of new) (address_if (is_dirty (root_state objects.entries after)) root)
 
 -- a plan that has nothing yet
 pub record HasNothing (planner : Planner) : Type 0 where
@@ -160,9 +155,9 @@ pub record HasNothing (planner : Planner) : Type 0 where
   pub planned : planner.blocks.items ≡ []
 
 -- the whole walk, from a plan that has nothing yet
-pub record PlansTree (source : PlanSource) (objects : BTreeMap ObjectId ObjectChanges) (old new : Planner) (tree : NewTree) : Type 0 where
+pub record PlansTree (source : PlanSource) (after : FinMap nat_cmp (List ℕ)) (objects : BTreeMap ObjectId ObjectChanges) (old new : Planner) (tree : NewTree) : Type 0 where
   pub goes : ExtendsPlan source.free.now old new
   pub count : vec_len tree.directories ≡ pointer_count
-  pub walked : IsWalked (progress_of new) source.tree.now (objects_after source) objects.entries tree.maps.entries tree.directories.items tree.root
+  pub walked : IsWalked (progress_of new) source.tree.now after objects.entries tree.maps.entries tree.directories.items tree.root
   pub used : AreUsed (blocks_of new) (pointers_from tree.root tree.directories.items (planned_map (maps_before source) tree.maps.entries))
-  pub order : AreInRange objects.entries → AreInOrder (addresses_of (blocks_of new)) (pointers_from tree.root tree.directories.items (planned_map (maps_before source) tree.maps.entries)) (group_in source objects.entries)
+  pub order : AreInRange objects.entries → AreInOrder (addresses_of (blocks_of new)) (pointers_from tree.root tree.directories.items (planned_map (maps_before source) tree.maps.entries)) (group_in source after objects.entries)

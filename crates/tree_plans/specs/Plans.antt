@@ -95,6 +95,10 @@ FreesOnly old new replaced = (address : ℕ) → IsAmong new address → IsAmong
 abbrev pub IsWant : PoolError → Type 0
 IsWant e = (e ≡ error.NoSpace) ⊎ (e ≡ error.NoMemory)
 
+-- or because a read of the objects after the group is refused
+abbrev pub IsWantOr : (PoolError → Type 0) → PoolError → Type 0
+IsWantOr MayRefuse e = IsWant e ⊎ MayRefuse e
+
 -- a place has no block any more, and the block that it had comes back
 pub record IsCleared (s : Progress) (old new : Pointer) : Type 0 where
   pub none : new ≡ no_pointer

@@ -20,42 +20,42 @@ use Rattle.tree_plans.specs.declared.planner.PlannedBlock.{PlannedBlock}
 use Rattle.tree_plans.specs.declared.planner.TreePlan.{TreePlan}
 use Rattle.tree_plans.specs.declared.walk.PlanSource.{PlanSource}
 use Rattle.tree_plans.specs.Changes.{AreBornBefore, AreChanges, AreInRange, AreTreePointers, IsCoveredBy, written_frame}
-use Rattle.tree_plans.specs.Parts.{group_in, objects_after}
+use Rattle.tree_plans.specs.Parts.{group_in}
 use Rattle.tree_plans.specs.Plans.{address_of, new_block}
 use Rattle.tree_plans.specs.Pointers.{entry_of, planned_lengths, planned_pointers, pointers_before}
 use Rattle.tree_plans.specs.Walks.{is_any_touched}
 
--- the places of a source that the sync of a group with these changes writes, in the order of a walk
-abbrev pub places_written : PlanSource → List (ObjectId × ObjectChanges) → List Place
-places_written source objects = written_by (group_in source objects)
+-- the places of a source that the sync of a group with these changes writes, in the order of a walk, where these are the objects after it
+abbrev pub places_written : PlanSource → FinMap nat_cmp (List ℕ) → List (ObjectId × ObjectChanges) → List Place
+places_written source after objects = written_by (group_in source after objects)
 
 -- the addresses of the free blocks of a source, rising
 abbrev pub free_addresses : PlanSource → List ℕ
 free_addresses source = rising source.free.now.free
 
 -- the blocks of a plan are whole, and the lowest free ones: one for each place that is written, in the order of these places
-pub record TakesBlocks (source : PlanSource) (objects : BTreeMap ObjectId ObjectChanges) (plan : TreePlan) : Type 0 where
+pub record TakesBlocks (source : PlanSource) (after : FinMap nat_cmp (List ℕ)) (objects : BTreeMap ObjectId ObjectChanges) (plan : TreePlan) : Type 0 where
   pub within : All (λ (b : PlannedBlock). b.index < block_count source.geometry) plan.blocks.items
   pub whole : (i : ℕ) (b : NewBlock) → slice_get (map new_block plan.blocks.items) i ≡ Some b → length b.content ≡ block_size
   pub taken : map address_of plan.blocks.items ≡ take (length plan.blocks.items) (free_addresses source)
-  pub order : AreInRange objects.entries → map address_of plan.blocks.items ≡ map (λ (place : Place). (planned_pointers source.tree.now plan place).address) (places_written source objects.entries)
+  pub order : AreInRange objects.entries → map address_of plan.blocks.items ≡ map (λ (place : Place). (planned_pointers source.tree.now plan place).address) (places_written source after objects.entries)
   pub none : objects.entries ≡ [] → plan.blocks.items ≡ []
 
 -- The tree after a plan: what becomes of each of its places, whatever objects were there before of which the changes cover all that
 -- differs. Each pointer is to a block of the area, where that held before, and each block of the plan is behind a pointer.
-pub record MakesTree (source : PlanSource) (objects : BTreeMap ObjectId ObjectChanges) (plan : TreePlan) : Type 0 where
-  pub planned : (before : FinMap nat_cmp (List ℕ)) → IsCoveredBy objects.entries (pointers_before source.tree.now) before (objects_after source) → AreChanges objects.entries (objects_after source)
-      → AreTreePointers objects.entries (pointers_before source.tree.now) (objects_after source)
-      → IsTreePlan (map new_block plan.blocks.items) (written_frame source.guid source.geometry source.group.0) (pointers_before source.tree.now) (planned_pointers source.tree.now plan) before (objects_after source)
+pub record MakesTree (source : PlanSource) (after : FinMap nat_cmp (List ℕ)) (objects : BTreeMap ObjectId ObjectChanges) (plan : TreePlan) : Type 0 where
+  pub planned : (before : FinMap nat_cmp (List ℕ)) → IsCoveredBy objects.entries (pointers_before source.tree.now) before after → AreChanges objects.entries after
+      → AreTreePointers objects.entries (pointers_before source.tree.now) after
+      → IsTreePlan (map new_block plan.blocks.items) (written_frame source.guid source.geometry source.group.0) (pointers_before source.tree.now) (planned_pointers source.tree.now plan) before after
   pub placed : ArePlaced (block_count source.geometry) (pointers_before source.tree.now) → ArePlaced (block_count source.geometry) (planned_pointers source.tree.now plan)
   pub used : AreUsed (map new_block plan.blocks.items) (planned_pointers source.tree.now plan)
   pub kept_root : is_any_touched objects.entries ≡ false → plan.root ≡ source.tree.now.root
   pub new_root : is_any_touched objects.entries ≡ true → (plan.root.birth ≡ source.group.0) ⊎ (plan.root ≡ no_pointer)
 
--- the length of each object after a plan: that of the contents where an operation is on it, and elsewhere the one that the tree had
-abbrev pub HasLengths : PlanSource → BTreeMap ObjectId ObjectChanges → TreePlan → Type 0
-HasLengths source objects plan = (n : ℕ) → n < object_count → planned_lengths source.tree.now plan n
-    ≡ (if is_some (entry_of objects.entries n) then option_map length (finite.get (objects_after source) n) else lengths_of source.tree.now n)
+-- the length of each object after a plan: the one after the group where an operation is on it, and elsewhere the one that the tree had
+abbrev pub HasLengths : PlanSource → FinMap nat_cmp (List ℕ) → BTreeMap ObjectId ObjectChanges → TreePlan → Type 0
+HasLengths source after objects plan = (n : ℕ) → n < object_count → planned_lengths source.tree.now plan n
+    ≡ (if is_some (entry_of objects.entries n) then option_map length (finite.get after n) else lengths_of source.tree.now n)
 
 -- the blocks that come back are in the area, and are those that the plan replaces or clears
 pub record GivesBack (source : PlanSource) (plan : TreePlan) : Type 0 where

@@ -23,10 +23,14 @@ use Rattle.tree_plans.specs.Plans.{HasBecome, Progress, IsObjectPlanned, IsAmong
 abbrev pub indirect_after : List ObjectMap → List (ObjectId × ObjectMap) → ℕ → Pointer
 indirect_after maps planned n = option_map_or (λ (m : ObjectMap). m.indirect) (planned_map maps planned n) no_pointer
 
+-- an entry of a directory, for an object of this length
+abbrev pub IsEntryOfLength : List ℕ → Pointer → Option ℕ → Type 0
+IsEntryOfLength entry indirect None = entry ≡ replicate 64 0
+IsEntryOfLength entry indirect (Some size) = (entry_present entry ≡ 1) × (entry_length entry ≡ size) × (entry_pointer entry ≡ indirect)
+
 -- an entry of a directory, as it is written
 abbrev pub IsEntryWritten : List ℕ → Pointer → Option (List ℕ) → Type 0
-IsEntryWritten entry indirect None = entry ≡ replicate 64 0
-IsEntryWritten entry indirect (Some bytes) = (entry_present entry ≡ 1) × (entry_length entry ≡ length bytes) × (entry_pointer entry ≡ indirect)
+IsEntryWritten entry indirect object = IsEntryOfLength entry indirect (option_map length object)
 
 -- the first entries of a directory's payload
 abbrev pub AreEntriesWritten : List ObjectMap → List (ObjectId × ObjectMap) → FinMap nat_cmp (List ℕ) → ℕ → ℕ → List ℕ → Type 0

@@ -1,31 +1,16 @@
 //! The payloads of a tree's blocks (On-Disk Specification, chapter 2).
 
-ghost use Rattle.std.specs.Prelude.{◌≡◌, ◌≢◌, ◌&&◌, ◌<◌, ◌≤◌, ℕ, length, option_map, replicate, slice_index_or};
+ghost use Rattle.std.specs.Prelude.{◌≡◌, ◌≢◌, ◌&&◌, ◌<◌, ◌≤◌, ℕ, length, replicate, slice_index_or};
 ghost use Rattle.std.specs.List.{list_any};
 ghost use Rattle.base.specs.formats.Fields.{entry_in, entry_length, entry_pointer, entry_present, no_pointer, pointer_in};
-ghost use Rattle.base.specs.tree.Tree.{record_bytes};
 ghost use Rattle.checked_blocks.specs.Sealing.{zeros};
-ghost use Rattle.object_maps.specs.ContentsShown.{contents_of};
 ghost use Rattle.tree_plans.specs.Changes.{names_block};
-ghost use Rattle.tree_plans.specs.Walks.{AreEntriesWritten, IsEntryWritten, indirect_after};
+ghost use Rattle.tree_plans.specs.Walks.{AreEntriesWritten, IsEntryOfLength, indirect_after};
 
-use base::{
-    ENTRY_COUNT, ENTRY_SIZE, ObjectId, POINTER_SIZE, Pointer, RECORD_SIZE, write_pointer, write_u64,
-};
+use base::{ENTRY_COUNT, ENTRY_SIZE, ObjectId, POINTER_SIZE, Pointer, write_pointer, write_u64};
 use checked_blocks::PAYLOAD_SIZE;
-use object_maps::{Contents, ObjectMap, Tree};
+use object_maps::{ObjectMap, ObjectSource, Tree};
 use std::collections::BTreeMap;
-
-/// The bytes of an object in a record, as far as it reaches.
-pub fn record_of(bytes: &[u8], index: usize) -> &[u8]
-    requires { index < 84 }
-    ensures bytes { result.now ≡ record_bytes index bytes.now }
-    ensures size { length result.now ≤ 4032 }
-{
-    let low = (RECORD_SIZE * index).min(bytes.len());
-    let high = (RECORD_SIZE * (index + 1)).min(bytes.len());
-    &bytes[low..high]
-}
 
 /// A payload of pointers.
 pub fn payload_of(pointers: &[Pointer]) -> [u8; 4032]
@@ -71,8 +56,8 @@ fn put_pointer(payload: &mut [u8], index: usize, pointer: &Pointer)
 }
 
 /// The payload of a directory: an entry for each of its objects that is there, and zeros for the others.
-pub fn directory_payload(
-    contents: &Contents,
+pub fn directory_payload<O: ObjectSource>(
+    after: &O,
     tree: &Tree,
     maps: &BTreeMap<ObjectId, ObjectMap>,
     directory: usize,
@@ -80,34 +65,34 @@ pub fn directory_payload(
     requires { directory < 84 }
     ensures size { length result ≡ 4032 }
     ensures entries { AreEntriesWritten tree.now.maps.items maps.now.entries
-        (contents_of contents.now).objects directory 63 result }
+        (O.objects after.now) directory 63 result }
 {
     let mut payload = empty_payload();
     for index in 0..ENTRY_COUNT {
         let id = ObjectId((ENTRY_COUNT * directory + index) as u32);
         let indirect = planned_indirect(tree, maps, id);
-        put_object(&mut payload, index, contents.object(id), &indirect);
+        put_object(&mut payload, index, after.length(id), &indirect);
     }
     payload
 }
 
 // Writes the entry of an object, if it is there. The entry is zeros before.
-fn put_object(payload: &mut [u8], index: usize, object: Option<&[u8]>, indirect: &Pointer)
+fn put_object(payload: &mut [u8], index: usize, size: Option<u64>, indirect: &Pointer)
     requires size { length payload.old ≡ 4032 }
     requires in_range { index < 63 }
     requires empty { entry_in payload.old index ≡ replicate 64 0 }
     ensures size { length payload.new ≡ 4032 }
-    ensures here { IsEntryWritten (entry_in payload.new index) indirect.now
-        (option_map (λ bytes. bytes.now) object.entry) }
+    ensures here { IsEntryOfLength (entry_in payload.new index) indirect.now size }
     ensures others { (k : ℕ) → k < 63 → k ≢ index
         → entry_in payload.new k ≡ entry_in payload.old k }
 {
-    if let Some(bytes) = object {
-        write_entry(payload, index, bytes.len(), indirect);
+    if let Some(size) = size {
+        write_entry(payload, index, size, indirect);
     }
 }
 
-fn empty_payload() -> [u8; 4032]
+/// A payload of zeros.
+pub fn empty_payload() -> [u8; 4032]
     ensures { result ≡ zeros 4032 }
 {
     [0; PAYLOAD_SIZE]
@@ -125,7 +110,7 @@ fn planned_indirect(tree: &Tree, maps: &BTreeMap<ObjectId, ObjectMap>, id: Objec
 }
 
 // Writes the entry of an object that is there: 1, its length, and the pointer to its indirect block.
-fn write_entry(payload: &mut [u8], index: usize, size: usize, indirect: &Pointer)
+fn write_entry(payload: &mut [u8], index: usize, size: u64, indirect: &Pointer)
     requires size { length payload.old ≡ 4032 }
     requires in_range { index < 63 }
     ensures size { length payload.new ≡ 4032 }
@@ -140,6 +125,6 @@ fn write_entry(payload: &mut [u8], index: usize, size: usize, indirect: &Pointer
     let _birth = indirect.birth;
     let at = ENTRY_SIZE * index;
     write_u64(payload, at, 1);
-    write_u64(payload, at + 8, size as u64);
+    write_u64(payload, at + 8, size);
     write_pointer(payload, at + 16, indirect);
 }

@@ -7,12 +7,12 @@ ghost use Rattle.tree_plans.specs.declared.planner.PlannedBlock.{PlannedBlock};
 
 use crate::changes::ObjectChanges;
 use crate::freed::give_back;
-use crate::payload::{is_indirect_written, payload_of, record_of};
+use crate::payload::{empty_payload, is_indirect_written, payload_of};
 use crate::place::{BlockPlace, RecordPlace};
 use base::{Group, ObjectId, Ops, POINTER_COUNT, Pointer, PoolError, RecordState};
 use checked_blocks::{Block, seal};
 use labels::Geometry;
-use object_maps::ObjectMap;
+use object_maps::{ObjectMap, ObjectSource};
 use space::FreeSet;
 use std::alloc::Global;
 use std::collections::BTreeMap;
@@ -64,13 +64,15 @@ pub struct Planner {
 }
 
 impl Planner {
-    ghost use Rattle.std.specs.Prelude.{◌≤◌, ◌<◌, ◌+◌, [], length, option_map, IfOk, IfErr};
+    ghost use Rattle.std.specs.Prelude.{◌≤◌, ◌<◌, ◌+◌, [], length, IfOk, IfErr};
     ghost use Rattle.base.specs.declared.error.PoolError.TheVariants as error;
     ghost use Rattle.base.specs.tree.Places.{IsPlace};
+    ghost use Rattle.object_maps.specs.Sources.{bytes_in, object_length};
+    ghost use Rattle.std.specs.FinMap as finite;
     ghost use Rattle.space.specs.FreeSets.{free_from};
     ghost use Rattle.base.specs.tree.Syncs.{is_dirty};
     ghost use Rattle.tree_plans.specs.Parts.{ClearsPlace, PlansIndirect, PlansObject, PlansRecord, PlansRecords, TakesBlock, TellsLack};
-    ghost use Rattle.tree_plans.specs.Plans.{IsWant, indirect_state, is_dirty_in, place_of};
+    ghost use Rattle.tree_plans.specs.Plans.{IsWant, IsWantOr, indirect_state, is_dirty_in, place_of};
     ghost use Rattle.tree_plans.specs.Room.{count_if, count_where, needed_blocks};
 
     /// Takes the lowest free block for this payload. What it replaces comes back.
@@ -120,11 +122,11 @@ impl Planner {
     }
 
     // The pointer to a record after the plan.
-    fn place_record(
+    fn place_record<O: ObjectSource>(
         &mut self,
         free: &FreeSet,
         place: RecordPlace,
-        bytes: &[u8],
+        after: &mut O,
         old: &Pointer,
         state: RecordState,
     ) -> Result<Pointer, PoolError>
@@ -132,29 +134,29 @@ impl Planner {
         requires index { place.index < 84 }
         requires free { free.now.blocks ≡ block_count self.old.geometry }
         ensures geometry { self.new.geometry ≡ self.old.geometry }
-        ensures planned { IfOk result
-            (PlansRecord free.now place bytes.now old.now state self.old self.new) }
+        ensures same_objects { O.objects after.new ≡ O.objects after.old }
+        ensures planned { IfOk result (PlansRecord free.now place
+            (bytes_in (O.objects after.old) place.id.0) old.now state self.old self.new) }
         ensures full { IfErr result (TellsLack free.now self.old (count_if (is_dirty state))) }
-        ensures refused { IfErr result IsWant }
+        ensures refused { IfErr result (IsWantOr O.may_refuse) }
     {
         match state {
             RecordState::Unchanged => Ok(*old),
             RecordState::Hole => self.clear(old),
-            RecordState::Dirty => self.place(
-                free,
-                BlockPlace::Data(place.id, place.index),
-                record_of(bytes, place.index),
-                old,
-            ),
+            RecordState::Dirty => {
+                let mut record = empty_payload();
+                after.read_record(place.id, place.index, &mut record)?;
+                self.place(free, BlockPlace::Data(place.id, place.index), &record, old)
+            }
         }
     }
 
     // The pointers to the records of an object after the plan.
-    fn place_records(
+    fn place_records<O: ObjectSource>(
         &mut self,
         free: &FreeSet,
         id: ObjectId,
-        bytes: &[u8],
+        after: &mut O,
         old: &ObjectMap,
         changes: &ObjectChanges,
     ) -> Result<Vec<Pointer>, PoolError>
@@ -162,17 +164,19 @@ impl Planner {
         requires free { free.now.blocks ≡ block_count self.old.geometry }
         ensures geometry { self.new.geometry ≡ self.old.geometry }
         ensures count { IfOk result (λ records. vec_len records ≡ 84) }
+        ensures same_objects { O.objects after.new ≡ O.objects after.old }
         ensures planned { IfOk result (λ records.
-            PlansRecords free.now id bytes.now old.now changes.now self.old self.new records.items) }
+            PlansRecords free.now id (bytes_in (O.objects after.old) id.0) old.now changes.now
+            self.old self.new records.items) }
         ensures full { IfErr result
             (TellsLack free.now self.old (count_where (is_dirty_in changes.now) 84)) }
-        ensures refused { IfErr result IsWant }
+        ensures refused { IfErr result (IsWantOr O.may_refuse) }
     {
         let mut records = Vec::with_capacity(self.alloc, POINTER_COUNT)?;
         for index in 0..POINTER_COUNT {
             let place = RecordPlace { id, index };
             let was = old.record(index);
-            let pointer = self.place_record(free, place, bytes, &was, changes.records[index])?;
+            let pointer = self.place_record(free, place, after, &was, changes.records[index])?;
             records.push_reserved(pointer);
         }
         Ok(records)
@@ -203,31 +207,32 @@ impl Planner {
         self.place(free, BlockPlace::Indirect(id), &payload_of(records), old)
     }
 
-    /// The records of an object, rising, and then its indirect block. The object is what is there after the group.
-    pub fn place_object(
+    /// The records of an object, rising, and then its indirect block, from the objects after the group.
+    pub fn place_object<O: ObjectSource>(
         &mut self,
         free: &FreeSet,
         id: ObjectId,
-        object: Option<&[u8]>,
+        after: &mut O,
         old: &ObjectMap,
         changes: &ObjectChanges,
     ) -> Result<ObjectMap, PoolError>
         requires number { id.0 < 5292 }
         requires free { free.now.blocks ≡ block_count self.old.geometry }
         ensures geometry { self.new.geometry ≡ self.old.geometry }
+        ensures same_objects { O.objects after.new ≡ O.objects after.old }
         ensures planned { IfOk result (PlansObject free.now id
-            (option_map (λ b. b.now) object.entry) old.now changes.now self.old self.new) }
+            (finite.get (O.objects after.old) id.0) old.now changes.now self.old self.new) }
         ensures length { IfOk result (λ map.
-            map.length ≡ option_map length (option_map (λ b. b.now) object.entry)) }
+            map.length ≡ object_length (O.objects after.old) id.0) }
         ensures full { IfErr result
             (TellsLack free.now self.old (needed_blocks changes.now old.now)) }
-        ensures refused { IfErr result IsWant }
+        ensures refused { IfErr result (IsWantOr O.may_refuse) }
     {
-        let bytes = object.unwrap_or(&[]);
-        let records = self.place_records(free, id, bytes, old, changes)?;
+        let length = after.length(id);
+        let records = self.place_records(free, id, after, old, changes)?;
         let indirect = self.place_indirect(free, id, &records, &old.indirect, changes.is_changed)?;
         Ok(ObjectMap {
-            length: object.map(|bytes| bytes.len() as u64),
+            length,
             indirect,
             records,
         })

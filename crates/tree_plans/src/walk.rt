@@ -19,11 +19,10 @@ ghost use Rattle.base.specs.declared.error.PoolError.TheVariants as error;
 ghost use Rattle.base.specs.declared.names.ObjectId.{ObjectId};
 ghost use Rattle.base.specs.formats.Geometry.{block_count};
 ghost use Rattle.base.specs.tree.Syncs.{is_dirty};
-ghost use Rattle.object_maps.specs.ContentsShown.{contents_of};
 ghost use Rattle.tree_plans.specs.Changes.{AreInRange};
 ghost use Rattle.tree_plans.specs.declared.changes.ObjectChanges.{ObjectChanges};
-ghost use Rattle.tree_plans.specs.Parts.{GoesOver, HasNothing, PlansDirectories, PlansDirectory, PlansObjects, PlansRoot, PlansTree, TellsLack, group_in, objects_after};
-ghost use Rattle.tree_plans.specs.Plans.{IsWant, state_above};
+ghost use Rattle.tree_plans.specs.Parts.{GoesOver, HasNothing, PlansDirectories, PlansDirectory, PlansObjects, PlansRoot, PlansTree, TellsLack, group_in};
+ghost use Rattle.tree_plans.specs.Plans.{IsWant, IsWantOr, state_above};
 ghost use Rattle.tree_plans.specs.Pointers.{entry_of};
 ghost use Rattle.tree_plans.specs.Room.{changed_blocks, count_if, directory_blocks, object_blocks, tree_blocks};
 ghost use Rattle.tree_plans.specs.TreePlans.{GivesBack, HasLengths, MakesTree, TakesBlocks, free_addresses, places_written};
@@ -37,7 +36,7 @@ use base::{
     ENTRY_COUNT, Group, OBJECT_COUNT, ObjectId, POINTER_COUNT, Pointer, PoolError, RecordState,
 };
 use labels::Geometry;
-use object_maps::{Contents, ObjectMap, Tree};
+use object_maps::{ObjectMap, ObjectSource, Tree};
 use space::FreeSet;
 use std::alloc::Global;
 use std::collections::BTreeMap;
@@ -52,26 +51,26 @@ fn is_touched(objects: &BTreeMap<ObjectId, ObjectChanges>, directory: usize) -> 
 }
 
 // Whether an object of a directory is there.
-fn has_object_in(contents: &Contents, directory: usize) -> bool
+fn has_object_in<O: ObjectSource>(after: &O, directory: usize) -> bool
     requires { directory < 84 }
-    ensures { result ≡ has_object (contents_of contents.now).objects directory }
+    ensures { result ≡ has_object (O.objects after.now) directory }
 {
     let first = ENTRY_COUNT * directory;
-    (first..first + ENTRY_COUNT).any(|number| contents.has(ObjectId(number as u32)))
+    (first..first + ENTRY_COUNT).any(|number| after.has(ObjectId(number as u32)))
 }
 
 // Whether an object of one of the directories is there.
-fn has_any_object(contents: &Contents) -> bool
-    ensures { result ≡ has_objects (contents_of contents.now).objects }
+fn has_any_object<O: ObjectSource>(after: &O) -> bool
+    ensures { result ≡ has_objects (O.objects after.now) }
 {
-    (0..POINTER_COUNT).any(|directory| has_object_in(contents, directory))
+    (0..POINTER_COUNT).any(|directory| has_object_in(after, directory))
 }
 
 // Whether the operations leave no object.
-fn is_emptied(objects: &BTreeMap<ObjectId, ObjectChanges>, contents: &Contents) -> bool
-    ensures { result ≡ is_emptied objects.now.entries (contents_of contents.now).objects }
+fn is_emptied<O: ObjectSource>(objects: &BTreeMap<ObjectId, ObjectChanges>, after: &O) -> bool
+    ensures { result ≡ is_emptied objects.now.entries (O.objects after.now) }
 {
-    !objects.is_empty() && !has_any_object(contents)
+    !objects.is_empty() && !has_any_object(after)
 }
 
 // Whether something of a directory changes: an object of it, or all are gone, so that the root has no block either.
@@ -92,7 +91,7 @@ fn state_of(touched: bool, left: bool) -> RecordState
     }
 }
 
-/// What a plan is made of.
+/// What a plan is made of, beside the objects.
 #[derive(Clone, Copy)]
 pub struct PlanSource<'a> {
     pub alloc: Global,
@@ -100,7 +99,6 @@ pub struct PlanSource<'a> {
     pub guid: u64,
     /// The group that is synced.
     pub group: Group,
-    pub contents: &'a Contents,
     pub tree: &'a Tree,
     pub free: &'a FreeSet,
 }
@@ -109,32 +107,35 @@ pub struct PlanSource<'a> {
 /// their indirect block; then directories rising; then the root. Each takes the lowest free block. Live blocks are not
 /// overwritten (On-Disk Specification, chapter 2): what is replaced, or has no place any more, comes back by its address.
 ///
-/// The contents are those after the group.
+/// `after` gives the objects after the group. Only the records that are written are read.
 ///
 /// - `taken`: the blocks are whole and the lowest free ones. Where each object that an operation is on has a number below
 ///   5,292 they stand in the order of the places that the definitions write, one for each.
 /// - `tree`: what becomes of each place of the tree. The states of the records have to cover all that differs from before
 ///   (`IsCoveredBy`), and to fit the objects after (`AreChanges`); the pointers before have to be those of a tree
 ///   (`AreTreePointers`). Each block is behind a pointer, and the root stays where no operation is on an object.
-/// - `lengths`: of each object that an operation is on, the tree has the length that the contents have, and of any other the
-///   one that it had.
+/// - `lengths`: of each object that an operation is on, the tree has the length that it has after the group, and of any
+///   other the one that it had.
 /// - `freed`: what comes back lies in the block area, and is what the plan replaces or clears.
 ///
 /// # Errors
 /// `NoSpace`, where each such object has a number below 5,292 only if fewer blocks are free than there are places to write
-/// (`full`); `NoMemory`.
-pub fn plan(
+/// (`full`); `NoMemory`; and what a read of the objects may be refused with (`refused`).
+pub fn plan<O: ObjectSource>(
     source: &PlanSource<'_>,
+    after: &mut O,
     objects: &BTreeMap<ObjectId, ObjectChanges>,
 ) -> Result<TreePlan, PoolError>
     requires { source.now.free.now.blocks ≡ block_count source.now.geometry }
-    ensures taken { IfOk result (TakesBlocks source.now objects.now) }
-    ensures tree { IfOk result (MakesTree source.now objects.now) }
-    ensures lengths { IfOk result (HasLengths source.now objects.now) }
+    ensures taken { IfOk result (TakesBlocks source.now (O.objects after.old) objects.now) }
+    ensures tree { IfOk result (MakesTree source.now (O.objects after.old) objects.now) }
+    ensures lengths { IfOk result (HasLengths source.now (O.objects after.old) objects.now) }
     ensures freed { IfOk result (GivesBack source.now) }
     ensures full { IfErr result (λ e. e ≡ error.NoSpace → AreInRange objects.now.entries
-        → length (free_addresses source.now) < length (places_written source.now objects.now.entries)) }
-    ensures refused { IfErr result IsWant }
+        → length (free_addresses source.now)
+        < length (places_written source.now (O.objects after.old) objects.now.entries)) }
+    ensures kept { O.objects after.new ≡ O.objects after.old }
+    ensures refused { IfErr result (IsWantOr O.may_refuse) }
 {
     let mut planner = Planner {
         alloc: source.alloc,
@@ -145,7 +146,7 @@ pub fn plan(
         blocks: Vec::new(source.alloc),
         freed: Vec::new(source.alloc),
     };
-    let tree = place_tree(&mut planner, source, objects)?;
+    let tree = place_tree(&mut planner, source, after, objects)?;
     Ok(TreePlan {
         blocks: planner.blocks,
         maps: tree.maps,
@@ -164,9 +165,10 @@ struct NewTree {
 }
 
 // The objects, the directories, the root.
-fn place_tree(
+fn place_tree<O: ObjectSource>(
     planner: &mut Planner,
     source: &PlanSource<'_>,
+    after: &mut O,
     objects: &BTreeMap<ObjectId, ObjectChanges>,
 ) -> Result<NewTree, PoolError>
     requires geometry { planner.old.geometry ≡ source.now.geometry }
@@ -174,15 +176,17 @@ fn place_tree(
     requires begun { HasNothing planner.old }
     ensures geometry { planner.new.geometry ≡ planner.old.geometry }
     ensures planned { IfOk result
-        (PlansTree source.now objects.now planner.old planner.new) }
+        (PlansTree source.now (O.objects after.old) objects.now planner.old planner.new) }
     ensures full { IfErr result (λ e. AreInRange objects.now.entries
-        → TellsLack source.now.free.now planner.old (tree_blocks (group_in source.now objects.now.entries)) e) }
+        → TellsLack source.now.free.now planner.old
+        (tree_blocks (group_in source.now (O.objects after.old) objects.now.entries)) e) }
     ensures kept { OnOk result (objects.now.entries ≡ [] → planner.new ≡ planner.old) }
-    ensures refused { IfErr result IsWant }
+    ensures same_objects { O.objects after.new ≡ O.objects after.old }
+    ensures refused { IfErr result (IsWantOr O.may_refuse) }
 {
-    let maps = place_objects(planner, source, objects)?;
-    let directories = place_directories(planner, source, objects, &maps)?;
-    let root = place_root(planner, source, objects, &directories)?;
+    let maps = place_objects(planner, source, after, objects)?;
+    let directories = place_directories(planner, source, after, objects, &maps)?;
+    let root = place_root(planner, source, after, objects, &directories)?;
     Ok(NewTree {
         maps,
         directories,
@@ -191,9 +195,10 @@ fn place_tree(
 }
 
 // The root, where an operation is on an object.
-fn place_root(
+fn place_root<O: ObjectSource>(
     planner: &mut Planner,
     source: &PlanSource<'_>,
+    after: &O,
     objects: &BTreeMap<ObjectId, ObjectChanges>,
     directories: &[Pointer],
 ) -> Result<Pointer, PoolError>
@@ -202,15 +207,16 @@ fn place_root(
     requires count { length directories.now ≡ 84 }
     ensures geometry { planner.new.geometry ≡ planner.old.geometry }
     ensures planned { IfOk result
-        (PlansRoot source.now objects.now directories.now planner.old planner.new) }
+        (PlansRoot source.now (O.objects after.now) objects.now directories.now
+        planner.old planner.new) }
     ensures full { IfErr result
         (TellsLack source.now.free.now planner.old
-        (count_if (is_dirty (root_state objects.now.entries (objects_after source.now))))) }
+        (count_if (is_dirty (root_state objects.now.entries (O.objects after.now))))) }
     ensures kept { OnOk result (objects.now.entries ≡ [] → planner.new ≡ planner.old) }
     ensures refused { IfErr result IsWant }
 {
     let root = &source.tree.root;
-    match state_of(!objects.is_empty(), has_any_object(source.contents)) {
+    match state_of(!objects.is_empty(), has_any_object(after)) {
         RecordState::Unchanged => Ok(*root),
         RecordState::Hole => planner.clear(root),
         RecordState::Dirty => {
@@ -224,33 +230,36 @@ fn place_root(
     }
 }
 
-fn place_objects(
+fn place_objects<O: ObjectSource>(
     planner: &mut Planner,
     source: &PlanSource<'_>,
+    after: &mut O,
     objects: &BTreeMap<ObjectId, ObjectChanges>,
 ) -> Result<BTreeMap<ObjectId, ObjectMap>, PoolError>
     requires geometry { planner.old.geometry ≡ source.now.geometry }
     requires free { source.now.free.now.blocks ≡ block_count source.now.geometry }
     ensures geometry { planner.new.geometry ≡ planner.old.geometry }
     ensures planned { IfOk result
-        (PlansObjects source.now objects.now planner.old planner.new) }
+        (PlansObjects source.now (O.objects after.old) objects.now planner.old planner.new) }
     ensures full { IfErr result (λ e. AreInRange objects.now.entries
         → TellsLack source.now.free.now planner.old
-        (changed_blocks (group_in source.now objects.now.entries)) e) }
+        (changed_blocks (group_in source.now (O.objects after.old) objects.now.entries)) e) }
     ensures kept { OnOk result (objects.now.entries ≡ [] → planner.new ≡ planner.old) }
-    ensures refused { IfErr result IsWant }
+    ensures same_objects { O.objects after.new ≡ O.objects after.old }
+    ensures refused { IfErr result (IsWantOr O.may_refuse) }
 {
     let mut maps = BTreeMap::new(source.alloc);
     for (id, changes) in objects.iter() {
-        place_changed(planner, source, &mut maps, *id, changes)?;
+        place_changed(planner, source, after, &mut maps, *id, changes)?;
     }
     Ok(maps)
 }
 
 // An object that operations are on.
-fn place_changed(
+fn place_changed<O: ObjectSource>(
     planner: &mut Planner,
     source: &PlanSource<'_>,
+    after: &mut O,
     maps: &mut BTreeMap<ObjectId, ObjectMap>,
     id: ObjectId,
     changes: &ObjectChanges,
@@ -259,26 +268,28 @@ fn place_changed(
     requires free { source.now.free.now.blocks ≡ block_count source.now.geometry }
     ensures geometry { planner.new.geometry ≡ planner.old.geometry }
     ensures planned { OnOk result
-        (GoesOver source.now id changes.now maps.old.entries planner.old planner.new maps.new.entries) }
+        (GoesOver source.now (O.objects after.old) id changes.now maps.old.entries
+        planner.old planner.new maps.new.entries) }
     ensures full { IfErr result (λ e. (objects : List (ObjectId × ObjectChanges))
         → entry_of objects id.0 ≡ Some changes.now
         → TellsLack source.now.free.now planner.old
-        (object_blocks (group_in source.now objects) id.0) e) }
-    ensures refused { IfErr result IsWant }
+        (object_blocks (group_in source.now (O.objects after.old) objects) id.0) e) }
+    ensures same_objects { O.objects after.new ≡ O.objects after.old }
+    ensures refused { IfErr result (IsWantOr O.may_refuse) }
 {
     if id.0 >= OBJECT_COUNT {
         return Ok(());
     }
-    let object = source.contents.object(id);
     let old = &source.tree.maps[id.0 as usize];
-    let map = planner.place_object(source.free, id, object, old, changes)?;
+    let map = planner.place_object(source.free, id, after, old, changes)?;
     maps.insert(id, map)?;
     Ok(())
 }
 
-fn place_directories(
+fn place_directories<O: ObjectSource>(
     planner: &mut Planner,
     source: &PlanSource<'_>,
+    after: &O,
     objects: &BTreeMap<ObjectId, ObjectChanges>,
     maps: &BTreeMap<ObjectId, ObjectMap>,
 ) -> Result<Vec<Pointer>, PoolError>
@@ -287,27 +298,29 @@ fn place_directories(
     ensures geometry { planner.new.geometry ≡ planner.old.geometry }
     ensures count { IfOk result (λ directories. vec_len directories ≡ 84) }
     ensures planned { IfOk result (λ directories. PlansDirectories
-        source.now objects.now maps.now planner.old planner.new directories.items) }
+        source.now (O.objects after.now) objects.now maps.now
+        planner.old planner.new directories.items) }
     ensures full { IfErr result
         (TellsLack source.now.free.now planner.old
-        (directory_blocks objects.now.entries (objects_after source.now))) }
+        (directory_blocks objects.now.entries (O.objects after.now))) }
     ensures kept { OnOk result (objects.now.entries ≡ [] → planner.new ≡ planner.old) }
     ensures refused { IfErr result IsWant }
 {
-    let emptied = is_emptied(objects, source.contents);
+    let emptied = is_emptied(objects, after);
     let mut directories = Vec::with_capacity(source.alloc, POINTER_COUNT)?;
     for index in 0..POINTER_COUNT {
         let touched = is_replaced(objects, emptied, index);
-        let pointer = place_directory(planner, source, maps, index, touched)?;
+        let pointer = place_directory(planner, source, after, maps, index, touched)?;
         directories.push_reserved(pointer);
     }
     Ok(directories)
 }
 
 // A directory, where something of it changes.
-fn place_directory(
+fn place_directory<O: ObjectSource>(
     planner: &mut Planner,
     source: &PlanSource<'_>,
+    after: &O,
     maps: &BTreeMap<ObjectId, ObjectMap>,
     index: usize,
     touched: bool,
@@ -317,18 +330,19 @@ fn place_directory(
     requires index { index < 84 }
     ensures geometry { planner.new.geometry ≡ planner.old.geometry }
     ensures planned { IfOk result
-        (PlansDirectory source.now maps.now index touched planner.old planner.new) }
+        (PlansDirectory source.now (O.objects after.now) maps.now index touched
+        planner.old planner.new) }
     ensures full { IfErr result (TellsLack source.now.free.now planner.old
-        (count_if (is_dirty (state_above touched (has_object (objects_after source.now) index))))) }
+        (count_if (is_dirty (state_above touched (has_object (O.objects after.now) index))))) }
     ensures kept { OnOk result (touched ≡ false → planner.new ≡ planner.old) }
     ensures refused { IfErr result IsWant }
 {
     let old = source.tree.directories[index];
-    match state_of(touched, has_object_in(source.contents, index)) {
+    match state_of(touched, has_object_in(after, index)) {
         RecordState::Unchanged => Ok(old),
         RecordState::Hole => planner.clear(&old),
         RecordState::Dirty => {
-            let payload = directory_payload(source.contents, source.tree, maps, index);
+            let payload = directory_payload(after, source.tree, maps, index);
             planner.place(source.free, BlockPlace::Directory(index), &payload, &old)
         }
     }

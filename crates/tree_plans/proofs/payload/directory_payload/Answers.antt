@@ -1,24 +1,23 @@
 use Rattle.std.proofs.Common.{ℕ, ◌+◌, ◌*◌, List, arith, ◌∙◌}
 use Rattle.std.specs.FinMap as finite
-use Rattle.object_maps.specs.ContentsShown.{contents_of}
 use Rattle.tree_plans.specs.Walks.{IsEntryWritten, indirect_after}
 use Rattle.tree_plans.proofs.Entries.{entry_in-zeros, length-zeros, one_entry_more}
 use Rattle.tree_plans.proofs.payload.directory_payload.Goals as goal
 
 pub loop-index-init : goal.loop-index-init
-loop-index-init c = record {
+loop-index-init g c = record {
   size = rw c.empty_payload-payload.ensures (length-zeros 4032);
   written = λ k low. absurd (omega arith);
   others = λ k from low. rw c.empty_payload-payload.ensures (entry_in-zeros k low);
 }
 
 pub loop-index-preserved : goal.loop-index-preserved
-loop-index-preserved c =
-    let objects = (contents_of c.args.contents.now).objects in
+loop-index-preserved g c =
+    let objects = g.O.ObjectSource.objects c.args.after.now in
     let P : ℕ → List ℕ → Type 0 = λ k entry. IsEntryWritten entry (indirect_after c.args.tree.now.maps.items c.args.maps.now.entries (63 * c.args.directory + k)) (finite.get objects (63 * c.args.directory + k)) in
     record {
       size = c.put_object.ensures.size;
       written = one_entry_more P c.loop-index.index c.loop-index.payload _ c.loop-index-test.true c.put_object.ensures.others c.loop-index.invariant.written
-          (rw (← c.object.ensures, ← c.planned_indirect-indirect.ensures) c.put_object.ensures.here);
+          (rw (← c.length.ensures, ← c.planned_indirect-indirect.ensures) c.put_object.ensures.here);
       others = λ k from low. c.put_object.ensures.others k low (λ e. omega arith) ∙ c.loop-index.invariant.others k (omega arith) low;
     }

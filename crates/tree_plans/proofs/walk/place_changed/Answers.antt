@@ -1,6 +1,5 @@
 use Rattle.std.proofs.Common.{◌<◌, List, length, arith, refl}
 use Rattle.std.specs.Cmp.{unsigned_tied}
-use Rattle.object_maps.specs.ContentsShown.{contents_of}
 use Rattle.object_maps.specs.declared.tree.ObjectMap.{ObjectMap}
 use Rattle.tree_plans.specs.Parts.{group_in}
 use Rattle.tree_plans.specs.Pointers.{IsPut, pointers_before}
@@ -12,7 +11,7 @@ use Rattle.tree_plans.proofs.Room.{handed_on, object_needs}
 use Rattle.tree_plans.proofs.walk.place_changed.Goals as goal
 
 pub returns-then-id-ge-OBJECT_COUNT-clause-planned : goal.returns-then-id-ge-OBJECT_COUNT-clause-planned
-returns-then-id-ge-OBJECT_COUNT-clause-planned c = record {
+returns-then-id-ge-OBJECT_COUNT-clause-planned g c = record {
   goes = goes_nowhere _ _;
   planned = λ objects done is planned. object_passed _ _ _ objects done _ c.args.id c.args.changes.now (λ low. absurd (omega arith)) planned;
   frees = λ objects first is frees. frees;
@@ -22,10 +21,10 @@ returns-then-id-ge-OBJECT_COUNT-clause-planned c = record {
 }
 
 pub returns-clause-planned : goal.returns-clause-planned
-returns-clause-planned c =
+returns-clause-planned g c =
     let source = c.args.source.now in
     let maps : List ObjectMap = source.tree.now.maps.items in
-    let after = (contents_of source.contents.now).objects in
+    let after = g.O.ObjectSource.objects c.args.after.now in
     let map = c.in_ok-map.map in
     let told = c.in_ok-map.ensures.planned in
     let here = c.if-id-ge-OBJECT_COUNT.false in
@@ -36,24 +35,24 @@ returns-clause-planned c =
       goes = told.goes;
       planned = λ objects done is planned.
           object_put maps after objects done c.args.maps.now.entries c.insert.new.self.entries c.args.id c.args.changes.now map told.goes put
-          (record { low = here; changes = c.args.changes.now; changes_are = is; old = c.index-old.result.now; old_is = was; planned = rw c.object-object.ensures at told.planned; length = rw c.object-object.ensures at c.in_ok-map.ensures.length }) planned;
+          (record { low = here; changes = c.args.changes.now; changes_are = is; old = c.index-old.result.now; old_is = was; planned = told.planned; length = c.in_ok-map.ensures.length }) planned;
       frees = λ objects first is frees.
           objects_free_put first _ _ maps objects c.args.maps.now.entries c.insert.new.self.entries c.args.id c.args.changes.now c.index-old.result.now map put here is was told.frees frees;
       uses = λ first none uses. objects_use_put first _ _ c.args.maps.now.entries c.insert.new.self.entries c.args.id map put none here told.uses uses;
       others = others_put c.args.maps.now.entries c.insert.new.self.entries c.args.id map put;
-      adds = λ objects is below. object_added (group_in source objects) c.args.id.0 c.args.changes.now c.index-old.result.now map _ _ _ (map_put maps _ _ c.args.id map put)
+      adds = λ objects is below. object_added (group_in source after objects) c.args.id.0 c.args.changes.now c.index-old.result.now map _ _ _ (map_put maps _ _ c.args.id map put)
           (entry-written objects (pointers_before source.tree.now) after c.args.id.0 c.args.changes.now is)
           (entry-indirect objects (pointers_before source.tree.now) after c.args.id.0 c.args.changes.now c.index-old.result.now is (data_before source.tree.now c.args.id.0 c.index-old.result.now was)) told.adds;
     }
 
 pub returns-in_err-map-clause-full : goal.returns-in_err-map-clause-full
-returns-in_err-map-clause-full c =
+returns-in_err-map-clause-full g c =
     let source = c.args.source.now in
     let maps : List ObjectMap = source.tree.now.maps.items in
-    let after = (contents_of source.contents.now).objects in
+    let after = g.O.ObjectSource.objects c.args.after.now in
     let here = c.if-id-ge-OBJECT_COUNT.false in
     let low : c.args.id.0 < length maps = omega (arith, source.tree.now.all_objects, source.tree.now.maps.ok.0, here) in
     let was = get_at maps c.args.id.0 c.index-old.result.now low c.index-old.ensures in
-    handed_on c.from_residual.result _ _ c.from_residual.ensures.1 (λ objects is no_space. rw (object_needs (group_in source objects) c.args.id.0 c.args.changes.now c.index-old.result.now
+    handed_on c.from_residual.result _ _ c.from_residual.ensures.1 (λ objects is no_space. rw (object_needs (group_in source after objects) c.args.id.0 c.args.changes.now c.index-old.result.now
     (entry-written objects (pointers_before source.tree.now) after c.args.id.0 c.args.changes.now is)
     (entry-indirect objects (pointers_before source.tree.now) after c.args.id.0 c.args.changes.now c.index-old.result.now is (data_before source.tree.now c.args.id.0 c.index-old.result.now was))) at (c.in_err-map.ensures.full no_space))

@@ -1,6 +1,5 @@
 use Rattle.std.proofs.Common.{◌≡◌, ◌||◌, Bool, length, arith, ap, inl, refl, rules, ◌∙◌}
 use Rattle.base.specs.tree.Syncs.{is_dirty}
-use Rattle.tree_plans.specs.Parts.{objects_after}
 use Rattle.tree_plans.specs.Plans.{state_above}
 use Rattle.tree_plans.specs.Walks.{has_object, is_directory_dirty, is_directory_replaced, is_directory_touched}
 use Rattle.tree_plans.proofs.Progress.{goes_nowhere, goes_twice}
@@ -11,7 +10,7 @@ use Rattle.tree_plans.proofs.Room.{handed_on, lacks_at}
 use Rattle.tree_plans.proofs.walk.place_directories.Goals as goal
 
 pub loop-index-init : goal.loop-index-init
-loop-index-init c = record {
+loop-index-init g c = record {
   geometry = search rules;
   count = search rules;
   room = search rules;
@@ -24,9 +23,9 @@ loop-index-init c = record {
 }
 
 pub loop-index-preserved : goal.loop-index-preserved
-loop-index-preserved c =
+loop-index-preserved g c =
     let entries = c.args.objects.now.entries in
-    let after = objects_after c.args.source.now in
+    let after = g.O.ObjectSource.objects c.args.after.now in
     let was = c.args.source.now.tree.now.directories.items in
     let long : length c.loop-index.directories.items ≡ c.loop-index.index = omega (arith, c.loop-index.directories.ok.0, c.loop-index.invariant.count) in
     let touched : c.is_replaced-touched.result ≡ is_directory_replaced entries after c.loop-index.index = c.is_replaced-touched.ensures ∙ ap (λ (b : Bool). b || is_directory_touched entries c.loop-index.index) c.is_emptied-emptied.ensures in
@@ -44,7 +43,7 @@ loop-index-preserved c =
     }
 
 pub returns-clause-planned : goal.returns-clause-planned
-returns-clause-planned c =
+returns-clause-planned g c =
     let done : c.loop-index.index ≡ 84 = omega arith in
     record {
       goes = c.loop-index.invariant.goes;
@@ -55,9 +54,9 @@ returns-clause-planned c =
     }
 
 pub returns-in_err-pointer-clause-full : goal.returns-in_err-pointer-clause-full
-returns-in_err-pointer-clause-full c =
+returns-in_err-pointer-clause-full g c =
     let entries = c.args.objects.now.entries in
-    let after = objects_after c.args.source.now in
+    let after = g.O.ObjectSource.objects c.args.after.now in
     let touched : c.is_replaced-touched.result ≡ is_directory_replaced entries after c.loop-index.index = c.is_replaced-touched.ensures ∙ ap (λ (b : Bool). b || is_directory_touched entries c.loop-index.index) c.is_emptied-emptied.ensures in
     let state = ap (λ (b : Bool). is_dirty (state_above b (has_object after c.loop-index.index))) touched in
     handed_on c.from_residual-in_err-pointer.result _ _ c.from_residual-in_err-pointer.ensures.1 (λ no_space. lacks_at _ _ _ (is_directory_dirty entries after) _ c.loop-index.index 84 _ c.loop-index-test.true state

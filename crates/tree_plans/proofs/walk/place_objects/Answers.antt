@@ -3,7 +3,7 @@ use Rattle.std.specs.Cmp.{unsigned_tied}
 use Rattle.std.proofs.lemmas.List.{append-nil}
 use Rattle.base.specs.declared.names.ObjectId.{ObjectId}
 use Rattle.tree_plans.specs.declared.changes.ObjectChanges.{ObjectChanges}
-use Rattle.tree_plans.specs.Parts.{group_in, objects_after}
+use Rattle.tree_plans.specs.Parts.{group_in}
 use Rattle.tree_plans.specs.Pointers.{entry_of, pointers_before}
 use Rattle.tree_plans.proofs.Progress.{goes_twice}
 use Rattle.tree_plans.proofs.Walks.{found_of, next_of, not_empty}
@@ -13,7 +13,7 @@ use Rattle.tree_plans.proofs.Room.{handed_on, lacks_object, no_places}
 use Rattle.tree_plans.proofs.walk.place_objects.Goals as goal
 
 pub loop-id-preserved : goal.loop-id-preserved
-loop-id-preserved c =
+loop-id-preserved g c =
     let all : List (ObjectId × ObjectChanges) = c.args.objects.now.entries in
     let done : List (ObjectId × ObjectChanges) = c.loop-id.invariant.done in
     let e : ObjectId × ObjectChanges = (c.in-Some.id.now, c.in-Some.changes.now) in
@@ -21,25 +21,27 @@ loop-id-preserved c =
     let split : all ≡ done ++ (e ∷ rest) = c.loop-id.invariant.split ∙ ap (λ (l : List (ObjectId × ObjectChanges)). done ++ l) c.in-Some.ensures.steps in
     let found : entry_of all e.0.0 ≡ Some e.1 = next_of (λ (x : ObjectId × ObjectChanges). entry_of all x.0.0 ≡ Some x.1) all done rest e split (found_of _ (λ a b. unsigned_tied a.0 b.0) c.args.objects.now c.iter-id-items.ensures.found) in
     let new : entry_of done e.0.0 ≡ None = next_is_new _ (λ a b. unsigned_tied a.0 b.0) all done rest e split c.iter-id-items.ensures.ordered in
+    let told = rw c.loop-id.invariant.same_objects at c.in_ok-place_changed.ensures.planned in
     let unplanned = c.loop-id.invariant.are_of e.0.0 new in
     record {
       can = tt;
       ends = tt;
       geometry = c.in_ok-place_changed.ensures.geometry ∙ c.loop-id.invariant.geometry;
+      same_objects = c.in_ok-place_changed.ensures.same_objects ∙ c.loop-id.invariant.same_objects;
       kept = λ none. absurd (not_empty done e rest (sym split ∙ none));
-      goes = goes_twice c.loop-id.invariant.goes c.in_ok-place_changed.ensures.planned.goes;
+      goes = goes_twice c.loop-id.invariant.goes told.goes;
       done = done ++ (e ∷ []);
       split = split ∙ sym (append_assoc done (e ∷ []) rest);
-      planned = c.in_ok-place_changed.ensures.planned.planned all done found c.loop-id.invariant.planned;
-      frees = c.in_ok-place_changed.ensures.planned.frees all _ found c.loop-id.invariant.frees;
-      are_of = are_of_more done e _ _ c.loop-id.invariant.are_of c.in_ok-place_changed.ensures.planned.others;
-      uses = c.in_ok-place_changed.ensures.planned.uses _ unplanned c.loop-id.invariant.uses;
-      adds = λ within. objects_added (group_in c.args.source.now all) _ _ _ _ _ _ done e new c.in_ok-place_changed.ensures.planned.others (c.loop-id.invariant.adds within)
-          (c.in_ok-place_changed.ensures.planned.adds all found (within e.0.0 (ap is_some found)));
+      planned = told.planned all done found c.loop-id.invariant.planned;
+      frees = told.frees all _ found c.loop-id.invariant.frees;
+      are_of = are_of_more done e _ _ c.loop-id.invariant.are_of told.others;
+      uses = told.uses _ unplanned c.loop-id.invariant.uses;
+      adds = λ within. objects_added (group_in c.args.source.now (g.O.ObjectSource.objects c.args.after.now) all) _ _ _ _ _ _ done e new told.others (c.loop-id.invariant.adds within)
+          (told.adds all found (within e.0.0 (ap is_some found)));
     }
 
 pub returns-clause-planned : goal.returns-clause-planned
-returns-clause-planned c =
+returns-clause-planned g c =
     let all : List (ObjectId × ObjectChanges) = c.args.objects.now.entries in
     let done : List (ObjectId × ObjectChanges) = c.loop-id.invariant.done in
     let whole : done ≡ all = sym (append-nil done) ∙ ap (λ (l : List (ObjectId × ObjectChanges)). done ++ l) (sym c.in-None.ensures.steps.0) ∙ sym c.loop-id.invariant.split in
@@ -48,17 +50,17 @@ returns-clause-planned c =
       planned = rw whole at c.loop-id.invariant.planned;
       frees = c.loop-id.invariant.frees;
       uses = c.loop-id.invariant.uses;
-      adds = λ within. all_added _ (λ a b. less_below a.0 b.0) 5292 (group_in c.args.source.now all) c.args.source.now.tree.now.maps.items c.loop-id.maps.entries all done _ _ whole c.iter-id-items.ensures.ordered within
-          (λ n none. absent_addresses all (pointers_before c.args.source.now.tree.now) (objects_after c.args.source.now) n _ none) (c.loop-id.invariant.adds within);
+      adds = λ within. all_added _ (λ a b. less_below a.0 b.0) 5292 (group_in c.args.source.now (g.O.ObjectSource.objects c.args.after.now) all) c.args.source.now.tree.now.maps.items c.loop-id.maps.entries all done _ _ whole c.iter-id-items.ensures.ordered within
+          (λ n none. absent_addresses all (pointers_before c.args.source.now.tree.now) (g.O.ObjectSource.objects c.args.after.now) n _ none) (c.loop-id.invariant.adds within);
     }
 
 pub returns-in_err-place_changed-clause-full : goal.returns-in_err-place_changed-clause-full
-returns-in_err-place_changed-clause-full c =
+returns-in_err-place_changed-clause-full g c =
     let all : List (ObjectId × ObjectChanges) = c.args.objects.now.entries in
     let done : List (ObjectId × ObjectChanges) = c.loop-id.invariant.done in
     let e : ObjectId × ObjectChanges = (c.in-Some.id.now, c.in-Some.changes.now) in
     let rest : List (ObjectId × ObjectChanges) = c.next.new.self in
     let split : all ≡ done ++ (e ∷ rest) = c.loop-id.invariant.split ∙ ap (λ (l : List (ObjectId × ObjectChanges)). done ++ l) c.in-Some.ensures.steps in
     let found : entry_of all e.0.0 ≡ Some e.1 = next_of (λ (x : ObjectId × ObjectChanges). entry_of all x.0.0 ≡ Some x.1) all done rest e split (found_of _ (λ a b. unsigned_tied a.0 b.0) c.args.objects.now c.iter-id-items.ensures.found) in
-    handed_on c.from_residual.result _ _ c.from_residual.ensures.1 (λ within no_space. lacks_object _ (λ a b. less_below a.0 b.0) _ _ _ (group_in c.args.source.now all) c.args.source.now.tree.now.maps.items c.loop-id.maps.entries 5292 all done rest e split c.iter-id-items.ensures.ordered within
-    (λ n none. no_places all (pointers_before c.args.source.now.tree.now) (objects_after c.args.source.now) n none) c.loop-id.invariant.goes (c.loop-id.invariant.adds within) (c.in_err-place_changed.ensures.full all found no_space))
+    handed_on c.from_residual.result _ _ c.from_residual.ensures.1 (λ within no_space. lacks_object _ (λ a b. less_below a.0 b.0) _ _ _ (group_in c.args.source.now (g.O.ObjectSource.objects c.args.after.now) all) c.args.source.now.tree.now.maps.items c.loop-id.maps.entries 5292 all done rest e split c.iter-id-items.ensures.ordered within
+    (λ n none. no_places all (pointers_before c.args.source.now.tree.now) (g.O.ObjectSource.objects c.args.after.now) n none) c.loop-id.invariant.goes (c.loop-id.invariant.adds within) (rw c.loop-id.invariant.same_objects at (c.in_err-place_changed.ensures.full all found no_space)))

@@ -1,6 +1,5 @@
 use Rattle.std.proofs.Common.{◌≡◌, ◌++◌, [], List, flat_map}
 use Rattle.base.specs.declared.names.ObjectId.{ObjectId}
-use Rattle.object_maps.specs.ContentsShown.{contents_of}
 use Rattle.tree_plans.specs.declared.changes.ObjectChanges.{ObjectChanges}
 use Rattle.tree_plans.specs.Changes.{AreInRange}
 use Rattle.tree_plans.specs.Order.{Adds, object_addresses}
@@ -12,18 +11,19 @@ use Rattle.tree_plans.specs.Uses.{AreOf, ObjectsUse}
 use Rattle.tree_plans.proofs.walk.place_objects.Given as goal
 
 abbrev pub invariant-loop-id : goal.invariant-loop-id
-invariant-loop-id l = record {
-  can : (goal.iterator-loop-id).can_next l.id-iterator;
-  ends : (goal.iterator-loop-id).is_finite l.id-iterator;
+invariant-loop-id g l = record {
+  can : (goal.iterator-loop-id g).can_next l.id-iterator;
+  ends : (goal.iterator-loop-id g).is_finite l.id-iterator;
   geometry : l.planner.geometry ≡ l.fn.planner.geometry;
+  same_objects : g.O.ObjectSource.objects l.after ≡ g.O.ObjectSource.objects l.fn.after;
   kept : l.objects.entries ≡ [] → l.planner ≡ l.fn.planner;
   goes : Goes l.source.free.now.free (progress_of l.fn.planner) (progress_of l.planner);
   done : List (ObjectId × ObjectChanges);
   split : l.objects.entries ≡ done ++ l.id-iterator;
-  planned : AreObjectsPlanned (progress_of l.planner) l.source.tree.now.maps.items (contents_of l.source.contents.now).objects l.objects.entries done l.maps.entries;
+  planned : AreObjectsPlanned (progress_of l.planner) l.source.tree.now.maps.items (g.O.ObjectSource.objects l.fn.after) l.objects.entries done l.maps.entries;
   frees : ObjectsFree l.fn.planner.freed.items l.planner.freed.items l.source.tree.now.maps.items l.objects.entries l.maps.entries;
   are_of : AreOf done l.maps.entries;
   uses : ObjectsUse (progress_of l.fn.planner).blocks (progress_of l.planner).blocks l.maps.entries;
   adds : AreInRange l.objects.entries → Adds (progress_of l.fn.planner).blocks (progress_of l.planner).blocks
-      (flat_map (λ (e : ObjectId × ObjectChanges). object_addresses (group_in l.source l.objects.entries) e.0.0 (planned_map l.source.tree.now.maps.items l.maps.entries e.0.0)) done);
+      (flat_map (λ (e : ObjectId × ObjectChanges). object_addresses (group_in l.source (g.O.ObjectSource.objects l.fn.after) l.objects.entries) e.0.0 (planned_map l.source.tree.now.maps.items l.maps.entries e.0.0)) done);
 }

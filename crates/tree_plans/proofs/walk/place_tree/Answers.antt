@@ -1,8 +1,12 @@
-use Rattle.std.proofs.Common.{ap, map}
-use Rattle.object_maps.specs.ContentsShown.{contents_of}
+use Rattle.std.proofs.Common.{List, ℕ, ap, map, subst}
+use Rattle.std.specs.Ordering.{nat_cmp}
+use Rattle.std.specs.FinMap.{FinMap}
+use Rattle.base.specs.tree.Syncs.{is_dirty}
 use Rattle.tree_plans.proofs.Progress.{goes_twice}
 use Rattle.tree_plans.proofs.Walks.{directories_stay, objects_stay, walk_frees}
-use Rattle.tree_plans.specs.Parts.{objects_after}
+use Rattle.tree_plans.specs.Parts.{PlansDirectories, TellsLack}
+use Rattle.tree_plans.specs.Room.{count_if, directory_blocks}
+use Rattle.tree_plans.specs.Walks.{root_state}
 use Rattle.tree_plans.specs.Plans.{new_block, progress_of}
 use Rattle.tree_plans.specs.Pointers.{pointers_before}
 use Rattle.tree_plans.proofs.Uses.{tree_used}
@@ -11,15 +15,16 @@ use Rattle.tree_plans.proofs.Room.{directories_lack, handed_on, objects_lack, ro
 use Rattle.tree_plans.proofs.walk.place_tree.Goals as goal
 
 pub returns-clause-planned : goal.returns-clause-planned
-returns-clause-planned c =
+returns-clause-planned g c =
     let tree = c.args.source.now.tree.now in
     let objects = c.args.objects.now.entries in
-    let after = (contents_of c.args.source.now.contents.now).objects in
+    let after = g.O.ObjectSource.objects c.args.after.now in
     let planned = c.in_ok-maps.maps.entries in
     let directories = c.in_ok-directories.directories.items in
     let first = c.in_ok-maps.ensures.planned in
-    let then = c.in_ok-directories.ensures.planned in
-    let last = c.in_ok-root.ensures.planned in
+    let same = c.in_ok-maps.ensures.same_objects in
+    let then = rw same at c.in_ok-directories.ensures.planned in
+    let last = rw same at c.in_ok-root.ensures.planned in
     let begun = ap (map new_block) c.requires.begun.planned in
     record {
       goes = goes_twice first.goes (goes_twice then.goes last.goes);
@@ -35,14 +40,24 @@ returns-clause-planned c =
     }
 
 pub returns-in_err-maps-clause-full : goal.returns-in_err-maps-clause-full
-returns-in_err-maps-clause-full c =
-    handed_on c.from_residual.result _ _ c.from_residual.ensures.1 (λ within no_space. objects_lack _ c.args.objects.now.entries (pointers_before c.args.source.now.tree.now) (objects_after c.args.source.now) within (progress_of c.args.planner.now) (c.in_err-maps.ensures.full within no_space))
+returns-in_err-maps-clause-full g c =
+    handed_on c.from_residual.result _ _ c.from_residual.ensures.1 (λ within no_space. objects_lack _ c.args.objects.now.entries (pointers_before c.args.source.now.tree.now) (g.O.ObjectSource.objects c.args.after.now) within (progress_of c.args.planner.now) (c.in_err-maps.ensures.full within no_space))
 
 pub returns-in_err-directories-clause-full : goal.returns-in_err-directories-clause-full
-returns-in_err-directories-clause-full c =
-    handed_on c.from_residual-in_err-directories.result _ _ c.from_residual-in_err-directories.ensures.1 (λ within no_space. directories_lack _ c.args.objects.now.entries (pointers_before c.args.source.now.tree.now) (objects_after c.args.source.now) within _ _ _ c.in_ok-maps.ensures.planned.goes (c.in_ok-maps.ensures.planned.adds within) (c.in_err-directories.ensures.full no_space))
+returns-in_err-directories-clause-full g c =
+    let source = c.args.source.now in
+    let objects = c.args.objects.now.entries in
+    let after = g.O.ObjectSource.objects c.args.after.now in
+    let lacks = subst (λ (m : FinMap nat_cmp (List ℕ)). TellsLack source.free.now c.place_objects.new.planner (directory_blocks objects m) c.in_err-directories.field-0.0) c.in_ok-maps.ensures.same_objects c.in_err-directories.ensures.full in
+    handed_on c.from_residual-in_err-directories.result _ _ c.from_residual-in_err-directories.ensures.1 (λ within no_space. directories_lack _ objects (pointers_before source.tree.now) after within _ _ _ c.in_ok-maps.ensures.planned.goes (c.in_ok-maps.ensures.planned.adds within) (lacks no_space))
 
 pub returns-in_err-root-clause-full : goal.returns-in_err-root-clause-full
-returns-in_err-root-clause-full c =
-    handed_on c.from_residual-in_err-root.result _ _ c.from_residual-in_err-root.ensures.1 (λ within no_space. root_lacks _ c.args.objects.now.entries (pointers_before c.args.source.now.tree.now) (objects_after c.args.source.now) within _ _ _ _ _ c.in_ok-maps.ensures.planned.goes (c.in_ok-maps.ensures.planned.adds within)
-    c.in_ok-directories.ensures.planned.goes c.in_ok-directories.ensures.planned.adds (c.in_err-root.ensures.full no_space))
+returns-in_err-root-clause-full g c =
+    let source = c.args.source.now in
+    let objects = c.args.objects.now.entries in
+    let after = g.O.ObjectSource.objects c.args.after.now in
+    let same = c.in_ok-maps.ensures.same_objects in
+    let then = subst (λ (m : FinMap nat_cmp (List ℕ)). PlansDirectories source m c.args.objects.now c.in_ok-maps.maps c.place_objects.new.planner c.place_directories.new.planner c.in_ok-directories.directories.items) same c.in_ok-directories.ensures.planned in
+    let lacks = subst (λ (m : FinMap nat_cmp (List ℕ)). TellsLack source.free.now c.place_directories.new.planner (count_if (is_dirty (root_state objects m))) c.in_err-root.field-0.0) same c.in_err-root.ensures.full in
+    handed_on c.from_residual-in_err-root.result _ _ c.from_residual-in_err-root.ensures.1 (λ within no_space. root_lacks _ objects (pointers_before source.tree.now) after within _ _ _ _ _ c.in_ok-maps.ensures.planned.goes (c.in_ok-maps.ensures.planned.adds within)
+    then.goes then.adds (lacks no_space))

@@ -4,7 +4,6 @@ use Rattle.base.specs.formats.Geometry.{IsBlockAddress}
 use Rattle.base.specs.formats.Blocks.{Frame}
 use Rattle.base.specs.tree.PlacedTrees.{ArePlaced}
 use Rattle.base.specs.tree.PlannedTrees.{AreFreed, IsTreePlan}
-use Rattle.object_maps.specs.ContentsShown.{contents_of}
 use Rattle.tree_plans.specs.Changes.{AreBornBefore}
 use Rattle.base.specs.declared.pointer.Pointer.{Pointer}
 use Rattle.base.specs.tree.Places.{Place}
@@ -21,21 +20,21 @@ use Rattle.tree_plans.proofs.Room.{handed_on, plan_lacks}
 use Rattle.tree_plans.proofs.walk.plan.Goals as goal
 
 pub returns-clause-taken : goal.returns-clause-taken
-returns-clause-taken c =
+returns-clause-taken g c =
     let all = c.place_tree.new.planner.blocks.items in
     record {
       within = rw (c.in_ok-tree.ensures.geometry) at c.place_tree.new.planner.placed;
       whole = all_whole all c.place_tree.new.planner.whole;
       taken = taken_lowest _ _ all _ _ _ refl (ap (λ (l : List PlannedBlock). map new_block l) c.new.ensures.items) c.in_ok-tree.ensures.planned.goes;
-      order = λ within. planned_in_order all _ (group_in c.args.source.now c.args.objects.now.entries) (c.in_ok-tree.ensures.planned.order within);
+      order = λ within. planned_in_order all _ (group_in c.args.source.now (g.O.ObjectSource.objects c.args.after.now) c.args.objects.now.entries) (c.in_ok-tree.ensures.planned.order within);
       none = λ no_objects. ap (λ (p : Planner). p.blocks.items) (c.in_ok-tree.ensures.kept no_objects) ∙ c.new.ensures.items;
     }
 
 pub returns-clause-tree : goal.returns-clause-tree
-returns-clause-tree c =
+returns-clause-tree g c =
     let s = progress_of c.place_tree.new.planner in
     let t = c.args.source.now.tree.now in
-    let after = (contents_of c.args.source.now.contents.now).objects in
+    let after = (g.O.ObjectSource.objects c.args.after.now) in
     let objects = c.args.objects.now.entries in
     let tree = c.in_ok-tree.tree in
     let told = c.in_ok-tree.ensures.planned in
@@ -53,15 +52,15 @@ returns-clause-tree c =
     }
 
 pub returns-clause-lengths : goal.returns-clause-lengths
-returns-clause-lengths c =
-    length_planned (progress_of c.place_tree.new.planner) c.args.source.now.tree.now (contents_of c.args.source.now.contents.now).objects c.args.objects.now.entries
+returns-clause-lengths g c =
+    length_planned (progress_of c.place_tree.new.planner) c.args.source.now.tree.now (g.O.ObjectSource.objects c.args.after.now) c.args.objects.now.entries
     c.in_ok-tree.tree.maps.entries c.in_ok-tree.tree.directories.items c.in_ok-tree.tree.root c.in_ok-tree.ensures.planned.walked
 
 pub returns-clause-freed : goal.returns-clause-freed
-returns-clause-freed c =
+returns-clause-freed g c =
     let s = progress_of c.place_tree.new.planner in
     let t = c.args.source.now.tree.now in
-    let after = (contents_of c.args.source.now.contents.now).objects in
+    let after = (g.O.ObjectSource.objects c.args.after.now) in
     let objects = c.args.objects.now.entries in
     let tree = c.in_ok-tree.tree in
     let told = c.in_ok-tree.ensures.planned in
@@ -74,5 +73,5 @@ returns-clause-freed c =
     }
 
 pub returns-in_err-tree-clause-full : goal.returns-in_err-tree-clause-full
-returns-in_err-tree-clause-full c =
-    handed_on c.from_residual.result _ _ c.from_residual.ensures.1 (λ no_space within. plan_lacks _ 0 _ (group_in c.args.source.now c.args.objects.now.entries) refl (ap (λ (l : List PlannedBlock). map new_block l) c.new.ensures.items) (c.in_err-tree.ensures.full within no_space))
+returns-in_err-tree-clause-full g c =
+    handed_on c.from_residual.result _ _ c.from_residual.ensures.1 (λ no_space within. plan_lacks _ 0 _ (group_in c.args.source.now (g.O.ObjectSource.objects c.args.after.now) c.args.objects.now.entries) refl (ap (λ (l : List PlannedBlock). map new_block l) c.new.ensures.items) (c.in_err-tree.ensures.full within no_space))

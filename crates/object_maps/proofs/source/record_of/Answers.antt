@@ -1,7 +1,7 @@
 use Rattle.std.proofs.Common.{◌≡◌, ◌+◌, ◌*◌, length, arith, ap, ◌∙◌}
 use Rattle.std.specs.Prelude.{min}
-use Rattle.tree_plans.proofs.Payloads.{cut-part}
-use Rattle.tree_plans.proofs.payload.record_of.Goals as goal
+use Rattle.object_maps.proofs.Records.{cut-part}
+use Rattle.object_maps.proofs.source.record_of.Goals as goal
 
 pub returns-clause-bytes : goal.returns-clause-bytes
 returns-clause-bytes c =

@@ -1,0 +1,15 @@
+use Rattle.object_maps.specs.Judging.{with_name}
+use Rattle.object_maps.proofs.Judged.{create_judged, create_refused, change_judged, change_refused}
+use Rattle.object_maps.proofs.judging.judge_after.Goals as goal
+
+pub returns-then-has_after : goal.returns-then-has_after
+returns-then-has_after g c = λ name. create_refused c.args.before.now (with_name (g.O.ObjectSource.objects c.args.objects.now) name) (c.requires.before name) c.in-Create.id c.args.op.now c.in-Create.is (c.if-has_after.ensures name)
+
+pub returns-else-has_after : goal.returns-else-has_after
+returns-else-has_after g c = λ name. create_judged c.args.before.now (with_name (g.O.ObjectSource.objects c.args.objects.now) name) (c.requires.before name) c.in-Create.id c.args.op.now c.in-Create.is (c.if-has_after.ensures name)
+
+pub returns-else-not-has_after : goal.returns-else-not-has_after
+returns-else-not-has_after g c = λ name. change_judged c.args.before.now (with_name (g.O.ObjectSource.objects c.args.objects.now) name) (c.requires.before name) c.in-Remove.id c.args.op.now c.in-Remove.is (c.if-not-has_after.ensures name)
+
+pub returns-then-not-has_after : goal.returns-then-not-has_after
+returns-then-not-has_after g c = λ name. change_refused c.args.before.now (with_name (g.O.ObjectSource.objects c.args.objects.now) name) (c.requires.before name) c.in-Remove.id c.args.op.now c.in-Remove.is (c.if-not-has_after.ensures name)

@@ -1,0 +1,96 @@
+//! Where the objects of a pool are read: their lengths, and one record at a time.
+//!
+//! Whoever plans a tree or judges operations asks for objects by this interface, so that it doesn't matter whether they
+//! stand in memory or are read from a device.
+
+ghost use Rattle.std.specs.Prelude.{◌≡◌, ◌<◌, ◌≤◌, ℕ, List, IfErr, OnOk, is_some, length};
+ghost use Rattle.std.specs.Ordering.{nat_cmp};
+ghost use Rattle.std.specs.FinMap as finite;
+ghost use Rattle.std.specs.FinMap.{FinMap};
+ghost use Rattle.base.specs.declared.error.PoolError.{PoolError};
+ghost use Rattle.base.specs.declared.error.PoolError.TheVariants as error;
+ghost use Rattle.base.specs.tree.PlacedTrees.{padded_record};
+ghost use Rattle.base.specs.tree.Tree.{record_bytes};
+ghost use Rattle.object_maps.specs.ContentsShown.{contents_of};
+ghost use Rattle.object_maps.specs.Sources.{object_length, object_record};
+
+use crate::contents::Contents;
+use base::{ObjectId, PoolError, RECORD_SIZE};
+
+/// Where the objects of a pool are read: their lengths, and one record at a time.
+pub trait ObjectSource {
+    /// The objects that it stands for, by their numbers.
+    ghost objects: { Self → FinMap nat_cmp (List ℕ) };
+
+    /// Why a read may be refused.
+    ghost may_refuse: { PoolError → Type 0 };
+
+    /// The length of an object in bytes, if it is there. It takes no memory.
+    fn length(&self, id: ObjectId) -> Option<u64>
+        ensures { result ≡ object_length (objects self.now) id.0 };
+
+    /// Whether an object is there. It takes no memory.
+    fn has(&self, id: ObjectId) -> bool
+        ensures { result ≡ is_some (finite.get (objects self.now) id.0) }
+    {
+        self.length(id).is_some()
+    }
+
+    /// Reads a record of an object, 4,032 bytes, with zeros behind the object's end. The record of an object that is not
+    /// there is zeros. Where it is refused `into` may hold anything.
+    fn read_record(&mut self, id: ObjectId, index: usize, into: &mut [u8]) -> Result<(), PoolError>
+        requires index { index < 84 }
+        requires size { length into.old ≡ 4032 }
+        ensures kept { objects self.new ≡ objects self.old }
+        ensures size { length into.new ≡ 4032 }
+        ensures record { OnOk result (into.new ≡ object_record (objects self.old) id.0 index) }
+        ensures refused { IfErr result may_refuse };
+
+    /// A read takes no blocks, so none is refused for want of them.
+    ghost takes_no_blocks: { may_refuse error.NoSpace → ⊥ };
+}
+
+/// Objects in memory: no read of them is refused.
+impl ObjectSource for &Contents {
+    ghost objects = { λ c. (contents_of c.now).objects };
+
+    ghost may_refuse = { λ _. ⊥ };
+
+    ghost takes_no_blocks = { λ refused. refused };
+
+    fn length(&self, id: ObjectId) -> Option<u64> {
+        self.object(id).map(|bytes| bytes.len() as u64)
+    }
+
+    fn read_record(
+        &mut self,
+        id: ObjectId,
+        index: usize,
+        into: &mut [u8],
+    ) -> Result<(), PoolError> {
+        copy_record(self.object(id).unwrap_or(&[]), index, into);
+        Ok(())
+    }
+}
+
+// Copies a record of an object, with zeros behind the object's end.
+fn copy_record(bytes: &[u8], index: usize, into: &mut [u8])
+    requires index { index < 84 }
+    requires size { length into.old ≡ 4032 }
+    ensures { into.new ≡ padded_record index bytes.now }
+{
+    let record = record_of(bytes, index);
+    into[..record.len()].copy_from_slice(record);
+    into[record.len()..].fill(0);
+}
+
+// The bytes of an object in a record, as far as it reaches.
+fn record_of(bytes: &[u8], index: usize) -> &[u8]
+    requires { index < 84 }
+    ensures bytes { result.now ≡ record_bytes index bytes.now }
+    ensures size { length result.now ≤ 4032 }
+{
+    let low = (RECORD_SIZE * index).min(bytes.len());
+    let high = (RECORD_SIZE * (index + 1)).min(bytes.len());
+    &bytes[low..high]
+}
