@@ -265,7 +265,12 @@ fn a_stored_object_that_is_cut_grows_by_zeros(rt: HostRuntime) -> Result<(), Fai
     let alloc = rt.alloc();
     let mut pool = tank(alloc, MemDevice::new(alloc, 16_384)?)?;
     let write = Op::Write(OBJECT, 0, Bytes::from_slice(alloc, b"abcd")?);
-    change(alloc, &mut pool, vec![in alloc; Op::Create(OBJECT), write]?, 10)?;
+    change(
+        alloc,
+        &mut pool,
+        vec![in alloc; Op::Create(OBJECT), write]?,
+        10,
+    )?;
     // the record, its map, the directory and the root, a flush, and four uberblocks that nothing flushes
     let cut = vec![in alloc; Op::SetLength(OBJECT, 1), Op::SetLength(OBJECT, 3)]?;
     change(alloc, &mut pool, cut, 9)?;
@@ -280,9 +285,18 @@ fn an_object_that_is_created_again_has_no_old_byte(rt: HostRuntime) -> Result<()
     let alloc = rt.alloc();
     let mut pool = tank(alloc, MemDevice::new(alloc, 16_384)?)?;
     let write = Op::Write(OBJECT, 0, Bytes::from_slice(alloc, b"abcd")?);
-    change(alloc, &mut pool, vec![in alloc; Op::Create(OBJECT), write]?, 10)?;
+    change(
+        alloc,
+        &mut pool,
+        vec![in alloc; Op::Create(OBJECT), write]?,
+        10,
+    )?;
     // the directory and the root, a flush, and four uberblocks that nothing flushes
-    let again = vec![in alloc; Op::Remove(OBJECT), Op::Create(OBJECT), Op::SetLength(OBJECT, 3)]?;
+    let again = vec![in alloc;
+        Op::Remove(OBJECT),
+        Op::Create(OBJECT),
+        Op::SetLength(OBJECT, 3),
+    ]?;
     change(alloc, &mut pool, again, 7)?;
     let (group, bytes) = found_again(alloc, pool)?;
     assert_eq!(rt; group, Group(14));
