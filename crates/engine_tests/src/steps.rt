@@ -227,3 +227,79 @@ fn steps_are_answered_in_order(rt: HostRuntime) -> Result<(), Fail> {
     assert!(rt; matches!(&replies[3], Reply::Refused(PoolError::NoObject)));
     Ok(())
 }
+
+// These operations are committed to the open group, and its sync makes so many of its device calls.
+fn change(
+    alloc: Global,
+    pool: &mut PoolState<MemDevice>,
+    ops: Vec<Op>,
+    calls: usize,
+) -> Result<(), PoolError> {
+    let id = pool.lock(OWNER, OBJECT, WHOLE, Mode::Writer)?;
+    let ops = Ops::new(ops);
+    let (tx, _) = pool.begin(OWNER, &Plan::of(alloc, &ops)?)?;
+    pool.commit(tx, ops)?;
+    pool.unlock(OWNER, id)?;
+    pool.close_group()?;
+    pool.mark_quiesced()?;
+    pool.start_sync(7)?;
+    for _ in 0..calls {
+        pool.sync_step()?;
+    }
+    Ok(())
+}
+
+// A crash keeps all that was written. The group and the bytes of the object that the pool then has.
+fn found_again(alloc: Global, pool: PoolState<MemDevice>) -> Result<(Group, Bytes), PoolError> {
+    let mut pool = match import(alloc, pool.into_device().crash(&[]), 1_048_576, 8) {
+        Ok(imported) => PoolState::new(imported),
+        Err((error, _)) => return Err(error),
+    };
+    pool.lock(OWNER, OBJECT, WHOLE, Mode::Reader)?;
+    let bytes = pool.read(OWNER, OBJECT, WHOLE)?;
+    Ok((pool.status().synced, bytes))
+}
+
+#[test]
+fn a_stored_object_that_is_cut_grows_by_zeros(rt: HostRuntime) -> Result<(), Fail> {
+    let alloc = rt.alloc();
+    let mut pool = tank(alloc, MemDevice::new(alloc, 16_384)?)?;
+    let write = Op::Write(OBJECT, 0, Bytes::from_slice(alloc, b"abcd")?);
+    change(
+        alloc,
+        &mut pool,
+        vec![in alloc; Op::Create(OBJECT), write]?,
+        10,
+    )?;
+    // the record, its map, the directory and the root, a flush, and four uberblocks that nothing flushes
+    let cut = vec![in alloc; Op::SetLength(OBJECT, 1), Op::SetLength(OBJECT, 3)]?;
+    change(alloc, &mut pool, cut, 9)?;
+    let (group, bytes) = found_again(alloc, pool)?;
+    assert_eq!(rt; group, Group(14));
+    assert_eq!(rt; bytes.as_slice(), b"a\0\0".as_slice());
+    Ok(())
+}
+
+#[test]
+fn an_object_that_is_created_again_has_no_old_byte(rt: HostRuntime) -> Result<(), Fail> {
+    let alloc = rt.alloc();
+    let mut pool = tank(alloc, MemDevice::new(alloc, 16_384)?)?;
+    let write = Op::Write(OBJECT, 0, Bytes::from_slice(alloc, b"abcd")?);
+    change(
+        alloc,
+        &mut pool,
+        vec![in alloc; Op::Create(OBJECT), write]?,
+        10,
+    )?;
+    // the directory and the root, a flush, and four uberblocks that nothing flushes
+    let again = vec![in alloc;
+        Op::Remove(OBJECT),
+        Op::Create(OBJECT),
+        Op::SetLength(OBJECT, 3),
+    ]?;
+    change(alloc, &mut pool, again, 7)?;
+    let (group, bytes) = found_again(alloc, pool)?;
+    assert_eq!(rt; group, Group(14));
+    assert_eq!(rt; bytes.as_slice(), b"\0\0\0".as_slice());
+    Ok(())
+}

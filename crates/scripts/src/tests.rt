@@ -187,6 +187,40 @@ const REMOVES: Row = Row {
     answers: "ok\nsynced 8 open 9 records 0\nlock 0\ntx 0 group 9\nsynced 8 syncing - middle - open 9 dirty 28672 free 895 available 888\nentry 0 group 9\nsynced 8 syncing - middle - open 9 dirty 28672 free 895 available 888\nsynced 9\nsynced 9 syncing - middle - open 10 dirty 0 free 890 available 890\ntx 1 group 10\nentry 1 group 10\nrefused 9 NoObject\nsynced 10\nsynced 10 syncing - middle - open 11 dirty 0 free 895 available 895\ncrashed 0\nsynced 14 open 15 records 0\nrefused 9 NoObject\n",
 };
 
+/// A set length makes an object of so many zeros, and an append lock begins at its end.
+const LENGTHS: Row = Row {
+    size: SIZE,
+    script: "create tank 77\nimport 1048576\nlock 1 1 w 0 338688\nbegin 1 c:1 l:1:104\ncommit 0\nunlock 1 0\nlength 1\nappend 1 1\nlock 2 1 w 200 201\n",
+    status: 0,
+    answers: "ok\nsynced 8 open 9 records 0\nlock 0\ntx 0 group 9\nentry 0 group 9\nok\nlength 104\nlock 1 104 338688\nrefused 14 Busy\n",
+};
+
+/// What is cut off shows zeros once the object grows again, in the same group, after a crash that keeps all four
+/// uberblocks of its sync, and in a later group. Of its two records the cut leaves the first, so its tree has four blocks.
+const CUTS: Row = Row {
+    size: SIZE,
+    script: "create tank 77\nimport 1048576\nlock 1 1 w 0 338688\nbegin 1 c:1 w:1:4030:6\ncommit 0 abcdef\nsync\nstatus\nbegin 1 l:1:4031\ncommit 1\nbegin 1 l:1:4035\ncommit 2\nread 1 1 4028 4040\nclose\nquiesce\nstart\nstep\nstep\nstep\nstep\nstep\nstep\nstep\nstep\nstep\ncrash kkkk\nimport 1048576\nstatus\nlength 1\nlock 1 1 w 0 338688\nread 1 1 4028 4040\nbegin 1 l:1:4030\ncommit 0\nsync\nbegin 1 l:1:4034\ncommit 1\nsync\nread 1 1 4028 4040\ncrash\nimport 1048576\nlock 1 1 r 0 338688\nread 1 1 4028 4040\n",
+    status: 0,
+    answers: "ok\nsynced 8 open 9 records 0\nlock 0\ntx 0 group 9\nentry 0 group 9\nsynced 9\nsynced 9 syncing - middle - open 10 dirty 0 free 890 available 890\ntx 1 group 10\nentry 1 group 10\ntx 2 group 10\nentry 2 group 10\nbytes 7 00006100000000\nopen 11\nquiesced 10\nsyncing 10\nmore\nmore\nmore\nmore\nmore\nmore\nmore\nmore\nmore\ncrashed 4\nsynced 14 open 15 records 0\nsynced 14 syncing - middle - open 15 dirty 0 free 891 available 891\nlength 4035\nlock 0\nbytes 7 00006100000000\ntx 0 group 15\nentry 0 group 15\nsynced 15\ntx 1 group 16\nentry 1 group 16\nsynced 16\nbytes 6 000000000000\ncrashed 0\nsynced 20 open 21 records 0\nlock 0\nbytes 6 000000000000\n",
+};
+
+/// An object that is removed and created again has no byte of before, however long it becomes: its tree has a directory
+/// and a root alone.
+const RECREATED: Row = Row {
+    size: SIZE,
+    script: "create tank 77\nimport 1048576\nlock 1 1 w 0 338688\nbegin 1 c:1 w:1:0:4\ncommit 0 abcd\nsync\nbegin 1 d:1 c:1\ncommit 1\nlength 1\nread 1 1 0 10\nbegin 1 l:1:4\ncommit 2\nread 1 1 0 10\nclose\nquiesce\nstart\nstep\nstep\nstep\nstep\nstep\nstep\nstep\ncrash kkkk\nimport 1048576\nstatus\nlock 1 1 r 0 338688\nread 1 1 0 10\n",
+    status: 0,
+    answers: "ok\nsynced 8 open 9 records 0\nlock 0\ntx 0 group 9\nentry 0 group 9\nsynced 9\ntx 1 group 10\nentry 1 group 10\nlength 0\nbytes 0\ntx 2 group 10\nentry 2 group 10\nbytes 4 00000000\nopen 11\nquiesced 10\nsyncing 10\nmore\nmore\nmore\nmore\nmore\nmore\nmore\ncrashed 4\nsynced 14 open 15 records 0\nsynced 14 syncing - middle - open 15 dirty 0 free 893 available 893\nlock 0\nbytes 4 00000000\n",
+};
+
+/// An object has the greatest length at most, and one that is absent has none.
+const LENGTH_LIMITS: Row = Row {
+    size: SIZE,
+    script: "create tank 77\nimport 1048576\nlock 1 1 w 0 338688\nbegin 1 l:1:338689\nbegin 1 l:5292:0\nbegin 1 l:1:338688\ncommit 0\nbegin 1 n:4\n",
+    status: 0,
+    answers: "ok\nsynced 8 open 9 records 0\nlock 0\nrefused 11 BadRange\nrefused 11 BadRange\ntx 0 group 9\nrefused 9 NoObject\nrefused 11 BadRange\n",
+};
+
 /// A device without a pool fails as planned, once, and a call is not planned to fail as the 0th.
 const FAILS: Row = Row {
     size: SIZE,
@@ -232,6 +266,16 @@ fn tells_lengths_digests_and_the_name(rt: HostRuntime) -> Result<(), Fail> {
 #[test]
 fn charges_reserves_and_removes(rt: HostRuntime) -> Result<(), Fail> {
     for row in [CHARGES, REMOVES] {
+        let (status, text) = run(rt.alloc(), &row)?;
+        assert_eq!(rt; text.as_str(), row.answers);
+        assert_eq!(rt; status, row.status);
+    }
+    Ok(())
+}
+
+#[test]
+fn sets_lengths(rt: HostRuntime) -> Result<(), Fail> {
+    for row in [LENGTHS, CUTS, RECREATED, LENGTH_LIMITS] {
         let (status, text) = run(rt.alloc(), &row)?;
         assert_eq!(rt; text.as_str(), row.answers);
         assert_eq!(rt; status, row.status);
