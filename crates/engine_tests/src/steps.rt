@@ -197,13 +197,14 @@ fn a_refused_write_suspends(rt: HostRuntime) -> Result<(), Fail> {
     steps.push(Step::Unlock(OWNER, LockId(0)))?;
     steps.push(Step::Begin(OWNER, Plan::new(Vec::new(alloc))))?;
     steps.push(Step::Commit(TxId(0), Ops::new(Vec::new(alloc))))?;
+    steps.push(Step::Abort(TxId(0)))?;
     steps.push(Step::Read(OWNER, OBJECT, WHOLE))?;
     steps.push(Step::CloseGroup)?;
     steps.push(Step::MarkQuiesced)?;
     steps.push(Step::StartSync(9))?;
     steps.push(Step::SyncStep)?;
     let replies = run(&mut pool, steps)?;
-    assert_eq!(rt; replies.len(), 9);
+    assert_eq!(rt; replies.len(), 10);
     for reply in &replies {
         assert!(rt; matches!(reply, Reply::Refused(PoolError::Suspended)));
     }
@@ -225,5 +226,27 @@ fn steps_are_answered_in_order(rt: HostRuntime) -> Result<(), Fail> {
     assert!(rt; matches!(&replies[1], Reply::Began(TxId(0), Group(9))));
     assert!(rt; matches!(&replies[2], Reply::Refused(PoolError::OutOfPlan)));
     assert!(rt; matches!(&replies[3], Reply::Refused(PoolError::NoObject)));
+    Ok(())
+}
+
+#[test]
+fn an_abort_ends_a_charge_and_a_hold(rt: HostRuntime) -> Result<(), Fail> {
+    let alloc = rt.alloc();
+    let mut pool = tank(alloc, MemDevice::new(alloc, 16_384)?)?;
+    pool.lock(OWNER, OBJECT, WHOLE, Mode::Writer)?;
+    let before = pool.status();
+    let plan = Plan::new(vec![in alloc; Shape::Create(OBJECT)]?);
+    let (tx, _) = pool.begin(OWNER, &plan)?;
+    // two blocks
+    assert_eq!(rt; pool.status().dirty, 8_192);
+    pool.abort(tx)?;
+    assert_eq!(rt; pool.status(), before);
+    assert_eq!(rt; pool.abort(tx), Err(PoolError::NoSuchTransaction));
+    let (next, group) = pool.begin(OWNER, &plan)?;
+    assert_eq!(rt; next, TxId(1));
+    pool.close_group()?;
+    assert_eq!(rt; pool.mark_quiesced(), Err(PoolError::NotReady));
+    pool.abort(next)?;
+    assert_eq!(rt; pool.mark_quiesced(), Ok(group));
     Ok(())
 }
