@@ -197,13 +197,14 @@ fn a_refused_write_suspends(rt: HostRuntime) -> Result<(), Fail> {
     steps.push(Step::Unlock(OWNER, LockId(0)))?;
     steps.push(Step::Begin(OWNER, Plan::new(Vec::new(alloc))))?;
     steps.push(Step::Commit(TxId(0), Ops::new(Vec::new(alloc))))?;
+    steps.push(Step::Abort(TxId(0)))?;
     steps.push(Step::Read(OWNER, OBJECT, WHOLE))?;
     steps.push(Step::CloseGroup)?;
     steps.push(Step::MarkQuiesced)?;
     steps.push(Step::StartSync(9))?;
     steps.push(Step::SyncStep)?;
     let replies = run(&mut pool, steps)?;
-    assert_eq!(rt; replies.len(), 9);
+    assert_eq!(rt; replies.len(), 10);
     for reply in &replies {
         assert!(rt; matches!(reply, Reply::Refused(PoolError::Suspended)));
     }
@@ -301,5 +302,27 @@ fn an_object_that_is_created_again_has_no_old_byte(rt: HostRuntime) -> Result<()
     let (group, bytes) = found_again(alloc, pool)?;
     assert_eq!(rt; group, Group(14));
     assert_eq!(rt; bytes.as_slice(), b"\0\0\0".as_slice());
+    Ok(())
+}
+
+#[test]
+fn an_abort_ends_a_charge_and_a_hold(rt: HostRuntime) -> Result<(), Fail> {
+    let alloc = rt.alloc();
+    let mut pool = tank(alloc, MemDevice::new(alloc, 16_384)?)?;
+    pool.lock(OWNER, OBJECT, WHOLE, Mode::Writer)?;
+    let before = pool.status();
+    let plan = Plan::new(vec![in alloc; Shape::Create(OBJECT)]?);
+    let (tx, _) = pool.begin(OWNER, &plan)?;
+    // two blocks
+    assert_eq!(rt; pool.status().dirty, 8_192);
+    pool.abort(tx)?;
+    assert_eq!(rt; pool.status(), before);
+    assert_eq!(rt; pool.abort(tx), Err(PoolError::NoSuchTransaction));
+    let (next, group) = pool.begin(OWNER, &plan)?;
+    assert_eq!(rt; next, TxId(1));
+    pool.close_group()?;
+    assert_eq!(rt; pool.mark_quiesced(), Err(PoolError::NotReady));
+    pool.abort(next)?;
+    assert_eq!(rt; pool.mark_quiesced(), Ok(group));
     Ok(())
 }

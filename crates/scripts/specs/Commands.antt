@@ -45,8 +45,8 @@ IsTellingForm words = HasForm words (codes "append") 3 ⊎ (HasForm words (codes
 -- the lines that are a step
 abbrev pub IsStepForm : Words → Type 0
 IsStepForm words = HasForm words (codes "lock") 6 ⊎ (HasForm words (codes "unlock") 3 ⊎ (BeginsWith words (codes "begin") 2
-    ⊎ (HasForm words (codes "read") 5 ⊎ (HasForm words (codes "close") 1 ⊎ (HasForm words (codes "quiesce") 1 ⊎ (HasForm words (codes "step") 1
-    ⊎ IsTellingForm words))))))
+    ⊎ (HasForm words (codes "abort") 2 ⊎ (HasForm words (codes "read") 5 ⊎ (HasForm words (codes "close") 1 ⊎ (HasForm words (codes "quiesce") 1
+    ⊎ (HasForm words (codes "step") 1 ⊎ IsTellingForm words)))))))
 
 -- the lines that ask a pool for something
 abbrev pub IsPoolForm : Words → Type 0
@@ -92,6 +92,11 @@ module _ {A : Type 0} (of : Step → A) (words : Words) (r : Result A LineError)
   abbrev pub ReadsBegin : Type 0
   ReadsBegin = BeginsWith words (codes "begin") 2 → IfOk r (λ a. (s : Step) × (a ≡ of s) × IsBeginOf (word words 1) (drop 2 words) s)
 
+  -- an `abort` line: a transaction
+  abbrev pub ReadsAbort : Type 0
+  ReadsAbort = HasForm words (codes "abort") 2 → OkIff r
+      (IsNumberBelow (2 ^ 64) (word words 1)) (of (step.Abort (record { 0 = spelled_number (word words 1) })))
+
   -- a `read` line: owner, object, low and high
   abbrev pub ReadsRead : Type 0
   ReadsRead = HasForm words (codes "read") 5 → OkIff r
@@ -113,6 +118,7 @@ pub record ReadsStep {A : Type 0} (of : Step → A) (words : Words) (r : Result 
   pub lock : ReadsLock of words r
   pub unlock : ReadsUnlock of words r
   pub begin : ReadsBegin of words r
+  pub abort : ReadsAbort of words r
   pub read : ReadsRead of words r
   pub close : HasForm words (codes "close") 1 → r ≡ Ok (of step.CloseGroup)
   pub quiesce : HasForm words (codes "quiesce") 1 → r ≡ Ok (of step.MarkQuiesced)

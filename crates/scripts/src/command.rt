@@ -151,6 +151,7 @@ fn parse_step(alloc: Global, words: &[&str]) -> Result<Step, LineError>
         )),
         ["unlock", owner, id] => Ok(Step::Unlock(parse_owner(owner)?, LockId(wide(id)?))),
         ["begin", owner, shapes @ ..] => parse_begin(alloc, owner, shapes),
+        ["abort", tx] => Ok(Step::Abort(TxId(wide(tx)?))),
         ["read", owner, object, low, high] => Ok(Step::Read(
             parse_owner(owner)?,
             parse_object(object)?,

@@ -164,9 +164,9 @@ const FULL_OBJECT: Row = Row {
 /// The flush of a sync is refused, and each later step but the name and the status is refused as suspended.
 const SUSPENDED: Row = Row {
     size: SIZE,
-    script: "create tank 77\nimport 1048576\nlock 1 1 w 0 338688\nbegin 1 c:1\ncommit 0\nclose\nquiesce\nstart\nfail flush 1\nfinish\nlength 1\ndigest\nappend 1 1\nstep\nname\nstatus\n",
+    script: "create tank 77\nimport 1048576\nlock 1 1 w 0 338688\nbegin 1 c:1\ncommit 0\nclose\nquiesce\nstart\nfail flush 1\nfinish\nlength 1\ndigest\nappend 1 1\nabort 0\nstep\nname\nstatus\n",
     status: 0,
-    answers: "ok\nsynced 8 open 9 records 0\nlock 0\ntx 0 group 9\nentry 0 group 9\nopen 10\nquiesced 9\nsyncing 9\nok\nrefused 4 Flush\nrefused 5 Suspended\nrefused 5 Suspended\nrefused 5 Suspended\nrefused 5 Suspended\nname tank\nsynced 8 syncing 9 middle - open 10 dirty 8192 free 893 available 893\n",
+    answers: "ok\nsynced 8 open 9 records 0\nlock 0\ntx 0 group 9\nentry 0 group 9\nopen 10\nquiesced 9\nsyncing 9\nok\nrefused 4 Flush\nrefused 5 Suspended\nrefused 5 Suspended\nrefused 5 Suspended\nrefused 5 Suspended\nrefused 5 Suspended\nname tank\nsynced 8 syncing 9 middle - open 10 dirty 8192 free 893 available 893\n",
 };
 
 /// With a limit of 40,960 bytes two writes of one record are charged 16,384 each, a third is refused, and a create of 8,192
@@ -221,6 +221,15 @@ const LENGTH_LIMITS: Row = Row {
     answers: "ok\nsynced 8 open 9 records 0\nlock 0\nrefused 11 BadRange\nrefused 11 BadRange\ntx 0 group 9\nrefused 9 NoObject\nrefused 11 BadRange\n",
 };
 
+/// A transaction that is given up leaves no charge and no hold, and no later one gets its name. After the last one of the closed
+/// group that group quiesces.
+const ABORTS: Row = Row {
+    size: SIZE,
+    script: "create tank 77\nimport 1048576\nlock 1 1 w 0 338688\nstatus\nbegin 1 c:1 w:1:0:4\nstatus\nabort 0\nstatus\nabort 0\ncommit 0 abcd\nunlock 1 0\nlock 1 1 w 0 338688\nbegin 1 c:1\nclose\nquiesce\nabort 1\nquiesce\nstart\nfinish\nstatus\nabort 7\n",
+    status: 0,
+    answers: "ok\nsynced 8 open 9 records 0\nlock 0\nsynced 8 syncing - middle - open 9 dirty 0 free 895 available 895\ntx 0 group 9\nsynced 8 syncing - middle - open 9 dirty 24576 free 895 available 889\nok\nsynced 8 syncing - middle - open 9 dirty 0 free 895 available 895\nrefused 19 NoSuchTransaction\nrefused 19 NoSuchTransaction\nok\nlock 1\ntx 1 group 9\nopen 10\nrefused 20 NotReady\nok\nquiesced 9\nsyncing 9\nsynced 9\nsynced 9 syncing - middle - open 10 dirty 0 free 895 available 895\nrefused 19 NoSuchTransaction\n",
+};
+
 /// A device without a pool fails as planned, once, and a call is not planned to fail as the 0th.
 const FAILS: Row = Row {
     size: SIZE,
@@ -264,8 +273,8 @@ fn tells_lengths_digests_and_the_name(rt: HostRuntime) -> Result<(), Fail> {
 }
 
 #[test]
-fn charges_reserves_and_removes(rt: HostRuntime) -> Result<(), Fail> {
-    for row in [CHARGES, REMOVES] {
+fn charges_reserves_removes_and_gives_up(rt: HostRuntime) -> Result<(), Fail> {
+    for row in [CHARGES, REMOVES, ABORTS] {
         let (status, text) = run(rt.alloc(), &row)?;
         assert_eq!(rt; text.as_str(), row.answers);
         assert_eq!(rt; status, row.status);
@@ -411,6 +420,10 @@ fn takes_no_other_form_of_a_line(rt: HostRuntime) -> Result<(), Fail> {
         "begin 1 n:1:2",
         "begin 1 n:18446744073709551616",
         "commit 0 \u{e9}",
+        "abort",
+        "abort x",
+        "abort 0 1",
+        "abort 18446744073709551616",
         "commit 0 @0:a",
         "commit 0 @338689:a",
         "commit 0 @4",
