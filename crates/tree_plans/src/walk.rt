@@ -337,12 +337,12 @@ fn place_directory<O: ObjectSource>(
     ensures refused { IfErr result IsWant }
 {
     let old = source.tree.directories[index];
-    match state_of(touched, has_object_in(after, index)) {
-        RecordState::Unchanged => Ok(old),
-        RecordState::Hole => planner.clear(&old),
-        RecordState::Dirty => {
-            let payload = directory_payload(after, source.tree, maps, index);
-            planner.place(source.free, BlockPlace::Directory(index), &payload, &old)
-        }
+    if !touched {
+        return Ok(old);
     }
+    if !has_object_in(after, index) {
+        return planner.clear(&old);
+    }
+    let payload = directory_payload(after, source.tree, maps, index);
+    planner.place(source.free, BlockPlace::Directory(index), &payload, &old)
 }
