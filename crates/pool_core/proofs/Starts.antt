@@ -25,7 +25,7 @@ use Rattle.base.proofs.steps.KeptGroups.{quiesced_is}
 use Rattle.tree_plans.specs.declared.planner.Committed.{Committed}
 use Rattle.tree_plans.specs.declared.planner.PlannedBlock.{PlannedBlock}
 use Rattle.tree_plans.specs.declared.planner.TreePlan.{TreePlan}
-use Rattle.tree_plans.specs.Plans.{IsWant}
+use Rattle.tree_plans.specs.Plans.{IsWantOr}
 use Rattle.tree_plans.specs.Plans.{address_of}
 use Rattle.pool_core.specs.Lines.{MayNotStart}
 use Rattle.pool_core.specs.Shows.{record_of as shown_record}
@@ -127,7 +127,8 @@ wants_only e (inl memory) never = memory
 wants_only e (inr space) never = absurd (never space)
 
 -- a plan is refused for want of memory or of blocks
-pub turn_want : (r : Result TreePlan PoolError) → IfErr r IsWant → IfErr r (λ e. (e ≡ error.NoMemory) ⊎ (e ≡ error.NoSpace))
+pub turn_want : (r : Result TreePlan PoolError) → IfErr r (IsWantOr (λ e. ⊥)) → IfErr r (λ e. (e ≡ error.NoMemory) ⊎ (e ≡ error.NoSpace))
 turn_want (Ok p) h = tt
-turn_want (Err e) (inl space) = inr space
-turn_want (Err e) (inr memory) = inl memory
+turn_want (Err e) (inl (inl space)) = inr space
+turn_want (Err e) (inl (inr memory)) = inl memory
+turn_want (Err e) (inr never) = absurd never

@@ -581,11 +581,10 @@ impl Pool {
             geometry: self.geometry,
             guid: self.guid,
             group,
-            contents: &self.contents,
             tree: &self.tree,
             free: &self.free,
         };
-        plan(&source, &objects)
+        plan(&source, &mut &self.contents, &objects)
     }
 
     fn running_sync(&self, group: Group, moment: u64, planned: TreePlan) -> RunningSync

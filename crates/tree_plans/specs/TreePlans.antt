@@ -4,6 +4,8 @@ use Rattle.std.specs.BTreeMap.{BTreeMap}
 use Rattle.std.specs.Ordering.{nat_cmp}
 use Rattle.std.specs.FinMap as finite
 use Rattle.std.specs.FinMap.{FinMap}
+use Rattle.base.specs.declared.error.PoolError.{PoolError}
+use Rattle.base.specs.declared.error.PoolError.TheVariants as error
 use Rattle.base.specs.declared.names.ObjectId.{ObjectId}
 use Rattle.base.specs.formats.Geometry.{IsBlockAddress, block_count, block_size}
 use Rattle.base.specs.formats.Limits.{object_count}
@@ -61,3 +63,7 @@ HasLengths source after objects plan = (n : ℕ) → n < object_count → planne
 pub record GivesBack (source : PlanSource) (plan : TreePlan) : Type 0 where
   pub returned : ArePlaced (block_count source.geometry) (pointers_before source.tree.now) → All (λ address. IsBlockAddress (block_count source.geometry) address) plan.freed.items
   pub freed : AreBornBefore source.group.0 (pointers_before source.tree.now) → AreFreed (pointers_before source.tree.now) (planned_pointers source.tree.now plan) plan.freed.items
+
+-- a plan that wants blocks, where each object that an operation is on has a number below the last one: fewer are free than there are places to write
+pub record TellsFull (source : PlanSource) (after : FinMap nat_cmp (List ℕ)) (objects : List (ObjectId × ObjectChanges)) (e : PoolError) : Type 0 where
+  pub fewer : e ≡ error.NoSpace → AreInRange objects → length (free_addresses source) < length (places_written source after objects)

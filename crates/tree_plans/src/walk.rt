@@ -25,7 +25,7 @@ ghost use Rattle.tree_plans.specs.Parts.{GoesOver, HasNothing, PlansDirectories,
 ghost use Rattle.tree_plans.specs.Plans.{IsWant, IsWantOr, state_above};
 ghost use Rattle.tree_plans.specs.Pointers.{entry_of};
 ghost use Rattle.tree_plans.specs.Room.{changed_blocks, count_if, directory_blocks, object_blocks, tree_blocks};
-ghost use Rattle.tree_plans.specs.TreePlans.{GivesBack, HasLengths, MakesTree, TakesBlocks, free_addresses, places_written};
+ghost use Rattle.tree_plans.specs.TreePlans.{GivesBack, HasLengths, MakesTree, TakesBlocks, TellsFull};
 ghost use Rattle.tree_plans.specs.Walks.{has_object, has_objects, is_directory_touched, is_emptied, root_state};
 
 use crate::changes::ObjectChanges;
@@ -131,9 +131,8 @@ pub fn plan<O: ObjectSource>(
     ensures tree { IfOk result (MakesTree source.now (O.objects after.old) objects.now) }
     ensures lengths { IfOk result (HasLengths source.now (O.objects after.old) objects.now) }
     ensures freed { IfOk result (GivesBack source.now) }
-    ensures full { IfErr result (λ e. e ≡ error.NoSpace → AreInRange objects.now.entries
-        → length (free_addresses source.now)
-        < length (places_written source.now (O.objects after.old) objects.now.entries)) }
+    ensures full { IfErr result
+        (TellsFull source.now (O.objects after.old) objects.now.entries) }
     ensures kept { O.objects after.new ≡ O.objects after.old }
     ensures refused { IfErr result (IsWantOr O.may_refuse) }
 {
@@ -338,12 +337,12 @@ fn place_directory<O: ObjectSource>(
     ensures refused { IfErr result IsWant }
 {
     let old = source.tree.directories[index];
-    match state_of(touched, has_object_in(after, index)) {
-        RecordState::Unchanged => Ok(old),
-        RecordState::Hole => planner.clear(&old),
-        RecordState::Dirty => {
-            let payload = directory_payload(after, source.tree, maps, index);
-            planner.place(source.free, BlockPlace::Directory(index), &payload, &old)
-        }
+    if !touched {
+        return Ok(old);
     }
+    if !has_object_in(after, index) {
+        return planner.clear(&old);
+    }
+    let payload = directory_payload(after, source.tree, maps, index);
+    planner.place(source.free, BlockPlace::Directory(index), &payload, &old)
 }

@@ -74,4 +74,4 @@ returns-clause-freed g c =
 
 pub returns-in_err-tree-clause-full : goal.returns-in_err-tree-clause-full
 returns-in_err-tree-clause-full g c =
-    handed_on c.from_residual.result _ _ c.from_residual.ensures.1 (λ no_space within. plan_lacks _ 0 _ (group_in c.args.source.now (g.O.ObjectSource.objects c.args.after.now) c.args.objects.now.entries) refl (ap (λ (l : List PlannedBlock). map new_block l) c.new.ensures.items) (c.in_err-tree.ensures.full within no_space))
+    handed_on c.from_residual.result _ _ c.from_residual.ensures.1 (record { fewer = λ no_space within. plan_lacks _ 0 _ (group_in c.args.source.now (g.O.ObjectSource.objects c.args.after.now) c.args.objects.now.entries) refl (ap (λ (l : List PlannedBlock). map new_block l) c.new.ensures.items) (c.in_err-tree.ensures.full within no_space) })

@@ -66,5 +66,5 @@ returns-clause-no_space c =
     IfErr-weaker c.plan.result _ _ (λ e full no_space. record {
       objects = objects;
       changes = changes;
-      fewer = subst (λ (f : Place → Pointer). AreInRange objects → length (rising pool.free.free) < length (written_by (group_of objects f (contents_of pool.contents).objects))) (sym old) (full no_space);
+      fewer = subst (λ (f : Place → Pointer). AreInRange objects → length (rising pool.free.free) < length (written_by (group_of objects f (contents_of pool.contents).objects))) (sym old) (full.fewer no_space);
     }) c.plan.ensures.full
