@@ -3,6 +3,7 @@
 
 mod held;
 mod locks;
+mod numbers;
 mod parts;
 
 pub use held::{HeldLock, HeldPiece};

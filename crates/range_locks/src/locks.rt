@@ -5,11 +5,11 @@
 
 ghost use Rattle.std.specs.Prelude.{◌≡◌, [], IsOk, IfOk, IfErr, OnOk, OnErr, IsSome, ◌↔◌};
 ghost use Rattle.std.specs.List.{list_any};
-ghost use Rattle.base.specs.history.Plans.{number_range};
+ghost use Rattle.base.specs.history.Plans.{lies_in, number_range};
 ghost use Rattle.range_locks.specs.Locks.{covers, covers_for_writing, grant_of};
 
 use crate::held::{HeldLock, HeldPiece};
-use crate::parts::Parts;
+use crate::numbers::Numbers;
 use base::{
     LAST_NUMBER, LockId, MAX_LENGTH, MAX_LOCKS, Mode, OBJECT_COUNT, ObjectId, ObjectRange, Owner,
     PoolError, Range,
@@ -23,24 +23,25 @@ use std::marker::Model;
 #[derive(Drop)]
 pub struct RangeLocks {
     held: IndexMap<LockId, HeldLock>,
-    parts: Parts,
+    numbers: Numbers,
     next: u64,
 }
 
 impl Model for RangeLocks {
     ghost use Rattle.std.specs.Prelude.{map};
     ghost use Rattle.range_locks.specs.Locks.{Held, grant_of};
-    ghost use Rattle.range_locks.specs.Parts.{AreCounted};
+    ghost use Rattle.range_locks.specs.Parts.{AreAllCounted};
 
     ghost Value = { Held };
 
     ghost view = { λ a. record { locks = map grant_of a.held.entries; next = a.next } };
 
-    ghost invariant = { λ a. AreCounted (record { locks = map grant_of a.held.entries; next = a.next }) a.parts.table };
+    ghost invariant = { λ a. AreAllCounted (record { locks = map grant_of a.held.entries; next = a.next }) a.numbers.parts };
 }
 
 impl RangeLocks {
-    ghost use Rattle.std.specs.Prelude.{option_map, map, length, ◌≤◌, ◌<◌};
+    ghost use Rattle.std.specs.Option.{option_map_or};
+    ghost use Rattle.std.specs.Prelude.{option_map, map, length, ◌≤◌, ◌<◌, false};
     ghost use Rattle.std.specs.List.{find};
     ghost use Rattle.std.specs.Map.Iter.{ShowsInOrder, deref_pair};
     ghost use Rattle.base.specs.formats.Limits.{max_locks};
@@ -55,7 +56,7 @@ impl RangeLocks {
     {
         RangeLocks {
             held: IndexMap::new(alloc),
-            parts: Parts::new(alloc),
+            numbers: Numbers::new(alloc),
             next: 0,
         }
     }
@@ -87,8 +88,8 @@ impl RangeLocks {
             return Err(PoolError::TooMany);
         }
         self.held.reserve(1)?;
-        self.parts.add(&range, mode)?;
         let id = LockId(self.next);
+        self.numbers.add(&range, id, mode)?;
         self.held
             .insert(id, HeldLock { owner, range, mode })
             .unwrap();
@@ -101,7 +102,7 @@ impl RangeLocks {
         requires { range.now.range.low < range.now.range.high }
         ensures { result ≡ is_blocked (number_range range.now) mode self.now.locks }
     {
-        self.parts.blocks(range, mode)
+        self.numbers.blocks(range, mode)
     }
 
     /// Grants a writer lock from the end of an object to the top of each range, and answers its name and its range. The
@@ -161,7 +162,7 @@ impl RangeLocks {
         };
         let HeldLock { range, mode, .. } = *lock;
         self.held.shift_remove(&id);
-        self.parts.remove(&range, mode);
+        self.numbers.remove(&range, mode);
         Ok(())
     }
 
@@ -169,6 +170,15 @@ impl RangeLocks {
     pub fn covers(&self, owner: Owner, range: &ObjectRange) -> bool
         ensures { result ≡ is_covered owner.0 (number_range range.now) self.now.locks }
     {
+        if range.range.low < range.range.high {
+            let part = self.numbers.part_at(range.object, range.range.low);
+            if let Some(id) = part.writer {
+                return self.lock_covers(owner, id, range);
+            }
+            if part.readers == 0 {
+                return false;
+            }
+        }
         any_covers(&self.held, owner, range)
     }
 
@@ -177,7 +187,25 @@ impl RangeLocks {
         ensures { result
             ≡ is_covered_for_writing owner.0 (number_range range.now) self.now.locks }
     {
+        if range.range.low < range.range.high {
+            let part = self.numbers.part_at(range.object, range.range.low);
+            return match part.writer {
+                Some(id) => self.lock_covers(owner, id, range),
+                None => false,
+            };
+        }
         any_covers_for_writing(&self.held, owner, range)
+    }
+
+    /// Whether the owner's lock of this name covers a range.
+    fn lock_covers(&self, owner: Owner, id: LockId, range: &ObjectRange) -> bool
+        ensures { result ≡ option_map_or (λ g. lies_in (number_range range.now) g.range)
+            (find (is_named id.0 owner.0) self.now.locks) false }
+    {
+        match self.find(owner, id) {
+            Some(lock) => range.lies_in(&lock.range),
+            None => false,
+        }
     }
 
     /// The held locks in order of grant, each with its name.
@@ -199,7 +227,7 @@ impl RangeLocks {
             (λ pieces. pieces.items ≡ pieces_of number.0 self.now.locks) }
         ensures refused { IfErr result (λ e. e ≡ PoolError.NoMemory) }
     {
-        self.parts.pieces(*self.held.allocator(), number)
+        self.numbers.pieces(number)
     }
 
     /// The name of the next lock: the number of grants so far.

@@ -6,16 +6,16 @@ use Rattle.range_locks.proofs.locks.RangeLocks.unlock.Goals as goal
 
 pub remove-requires-clause-ordered : goal.remove-requires-clause-ordered
 remove-requires-clause-ordered c =
-    found_ordered _ c.self.inside.parts.table c.self.invariant c.args.id.0 c.args.owner.0 (grant_of (c.args.id, c.in-Some.lock.now)) (rw (← c.self.view_is) at (sym c.in-Some.ensures))
+    found_ordered _ c.self.inside.numbers.parts c.self.invariant c.args.id.0 c.args.owner.0 (grant_of (c.args.id, c.in-Some.lock.now)) (rw (← c.self.view_is) at (sym c.in-Some.ensures))
 
 pub remove-requires-clause-counted : goal.remove-requires-clause-counted
 remove-requires-clause-counted c =
-    found_counted _ c.self.inside.parts.table c.self.invariant c.args.id.0 c.args.owner.0 (grant_of (c.args.id, c.in-Some.lock.now)) (rw (← c.self.view_is) at (sym c.in-Some.ensures))
+    found_counted _ c.self.inside.numbers.parts c.self.invariant c.args.id.0 c.args.owner.0 (grant_of (c.args.id, c.in-Some.lock.now)) (rw (← c.self.view_is) at (sym c.in-Some.ensures))
 
 pub invariant_of-self : goal.invariant_of-self
 invariant_of-self c =
     rw (c.shift_remove.ensures.entries, map-remove_entry c.args.id.0 c.self.inside.held.entries c.self.invariant.are.rising)
-    (let_go_counted _ c.self.inside.parts.table c.self.invariant c.args.id.0 c.args.owner.0 (grant_of (c.args.id, c.in-Some.lock.now)) (rw (← c.self.view_is) at (sym c.in-Some.ensures)) c.remove.new.self.table (c.remove.ensures _ c.self.invariant.is))
+    (let_go_counted _ c.self.inside.numbers.parts c.self.invariant c.args.id.0 c.args.owner.0 (grant_of (c.args.id, c.in-Some.lock.now)) (rw (← c.self.view_is) at (sym c.in-Some.ensures)) c.remove.new.self.parts (c.remove.ensures.removed _ (c.self.invariant.is c.in-Some.lock.now.range.object.0)) c.remove.ensures.others)
 
 pub returns-clause-let_go : goal.returns-clause-let_go
 returns-clause-let_go c = rw (← c.self.view_is, c.shift_remove.ensures.entries, map-remove_entry c.args.id.0 c.self.inside.held.entries c.self.invariant.are.rising) refl
