@@ -6,6 +6,7 @@ pub mod Updates
 pub mod Recounts
 pub mod LockCounts
 pub mod Blocked
+pub mod NumberParts
 pub mod Writers
 pub mod CountedLocks
 pub mod Ends

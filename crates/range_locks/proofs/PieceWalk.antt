@@ -4,7 +4,7 @@ use Rattle.std.specs.Prelude.{Some, None, IfNone, IfSome, Option, is_some, slice
 use Rattle.std.specs.List.{count_by, list_any}
 use Rattle.std.specs.BTreeMap.{BTreeMap, get}
 use Rattle.std.specs.Ordering.{nat_cmp}
-use Rattle.std.proofs.lemmas.Bool.{cases_lt, eqb-true, lt-ltb, or_cases}
+use Rattle.std.proofs.lemmas.Bool.{cases_lt, eq-eqb, eqb-true, lt-ltb, or_cases}
 use Rattle.std.proofs.lemmas.List.{append-nil, append_assoc}
 use Rattle.std.proofs.lemmas.List.Sums.{sum_by-cons}
 use Rattle.base.specs.formats.Limits.{max_length}
@@ -56,6 +56,16 @@ ends_within n y (g ∷ locks) allowed there = by (n == g.range.number) (ends_wit
         | inr there_too ↦ rest there_too
       ]
     ]
+
+-- a number that no lock begins in has no pieces
+pub no_pieces : (n : ℕ) (locks : List Grant) → ((k : ℕ) → (counts_of n locks k).ends ≡ 0) → pieces_of n locks ≡ []
+no_pieces n locks none = ap (pieces_along n locks) (by (ends_of n locks) refl)
+  where
+    by : (ends : List ℕ) → ends_of n locks ≡ ends → ends ≡ []
+    by [] is = refl
+    by (x ∷ xs) is = absurd (
+        let there : is_in x (ends_of n locks) ≡ true = ap (is_in x) is ∙ ap (λ b. b || is_in x xs) (eq-eqb x x refl) in
+        let no_way : false ≡ true = sym (ap (λ y. nat_lt 0 y) (none x)) ∙ sym (in-ends_of n x locks) ∙ there in cc)
 
 module _ (table : BTreeMap ℕ Part) (n : ℕ) (held : Held) (was : AreCounted n held table) where
   is_end : (k : ℕ) (p : Part) → get nat_cmp table k ≡ Some p → is_in k (ends_of n held.locks) ≡ true

@@ -1,8 +1,17 @@
 use Rattle.std.proofs.Common.{ap, ◌∙◌, arith}
 use Rattle.range_locks.specs.Parts.{stored, with_end}
+use Rattle.range_locks.proofs.NumberParts.{refused}
 use Rattle.range_locks.proofs.Recounts.{can_count}
 use Rattle.range_locks.proofs.Updates.{with_end_covers, with_end_still, without_end-with_end}
 use Rattle.range_locks.proofs.parts.Parts.add.Goals as goal
+
+pub add_end-requires : goal.add_end-requires
+add_end-requires c =
+    let was = c.requires.counted in
+    record { counts = was.counts; is = was.is; still = was.still; small = λ k. let small = was.small k in (omega (arith, small.0), omega (arith, small.1)) }
+
+pub returns-in_err-add_end-clause-unchanged : goal.returns-in_err-add_end-clause-unchanged
+returns-in_err-add_end-clause-unchanged c = refused c.from_residual.result _ (λ f is _. c.in_err-add_end.ensures.unchanged f is)
 
 pub add_end-requires-2 : goal.add_end-requires-2
 add_end-requires-2 c =
