@@ -63,7 +63,7 @@ module _ {S : Type 0} (held : Held) (numbers : HashMap ℕ Parts S) (was : AreAl
       alone : (n k : ℕ) → writes_at n k last ≡ true → find (writes_at n k) held.locks ≡ None
       alone n k writes = find_none (writes_at n k) held.locks (λ i g at is.
           let there = writer_alone (with_grant owner range mode held).locks (granted_are held was.are owner range mode allowed free few named).sound n k (length held.locks) last (at_last held.locks last) writes
-              i g (at_old held.locks last g i at) (and_parts (not (is_reader g.mode)) (covers_byte n k g) is).1 in
+          i g (at_old held.locks last g i at) (and_parts (not (is_reader g.mode)) (covers_byte n k g) is).1 in
           let within : i < length held.locks = slice_get_within held.locks i g at in
           omega (arith, there))
 

@@ -1,3 +1,4 @@
+pub mod Places
 pub mod Names
 pub mod Grants
 pub mod Keys

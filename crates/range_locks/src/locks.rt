@@ -10,21 +10,19 @@ ghost use Rattle.range_locks.specs.Locks.{covers, covers_for_writing, grant_of};
 
 use crate::held::{HeldLock, HeldPiece};
 use crate::numbers::Numbers;
+use crate::table::{HeldLocks, HeldTable};
 use base::{
     LAST_NUMBER, LockId, MAX_LENGTH, MAX_LOCKS, Mode, OBJECT_COUNT, ObjectId, ObjectRange, Owner,
     PoolError, Range,
 };
-use indexmap::IndexMap;
-use indexmap::map::Iter;
 use std::alloc::Global;
 use std::marker::Model;
 
 /// The held range locks in order of grant, and the number of grants so far. Contracts see these two.
 #[derive(Drop)]
 pub struct RangeLocks {
-    held: IndexMap<LockId, HeldLock>,
+    held: HeldTable,
     numbers: Numbers,
-    next: u64,
 }
 
 impl Model for RangeLocks {
@@ -34,9 +32,9 @@ impl Model for RangeLocks {
 
     ghost Value = { Held };
 
-    ghost view = { λ a. record { locks = map grant_of a.held.entries; next = a.next } };
+    ghost view = { λ a. record { locks = map grant_of a.held.entries; next = a.held.next } };
 
-    ghost invariant = { λ a. AreAllCounted (record { locks = map grant_of a.held.entries; next = a.next }) a.numbers.parts };
+    ghost invariant = { λ a. AreAllCounted (record { locks = map grant_of a.held.entries; next = a.held.next }) a.numbers.parts };
 }
 
 impl RangeLocks {
@@ -55,9 +53,8 @@ impl RangeLocks {
         ensures next { result.next ≡ 0 }
     {
         RangeLocks {
-            held: IndexMap::new(alloc),
+            held: HeldTable::new(alloc),
             numbers: Numbers::new(alloc),
-            next: 0,
         }
     }
 
@@ -84,17 +81,13 @@ impl RangeLocks {
         if self.is_blocked(&range, mode) {
             return Err(PoolError::Busy);
         }
-        if self.held.len() >= MAX_LOCKS || self.next > LAST_NUMBER {
+        if self.held.len() >= MAX_LOCKS || self.held.next_name().0 > LAST_NUMBER {
             return Err(PoolError::TooMany);
         }
-        self.held.reserve(1)?;
-        let id = LockId(self.next);
+        self.held.make_room()?;
+        let id = self.held.next_name();
         self.numbers.add(&range, id, mode)?;
-        self.held
-            .insert(id, HeldLock { owner, range, mode })
-            .unwrap();
-        self.next += 1;
-        Ok(id)
+        Ok(self.held.insert(HeldLock { owner, range, mode }))
     }
 
     /// Whether a held lock and one of this mode may not overlap in a range.
@@ -141,7 +134,7 @@ impl RangeLocks {
         ensures { option_map (λ lock. grant_of (id, lock.now)) result
             ≡ find (is_named id.0 owner.0) self.now.locks }
     {
-        match self.held.get(&id) {
+        match self.held.get(id) {
             Some(lock) if lock.owner.0 == owner.0 => Some(lock),
             _ => None,
         }
@@ -161,7 +154,7 @@ impl RangeLocks {
             return Err(PoolError::NoSuchLock);
         };
         let HeldLock { range, mode, .. } = *lock;
-        self.held.shift_remove(&id);
+        self.held.let_go(id);
         self.numbers.remove(&range, mode);
         Ok(())
     }
@@ -209,7 +202,7 @@ impl RangeLocks {
     }
 
     /// The held locks in order of grant, each with its name.
-    pub fn held(&self) -> Iter<'_, LockId, HeldLock>
+    pub fn held(&self) -> HeldLocks<'_>
         ensures locks { map grant_of result ≡ self.now.locks }
         ensures sound { AreLocksSound self.now.locks }
         ensures count { length result ≤ max_locks }
@@ -234,22 +227,18 @@ impl RangeLocks {
     pub fn next_name(&self) -> LockId
         ensures { result.0 ≡ self.now.next }
     {
-        LockId(self.next)
+        self.held.next_name()
     }
 }
 
-fn any_covers(held: &IndexMap<LockId, HeldLock>, owner: Owner, range: &ObjectRange) -> bool
+fn any_covers(held: &HeldTable, owner: Owner, range: &ObjectRange) -> bool
     ensures { result
         ≡ list_any (λ e. covers owner.0 (number_range range.now) (grant_of e)) held.now.entries }
 {
     held.iter().any(|(_, lock)| lock.owner.0 == owner.0 && range.lies_in(&lock.range))
 }
 
-fn any_covers_for_writing(
-    held: &IndexMap<LockId, HeldLock>,
-    owner: Owner,
-    range: &ObjectRange,
-) -> bool
+fn any_covers_for_writing(held: &HeldTable, owner: Owner, range: &ObjectRange) -> bool
     ensures { result
         ≡ list_any (λ e. covers_for_writing owner.0 (number_range range.now) (grant_of e))
         held.now.entries }

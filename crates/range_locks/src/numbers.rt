@@ -44,7 +44,7 @@ impl Numbers {
             (λ parts. HasCounts most_counted parts.table) }
         ensures added { OnOk result (HoldsOf (parts_of self.old.parts range.now.object.0)
             (λ f. IsTableOf (parts_of self.new.parts range.now.object.0)
-                (with_lock range.now.range (change_of_grant id mode) f))) }
+            (with_lock range.now.range (change_of_grant id mode) f))) }
         ensures unchanged { OnErr result (HoldsOf (parts_of self.old.parts range.now.object.0)
             (λ f. IsTableOf (parts_of self.new.parts range.now.object.0) f)) }
         ensures others { (n : ℕ) → n ≢ range.now.object.0
@@ -86,10 +86,10 @@ impl Numbers {
         requires { range.now.range.low < range.now.range.high }
         ensures some { result ≡ true
             → HoldsOf (parts_of self.now.parts range.now.object.0)
-                (IsBlockedIn range.now.range mode) }
+            (IsBlockedIn range.now.range mode) }
         ensures none { result ≡ false
             → HoldsOf (parts_of self.now.parts range.now.object.0)
-                (IsFreeIn range.now.range mode) }
+            (IsFreeIn range.now.range mode) }
     {
         match self.parts.get(&range.object.0) {
             Some(parts) => parts.blocks(range.range, mode),
