@@ -42,10 +42,9 @@ use base::{
 use device_model::SectorDevice;
 use groups::Groups;
 use import_replay::Mounted;
-use indexmap::map::Iter;
 use labels::Geometry;
 use object_maps::{Contents, ObjectMap, Tree};
-use range_locks::{HeldLock, HeldPiece, RangeLocks};
+use range_locks::{HeldLock, HeldLocks, HeldPiece, RangeLocks};
 use space::FreeSet;
 use std::alloc::Global;
 use std::collections::BTreeMap;
@@ -257,7 +256,7 @@ impl Pool {
         !held.mode.is_reader() && self.transactions.is_lock_in_use(&held.range)
     }
 
-    pub(crate) fn held(&self) -> Iter<'_, LockId, HeldLock>
+    pub(crate) fn held(&self) -> HeldLocks<'_>
         ensures locks { map grant_of result ≡ (pool_shown self.now).locks }
         ensures sound { AreLocksSound (pool_shown self.now).locks }
         ensures count { length result ≤ max_locks }

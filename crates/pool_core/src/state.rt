@@ -12,8 +12,7 @@ use base::{
 };
 use device_model::{Fault, MemDevice, SectorDevice};
 use import_replay::Imported;
-use indexmap::map::Iter;
-use range_locks::{HeldLock, HeldPiece};
+use range_locks::{HeldLock, HeldLocks, HeldPiece};
 use std::alloc::Global;
 
 /// What a step of a sync answers.
@@ -129,7 +128,7 @@ impl<D: SectorDevice> PoolState<D> {
 
     /// The held locks in order of grant, each with its name. It is no step, so a suspended pool tells them too, and takes no
     /// memory.
-    pub fn held(&self) -> Iter<'_, LockId, HeldLock>
+    pub fn held(&self) -> HeldLocks<'_>
         ensures locks { map grant_of result ≡ (shown self.now).locks }
         ensures sound { AreLocksSound (shown self.now).locks }
         ensures count { length result ≤ max_locks }

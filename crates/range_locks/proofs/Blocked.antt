@@ -1,6 +1,6 @@
 -- A range is blocked by the held locks exactly where some offset of it is by what covers it.
 use Rattle.std.proofs.Common.{◌≡◌, ℕ, zero, suc, ◌+◌, ◌<◌, ◌≤◌, ◌==◌, ◌&&◌, ◌||◌, Bool, true, false, not, cond, List, [], ◌∷◌, refl, ap, sym, ◌∙◌, arith, inl, inr}
-use Rattle.std.specs.Prelude.{Some, None, Option, slice_get, nat_lt, nat_le}
+use Rattle.std.specs.Prelude.{Some, None, Option, is_some, slice_get, nat_lt, nat_le}
 use Rattle.std.specs.List.{count_by}
 use Rattle.std.proofs.Math.Bool.{or-true}
 use Rattle.std.proofs.lemmas.Bool.{and_parts, eq-eqb, eqb-true, leb-true, le-leb, lt-ltb, ltb-true, or_cases, cases_lt, cases_Bool}
@@ -11,14 +11,11 @@ use Rattle.base.specs.history.Plans.{NumberRange, overlaps}
 use Rattle.base.specs.steps.Locks.{Grant, is_blocked, is_reader}
 use Rattle.base.proofs.common.KeptLists.{any_at, any_found, Some-injective}
 use Rattle.range_locks.specs.Locks.{Held, AreHeld, blocks}
-use Rattle.std.specs.BTreeMap.{BTreeMap}
-use Rattle.base.specs.declared.names.ObjectId.{ObjectId}
-use Rattle.range_locks.specs.declared.parts.Part.{Part}
-use Rattle.range_locks.proofs.LockCounts.{counts_still, one}
-use Rattle.range_locks.specs.Parts.{AreCounted, Counts, counts_of, IsBlockedIn, IsFreeIn, IsStill, IsTable}
+use Rattle.range_locks.proofs.LockCounts.{any-find, found_counted, one, span}
+use Rattle.range_locks.specs.Parts.{counts_of, IsBlockedIn, IsFreeIn, reads_at, writes_at}
 use Rattle.range_locks.specs.Pieces.{covers_byte}
 
--- what is counted is there, and what is there is counted
+-- what is counted is there
 counted_found : (p : Grant → Bool) (locks : List Grant) → 0 < count_by p locks → (i : ℕ) × (g : Grant) × (slice_get locks i ≡ Some g) × (p g ≡ true)
 counted_found p [] some = absurd (omega arith)
 counted_found p (x ∷ xs) some = by (counted_found p xs) (p x) refl
@@ -30,17 +27,6 @@ counted_found p (x ∷ xs) some = by (counted_found p xs) (p x) refl
         let none : one (p x) ≡ 0 = ap (λ b. cond b 1 0) is in
         let found = rest (omega arith) in
         (suc found.0, found.1, found.2, found.3)
-
-found_counted : (p : Grant → Bool) (locks : List Grant) (i : ℕ) (g : Grant) → slice_get locks i ≡ Some g → p g ≡ true → 0 < count_by p locks
-found_counted p [] i g at is = absurd (let no_way : ◌≡◌ {A = Option Grant} None (Some g) = at in cc)
-found_counted p (x ∷ xs) zero g at is =
-    let parts : count_by p (x ∷ xs) ≡ one (p x) + count_by p xs = sum_by-cons (λ (y : Grant). cond (p y) 1 0) x xs in
-    let here : one (p x) ≡ 1 = ap (λ b. cond b 1 0) (ap p (Some-injective at) ∙ is) in
-    omega arith
-found_counted p (x ∷ xs) (suc i) g at is =
-    let parts : count_by p (x ∷ xs) ≡ one (p x) + count_by p xs = sum_by-cons (λ (y : Grant). cond (p y) 1 0) x xs in
-    let tail : 0 < count_by p xs = found_counted p xs i g at is in
-    omega arith
 
 module _ (held : Held) (was : AreHeld held) (r : NumberRange) (some : r.low < r.high) (mode : Mode) where
   -- an offset that is covered by a lock of the other kind
@@ -57,15 +43,15 @@ module _ (held : Held) (was : AreHeld held) (r : NumberRange) (some : r.low < r.
       ∙ lt-ltb r.low g.range.high (omega arith) in
       any_at (blocks r mode) held.locks i g at (ap (λ b. b && not (is_reader g.mode && is_reader mode)) overlap ∙ apart)
 
-  pub blocked_in : IsBlockedIn r mode (counts_of held.locks) → is_blocked r mode held.locks ≡ true
-  blocked_in b = elim (or_cases (nat_lt 0 (counts_of held.locks r.number b.offset).writers) (nat_lt 0 (counts_of held.locks r.number b.offset).readers && not (is_reader mode)) b.blocks) as (λ _. is_blocked r mode held.locks ≡ true) [
+  pub blocked_in : IsBlockedIn (span r) mode (counts_of r.number held.locks) → is_blocked r mode held.locks ≡ true
+  blocked_in b = elim (or_cases (is_some (counts_of r.number held.locks b.offset).writer) (nat_lt 0 (counts_of r.number held.locks b.offset).readers && not (is_reader mode)) b.blocks) as (λ _. is_blocked r mode held.locks ≡ true) [
     | inl writes ↦
-        let found = counted_found (λ (g : Grant). not (is_reader g.mode) && covers_byte r.number b.offset g) held.locks (ltb-true 0 (counts_of held.locks r.number b.offset).writers writes) in
+        let found = any_found (writes_at r.number b.offset) held.locks (sym (any-find (writes_at r.number b.offset) held.locks) ∙ writes) in
         let parts = and_parts (not (is_reader found.1.mode)) (covers_byte r.number b.offset found.1) found.3 in
         blocked_by b.offset found.0 found.1 b.in_range.0 b.in_range.1 found.2 parts.1 (writer_apart found.1.mode mode parts.0)
     | inr reads ↦
-        let both = and_parts (nat_lt 0 (counts_of held.locks r.number b.offset).readers) (not (is_reader mode)) reads in
-        let found = counted_found (λ (g : Grant). is_reader g.mode && covers_byte r.number b.offset g) held.locks (ltb-true 0 (counts_of held.locks r.number b.offset).readers both.0) in
+        let both = and_parts (nat_lt 0 (counts_of r.number held.locks b.offset).readers) (not (is_reader mode)) reads in
+        let found = counted_found (reads_at r.number b.offset) held.locks (ltb-true 0 (counts_of r.number held.locks b.offset).readers both.0) in
         let parts = and_parts (is_reader found.1.mode) (covers_byte r.number b.offset found.1) found.3 in
         blocked_by b.offset found.0 found.1 b.in_range.0 b.in_range.1 found.2 parts.1 (no_reader_apart found.1.mode mode both.1)
   ]
@@ -78,7 +64,7 @@ module _ (held : Held) (was : AreHeld held) (r : NumberRange) (some : r.low < r.
       no_reader_apart Reader n h = h
       no_reader_apart Writer n h = refl
 
-  pub free_of : IsFreeIn r mode (counts_of held.locks) → is_blocked r mode held.locks ≡ false
+  pub free_of : IsFreeIn (span r) mode (counts_of r.number held.locks) → is_blocked r mode held.locks ≡ false
   free_of free = elim (cases_Bool (is_blocked r mode held.locks)) as (λ _. is_blocked r mode held.locks ≡ false) [
     | inr not_blocked ↦ not_blocked
     | inl blocked ↦
@@ -88,11 +74,11 @@ module _ (held : Held) (was : AreHeld held) (r : NumberRange) (some : r.low < r.
     where
       covered : (k i : ℕ) (g : Grant) → r.low ≤ k → k < r.high → slice_get held.locks i ≡ Some g → covers_byte r.number k g ≡ true → (m : Mode) → g.mode ≡ m → not (is_reader m && is_reader mode) ≡ true → ⊥
       covered k i g from below at covers Writer is apart =
-          let counted : 0 < (counts_of held.locks r.number k).writers = found_counted (λ (h : Grant). not (is_reader h.mode) && covers_byte r.number k h) held.locks i g at (ap (λ m. not (is_reader m) && covers_byte r.number k g) is ∙ covers) in
-          let no_way : true ≡ false = sym (ap (λ b. b || (nat_lt 0 (counts_of held.locks r.number k).readers && not (is_reader mode))) (lt-ltb 0 (counts_of held.locks r.number k).writers counted)) ∙ free k from below in cc
+          let found : is_some (counts_of r.number held.locks k).writer ≡ true = any-find (writes_at r.number k) held.locks ∙ any_at (writes_at r.number k) held.locks i g at (ap (λ m. not (is_reader m) && covers_byte r.number k g) is ∙ covers) in
+          let no_way : true ≡ false = sym (ap (λ b. b || (nat_lt 0 (counts_of r.number held.locks k).readers && not (is_reader mode))) found) ∙ free k from below in cc
       covered k i g from below at covers Reader is apart =
-          let counted : 0 < (counts_of held.locks r.number k).readers = found_counted (λ (h : Grant). is_reader h.mode && covers_byte r.number k h) held.locks i g at (ap (λ m. is_reader m && covers_byte r.number k g) is ∙ covers) in
-          let no_way : true ≡ false = sym (ap (λ b. nat_lt 0 (counts_of held.locks r.number k).writers || (b && not (is_reader mode))) (lt-ltb 0 (counts_of held.locks r.number k).readers counted) ∙ ap (λ b. nat_lt 0 (counts_of held.locks r.number k).writers || b) apart ∙ or-true (nat_lt 0 (counts_of held.locks r.number k).writers)) ∙ free k from below in cc
+          let counted : 0 < (counts_of r.number held.locks k).readers = found_counted (reads_at r.number k) held.locks i g at (ap (λ m. is_reader m && covers_byte r.number k g) is ∙ covers) in
+          let no_way : true ≡ false = sym (ap (λ b. is_some (counts_of r.number held.locks k).writer || (b && not (is_reader mode))) (lt-ltb 0 (counts_of r.number held.locks k).readers counted) ∙ ap (λ b. is_some (counts_of r.number held.locks k).writer || b) apart ∙ or-true (is_some (counts_of r.number held.locks k).writer)) ∙ free k from below in cc
 
       contradicts : (i : ℕ) (g : Grant) → slice_get held.locks i ≡ Some g → blocks r mode g ≡ true → ⊥
       contradicts i g at is =
@@ -112,9 +98,9 @@ module _ (held : Held) (was : AreHeld held) (r : NumberRange) (some : r.low < r.
               ap (λ b. b && (nat_le g.range.low k && nat_lt k g.range.high)) (eq-eqb r.number g.range.number (sym (eqb-true g.range.number r.number number)))
               ∙ ap (λ b. b && nat_lt k g.range.high) (le-leb g.range.low k from) ∙ lt-ltb k g.range.high below
 
--- so a range is blocked by the table exactly where it is by the held locks
-pub is_blocked-found : (held : Held) (table : BTreeMap (ObjectId × ℕ) Part) → AreCounted held table → (r : NumberRange) → r.low < r.high → (mode : Mode) (b : Bool)
-    → (b ≡ true → (f : Counts) → IsTable table f → IsStill f → IsBlockedIn r mode f)
-    → (b ≡ false → (f : Counts) → IsTable table f → IsStill f → IsFreeIn r mode f) → b ≡ is_blocked r mode held.locks
-is_blocked-found held table was r some mode true yields _ = sym (blocked_in held was.are r some mode (yields refl (counts_of held.locks) was.is (counts_still held.locks)))
-is_blocked-found held table was r some mode false _ yields = sym (free_of held was.are r some mode (yields refl (counts_of held.locks) was.is (counts_still held.locks)))
+-- so a range is blocked by the parts of its number exactly where it is by the held locks
+pub is_blocked-found : (held : Held) → AreHeld held → (r : NumberRange) → r.low < r.high → (mode : Mode) (b : Bool)
+    → (b ≡ true → IsBlockedIn (span r) mode (counts_of r.number held.locks))
+    → (b ≡ false → IsFreeIn (span r) mode (counts_of r.number held.locks)) → b ≡ is_blocked r mode held.locks
+is_blocked-found held are r some mode true yields _ = sym (blocked_in held are r some mode (yields refl))
+is_blocked-found held are r some mode false _ yields = sym (free_of held are r some mode (yields refl))

@@ -1,3 +1,4 @@
+pub mod Places
 pub mod Names
 pub mod Grants
 pub mod Keys
@@ -6,6 +7,8 @@ pub mod Updates
 pub mod Recounts
 pub mod LockCounts
 pub mod Blocked
+pub mod NumberParts
+pub mod Writers
 pub mod CountedLocks
 pub mod Ends
 pub mod PieceWalk

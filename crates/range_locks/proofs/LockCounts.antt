@@ -1,18 +1,23 @@
 -- What held locks count to changes with one granted, and with one let go, as the table of parts does.
-use Rattle.std.proofs.Common.{◌≡◌, ℕ, zero, suc, ◌+◌, ◌-◌, ◌*◌, ◌<◌, ◌≤◌, ◌==◌, ◌&&◌, Bool, true, false, not, cond, List, [], ◌∷◌, ◌++◌, length, filter, refl, ap, sym, subst, ◌∙◌, arith, inl, inr}
-use Rattle.std.specs.Prelude.{Some, None, Option, IfSome, slice_get, sum_by, nat_lt, nat_le}
-use Rattle.std.specs.List.{count_by}
+use Rattle.std.proofs.Common.{◌≡◌, ℕ, zero, suc, ◌+◌, ◌-◌, ◌*◌, ◌<◌, ◌≤◌, ◌==◌, ◌&&◌, ◌||◌, Bool, true, false, not, cond, List, [], ◌∷◌, ◌++◌, length, filter, refl, ap, sym, subst, ◌∙◌, arith, inl, inr}
+use Rattle.std.specs.Prelude.{Some, None, Option, IfSome, is_some, slice_get, sum_by, nat_lt, nat_le}
+use Rattle.std.specs.List.{count_by, find, list_any}
+use Rattle.std.specs.Option.{option_map, option_or}
 use Rattle.std.specs.BTreeMap.{BTreeMap, get}
-use Rattle.std.proofs.lemmas.Bool.{eq-eqb, ne_eqb, cases_eq, cases_lt, le-leb, lt-leb, lt-ltb, le-ltb}
+use Rattle.std.specs.Ordering.{nat_cmp}
+use Rattle.std.proofs.lemmas.Bool.{eq-eqb, ne_eqb, eqb-true, cases_eq, cases_lt, cases_order, le-leb, lt-leb, lt-ltb, le-ltb}
+use Rattle.std.proofs.lemmas.List.Folds.{find-append}
 use Rattle.std.proofs.lemmas.List.Sums.{sum_by-cons, sum_by_push, sum_by-le, count_by-le-length}
-use Rattle.base.specs.declared.names.ObjectId.{ObjectId}
+use Rattle.base.specs.declared.names.LockId.{LockId}
 use Rattle.base.specs.declared.range.Mode.{Mode}
 use Rattle.base.specs.declared.range.Mode.TheVariants.{Reader, Writer}
+use Rattle.base.specs.declared.range.Range.{Range}
+use Rattle.base.specs.history.Plans.{NumberRange}
 use Rattle.base.specs.steps.Locks.{Grant, is_reader}
 use Rattle.base.proofs.common.KeptLists.{All-each, Some-injective}
-use Rattle.range_locks.specs.declared.parts.Change.TheVariants.{More, Fewer}
+use Rattle.range_locks.specs.declared.parts.Change.TheVariants.{ReaderCame, ReaderLeft, WriterCame, WriterLeft}
 use Rattle.range_locks.specs.declared.parts.Part.{Part}
-use Rattle.range_locks.specs.Parts.{CanRecountPart, Counts, HasCounts, IsStill, IsTable, most_counted, counts_of, ends_at, key, key_cmp, recounted, recounted_part, stored, with_end, with_lock, without_end, without_lock}
+use Rattle.range_locks.specs.Parts.{CanRecountPart, change_of_grant, change_of_release, Counts, HasCounts, IsStill, IsTable, most_counted, counts_of, ends_at, name_of, reads_at, writes_at, recounted, recounted_part, stored, with_end, with_lock, without_end, without_lock}
 use Rattle.range_locks.specs.Pieces.{covers_byte}
 use Rattle.range_locks.proofs.StoredParts.{part_here}
 use Rattle.range_locks.proofs.Names.{NamesRise, all_others, behind, rest_rises}
@@ -40,11 +45,46 @@ sum_without f (x ∷ xs) (suc i) id g rise at named =
     let tail : sum_by f xs ≡ sum_by f (filter (λ (h : Grant). not (h.id == id)) xs) + f g = sum_without f xs i id g (rest_rises x xs rise) at named in
     omega arith
 
--- parts with the same three counts
-same_part : (p q : Part) → p.ends ≡ q.ends → p.readers ≡ q.readers → p.writers ≡ q.writers → p ≡ q
-same_part p q e r w i = record { ends = e i; readers = r i; writers = w i }
+nothing : (b : Bool) → (b && false) ≡ false
+nothing true = refl
+nothing false = refl
 
--- the three counts of an offset after a step, by its tests
+-- whether one is found
+pub any-find : (p : Grant → Bool) (locks : List Grant) → is_some (option_map name_of (find p locks)) ≡ list_any p locks
+any-find p [] = refl
+any-find p (g ∷ locks) = by (p g) (any-find p locks)
+  where
+    by : (b : Bool) → is_some (option_map name_of (find p locks)) ≡ list_any p locks → is_some (option_map name_of (cond b (Some g) (find p locks))) ≡ (b || list_any p locks)
+    by true rest = refl
+    by false rest = rest
+
+-- what is there is counted
+pub found_counted : (p : Grant → Bool) (locks : List Grant) (i : ℕ) (g : Grant) → slice_get locks i ≡ Some g → p g ≡ true → 0 < count_by p locks
+found_counted p [] i g at is = absurd (let no_way : ◌≡◌ {A = Option Grant} None (Some g) = at in cc)
+found_counted p (x ∷ xs) zero g at is =
+    let parts : count_by p (x ∷ xs) ≡ one (p x) + count_by p xs = sum_by-cons (λ (y : Grant). cond (p y) 1 0) x xs in
+    let here : one (p x) ≡ 1 = ap (λ b. cond b 1 0) (ap p (Some-injective at) ∙ is) in
+    omega arith
+found_counted p (x ∷ xs) (suc i) g at is =
+    let parts : count_by p (x ∷ xs) ≡ one (p x) + count_by p xs = sum_by-cons (λ (y : Grant). cond (p y) 1 0) x xs in
+    let tail : 0 < count_by p xs = found_counted p xs i g at is in
+    omega arith
+
+-- the one that is let go is not found
+find_without : (p : Grant → Bool) (locks : List Grant) (id : ℕ) → ((j : ℕ) (h : Grant) → slice_get locks j ≡ Some h → h.id ≡ id → p h ≡ false)
+    → find p (filter (λ (h : Grant). not (h.id == id)) locks) ≡ find p locks
+find_without p [] id others = refl
+find_without p (x ∷ xs) id others = by (find_without p xs id (λ j h at. others (suc j) h at)) (x.id == id) refl
+  where
+    by : find p (filter (λ (h : Grant). not (h.id == id)) xs) ≡ find p xs → (b : Bool) → (x.id == id) ≡ b → find p (cond (not b) (x ∷ filter (λ (h : Grant). not (h.id == id)) xs) (filter (λ (h : Grant). not (h.id == id)) xs)) ≡ find p (x ∷ xs)
+    by rest true is = rest ∙ sym (ap (λ t. cond t (Some x) (find p xs)) (others zero x refl (eqb-true x.id id is)))
+    by rest false is = ap (λ o. cond (p x) (Some x) o) rest
+
+-- parts with the same counts
+same_part : (p q : Part) → p.ends ≡ q.ends → p.readers ≡ q.readers → p.writer ≡ q.writer → p ≡ q
+same_part p q e r w i = record { ends = e i; readers = r i; writer = w i }
+
+-- an offset after a step, by its tests
 module _ (p : Part) where
   more_end : (b : Bool) → (cond b (record p { ends = p.ends + 1 }) p) ≡ record p { ends = p.ends + one b }
   more_end true = refl
@@ -54,74 +94,147 @@ module _ (p : Part) where
   fewer_end true = refl
   fewer_end false = ap (λ e. record p { ends = e }) (omega arith)
 
-  more_cover : (mode : Mode) (b : Bool) → (cond b (recounted_part mode More p) p) ≡ record p { readers = p.readers + one (is_reader mode && b); writers = p.writers + one (not (is_reader mode) && b) }
-  more_cover Reader true = ap (λ w. record p { readers = p.readers + 1; writers = w }) (omega arith)
-  more_cover Reader false = same_part _ _ refl (omega arith) (omega arith)
-  more_cover Writer true = ap (λ r. record p { readers = r; writers = p.writers + 1 }) (omega arith)
-  more_cover Writer false = same_part _ _ refl (omega arith) (omega arith)
+  more_cover : (id : LockId) (mode : Mode) (b : Bool) → (cond b (recounted_part (change_of_grant id mode) p) p)
+      ≡ record p { readers = p.readers + one (is_reader mode && b); writer = cond (not (is_reader mode) && b) (Some id) p.writer }
+  more_cover id Reader true = refl
+  more_cover id Reader false = same_part _ _ refl (omega arith) refl
+  more_cover id Writer true = same_part _ _ refl (omega arith) refl
+  more_cover id Writer false = same_part _ _ refl (omega arith) refl
 
-  fewer_cover : (mode : Mode) (b : Bool) → (cond b (recounted_part mode Fewer p) p) ≡ record p { readers = p.readers - one (is_reader mode && b); writers = p.writers - one (not (is_reader mode) && b) }
-  fewer_cover Reader true = ap (λ w. record p { readers = p.readers - 1; writers = w }) (omega arith)
-  fewer_cover Reader false = same_part _ _ refl (omega arith) (omega arith)
-  fewer_cover Writer true = ap (λ r. record p { readers = r; writers = p.writers - 1 }) (omega arith)
-  fewer_cover Writer false = same_part _ _ refl (omega arith) (omega arith)
+  fewer_cover : (mode : Mode) (b : Bool) → (cond b (recounted_part (change_of_release mode) p) p)
+      ≡ record p { readers = p.readers - one (is_reader mode && b); writer = cond (not (is_reader mode) && b) None p.writer }
+  fewer_cover Reader true = refl
+  fewer_cover Reader false = same_part _ _ refl (omega arith) refl
+  fewer_cover Writer true = same_part _ _ refl (omega arith) refl
+  fewer_cover Writer false = same_part _ _ refl (omega arith) refl
 
-module _ (g : Grant) (n k : ℕ) where
-  with_lock-counts : (f : Counts) → with_lock g.range g.mode f n k ≡ record {
-    ends = (f n k).ends + ends_at n k g;
-    readers = (f n k).readers + one (is_reader g.mode && covers_byte n k g);
-    writers = (f n k).writers + one (not (is_reader g.mode) && covers_byte n k g);
-  }
+-- the offsets of a range
+abbrev pub span : NumberRange → Range
+span r = record { low = r.low; high = r.high }
+
+-- what one lock more and one fewer make of counts, at an offset of a number
+abbrev more_of : ℕ → ℕ → Grant → Part → Part
+more_of n k g p = record { ends = p.ends + ends_at n k g; readers = p.readers + one (reads_at n k g); writer = cond (writes_at n k g) (Some (name_of g)) p.writer }
+
+abbrev fewer_of : ℕ → ℕ → Grant → Part → Part
+fewer_of n k g p = record { ends = p.ends - ends_at n k g; readers = p.readers - one (reads_at n k g); writer = cond (writes_at n k g) None p.writer }
+
+module _ (g : Grant) (k : ℕ) where
+  -- at its own number
+  own : (g.range.number == g.range.number) ≡ true
+  own = eq-eqb g.range.number g.range.number refl
+
+  own_cover : covers_byte g.range.number k g ≡ (nat_le g.range.low k && nat_lt k g.range.high)
+  own_cover = ap (λ b. b && (nat_le g.range.low k && nat_lt k g.range.high)) own
+
+  own_ends : ends_at g.range.number k g ≡ one (k == g.range.low) + one (k == g.range.high)
+  own_ends = ap (λ b. one (b && (k == g.range.low)) + one (b && (k == g.range.high))) own
+
+  with_lock-counts : (f : Counts) → with_lock (span g.range) (change_of_grant (name_of g) g.mode) f k ≡ more_of g.range.number k g (f k)
   with_lock-counts f =
-      more_cover (with_end g.range.number g.range.high (with_end g.range.number g.range.low f) n k) g.mode (covers_byte n k g)
-      ∙ (λ i. record (ends_is i) { readers = (ends_is i).readers + one (is_reader g.mode && covers_byte n k g); writers = (ends_is i).writers + one (not (is_reader g.mode) && covers_byte n k g) })
+      more_cover (with_end g.range.high (with_end g.range.low f) k) (name_of g) g.mode (nat_le g.range.low k && nat_lt k g.range.high)
+      ∙ (λ i. record {
+        ends = (ends_is i).ends;
+        readers = (ends_is i).readers + one (is_reader g.mode && sym own_cover i);
+        writer = cond (not (is_reader g.mode) && sym own_cover i) (Some (name_of g)) (ends_is i).writer;
+      })
     where
-      ends_is : with_end g.range.number g.range.high (with_end g.range.number g.range.low f) n k ≡ record (f n k) { ends = (f n k).ends + ends_at n k g }
-      ends_is = more_end (with_end g.range.number g.range.low f n k) ((n == g.range.number) && (k == g.range.high))
-          ∙ ap (λ (p : Part). record p { ends = p.ends + one ((n == g.range.number) && (k == g.range.high)) }) (more_end (f n k) ((n == g.range.number) && (k == g.range.low)))
-          ∙ ap (λ e. record (f n k) { ends = e }) (omega arith)
+      ends_is : with_end g.range.high (with_end g.range.low f) k ≡ record (f k) { ends = (f k).ends + ends_at g.range.number k g }
+      ends_is = more_end (with_end g.range.low f k) (k == g.range.high)
+          ∙ ap (λ (p : Part). record p { ends = p.ends + one (k == g.range.high) }) (more_end (f k) (k == g.range.low))
+          ∙ ap (λ e. record (f k) { ends = e }) (omega (arith, own_ends))
 
-  without_lock-counts : (f : Counts) → without_lock g.range g.mode f n k ≡ record {
-    ends = (f n k).ends - ends_at n k g;
-    readers = (f n k).readers - one (is_reader g.mode && covers_byte n k g);
-    writers = (f n k).writers - one (not (is_reader g.mode) && covers_byte n k g);
-  }
+  without_lock-counts : (f : Counts) → without_lock (span g.range) (change_of_release g.mode) f k ≡ fewer_of g.range.number k g (f k)
   without_lock-counts f =
-      fewer_end (without_end g.range.number g.range.low (recounted g.range g.mode Fewer f) n k) ((n == g.range.number) && (k == g.range.high))
-      ∙ ap (λ (p : Part). record p { ends = p.ends - one ((n == g.range.number) && (k == g.range.high)) }) (fewer_end (recounted g.range g.mode Fewer f n k) ((n == g.range.number) && (k == g.range.low)))
-      ∙ ap (λ (p : Part). record p { ends = p.ends - one ((n == g.range.number) && (k == g.range.low)) - one ((n == g.range.number) && (k == g.range.high)) }) (fewer_cover (f n k) g.mode (covers_byte n k g))
-      ∙ ap (λ e. record {
-        ends = e;
-        readers = (f n k).readers - one (is_reader g.mode && covers_byte n k g);
-        writers = (f n k).writers - one (not (is_reader g.mode) && covers_byte n k g);
-      }) (omega arith)
+      fewer_end (without_end g.range.low (recounted (span g.range) (change_of_release g.mode) f) k) (k == g.range.high)
+      ∙ ap (λ (p : Part). record p { ends = p.ends - one (k == g.range.high) }) (fewer_end (recounted (span g.range) (change_of_release g.mode) f k) (k == g.range.low))
+      ∙ ap (λ (p : Part). record p { ends = p.ends - one (k == g.range.low) - one (k == g.range.high) }) (fewer_cover (f k) g.mode (nat_le g.range.low k && nat_lt k g.range.high))
+      ∙ same_part _ _ (omega (arith, own_ends)) (ap (λ b. (f k).readers - one (is_reader g.mode && b)) (sym own_cover)) (ap (λ b. cond (not (is_reader g.mode) && b) None (f k).writer) (sym own_cover))
 
--- a lock that is granted
-pub table_granted : (table : BTreeMap (ObjectId × ℕ) Part) (locks : List Grant) (g : Grant) → IsTable table (with_lock g.range g.mode (counts_of locks)) → IsTable table (counts_of (locks ++ g ∷ []))
-table_granted table locks g is n k = is n k ∙ ap stored (with_lock-counts g n k (counts_of locks) ∙ sym (same_part _ _
-    (sum_by_push (ends_at n k) locks g)
-    (sum_by_push (λ (h : Grant). cond (is_reader h.mode && covers_byte n k h) 1 0) locks g)
-    (sum_by_push (λ (h : Grant). cond (not (is_reader h.mode) && covers_byte n k h) 1 0) locks g)))
+  -- at another it neither ends nor covers
+  module _ (n : ℕ) (other : n ≡ g.range.number → ⊥) where
+    apart : (n == g.range.number) ≡ false
+    apart = ne_eqb n g.range.number other
+
+    covers_apart : covers_byte n k g ≡ false
+    covers_apart = ap (λ b. b && (nat_le g.range.low k && nat_lt k g.range.high)) apart
+
+    ends_apart : ends_at n k g ≡ 0
+    ends_apart = ap (λ b. one (b && (k == g.range.low)) + one (b && (k == g.range.high))) apart
+
+    reads_apart : reads_at n k g ≡ false
+    reads_apart = ap (λ b. is_reader g.mode && b) covers_apart ∙ nothing (is_reader g.mode)
+
+    writes_apart : writes_at n k g ≡ false
+    writes_apart = ap (λ b. not (is_reader g.mode) && b) covers_apart ∙ nothing (not (is_reader g.mode))
+
+    more_apart : (p : Part) → more_of n k g p ≡ p
+    more_apart p = same_part _ _ (omega (arith, ends_apart)) (ap (λ b. p.readers + one b) reads_apart ∙ omega arith) (ap (λ b. cond b (Some (name_of g)) p.writer) writes_apart)
+
+    fewer_apart : (p : Part) → fewer_of n k g p ≡ p
+    fewer_apart p = same_part _ _ (omega (arith, ends_apart)) (ap (λ b. p.readers - one b) reads_apart ∙ omega arith) (ap (λ b. cond b None p.writer) writes_apart)
+
+-- a lock that is granted, where no writer covers what it covers for writing
+module _ (locks : List Grant) (g : Grant) (alone : (n k : ℕ) → writes_at n k g ≡ true → find (writes_at n k) locks ≡ None) where
+  counts_granted : (n k : ℕ) → counts_of n (locks ++ g ∷ []) k ≡ more_of n k g (counts_of n locks k)
+  counts_granted n k = same_part _ _
+      (sum_by_push (ends_at n k) locks g)
+      (sum_by_push (λ (h : Grant). cond (reads_at n k h) 1 0) locks g)
+      (ap (option_map name_of) (find-append (writes_at n k) locks (g ∷ [])) ∙ by (writes_at n k g) refl)
+    where
+      by : (b : Bool) → writes_at n k g ≡ b → option_map name_of (option_or (find (writes_at n k) locks) (cond (writes_at n k g) (Some g) None)) ≡ cond (writes_at n k g) (Some (name_of g)) (option_map name_of (find (writes_at n k) locks))
+      by true is = (λ i. option_map name_of (option_or (alone n k is i) (cond (is i) (Some g) None))) ∙ sym (ap (λ t. cond t (Some (name_of g)) (option_map name_of (find (writes_at n k) locks))) is)
+      by false is = (λ i. option_map name_of (option_or (find (writes_at n k) locks) (cond (is i) (Some g) None))) ∙ same (find (writes_at n k) locks) ∙ sym (ap (λ t. cond t (Some (name_of g)) (option_map name_of (find (writes_at n k) locks))) is)
+        where
+          same : (o : Option Grant) → option_map name_of (option_or o None) ≡ option_map name_of o
+          same None = refl
+          same (Some h) = refl
+
+  pub granted_here : (k : ℕ) → with_lock (span g.range) (change_of_grant (name_of g) g.mode) (counts_of g.range.number locks) k ≡ counts_of g.range.number (locks ++ g ∷ []) k
+  granted_here k = with_lock-counts g k (counts_of g.range.number locks) ∙ sym (counts_granted g.range.number k)
+
+  pub granted_elsewhere : (n : ℕ) → (n ≡ g.range.number → ⊥) → (k : ℕ) → counts_of n locks k ≡ counts_of n (locks ++ g ∷ []) k
+  granted_elsewhere n other k = sym (counts_granted n k ∙ more_apart g k n other (counts_of n locks k))
 
 module _ (locks : List Grant) (i id : ℕ) (g : Grant) (rise : NamesRise locks) (at : slice_get locks i ≡ Some g) (named : g.id ≡ id) where
-  -- one that is let go
-  pub table_let_go : (table : BTreeMap (ObjectId × ℕ) Part) → IsTable table (without_lock g.range g.mode (counts_of locks)) → IsTable table (counts_of (filter (λ (h : Grant). not (h.id == id)) locks))
-  table_let_go table is n k =
-      let ends : sum_by (ends_at n k) locks ≡ sum_by (ends_at n k) (filter (λ (h : Grant). not (h.id == id)) locks) + ends_at n k g = sum_without (ends_at n k) locks i id g rise at named in
-      let readers = sum_without (λ (h : Grant). cond (is_reader h.mode && covers_byte n k h) 1 0) locks i id g rise at named in
-      let writers = sum_without (λ (h : Grant). cond (not (is_reader h.mode) && covers_byte n k h) 1 0) locks i id g rise at named in
-      is n k ∙ ap stored (without_lock-counts g n k (counts_of locks) ∙ same_part _ _
-      (ap (λ x. x - ends_at n k g) ends ∙ back (sum_by (ends_at n k) (filter (λ (h : Grant). not (h.id == id)) locks)) (ends_at n k g))
-      (ap (λ x. x - cond (is_reader g.mode && covers_byte n k g) 1 0) readers ∙ back _ (cond (is_reader g.mode && covers_byte n k g) 1 0))
-      (ap (λ x. x - cond (not (is_reader g.mode) && covers_byte n k g) 1 0) writers ∙ back _ (cond (not (is_reader g.mode) && covers_byte n k g) 1 0)))
-    where
-      back : (a b : ℕ) → a + b - b ≡ a
-      back a b = omega arith
+  -- a name is one lock's
+  pub same_name : (j : ℕ) (h : Grant) → slice_get locks j ≡ Some h → h.id ≡ id → h ≡ g
+  same_name j h at_j also = elim (cases_order i j) as (λ _. h ≡ g) [
+    | inl same ↦ Some-injective (sym at_j ∙ ap (slice_get locks) (sym same) ∙ at)
+    | inr apart ↦ elim apart as (λ _. h ≡ g) [
+      | inl before ↦ absurd (let below : g.id < h.id = rise i j g h before at at_j in omega (arith, named, also))
+      | inr behind ↦ absurd (let below : h.id < g.id = rise j i h g behind at_j at in omega (arith, named, also))
+    ]
+  ]
+
+  -- one that is let go, where no other writer covers what it covers for writing
+  module _ (alone : (n k : ℕ) → writes_at n k g ≡ true → find (writes_at n k) (filter (λ (h : Grant). not (h.id == id)) locks) ≡ None) where
+    counts_let_go : (n k : ℕ) → counts_of n (filter (λ (h : Grant). not (h.id == id)) locks) k ≡ fewer_of n k g (counts_of n locks k)
+    counts_let_go n k =
+        let ends : sum_by (ends_at n k) locks ≡ sum_by (ends_at n k) (filter (λ (h : Grant). not (h.id == id)) locks) + ends_at n k g = sum_without (ends_at n k) locks i id g rise at named in
+        let readers = sum_without (λ (h : Grant). cond (reads_at n k h) 1 0) locks i id g rise at named in
+        same_part _ _
+        (sym (ap (λ x. x - ends_at n k g) ends ∙ back (sum_by (ends_at n k) (filter (λ (h : Grant). not (h.id == id)) locks)) (ends_at n k g)))
+        (sym (ap (λ x. x - cond (reads_at n k g) 1 0) readers ∙ back _ (cond (reads_at n k g) 1 0)))
+        (by (writes_at n k g) refl)
+      where
+        back : (a b : ℕ) → a + b - b ≡ a
+        back a b = omega arith
+
+        by : (b : Bool) → writes_at n k g ≡ b → option_map name_of (find (writes_at n k) (filter (λ (h : Grant). not (h.id == id)) locks)) ≡ cond (writes_at n k g) None (option_map name_of (find (writes_at n k) locks))
+        by true is = ap (option_map name_of) (alone n k is) ∙ sym (ap (λ t. cond t None (option_map name_of (find (writes_at n k) locks))) is)
+        by false is = ap (option_map name_of) (find_without (writes_at n k) locks id (λ j h at_j also. ap (writes_at n k) (same_name j h at_j also) ∙ is)) ∙ sym (ap (λ t. cond t None (option_map name_of (find (writes_at n k) locks))) is)
+
+    pub let_go_here : (k : ℕ) → without_lock (span g.range) (change_of_release g.mode) (counts_of g.range.number locks) k ≡ counts_of g.range.number (filter (λ (h : Grant). not (h.id == id)) locks) k
+    let_go_here k = without_lock-counts g k (counts_of g.range.number locks) ∙ sym (counts_let_go g.range.number k)
+
+    pub let_go_elsewhere : (n : ℕ) → (n ≡ g.range.number → ⊥) → (k : ℕ) → counts_of n locks k ≡ counts_of n (filter (λ (h : Grant). not (h.id == id)) locks) k
+    let_go_elsewhere n other k = sym (counts_let_go n k ∙ fewer_apart g k n other (counts_of n locks k))
 
   -- it is counted at each offset that it covers
-  pub is_counted : (table : BTreeMap (ObjectId × ℕ) Part) → IsTable table (counts_of locks) → (k : ℕ) → g.range.low ≤ k → k < g.range.high
-      → IfSome (get key_cmp table (key g.range.number k)) (CanRecountPart g.mode Fewer)
-  is_counted table is k from below = by (get key_cmp table (key g.range.number k)) refl
+  pub is_counted : (table : BTreeMap ℕ Part) → IsTable table (counts_of g.range.number locks) → (k : ℕ) → g.range.low ≤ k → k < g.range.high
+      → IfSome (get nat_cmp table k) (CanRecountPart (change_of_release g.mode))
+  is_counted table is k from below = by (get nat_cmp table k) refl
     where
       n : ℕ
       n = g.range.number
@@ -129,19 +242,16 @@ module _ (locks : List Grant) (i id : ℕ) (g : Grant) (rise : NamesRise locks) 
       covers : covers_byte n k g ≡ true
       covers = ap (λ b. b && (nat_le g.range.low k && nat_lt k g.range.high)) (eq-eqb n n refl) ∙ ap (λ b. b && nat_lt k g.range.high) (le-leb g.range.low k from) ∙ lt-ltb k g.range.high below
 
-      counted : (m : Mode) → g.mode ≡ m → CanRecountPart m Fewer (counts_of locks n k)
+      counted : (m : Mode) → g.mode ≡ m → CanRecountPart (change_of_release m) (counts_of n locks k)
       counted Reader is_mode =
           let one_here : one (is_reader g.mode && covers_byte n k g) ≡ 1 = ap (λ m. cond (is_reader m && covers_byte n k g) 1 0) is_mode ∙ ap (λ b. cond b 1 0) covers in
-          let whole = sum_without (λ (h : Grant). cond (is_reader h.mode && covers_byte n k h) 1 0) locks i id g rise at named in
+          let whole = sum_without (λ (h : Grant). cond (reads_at n k h) 1 0) locks i id g rise at named in
           omega (arith, whole, one_here)
-      counted Writer is_mode =
-          let one_here : one (not (is_reader g.mode) && covers_byte n k g) ≡ 1 = ap (λ m. cond (not (is_reader m) && covers_byte n k g) 1 0) is_mode ∙ ap (λ b. cond b 1 0) covers in
-          let whole = sum_without (λ (h : Grant). cond (not (is_reader h.mode) && covers_byte n k h) 1 0) locks i id g rise at named in
-          omega (arith, whole, one_here)
+      counted Writer is_mode = tt
 
-      by : (o : Option Part) → get key_cmp table (key g.range.number k) ≡ o → IfSome o (CanRecountPart g.mode Fewer)
+      by : (o : Option Part) → get nat_cmp table k ≡ o → IfSome o (CanRecountPart (change_of_release g.mode))
       by None at_k = tt
-      by (Some p) at_k = subst (λ (q : Part). CanRecountPart g.mode Fewer q) (sym (part_here table (counts_of locks) is n k p at_k)) (counted g.mode refl)
+      by (Some p) at_k = subst (λ (q : Part). CanRecountPart (change_of_release g.mode) q) (sym (part_here table (counts_of n locks) is k p at_k)) (counted g.mode refl)
 
 -- where a lock neither begins nor ends, it covers what it covers before
 no_end_at : (n k : ℕ) (g : Grant) → ends_at n k g ≡ 0 → ((n ≡ g.range.number) → (k ≡ g.range.low) → ⊥) × ((n ≡ g.range.number) → (k ≡ g.range.high) → ⊥)
@@ -196,33 +306,39 @@ zero_sum : (locks : List Grant) → sum_by (λ (x : Grant). 0) locks ≡ 0
 zero_sum [] = refl
 zero_sum (x ∷ xs) = sum_by-cons (λ (y : Grant). 0) x xs ∙ ap (λ n. 0 + n) (zero_sum xs)
 
-nothing : (b : Bool) → (b && false) ≡ false
-nothing true = refl
-nothing false = refl
+-- and what is found
+finds_agree : (e : Grant → ℕ) (p q : Grant → Bool) → ((x : Grant) → e x ≡ 0 → p x ≡ q x) → (locks : List Grant) → sum_by e locks ≡ 0 → find p locks ≡ find q locks
+finds_agree e p q same [] none = refl
+finds_agree e p q same (x ∷ xs) none =
+    let parts : sum_by e (x ∷ xs) ≡ e x + sum_by e xs = sum_by-cons e x xs in
+    λ i. cond (same x (omega arith) i) (Some x) (finds_agree e p q same xs (omega arith) i)
+
+finds_none : (locks : List Grant) → find (λ (x : Grant). false) locks ≡ None
+finds_none [] = refl
+finds_none (x ∷ xs) = finds_none xs
 
 -- what covers an offset changes only at ends
-pub counts_still : (locks : List Grant) → IsStill (counts_of locks)
-counts_still locks = record {
-  first = λ n none. (
-    sums_agree (ends_at n 0) (λ (g : Grant). cond (is_reader g.mode && covers_byte n 0 g) 1 0) (λ (g : Grant). 0) (λ g free. ap (λ b. cond (is_reader g.mode && b) 1 0) (covers_first n g free) ∙ ap (λ b. cond b 1 0) (nothing (is_reader g.mode))) locks none ∙ zero_sum locks,
-    sums_agree (ends_at n 0) (λ (g : Grant). cond (not (is_reader g.mode) && covers_byte n 0 g) 1 0) (λ (g : Grant). 0) (λ g free. ap (λ b. cond (not (is_reader g.mode) && b) 1 0) (covers_first n g free) ∙ ap (λ b. cond b 1 0) (nothing (not (is_reader g.mode)))) locks none ∙ zero_sum locks,
+pub counts_still : (n : ℕ) (locks : List Grant) → IsStill (counts_of n locks)
+counts_still n locks = record {
+  first = λ none. (
+    sums_agree (ends_at n 0) (λ (g : Grant). cond (reads_at n 0 g) 1 0) (λ (g : Grant). 0) (λ g free. ap (λ b. cond (is_reader g.mode && b) 1 0) (covers_first n g free) ∙ ap (λ b. cond b 1 0) (nothing (is_reader g.mode))) locks none ∙ zero_sum locks,
+    ap (option_map name_of) (finds_agree (ends_at n 0) (writes_at n 0) (λ (g : Grant). false) (λ g free. ap (λ b. not (is_reader g.mode) && b) (covers_first n g free) ∙ nothing (not (is_reader g.mode))) locks none ∙ finds_none locks),
   );
-  next = λ n k none. (
-    sums_agree (ends_at n (k + 1)) (λ (g : Grant). cond (is_reader g.mode && covers_byte n (k + 1) g) 1 0) (λ (g : Grant). cond (is_reader g.mode && covers_byte n k g) 1 0) (λ g free. ap (λ b. cond (is_reader g.mode && b) 1 0) (covers_next n k g free)) locks none,
-    sums_agree (ends_at n (k + 1)) (λ (g : Grant). cond (not (is_reader g.mode) && covers_byte n (k + 1) g) 1 0) (λ (g : Grant). cond (not (is_reader g.mode) && covers_byte n k g) 1 0) (λ g free. ap (λ b. cond (not (is_reader g.mode) && b) 1 0) (covers_next n k g free)) locks none,
+  next = λ k none. (
+    sums_agree (ends_at n (k + 1)) (λ (g : Grant). cond (reads_at n (k + 1) g) 1 0) (λ (g : Grant). cond (reads_at n k g) 1 0) (λ g free. ap (λ b. cond (is_reader g.mode && b) 1 0) (covers_next n k g free)) locks none,
+    ap (option_map name_of) (finds_agree (ends_at n (k + 1)) (writes_at n (k + 1)) (writes_at n k) (λ g free. ap (λ b. not (is_reader g.mode) && b) (covers_next n k g free)) locks none),
   );
 }
 
 -- and no count is above twice the number of locks
-pub counts_small : (table : BTreeMap (ObjectId × ℕ) Part) (locks : List Grant) → length locks ≤ 256 → IsTable table (counts_of locks) → HasCounts most_counted table
-counts_small table locks few is = record {
-  counts = counts_of locks;
+pub counts_small : (table : BTreeMap ℕ Part) (n : ℕ) (locks : List Grant) → length locks ≤ 256 → IsTable table (counts_of n locks) → HasCounts most_counted table
+counts_small table n locks few is = record {
+  counts = counts_of n locks;
   is = is;
-  still = counts_still locks;
-  small = λ n k. (
+  still = counts_still n locks;
+  small = λ k. (
     let two : sum_by (ends_at n k) locks ≤ length locks * 2 = sum_by-le (ends_at n k) 2 locks (All-each _ locks (λ i g at. two_ends n k g)) in omega arith,
-    let most : count_by (λ (g : Grant). is_reader g.mode && covers_byte n k g) locks ≤ length locks = count_by-le-length (λ (g : Grant). is_reader g.mode && covers_byte n k g) locks in omega arith,
-    let most : count_by (λ (g : Grant). not (is_reader g.mode) && covers_byte n k g) locks ≤ length locks = count_by-le-length (λ (g : Grant). not (is_reader g.mode) && covers_byte n k g) locks in omega arith,
+    let most : count_by (reads_at n k) locks ≤ length locks = count_by-le-length (reads_at n k) locks in omega arith,
   );
 }
   where

@@ -1,9 +1,8 @@
 -- The table finds a lock by its name, and takes it out, as definitions do of the list of held locks.
 use Rattle.std.proofs.Common.{◌≡◌, ℕ, ◌<◌, ◌==◌, ◌&&◌, Bool, true, false, not, cond, List, [], ◌∷◌, map, filter, refl, ap, sym, ◌∙◌, arith, Option, None, Some, inl, inr, zero, suc, ◌++◌}
-use Rattle.std.specs.Prelude.{slice_get, nat_eq}
+use Rattle.std.specs.Prelude.{IsSome, slice_get, nat_eq}
 use Rattle.std.specs.List.{find}
 use Rattle.std.specs.Map.{lookup, remove_entry}
-use Rattle.indexmap.specs.IndexMap.{insert_entry}
 use Rattle.std.proofs.lemmas.Bool.{ne_eqb, eq-eqb, cases_eq}
 use Rattle.base.specs.declared.names.LockId.{LockId}
 use Rattle.base.specs.steps.Locks.{Grant}
@@ -61,6 +60,15 @@ find-named id owner (e ∷ es) rise = elim (cases_eq id e.0.0) as (λ _. find (i
         by true = ap (λ n. Some (grant_of (record { 0 = n }, e.1))) (sym same)
         by false = none_named id owner (map grant_of es) (λ i h at. let low : e.0.0 < h.id = behind (grant_of e) (map grant_of es) rise i h at in omega arith)
 
+-- so a lock that is found so is there
+pub held_named : (id owner : ℕ) (es : List (LockId × HeldLock)) → NamesRise (map grant_of es) → (g : Grant) → find (is_named id owner) (map grant_of es) ≡ Some g
+    → IsSome (lookup (λ (k : LockId). nat_eq id k.0) es)
+held_named id owner es rise g found = by (lookup (λ (k : LockId). nat_eq id k.0) es) (sym (find-named id owner es rise) ∙ found)
+  where
+    by : (o : Option HeldLock) → owned id owner o ≡ Some g → IsSome o
+    by None is = absurd (let no_way : ◌≡◌ {A = Option Grant} None (Some g) = is in cc)
+    by (Some h) is = refl
+
 -- what is left without a name
 pub map-remove_entry : (id : ℕ) (es : List (LockId × HeldLock)) → NamesRise (map grant_of es)
     → map grant_of (remove_entry (λ (k : LockId). nat_eq id k.0) es) ≡ filter (λ (g : Grant). not (g.id == id)) (map grant_of es)
@@ -75,12 +83,3 @@ map-remove_entry id (e ∷ es) rise = elim (cases_eq id e.0.0) as (λ _. map gra
       ∙ ap (λ l. grant_of e ∷ l) (map-remove_entry id es (rest_rises (grant_of e) (map grant_of es) rise))
       ∙ sym (ap (λ b. cond (not b) (grant_of e ∷ filter (λ (g : Grant). not (g.id == id)) (map grant_of es)) (filter (λ (g : Grant). not (g.id == id)) (map grant_of es))) (ne_eqb e.0.0 id (λ same. apart (sym same))))
 ]
-
--- a new name goes last
-pub map-insert_entry : (id : ℕ) (h : HeldLock) (es : List (LockId × HeldLock)) → ((i : ℕ) (g : Grant) → slice_get (map grant_of es) i ≡ Some g → g.id < id)
-    → map grant_of (insert_entry (λ (a b : LockId). nat_eq a.0 b.0) es (record { 0 = id }) h) ≡ map grant_of es ++ grant_of (record { 0 = id }, h) ∷ []
-map-insert_entry id h [] below = refl
-map-insert_entry id h (e ∷ es) below =
-    let apart : nat_eq id e.0.0 ≡ false = ne_eqb id e.0.0 (λ same. let low : e.0.0 < id = below zero (grant_of e) refl in absurd (omega arith)) in
-    ap (λ b. map grant_of (cond b ((e.0, h) ∷ es) (e ∷ insert_entry (λ (a b : LockId). nat_eq a.0 b.0) es (record { 0 = id }) h))) apart
-    ∙ ap (λ l. grant_of e ∷ l) (map-insert_entry id h es (λ i g at. below (suc i) g at))

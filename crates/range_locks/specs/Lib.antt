@@ -1,3 +1,4 @@
 pub mod Locks
+pub mod Table
 pub mod Pieces
 pub mod Parts

@@ -1,132 +1,167 @@
--- The held ranges of each number, cut at the ends of its locks: what the table of parts has.
-use Rattle.std.specs.Prelude.{ℕ, ◌≡◌, ◌+◌, ◌-◌, ◌*◌, ◌<◌, ◌≤◌, ◌==◌, ◌&&◌, ◌||◌, Bool, true, false, not, Option, Some, None, IfSome, List, sum_by, nat_lt, nat_le, if◌then◌else◌}
-use Rattle.std.specs.List.{count_by}
+-- The held ranges of each number, cut at the ends of its locks: what the tables of parts have.
+use Rattle.std.specs.Prelude.{ℕ, ◌≡◌, ◌+◌, ◌-◌, ◌*◌, ◌<◌, ◌≤◌, ◌==◌, ◌&&◌, ◌||◌, Bool, true, false, not, Option, Some, None, IfSome, is_some, List, sum_by, nat_eq, nat_lt, nat_le, if◌then◌else◌}
+use Rattle.std.specs.List.{count_by, find}
+use Rattle.std.specs.Option.{option_map}
 use Rattle.std.specs.BTreeMap.{BTreeMap, get}
-use Rattle.std.specs.Ordering.{nat_cmp, ordering_then}
-use Rattle.std.specs.declared.cmp.Ordering.{Ordering}
-use Rattle.base.specs.declared.names.ObjectId.{ObjectId}
+use Rattle.std.specs.HashMap as hashes
+use Rattle.std.specs.HashMap.{HashMap}
+use Rattle.std.specs.Ordering.{nat_cmp}
+use Rattle.base.specs.declared.names.LockId.{LockId}
 use Rattle.base.specs.declared.range.Mode.{Mode}
 use Rattle.base.specs.declared.range.Mode.TheVariants.{Reader, Writer}
+use Rattle.base.specs.declared.range.Range.{Range}
 use Rattle.base.specs.formats.Limits.{max_locks}
-use Rattle.base.specs.history.Plans.{NumberRange}
 use Rattle.base.specs.steps.Locks.{Grant, is_reader}
 use Rattle.range_locks.specs.Pieces.{covers_byte}
 use Rattle.range_locks.specs.Locks.{Held, AreHeld}
 use Rattle.range_locks.specs.declared.parts.Part.{Part}
+use Rattle.range_locks.specs.declared.parts.Parts.{Parts}
 use Rattle.range_locks.specs.declared.parts.Change.{Change}
-use Rattle.range_locks.specs.declared.parts.Change.TheVariants.{More, Fewer}
-
--- keys rise by number, and by offset where these are the same
-abbrev pub key_cmp : ObjectId × ℕ → ObjectId × ℕ → Ordering
-key_cmp a b = ordering_then (nat_cmp a.0.0 b.0.0) (nat_cmp a.1 b.1)
-
-abbrev pub key : ℕ → ℕ → ObjectId × ℕ
-key number offset = (record { 0 = number }, offset)
+use Rattle.range_locks.specs.declared.parts.Change.TheVariants.{ReaderCame, ReaderLeft, WriterCame, WriterLeft}
 
 -- whether some lock covers a part
 abbrev pub is_covered_part : Part → Bool
-is_covered_part p = nat_lt 0 p.writers || nat_lt 0 p.readers
+is_covered_part p = is_some p.writer || nat_lt 0 p.readers
 
 -- whether a part keeps a lock of this mode away
 abbrev pub blocks_part : Mode → Part → Bool
-blocks_part mode p = nat_lt 0 p.writers || (nat_lt 0 p.readers && not (is_reader mode))
+blocks_part mode p = is_some p.writer || (nat_lt 0 p.readers && not (is_reader mode))
 
--- for each number and offset: how many locks begin or end there, and how many of each mode cover it
+-- for each offset of a number: how many locks begin or end there, how many readers cover it, and which writer
 abbrev pub Counts : Type 0
-Counts = ℕ → ℕ → Part
+Counts = ℕ → Part
 
--- how many ends of a lock lie at an offset
+-- how many ends of a lock lie at an offset of a number
 abbrev pub ends_at : ℕ → ℕ → Grant → ℕ
 ends_at n k g = (if (n == g.range.number) && (k == g.range.low) then 1 else 0) + (if (n == g.range.number) && (k == g.range.high) then 1 else 0)
 
--- what held locks count to
-abbrev pub counts_of : List Grant → Counts
-counts_of locks n k = record {
+-- whether a reader covers an offset of a number, and whether a writer does
+abbrev pub reads_at : ℕ → ℕ → Grant → Bool
+reads_at n k g = is_reader g.mode && covers_byte n k g
+
+abbrev pub writes_at : ℕ → ℕ → Grant → Bool
+writes_at n k g = not (is_reader g.mode) && covers_byte n k g
+
+abbrev pub name_of : Grant → LockId
+name_of g = record { 0 = g.id }
+
+-- what held locks count to at a number
+abbrev pub counts_of : ℕ → List Grant → Counts
+counts_of n locks k = record {
   ends = sum_by (ends_at n k) locks;
-  readers = count_by (λ (g : Grant). is_reader g.mode && covers_byte n k g) locks;
-  writers = count_by (λ (g : Grant). not (is_reader g.mode) && covers_byte n k g) locks;
+  readers = count_by (reads_at n k) locks;
+  writer = option_map name_of (find (writes_at n k) locks);
 }
 
 -- the table has the offsets where a lock begins or ends
 abbrev pub stored : Part → Option Part
 stored p = if p.ends == 0 then None else Some p
 
-abbrev pub IsTable : BTreeMap (ObjectId × ℕ) Part → Counts → Type 0
-IsTable table f = (n k : ℕ) → get key_cmp table (key n k) ≡ stored (f n k)
+abbrev pub IsTable : BTreeMap ℕ Part → Counts → Type 0
+IsTable table f = (k : ℕ) → get nat_cmp table k ≡ stored (f k)
 
--- the table has nothing at the offsets of a number from one to another
-abbrev pub HasNone : BTreeMap (ObjectId × ℕ) Part → ℕ → ℕ → ℕ → Type 0
-HasNone table n low high = (k : ℕ) → low ≤ k → k < high → get key_cmp table (key n k) ≡ None
+-- the table has nothing at the offsets from one to another
+abbrev pub HasNone : BTreeMap ℕ Part → ℕ → ℕ → Type 0
+HasNone table low high = (k : ℕ) → low ≤ k → k < high → get nat_cmp table k ≡ None
 
 -- a table of counts becomes one of other counts
-abbrev pub Becomes : BTreeMap (ObjectId × ℕ) Part → (Counts → Counts) → BTreeMap (ObjectId × ℕ) Part → Type 0
+abbrev pub Becomes : BTreeMap ℕ Part → (Counts → Counts) → BTreeMap ℕ Part → Type 0
 Becomes old change new = (f : Counts) → IsTable old f → IsTable new (change f)
 
 -- what covers an offset changes only where a lock begins or ends
 pub record IsStill (f : Counts) : Type 0 where
-  pub first : (n : ℕ) → (f n 0).ends ≡ 0 → ((f n 0).readers ≡ 0) × ((f n 0).writers ≡ 0)
-  pub next : (n k : ℕ) → (f n (k + 1)).ends ≡ 0 → ((f n (k + 1)).readers ≡ (f n k).readers) × ((f n (k + 1)).writers ≡ (f n k).writers)
+  pub first : (f 0).ends ≡ 0 → ((f 0).readers ≡ 0) × ((f 0).writer ≡ None)
+  pub next : (k : ℕ) → (f (k + 1)).ends ≡ 0 → ((f (k + 1)).readers ≡ (f k).readers) × ((f (k + 1)).writer ≡ (f k).writer)
 
 -- what is true of the counts of a table, where these are still
-abbrev pub HoldsFor : BTreeMap (ObjectId × ℕ) Part → (Counts → Type 0) → Type 0
+abbrev pub HoldsFor : BTreeMap ℕ Part → (Counts → Type 0) → Type 0
 HoldsFor table P = (f : Counts) → IsTable table f → IsStill f → P f
 
 -- one lock more or one fewer begins or ends at an offset
-abbrev pub with_end : ℕ → ℕ → Counts → Counts
-with_end number offset f n k = if (n == number) && (k == offset) then record (f n k) { ends = (f n k).ends + 1 } else f n k
+abbrev pub with_end : ℕ → Counts → Counts
+with_end offset f k = if k == offset then record (f k) { ends = (f k).ends + 1 } else f k
 
-abbrev pub without_end : ℕ → ℕ → Counts → Counts
-without_end number offset f n k = if (n == number) && (k == offset) then record (f n k) { ends = (f n k).ends - 1 } else f n k
+abbrev pub without_end : ℕ → Counts → Counts
+without_end offset f k = if k == offset then record (f k) { ends = (f k).ends - 1 } else f k
 
--- one lock of a mode more or one fewer covers a part
-abbrev pub recounted_part : Mode → Change → Part → Part
-recounted_part Reader More p = record p { readers = p.readers + 1 }
-recounted_part Reader Fewer p = record p { readers = p.readers - 1 }
-recounted_part Writer More p = record p { writers = p.writers + 1 }
-recounted_part Writer Fewer p = record p { writers = p.writers - 1 }
+-- what a lock changes of the parts that it covers, as it is granted and as it is let go
+abbrev pub change_of_grant : LockId → Mode → Change
+change_of_grant id Reader = ReaderCame
+change_of_grant id Writer = WriterCame id
+
+abbrev pub change_of_release : Mode → Change
+change_of_release Reader = ReaderLeft
+change_of_release Writer = WriterLeft
+
+abbrev pub recounted_part : Change → Part → Part
+recounted_part ReaderCame p = record p { readers = p.readers + 1 }
+recounted_part ReaderLeft p = record p { readers = p.readers - 1 }
+recounted_part (WriterCame id) p = record p { writer = Some id }
+recounted_part WriterLeft p = record p { writer = None }
 
 -- no count is above this one: each lock has two ends
 abbrev pub most_counted : ℕ
 most_counted = 2 * max_locks
 
 -- whether that can be counted
-abbrev pub CanRecountPart : Mode → Change → Part → Type 0
-CanRecountPart Reader More p = p.readers ≤ most_counted
-CanRecountPart Reader Fewer p = 0 < p.readers
-CanRecountPart Writer More p = p.writers ≤ most_counted
-CanRecountPart Writer Fewer p = 0 < p.writers
+abbrev pub CanRecountPart : Change → Part → Type 0
+CanRecountPart ReaderCame p = p.readers ≤ most_counted
+CanRecountPart ReaderLeft p = 0 < p.readers
+CanRecountPart (WriterCame id) p = Unit {0}
+CanRecountPart WriterLeft p = Unit {0}
 
-abbrev pub CanRecount : NumberRange → Mode → Change → BTreeMap (ObjectId × ℕ) Part → Type 0
-CanRecount r mode change table = (k : ℕ) → r.low ≤ k → k < r.high → IfSome (get key_cmp table (key r.number k)) (CanRecountPart mode change)
+abbrev pub CanRecount : Range → Change → BTreeMap ℕ Part → Type 0
+CanRecount r change table = (k : ℕ) → r.low ≤ k → k < r.high → IfSome (get nat_cmp table k) (CanRecountPart change)
 
 -- the table is one of counts, and none is above a number
-pub record HasCounts (most : ℕ) (table : BTreeMap (ObjectId × ℕ) Part) : Type 0 where
-  pub counts : ℕ → ℕ → Part
+pub record HasCounts (most : ℕ) (table : BTreeMap ℕ Part) : Type 0 where
+  pub counts : ℕ → Part
   pub is : IsTable table counts
   pub still : IsStill counts
-  pub small : (n k : ℕ) → ((counts n k).ends ≤ most) × ((counts n k).readers ≤ most) × ((counts n k).writers ≤ most)
+  pub small : (k : ℕ) → ((counts k).ends ≤ most) × ((counts k).readers ≤ most)
 
--- one more or one fewer covers the offsets of a range
-abbrev pub recounted : NumberRange → Mode → Change → Counts → Counts
-recounted r mode change f n k = if (n == r.number) && (nat_le r.low k && nat_lt k r.high) then recounted_part mode change (f n k) else f n k
+-- a change at the offsets of a range
+abbrev pub recounted : Range → Change → Counts → Counts
+recounted r change f k = if nat_le r.low k && nat_lt k r.high then recounted_part change (f k) else f k
 
 -- one lock more, and one fewer
-abbrev pub with_lock : NumberRange → Mode → Counts → Counts
-with_lock r mode f = recounted r mode More (with_end r.number r.high (with_end r.number r.low f))
+abbrev pub with_lock : Range → Change → Counts → Counts
+with_lock r change f = recounted r change (with_end r.high (with_end r.low f))
 
-abbrev pub without_lock : NumberRange → Mode → Counts → Counts
-without_lock r mode f = without_end r.number r.high (without_end r.number r.low (recounted r mode Fewer f))
+abbrev pub without_lock : Range → Change → Counts → Counts
+without_lock r change f = without_end r.high (without_end r.low (recounted r change f))
 
 -- some offset of a range keeps a lock of a mode away, or none does
-pub record IsBlockedIn (r : NumberRange) (mode : Mode) (f : Counts) : Type 0 where
+pub record IsBlockedIn (r : Range) (mode : Mode) (f : Counts) : Type 0 where
   pub offset : ℕ
   pub in_range : (r.low ≤ offset) × (offset < r.high)
-  pub blocks : blocks_part mode (f r.number offset) ≡ true
+  pub blocks : blocks_part mode (f offset) ≡ true
 
-abbrev pub IsFreeIn : NumberRange → Mode → Counts → Type 0
-IsFreeIn r mode f = (k : ℕ) → r.low ≤ k → k < r.high → blocks_part mode (f r.number k) ≡ false
+abbrev pub IsFreeIn : Range → Mode → Counts → Type 0
+IsFreeIn r mode f = (k : ℕ) → r.low ≤ k → k < r.high → blocks_part mode (f k) ≡ false
 
--- held locks, and a table of parts that is theirs
-pub record AreCounted (held : Held) (table : BTreeMap (ObjectId × ℕ) Part) : Type 0 where
+-- held locks, and a table of the parts of a number that is theirs
+pub record AreCounted (n : ℕ) (held : Held) (table : BTreeMap ℕ Part) : Type 0 where
   pub are : AreHeld held
-  pub is : IsTable table (counts_of held.locks)
+  pub is : IsTable table (counts_of n held.locks)
+
+-- the parts of a number, where some lock of it is held
+abbrev pub parts_of : {S : Type 0} → HashMap ℕ Parts S → ℕ → Option Parts
+parts_of numbers n = hashes.get nat_eq numbers n
+
+-- they are those of counts: without parts no lock begins or ends
+abbrev pub IsTableOf : Option Parts → Counts → Type 0
+IsTableOf None f = (k : ℕ) → (f k).ends ≡ 0
+IsTableOf (Some parts) f = IsTable parts.table f
+
+-- what is true of the counts of the parts of a number, and what these become
+abbrev pub HoldsOf : Option Parts → (Counts → Type 0) → Type 0
+HoldsOf parts P = (f : Counts) → IsTableOf parts f → IsStill f → P f
+
+abbrev pub BecomesOf : Option Parts → (Counts → Counts) → Option Parts → Type 0
+BecomesOf old change new = (f : Counts) → IsTableOf old f → IsTableOf new (change f)
+
+-- held locks, and the parts of all numbers that are theirs
+pub record AreAllCounted {S : Type 0} (held : Held) (numbers : HashMap ℕ Parts S) : Type 0 where
+  pub are : AreHeld held
+  pub is : (n : ℕ) → IsTableOf (parts_of numbers n) (counts_of n held.locks)

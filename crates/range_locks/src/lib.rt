@@ -3,7 +3,10 @@
 
 mod held;
 mod locks;
+mod numbers;
 mod parts;
+mod table;
 
 pub use held::{HeldLock, HeldPiece};
 pub use locks::RangeLocks;
+pub use table::HeldLocks;

@@ -5,42 +5,41 @@
 
 ghost use Rattle.std.specs.Prelude.{◌≡◌, [], IsOk, IfOk, IfErr, OnOk, OnErr, IsSome, ◌↔◌};
 ghost use Rattle.std.specs.List.{list_any};
-ghost use Rattle.base.specs.history.Plans.{number_range};
+ghost use Rattle.base.specs.history.Plans.{lies_in, number_range};
 ghost use Rattle.range_locks.specs.Locks.{covers, covers_for_writing, grant_of};
 
 use crate::held::{HeldLock, HeldPiece};
-use crate::parts::Parts;
+use crate::numbers::Numbers;
+use crate::table::{HeldLocks, HeldTable};
 use base::{
     LAST_NUMBER, LockId, MAX_LENGTH, MAX_LOCKS, Mode, OBJECT_COUNT, ObjectId, ObjectRange, Owner,
     PoolError, Range,
 };
-use indexmap::IndexMap;
-use indexmap::map::Iter;
 use std::alloc::Global;
 use std::marker::Model;
 
 /// The held range locks in order of grant, and the number of grants so far. Contracts see these two.
 #[derive(Drop)]
 pub struct RangeLocks {
-    held: IndexMap<LockId, HeldLock>,
-    parts: Parts,
-    next: u64,
+    held: HeldTable,
+    numbers: Numbers,
 }
 
 impl Model for RangeLocks {
     ghost use Rattle.std.specs.Prelude.{map};
     ghost use Rattle.range_locks.specs.Locks.{Held, grant_of};
-    ghost use Rattle.range_locks.specs.Parts.{AreCounted};
+    ghost use Rattle.range_locks.specs.Parts.{AreAllCounted};
 
     ghost Value = { Held };
 
-    ghost view = { λ a. record { locks = map grant_of a.held.entries; next = a.next } };
+    ghost view = { λ a. record { locks = map grant_of a.held.entries; next = a.held.next } };
 
-    ghost invariant = { λ a. AreCounted (record { locks = map grant_of a.held.entries; next = a.next }) a.parts.table };
+    ghost invariant = { λ a. AreAllCounted (record { locks = map grant_of a.held.entries; next = a.held.next }) a.numbers.parts };
 }
 
 impl RangeLocks {
-    ghost use Rattle.std.specs.Prelude.{option_map, map, length, ◌≤◌, ◌<◌};
+    ghost use Rattle.std.specs.Option.{option_map_or};
+    ghost use Rattle.std.specs.Prelude.{option_map, map, length, ◌≤◌, ◌<◌, false};
     ghost use Rattle.std.specs.List.{find};
     ghost use Rattle.std.specs.Map.Iter.{ShowsInOrder, deref_pair};
     ghost use Rattle.base.specs.formats.Limits.{max_locks};
@@ -54,9 +53,8 @@ impl RangeLocks {
         ensures next { result.next ≡ 0 }
     {
         RangeLocks {
-            held: IndexMap::new(alloc),
-            parts: Parts::new(alloc),
-            next: 0,
+            held: HeldTable::new(alloc),
+            numbers: Numbers::new(alloc),
         }
     }
 
@@ -83,17 +81,13 @@ impl RangeLocks {
         if self.is_blocked(&range, mode) {
             return Err(PoolError::Busy);
         }
-        if self.held.len() >= MAX_LOCKS || self.next > LAST_NUMBER {
+        if self.held.len() >= MAX_LOCKS || self.held.next_name().0 > LAST_NUMBER {
             return Err(PoolError::TooMany);
         }
-        self.held.reserve(1)?;
-        self.parts.add(&range, mode)?;
-        let id = LockId(self.next);
-        self.held
-            .insert(id, HeldLock { owner, range, mode })
-            .unwrap();
-        self.next += 1;
-        Ok(id)
+        self.held.make_room()?;
+        let id = self.held.next_name();
+        self.numbers.add(&range, id, mode)?;
+        Ok(self.held.insert(HeldLock { owner, range, mode }))
     }
 
     /// Whether a held lock and one of this mode may not overlap in a range.
@@ -101,7 +95,7 @@ impl RangeLocks {
         requires { range.now.range.low < range.now.range.high }
         ensures { result ≡ is_blocked (number_range range.now) mode self.now.locks }
     {
-        self.parts.blocks(range, mode)
+        self.numbers.blocks(range, mode)
     }
 
     /// Grants a writer lock from the end of an object to the top of each range, and answers its name and its range. The
@@ -140,7 +134,7 @@ impl RangeLocks {
         ensures { option_map (λ lock. grant_of (id, lock.now)) result
             ≡ find (is_named id.0 owner.0) self.now.locks }
     {
-        match self.held.get(&id) {
+        match self.held.get(id) {
             Some(lock) if lock.owner.0 == owner.0 => Some(lock),
             _ => None,
         }
@@ -160,8 +154,8 @@ impl RangeLocks {
             return Err(PoolError::NoSuchLock);
         };
         let HeldLock { range, mode, .. } = *lock;
-        self.held.shift_remove(&id);
-        self.parts.remove(&range, mode);
+        self.held.let_go(id);
+        self.numbers.remove(&range, mode);
         Ok(())
     }
 
@@ -169,6 +163,15 @@ impl RangeLocks {
     pub fn covers(&self, owner: Owner, range: &ObjectRange) -> bool
         ensures { result ≡ is_covered owner.0 (number_range range.now) self.now.locks }
     {
+        if range.range.low < range.range.high {
+            let part = self.numbers.part_at(range.object, range.range.low);
+            if let Some(id) = part.writer {
+                return self.lock_covers(owner, id, range);
+            }
+            if part.readers == 0 {
+                return false;
+            }
+        }
         any_covers(&self.held, owner, range)
     }
 
@@ -177,11 +180,29 @@ impl RangeLocks {
         ensures { result
             ≡ is_covered_for_writing owner.0 (number_range range.now) self.now.locks }
     {
+        if range.range.low < range.range.high {
+            let part = self.numbers.part_at(range.object, range.range.low);
+            return match part.writer {
+                Some(id) => self.lock_covers(owner, id, range),
+                None => false,
+            };
+        }
         any_covers_for_writing(&self.held, owner, range)
     }
 
+    /// Whether the owner's lock of this name covers a range.
+    fn lock_covers(&self, owner: Owner, id: LockId, range: &ObjectRange) -> bool
+        ensures { result ≡ option_map_or (λ g. lies_in (number_range range.now) g.range)
+            (find (is_named id.0 owner.0) self.now.locks) false }
+    {
+        match self.find(owner, id) {
+            Some(lock) => range.lies_in(&lock.range),
+            None => false,
+        }
+    }
+
     /// The held locks in order of grant, each with its name.
-    pub fn held(&self) -> Iter<'_, LockId, HeldLock>
+    pub fn held(&self) -> HeldLocks<'_>
         ensures locks { map grant_of result ≡ self.now.locks }
         ensures sound { AreLocksSound self.now.locks }
         ensures count { length result ≤ max_locks }
@@ -199,29 +220,25 @@ impl RangeLocks {
             (λ pieces. pieces.items ≡ pieces_of number.0 self.now.locks) }
         ensures refused { IfErr result (λ e. e ≡ PoolError.NoMemory) }
     {
-        self.parts.pieces(*self.held.allocator(), number)
+        self.numbers.pieces(number)
     }
 
     /// The name of the next lock: the number of grants so far.
     pub fn next_name(&self) -> LockId
         ensures { result.0 ≡ self.now.next }
     {
-        LockId(self.next)
+        self.held.next_name()
     }
 }
 
-fn any_covers(held: &IndexMap<LockId, HeldLock>, owner: Owner, range: &ObjectRange) -> bool
+fn any_covers(held: &HeldTable, owner: Owner, range: &ObjectRange) -> bool
     ensures { result
         ≡ list_any (λ e. covers owner.0 (number_range range.now) (grant_of e)) held.now.entries }
 {
     held.iter().any(|(_, lock)| lock.owner.0 == owner.0 && range.lies_in(&lock.range))
 }
 
-fn any_covers_for_writing(
-    held: &IndexMap<LockId, HeldLock>,
-    owner: Owner,
-    range: &ObjectRange,
-) -> bool
+fn any_covers_for_writing(held: &HeldTable, owner: Owner, range: &ObjectRange) -> bool
     ensures { result
         ≡ list_any (λ e. covers_for_writing owner.0 (number_range range.now) (grant_of e))
         held.now.entries }

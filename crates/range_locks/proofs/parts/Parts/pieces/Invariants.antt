@@ -5,7 +5,7 @@ use Rattle.range_locks.proofs.parts.Parts.pieces.Given as goal
 
 -- the pieces so far, and those from the next key on, are all of them
 abbrev pub invariant-loop-begin : goal.invariant-loop-begin
-invariant-loop-begin l = IsWalked l.number.0 l.self.table l.pieces.items l.begin
+invariant-loop-begin l = IsWalked l.self.table l.pieces.items l.begin
 
 -- how many offsets there are from the next key on
 abbrev offsets_left : Option (ℕ × Part) → ℕ

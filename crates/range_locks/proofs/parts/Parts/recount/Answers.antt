@@ -9,11 +9,11 @@ loop-at-preserved c =
     let kept = c.loop-at.invariant in
     let now = c.get_mut.follows.lender c.recounted.result in
     let writes = c.get_mut.follows.holds c.recounted.result in
-    let from : c.args.range.now.range.low ≤ c.loop-at.offset = kept.0 in
+    let from : c.args.range.low ≤ c.loop-at.offset = kept.0 in
     let at : c.loop-at.offset ≤ c.in-Some.at = c.in-Some.ensures.within.0 in
-    let to : c.in-Some.at < c.args.range.now.range.high = c.in-Some.ensures.within.1 in (
+    let to : c.in-Some.at < c.args.range.high = c.in-Some.ensures.within.1 in (
       omega arith,
       omega arith,
-      λ k after. others_stay c.loop-at.self.table now c.args.range.now.object.0 c.in-Some.at _ writes (ap is_some c.in-Some.ensures.part) k (λ same. omega arith) ∙ kept.2 k (omega arith),
-      λ f is. counted_next c.args.range.now.object.0 c.args.range.now.range.low c.args.mode c.args.change c.loop-at.self.table now c.loop-at.offset c.in-Some.at c.in-Some.part c.recounted.result from at c.in-Some.ensures.before c.in-Some.ensures.part writes c.recounted.ensures f (kept.3 f is),
+      λ k after. others_stay c.loop-at.self.table now c.in-Some.at _ writes (ap is_some c.in-Some.ensures.part) k (λ same. omega arith) ∙ kept.2 k (omega arith),
+      λ f is. counted_next c.args.range.low c.args.change c.loop-at.self.table now c.loop-at.offset c.in-Some.at c.in-Some.part c.recounted.result from at c.in-Some.ensures.before c.in-Some.ensures.part writes c.recounted.ensures f (kept.3 f is),
     )

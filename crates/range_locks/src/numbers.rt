@@ -1,0 +1,112 @@
+//! The parts of each number that held locks are of, so that a lock costs the same whatever other numbers have locks.
+
+ghost use Rattle.std.specs.Prelude.{ℕ, ◌≡◌, ◌≢◌, ◌≤◌, ◌<◌, true, false, None, IfSome, IfOk, OnOk, OnErr, IfErr};
+ghost use Rattle.range_locks.specs.Locks.{Held};
+ghost use Rattle.range_locks.specs.Pieces.{pieces_of};
+ghost use Rattle.range_locks.specs.Parts.{AreAllCounted, BecomesOf, CanRecount, change_of_grant, change_of_release, HasCounts, HoldsOf, IsBlockedIn, IsFreeIn, IsTableOf, most_counted, parts_of, with_lock, without_lock};
+
+use crate::held::HeldPiece;
+use crate::parts::{NOTHING, Part, Parts};
+use base::{LockId, Mode, ObjectId, ObjectRange, PoolError};
+use indexmap::IndexMap;
+use std::alloc::Global;
+
+/// The parts by number. A number that no held lock is of has none.
+#[derive(Drop)]
+pub(crate) struct Numbers {
+    parts: IndexMap<u32, Parts>,
+}
+
+impl Numbers {
+    /// No parts. It takes no memory.
+    pub fn new(alloc: Global) -> Self
+        ensures { (n : ℕ) → parts_of result.parts n ≡ None }
+    {
+        Numbers {
+            parts: IndexMap::new(alloc),
+        }
+    }
+
+    /// What covers an offset of a number, and how many locks begin or end there.
+    pub fn part_at(&self, number: ObjectId, at: u64) -> Part
+        ensures { HoldsOf (parts_of self.now.parts number.0) (λ f. result ≡ f at) }
+    {
+        match self.parts.get(&number.0) {
+            Some(parts) => parts.part_at(at),
+            None => NOTHING,
+        }
+    }
+
+    /// One more lock covers a range. It is refused where there is no memory, and then nothing has changed.
+    pub fn add(&mut self, range: &ObjectRange, id: LockId, mode: Mode) -> Result<(), PoolError>
+        requires ordered { range.now.range.low ≤ range.now.range.high }
+        requires counted { IfSome (parts_of self.old.parts range.now.object.0)
+            (λ parts. HasCounts most_counted parts.table) }
+        ensures added { OnOk result (HoldsOf (parts_of self.old.parts range.now.object.0)
+            (λ f. IsTableOf (parts_of self.new.parts range.now.object.0)
+            (with_lock range.now.range (change_of_grant id mode) f))) }
+        ensures unchanged { OnErr result (HoldsOf (parts_of self.old.parts range.now.object.0)
+            (λ f. IsTableOf (parts_of self.new.parts range.now.object.0) f)) }
+        ensures others { (n : ℕ) → n ≢ range.now.object.0
+            → parts_of self.new.parts n ≡ parts_of self.old.parts n }
+        ensures refused { IfErr result (λ e. e ≡ PoolError.NoMemory) }
+    {
+        if let Some(parts) = self.parts.get_mut(&range.object.0) {
+            return parts.add(range.range, id, mode);
+        }
+        self.parts.reserve(1)?;
+        let mut parts = Parts::new(*self.parts.allocator());
+        parts.add(range.range, id, mode)?;
+        self.parts.insert(range.object.0, parts).unwrap();
+        Ok(())
+    }
+
+    /// One lock fewer covers a range. It takes no memory.
+    pub fn remove(&mut self, range: &ObjectRange, mode: Mode)
+        requires ordered { range.now.range.low ≤ range.now.range.high }
+        requires counted { IfSome (parts_of self.old.parts range.now.object.0)
+            (λ parts. CanRecount range.now.range (change_of_release mode) parts.table) }
+        ensures removed { BecomesOf (parts_of self.old.parts range.now.object.0)
+            (without_lock range.now.range (change_of_release mode))
+            (parts_of self.new.parts range.now.object.0) }
+        ensures others { (n : ℕ) → n ≢ range.now.object.0
+            → parts_of self.new.parts n ≡ parts_of self.old.parts n }
+    {
+        let Some(parts) = self.parts.get_mut(&range.object.0) else {
+            return;
+        };
+        parts.remove(range.range, mode);
+        if parts.is_empty() {
+            self.parts.swap_remove(&range.object.0);
+        }
+    }
+
+    /// Whether some part of a range keeps a lock of this mode away.
+    pub fn blocks(&self, range: &ObjectRange, mode: Mode) -> bool
+        requires { range.now.range.low < range.now.range.high }
+        ensures some { result ≡ true
+            → HoldsOf (parts_of self.now.parts range.now.object.0)
+            (IsBlockedIn range.now.range mode) }
+        ensures none { result ≡ false
+            → HoldsOf (parts_of self.now.parts range.now.object.0)
+            (IsFreeIn range.now.range mode) }
+    {
+        match self.parts.get(&range.object.0) {
+            Some(parts) => parts.blocks(range.range, mode),
+            None => false,
+        }
+    }
+
+    /// The pieces of a number, rising.
+    pub fn pieces(&self, number: ObjectId) -> Result<Vec<HeldPiece>, PoolError>
+        ensures pieces { IfOk result (λ pieces. (held : Held)
+            → AreAllCounted held self.now.parts → pieces.items ≡ pieces_of number.0 held.locks) }
+        ensures refused { IfErr result (λ e. e ≡ PoolError.NoMemory) }
+    {
+        let alloc = *self.parts.allocator();
+        match self.parts.get(&number.0) {
+            Some(parts) => parts.pieces(alloc),
+            None => Ok(Vec::new(alloc)),
+        }
+    }
+}
