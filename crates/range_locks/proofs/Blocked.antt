@@ -1,6 +1,6 @@
 -- A range is blocked by the held locks exactly where some offset of it is by what covers it.
 use Rattle.std.proofs.Common.{◌≡◌, ℕ, zero, suc, ◌+◌, ◌<◌, ◌≤◌, ◌==◌, ◌&&◌, ◌||◌, Bool, true, false, not, cond, List, [], ◌∷◌, refl, ap, sym, ◌∙◌, arith, inl, inr}
-use Rattle.std.specs.Prelude.{Some, None, Option, is_some, slice_get, nat_lt, nat_le}
+use Rattle.std.specs.Prelude.{Some, is_some, slice_get, nat_lt, nat_le}
 use Rattle.std.specs.List.{count_by}
 use Rattle.std.proofs.Math.Bool.{or-true}
 use Rattle.std.proofs.lemmas.Bool.{and_parts, eq-eqb, eqb-true, leb-true, le-leb, lt-ltb, ltb-true, or_cases, cases_lt, cases_Bool}
@@ -9,7 +9,7 @@ use Rattle.base.specs.declared.range.Mode.{Mode}
 use Rattle.base.specs.declared.range.Mode.TheVariants.{Reader, Writer}
 use Rattle.base.specs.history.Plans.{NumberRange, overlaps}
 use Rattle.base.specs.steps.Locks.{Grant, is_blocked, is_reader}
-use Rattle.base.proofs.common.KeptLists.{any_at, any_found, Some-injective}
+use Rattle.base.proofs.common.KeptLists.{any_at, any_found}
 use Rattle.range_locks.specs.Locks.{Held, AreHeld, blocks}
 use Rattle.range_locks.proofs.LockCounts.{any-find, found_counted, one, span}
 use Rattle.range_locks.specs.Parts.{counts_of, IsBlockedIn, IsFreeIn, reads_at, writes_at}

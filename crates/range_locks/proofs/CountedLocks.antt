@@ -1,11 +1,10 @@
 -- Held locks and the parts of all numbers stay in step as a lock is granted and as one is let go.
-use Rattle.std.proofs.Common.{◌≡◌, ℕ, ◌<◌, ◌≤◌, ◌==◌, ◌&&◌, true, false, not, length, filter, ap, sym, subst, ◌∙◌, arith, inl, inr}
+use Rattle.std.proofs.Common.{◌≡◌, ℕ, ◌<◌, ◌≤◌, ◌==◌, true, false, not, length, filter, ap, sym, subst, ◌∙◌, arith, inl, inr}
 use Rattle.std.specs.Prelude.{Some, None, Option, IfSome, slice_get}
 use Rattle.std.specs.List.{find}
 use Rattle.std.specs.HashMap.{HashMap}
 use Rattle.std.proofs.lemmas.Bool.{and_parts, cases_eq, eq-eqb, eqb-true}
 use Rattle.std.proofs.lemmas.Option.{slice_get_within}
-use Rattle.base.specs.declared.names.LockId.{LockId}
 use Rattle.base.specs.declared.range.Mode.{Mode}
 use Rattle.base.specs.formats.Limits.{max_locks, last_number}
 use Rattle.base.specs.history.Plans.{NumberRange}
@@ -14,7 +13,7 @@ use Rattle.base.proofs.common.KeptLists.{at_filter, at_last, at_old, found_at, S
 use Rattle.range_locks.specs.declared.parts.Part.{Part}
 use Rattle.range_locks.specs.declared.parts.Parts.{Parts}
 use Rattle.range_locks.specs.Locks.{Held, is_named, with_grant, without}
-use Rattle.range_locks.specs.Parts.{AreAllCounted, CanRecount, change_of_grant, change_of_release, Counts, counts_of, HasCounts, IsTableOf, most_counted, name_of, parts_of, stored, with_lock, without_lock, writes_at}
+use Rattle.range_locks.specs.Parts.{AreAllCounted, CanRecount, change_of_grant, change_of_release, Counts, counts_of, HasCounts, IsTableOf, most_counted, parts_of, stored, with_lock, without_lock, writes_at}
 use Rattle.range_locks.specs.Pieces.{covers_byte}
 use Rattle.range_locks.proofs.Grants.{granted_are, without_are}
 use Rattle.range_locks.proofs.LockCounts.{counts_small, granted_elsewhere, granted_here, is_counted, let_go_elsewhere, let_go_here, span}

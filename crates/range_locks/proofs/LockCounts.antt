@@ -15,9 +15,8 @@ use Rattle.base.specs.declared.range.Range.{Range}
 use Rattle.base.specs.history.Plans.{NumberRange}
 use Rattle.base.specs.steps.Locks.{Grant, is_reader}
 use Rattle.base.proofs.common.KeptLists.{All-each, Some-injective}
-use Rattle.range_locks.specs.declared.parts.Change.TheVariants.{ReaderCame, ReaderLeft, WriterCame, WriterLeft}
 use Rattle.range_locks.specs.declared.parts.Part.{Part}
-use Rattle.range_locks.specs.Parts.{CanRecountPart, change_of_grant, change_of_release, Counts, HasCounts, IsStill, IsTable, most_counted, counts_of, ends_at, name_of, reads_at, writes_at, recounted, recounted_part, stored, with_end, with_lock, without_end, without_lock}
+use Rattle.range_locks.specs.Parts.{CanRecountPart, change_of_grant, change_of_release, Counts, HasCounts, IsStill, IsTable, most_counted, counts_of, ends_at, name_of, reads_at, writes_at, recounted, recounted_part, with_end, with_lock, without_end, without_lock}
 use Rattle.range_locks.specs.Pieces.{covers_byte}
 use Rattle.range_locks.proofs.StoredParts.{part_here}
 use Rattle.range_locks.proofs.Names.{NamesRise, all_others, behind, rest_rises}

@@ -1,5 +1,5 @@
 -- The table finds a lock by its name, and takes it out, as definitions do of the list of held locks.
-use Rattle.std.proofs.Common.{◌≡◌, ℕ, ◌<◌, ◌==◌, ◌&&◌, Bool, true, false, not, cond, List, [], ◌∷◌, map, filter, refl, ap, sym, ◌∙◌, arith, Option, None, Some, inl, inr, zero, suc, ◌++◌}
+use Rattle.std.proofs.Common.{◌≡◌, ℕ, ◌<◌, ◌==◌, ◌&&◌, Bool, true, false, not, cond, List, [], ◌∷◌, map, filter, refl, ap, sym, ◌∙◌, arith, Option, None, Some, inl, inr, zero, suc}
 use Rattle.std.specs.Prelude.{IsSome, slice_get, nat_eq}
 use Rattle.std.specs.List.{find}
 use Rattle.std.specs.Map.{lookup, remove_entry}

@@ -1,11 +1,11 @@
 -- What is true of the parts of a number holds of what the table of numbers has under it, and without parts nothing is locked.
-use Rattle.std.proofs.Common.{◌≡◌, ℕ, ◌≤◌, refl, ap, sym, subst, ◌∙◌, arith}
+use Rattle.std.proofs.Common.{◌≡◌, ℕ, refl, sym, subst, arith}
 use Rattle.std.specs.Prelude.{Option, Some, None, Result, Ok, Err, OnOk, OnErr}
 use Rattle.std.specs.BTreeMap.{BTreeMap, get}
 use Rattle.std.specs.Ordering.{nat_cmp}
 use Rattle.range_locks.specs.declared.parts.Part.{Part}
 use Rattle.range_locks.specs.declared.parts.Parts.{Parts}
-use Rattle.range_locks.specs.Parts.{Counts, HasCounts, HoldsFor, HoldsOf, IsStill, IsTable, IsTableOf, most_counted}
+use Rattle.range_locks.specs.Parts.{Counts, HasCounts, HoldsFor, HoldsOf, IsTable, IsTableOf, most_counted}
 
 -- where there are no parts no lock begins or ends
 pub no_ends : (parts : Option Parts) → None ≡ parts → (f : Counts) → IsTableOf parts f → (k : ℕ) → (f k).ends ≡ 0

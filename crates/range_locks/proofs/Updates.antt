@@ -6,7 +6,6 @@ use Rattle.std.specs.Cmp.{nat_cmp_is}
 use Rattle.std.specs.Ordering.{nat_cmp, is_eq}
 use Rattle.std.specs.declared.cmp.Ordering.TheVariants.{Less, Equal, Greater}
 use Rattle.std.proofs.lemmas.Bool.{eq-eqb, ne_eqb, cases_eq, cases_order, le-leb, lt-leb, lt-ltb, le-ltb, cases_lt}
-use Rattle.base.specs.declared.range.Range.{Range}
 use Rattle.range_locks.specs.declared.parts.Change.{Change}
 use Rattle.range_locks.specs.declared.parts.Change.TheVariants.{ReaderCame, ReaderLeft, WriterCame, WriterLeft}
 use Rattle.range_locks.specs.declared.parts.Part.{Part}
@@ -107,13 +106,6 @@ module _ (low high : ℕ) (change : Change) (f : Counts) where
         ap (λ b. cond (b && nat_lt k high) (recounted_part change (f k)) (f k)) (le-leb low k after)
         ∙ ap (λ b. cond b (recounted_part change (f k)) (f k)) (le-ltb k high from)
   ]
-
-  pub ends-recounted : (k : ℕ) → (recounted (record { low = low; high = high }) change f k).ends ≡ (f k).ends
-  ends-recounted k = by (nat_le low k && nat_lt k high)
-    where
-      by : (b : Bool) → (cond b (recounted_part change (f k)) (f k)).ends ≡ (f k).ends
-      by true = ends-recounted_part change (f k)
-      by false = refl
 
 -- what is at the other offsets
 pub others_stay : (old new : BTreeMap ℕ Part) (k : ℕ) (v : Part) → WritesThrough nat_cmp (nat_cmp k) old v new → IsSome (get nat_cmp old k)

@@ -1,15 +1,15 @@
 -- Of the held locks one writer at most covers an offset, and no lock beside it: so the writer that a part names tells what is covered.
 use Rattle.std.proofs.Common.{◌≡◌, ℕ, ◌<◌, ◌≤◌, ◌==◌, ◌&&◌, Bool, true, false, not, List, refl, ap, sym, ◌∙◌, arith, inl, inr}
-use Rattle.std.specs.Prelude.{Some, None, Option, is_some, slice_get, nat_lt, nat_le}
+use Rattle.std.specs.Prelude.{Some, None, Option, slice_get, nat_lt, nat_le}
 use Rattle.std.specs.List.{find, list_any}
 use Rattle.std.specs.Option.{option_map, option_map_or}
-use Rattle.std.proofs.lemmas.Bool.{and_parts, cases_Bool, cases_order, eq-eqb, eqb-true, leb-true, ltb-true, le-leb, lt-ltb}
+use Rattle.std.proofs.lemmas.Bool.{and_parts, cases_Bool, cases_order, eq-eqb, eqb-true, leb-true, ltb-true, lt-ltb}
 use Rattle.base.specs.declared.names.LockId.{LockId}
 use Rattle.base.specs.declared.range.Mode.{Mode}
 use Rattle.base.specs.declared.range.Mode.TheVariants.{Reader, Writer}
 use Rattle.base.specs.history.Plans.{NumberRange, lies_in, overlaps}
 use Rattle.base.specs.steps.Locks.{AreLocksSound, Grant, is_covered, is_covered_for_writing, is_reader}
-use Rattle.base.proofs.common.KeptLists.{any_at, any_found, any_none, found_at, none_any, not_found, Some-injective}
+use Rattle.base.proofs.common.KeptLists.{any_found, any_none, found_at, none_any, not_found, Some-injective}
 use Rattle.range_locks.specs.Locks.{Held, AreHeld, covers, covers_for_writing, is_named}
 use Rattle.range_locks.specs.Parts.{counts_of, name_of, reads_at, writes_at}
 use Rattle.range_locks.specs.Pieces.{covers_byte}

@@ -1,4 +1,4 @@
-use Rattle.std.proofs.Common.{nat_eq, ◌∙◌}
+use Rattle.std.proofs.Common.{nat_eq}
 use Rattle.std.specs.Prelude.{Some}
 use Rattle.indexmap.proofs.CallerLemmas.{insert_entry-new}
 use Rattle.base.specs.declared.names.LockId.{LockId}

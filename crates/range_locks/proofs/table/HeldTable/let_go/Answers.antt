@@ -1,5 +1,5 @@
-use Rattle.std.proofs.Common.{ap, sym, subst, ◌∙◌}
-use Rattle.std.specs.Prelude.{None, IsSome, Option}
+use Rattle.std.proofs.Common.{sym, subst, ◌∙◌}
+use Rattle.std.specs.Prelude.{None, IsSome}
 use Rattle.range_locks.proofs.Places.{emptied_are, held_in-emptied, place_there, some_lent}
 use Rattle.range_locks.proofs.table.HeldTable.let_go.Goals as goal
 

@@ -1,4 +1,4 @@
-use Rattle.std.proofs.Common.{rules, ◌∙◌}
+use Rattle.std.proofs.Common.{rules}
 use Rattle.indexmap.proofs.CallerLemmas.{filter-RetainsPairs}
 use Rattle.range_locks.proofs.Places.{held_in-swept, swept_are}
 use Rattle.range_locks.proofs.table.HeldTable.sweep.Goals as goal
