@@ -24,6 +24,8 @@ mod imports;
 #[cfg(test)]
 mod label_configs;
 #[cfg(test)]
+mod patches;
+#[cfg(test)]
 mod records;
 #[cfg(test)]
 mod rings;

@@ -1,0 +1,6 @@
+pub mod PatchedBytes
+pub mod PatchedObjects
+pub mod LaidObjects
+pub mod MaskedBytes
+pub mod RecordWrites
+pub mod RecordCuts

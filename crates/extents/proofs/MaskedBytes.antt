@@ -1,0 +1,85 @@
+-- A byte laid over another by its mark.
+use Rattle.std.proofs.Common.{◌≡◌, ℕ, ◌<◌, ◌≤◌, ◌+◌, ◌-◌, ◌==◌, true, refl, ap, sym, ◌∙◌, arith, ◌⊎◌, inl, inr, bit_and, bit_or, rules, List, ◌++◌, length, get_or, take, drop, replicate, Some}
+use Rattle.std.specs.Prelude.{All}
+use Rattle.std.proofs.lemmas.Bool.{or_cases, eqb-true, cases_lt, lt-leb, le-leb, lt-ltb, le-ltb}
+use Rattle.std.proofs.lemmas.List.{get_or-append_right, get_or_append_left, length-take-le, length-replicate, get_or-replicate, get_or_past}
+use Rattle.std.proofs.lemmas.List.Elements.{All-append, All-take, All-drop, All-replicate}
+use Rattle.base.specs.disk.Disk.{put}
+use Rattle.base.proofs.disk.Put.{get_or-put_other, length-put}
+use Rattle.std.specs.Int.Bits.{and_zero_r, or_zero_l, or_zero_r}
+use Rattle.std.proofs.lemmas.Grind.{and_numeral}
+use Rattle.extents.specs.Marks.{is_mark, laid_byte, byte_in, marked_byte}
+use Rattle.extents.specs.Patches.{written_after, written_below}
+
+pub masked_byte : (mark byte below : ℕ) → is_mark mark ≡ true → byte < 256 → below < 256
+    → bit_or (bit_and byte mark) (bit_and below (255 - mark)) ≡ laid_byte mark byte below
+masked_byte mark byte below is b l = go (or_cases (mark == 0) (mark == 255) is)
+  where
+    go : ((mark == 0) ≡ true) ⊎ ((mark == 255) ≡ true) → bit_or (bit_and byte mark) (bit_and below (255 - mark)) ≡ laid_byte mark byte below
+    go (inl e) = let z : mark ≡ 0 = eqb-true mark 0 e in rw (z, and_zero_r, or_zero_l) (and_numeral below 254 refl ∙ (omega arith))
+    go (inr e) = let z : mark ≡ 255 = eqb-true mark 255 e in rw (z, and_zero_r, or_zero_r) (and_numeral byte 254 refl ∙ (omega arith))
+
+-- what is put at an offset
+get_or-put_in : (place : ℕ) (content bytes : List ℕ) (k : ℕ) → place + length content ≤ length bytes → place ≤ k → k < place + length content
+    → get_or (put place content bytes) k 0 ≡ get_or content (k - place) 0
+get_or-put_in place content bytes k fits from within =
+    let short : length (take place bytes) ≡ place = length-take-le place bytes (omega arith) in
+    get_or-append_right (take place bytes) (content ++ drop (place + length content) bytes) place k 0 short from
+    ∙ get_or_append_left content (drop (place + length content) bytes) 0 (k - place) (omega arith)
+
+-- the bytes that were written once more are
+pub written_bytes : (offset : ℕ) (content bytes mask : List ℕ) → offset + length content ≤ length bytes → offset + length content ≤ length mask
+    → (k : ℕ) → byte_in (put offset content bytes) (put offset (replicate (length content) 255) mask) k ≡ written_after offset content (byte_in bytes mask) k
+written_bytes offset content bytes mask fits marks k = go (cases_lt k offset) (cases_lt k (offset + length content))
+  where
+    marks_of : List ℕ
+    marks_of = replicate (length content) 255
+
+    long : length marks_of ≡ length content
+    long = length-replicate (length content) 255
+
+    apart : (k < offset) ⊎ (offset + length content ≤ k) → byte_in (put offset content bytes) (put offset (replicate (length content) 255) mask) k ≡ byte_in bytes mask k
+    apart side =
+        ap (λ b. marked_byte (get_or (put offset (replicate (length content) 255) mask) k 0) b) (get_or-put_other offset content bytes k fits side)
+        ∙ ap (λ m. marked_byte m (get_or bytes k 0)) (get_or-put_other offset (replicate (length content) 255) mask k (rw long marks) (rw long side))
+
+    go : (k < offset) ⊎ (offset ≤ k) → (k < offset + length content) ⊎ (offset + length content ≤ k)
+        → byte_in (put offset content bytes) (put offset (replicate (length content) 255) mask) k ≡ written_after offset content (byte_in bytes mask) k
+    go (inl before) _ = rw (lt-leb offset k before) (apart (inl before))
+    go (inr from) (inr past) = rw (le-leb offset k from, le-ltb k (offset + length content) past) (apart (inr past))
+    go (inr from) (inl within) =
+        let marked : get_or (put offset (replicate (length content) 255) mask) k 0 ≡ 255
+            = get_or-put_in offset (replicate (length content) 255) mask k (rw long marks) from (rw long within) ∙ get_or-replicate (length content) (k - offset) 255 0 (omega arith) in
+        rw (le-leb offset k from, lt-ltb k (offset + length content) within)
+        (rw marked (ap Some (get_or-put_in offset content bytes k fits from within)))
+
+-- marks stay marks
+pub put_marks : (offset count mark : ℕ) (mask : List ℕ) → is_mark mark ≡ true → All (λ m. is_mark m ≡ true) mask
+    → All (λ m. is_mark m ≡ true) (put offset (replicate count mark) mask)
+put_marks offset count mark mask is all =
+    All-append (λ m. is_mark m ≡ true) (take offset mask) (replicate count mark ++ drop (offset + length (replicate count mark)) mask) (All-take (λ m. is_mark m ≡ true) offset mask all)
+    (All-append (λ m. is_mark m ≡ true) (replicate count mark) (drop (offset + length (replicate count mark)) mask) (All-replicate (λ m. is_mark m ≡ true) count mark is)
+    (All-drop (λ m. is_mark m ≡ true) (offset + length (replicate count mark)) mask all))
+
+-- the bytes that were written before an offset are left where those from it on are forgotten
+pub cleared_bytes : (offset : ℕ) (bytes mask : List ℕ) → offset ≤ length mask
+    → (k : ℕ) → byte_in bytes (put offset (replicate (length mask - offset) 0) mask) k ≡ written_below offset (byte_in bytes mask) k
+cleared_bytes offset bytes mask fits k = go (cases_lt k offset) (cases_lt k (length mask))
+  where
+    zeros : List ℕ
+    zeros = replicate (length mask - offset) 0
+
+    long : length zeros ≡ length mask - offset
+    long = length-replicate (length mask - offset) 0
+
+    all : offset + length zeros ≤ length mask
+    all = rw long (omega arith)
+
+    none : get_or (put offset zeros mask) k 0 ≡ 0 → offset ≤ k → byte_in bytes (put offset zeros mask) k ≡ written_below offset (byte_in bytes mask) k
+    none e from = rw (e, le-ltb k offset from) refl
+
+    go : (k < offset) ⊎ (offset ≤ k) → (k < length mask) ⊎ (length mask ≤ k) → byte_in bytes (put offset zeros mask) k ≡ written_below offset (byte_in bytes mask) k
+    go (inl before) _ = rw (lt-ltb k offset before) (ap (λ m. marked_byte m (get_or bytes k 0)) (get_or-put_other offset zeros mask k all (inl before)))
+    go (inr from) (inl within) =
+        none (get_or-put_in offset zeros mask k all from (rw long (omega arith)) ∙ get_or-replicate (length mask - offset) (k - offset) 0 0 (omega arith)) from
+    go (inr from) (inr past) = none (get_or_past (put offset zeros mask) k 0 (rw (length-put offset zeros mask all) past)) from

@@ -1,0 +1,110 @@
+-- A write to an object, record by record.
+use Rattle.std.proofs.Common.{◌≡◌, ℕ, zero, suc, [], ◌∷◌, ◌+◌, ◌-◌, ◌*◌, ◌/◌, ◌%◌, ◌<◌, ◌≤◌, ◌≢◌, max, min, true, false, refl, ap, sym, ◌∙◌, arith, ◌⊎◌, inl, inr, List, length, get_or, take, drop, Option, Some, None, get_or-take, get_or-drop, length-take, length-drop}
+use Rattle.std.specs.Prelude.{cond, nat_lt, nat_le, ◌&&◌, ◌==◌, slice_get}
+use Rattle.std.specs.Option.{option_map_or}
+use Rattle.std.proofs.lemmas.Bool.{cases_lt, cases_eq, lt-leb, le-leb, lt-ltb, le-ltb, eq-eqb, ne_eqb, and_right}
+use Rattle.extents.specs.Patches.{written_after}
+use Rattle.std.proofs.Math.ListN.{set}
+use Rattle.std.proofs.lemmas.Option.{slice_get_past}
+use Rattle.extents.specs.declared.record.RecordPatch.{RecordPatch}
+use Rattle.extents.specs.Records.{bytes_of}
+use Rattle.extents.specs.Objects.{written_by, written_at_record, written_before_record}
+
+-- a byte out of the range of a write stays
+pub unwritten_at : (offset : ℕ) (content : List ℕ) (written : ℕ → Option ℕ) (i : ℕ) → (i < offset) ⊎ (offset + length content ≤ i) → written_after offset content written i ≡ written i
+unwritten_at offset content written i (inl before) = rw (lt-leb offset i before) refl
+unwritten_at offset content written i (inr past) = rw (and_right (nat_le offset i) (nat_lt i (offset + length content)) (le-ltb i (offset + length content) past)) refl
+
+pub written_in_range : (offset : ℕ) (content : List ℕ) (written : ℕ → Option ℕ) (i : ℕ) → offset ≤ i → i < offset + length content
+    → written_after offset content written i ≡ Some (get_or content (i - offset) 0)
+written_in_range offset content written i from within = rw (le-leb offset i from, lt-ltb i (offset + length content) within) refl
+
+-- the part of a write that lies in a record writes there what the write does
+pub part_written : (index offset k : ℕ) (content : List ℕ) (part : List ℕ) (low high : ℕ) (old new : ℕ → Option ℕ) → k < 4032
+    → low ≡ max offset (4032 * index) → high ≡ min (offset + length content) (4032 * index + 4032) → low ≤ high
+    → part ≡ take (high - offset - (low - offset)) (drop (low - offset) content) → old k ≡ new (4032 * index + k)
+    → written_after (low - 4032 * index) part old k ≡ written_after offset content new (4032 * index + k)
+part_written index offset k content part low high old new inside is_low is_high order is_part same =
+    go (cases_lt (4032 * index + k) low) (cases_lt (4032 * index + k) high)
+  where
+    long : length part ≡ high - low
+    long = rw (is_part, length-take, length-drop) (omega arith)
+
+    go : (4032 * index + k < low) ⊎ (low ≤ 4032 * index + k) → (4032 * index + k < high) ⊎ (high ≤ 4032 * index + k)
+        → written_after (low - 4032 * index) part old k ≡ written_after offset content new (4032 * index + k)
+    go (inl before) _ =
+        unwritten_at (low - 4032 * index) part old k (inl (omega arith)) ∙ same ∙ sym (unwritten_at offset content new (4032 * index + k) (inl (omega arith)))
+    go (inr from) (inr past) =
+        unwritten_at (low - 4032 * index) part old k (inr (rw long (omega arith))) ∙ same ∙ sym (unwritten_at offset content new (4032 * index + k) (inr (omega arith)))
+    go (inr from) (inl within) =
+        let e : low - offset + (k - (low - 4032 * index)) ≡ 4032 * index + k - offset = omega arith in
+        written_in_range (low - 4032 * index) part old k (omega arith) (rw long (omega arith))
+        ∙ ap Some (rw is_part (get_or-take (high - offset - (low - offset)) (drop (low - offset) content) (k - (low - 4032 * index)) 0 (omega arith)
+        ∙ get_or-drop (low - offset) content (k - (low - 4032 * index)) 0 ∙ ap (λ j. get_or content j 0) e))
+        ∙ sym (written_in_range offset content new (4032 * index + k) (omega arith) (omega arith))
+
+slice_get-set_same : (records : List RecordPatch) (n : ℕ) (r : RecordPatch) → n < length records → slice_get (set records n r) n ≡ Some r
+slice_get-set_same [] n r low = absurd (omega arith)
+slice_get-set_same (t ∷ records) zero r low = refl
+slice_get-set_same (t ∷ records) (suc n) r low = slice_get-set_same records n r (omega arith)
+
+slice_get-set_other : (records : List RecordPatch) (n : ℕ) (r : RecordPatch) (k : ℕ) → k ≢ n → slice_get (set records n r) k ≡ slice_get records k
+slice_get-set_other [] n r k ne = refl
+slice_get-set_other (t ∷ records) zero r zero ne = absurd (ne refl)
+slice_get-set_other (t ∷ records) zero r (suc k) ne = refl
+slice_get-set_other (t ∷ records) (suc n) r zero ne = refl
+slice_get-set_other (t ∷ records) (suc n) r (suc k) ne = slice_get-set_other records n r k (λ e. ne (ap suc e))
+
+-- what is written at an offset once a record has changed
+pub record_set : (records : List RecordPatch) (index : ℕ) (r : RecordPatch) (i : ℕ) → index < length records
+    → written_by (set records index r) i ≡ cond (i / 4032 == index) (bytes_of r (i % 4032)) (written_by records i)
+record_set records index r i low = go (cases_eq (i / 4032) index)
+  where
+    go : (i / 4032 ≡ index) ⊎ (i / 4032 ≢ index) → written_by (set records index r) i ≡ cond (i / 4032 == index) (bytes_of r (i % 4032)) (written_by records i)
+    go (inl e) =
+        let at : slice_get (set records index r) (i / 4032) ≡ Some r = rw e (slice_get-set_same records index r low) in
+        rw (eq-eqb (i / 4032) index e) (ap (λ (o : Option RecordPatch). option_map_or (λ r. bytes_of r (i % 4032)) o None) at)
+    go (inr e) = rw (ne_eqb (i / 4032) index e) (ap (λ (o : Option RecordPatch). option_map_or (λ r. bytes_of r (i % 4032)) o None) (slice_get-set_other records index r (i / 4032) e))
+
+-- the record at an index has the bytes that were written there
+pub record_at : (records : List RecordPatch) (r : RecordPatch) (i : ℕ) → slice_get records (i / 4032) ≡ Some r → written_by records i ≡ bytes_of r (i % 4032)
+record_at records r i at = ap (λ (o : Option RecordPatch). option_map_or (λ r. bytes_of r (i % 4032)) o None) at
+
+-- a write to one record of an object
+pub write_to_record : (records : List RecordPatch) (index offset : ℕ) (content part : List ℕ) (low high : ℕ) (old new : RecordPatch)
+    → index < length records → slice_get records index ≡ Some old
+    → low ≡ max offset (4032 * index) → high ≡ min (offset + length content) (4032 * index + 4032) → low ≤ high → part ≡ take (high - offset - (low - offset)) (drop (low - offset) content)
+    → ((k : ℕ) → bytes_of new k ≡ written_after (low - 4032 * index) part (bytes_of old) k)
+    → (i : ℕ) → written_by (set records index new) i ≡ written_at_record index offset content (written_by records) i
+write_to_record records index offset content part low high old new fits at is_low is_high order is_part wrote i = record_set records index new i fits ∙ go (cases_eq (i / 4032) index)
+  where
+    go : (i / 4032 ≡ index) ⊎ (i / 4032 ≢ index)
+        → cond (i / 4032 == index) (bytes_of new (i % 4032)) (written_by records i) ≡ cond (i / 4032 == index) (written_after offset content (written_by records) i) (written_by records i)
+    go (inl e) =
+        let inside : i % 4032 < 4032 = omega arith in
+        let is : 4032 * index + i % 4032 ≡ i = omega arith in
+        let here : bytes_of old (i % 4032) ≡ written_by records (4032 * index + i % 4032) = rw is (sym (record_at records old i (rw e at))) in
+        rw (eq-eqb (i / 4032) index e)
+        (wrote (i % 4032) ∙ part_written index offset (i % 4032) content part low high (bytes_of old) (written_by records) inside is_low is_high order is_part here
+        ∙ ap (written_after offset content (written_by records)) is)
+    go (inr e) = rw (ne_eqb (i / 4032) index e) refl
+
+-- the write comes to one record more
+pub next_record : (index offset : ℕ) (content : List ℕ) (old mid : ℕ → Option ℕ) → ((j : ℕ) → mid j ≡ written_before_record index offset content old j)
+    → (i : ℕ) → written_at_record index offset content mid i ≡ written_before_record (index + 1) offset content old i
+next_record index offset content old mid so_far i = go (cases_eq (i / 4032) index) (cases_lt (i / 4032) index)
+  where
+    go : (i / 4032 ≡ index) ⊎ (i / 4032 ≢ index) → (i / 4032 < index) ⊎ (index ≤ i / 4032)
+        → written_at_record index offset content mid i ≡ written_before_record (index + 1) offset content old i
+    go (inl e) _ =
+        let same : mid i ≡ old i = so_far i ∙ rw (le-ltb (i / 4032) index (omega arith)) refl in
+        rw (eq-eqb (i / 4032) index e, lt-ltb (i / 4032) (index + 1) (omega arith))
+        (ap (λ v. cond (nat_le offset i && nat_lt i (offset + length content)) (Some (get_or content (i - offset) 0)) v) same)
+    go (inr e) (inl before) =
+        rw (ne_eqb (i / 4032) index e, lt-ltb (i / 4032) (index + 1) (omega arith)) (so_far i ∙ rw (lt-ltb (i / 4032) index before) refl)
+    go (inr e) (inr from) =
+        rw (ne_eqb (i / 4032) index e, le-ltb (i / 4032) (index + 1) (omega arith)) (so_far i ∙ rw (le-ltb (i / 4032) index from) refl)
+
+-- past the last record nothing is written
+pub past_last : (records : List RecordPatch) (i : ℕ) → length records ≤ i / 4032 → written_by records i ≡ None
+past_last records i past = ap (λ (o : Option RecordPatch). option_map_or (λ r. bytes_of r (i % 4032)) o None) (slice_get_past records (i / 4032) past)

@@ -1,0 +1,5 @@
+pub mod Patches
+pub mod Laws
+pub mod Marks
+pub mod Records
+pub mod Objects

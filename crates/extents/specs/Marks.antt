@@ -1,0 +1,22 @@
+-- The bytes that a group wrote into a record, by a mask.
+use Rattle.std.specs.Prelude.{cond, ℕ, ◌==◌, ◌||◌, Bool, List, get_or, Option, Some, None, unwrap_or}
+use Rattle.base.specs.formats.Limits.{record_size}
+
+-- a byte was written, or not
+abbrev pub is_mark : ℕ → Bool
+is_mark m = (m == 0) || (m == 255)
+
+-- the byte at an offset, by its mark
+abbrev pub marked_byte : ℕ → ℕ → Option ℕ
+marked_byte mark byte = cond (mark == 0) None (Some byte)
+
+abbrev pub byte_in : List ℕ → List ℕ → ℕ → Option ℕ
+byte_in bytes mask k = marked_byte (get_or mask k 0) (get_or bytes k 0)
+
+-- a byte laid over the one below
+abbrev pub laid_byte : ℕ → ℕ → ℕ → ℕ
+laid_byte mark byte below = unwrap_or (marked_byte mark byte) below
+
+-- room for all bytes of a record, or for none
+abbrev pub is_room : ℕ → Bool
+is_room n = (n == 0) || (n == record_size)

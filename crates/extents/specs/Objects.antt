@@ -1,0 +1,43 @@
+-- The bytes that a group wrote into an object, by records.
+use Rattle.std.specs.Prelude.{cond, ℕ, ◌==◌, nat_lt, ◌≡◌, ◌<◌, ◌≤◌, ◌+◌, ◌*◌, ◌/◌, ◌%◌, List, Option, None, slice_get, vec_len}
+use Rattle.std.specs.Option.{option_map_or}
+use Rattle.extents.specs.declared.record.RecordPatch.{RecordPatch}
+use Rattle.extents.specs.declared.object.ObjectPatch.{ObjectPatch}
+use Rattle.extents.specs.Records.{bytes_of}
+use Rattle.extents.specs.Patches.{written_after, written_below}
+
+-- the byte that was written at an offset of an object
+abbrev pub written_by : List RecordPatch → ℕ → Option ℕ
+written_by records i = option_map_or (λ r. bytes_of r (i % 4032)) (slice_get records (i / 4032)) None
+
+abbrev pub written_in : ObjectPatch → ℕ → Option ℕ
+written_in o = written_by o.records.items
+
+-- for how many bytes a record has room
+abbrev pub room_at : List RecordPatch → ℕ → ℕ
+room_at records index = option_map_or (λ (r : RecordPatch). vec_len r.mask) (slice_get records index) 0
+
+abbrev pub HasRoomAt : ObjectPatch → ℕ → Type 0
+HasRoomAt o index = room_at o.records.items index ≡ 4032
+
+-- the records of so many bytes from an offset on have room
+abbrev pub HasRoomFrom : ObjectPatch → ℕ → ℕ → Type 0
+HasRoomFrom o offset count = (index : ℕ) → offset < 4032 * (index + 1) → 4032 * index < offset + count → HasRoomAt o index
+
+-- a record that had room has it
+abbrev pub KeepsRoom : ObjectPatch → ObjectPatch → Type 0
+KeepsRoom old new = (index : ℕ) → HasRoomAt old index → HasRoomAt new index
+
+-- what is written at an offset once a write has come to one record, and to all records before this one
+abbrev pub written_at_record : ℕ → ℕ → List ℕ → (ℕ → Option ℕ) → ℕ → Option ℕ
+written_at_record index offset bytes written i = cond (i / 4032 == index) (written_after offset bytes written i) (written i)
+
+abbrev pub written_before_record : ℕ → ℕ → List ℕ → (ℕ → Option ℕ) → ℕ → Option ℕ
+written_before_record index offset bytes written i = cond (nat_lt (i / 4032) index) (written_after offset bytes written i) (written i)
+
+-- what is left once the bytes from an offset on are forgotten in one record, and in all records before this one
+abbrev pub left_at_record : ℕ → ℕ → (ℕ → Option ℕ) → ℕ → Option ℕ
+left_at_record index offset written i = cond (i / 4032 == index) (written_below offset written i) (written i)
+
+abbrev pub left_before_record : ℕ → ℕ → (ℕ → Option ℕ) → ℕ → Option ℕ
+left_before_record index offset written i = cond (nat_lt (i / 4032) index) (written_below offset written i) (written i)

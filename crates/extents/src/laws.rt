@@ -1,0 +1,19 @@
+//! What holds of the changes of groups: each function's contract is a law, and its body does nothing.
+
+ghost use Rattle.extents.specs.Laws.{ChangesFollow, GroupsAreRead, NothingChanges};
+
+/// What no operation has changed is as it lies below.
+pub fn nothing_changes()
+    ensures { NothingChanges }
+{}
+
+/// The changes of operations, with more operations added, are the changes of them all.
+pub fn changes_follow()
+    ensures { ChangesFollow }
+{}
+
+/// Laid one over the other, oldest first, over the objects of the synced tree, the changes of the unsynced groups are the
+/// contents, in whatever order their transactions were committed.
+pub fn groups_are_read()
+    ensures { GroupsAreRead }
+{}

@@ -1,0 +1,11 @@
+//! What the transactions of unsynced groups change of the objects of a tree, read over it.
+#![tactic(auto)]
+
+mod basis;
+mod laws;
+mod object;
+mod record;
+
+pub use basis::Basis;
+pub use laws::{changes_follow, groups_are_read, nothing_changes};
+pub use object::ObjectPatch;

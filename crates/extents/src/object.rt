@@ -1,0 +1,170 @@
+//! What a group made of one object.
+
+ghost use Rattle.std.specs.Prelude.{ℕ, ◌≡◌, ◌<◌, ◌≤◌, ◌+◌, ◌*◌, None, IfOk, OnOk, length, vec_len};
+
+use crate::basis::Basis;
+use crate::record::RecordPatch;
+use base::{POINTER_COUNT, RECORD_SIZE};
+use std::alloc::{AllocError, Global};
+
+/// What a group leaves of an object, and the bytes that it wrote, by records.
+#[derive(Drop)]
+pub struct ObjectPatch {
+    /// What it leaves of the object below.
+    pub basis: Basis,
+    records: Vec<RecordPatch>,
+    ghost all_records: { vec_len records ≡ 84 },
+}
+
+impl ObjectPatch {
+    ghost use Rattle.extents.specs.Patches.{basis_after_cut, basis_after_write, written_after, written_below};
+    ghost use Rattle.extents.specs.declared.basis.Basis.TheVariants.{Gone, Grown, Made};
+    ghost use Rattle.extents.specs.Objects.{HasRoomAt, HasRoomFrom, KeepsRoom, left_at_record, written_at_record, written_in};
+
+    /// An object that the group has not changed. It is refused where there is no memory.
+    pub fn new(alloc: Global) -> Result<Self, AllocError>
+        ensures basis { IfOk result (λ o. o.basis ≡ Grown 0) }
+        ensures written { IfOk result (λ o. (i : ℕ) → written_in o i ≡ None) }
+    {
+        let mut records = Vec::with_capacity(alloc, POINTER_COUNT)?;
+        for _i in 0..POINTER_COUNT {
+            records.push_reserved(RecordPatch::new(alloc));
+        }
+        Ok(ObjectPatch {
+            basis: Basis::Grown(0),
+            records,
+        })
+    }
+
+    // Takes the room for the bytes of a record.
+    fn reserve_record(&mut self, index: usize) -> Result<(), AllocError>
+        requires { index < 84 }
+        ensures room { OnOk result (HasRoomAt self.new index) }
+        ensures stays { KeepsRoom self.old self.new }
+        ensures basis { self.new.basis ≡ self.old.basis }
+        ensures written { (i : ℕ) → written_in self.new i ≡ written_in self.old i }
+    {
+        let record = &mut self.records[index];
+        record.reserve()
+    }
+
+    /// Takes the room for a write of so many bytes at an offset. It is refused where there is no memory.
+    pub fn reserve_write(&mut self, offset: usize, count: usize) -> Result<(), AllocError>
+        requires some { 0 < count }
+        requires within { offset + count ≤ 338688 }
+        ensures room { OnOk result (HasRoomFrom self.new offset count) }
+        ensures stays { KeepsRoom self.old self.new }
+        ensures basis { self.new.basis ≡ self.old.basis }
+        ensures written { (i : ℕ) → written_in self.new i ≡ written_in self.old i }
+    {
+        for index in offset / RECORD_SIZE..(offset + count - 1) / RECORD_SIZE + 1 {
+            self.reserve_record(index)?;
+        }
+        Ok(())
+    }
+
+    /// Writes bytes at an offset. The room is there.
+    pub fn write(&mut self, offset: usize, content: &[u8])
+        requires some { 0 < length content.now }
+        requires within { offset + length content.now ≤ 338688 }
+        requires room { HasRoomFrom self.old offset (length content.now) }
+        ensures stays { KeepsRoom self.old self.new }
+        ensures basis { self.new.basis
+            ≡ basis_after_write (offset + length content.now) self.old.basis }
+        ensures written { (i : ℕ) → written_in self.new i
+            ≡ written_after offset content.now (written_in self.old) i }
+    {
+        self.write_records(offset, content);
+        self.basis = self.basis.after_write((offset + content.len()) as u64);
+    }
+
+    fn write_records(&mut self, offset: usize, content: &[u8])
+        requires some { 0 < length content.now }
+        requires within { offset + length content.now ≤ 338688 }
+        requires room { HasRoomFrom self.old offset (length content.now) }
+        ensures stays { KeepsRoom self.old self.new }
+        ensures basis { self.new.basis ≡ self.old.basis }
+        ensures written { (i : ℕ) → written_in self.new i
+            ≡ written_after offset content.now (written_in self.old) i }
+    {
+        let end = offset + content.len();
+        for index in offset / RECORD_SIZE..(end - 1) / RECORD_SIZE + 1 {
+            self.write_record(index, offset, content);
+        }
+    }
+
+    // Writes what lies in one record of bytes that begin at an offset of the object.
+    fn write_record(&mut self, index: usize, offset: usize, content: &[u8])
+        requires index { index < 84 }
+        requires room { HasRoomAt self.old index }
+        requires begun { offset < 4032 * (index + 1) }
+        requires reached { 4032 * index < offset + length content.now }
+        requires within { offset + length content.now ≤ 338688 }
+        ensures stays { KeepsRoom self.old self.new }
+        ensures basis { self.new.basis ≡ self.old.basis }
+        ensures written { (i : ℕ) → written_in self.new i
+            ≡ written_at_record index offset content.now (written_in self.old) i }
+    {
+        let begin = RECORD_SIZE * index;
+        let low = offset.max(begin);
+        let high = (offset + content.len()).min(begin + RECORD_SIZE);
+        let record = &mut self.records[index];
+        record.write(low - begin, &content[low - offset..high - offset]);
+    }
+
+    /// The object has no bytes but zeros up to its length: what was written is forgotten, and what lies below doesn't show.
+    pub fn create(&mut self)
+        ensures stays { KeepsRoom self.old self.new }
+        ensures basis { self.new.basis ≡ Made 0 }
+        ensures written { (i : ℕ) → written_in self.new i ≡ None }
+    {
+        self.forget_from(0);
+        self.basis = Basis::Made(0);
+    }
+
+    /// The object is not there.
+    pub fn remove(&mut self)
+        ensures stays { KeepsRoom self.old self.new }
+        ensures basis { self.new.basis ≡ Gone }
+        ensures written { (i : ℕ) → written_in self.new i ≡ None }
+    {
+        self.forget_from(0);
+        self.basis = Basis::Gone;
+    }
+
+    /// Sets the length of the object in bytes: what was written from there on is forgotten.
+    pub fn set_length(&mut self, length: usize)
+        ensures stays { KeepsRoom self.old self.new }
+        ensures basis { self.new.basis ≡ basis_after_cut length self.old.basis }
+        ensures written { (i : ℕ) → written_in self.new i
+            ≡ written_below length (written_in self.old) i }
+    {
+        self.forget_from(length);
+        self.basis = self.basis.after_cut(length as u64);
+    }
+
+    // Forgets what was written from an offset on. The room stays.
+    fn forget_from(&mut self, offset: usize)
+        ensures stays { KeepsRoom self.old self.new }
+        ensures basis { self.new.basis ≡ self.old.basis }
+        ensures written { (i : ℕ) → written_in self.new i
+            ≡ written_below offset (written_in self.old) i }
+    {
+        for index in 0..POINTER_COUNT {
+            self.forget_in_record(index, offset);
+        }
+    }
+
+    // Forgets what was written into one record from an offset of the object on.
+    fn forget_in_record(&mut self, index: usize, offset: usize)
+        requires { index < 84 }
+        ensures stays { KeepsRoom self.old self.new }
+        ensures basis { self.new.basis ≡ self.old.basis }
+        ensures written { (i : ℕ) → written_in self.new i
+            ≡ left_at_record index offset (written_in self.old) i }
+    {
+        let begin = RECORD_SIZE * index;
+        let record = &mut self.records[index];
+        record.clear_from(offset.max(begin) - begin);
+    }
+}

@@ -1,0 +1,114 @@
+//! What a group wrote into one record of an object.
+
+ghost use Rattle.std.specs.Prelude.{ℕ, ◌≡◌, ◌<◌, ◌≤◌, ◌+◌, true, All, None, IfOk, OnOk, get_or, length, replicate, unwrap_or, vec_len};
+ghost use Rattle.base.specs.disk.Disk.{put};
+ghost use Rattle.extents.specs.Marks.{is_mark, is_room, laid_byte};
+
+use base::RECORD_SIZE;
+use std::alloc::{AllocError, Global};
+
+// What marks a byte that was written. Others are marked by 0.
+const WRITTEN: u8 = 255;
+
+/// The bytes that a group wrote into a record, by their offsets in it. It has room for all of a record's bytes, or for none.
+#[derive(Drop)]
+pub(crate) struct RecordPatch {
+    bytes: Vec<u8>,
+    // 255 where a byte was written
+    mask: Vec<u8>,
+    ghost alike: { vec_len bytes ≡ vec_len mask },
+    ghost room: { is_room (vec_len mask) ≡ true },
+    ghost marked: { All (λ m. is_mark m ≡ true) mask.items },
+}
+
+impl RecordPatch {
+    ghost use Rattle.extents.specs.Patches.{written_after, written_below};
+    ghost use Rattle.extents.specs.Records.{HasRoom, bytes_of};
+
+    /// A record without a written byte, and without room. It takes no memory.
+    pub fn new(alloc: Global) -> Self
+        ensures { (k : ℕ) → bytes_of result k ≡ None }
+    {
+        RecordPatch {
+            bytes: Vec::new(alloc),
+            mask: Vec::new(alloc),
+        }
+    }
+
+    /// Takes the room for a record's bytes. It is refused where there is no memory.
+    pub fn reserve(&mut self) -> Result<(), AllocError>
+        ensures room { OnOk result (HasRoom self.new) }
+        ensures kept { (k : ℕ) → bytes_of self.new k ≡ bytes_of self.old k }
+        ensures stays { HasRoom self.old → HasRoom self.new }
+    {
+        if self.mask.is_empty() {
+            let alloc = *self.mask.allocator();
+            let mut bytes = Vec::new(alloc);
+            bytes.resize(RECORD_SIZE, 0)?;
+            let mut mask = Vec::new(alloc);
+            mask.resize(RECORD_SIZE, 0)?;
+            *self = RecordPatch { bytes, mask };
+        }
+        Ok(())
+    }
+
+    /// Writes bytes at an offset of the record.
+    pub fn write(&mut self, offset: usize, content: &[u8])
+        requires room { HasRoom self.old }
+        requires within { offset + length content.now ≤ 4032 }
+        ensures bytes { (k : ℕ) → bytes_of self.new k
+            ≡ written_after offset content.now (bytes_of self.old) k }
+        ensures room { HasRoom self.new }
+    {
+        overwrite(&mut self.bytes, offset, content);
+        mark(&mut self.mask, offset, content.len(), WRITTEN);
+    }
+
+    /// Forgets what was written from an offset on. The room stays.
+    pub fn clear_from(&mut self, offset: usize)
+        ensures bytes { (k : ℕ) → bytes_of self.new k ≡ written_below offset (bytes_of self.old) k }
+        ensures stays { HasRoom self.old → HasRoom self.new }
+    {
+        if offset < self.mask.len() {
+            let count = self.mask.len() - offset;
+            mark(&mut self.mask, offset, count, 0);
+        }
+    }
+
+    /// Lays the written bytes over a record.
+    pub fn lay_over(&self, into: &mut [u8])
+        requires { length into.old ≡ 4032 }
+        ensures size { length into.new ≡ 4032 }
+        ensures bytes { (k : ℕ) → k < 4032
+            → get_or into.new k 0 ≡ unwrap_or (bytes_of self.now k) (get_or into.old k 0) }
+    {
+        for i in 0..self.mask.len() {
+            into[i] = laid_byte(into[i], self.bytes[i], self.mask[i]);
+        }
+    }
+}
+
+fn overwrite(bytes: &mut Vec<u8>, offset: usize, content: &[u8])
+    requires { offset + length content.now ≤ vec_len bytes.old }
+    ensures bytes { bytes.new.items ≡ put offset content.now bytes.old.items }
+    ensures length { vec_len bytes.new ≡ vec_len bytes.old }
+{
+    bytes[offset..offset + content.len()].copy_from_slice(content);
+}
+
+// Gives so many bytes from an offset on this mark.
+fn mark(mask: &mut Vec<u8>, offset: usize, count: usize, mark: u8)
+    requires { offset + count ≤ vec_len mask.old }
+    ensures marks { mask.new.items ≡ put offset (replicate count mark) mask.old.items }
+    ensures length { vec_len mask.new ≡ vec_len mask.old }
+{
+    mask[offset..offset + count].fill(mark);
+}
+
+// The byte that was written, where the mark says so, and otherwise the one below.
+fn laid_byte(below: u8, byte: u8, mark: u8) -> u8
+    requires { is_mark mark ≡ true }
+    ensures { result ≡ laid_byte mark byte below }
+{
+    (byte & mark) | (below & !mark)
+}
