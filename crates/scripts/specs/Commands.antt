@@ -42,11 +42,14 @@ abbrev pub IsTellingForm : Words → Type 0
 IsTellingForm words = HasForm words (codes "append") 3 ⊎ (HasForm words (codes "length") 2 ⊎ (HasForm words (codes "digest") 1
     ⊎ (HasForm words (codes "name") 1 ⊎ HasForm words (codes "status") 1)))
 
+-- those of a step that lets a lock go, gives a transaction up, or tells something
+abbrev pub IsEndingForm : Words → Type 0
+IsEndingForm words = HasForm words (codes "unlock") 3 ⊎ (HasForm words (codes "abort") 2 ⊎ IsTellingForm words)
+
 -- the lines that are a step
 abbrev pub IsStepForm : Words → Type 0
-IsStepForm words = HasForm words (codes "lock") 6 ⊎ (HasForm words (codes "unlock") 3 ⊎ (BeginsWith words (codes "begin") 2
-    ⊎ (HasForm words (codes "abort") 2 ⊎ (HasForm words (codes "read") 5 ⊎ (HasForm words (codes "close") 1 ⊎ (HasForm words (codes "quiesce") 1
-    ⊎ (HasForm words (codes "step") 1 ⊎ IsTellingForm words)))))))
+IsStepForm words = HasForm words (codes "lock") 6 ⊎ (BeginsWith words (codes "begin") 2 ⊎ (HasForm words (codes "read") 5
+    ⊎ (HasForm words (codes "close") 1 ⊎ (HasForm words (codes "quiesce") 1 ⊎ (HasForm words (codes "step") 1 ⊎ IsEndingForm words)))))
 
 -- the lines that ask a pool for something
 abbrev pub IsPoolForm : Words → Type 0
@@ -113,17 +116,21 @@ pub record ReadsTelling {A : Type 0} (of : Step → A) (words : Words) (r : Resu
   pub name : HasForm words (codes "name") 1 → r ≡ Ok (of step.Name)
   pub status : HasForm words (codes "status") 1 → r ≡ Ok (of step.Status)
 
+-- what the words of a step that ends or tells something are read as
+pub record ReadsEnding {A : Type 0} (of : Step → A) (words : Words) (r : Result A LineError) : Type 0 where
+  pub unlock : ReadsUnlock of words r
+  pub abort : ReadsAbort of words r
+  pub telling : ReadsTelling of words r
+
 -- what the words of a step are read as
 pub record ReadsStep {A : Type 0} (of : Step → A) (words : Words) (r : Result A LineError) : Type 0 where
   pub lock : ReadsLock of words r
-  pub unlock : ReadsUnlock of words r
   pub begin : ReadsBegin of words r
-  pub abort : ReadsAbort of words r
   pub read : ReadsRead of words r
   pub close : HasForm words (codes "close") 1 → r ≡ Ok (of step.CloseGroup)
   pub quiesce : HasForm words (codes "quiesce") 1 → r ≡ Ok (of step.MarkQuiesced)
   pub sync_step : HasForm words (codes "step") 1 → r ≡ Ok (of step.SyncStep)
-  pub telling : ReadsTelling of words r
+  pub ending : ReadsEnding of words r
 
 -- what the words of a commit and a sync are read as
 pub record ReadsPool {A : Type 0} (of : PoolCommand → A) (words : Words) (r : Result A LineError) : Type 0 where

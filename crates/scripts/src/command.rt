@@ -5,7 +5,7 @@
 ghost use Rattle.std.specs.Prelude.{◌≡◌, ◌↔◌, ◌^◌, ◌<◌, ◌≤◌, IsOk, IfOk, IfErr, map, Some, vec_len, length, replicate, slice_index, ◌≢◌, All, IsSome};
 ghost use Rattle.std.specs.Result.{OkIff, result_ok};
 ghost use Rattle.scripts.specs.Numbers.{IsNumberBelow, spelled_number};
-ghost use Rattle.scripts.specs.Commands.{IsBeginOf, IsCommitOf, IsCrashOf, IsDeviceForm, IsFailOf, IsLineForm, IsPoolForm, IsStepForm, IsTellingForm, ReadsDeviceLine, ReadsLine, ReadsPool, ReadsStep, ReadsTelling, ReadsWords};
+ghost use Rattle.scripts.specs.Commands.{IsBeginOf, IsCommitOf, IsCrashOf, IsDeviceForm, IsEndingForm, IsFailOf, IsLineForm, IsPoolForm, IsStepForm, IsTellingForm, ReadsDeviceLine, ReadsEnding, ReadsLine, ReadsPool, ReadsStep, ReadsTelling, ReadsWords};
 ghost use Rattle.scripts.specs.Copies.{AreContentsOf, AreCopies, IsContentOf};
 ghost use Rattle.scripts.specs.Letters.{call_name, mode_of, piece_of};
 ghost use Rattle.device_model.specs.declared.fault.Fault.{Fault};
@@ -149,9 +149,7 @@ fn parse_step(alloc: Global, words: &[&str]) -> Result<Step, LineError>
             parse_range(low, high)?,
             parse_mode(mode)?,
         )),
-        ["unlock", owner, id] => Ok(Step::Unlock(parse_owner(owner)?, LockId(wide(id)?))),
         ["begin", owner, shapes @ ..] => parse_begin(alloc, owner, shapes),
-        ["abort", tx] => Ok(Step::Abort(TxId(wide(tx)?))),
         ["read", owner, object, low, high] => Ok(Step::Read(
             parse_owner(owner)?,
             parse_object(object)?,
@@ -160,6 +158,18 @@ fn parse_step(alloc: Global, words: &[&str]) -> Result<Step, LineError>
         ["close"] => Ok(Step::CloseGroup),
         ["quiesce"] => Ok(Step::MarkQuiesced),
         ["step"] => Ok(Step::SyncStep),
+        words => parse_ending(words),
+    }
+}
+
+// A step that lets a lock go, gives a transaction up, or tells something.
+fn parse_ending(words: &[&str]) -> Result<Step, LineError>
+    ensures step { ReadsEnding (λ s. s) words.now result }
+    ensures form { IsOk result → IsEndingForm words.now }
+{
+    match words {
+        ["unlock", owner, id] => Ok(Step::Unlock(parse_owner(owner)?, LockId(wide(id)?))),
+        ["abort", tx] => Ok(Step::Abort(TxId(wide(tx)?))),
         words => parse_telling(words),
     }
 }
