@@ -1,5 +1,5 @@
 -- A byte laid over another by its mark.
-use Rattle.std.proofs.Common.{◌≡◌, ℕ, ◌<◌, ◌≤◌, ◌+◌, ◌-◌, ◌==◌, true, refl, ap, sym, ◌∙◌, arith, ◌⊎◌, inl, inr, bit_and, bit_or, rules, List, ◌++◌, length, get_or, take, drop, replicate, Some}
+use Rattle.std.proofs.Common.{◌≡◌, ℕ, ◌<◌, ◌≤◌, ◌+◌, ◌-◌, ◌==◌, true, refl, ap, ◌∙◌, arith, ◌⊎◌, inl, inr, bit_and, bit_or, List, ◌++◌, length, get_or, take, drop, replicate, Some}
 use Rattle.std.specs.Prelude.{All}
 use Rattle.std.proofs.lemmas.Bool.{or_cases, eqb-true, cases_lt, lt-leb, le-leb, lt-ltb, le-ltb}
 use Rattle.std.proofs.lemmas.List.{get_or-append_right, get_or_append_left, length-take-le, length-replicate, get_or-replicate, get_or_past}
@@ -49,7 +49,7 @@ written_bytes offset content bytes mask fits marks k = go (cases_lt k offset) (c
     go (inr from) (inr past) = rw (le-leb offset k from, le-ltb k (offset + length content) past) (apart (inr past))
     go (inr from) (inl within) =
         let marked : get_or (put offset (replicate (length content) 255) mask) k 0 ≡ 255
-            = get_or-put_in offset (replicate (length content) 255) mask k (rw long marks) from (rw long within) ∙ get_or-replicate (length content) (k - offset) 255 0 (omega arith) in
+        = get_or-put_in offset (replicate (length content) 255) mask k (rw long marks) from (rw long within) ∙ get_or-replicate (length content) (k - offset) 255 0 (omega arith) in
         rw (le-leb offset k from, lt-ltb k (offset + length content) within)
         (rw marked (ap Some (get_or-put_in offset content bytes k fits from within)))
 

@@ -1,7 +1,6 @@
 -- The bytes that a patch makes of an object, one by one: a write and a cut of the patch are a write and a cut of the object.
-use Rattle.std.proofs.Common.{◌≡◌, ℕ, ◌+◌, ◌-◌, ◌<◌, ◌≤◌, max, min, List, Option, Some, None, ◌++◌, length, get_or, take, drop, refl, ap, sym, ◌∙◌, arith, length-take, get_or-take, ◌⊎◌, inl, inr, true, false}
-use Rattle.std.specs.Prelude.{unwrap_or, is_some, map, nat_le, nat_lt, ◌&&◌}
-use Rattle.std.specs.List.{range_with_len}
+use Rattle.std.proofs.Common.{◌≡◌, ℕ, ◌+◌, ◌<◌, ◌≤◌, max, List, Option, Some, None, length, get_or, refl, ap, sym, ◌∙◌, arith, ◌⊎◌, inl, inr, true, false}
+use Rattle.std.specs.Prelude.{unwrap_or, is_some, nat_le, nat_lt}
 use Rattle.std.proofs.lemmas.List.{ext_get_or, get_or_past}
 use Rattle.std.proofs.lemmas.List.FromFn.{get_or-map-range_with_len, length-map-range_with_len}
 use Rattle.std.proofs.lemmas.Bool.{cases_lt, lt-leb, le-leb, lt-ltb, le-ltb, and_right}

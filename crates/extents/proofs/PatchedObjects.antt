@@ -1,6 +1,6 @@
 -- A patch after operations makes the object that the operations make of the patched one.
 use Rattle.std.proofs.Common.{◌≡◌, ℕ, ◌+◌, ◌<◌, ◌≤◌, ◌≢◌, max, min, List, [], ◌∷◌, ◌++◌, Option, Some, None, length, get_or, take, refl, ap, sym, ◌∙◌, arith, length-take, get_or-take, ◌⊎◌, inl, inr, true, false, cond}
-use Rattle.std.specs.Prelude.{unwrap_or, is_some, fold, option_map, ◌==◌}
+use Rattle.std.specs.Prelude.{fold, option_map, ◌==◌}
 use Rattle.std.proofs.lemmas.List.{get_or_past}
 use Rattle.std.proofs.lemmas.List.Sums.{fold-append}
 use Rattle.std.proofs.lemmas.Bool.{cases_lt, cases_eq, eq-eqb, ne_eqb}

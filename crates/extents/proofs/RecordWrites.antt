@@ -1,5 +1,5 @@
 -- A write to an object, record by record.
-use Rattle.std.proofs.Common.{◌≡◌, ℕ, zero, suc, [], ◌∷◌, ◌+◌, ◌-◌, ◌*◌, ◌/◌, ◌%◌, ◌<◌, ◌≤◌, ◌≢◌, max, min, true, false, refl, ap, sym, ◌∙◌, arith, ◌⊎◌, inl, inr, List, length, get_or, take, drop, Option, Some, None, get_or-take, get_or-drop, length-take, length-drop}
+use Rattle.std.proofs.Common.{◌≡◌, ℕ, zero, suc, [], ◌∷◌, ◌+◌, ◌-◌, ◌*◌, ◌/◌, ◌%◌, ◌<◌, ◌≤◌, ◌≢◌, max, min, refl, ap, sym, ◌∙◌, arith, ◌⊎◌, inl, inr, List, length, get_or, take, drop, Option, Some, None, get_or-take, get_or-drop, length-take, length-drop}
 use Rattle.std.specs.Prelude.{cond, nat_lt, nat_le, ◌&&◌, ◌==◌, slice_get}
 use Rattle.std.specs.Option.{option_map_or}
 use Rattle.std.proofs.lemmas.Bool.{cases_lt, cases_eq, lt-leb, le-leb, lt-ltb, le-ltb, eq-eqb, ne_eqb, and_right}

@@ -1,5 +1,5 @@
 -- The bytes that a group wrote into an object, by records.
-use Rattle.std.specs.Prelude.{cond, ℕ, ◌==◌, nat_lt, ◌≡◌, ◌<◌, ◌≤◌, ◌+◌, ◌*◌, ◌/◌, ◌%◌, List, Option, None, slice_get, vec_len}
+use Rattle.std.specs.Prelude.{cond, ℕ, ◌==◌, nat_lt, ◌≡◌, ◌<◌, ◌+◌, ◌*◌, ◌/◌, ◌%◌, List, Option, None, slice_get, vec_len}
 use Rattle.std.specs.Option.{option_map_or}
 use Rattle.extents.specs.declared.record.RecordPatch.{RecordPatch}
 use Rattle.extents.specs.declared.object.ObjectPatch.{ObjectPatch}

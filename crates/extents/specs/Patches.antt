@@ -1,5 +1,5 @@
 -- What one group made of the objects of a pool, told without what lies below: which bytes it wrote, and what stays of those below.
-use Rattle.std.specs.Prelude.{cond, ℕ, zero, suc, true, ◌≡◌, ◌<◌, ◌≤◌, ◌+◌, ◌-◌, ◌==◌, ◌&&◌, List, [], ◌∷◌, fold, map, length, max, min, take, get_or, nat_lt, nat_le, Option, Some, None, is_some, unwrap_or, option_map}
+use Rattle.std.specs.Prelude.{cond, ℕ, zero, suc, true, ◌≡◌, ◌<◌, ◌≤◌, ◌+◌, ◌-◌, ◌==◌, ◌&&◌, List, [], fold, map, length, max, min, take, get_or, nat_lt, nat_le, Option, Some, None, is_some, unwrap_or, option_map}
 use Rattle.std.specs.List.{range_with_len}
 use Rattle.std.specs.Ordering.{nat_cmp}
 use Rattle.std.specs.FinMap as finite
@@ -31,10 +31,11 @@ filled written below size = map (λ i. unwrap_or (written i) (get_or below i 0))
 -- the object that a patch makes of the one below, where None is no object
 abbrev pub patched : Patch → Option (List ℕ) → Option (List ℕ)
 patched p below = elim p.basis [
-    Grown end ↦ option_map (λ bytes. filled p.written bytes (max (length bytes) end)) below
+  | Grown end ↦ option_map (λ bytes. filled p.written bytes (max (length bytes) end)) below
   | Cut kept size ↦ option_map (λ bytes. filled p.written (take kept bytes) size) below
   | Made size ↦ Some (filled p.written [] size)
-  | Gone ↦ None ]
+  | Gone ↦ None
+]
 
 -- a patch after a write, a cut
 abbrev pub basis_after_write : ℕ → Basis → Basis
@@ -70,10 +71,11 @@ with_ops ops patches n = fold (λ p op. patch_after n op p) (patches n) ops
 -- only bytes of the object are written, and no more is kept than it is long
 abbrev pub IsSized : Patch → Type 0
 IsSized p = elim p.basis [
-    Grown end ↦ ((i : ℕ) → is_some (p.written i) ≡ true → i < end)
+  | Grown end ↦ ((i : ℕ) → is_some (p.written i) ≡ true → i < end)
   | Cut kept size ↦ (kept ≤ size) × ((i : ℕ) → is_some (p.written i) ≡ true → i < size)
   | Made size ↦ ((i : ℕ) → is_some (p.written i) ≡ true → i < size)
-  | Gone ↦ Unit {0} ]
+  | Gone ↦ Unit {0}
+]
 
 -- the length of the patched object, from that of the one below
 abbrev pub length_over : Basis → Option ℕ → Option ℕ

@@ -1,5 +1,4 @@
-use Rattle.std.proofs.Common.{rules, ℕ, ◌≡◌, ◌<◌, ◌-◌, ◌%◌, bit_and, bit_or, arith, true, ◌⊎◌, inl, inr, sym, ◌∙◌, ap}
-use Rattle.extents.specs.Marks.{is_mark, laid_byte}
+use Rattle.std.proofs.Common.{rules}
 use Rattle.extents.proofs.MaskedBytes.{masked_byte}
 use Rattle.extents.proofs.record.laid_byte.Goals as goal
 

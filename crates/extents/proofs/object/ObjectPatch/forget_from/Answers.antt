@@ -1,4 +1,4 @@
-use Rattle.std.proofs.Common.{rules, ℕ, ◌≡◌, arith, ◌∙◌}
+use Rattle.std.proofs.Common.{rules, arith, ◌∙◌}
 use Rattle.extents.specs.Objects.{written_in}
 use Rattle.extents.proofs.RecordCuts.{next_left, all_left}
 use Rattle.extents.proofs.object.ObjectPatch.forget_from.Goals as goal

@@ -1,4 +1,4 @@
-use Rattle.std.proofs.Common.{rules, ℕ, ◌≡◌, ◌-◌, ◌*◌, ◌<◌, length, arith, refl, ap, sym, ◌∙◌, Some}
+use Rattle.std.proofs.Common.{rules, ℕ, ◌≡◌, ◌-◌, ◌*◌, ◌<◌, length, arith, ap, sym, ◌∙◌, Some}
 use Rattle.std.specs.Prelude.{slice_get}
 use Rattle.std.proofs.lemmas.Option.{slice_get-get_or}
 use Rattle.extents.specs.declared.record.RecordPatch.{RecordPatch}

@@ -1,4 +1,4 @@
-use Rattle.std.proofs.Common.{ℕ, ◌≡◌, ◌≤◌, ◌+◌, ◌-◌, vec_len}
+use Rattle.std.proofs.Common.{ℕ, ◌≡◌, ◌≤◌, vec_len}
 use Rattle.std.specs.Prelude.{All, None, vec_capacity}
 use Rattle.extents.specs.Records.{bytes_of}
 use Rattle.extents.proofs.object.ObjectPatch.new.Given as goal

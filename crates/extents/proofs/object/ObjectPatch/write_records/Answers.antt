@@ -1,4 +1,4 @@
-use Rattle.std.proofs.Common.{rules, ℕ, ◌≡◌, arith, ◌∙◌, length}
+use Rattle.std.proofs.Common.{◌∙◌}
 use Rattle.extents.specs.Objects.{written_in}
 use Rattle.extents.proofs.RecordWrites.{next_record}
 use Rattle.extents.proofs.object.ObjectPatch.write_records.Goals as goal

@@ -1,4 +1,4 @@
-use Rattle.std.proofs.Common.{rules, ℕ, ◌≡◌, arith, refl, length}
+use Rattle.std.proofs.Common.{rules, ◌≡◌, arith, refl, length}
 use Rattle.extents.proofs.MaskedBytes.{cleared_bytes, put_marks}
 use Rattle.extents.proofs.record.RecordPatch.clear_from.Goals as goal
 

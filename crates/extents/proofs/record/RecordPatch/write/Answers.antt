@@ -1,4 +1,4 @@
-use Rattle.std.proofs.Common.{rules, ℕ, ◌≡◌, arith, refl}
+use Rattle.std.proofs.Common.{rules, arith, refl}
 use Rattle.extents.proofs.MaskedBytes.{written_bytes, put_marks}
 use Rattle.extents.proofs.record.RecordPatch.write.Goals as goal
 
