@@ -4,3 +4,4 @@ pub mod LaidObjects
 pub mod MaskedBytes
 pub mod RecordWrites
 pub mod RecordCuts
+pub mod ReadRecords

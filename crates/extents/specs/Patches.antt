@@ -1,5 +1,5 @@
 -- What one group made of the objects of a pool, told without what lies below: which bytes it wrote, and what stays of those below.
-use Rattle.std.specs.Prelude.{cond, ℕ, zero, suc, true, ◌≡◌, ◌<◌, ◌≤◌, ◌+◌, ◌-◌, ◌==◌, ◌&&◌, List, [], fold, map, length, max, min, take, get_or, nat_lt, nat_le, Option, Some, None, is_some, unwrap_or, option_map}
+use Rattle.std.specs.Prelude.{cond, ℕ, zero, suc, true, false, Bool, ◌≡◌, ◌<◌, ◌≤◌, ◌+◌, ◌-◌, ◌==◌, ◌&&◌, List, [], fold, map, length, max, min, take, get_or, nat_lt, nat_le, Option, Some, None, is_some, unwrap_or, option_map}
 use Rattle.std.specs.List.{range_with_len}
 use Rattle.std.specs.Ordering.{nat_cmp}
 use Rattle.std.specs.FinMap as finite
@@ -83,6 +83,13 @@ length_over (Grown end) below = option_map (λ size. max size end) below
 length_over (Cut kept size) below = option_map (λ _. size) below
 length_over (Made size) below = Some size
 length_over Gone below = None
+
+-- whether the byte of the object below shows at an offset where none was written
+abbrev pub is_shown : Basis → ℕ → Bool
+is_shown (Grown end) i = true
+is_shown (Cut kept size) i = nat_lt i kept
+is_shown (Made size) i = false
+is_shown Gone i = false
 
 -- the objects that patches make of those below
 unfoldable pub objects_up_to : ℕ → (ℕ → Option (List ℕ)) → FinMap nat_cmp (List ℕ)

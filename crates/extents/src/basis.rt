@@ -1,5 +1,9 @@
 //! What a group leaves of an object.
 
+ghost use Rattle.std.specs.Prelude.{ℕ, ◌≡◌, ◌<◌, ◌≤◌, ◌+◌, ◌*◌, nat_lt, option_map};
+
+use base::RECORD_SIZE;
+
 /// What a group leaves of an object that lies below its changes. All lengths are in bytes.
 #[derive(Clone, Copy, Debug, PartialEq, Eq)]
 pub enum Basis {
@@ -14,8 +18,7 @@ pub enum Basis {
 }
 
 impl Basis {
-    ghost use Rattle.std.specs.Prelude.{◌≡◌, option_map};
-    ghost use Rattle.extents.specs.Patches.{basis_after_cut, basis_after_write, length_over};
+    ghost use Rattle.extents.specs.Patches.{basis_after_cut, basis_after_write, is_shown, length_over};
 
     /// What is left once the group has written up to an offset.
     pub fn after_write(self, end: u64) -> Self
@@ -61,4 +64,27 @@ impl Basis {
             Basis::Gone => None,
         }
     }
+
+    /// How many bytes from the front of a record of the object below show. The record is at this index.
+    pub(crate) fn shown_in(self, index: usize) -> usize
+        requires { index < 84 }
+        ensures size { result ≤ 4032 }
+        ensures shown { (k : ℕ) → k < 4032
+            → nat_lt k result ≡ is_shown self (4032 * index + k) }
+    {
+        let begin = RECORD_SIZE * index;
+        match self {
+            Basis::Grown(_) => RECORD_SIZE,
+            Basis::Cut { kept, .. } => shown_of(kept as usize, begin),
+            Basis::Made(_) | Basis::Gone => 0,
+        }
+    }
+}
+
+// How many bytes of a record that begins at an offset lie below the first ones that are kept.
+fn shown_of(kept: usize, begin: usize) -> usize
+    ensures size { result ≤ 4032 }
+    ensures shown { (k : ℕ) → k < 4032 → nat_lt k result ≡ nat_lt (begin + k) kept }
+{
+    (kept.max(begin) - begin).min(RECORD_SIZE)
 }
