@@ -108,3 +108,11 @@ next_record index offset content old mid so_far i = go (cases_eq (i / 4032) inde
 -- past the last record nothing is written
 pub past_last : (records : List RecordPatch) (i : ℕ) → length records ≤ i / 4032 → written_by records i ≡ None
 past_last records i past = ap (λ (o : Option RecordPatch). option_map_or (λ r. bytes_of r (i % 4032)) o None) (slice_get_past records (i / 4032) past)
+
+-- a byte of a record is the one of the object there
+pub record_byte : (records : List RecordPatch) (r : RecordPatch) (index k : ℕ) → k < 4032 → slice_get records index ≡ Some r
+    → bytes_of r k ≡ written_by records (4032 * index + k)
+record_byte records r index k inside at =
+    let d : (4032 * index + k) / 4032 ≡ index = omega arith in
+    let m : (4032 * index + k) % 4032 ≡ k = omega arith in
+    sym (record_at records r (4032 * index + k) (rw d at) ∙ ap (bytes_of r) m)

@@ -1,10 +1,11 @@
 -- The bytes that a group wrote into an object, by records.
-use Rattle.std.specs.Prelude.{cond, ℕ, ◌==◌, nat_lt, ◌≡◌, ◌<◌, ◌+◌, ◌*◌, ◌/◌, ◌%◌, List, Option, None, slice_get, vec_len}
+use Rattle.std.specs.Prelude.{cond, ℕ, ◌==◌, nat_lt, ◌≡◌, ◌<◌, ◌+◌, ◌*◌, ◌/◌, ◌%◌, List, [], length, Option, None, option_map, unwrap_or, slice_get, vec_len}
 use Rattle.std.specs.Option.{option_map_or}
 use Rattle.extents.specs.declared.record.RecordPatch.{RecordPatch}
 use Rattle.extents.specs.declared.object.ObjectPatch.{ObjectPatch}
 use Rattle.extents.specs.Records.{bytes_of}
-use Rattle.extents.specs.Patches.{written_after, written_below}
+use Rattle.extents.specs.Patches.{Patch, IsSized, patched, written_after, written_below}
+use Rattle.base.specs.tree.PlacedTrees.{padded_record}
 
 -- the byte that was written at an offset of an object
 abbrev pub written_by : List RecordPatch → ℕ → Option ℕ
@@ -41,3 +42,16 @@ left_at_record index offset written i = cond (i / 4032 == index) (written_below 
 
 abbrev pub left_before_record : ℕ → ℕ → (ℕ → Option ℕ) → ℕ → Option ℕ
 left_before_record index offset written i = cond (nat_lt (i / 4032) index) (written_below offset written i) (written i)
+
+-- what the group made of the object
+abbrev pub patch_of : ObjectPatch → Patch
+patch_of o = record { basis = o.basis; written = written_in o }
+
+-- a record of an object, with zeros behind its end; zeros where there is no object
+abbrev pub record_of : ℕ → Option (List ℕ) → List ℕ
+record_of index object = padded_record index (unwrap_or object [])
+
+-- from the record of the object below, which has this length, to that of the patched one
+abbrev pub LaysOver : Patch → ℕ → Option ℕ → List ℕ → List ℕ → Type 0
+LaysOver p index below old new = (object : Option (List ℕ)) → IsSized p → option_map length object ≡ below
+    → old ≡ record_of index object → new ≡ record_of index (patched p object)

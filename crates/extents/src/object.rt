@@ -1,6 +1,6 @@
 //! What a group made of one object.
 
-ghost use Rattle.std.specs.Prelude.{ℕ, ◌≡◌, ◌<◌, ◌≤◌, ◌+◌, ◌*◌, None, IfOk, OnOk, length, vec_len};
+ghost use Rattle.std.specs.Prelude.{ℕ, ◌≡◌, ◌<◌, ◌≤◌, ◌+◌, ◌*◌, None, cond, get_or, nat_lt, IfOk, OnOk, length, vec_len};
 
 use crate::basis::Basis;
 use crate::record::RecordPatch;
@@ -19,7 +19,7 @@ pub struct ObjectPatch {
 impl ObjectPatch {
     ghost use Rattle.extents.specs.Patches.{basis_after_cut, basis_after_write, written_after, written_below};
     ghost use Rattle.extents.specs.declared.basis.Basis.TheVariants.{Gone, Grown, Made};
-    ghost use Rattle.extents.specs.Objects.{HasRoomAt, HasRoomFrom, KeepsRoom, left_at_record, written_at_record, written_in};
+    ghost use Rattle.extents.specs.Objects.{HasRoomAt, HasRoomFrom, KeepsRoom, LaysOver, left_at_record, patch_of, written_at_record, written_in};
 
     /// An object that the group has not changed. It is refused where there is no memory.
     pub fn new(alloc: Global) -> Result<Self, AllocError>
@@ -167,4 +167,30 @@ impl ObjectPatch {
         let record = &mut self.records[index];
         record.clear_from(offset.max(begin) - begin);
     }
+
+    /// Makes of a record of the object below, with zeros behind that object's end, the record of this object. `below` is the
+    /// length of the object below in bytes, `None` where there is no such object; its record is zeros then.
+    pub fn lay_over(&self, index: usize, below: Option<u64>, into: &mut [u8])
+        requires index { index < 84 }
+        requires size { length into.old ≡ 4032 }
+        ensures size { length into.new ≡ 4032 }
+        ensures record { LaysOver (patch_of self.now) index below into.old into.new }
+    {
+        if self.basis.length_over(below).is_none() {
+            into.fill(0);
+            return;
+        }
+        clear_from(into, self.basis.shown_in(index));
+        self.records[index].lay_over(into);
+    }
+}
+
+fn clear_from(bytes: &mut [u8], offset: usize)
+    requires size { length bytes.old ≡ 4032 }
+    requires within { offset ≤ 4032 }
+    ensures size { length bytes.new ≡ 4032 }
+    ensures bytes { (k : ℕ) → k < 4032
+        → get_or bytes.new k 0 ≡ cond (nat_lt k offset) (get_or bytes.old k 0) 0 }
+{
+    bytes[offset..].fill(0);
 }
