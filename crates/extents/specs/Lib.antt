@@ -3,3 +3,4 @@ pub mod Laws
 pub mod Marks
 pub mod Records
 pub mod Objects
+pub mod Tables

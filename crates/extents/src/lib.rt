@@ -2,10 +2,12 @@
 #![tactic(auto)]
 
 mod basis;
+mod extents;
 mod laws;
 mod object;
 mod record;
 
 pub use basis::Basis;
+pub use extents::Extents;
 pub use laws::{changes_follow, groups_are_read, nothing_changes};
 pub use object::ObjectPatch;

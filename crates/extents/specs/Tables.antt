@@ -1,0 +1,35 @@
+-- The patches of a group, by the numbers of objects.
+use Rattle.std.specs.Prelude.{ℕ, ◌≡◌, Option, Some, None, IsSome, nat_eq}
+use Rattle.std.specs.Option.{option_map_or}
+use Rattle.std.specs.HashMap.{get}
+use Rattle.extents.specs.declared.object.ObjectPatch.{ObjectPatch}
+use Rattle.extents.specs.declared.extents.Extents.{Extents}
+use Rattle.extents.specs.Patches.{Patch, Patches, no_patch}
+use Rattle.extents.specs.Objects.{patch_of}
+
+-- the entry of an object
+abbrev pub entry_of : Extents → ℕ → Option ObjectPatch
+entry_of e n = get nat_eq e.patches n
+
+abbrev pub patch_in : Option ObjectPatch → Patch
+patch_in entry = option_map_or patch_of entry no_patch
+
+-- what the group made of each object
+abbrev pub patches_of : Extents → Patches
+patches_of e n = patch_in (entry_of e n)
+
+abbrev pub HasEntry : Extents → ℕ → Type 0
+HasEntry e n = IsSome (entry_of e n)
+
+-- an entry that was there is as it was
+abbrev pub KeepsEntries : Extents → Extents → Type 0
+KeepsEntries old new = (n : ℕ) (o : ObjectPatch) → entry_of old n ≡ Some o → entry_of new n ≡ Some o
+
+-- two patches say the same
+pub record IsSame (p q : Patch) : Type 0 where
+  pub basis : p.basis ≡ q.basis
+  pub written : (i : ℕ) → p.written i ≡ q.written i
+
+-- all objects have patches that say the same
+abbrev pub LeavesPatches : Extents → Extents → Type 0
+LeavesPatches old new = (n : ℕ) → IsSame (patches_of new n) (patches_of old n)
