@@ -1,11 +1,11 @@
 -- The patches of a group, by the numbers of objects.
-use Rattle.std.specs.Prelude.{ℕ, ◌≡◌, Option, Some, None, IsSome, nat_eq}
+use Rattle.std.specs.Prelude.{ℕ, ◌≡◌, Option, Some, None, IfSome, IsSome, IsSomeAnd, nat_eq}
 use Rattle.std.specs.Option.{option_map_or}
 use Rattle.std.specs.HashMap.{get}
 use Rattle.extents.specs.declared.object.ObjectPatch.{ObjectPatch}
 use Rattle.extents.specs.declared.extents.Extents.{Extents}
 use Rattle.extents.specs.Patches.{Patch, Patches, no_patch}
-use Rattle.extents.specs.Objects.{patch_of}
+use Rattle.extents.specs.Objects.{HasRoomFrom, KeepsRoom, patch_of}
 
 -- the entry of an object
 abbrev pub entry_of : Extents → ℕ → Option ObjectPatch
@@ -33,3 +33,11 @@ pub record IsSame (p q : Patch) : Type 0 where
 -- all objects have patches that say the same
 abbrev pub LeavesPatches : Extents → Extents → Type 0
 LeavesPatches old new = (n : ℕ) → IsSame (patches_of new n) (patches_of old n)
+
+-- an object has an entry with the room for so many bytes from an offset on
+abbrev pub HasRoomIn : Extents → ℕ → ℕ → ℕ → Type 0
+HasRoomIn e n offset count = IsSomeAnd (entry_of e n) (λ o. HasRoomFrom o offset count)
+
+-- no room is less than it was
+abbrev pub KeepsRooms : Extents → Extents → Type 0
+KeepsRooms old new = (n : ℕ) → IfSome (entry_of old n) (λ before. IsSomeAnd (entry_of new n) (λ after. KeepsRoom before after))

@@ -15,7 +15,7 @@ pub struct Extents {
 }
 
 impl Extents {
-    ghost use Rattle.extents.specs.Tables.{HasEntry, KeepsEntries, LeavesPatches, patches_of};
+    ghost use Rattle.extents.specs.Tables.{HasEntry, HasRoomIn, KeepsEntries, KeepsRooms, LeavesPatches, patches_of};
     ghost use Rattle.extents.specs.Patches.{no_patch};
 
     /// No changes. It takes no memory.
@@ -39,6 +39,26 @@ impl Extents {
         self.patches.reserve(1)?;
         let patch = ObjectPatch::new(*self.patches.allocator())?;
         self.patches.insert(id.0, patch).unwrap();
+        Ok(())
+    }
+
+    // Takes the room for a write to an object.
+    fn reserve_write(
+        &mut self,
+        id: ObjectId,
+        offset: usize,
+        count: usize,
+    ) -> Result<(), AllocError>
+        requires some { 0 < count }
+        requires within { offset + count ≤ 338688 }
+        ensures room { OnOk result (HasRoomIn self.new id.0 offset count) }
+        ensures kept { KeepsRooms self.old self.new }
+        ensures same { LeavesPatches self.old self.new }
+    {
+        self.touch(id)?;
+        if let Some(patch) = self.patches.get_mut(&id.0) {
+            patch.reserve_write(offset, count)?;
+        }
         Ok(())
     }
 }
