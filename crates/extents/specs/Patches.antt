@@ -56,12 +56,25 @@ written_after offset bytes written i = cond (nat_le offset i && nat_lt i (offset
 abbrev pub written_below : ℕ → (ℕ → Option ℕ) → ℕ → Option ℕ
 written_below size written i = cond (nat_lt i size) (written i) None
 
+-- a patch after a write and after a cut, and of an object that was created or removed
+abbrev pub patch_after_write : ℕ → List ℕ → Patch → Patch
+patch_after_write offset bytes p = record { basis = basis_after_write (offset + length bytes) p.basis; written = written_after offset bytes p.written }
+
+abbrev pub patch_after_cut : ℕ → Patch → Patch
+patch_after_cut size p = record { basis = basis_after_cut size p.basis; written = written_below size p.written }
+
+abbrev pub made_patch : Patch
+made_patch = record { basis = Made 0; written = λ _. None }
+
+abbrev pub gone_patch : Patch
+gone_patch = record { basis = Gone; written = λ _. None }
+
 -- the patch of object n after an operation
 abbrev pub patch_after : ℕ → Op → Patch → Patch
-patch_after n (Create m) p = cond (n == m.0) (record { basis = Made 0; written = λ _. None }) p
-patch_after n (Remove m) p = cond (n == m.0) (record { basis = Gone; written = λ _. None }) p
-patch_after n (Write m offset bytes) p = cond (n == m.0) (record { basis = basis_after_write (offset + length bytes) p.basis; written = written_after offset bytes p.written }) p
-patch_after n (SetLength m size) p = cond (n == m.0) (record { basis = basis_after_cut size p.basis; written = written_below size p.written }) p
+patch_after n (Create m) p = cond (n == m.0) made_patch p
+patch_after n (Remove m) p = cond (n == m.0) gone_patch p
+patch_after n (Write m offset bytes) p = cond (n == m.0) (patch_after_write offset bytes p) p
+patch_after n (SetLength m size) p = cond (n == m.0) (patch_after_cut size p) p
 patch_after n (SetName bytes) p = p
 
 -- the patches after operations, in order

@@ -1,5 +1,5 @@
 -- The patches of a group, by the numbers of objects.
-use Rattle.std.specs.Prelude.{ℕ, ◌≡◌, Option, Some, None, IfSome, IsSome, IsSomeAnd, nat_eq}
+use Rattle.std.specs.Prelude.{ℕ, ◌≡◌, ◌≢◌, Option, Some, None, IfSome, IsSome, IsSomeAnd, nat_eq}
 use Rattle.std.specs.Option.{option_map_or}
 use Rattle.std.specs.HashMap.{get}
 use Rattle.extents.specs.declared.object.ObjectPatch.{ObjectPatch}
@@ -41,3 +41,7 @@ HasRoomIn e n offset count = IsSomeAnd (entry_of e n) (λ o. HasRoomFrom o offse
 -- no room is less than it was
 abbrev pub KeepsRooms : Extents → Extents → Type 0
 KeepsRooms old new = (n : ℕ) → IfSome (entry_of old n) (λ before. IsSomeAnd (entry_of new n) (λ after. KeepsRoom before after))
+
+-- the entries of other objects are as they were
+abbrev pub KeepsOthers : ℕ → Extents → Extents → Type 0
+KeepsOthers m old new = (n : ℕ) → n ≢ m → entry_of new n ≡ entry_of old n

@@ -15,8 +15,8 @@ pub struct Extents {
 }
 
 impl Extents {
-    ghost use Rattle.extents.specs.Tables.{HasEntry, HasRoomIn, KeepsEntries, KeepsRooms, LeavesPatches, patches_of};
-    ghost use Rattle.extents.specs.Patches.{no_patch};
+    ghost use Rattle.extents.specs.Tables.{HasEntry, HasRoomIn, IsSame, KeepsEntries, KeepsOthers, KeepsRooms, LeavesPatches, patches_of};
+    ghost use Rattle.extents.specs.Patches.{gone_patch, made_patch, no_patch, patch_after_cut, patch_after_write};
 
     /// No changes. It takes no memory.
     pub fn new(alloc: Global) -> Self
@@ -60,5 +60,53 @@ impl Extents {
             patch.reserve_write(offset, count)?;
         }
         Ok(())
+    }
+
+    fn write(&mut self, id: ObjectId, offset: usize, content: &[u8])
+        requires some { 0 < length content.now }
+        requires within { offset + length content.now ≤ 338688 }
+        requires room { HasRoomIn self.old id.0 offset (length content.now) }
+        ensures kept { KeepsRooms self.old self.new }
+        ensures others { KeepsOthers id.0 self.old self.new }
+        ensures here { IsSame (patches_of self.new id.0)
+            (patch_after_write offset content.now (patches_of self.old id.0)) }
+    {
+        if let Some(patch) = self.patches.get_mut(&id.0) {
+            patch.write(offset, content);
+        }
+    }
+
+    fn create(&mut self, id: ObjectId)
+        requires { HasEntry self.old id.0 }
+        ensures kept { KeepsRooms self.old self.new }
+        ensures others { KeepsOthers id.0 self.old self.new }
+        ensures here { IsSame (patches_of self.new id.0) made_patch }
+    {
+        if let Some(patch) = self.patches.get_mut(&id.0) {
+            patch.create();
+        }
+    }
+
+    fn remove(&mut self, id: ObjectId)
+        requires { HasEntry self.old id.0 }
+        ensures kept { KeepsRooms self.old self.new }
+        ensures others { KeepsOthers id.0 self.old self.new }
+        ensures here { IsSame (patches_of self.new id.0) gone_patch }
+    {
+        if let Some(patch) = self.patches.get_mut(&id.0) {
+            patch.remove();
+        }
+    }
+
+    fn set_length(&mut self, id: ObjectId, length: usize)
+        requires { HasEntry self.old id.0 }
+        ensures kept { KeepsRooms self.old self.new }
+        ensures others { KeepsOthers id.0 self.old self.new }
+        ensures here { IsSame (patches_of self.new id.0)
+            (patch_after_cut length (patches_of self.old id.0)) }
+    {
+        if let Some(patch) = self.patches.get_mut(&id.0) {
+            patch.set_length(length);
+        }
     }
 }
