@@ -5,3 +5,4 @@ pub mod MaskedBytes
 pub mod RecordWrites
 pub mod RecordCuts
 pub mod ReadRecords
+pub mod SamePatches

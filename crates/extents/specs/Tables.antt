@@ -1,10 +1,12 @@
 -- The patches of a group, by the numbers of objects.
-use Rattle.std.specs.Prelude.{ℕ, ◌≡◌, ◌≢◌, Option, Some, None, IfSome, IsSome, IsSomeAnd, nat_eq}
+use Rattle.std.specs.Prelude.{ℕ, ◌≡◌, ◌≢◌, List, length, All, Option, Some, None, IfSome, IsSome, IsSomeAnd, nat_eq}
 use Rattle.std.specs.Option.{option_map_or}
 use Rattle.std.specs.HashMap.{get}
+use Rattle.base.specs.declared.operation.Op.{Op}
+use Rattle.base.specs.declared.operation.Op.TheVariants.{Create, Remove, Write, SetLength, SetName}
 use Rattle.extents.specs.declared.object.ObjectPatch.{ObjectPatch}
 use Rattle.extents.specs.declared.extents.Extents.{Extents}
-use Rattle.extents.specs.Patches.{Patch, Patches, no_patch}
+use Rattle.extents.specs.Patches.{Patch, Patches, no_patch, with_ops}
 use Rattle.extents.specs.Objects.{HasRoomFrom, KeepsRoom, patch_of}
 
 -- the entry of an object
@@ -45,3 +47,18 @@ KeepsRooms old new = (n : ℕ) → IfSome (entry_of old n) (λ before. IsSomeAnd
 -- the entries of other objects are as they were
 abbrev pub KeepsOthers : ℕ → Extents → Extents → Type 0
 KeepsOthers m old new = (n : ℕ) → n ≢ m → entry_of new n ≡ entry_of old n
+
+-- the object of an operation has an entry, and the room for what it writes
+abbrev pub HasRoomFor : Extents → Op → Type 0
+HasRoomFor e (Create n) = HasEntry e n.0
+HasRoomFor e (Remove n) = HasEntry e n.0
+HasRoomFor e (Write n offset bytes) = HasRoomIn e n.0 offset (length bytes)
+HasRoomFor e (SetLength n new) = HasEntry e n.0
+HasRoomFor e (SetName bytes) = Unit {0}
+
+abbrev pub HaveRoom : Extents → List Op → Type 0
+HaveRoom e ops = All (HasRoomFor e) ops
+
+-- the new changes are those of before with these operations
+abbrev pub AppliesOps : List Op → Extents → Extents → Type 0
+AppliesOps ops old new = (n : ℕ) → IsSame (patches_of new n) (with_ops ops (patches_of old) n)

@@ -1,10 +1,10 @@
 //! What a group made of the objects of a pool.
 
-ghost use Rattle.std.specs.Prelude.{ℕ, ◌≡◌, ◌<◌, ◌≤◌, ◌+◌, IsSome, OnOk, length};
-ghost use Rattle.std.specs.HashMap.{get};
+ghost use Rattle.std.specs.Prelude.{ℕ, ◌≡◌, ◌<◌, ◌≤◌, ◌+◌, true, IsSome, OnOk, length, nat_lt};
+ghost use Rattle.std.specs.List.{list_all};
 
 use crate::object::ObjectPatch;
-use base::ObjectId;
+use base::{ObjectId, Op};
 use indexmap::IndexMap;
 use std::alloc::{AllocError, Global};
 
@@ -15,8 +15,10 @@ pub struct Extents {
 }
 
 impl Extents {
-    ghost use Rattle.extents.specs.Tables.{HasEntry, HasRoomIn, IsSame, KeepsEntries, KeepsOthers, KeepsRooms, LeavesPatches, patches_of};
-    ghost use Rattle.extents.specs.Patches.{gone_patch, made_patch, no_patch, patch_after_cut, patch_after_write};
+    ghost use Rattle.extents.specs.Tables.{AppliesOps, HasEntry, HasRoomFor, HasRoomIn, HaveRoom, IsSame, KeepsEntries, KeepsOthers, KeepsRooms, LeavesPatches, patches_of};
+    ghost use Rattle.base.specs.formats.Records.{is_content_allowed};
+    ghost use Rattle.object_maps.specs.Ops.{AreOpsAllowed, IsOpAllowed};
+    ghost use Rattle.extents.specs.Patches.{gone_patch, made_patch, no_patch, patch_after, patch_after_cut, patch_after_write};
 
     /// No changes. It takes no memory.
     pub fn new(alloc: Global) -> Self
@@ -107,6 +109,83 @@ impl Extents {
     {
         if let Some(patch) = self.patches.get_mut(&id.0) {
             patch.set_length(length);
+        }
+    }
+
+    /// Takes the room that operations need, so that `apply` takes no memory. What the group made stays.
+    ///
+    /// # Errors
+    /// Where there is no memory.
+    pub fn reserve(&mut self, ops: &[Op]) -> Result<(), AllocError>
+        requires { AreOpsAllowed ops.now }
+        ensures room { OnOk result (HaveRoom self.new ops.now) }
+        ensures bytes { OnOk result (list_all is_content_allowed ops.now ≡ true) }
+        ensures same { LeavesPatches self.old self.new }
+    {
+        for op in ops {
+            self.reserve_for(op)?;
+        }
+        Ok(())
+    }
+
+    fn reserve_for(&mut self, op: &Op) -> Result<(), AllocError>
+        requires { IsOpAllowed op.now }
+        ensures room { OnOk result (HasRoomFor self.new op.now) }
+        ensures bytes { is_content_allowed op.now ≡ true }
+        ensures kept { KeepsRooms self.old self.new }
+        ensures same { LeavesPatches self.old self.new }
+    {
+        match op {
+            Op::Create(id) | Op::Remove(id) | Op::SetLength(id, _) => self.touch(*id),
+            Op::Write(id, offset, bytes) => self.reserve_bytes(
+                *id,
+                *offset as usize,
+                bytes.as_slice(),
+            ),
+            Op::SetName(_) => Ok(()),
+        }
+    }
+
+    fn reserve_bytes(
+        &mut self,
+        id: ObjectId,
+        offset: usize,
+        content: &[u8],
+    ) -> Result<(), AllocError>
+        requires some { 0 < length content.now }
+        requires within { offset + length content.now ≤ 338688 }
+        ensures room { OnOk result (HasRoomIn self.new id.0 offset (length content.now)) }
+        ensures bytes { list_all (λ b. nat_lt b 256) content.now ≡ true }
+        ensures kept { KeepsRooms self.old self.new }
+        ensures same { LeavesPatches self.old self.new }
+    {
+        self.reserve_write(id, offset, content.len())
+    }
+
+    /// Applies operations that have their room, in order. It takes no memory.
+    pub fn apply(&mut self, ops: &[Op])
+        requires allowed { AreOpsAllowed ops.now }
+        requires room { HaveRoom self.old ops.now }
+        ensures { AppliesOps ops.now self.old self.new }
+    {
+        for op in ops {
+            self.apply_op(op);
+        }
+    }
+
+    fn apply_op(&mut self, op: &Op)
+        requires allowed { IsOpAllowed op.now }
+        requires room { HasRoomFor self.old op.now }
+        ensures kept { KeepsRooms self.old self.new }
+        ensures applied { (n : ℕ) → IsSame (patches_of self.new n)
+            (patch_after n op.now (patches_of self.old n)) }
+    {
+        match op {
+            Op::Create(id) => self.create(*id),
+            Op::Remove(id) => self.remove(*id),
+            Op::Write(id, offset, bytes) => self.write(*id, *offset as usize, bytes.as_slice()),
+            Op::SetLength(id, length) => self.set_length(*id, *length as usize),
+            Op::SetName(_) => {}
         }
     }
 }

@@ -1,0 +1,98 @@
+-- Patches that say the same, and what operations make of them.
+use Rattle.std.proofs.Common.{◌≡◌, ℕ, ◌+◌, ◌-◌, ◌<◌, ◌≢◌, List, [], ◌∷◌, ◌++◌, Option, Some, None, length, get_or, take, drop, refl, ap, sym, ◌∙◌, ◌⊎◌, inl, inr, true, false, cond, arith, zero, suc}
+use Rattle.std.specs.Prelude.{Bool, fold, nat_le, nat_lt, ◌&&◌, ◌==◌, IfSome, IsSome, IsSomeAnd}
+use Rattle.std.specs.List.{list_all}
+use Rattle.std.proofs.lemmas.Bool.{cases_eq, cases_lt, eq-eqb, ne_eqb, and_from}
+use Rattle.std.proofs.lemmas.List.{drop_more, take_more}
+use Rattle.std.proofs.lemmas.List.Folds.{list_all-append}
+use Rattle.base.specs.declared.operation.Op.{Op}
+use Rattle.base.specs.declared.operation.Op.TheVariants.{Create, Remove, Write, SetLength, SetName}
+use Rattle.extents.specs.declared.object.ObjectPatch.{ObjectPatch}
+use Rattle.extents.specs.declared.extents.Extents.{Extents}
+use Rattle.extents.specs.Patches.{Patch, Patches, patch_after, patch_after_write, patch_after_cut, with_ops, basis_after_write, basis_after_cut}
+use Rattle.extents.specs.Objects.{HasRoomFrom, KeepsRoom}
+use Rattle.extents.specs.Tables.{HasEntry, HasRoomFor, HasRoomIn, IsSame, KeepsRooms, entry_of}
+
+pub same-trans : (p q r : Patch) → IsSame p q → IsSame q r → IsSame p r
+same-trans p q r pq qr = record { basis = pq.basis ∙ qr.basis; written = λ i. pq.written i ∙ qr.written i }
+
+same_write : (offset : ℕ) (bytes : List ℕ) (p q : Patch) → IsSame p q → IsSame (patch_after_write offset bytes p) (patch_after_write offset bytes q)
+same_write offset bytes p q is = record {
+  basis = ap (basis_after_write (offset + length bytes)) is.basis;
+  written = λ i. ap (λ v. cond (nat_le offset i && nat_lt i (offset + length bytes)) (Some (get_or bytes (i - offset) 0)) v) (is.written i);
+}
+
+same_cut : (size : ℕ) (p q : Patch) → IsSame p q → IsSame (patch_after_cut size p) (patch_after_cut size q)
+same_cut size p q is = record { basis = ap (basis_after_cut size) is.basis; written = λ i. ap (λ v. cond (nat_lt i size) v None) (is.written i) }
+
+same_on : (n m : ℕ) (p q a b : Patch) → IsSame p q → IsSame a b → IsSame (cond (n == m) a p) (cond (n == m) b q)
+same_on n m p q a b before after = go (cases_eq n m)
+  where
+    go : (n ≡ m) ⊎ (n ≢ m) → IsSame (cond (n == m) a p) (cond (n == m) b q)
+    go (inl e) = rw (eq-eqb n m e) after
+    go (inr e) = rw (ne_eqb n m e) before
+
+same_patch : (p : Patch) → IsSame p p
+same_patch p = record { basis = refl; written = λ i. refl }
+
+-- an operation makes of patches that say the same such ones
+pub same_after : (n : ℕ) (op : Op) (p q : Patch) → IsSame p q → IsSame (patch_after n op p) (patch_after n op q)
+same_after n (Create m) p q is = same_on n m.0 p q _ _ is (same_patch _)
+same_after n (Remove m) p q is = same_on n m.0 p q _ _ is (same_patch _)
+same_after n (Write m offset bytes) p q is = same_on n m.0 p q _ _ is (same_write offset bytes p q is)
+same_after n (SetLength m size) p q is = same_on n m.0 p q _ _ is (same_cut size p q is)
+same_after n (SetName bytes) p q is = is
+
+same_with : (ops : List Op) (n : ℕ) (p q : Patch) → IsSame p q → IsSame (fold (λ p op. patch_after n op p) p ops) (fold (λ p op. patch_after n op p) q ops)
+same_with [] n p q is = is
+same_with (op ∷ ops) n p q is = same_with ops n (patch_after n op p) (patch_after n op q) (same_after n op p q is)
+
+-- one operation more is applied
+pub next_applied : (ops : List Op) (i : ℕ) (op : Op) (mid new whole : Patches) → i < length ops → op ≡ get_or ops i op
+    → ((n : ℕ) → IsSame (new n) (patch_after n op (mid n))) → ((n : ℕ) → IsSame (with_ops (drop i ops) mid n) (whole n))
+    → (n : ℕ) → IsSame (with_ops (drop (i + 1) ops) new n) (whole n)
+next_applied ops i op mid new whole low is applied left n =
+    let rest : drop i ops ≡ op ∷ drop (i + 1) ops = drop_more ops i op low ∙ ap (λ (x : Op). x ∷ drop (i + 1) ops) (sym is) in
+    same-trans _ (with_ops (op ∷ drop (i + 1) ops) mid n) (whole n) (same_with (drop (i + 1) ops) n (new n) (patch_after n op (mid n)) (applied n))
+    (rw rest at (left n))
+
+-- what has its room keeps it
+has_kept : (a b : Option ObjectPatch) (Q : ObjectPatch → Type 0) → ((x y : ObjectPatch) → KeepsRoom x y → Q x → Q y)
+    → IfSome a (λ before. IsSomeAnd b (λ after. KeepsRoom before after)) → IsSomeAnd a Q → IsSomeAnd b Q
+has_kept None b Q step kept has = absurd has
+has_kept (Some x) None Q step kept has = absurd kept
+has_kept (Some x) (Some y) Q step kept has = step x y kept has
+
+entry_kept : (a b : Option ObjectPatch) → IfSome a (λ before. IsSomeAnd b (λ after. KeepsRoom before after)) → IsSome a → IsSome b
+entry_kept None b kept has = absurd (let no_way : false ≡ true = has in cc)
+entry_kept (Some x) None kept has = absurd kept
+entry_kept (Some x) (Some y) kept has = refl
+
+pub room_kept : (op : Op) (old new : Extents) → KeepsRooms old new → HasRoomFor old op → HasRoomFor new op
+room_kept (Create m) old new kept has = entry_kept (entry_of old m.0) (entry_of new m.0) (kept m.0) has
+room_kept (Remove m) old new kept has = entry_kept (entry_of old m.0) (entry_of new m.0) (kept m.0) has
+room_kept (Write m offset bytes) old new kept has =
+    has_kept (entry_of old m.0) (entry_of new m.0) (λ o. HasRoomFrom o offset (length bytes)) (λ x y k h index from to. k index (h index from to)) (kept m.0) has
+room_kept (SetLength m size) old new kept has = entry_kept (entry_of old m.0) (entry_of new m.0) (kept m.0) has
+room_kept (SetName bytes) old new kept has = has
+
+default_free : (ops : List Op) (i : ℕ) (a b : Op) → i < length ops → get_or ops i a ≡ get_or ops i b
+default_free [] i a b low = absurd (omega arith)
+default_free (op ∷ ops) zero a b low = refl
+default_free (op ∷ ops) (suc i) a b low = default_free ops i a b (omega arith)
+
+-- so has one operation more
+pub next_room : (ops : List Op) (i : ℕ) (op : Op) (old new : Extents) → op ≡ get_or ops i op → KeepsRooms old new → HasRoomFor new op
+    → ((k : ℕ) (d : Op) → k < i → HasRoomFor old (get_or ops k d)) → i < length ops → (k : ℕ) (d : Op) → k < i + 1 → HasRoomFor new (get_or ops k d)
+next_room ops i op old new is kept has before low k d l = go (cases_eq k i)
+  where
+    go : (k ≡ i) ⊎ (k ≢ i) → HasRoomFor new (get_or ops k d)
+    go (inl e) = let here : op ≡ get_or ops k d = is ∙ default_free ops i op d low ∙ ap (λ j. get_or ops j d) (sym e) in rw (sym here) has
+    go (inr e) = room_kept (get_or ops k d) old new kept (before k d (omega arith))
+
+-- and its bytes are bytes
+pub next_bytes : (p : Op → Bool) (ops : List Op) (i : ℕ) (op : Op) → i < length ops → op ≡ get_or ops i op → list_all p (take i ops) ≡ true → p op ≡ true
+    → list_all p (take (i + 1) ops) ≡ true
+next_bytes p ops i op low is before here =
+    ap (list_all p) (take_more ops i op low ∙ ap (λ (x : Op). take i ops ++ x ∷ []) (sym is))
+    ∙ list_all-append p (take i ops) (op ∷ []) ∙ and_from (list_all p (take i ops)) (list_all p (op ∷ [])) before (and_from (p op) true here refl)
