@@ -1,16 +1,18 @@
 -- Patches that say the same, and what operations make of them.
-use Rattle.std.proofs.Common.{◌≡◌, ℕ, ◌+◌, ◌-◌, ◌<◌, ◌≢◌, List, [], ◌∷◌, ◌++◌, Option, Some, None, length, get_or, take, drop, refl, ap, sym, ◌∙◌, ◌⊎◌, inl, inr, true, false, cond, arith, zero, suc}
+use Rattle.std.proofs.Common.{◌≡◌, ℕ, ◌+◌, ◌-◌, ◌<◌, ◌≢◌, List, [], ◌∷◌, ◌++◌, Option, Some, None, length, get_or, take, drop, refl, ap, sym, ◌∙◌, ◌⊎◌, inl, inr, true, false, cond, arith, max}
 use Rattle.std.specs.Prelude.{Bool, fold, nat_le, nat_lt, ◌&&◌, ◌==◌, IfSome, IsSome, IsSomeAnd}
 use Rattle.std.specs.List.{list_all}
 use Rattle.std.proofs.lemmas.Bool.{cases_eq, cases_lt, eq-eqb, ne_eqb, and_from}
-use Rattle.std.proofs.lemmas.List.{drop_more, take_more}
+use Rattle.std.proofs.lemmas.List.{drop_more, take_more, get_or_default}
 use Rattle.std.proofs.lemmas.List.Folds.{list_all-append}
 use Rattle.base.specs.declared.operation.Op.{Op}
 use Rattle.base.specs.declared.operation.Op.TheVariants.{Create, Remove, Write, SetLength, SetName}
 use Rattle.extents.specs.declared.object.ObjectPatch.{ObjectPatch}
 use Rattle.extents.specs.declared.extents.Extents.{Extents}
-use Rattle.extents.specs.Patches.{Patch, Patches, patch_after, patch_after_write, patch_after_cut, with_ops, basis_after_write, basis_after_cut}
-use Rattle.extents.specs.Objects.{HasRoomFrom, KeepsRoom}
+use Rattle.extents.specs.Patches.{Patch, Patches, patch_after, patch_after_write, patch_after_cut, with_ops, basis_after_write, basis_after_cut, length_over, no_patch}
+use Rattle.extents.specs.declared.basis.Basis.TheVariants.{Grown}
+use Rattle.extents.proofs.PatchedObjects.{patched_nothing}
+use Rattle.extents.specs.Objects.{HasRoomFrom, KeepsRoom, LaysOver, record_of}
 use Rattle.extents.specs.Tables.{HasEntry, HasRoomFor, HasRoomIn, IsSame, KeepsRooms, entry_of}
 
 pub same-trans : (p q r : Patch) → IsSame p q → IsSame q r → IsSame p r
@@ -76,18 +78,13 @@ room_kept (Write m offset bytes) old new kept has =
 room_kept (SetLength m size) old new kept has = entry_kept (entry_of old m.0) (entry_of new m.0) (kept m.0) has
 room_kept (SetName bytes) old new kept has = has
 
-default_free : (ops : List Op) (i : ℕ) (a b : Op) → i < length ops → get_or ops i a ≡ get_or ops i b
-default_free [] i a b low = absurd (omega arith)
-default_free (op ∷ ops) zero a b low = refl
-default_free (op ∷ ops) (suc i) a b low = default_free ops i a b (omega arith)
-
 -- so has one operation more
 pub next_room : (ops : List Op) (i : ℕ) (op : Op) (old new : Extents) → op ≡ get_or ops i op → KeepsRooms old new → HasRoomFor new op
     → ((k : ℕ) (d : Op) → k < i → HasRoomFor old (get_or ops k d)) → i < length ops → (k : ℕ) (d : Op) → k < i + 1 → HasRoomFor new (get_or ops k d)
 next_room ops i op old new is kept has before low k d l = go (cases_eq k i)
   where
     go : (k ≡ i) ⊎ (k ≢ i) → HasRoomFor new (get_or ops k d)
-    go (inl e) = let here : op ≡ get_or ops k d = is ∙ default_free ops i op d low ∙ ap (λ j. get_or ops j d) (sym e) in rw (sym here) has
+    go (inl e) = let here : op ≡ get_or ops k d = is ∙ get_or_default ops i op d low ∙ ap (λ j. get_or ops j d) (sym e) in rw (sym here) has
     go (inr e) = room_kept (get_or ops k d) old new kept (before k d (omega arith))
 
 -- and its bytes are bytes
@@ -96,3 +93,11 @@ pub next_bytes : (p : Op → Bool) (ops : List Op) (i : ℕ) (op : Op) → i < l
 next_bytes p ops i op low is before here =
     ap (list_all p) (take_more ops i op low ∙ ap (λ (x : Op). take i ops ++ x ∷ []) (sym is))
     ∙ list_all-append p (take i ops) (op ∷ []) ∙ and_from (list_all p (take i ops)) (list_all p (op ∷ [])) before (and_from (p op) true here refl)
+
+-- where an object has no patch its length is that below, and so are its records
+pub length_nothing : (below : Option ℕ) → length_over (Grown 0) below ≡ below
+length_nothing None = refl
+length_nothing (Some n) = let e : max n 0 ≡ n = omega arith in ap Some e
+
+pub lays_nothing : (index : ℕ) (below : Option ℕ) (bytes : List ℕ) → LaysOver no_patch index below bytes bytes
+lays_nothing index below bytes object sized is was = was ∙ ap (record_of index) (sym (patched_nothing object))

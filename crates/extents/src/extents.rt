@@ -17,8 +17,9 @@ pub struct Extents {
 impl Extents {
     ghost use Rattle.extents.specs.Tables.{AppliesOps, HasEntry, HasRoomFor, HasRoomIn, HaveRoom, IsSame, KeepsEntries, KeepsOthers, KeepsRooms, LeavesPatches, patches_of};
     ghost use Rattle.base.specs.formats.Records.{is_content_allowed};
+    ghost use Rattle.extents.specs.Objects.{LaysOver};
     ghost use Rattle.object_maps.specs.Ops.{AreOpsAllowed, IsOpAllowed};
-    ghost use Rattle.extents.specs.Patches.{gone_patch, made_patch, no_patch, patch_after, patch_after_cut, patch_after_write};
+    ghost use Rattle.extents.specs.Patches.{gone_patch, length_over, made_patch, no_patch, patch_after, patch_after_cut, patch_after_write};
 
     /// No changes. It takes no memory.
     pub fn new(alloc: Global) -> Self
@@ -186,6 +187,29 @@ impl Extents {
             Op::Write(id, offset, bytes) => self.write(*id, *offset as usize, bytes.as_slice()),
             Op::SetLength(id, length) => self.set_length(*id, *length as usize),
             Op::SetName(_) => {}
+        }
+    }
+
+    /// The length of an object in bytes, from that of the one below, where `None` is no object.
+    pub fn length_over(&self, id: ObjectId, below: Option<u64>) -> Option<u64>
+        ensures { result ≡ length_over (patches_of self.now id.0).basis below }
+    {
+        match self.patches.get(&id.0) {
+            Some(patch) => patch.basis.length_over(below),
+            None => below,
+        }
+    }
+
+    /// Makes of a record of the object below, 4,032 bytes with zeros behind that object's end, the record of this object.
+    /// `below` is the length of the object below in bytes, `None` where there is no such object; its record is zeros then.
+    pub fn lay_over(&self, id: ObjectId, index: usize, below: Option<u64>, into: &mut [u8])
+        requires index { index < 84 }
+        requires size { length into.old ≡ 4032 }
+        ensures size { length into.new ≡ 4032 }
+        ensures record { LaysOver (patches_of self.now id.0) index below into.old into.new }
+    {
+        if let Some(patch) = self.patches.get(&id.0) {
+            patch.lay_over(index, below, into);
         }
     }
 }
