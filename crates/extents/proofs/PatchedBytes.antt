@@ -15,7 +15,7 @@ WritesBelow written size = (i : ℕ) → is_some (written i) ≡ true → i < si
 pub length-filled : (written : ℕ → Option ℕ) (below : List ℕ) (size : ℕ) → length (filled written below size) ≡ size
 length-filled written below size = length-map-range_with_len (λ i. unwrap_or (written i) (get_or below i 0)) 0 size
 
-filled-in : (written : ℕ → Option ℕ) (below : List ℕ) (size k : ℕ) → k < size → get_or (filled written below size) k 0 ≡ unwrap_or (written k) (get_or below k 0)
+pub filled-in : (written : ℕ → Option ℕ) (below : List ℕ) (size k : ℕ) → k < size → get_or (filled written below size) k 0 ≡ unwrap_or (written k) (get_or below k 0)
 filled-in written below size k h = get_or-map-range_with_len (λ i. unwrap_or (written i) (get_or below i 0)) 0 size k k 0 h (omega arith)
 
 -- where nothing is written

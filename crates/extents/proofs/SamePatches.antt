@@ -1,19 +1,21 @@
 -- Patches that say the same, and what operations make of them.
 use Rattle.std.proofs.Common.{◌≡◌, ℕ, ◌+◌, ◌-◌, ◌<◌, ◌≢◌, List, [], ◌∷◌, ◌++◌, Option, Some, None, length, get_or, take, drop, refl, ap, sym, ◌∙◌, ◌⊎◌, inl, inr, true, false, cond, arith, max}
-use Rattle.std.specs.Prelude.{Bool, fold, nat_le, nat_lt, ◌&&◌, ◌==◌, IfSome, IsSome, IsSomeAnd}
+use Rattle.std.specs.Prelude.{Bool, fold, unwrap_or, nat_le, nat_lt, ◌&&◌, ◌==◌, IfSome, IsSome, IsSomeAnd}
 use Rattle.std.specs.List.{list_all}
 use Rattle.std.proofs.lemmas.Bool.{cases_eq, cases_lt, eq-eqb, ne_eqb, and_from}
-use Rattle.std.proofs.lemmas.List.{drop_more, take_more, get_or_default}
+use Rattle.std.proofs.lemmas.List.{drop_more, take_more, get_or_default, ext_get_or}
 use Rattle.std.proofs.lemmas.List.Folds.{list_all-append}
 use Rattle.base.specs.declared.operation.Op.{Op}
 use Rattle.base.specs.declared.operation.Op.TheVariants.{Create, Remove, Write, SetLength, SetName}
 use Rattle.extents.specs.declared.object.ObjectPatch.{ObjectPatch}
 use Rattle.extents.specs.declared.extents.Extents.{Extents}
-use Rattle.extents.specs.Patches.{Patch, Patches, patch_after, patch_after_write, patch_after_cut, with_ops, basis_after_write, basis_after_cut, length_over, no_patch}
-use Rattle.extents.specs.declared.basis.Basis.TheVariants.{Grown}
-use Rattle.extents.proofs.PatchedObjects.{patched_nothing}
+use Rattle.extents.specs.Patches.{Patch, Patches, AreChangesOf, IsSized, filled, patched, patch_after, patch_after_write, patch_after_cut, with_ops, basis_after_write, basis_after_cut, length_over, no_patch}
+use Rattle.extents.specs.declared.basis.Basis.{Basis}
+use Rattle.extents.specs.declared.basis.Basis.TheVariants.{Grown, Cut, Made, Gone}
+use Rattle.extents.proofs.PatchedBytes.{filled-in, length-filled}
+use Rattle.extents.proofs.PatchedObjects.{changes_follow, patched_nothing}
 use Rattle.extents.specs.Objects.{HasRoomFrom, KeepsRoom, LaysOver, record_of}
-use Rattle.extents.specs.Tables.{HasEntry, HasRoomFor, HasRoomIn, IsSame, KeepsRooms, entry_of}
+use Rattle.extents.specs.Tables.{HasEntry, HasRoomFor, HasRoomIn, IsSame, KeepsRooms, AppliesOps, entry_of, patches_of}
 
 pub same-trans : (p q r : Patch) → IsSame p q → IsSame q r → IsSame p r
 same-trans p q r pq qr = record { basis = pq.basis ∙ qr.basis; written = λ i. pq.written i ∙ qr.written i }
@@ -45,7 +47,7 @@ same_after n (Write m offset bytes) p q is = same_on n m.0 p q _ _ is (same_writ
 same_after n (SetLength m size) p q is = same_on n m.0 p q _ _ is (same_cut size p q is)
 same_after n (SetName bytes) p q is = is
 
-same_with : (ops : List Op) (n : ℕ) (p q : Patch) → IsSame p q → IsSame (fold (λ p op. patch_after n op p) p ops) (fold (λ p op. patch_after n op p) q ops)
+pub same_with : (ops : List Op) (n : ℕ) (p q : Patch) → IsSame p q → IsSame (fold (λ p op. patch_after n op p) p ops) (fold (λ p op. patch_after n op p) q ops)
 same_with [] n p q is = is
 same_with (op ∷ ops) n p q is = same_with ops n (patch_after n op p) (patch_after n op q) (same_after n op p q is)
 
@@ -101,3 +103,29 @@ length_nothing (Some n) = let e : max n 0 ≡ n = omega arith in ap Some e
 
 pub lays_nothing : (index : ℕ) (below : Option ℕ) (bytes : List ℕ) → LaysOver no_patch index below bytes bytes
 lays_nothing index below bytes object sized is was = was ∙ ap (record_of index) (sym (patched_nothing object))
+
+-- patches that say the same make the same objects
+same_filled : (v w : ℕ → Option ℕ) (below : List ℕ) (size : ℕ) → ((i : ℕ) → v i ≡ w i) → filled v below size ≡ filled w below size
+same_filled v w below size same =
+    ext_get_or 0 _ _ (length-filled v below size ∙ sym (length-filled w below size)) (λ k l.
+    let inside : k < size = rw length-filled at l in
+    filled-in v below size k inside ∙ ap (λ (o : Option ℕ). unwrap_or o (get_or below k 0)) (same k) ∙ sym (filled-in w below size k inside))
+
+same_by : (basis : Basis) (v w : ℕ → Option ℕ) (object : Option (List ℕ)) → ((i : ℕ) → v i ≡ w i)
+    → patched (record { basis = basis; written = v }) object ≡ patched (record { basis = basis; written = w }) object
+same_by (Grown end) v w None same = refl
+same_by (Grown end) v w (Some bytes) same = ap Some (same_filled v w bytes (max (length bytes) end) same)
+same_by (Cut kept size) v w None same = refl
+same_by (Cut kept size) v w (Some bytes) same = ap Some (same_filled v w (take kept bytes) size same)
+same_by (Made size) v w object same = ap Some (same_filled v w [] size same)
+same_by Gone v w object same = refl
+
+pub same_patched : (p q : Patch) (object : Option (List ℕ)) → IsSame p q → patched p object ≡ patched q object
+same_patched p q object is =
+    same_by p.basis p.written q.written object is.written ∙ ap (λ b. patched (record { basis = b; written = q.written }) object) is.basis
+
+-- what a group adds to its changes are the changes of what it added
+pub added_changes : (earlier ops : List Op) (old new : Extents) → ((n : ℕ) → IsSized (patches_of old n)) → AreChangesOf earlier (patches_of old) → AppliesOps ops old new
+    → AreChangesOf (earlier ++ ops) (patches_of new)
+added_changes earlier ops old new sized are applied n object =
+    same_patched (patches_of new n) (with_ops ops (patches_of old) n) object (applied n) ∙ changes_follow earlier ops (patches_of old) sized are n object

@@ -4,6 +4,8 @@ use Rattle.base.specs.declared.operation.Op.{Op}
 use Rattle.base.specs.history.Contents.{Contents}
 use Rattle.base.specs.history.History.{Entry, IsHistory, replay, entries_up_to}
 use Rattle.base.specs.steps.Steps.{ops_of_group}
+use Rattle.extents.specs.declared.extents.Extents.{Extents}
+use Rattle.extents.specs.Tables.{AppliesOps, patches_of}
 use Rattle.extents.specs.Patches.{Patches, IsSized, AreChangesOf, AreNumbered, patched, no_patch, with_ops, laid_groups}
 
 -- what no operation has changed is as it lies below
@@ -13,6 +15,11 @@ NothingChanges = ((below : Option (List ℕ)) → patched no_patch below ≡ bel
 -- the changes of some operations become those of more
 abbrev pub ChangesFollow : Type 0
 ChangesFollow = (earlier ops : List Op) (patches : Patches) → ((n : ℕ) → IsSized (patches n)) → AreChangesOf earlier patches → AreChangesOf (earlier ++ ops) (with_ops ops patches)
+
+-- what a group adds to its changes are the changes of what it added
+abbrev pub AddedChanges : Type 0
+AddedChanges = (earlier ops : List Op) (old new : Extents) → ((n : ℕ) → IsSized (patches_of old n)) → AreChangesOf earlier (patches_of old) → AppliesOps ops old new
+    → AreChangesOf (earlier ++ ops) (patches_of new)
 
 -- each of so many groups from this one on has the changes of its entries
 abbrev pub AreChangesOfGroups : ℕ → ℕ → List Entry → (ℕ → Patches) → Type 0

@@ -1,6 +1,6 @@
 //! What a group made of the objects of a pool.
 
-ghost use Rattle.std.specs.Prelude.{ℕ, ◌≡◌, ◌<◌, ◌≤◌, ◌+◌, true, IsSome, OnOk, length, nat_lt};
+ghost use Rattle.std.specs.Prelude.{ℕ, ◌≡◌, ◌<◌, ◌≤◌, ◌+◌, true, IsSome, OnErr, OnOk, length, nat_lt};
 ghost use Rattle.std.specs.List.{list_all};
 
 use crate::object::ObjectPatch;
@@ -111,6 +111,21 @@ impl Extents {
         if let Some(patch) = self.patches.get_mut(&id.0) {
             patch.set_length(length);
         }
+    }
+
+    /// Adds operations to what the group made, in order. All memory is taken first: where it is refused the group made what
+    /// it made before.
+    ///
+    /// # Errors
+    /// Where there is no memory.
+    pub fn add(&mut self, ops: &[Op]) -> Result<(), AllocError>
+        requires { AreOpsAllowed ops.now }
+        ensures added { OnOk result (AppliesOps ops.now self.old self.new) }
+        ensures unchanged { OnErr result (LeavesPatches self.old self.new) }
+    {
+        self.reserve(ops)?;
+        self.apply(ops);
+        Ok(())
     }
 
     /// Takes the room that operations need, so that `apply` takes no memory. What the group made stays.
