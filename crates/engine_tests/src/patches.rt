@@ -1,7 +1,10 @@
-//! What a group made of an object: its length over the one below, and the memory that it takes.
+//! What a group made of objects: lengths and records over those below, and the memory that it takes.
 
-use extents::{Basis, ObjectPatch};
+use base::{Bytes, ObjectId, Op, RECORD_SIZE};
+use extents::{Basis, Extents, ObjectPatch};
 use std::test::Fail;
+
+const OBJECT: ObjectId = ObjectId(1);
 
 #[test]
 fn a_patch_grows_and_cuts(rt: HostRuntime) -> Result<(), Fail> {
@@ -38,5 +41,40 @@ fn an_object_is_removed_and_made_again(rt: HostRuntime) -> Result<(), Fail> {
     assert_eq!(rt; patch.basis.length_over(Some(10)), Some(0));
     patch.write(0, b"a");
     assert_eq!(rt; patch.basis.length_over(Some(10)), Some(1));
+    Ok(())
+}
+
+#[test]
+fn a_group_is_laid_over_a_record(rt: HostRuntime) -> Result<(), Fail> {
+    let alloc = rt.alloc();
+    let mut group = Extents::new(alloc);
+    let write = Op::Write(OBJECT, 4_030, Bytes::from_slice(alloc, b"abcd")?);
+    group.add(&vec![in alloc; write, Op::SetLength(OBJECT, 4_033)]?)?;
+    assert_eq!(rt; group.length_over(OBJECT, Some(10)), Some(4_033));
+    assert_eq!(rt; group.length_over(ObjectId(2), Some(10)), Some(10));
+    let mut record = [0; RECORD_SIZE];
+    record[..2].copy_from_slice(b"xy");
+    group.lay_over(OBJECT, 0, Some(10), &mut record);
+    assert_eq!(rt; record[..3], b"xy\0"[..]);
+    assert_eq!(rt; record[4_030..], b"ab"[..]);
+    // of the second record the cut leaves one byte, and what lies below it doesn't show behind the cut
+    let mut next = [b'z'; RECORD_SIZE];
+    group.lay_over(OBJECT, 1, Some(9_000), &mut next);
+    assert_eq!(rt; next[..3], b"c\0\0"[..]);
+    Ok(())
+}
+
+#[test]
+fn a_created_object_has_no_byte_of_before(rt: HostRuntime) -> Result<(), Fail> {
+    let alloc = rt.alloc();
+    let mut group = Extents::new(alloc);
+    let write = Op::Write(OBJECT, 0, Bytes::from_slice(alloc, b"abcd")?);
+    group.add(&vec![in alloc; write, Op::Remove(OBJECT)]?)?;
+    assert_eq!(rt; group.length_over(OBJECT, Some(10)), None);
+    group.add(&vec![in alloc; Op::Create(OBJECT), Op::SetLength(OBJECT, 3)]?)?;
+    assert_eq!(rt; group.length_over(OBJECT, Some(10)), Some(3));
+    let mut record = [b'z'; RECORD_SIZE];
+    group.lay_over(OBJECT, 0, Some(10), &mut record);
+    assert_eq!(rt; record[..5], b"\0\0\0\0\0"[..]);
     Ok(())
 }

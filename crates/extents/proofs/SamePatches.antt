@@ -2,7 +2,7 @@
 use Rattle.std.proofs.Common.{◌≡◌, ℕ, ◌+◌, ◌-◌, ◌<◌, ◌≢◌, List, [], ◌∷◌, ◌++◌, Option, Some, None, length, get_or, take, drop, refl, ap, sym, ◌∙◌, ◌⊎◌, inl, inr, true, false, cond, arith, max}
 use Rattle.std.specs.Prelude.{Bool, fold, unwrap_or, nat_le, nat_lt, ◌&&◌, ◌==◌, IfSome, IsSome, IsSomeAnd}
 use Rattle.std.specs.List.{list_all}
-use Rattle.std.proofs.lemmas.Bool.{cases_eq, cases_lt, eq-eqb, ne_eqb, and_from}
+use Rattle.std.proofs.lemmas.Bool.{cases_eq, eq-eqb, ne_eqb, and_from}
 use Rattle.std.proofs.lemmas.List.{drop_more, take_more, get_or_default, ext_get_or}
 use Rattle.std.proofs.lemmas.List.Folds.{list_all-append}
 use Rattle.base.specs.declared.operation.Op.{Op}
@@ -15,7 +15,7 @@ use Rattle.extents.specs.declared.basis.Basis.TheVariants.{Grown, Cut, Made, Gon
 use Rattle.extents.proofs.PatchedBytes.{filled-in, length-filled}
 use Rattle.extents.proofs.PatchedObjects.{changes_follow, patched_nothing}
 use Rattle.extents.specs.Objects.{HasRoomFrom, KeepsRoom, LaysOver, record_of}
-use Rattle.extents.specs.Tables.{HasEntry, HasRoomFor, HasRoomIn, IsSame, KeepsRooms, AppliesOps, entry_of, patches_of}
+use Rattle.extents.specs.Tables.{HasRoomFor, IsSame, KeepsRooms, AppliesOps, entry_of, patches_of}
 
 pub same-trans : (p q r : Patch) → IsSame p q → IsSame q r → IsSame p r
 same-trans p q r pq qr = record { basis = pq.basis ∙ qr.basis; written = λ i. pq.written i ∙ qr.written i }

@@ -1,5 +1,5 @@
 -- The patches of a group, by the numbers of objects.
-use Rattle.std.specs.Prelude.{ℕ, ◌≡◌, ◌≢◌, List, length, All, Option, Some, None, IfSome, IsSome, IsSomeAnd, nat_eq}
+use Rattle.std.specs.Prelude.{ℕ, ◌≡◌, ◌≢◌, List, length, All, Option, Some, IfSome, IsSome, IsSomeAnd, nat_eq}
 use Rattle.std.specs.Option.{option_map_or}
 use Rattle.std.specs.HashMap.{get}
 use Rattle.base.specs.declared.operation.Op.{Op}

@@ -46,12 +46,7 @@ impl Extents {
     }
 
     // Takes the room for a write to an object.
-    fn reserve_write(
-        &mut self,
-        id: ObjectId,
-        offset: usize,
-        count: usize,
-    ) -> Result<(), AllocError>
+    fn reserve_write(&mut self, id: ObjectId, offset: usize, count: usize) -> Result<(), AllocError>
         requires some { 0 < count }
         requires within { offset + count ≤ 338688 }
         ensures room { OnOk result (HasRoomIn self.new id.0 offset count) }

@@ -1,4 +1,4 @@
-use Rattle.std.proofs.Common.{rules, ℕ, ◌≡◌, arith}
+use Rattle.std.proofs.Common.{rules, arith}
 use Rattle.extents.proofs.ReadRecords.{shown_count}
 use Rattle.extents.proofs.basis.shown_of.Goals as goal
 

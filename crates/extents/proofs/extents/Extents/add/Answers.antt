@@ -1,4 +1,3 @@
-use Rattle.std.proofs.Common.{rules, ℕ, ◌≡◌, arith}
 use Rattle.extents.specs.Patches.{with_ops}
 use Rattle.extents.specs.Tables.{patches_of}
 use Rattle.extents.proofs.SamePatches.{same-trans, same_with}

@@ -1,4 +1,3 @@
-use Rattle.std.proofs.Common.{rules, ℕ, ◌≡◌, arith}
 use Rattle.base.specs.formats.Records.{is_content_allowed}
 use Rattle.extents.specs.Tables.{patches_of}
 use Rattle.extents.proofs.SamePatches.{next_bytes, next_room, same-trans}

@@ -1,4 +1,4 @@
-use Rattle.std.proofs.Common.{rules, ℕ, ◌≡◌, ◌+◌, ◌*◌, ◌<◌, List, Option, Some, true, length, ap, sym, ◌∙◌, arith}
+use Rattle.std.proofs.Common.{rules, ℕ, ◌≡◌, ◌+◌, ◌*◌, ◌<◌, Option, Some, true, length, ap, sym, ◌∙◌, arith}
 use Rattle.std.specs.Prelude.{get_or, is_some, option_map, slice_get, unwrap_or}
 use Rattle.std.proofs.lemmas.Option.{slice_get-get_or}
 use Rattle.extents.specs.declared.record.RecordPatch.{RecordPatch}
