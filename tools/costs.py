@@ -4,7 +4,7 @@
     python3 tools/costs.py PROGRAM
 
 PROGRAM is a built `ztxg`. A row of the table is a pool in which 1,000 small transactions commit, 50 in a group, each by
-four lines of a script (docs/FORMATS.md, section 12): lock, begin, commit, unlock. Before each, the lock of another owner
+four lines of a script (docs/FORMATS.md, "The script"): lock, begin, commit, unlock. Before each, the lock of another owner
 that was granted first is let go and granted anew. A number is the mean of the instructions that the pool spends on such a
 line, `all` is their sum, and `sync` is the mean of the lines that sync a group. The reading of lines and the printing of
 answers don't count, nor does what the script does before the first of these commits.
