@@ -16,7 +16,7 @@ use Rattle.base.proofs.history.Objects.{get-stored_same, get-stored_other}
 use Rattle.base.proofs.history.Projections.{objects_replay}
 use Rattle.base.proofs.history.Cuts.{groups_give_contents}
 use Rattle.extents.specs.Laws.{GroupsAreRead}
-use Rattle.extents.specs.Patches.{Patches, AreChangesOf, AreNumbered, patched, objects_up_to, laid_over, laid_groups}
+use Rattle.extents.specs.Patches.{Patches, ArePatchesOf, AreNumbered, patched, objects_up_to, laid_over, laid_groups}
 
 -- the object of a number below the count, and none past it
 pub get-objects_up_to : (count : ℕ) (object : ℕ → Option (List ℕ)) (n : ℕ) → n < count → finite.get (objects_up_to count object) n ≡ object n
@@ -44,7 +44,7 @@ get-laid_past patches below n h = get-objects_past object_count (λ n. patched (
 
 -- the changes of some groups, laid one over the other
 pub get-laid_groups : (count group : ℕ) (entries : List Entry) (patches : ℕ → Patches) (below : FinMap nat_cmp (List ℕ))
-    → ((g : ℕ) → group ≤ g → g < group + count → AreChangesOf (ops_of_group g entries) (patches g)) → (n : ℕ) → n < object_count
+    → ((g : ℕ) → group ≤ g → g < group + count → ArePatchesOf (ops_of_group g entries) (patches g)) → (n : ℕ) → n < object_count
     → finite.get (laid_groups count group patches below) n
     ≡ fold (λ object op. object_after n op object) (finite.get below n) (flat_map (λ (e : Entry). e.ops) (group_by_group group count entries))
 get-laid_groups zero group entries patches below are n h = refl
@@ -62,7 +62,7 @@ get-laid_groups_past (suc count) group patches below numbered =
 
 -- Laid over the objects of the synced tree, the changes of the groups behind it are the contents.
 pub laid_groups_replay : (entries : List Entry) (count group : ℕ) (patches : ℕ → Patches) (tree now : Contents)
-    → ((g : ℕ) → group ≤ g → g < group + count → AreChangesOf (ops_of_group g entries) (patches g))
+    → ((g : ℕ) → group ≤ g → g < group + count → ArePatchesOf (ops_of_group g entries) (patches g))
     → replay (group_by_group group count entries) tree ≡ Ok now → AreNumbered tree.objects → AreNumbered now.objects
     → laid_groups count group patches tree.objects ≡ now.objects
 laid_groups_replay entries count group patches tree now are replays before after =

@@ -7,7 +7,7 @@ use Rattle.std.proofs.lemmas.Bool.{cases_lt, cases_eq, eq-eqb, ne_eqb}
 use Rattle.base.specs.declared.operation.Op.{Op}
 use Rattle.base.specs.declared.operation.Op.TheVariants.{Create, Remove, Write, SetLength, SetName}
 use Rattle.base.specs.history.Contents.{resize, bytes_after_write, object_after}
-use Rattle.extents.specs.Patches.{Patch, Patches, IsSized, AreChangesOf, no_patch, patched, patch_after, with_ops, filled, basis_after_write, basis_after_cut, length_over, written_after, written_below}
+use Rattle.extents.specs.Patches.{Patch, Patches, IsSized, ArePatchesOf, no_patch, patched, patch_after, with_ops, filled, basis_after_write, basis_after_cut, length_over, written_after, written_below}
 use Rattle.extents.specs.declared.basis.Basis.{Basis}
 use Rattle.extents.specs.declared.basis.Basis.TheVariants.{Grown, Cut, Made, Gone}
 use Rattle.extents.proofs.PatchedBytes.{WritesBelow, filled-write, filled-cut, written-within, written-cut, filled_nothing, length-filled}
@@ -124,7 +124,7 @@ patched_nothing None = refl
 patched_nothing (Some bytes) = ap Some (filled_nothing bytes)
 
 -- the changes of operations, with more of them
-pub changes_follow : (earlier ops : List Op) (patches : Patches) → ((n : ℕ) → IsSized (patches n)) → AreChangesOf earlier patches → AreChangesOf (earlier ++ ops) (with_ops ops patches)
+pub changes_follow : (earlier ops : List Op) (patches : Patches) → ((n : ℕ) → IsSized (patches n)) → ArePatchesOf earlier patches → ArePatchesOf (earlier ++ ops) (with_ops ops patches)
 changes_follow earlier ops patches sized are n below =
     after_patches ops n (patches n) below (sized n) ∙ ap (λ o. fold (λ object op. object_after n op object) o ops) (are n below)
     ∙ sym (fold-append (λ object op. object_after n op object) below earlier ops)

@@ -5,7 +5,7 @@ use Rattle.std.proofs.Math.ListN.{set}
 use Rattle.std.proofs.lemmas.Bool.{cases_lt, cases_eq, lt-ltb, le-ltb, eq-eqb, ne_eqb}
 use Rattle.extents.specs.declared.record.RecordPatch.{RecordPatch}
 use Rattle.extents.specs.Patches.{written_below}
-use Rattle.extents.specs.Records.{bytes_of}
+use Rattle.extents.specs.Records.{bytes_written}
 use Rattle.extents.specs.Objects.{written_by, left_at_record, left_before_record}
 use Rattle.extents.proofs.RecordWrites.{record_set, record_at, past_last}
 
@@ -19,18 +19,18 @@ part_left index offset k old new same = go (cases_lt (4032 * index + k) offset)
     go (inr g) = rw (le-ltb k (max offset (4032 * index) - 4032 * index) (omega arith), le-ltb (4032 * index + k) offset g) refl
 
 pub cut_of_record : (records : List RecordPatch) (index offset from : ℕ) (old new : RecordPatch) → index < length records → slice_get records index ≡ Some old
-    → from ≡ max offset (4032 * index) - 4032 * index → ((k : ℕ) → bytes_of new k ≡ written_below from (bytes_of old) k)
+    → from ≡ max offset (4032 * index) - 4032 * index → ((k : ℕ) → bytes_written new k ≡ written_below from (bytes_written old) k)
     → (i : ℕ) → written_by (set records index new) i ≡ left_at_record index offset (written_by records) i
 cut_of_record records index offset from old new fits at is left i = record_set records index new i fits ∙ go (cases_eq (i / 4032) index)
   where
     go : (i / 4032 ≡ index) ⊎ (i / 4032 ≢ index)
-        → cond (i / 4032 == index) (bytes_of new (i % 4032)) (written_by records i) ≡ cond (i / 4032 == index) (written_below offset (written_by records) i) (written_by records i)
+        → cond (i / 4032 == index) (bytes_written new (i % 4032)) (written_by records i) ≡ cond (i / 4032 == index) (written_below offset (written_by records) i) (written_by records i)
     go (inl e) =
         let is_i : 4032 * index + i % 4032 ≡ i = omega arith in
-        let here : bytes_of old (i % 4032) ≡ written_by records (4032 * index + i % 4032) = rw is_i (sym (record_at records old i (rw e at))) in
+        let here : bytes_written old (i % 4032) ≡ written_by records (4032 * index + i % 4032) = rw is_i (sym (record_at records old i (rw e at))) in
         rw (eq-eqb (i / 4032) index e)
-        (left (i % 4032) ∙ ap (λ n. written_below n (bytes_of old) (i % 4032)) is
-        ∙ part_left index offset (i % 4032) (bytes_of old) (written_by records) here ∙ ap (written_below offset (written_by records)) is_i)
+        (left (i % 4032) ∙ ap (λ n. written_below n (bytes_written old) (i % 4032)) is
+        ∙ part_left index offset (i % 4032) (bytes_written old) (written_by records) here ∙ ap (written_below offset (written_by records)) is_i)
     go (inr e) = rw (ne_eqb (i / 4032) index e) refl
 
 -- one record more is done

@@ -7,7 +7,7 @@ use Rattle.extents.specs.Patches.{written_after}
 use Rattle.std.proofs.Math.ListN.{set}
 use Rattle.std.proofs.lemmas.Option.{slice_get_past}
 use Rattle.extents.specs.declared.record.RecordPatch.{RecordPatch}
-use Rattle.extents.specs.Records.{bytes_of}
+use Rattle.extents.specs.Records.{bytes_written}
 use Rattle.extents.specs.Objects.{written_by, written_at_record, written_before_record}
 
 -- a byte out of the range of a write stays
@@ -57,35 +57,35 @@ slice_get-set_other (t ∷ records) (suc n) r (suc k) ne = slice_get-set_other r
 
 -- what is written at an offset once a record has changed
 pub record_set : (records : List RecordPatch) (index : ℕ) (r : RecordPatch) (i : ℕ) → index < length records
-    → written_by (set records index r) i ≡ cond (i / 4032 == index) (bytes_of r (i % 4032)) (written_by records i)
+    → written_by (set records index r) i ≡ cond (i / 4032 == index) (bytes_written r (i % 4032)) (written_by records i)
 record_set records index r i low = go (cases_eq (i / 4032) index)
   where
-    go : (i / 4032 ≡ index) ⊎ (i / 4032 ≢ index) → written_by (set records index r) i ≡ cond (i / 4032 == index) (bytes_of r (i % 4032)) (written_by records i)
+    go : (i / 4032 ≡ index) ⊎ (i / 4032 ≢ index) → written_by (set records index r) i ≡ cond (i / 4032 == index) (bytes_written r (i % 4032)) (written_by records i)
     go (inl e) =
         let at : slice_get (set records index r) (i / 4032) ≡ Some r = rw e (slice_get-set_same records index r low) in
-        rw (eq-eqb (i / 4032) index e) (ap (λ (o : Option RecordPatch). option_map_or (λ r. bytes_of r (i % 4032)) o None) at)
-    go (inr e) = rw (ne_eqb (i / 4032) index e) (ap (λ (o : Option RecordPatch). option_map_or (λ r. bytes_of r (i % 4032)) o None) (slice_get-set_other records index r (i / 4032) e))
+        rw (eq-eqb (i / 4032) index e) (ap (λ (o : Option RecordPatch). option_map_or (λ r. bytes_written r (i % 4032)) o None) at)
+    go (inr e) = rw (ne_eqb (i / 4032) index e) (ap (λ (o : Option RecordPatch). option_map_or (λ r. bytes_written r (i % 4032)) o None) (slice_get-set_other records index r (i / 4032) e))
 
 -- the record at an index has the bytes that were written there
-pub record_at : (records : List RecordPatch) (r : RecordPatch) (i : ℕ) → slice_get records (i / 4032) ≡ Some r → written_by records i ≡ bytes_of r (i % 4032)
-record_at records r i at = ap (λ (o : Option RecordPatch). option_map_or (λ r. bytes_of r (i % 4032)) o None) at
+pub record_at : (records : List RecordPatch) (r : RecordPatch) (i : ℕ) → slice_get records (i / 4032) ≡ Some r → written_by records i ≡ bytes_written r (i % 4032)
+record_at records r i at = ap (λ (o : Option RecordPatch). option_map_or (λ r. bytes_written r (i % 4032)) o None) at
 
 -- a write to one record of an object
 pub write_to_record : (records : List RecordPatch) (index offset : ℕ) (content part : List ℕ) (low high : ℕ) (old new : RecordPatch)
     → index < length records → slice_get records index ≡ Some old
     → low ≡ max offset (4032 * index) → high ≡ min (offset + length content) (4032 * index + 4032) → low ≤ high → part ≡ take (high - offset - (low - offset)) (drop (low - offset) content)
-    → ((k : ℕ) → bytes_of new k ≡ written_after (low - 4032 * index) part (bytes_of old) k)
+    → ((k : ℕ) → bytes_written new k ≡ written_after (low - 4032 * index) part (bytes_written old) k)
     → (i : ℕ) → written_by (set records index new) i ≡ written_at_record index offset content (written_by records) i
 write_to_record records index offset content part low high old new fits at is_low is_high order is_part wrote i = record_set records index new i fits ∙ go (cases_eq (i / 4032) index)
   where
     go : (i / 4032 ≡ index) ⊎ (i / 4032 ≢ index)
-        → cond (i / 4032 == index) (bytes_of new (i % 4032)) (written_by records i) ≡ cond (i / 4032 == index) (written_after offset content (written_by records) i) (written_by records i)
+        → cond (i / 4032 == index) (bytes_written new (i % 4032)) (written_by records i) ≡ cond (i / 4032 == index) (written_after offset content (written_by records) i) (written_by records i)
     go (inl e) =
         let inside : i % 4032 < 4032 = omega arith in
         let is : 4032 * index + i % 4032 ≡ i = omega arith in
-        let here : bytes_of old (i % 4032) ≡ written_by records (4032 * index + i % 4032) = rw is (sym (record_at records old i (rw e at))) in
+        let here : bytes_written old (i % 4032) ≡ written_by records (4032 * index + i % 4032) = rw is (sym (record_at records old i (rw e at))) in
         rw (eq-eqb (i / 4032) index e)
-        (wrote (i % 4032) ∙ part_written index offset (i % 4032) content part low high (bytes_of old) (written_by records) inside is_low is_high order is_part here
+        (wrote (i % 4032) ∙ part_written index offset (i % 4032) content part low high (bytes_written old) (written_by records) inside is_low is_high order is_part here
         ∙ ap (written_after offset content (written_by records)) is)
     go (inr e) = rw (ne_eqb (i / 4032) index e) refl
 
@@ -107,12 +107,12 @@ next_record index offset content old mid so_far i = go (cases_eq (i / 4032) inde
 
 -- past the last record nothing is written
 pub past_last : (records : List RecordPatch) (i : ℕ) → length records ≤ i / 4032 → written_by records i ≡ None
-past_last records i past = ap (λ (o : Option RecordPatch). option_map_or (λ r. bytes_of r (i % 4032)) o None) (slice_get_past records (i / 4032) past)
+past_last records i past = ap (λ (o : Option RecordPatch). option_map_or (λ r. bytes_written r (i % 4032)) o None) (slice_get_past records (i / 4032) past)
 
 -- a byte of a record is the one of the object there
 pub record_byte : (records : List RecordPatch) (r : RecordPatch) (index k : ℕ) → k < 4032 → slice_get records index ≡ Some r
-    → bytes_of r k ≡ written_by records (4032 * index + k)
+    → bytes_written r k ≡ written_by records (4032 * index + k)
 record_byte records r index k inside at =
     let d : (4032 * index + k) / 4032 ≡ index = omega arith in
     let m : (4032 * index + k) % 4032 ≡ k = omega arith in
-    sym (record_at records r (4032 * index + k) (rw d at) ∙ ap (bytes_of r) m)
+    sym (record_at records r (4032 * index + k) (rw d at) ∙ ap (bytes_written r) m)

@@ -9,13 +9,13 @@ use Rattle.base.specs.declared.operation.Op.{Op}
 use Rattle.base.specs.declared.operation.Op.TheVariants.{Create, Remove, Write, SetLength, SetName}
 use Rattle.extents.specs.declared.object.ObjectPatch.{ObjectPatch}
 use Rattle.extents.specs.declared.extents.Extents.{Extents}
-use Rattle.extents.specs.Patches.{Patch, Patches, AreChangesOf, IsSized, filled, patched, patch_after, patch_after_write, patch_after_cut, with_ops, basis_after_write, basis_after_cut, length_over, no_patch}
+use Rattle.extents.specs.Patches.{Patch, Patches, ArePatchesOf, IsSized, filled, patched, patch_after, patch_after_write, patch_after_cut, with_ops, basis_after_write, basis_after_cut, no_patch}
 use Rattle.extents.specs.declared.basis.Basis.{Basis}
 use Rattle.extents.specs.declared.basis.Basis.TheVariants.{Grown, Cut, Made, Gone}
 use Rattle.extents.proofs.PatchedBytes.{filled-in, length-filled}
 use Rattle.extents.proofs.PatchedObjects.{changes_follow, patched_nothing}
-use Rattle.extents.specs.Objects.{HasRoomFrom, KeepsRoom, LaysOver, record_of}
-use Rattle.extents.specs.Tables.{HasRoomFor, IsSame, KeepsRooms, AppliesOps, entry_of, patches_of}
+use Rattle.extents.specs.Objects.{HasRoomFrom, KeepsRoom, LaysOver, whole_record}
+use Rattle.extents.specs.Tables.{CanApply, IsSame, KeepsRooms, AppliesOps, entry_at, patches_of}
 
 pub same-trans : (p q r : Patch) → IsSame p q → IsSame q r → IsSame p r
 same-trans p q r pq qr = record { basis = pq.basis ∙ qr.basis; written = λ i. pq.written i ∙ qr.written i }
@@ -72,20 +72,20 @@ entry_kept None b kept has = absurd (let no_way : false ≡ true = has in cc)
 entry_kept (Some x) None kept has = absurd kept
 entry_kept (Some x) (Some y) kept has = refl
 
-pub room_kept : (op : Op) (old new : Extents) → KeepsRooms old new → HasRoomFor old op → HasRoomFor new op
-room_kept (Create m) old new kept has = entry_kept (entry_of old m.0) (entry_of new m.0) (kept m.0) has
-room_kept (Remove m) old new kept has = entry_kept (entry_of old m.0) (entry_of new m.0) (kept m.0) has
+pub room_kept : (op : Op) (old new : Extents) → KeepsRooms old new → CanApply old op → CanApply new op
+room_kept (Create m) old new kept has = entry_kept (entry_at old m.0) (entry_at new m.0) (kept m.0) has
+room_kept (Remove m) old new kept has = entry_kept (entry_at old m.0) (entry_at new m.0) (kept m.0) has
 room_kept (Write m offset bytes) old new kept has =
-    has_kept (entry_of old m.0) (entry_of new m.0) (λ o. HasRoomFrom o offset (length bytes)) (λ x y k h index from to. k index (h index from to)) (kept m.0) has
-room_kept (SetLength m size) old new kept has = entry_kept (entry_of old m.0) (entry_of new m.0) (kept m.0) has
+    has_kept (entry_at old m.0) (entry_at new m.0) (λ o. HasRoomFrom o offset (length bytes)) (λ x y k h index from to. k index (h index from to)) (kept m.0) has
+room_kept (SetLength m size) old new kept has = entry_kept (entry_at old m.0) (entry_at new m.0) (kept m.0) has
 room_kept (SetName bytes) old new kept has = has
 
 -- so has one operation more
-pub next_room : (ops : List Op) (i : ℕ) (op : Op) (old new : Extents) → op ≡ get_or ops i op → KeepsRooms old new → HasRoomFor new op
-    → ((k : ℕ) (d : Op) → k < i → HasRoomFor old (get_or ops k d)) → i < length ops → (k : ℕ) (d : Op) → k < i + 1 → HasRoomFor new (get_or ops k d)
+pub next_room : (ops : List Op) (i : ℕ) (op : Op) (old new : Extents) → op ≡ get_or ops i op → KeepsRooms old new → CanApply new op
+    → ((k : ℕ) (d : Op) → k < i → CanApply old (get_or ops k d)) → i < length ops → (k : ℕ) (d : Op) → k < i + 1 → CanApply new (get_or ops k d)
 next_room ops i op old new is kept has before low k d l = go (cases_eq k i)
   where
-    go : (k ≡ i) ⊎ (k ≢ i) → HasRoomFor new (get_or ops k d)
+    go : (k ≡ i) ⊎ (k ≢ i) → CanApply new (get_or ops k d)
     go (inl e) = let here : op ≡ get_or ops k d = is ∙ get_or_default ops i op d low ∙ ap (λ j. get_or ops j d) (sym e) in rw (sym here) has
     go (inr e) = room_kept (get_or ops k d) old new kept (before k d (omega arith))
 
@@ -96,13 +96,9 @@ next_bytes p ops i op low is before here =
     ap (list_all p) (take_more ops i op low ∙ ap (λ (x : Op). take i ops ++ x ∷ []) (sym is))
     ∙ list_all-append p (take i ops) (op ∷ []) ∙ and_from (list_all p (take i ops)) (list_all p (op ∷ [])) before (and_from (p op) true here refl)
 
--- where an object has no patch its length is that below, and so are its records
-pub length_nothing : (below : Option ℕ) → length_over (Grown 0) below ≡ below
-length_nothing None = refl
-length_nothing (Some n) = let e : max n 0 ≡ n = omega arith in ap Some e
-
+-- where an object has no patch its records are those below
 pub lays_nothing : (index : ℕ) (below : Option ℕ) (bytes : List ℕ) → LaysOver no_patch index below bytes bytes
-lays_nothing index below bytes object sized is was = was ∙ ap (record_of index) (sym (patched_nothing object))
+lays_nothing index below bytes object sized is was = was ∙ ap (whole_record index) (sym (patched_nothing object))
 
 -- patches that say the same make the same objects
 same_filled : (v w : ℕ → Option ℕ) (below : List ℕ) (size : ℕ) → ((i : ℕ) → v i ≡ w i) → filled v below size ≡ filled w below size
@@ -125,7 +121,7 @@ same_patched p q object is =
     same_by p.basis p.written q.written object is.written ∙ ap (λ b. patched (record { basis = b; written = q.written }) object) is.basis
 
 -- what a group adds to its changes are the changes of what it added
-pub added_changes : (earlier ops : List Op) (old new : Extents) → ((n : ℕ) → IsSized (patches_of old n)) → AreChangesOf earlier (patches_of old) → AppliesOps ops old new
-    → AreChangesOf (earlier ++ ops) (patches_of new)
+pub added_changes : (earlier ops : List Op) (old new : Extents) → ((n : ℕ) → IsSized (patches_of old n)) → ArePatchesOf earlier (patches_of old) → AppliesOps ops old new
+    → ArePatchesOf (earlier ++ ops) (patches_of new)
 added_changes earlier ops old new sized are applied n object =
     same_patched (patches_of new n) (with_ops ops (patches_of old) n) object (applied n) ∙ changes_follow earlier ops (patches_of old) sized are n object

@@ -3,13 +3,13 @@ use Rattle.std.specs.Prelude.{cond, ℕ, ◌==◌, nat_lt, ◌≡◌, ◌<◌, �
 use Rattle.std.specs.Option.{option_map_or}
 use Rattle.extents.specs.declared.record.RecordPatch.{RecordPatch}
 use Rattle.extents.specs.declared.object.ObjectPatch.{ObjectPatch}
-use Rattle.extents.specs.Records.{bytes_of}
+use Rattle.extents.specs.Records.{bytes_written}
 use Rattle.extents.specs.Patches.{Patch, IsSized, patched, written_after, written_below}
 use Rattle.base.specs.tree.PlacedTrees.{padded_record}
 
 -- the byte that was written at an offset of an object
 abbrev pub written_by : List RecordPatch → ℕ → Option ℕ
-written_by records i = option_map_or (λ r. bytes_of r (i % 4032)) (slice_get records (i / 4032)) None
+written_by records i = option_map_or (λ r. bytes_written r (i % 4032)) (slice_get records (i / 4032)) None
 
 abbrev pub written_in : ObjectPatch → ℕ → Option ℕ
 written_in o = written_by o.records.items
@@ -48,10 +48,10 @@ abbrev pub patch_of : ObjectPatch → Patch
 patch_of o = record { basis = o.basis; written = written_in o }
 
 -- a record of an object, with zeros behind its end; zeros where there is no object
-abbrev pub record_of : ℕ → Option (List ℕ) → List ℕ
-record_of index object = padded_record index (unwrap_or object [])
+abbrev pub whole_record : ℕ → Option (List ℕ) → List ℕ
+whole_record index object = padded_record index (unwrap_or object [])
 
 -- from the record of the object below, which has this length, to that of the patched one
 abbrev pub LaysOver : Patch → ℕ → Option ℕ → List ℕ → List ℕ → Type 0
 LaysOver p index below old new = (object : Option (List ℕ)) → IsSized p → option_map length object ≡ below
-    → old ≡ record_of index object → new ≡ record_of index (patched p object)
+    → old ≡ whole_record index object → new ≡ whole_record index (patched p object)

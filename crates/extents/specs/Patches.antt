@@ -113,8 +113,8 @@ abbrev pub laid_over : Patches → FinMap nat_cmp (List ℕ) → FinMap nat_cmp 
 laid_over patches below = objects_up_to object_count (λ n. patched (patches n) (finite.get below n))
 
 -- patches make of any objects what these operations make of them, one after the other
-abbrev pub AreChangesOf : List Op → Patches → Type 0
-AreChangesOf ops patches = (n : ℕ) (below : Option (List ℕ)) → patched (patches n) below ≡ fold (λ object op. object_after n op object) below ops
+abbrev pub ArePatchesOf : List Op → Patches → Type 0
+ArePatchesOf ops patches = (n : ℕ) (below : Option (List ℕ)) → patched (patches n) below ≡ fold (λ object op. object_after n op object) below ops
 
 -- the patches of so many groups from this one on, laid one over the other, oldest first
 abbrev pub laid_groups : ℕ → ℕ → (ℕ → Patches) → FinMap nat_cmp (List ℕ) → FinMap nat_cmp (List ℕ)

@@ -10,22 +10,22 @@ use Rattle.extents.specs.Patches.{Patch, Patches, no_patch, with_ops}
 use Rattle.extents.specs.Objects.{HasRoomFrom, KeepsRoom, patch_of}
 
 -- the entry of an object
-abbrev pub entry_of : Extents → ℕ → Option ObjectPatch
-entry_of e n = get nat_eq e.patches n
+abbrev pub entry_at : Extents → ℕ → Option ObjectPatch
+entry_at e n = get nat_eq e.patches n
 
 abbrev pub patch_in : Option ObjectPatch → Patch
 patch_in entry = option_map_or patch_of entry no_patch
 
 -- what the group made of each object
 abbrev pub patches_of : Extents → Patches
-patches_of e n = patch_in (entry_of e n)
+patches_of e n = patch_in (entry_at e n)
 
 abbrev pub HasEntry : Extents → ℕ → Type 0
-HasEntry e n = IsSome (entry_of e n)
+HasEntry e n = IsSome (entry_at e n)
 
 -- an entry that was there is as it was
 abbrev pub KeepsEntries : Extents → Extents → Type 0
-KeepsEntries old new = (n : ℕ) (o : ObjectPatch) → entry_of old n ≡ Some o → entry_of new n ≡ Some o
+KeepsEntries old new = (n : ℕ) (o : ObjectPatch) → entry_at old n ≡ Some o → entry_at new n ≡ Some o
 
 -- two patches say the same
 pub record IsSame (p q : Patch) : Type 0 where
@@ -38,26 +38,26 @@ LeavesPatches old new = (n : ℕ) → IsSame (patches_of new n) (patches_of old 
 
 -- an object has an entry with the room for so many bytes from an offset on
 abbrev pub HasRoomIn : Extents → ℕ → ℕ → ℕ → Type 0
-HasRoomIn e n offset count = IsSomeAnd (entry_of e n) (λ o. HasRoomFrom o offset count)
+HasRoomIn e n offset count = IsSomeAnd (entry_at e n) (λ o. HasRoomFrom o offset count)
 
 -- no room is less than it was
 abbrev pub KeepsRooms : Extents → Extents → Type 0
-KeepsRooms old new = (n : ℕ) → IfSome (entry_of old n) (λ before. IsSomeAnd (entry_of new n) (λ after. KeepsRoom before after))
+KeepsRooms old new = (n : ℕ) → IfSome (entry_at old n) (λ before. IsSomeAnd (entry_at new n) (λ after. KeepsRoom before after))
 
 -- the entries of other objects are as they were
-abbrev pub KeepsOthers : ℕ → Extents → Extents → Type 0
-KeepsOthers m old new = (n : ℕ) → n ≢ m → entry_of new n ≡ entry_of old n
+abbrev pub KeepsOtherEntries : ℕ → Extents → Extents → Type 0
+KeepsOtherEntries m old new = (n : ℕ) → n ≢ m → entry_at new n ≡ entry_at old n
 
 -- the object of an operation has an entry, and the room for what it writes
-abbrev pub HasRoomFor : Extents → Op → Type 0
-HasRoomFor e (Create n) = HasEntry e n.0
-HasRoomFor e (Remove n) = HasEntry e n.0
-HasRoomFor e (Write n offset bytes) = HasRoomIn e n.0 offset (length bytes)
-HasRoomFor e (SetLength n new) = HasEntry e n.0
-HasRoomFor e (SetName bytes) = Unit {0}
+abbrev pub CanApply : Extents → Op → Type 0
+CanApply e (Create n) = HasEntry e n.0
+CanApply e (Remove n) = HasEntry e n.0
+CanApply e (Write n offset bytes) = HasRoomIn e n.0 offset (length bytes)
+CanApply e (SetLength n new) = HasEntry e n.0
+CanApply e (SetName bytes) = Unit {0}
 
-abbrev pub HaveRoom : Extents → List Op → Type 0
-HaveRoom e ops = All (HasRoomFor e) ops
+abbrev pub CanApplyAll : Extents → List Op → Type 0
+CanApplyAll e ops = All (CanApply e) ops
 
 -- the new changes are those of before with these operations
 abbrev pub AppliesOps : List Op → Extents → Extents → Type 0

@@ -15,7 +15,7 @@ pub struct Extents {
 }
 
 impl Extents {
-    ghost use Rattle.extents.specs.Tables.{AppliesOps, HasEntry, HasRoomFor, HasRoomIn, HaveRoom, IsSame, KeepsEntries, KeepsOthers, KeepsRooms, LeavesPatches, patches_of};
+    ghost use Rattle.extents.specs.Tables.{AppliesOps, HasEntry, CanApply, HasRoomIn, CanApplyAll, IsSame, KeepsEntries, KeepsOtherEntries, KeepsRooms, LeavesPatches, patches_of};
     ghost use Rattle.base.specs.formats.Records.{is_content_allowed};
     ghost use Rattle.extents.specs.Objects.{LaysOver};
     ghost use Rattle.object_maps.specs.Ops.{AreOpsAllowed, IsOpAllowed};
@@ -65,7 +65,7 @@ impl Extents {
         requires within { offset + length content.now ≤ 338688 }
         requires room { HasRoomIn self.old id.0 offset (length content.now) }
         ensures kept { KeepsRooms self.old self.new }
-        ensures others { KeepsOthers id.0 self.old self.new }
+        ensures others { KeepsOtherEntries id.0 self.old self.new }
         ensures here { IsSame (patches_of self.new id.0)
             (patch_after_write offset content.now (patches_of self.old id.0)) }
     {
@@ -77,7 +77,7 @@ impl Extents {
     fn create(&mut self, id: ObjectId)
         requires { HasEntry self.old id.0 }
         ensures kept { KeepsRooms self.old self.new }
-        ensures others { KeepsOthers id.0 self.old self.new }
+        ensures others { KeepsOtherEntries id.0 self.old self.new }
         ensures here { IsSame (patches_of self.new id.0) made_patch }
     {
         if let Some(patch) = self.patches.get_mut(&id.0) {
@@ -88,7 +88,7 @@ impl Extents {
     fn remove(&mut self, id: ObjectId)
         requires { HasEntry self.old id.0 }
         ensures kept { KeepsRooms self.old self.new }
-        ensures others { KeepsOthers id.0 self.old self.new }
+        ensures others { KeepsOtherEntries id.0 self.old self.new }
         ensures here { IsSame (patches_of self.new id.0) gone_patch }
     {
         if let Some(patch) = self.patches.get_mut(&id.0) {
@@ -99,7 +99,7 @@ impl Extents {
     fn set_length(&mut self, id: ObjectId, length: usize)
         requires { HasEntry self.old id.0 }
         ensures kept { KeepsRooms self.old self.new }
-        ensures others { KeepsOthers id.0 self.old self.new }
+        ensures others { KeepsOtherEntries id.0 self.old self.new }
         ensures here { IsSame (patches_of self.new id.0)
             (patch_after_cut length (patches_of self.old id.0)) }
     {
@@ -129,7 +129,7 @@ impl Extents {
     /// Where there is no memory.
     pub fn reserve(&mut self, ops: &[Op]) -> Result<(), AllocError>
         requires { AreOpsAllowed ops.now }
-        ensures room { OnOk result (HaveRoom self.new ops.now) }
+        ensures room { OnOk result (CanApplyAll self.new ops.now) }
         ensures bytes { OnOk result (list_all is_content_allowed ops.now ≡ true) }
         ensures same { LeavesPatches self.old self.new }
     {
@@ -141,7 +141,7 @@ impl Extents {
 
     fn reserve_for(&mut self, op: &Op) -> Result<(), AllocError>
         requires { IsOpAllowed op.now }
-        ensures room { OnOk result (HasRoomFor self.new op.now) }
+        ensures room { OnOk result (CanApply self.new op.now) }
         ensures bytes { is_content_allowed op.now ≡ true }
         ensures kept { KeepsRooms self.old self.new }
         ensures same { LeavesPatches self.old self.new }
@@ -176,7 +176,7 @@ impl Extents {
     /// Applies operations that have their room, in order. It takes no memory.
     pub fn apply(&mut self, ops: &[Op])
         requires allowed { AreOpsAllowed ops.now }
-        requires room { HaveRoom self.old ops.now }
+        requires room { CanApplyAll self.old ops.now }
         ensures { AppliesOps ops.now self.old self.new }
     {
         for op in ops {
@@ -186,7 +186,7 @@ impl Extents {
 
     fn apply_op(&mut self, op: &Op)
         requires allowed { IsOpAllowed op.now }
-        requires room { HasRoomFor self.old op.now }
+        requires room { CanApply self.old op.now }
         ensures kept { KeepsRooms self.old self.new }
         ensures applied { (n : ℕ) → IsSame (patches_of self.new n)
             (patch_after n op.now (patches_of self.old n)) }

@@ -1,6 +1,6 @@
 //! What holds of the changes of groups: each function's contract is a law, and its body does nothing.
 
-ghost use Rattle.extents.specs.Laws.{AddedChanges, ChangesFollow, GroupsAreRead, NothingChanges};
+ghost use Rattle.extents.specs.Laws.{AddedChanges, ChangesFollow, GroupsAreRead, LengthsFollow, NothingChanges};
 
 /// What no operation has changed is as it lies below.
 pub fn nothing_changes()
@@ -10,6 +10,11 @@ pub fn nothing_changes()
 /// The changes of operations, with more operations added, are the changes of them all.
 pub fn changes_follow()
     ensures { ChangesFollow }
+{}
+
+/// The length of an object follows from its patch and the length of the one below.
+pub fn lengths_follow()
+    ensures { LengthsFollow }
 {}
 
 /// What is added to the changes of a group are the changes of the operations that are added.

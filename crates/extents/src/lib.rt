@@ -9,5 +9,5 @@ mod record;
 
 pub use basis::Basis;
 pub use extents::Extents;
-pub use laws::{added_changes, changes_follow, groups_are_read, nothing_changes};
+pub use laws::{added_changes, changes_follow, groups_are_read, lengths_follow, nothing_changes};
 pub use object::ObjectPatch;

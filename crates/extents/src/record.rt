@@ -23,11 +23,11 @@ pub(crate) struct RecordPatch {
 
 impl RecordPatch {
     ghost use Rattle.extents.specs.Patches.{written_after, written_below};
-    ghost use Rattle.extents.specs.Records.{HasRoom, bytes_of};
+    ghost use Rattle.extents.specs.Records.{HasRecordRoom, bytes_written};
 
     /// A record without a written byte, and without room. It takes no memory.
     pub fn new(alloc: Global) -> Self
-        ensures { (k : ℕ) → bytes_of result k ≡ None }
+        ensures { (k : ℕ) → bytes_written result k ≡ None }
     {
         RecordPatch {
             bytes: Vec::new(alloc),
@@ -37,9 +37,9 @@ impl RecordPatch {
 
     /// Takes the room for a record's bytes. It is refused where there is no memory.
     pub fn reserve(&mut self) -> Result<(), AllocError>
-        ensures room { OnOk result (HasRoom self.new) }
-        ensures kept { (k : ℕ) → bytes_of self.new k ≡ bytes_of self.old k }
-        ensures stays { HasRoom self.old → HasRoom self.new }
+        ensures room { OnOk result (HasRecordRoom self.new) }
+        ensures kept { (k : ℕ) → bytes_written self.new k ≡ bytes_written self.old k }
+        ensures stays { HasRecordRoom self.old → HasRecordRoom self.new }
     {
         if self.mask.is_empty() {
             let alloc = *self.mask.allocator();
@@ -54,11 +54,11 @@ impl RecordPatch {
 
     /// Writes bytes at an offset of the record.
     pub fn write(&mut self, offset: usize, content: &[u8])
-        requires room { HasRoom self.old }
+        requires room { HasRecordRoom self.old }
         requires within { offset + length content.now ≤ 4032 }
-        ensures bytes { (k : ℕ) → bytes_of self.new k
-            ≡ written_after offset content.now (bytes_of self.old) k }
-        ensures room { HasRoom self.new }
+        ensures bytes { (k : ℕ) → bytes_written self.new k
+            ≡ written_after offset content.now (bytes_written self.old) k }
+        ensures room { HasRecordRoom self.new }
     {
         overwrite(&mut self.bytes, offset, content);
         mark(&mut self.mask, offset, content.len(), WRITTEN);
@@ -66,8 +66,8 @@ impl RecordPatch {
 
     /// Forgets what was written from an offset on. The room stays.
     pub fn clear_from(&mut self, offset: usize)
-        ensures bytes { (k : ℕ) → bytes_of self.new k ≡ written_below offset (bytes_of self.old) k }
-        ensures stays { HasRoom self.old → HasRoom self.new }
+        ensures bytes { (k : ℕ) → bytes_written self.new k ≡ written_below offset (bytes_written self.old) k }
+        ensures stays { HasRecordRoom self.old → HasRecordRoom self.new }
     {
         if offset < self.mask.len() {
             let count = self.mask.len() - offset;
@@ -80,7 +80,7 @@ impl RecordPatch {
         requires { length into.old ≡ 4032 }
         ensures size { length into.new ≡ 4032 }
         ensures bytes { (k : ℕ) → k < 4032
-            → get_or into.new k 0 ≡ unwrap_or (bytes_of self.now k) (get_or into.old k 0) }
+            → get_or into.new k 0 ≡ unwrap_or (bytes_written self.now k) (get_or into.old k 0) }
     {
         for i in 0..self.mask.len() {
             into[i] = laid_byte(into[i], self.bytes[i], self.mask[i]);

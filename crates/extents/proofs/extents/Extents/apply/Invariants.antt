@@ -1,11 +1,11 @@
 use Rattle.std.proofs.Common.{ℕ, drop}
 use Rattle.extents.specs.Patches.{with_ops}
-use Rattle.extents.specs.Tables.{HaveRoom, IsSame, patches_of}
+use Rattle.extents.specs.Tables.{CanApplyAll, IsSame, patches_of}
 use Rattle.extents.proofs.extents.Extents.apply.Given as goal
 
 -- all operations have their room, and those that are left make of the changes what all make of the old ones
 abbrev pub invariant-loop-op : goal.invariant-loop-op
 invariant-loop-op l = record {
-  room : HaveRoom l.self l.ops;
+  room : CanApplyAll l.self l.ops;
   left : (n : ℕ) → IsSame (with_ops (drop l.op-index l.ops) (patches_of l.self) n) (with_ops l.ops (patches_of l.fn.self) n);
 }
