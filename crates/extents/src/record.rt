@@ -66,7 +66,8 @@ impl RecordPatch {
 
     /// Forgets what was written from an offset on. The room stays.
     pub fn clear_from(&mut self, offset: usize)
-        ensures bytes { (k : ℕ) → bytes_written self.new k ≡ written_below offset (bytes_written self.old) k }
+        ensures bytes { (k : ℕ) → bytes_written self.new k
+            ≡ written_below offset (bytes_written self.old) k }
         ensures stays { HasRecordRoom self.old → HasRecordRoom self.new }
     {
         if offset < self.mask.len() {
