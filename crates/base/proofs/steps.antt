@@ -8,7 +8,7 @@ pub mod KeptLocks
 pub mod KeptGroups
 pub mod KeptIsolation
 pub mod KeptSyncs
-pub mod KeptLengths
+pub mod KeptTrees
 pub mod KeptLog
 pub mod KeptWrites
 pub mod KeptFlushes

@@ -50,6 +50,7 @@ fresh = record {
   free = set.empty;
   log = record { pending = []; kept = []; next = record { address = 4194304; number = 0 } };
   root = no_pointer;
+  synced_contents = record { name = codes "tank"; objects = finite.empty };
   lengths = λ n. None;
   sync = None;
 }
@@ -88,13 +89,13 @@ row_too_large : stage.begin_refusal 1 (shape.Write (object 1) 0 3970 ∷ []) bus
 row_too_large = refl
 
 -- a commit of a transaction that is not open, and one with other operations than its plan
-row_no_transaction : refusal.whole_commit_refusal 1 (op.Create (object 1) ∷ []) busy ≡ Some error.NoSuchTransaction
+row_no_transaction : refusal.commit_refusal 1 (op.Create (object 1) ∷ []) busy ≡ Some error.NoSuchTransaction
 row_no_transaction = refl
 
-row_out_of_plan : refusal.whole_commit_refusal 0 (op.Write (object 1) 0 (codes "abc") ∷ []) busy ≡ Some error.OutOfPlan
+row_out_of_plan : refusal.commit_refusal 0 (op.Write (object 1) 0 (codes "abc") ∷ []) busy ≡ Some error.OutOfPlan
 row_out_of_plan = refl
 
-row_no_object : refusal.whole_commit_refusal 0 (op.Write (object 1) 0 (codes "abcd") ∷ []) busy ≡ Some error.NoObject
+row_no_object : refusal.commit_refusal 0 (op.Write (object 1) 0 (codes "abcd") ∷ []) busy ≡ Some error.NoObject
 row_no_object = simp (finite.get-empty {X = List ℕ} nat_cmp) refl
 
 -- a read without a lock, and one under a lock of an absent object
@@ -108,10 +109,10 @@ row_read_no_object = simp (finite.get-empty {X = List ℕ} nat_cmp) refl
 abbrev closing : Shown
 closing = record busy { line = record { synced = 8; syncing = None; middle = Some (record { group = 9; quiesced = false }); open_group = 10 } }
 
-row_close : refusal.whole_close_refusal fresh ≡ None
+row_close : refusal.close_refusal fresh ≡ None
 row_close = refl
 
-row_close_again : refusal.whole_close_refusal closing ≡ Some error.NotReady
+row_close_again : refusal.close_refusal closing ≡ Some error.NotReady
 row_close_again = refl
 
 row_hold_left : refusal.quiesce_refusal closing ≡ Some error.NotReady

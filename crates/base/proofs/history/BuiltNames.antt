@@ -32,7 +32,7 @@ name-apply (Remove n) c d built h = name-at_object n.0 removed c d h
 name-apply (SetLength n size) c d built h = name-at_object n.0 (changed (resize size)) c d h
 name-apply (SetName bytes) c d built h = absurd (false≢true built)
 
-name-apply_all : (ops : List Op) (c d : Contents) → list_all is_shape_built (map shape_of ops) ≡ true → in_turn apply ops c ≡ Ok d → d.name ≡ c.name
+pub name-apply_all : (ops : List Op) (c d : Contents) → list_all is_shape_built (map shape_of ops) ≡ true → in_turn apply ops c ≡ Ok d → d.name ≡ c.name
 name-apply_all [] c d built h = let same : c ≡ d = cc in ap (λ (e : Contents). e.name) (sym same)
 name-apply_all (op ∷ ops) c d built h =
     let both = and_parts (is_shape_built (shape_of op)) (list_all is_shape_built (map shape_of ops)) built in
@@ -54,7 +54,7 @@ module _ (s : Shown) (p : Past) (explained : IsExplainedNow s p) where
   built-entries : AreBuiltEntries p.entries
   built-entries i e at =
       let a = explained.exact.groups.members.committed i e at in
-      ap (λ plan. list_all is_shape_built plan) a.3 ∙ explained.staged.built e.tx a.0 a.1
+      ap (λ plan. list_all is_shape_built plan) a.3 ∙ explained.built e.tx a.0 a.1
 
   pub name-up_to : (group : ℕ) (c : Contents) → replay (entries_up_to group p.entries) p.base ≡ Ok c → c.name ≡ p.base.name
   name-up_to group c h = name-replay (entries_up_to group p.entries) p.base c

@@ -10,7 +10,7 @@ use Rattle.base.specs.declared.operation.Shape.{Shape}
 use Rattle.base.specs.declared.operation.Shape.TheVariants as shape
 use Rattle.base.specs.history.Plans.{shape_of}
 use Rattle.base.specs.steps.Groups.{Admission}
-use Rattle.base.specs.steps.Refusals.{Test, first_refusal, is_same_shape, is_same_plan, transaction_of, commit_tests, whole_commit_refusal}
+use Rattle.base.specs.steps.Refusals.{Test, first_refusal, is_same_shape, is_same_plan, transaction_of, commit_tests, commit_refusal}
 use Rattle.base.specs.steps.Steps.{State, Answers}
 
 -- where no refusal applies, each test gives false
@@ -79,7 +79,7 @@ same_plan (x ∷ xs) (y ∷ ys) h =
     λ i. same_shape x y both.0 i ∷ same_plan xs ys both.1 i
 
 -- the transaction that a commit finds, and that its operations have its plan's shapes
-pub found-plan : (tx : ℕ) (ops : List Op) (s : State) (a : Admission) → whole_commit_refusal tx ops s.shown ≡ None → transaction_of tx s.shown ≡ Some a → map shape_of ops ≡ a.plan
+pub found-plan : (tx : ℕ) (ops : List Op) (s : State) (a : Admission) → commit_refusal tx ops s.shown ≡ None → transaction_of tx s.shown ≡ Some a → map shape_of ops ≡ a.plan
 found-plan tx ops s a none found =
     let in_plan : option_map_or (λ (x : Admission). not (is_same_plan (map shape_of ops) x.plan)) (transaction_of tx s.shown) false ≡ false = no_refusal (commit_tests tx ops s.shown) none 2 _ refl in
     same_plan (map shape_of ops) a.plan (flip _ (sym (ap (λ o. option_map_or (λ (x : Admission). not (is_same_plan (map shape_of ops) x.plan)) o false) found) ∙ in_plan))

@@ -321,3 +321,16 @@ held_above l g x may = go l.middle l.syncing x.middle x.open_group x.syncing may
     go None u mid last syn (inr nothing) = absurd nothing
     go (Some m) None mid last syn (inr is) = let same : g ≡ m.group = is.0 in (omega arith, omega arith)
     go (Some m) (Some n) mid last syn (inr is) = let same : g ≡ m.group = is.0 in (omega arith, omega arith)
+
+-- and above the syncing one
+pub held_above_sync : (l : Line) (g group : ℕ) → IsLine l → MayHold l g → l.syncing ≡ Some group → group < g
+held_above_sync l g group x may syncing = go l.middle
+    (subst (λ (u : Option ℕ). IfSome l.middle (λ (m : Middle). m.group ≡ unwrap_or u l.synced + 1)) syncing x.middle)
+    (subst (λ (u : Option ℕ). l.open_group ≡ before_open l.middle (record l { syncing = u }) + 1) syncing x.open_group) may
+  where
+    go : (o : Option Middle) → IfSome o (λ (m : Middle). m.group ≡ group + 1) → l.open_group ≡ before_open o (record l { syncing = Some group }) + 1
+        → (g ≡ l.open_group) ⊎ IsSomeAnd o (λ (m : Middle). (g ≡ m.group) × (m.quiesced ≡ false)) → group < g
+    go None mid last (inl is) = omega arith
+    go (Some m) mid last (inl is) = omega arith
+    go None mid last (inr nothing) = absurd nothing
+    go (Some m) mid last (inr is) = let same : g ≡ m.group = is.0 in omega arith

@@ -226,8 +226,8 @@ module _ (old new : State) (groups : AreGroupsExact old.shown old.past) (sync : 
   abort_step tx answer h = by_answer answer (refusal.abort_refusal tx old.shown) old new _ _
       (λ u none d. subst HasReserves (sym d.2) (abort_state old groups x tx d.0 d.1)) (λ e none own. absurd own) x h
 
-  close_step : (answer : Result ℕ PoolError) → steps.WholeCloseGroup answer old new → HasReserves new
-  close_step answer h = by_answer answer (refusal.whole_close_refusal old.shown) old new _ _
+  close_step : (answer : Result ℕ PoolError) → steps.CloseGroup answer old new → HasReserves new
+  close_step answer h = by_answer answer (refusal.close_refusal old.shown) old new _ _
       (λ g none d. subst HasReserves (sym d.1) (close_state old groups x)) (λ e none own. absurd own) x h
 
   start_step : (now : List ℕ) (moment : ℕ) (answer : Result ℕ PoolError) → steps.WholeStartSync ⊥ now moment answer old new → HasReserves new
@@ -265,8 +265,8 @@ module _ (old new : State) (x : HasReserves old) where
         past = record old.past { let_go = old.past.let_go ++ id ∷ [] };
       }) x)) (λ e none own. absurd own) x h
 
-  commit_step : (tx : ℕ) (ops : List Op) (answer : Result (ℕ × ℕ) PoolError) → steps.WholeCommit tx ops answer old new → HasReserves new
-  commit_step tx ops answer h = by_answer answer (refusal.whole_commit_refusal tx ops old.shown) old new _ _
+  commit_step : (tx : ℕ) (ops : List Op) (answer : Result (ℕ × ℕ) PoolError) → steps.Commit tx ops answer old new → HasReserves new
+  commit_step tx ops answer h = by_answer answer (refusal.commit_refusal tx ops old.shown) old new _ _
       (λ receipt none d. subst HasReserves (sym d.6) (same_reserves old (steps.state_after_commit tx d.0.group ops d.1 old) x)) (λ e none own. stays old new x own.1) x h
 
   read_step : (owner : ℕ) (range : NumberRange) (answer : Result (List ℕ) PoolError) → steps.WholeRead ⊥ owner range answer old new → HasReserves new

@@ -1,6 +1,6 @@
 -- Each effect of a step keeps what is shown of a pool exact, and its entries a history: so each step does.
 use Rattle.std.proofs.Common.{rules, ◌≡◌, ℕ, ◌+◌, ◌-◌, ◌<◌, ◌≤◌, true, false, not, ◌&&◌, List, [], ◌∷◌, ◌++◌, length, map, refl, ap, sym, subst, ◌∙◌, arith, inl, inr}
-use Rattle.std.specs.Prelude.{Option, Some, None, Result, Ok, is_none, slice_get, option_map, IfSome, nat_lt, nat_le, All, ◌==◌}
+use Rattle.std.specs.Prelude.{Option, Some, None, Result, Ok, is_none, slice_get, option_map, IfSome, nat_lt, nat_le, All, unwrap_or, ◌==◌}
 use Rattle.std.specs.List.{list_all, list_any}
 use Rattle.std.specs.Option.{option_map_or}
 use Rattle.std.proofs.lemmas.Bool.{and_parts, eqb-true, ltb-true, ltb-false, leb-true}
@@ -18,7 +18,7 @@ use Rattle.base.specs.history.Contents.{Contents}
 use Rattle.base.specs.history.Plans.{IsRange, shape_of, range_of, ranges, plan_ranges, is_shape_allowed, is_plan_allowed, log_record_size}
 use Rattle.base.specs.history.History.{Entry, IsHistory, MayFollow, Admitted}
 use Rattle.base.specs.steps.Locks.{Grant}
-use Rattle.base.specs.steps.Groups.{Line, Middle, Admission, admitted_of, open_transactions}
+use Rattle.base.specs.steps.Groups.{Middle, Admission, admitted_of, open_transactions}
 use Rattle.base.specs.formats.Uberblocks.{Uberblock}
 use Rattle.base.specs.history.Past.{Past, new_past}
 use Rattle.base.specs.steps.Shown.{Shown}
@@ -27,13 +27,13 @@ use Rattle.base.specs.steps.Exact.{IsBounded, AreLocksExact, AreGroupsExact, Are
 use Rattle.base.specs.crash.Imports.{IsImported}
 use Rattle.base.specs.steps.Refusals as refusal
 use Rattle.base.specs.steps.Refusals.{Test, refused_if, first_refusal}
-use Rattle.base.specs.steps.Steps.{State}
+use Rattle.base.specs.steps.Steps.{State, IsReplayUpTo}
 use Rattle.base.specs.steps.Stage as stage
 use Rattle.base.specs.steps.Space.{HasReserves}
 use Rattle.base.specs.steps.Effects.{Effect, HasEffect, MayHave, MayAddEntry, state_after}
 use Rattle.base.specs.steps.Effects.Effect.{Suspends, AddsGrant, LetsGo, AddsAdmission, AddsEntry, EndsAdmission, OpensNext, QuiescesMiddle, PlansSync, CountsStep, EndsSync, WritesLog, FlushesLog}
 use Rattle.base.specs.steps.Runs.{Step}
-use Rattle.base.specs.steps.ExactNow.{AreLengthsExact, IsExplainedNow, IsRun, IsLogStep}
+use Rattle.base.specs.steps.ExactNow.{AreTreesExact, IsExplainedNow, IsRun, IsLogStep}
 use Rattle.base.proofs.history.Cuts.{histories_grow}
 use Rattle.base.proofs.history.Projections.{plans_touch}
 use Rattle.base.proofs.history.CommitOrder.{no_refusal, found-plan}
@@ -41,14 +41,14 @@ use Rattle.base.proofs.steps.OpenTransactions.{commit-admitted, filtered}
 use Rattle.base.proofs.history.Admissions.{closes_leave}
 use Rattle.base.proofs.common.KeptLists.{found_at, All-at, push-cases}
 use Rattle.base.proofs.steps.KeptLocks.{same_locks, lock_keeps, unlock_keeps}
-use Rattle.base.proofs.steps.KeptGroups.{same_groups, begin_keeps, commit_keeps, abort_keeps, close_keeps, quiesce_keeps, start_keeps, sync_keeps, open_is, held_above, quiescing_is, quiesced_is}
+use Rattle.base.proofs.steps.KeptGroups.{same_groups, begin_keeps, commit_keeps, abort_keeps, close_keeps, quiesce_keeps, start_keeps, sync_keeps, open_is, held_above, held_above_sync, quiescing_is, quiesced_is}
 use Rattle.base.proofs.steps.KeptIsolation.{same_isolated, lock_isolated, unlock_isolated, begin_isolated, covered_without}
 use Rattle.base.proofs.steps.KeptLog.{same_log, commit_log, sync_log}
 use Rattle.base.proofs.steps.KeptWrites.{write_log, write_sync}
 use Rattle.base.proofs.steps.KeptFlushes.{flush_log, flush_sync}
 use Rattle.base.proofs.history.KeptContents.{operations_keep}
 use Rattle.base.proofs.steps.KeptSyncs.{same_sync, start_sync, step_sync, end_sync}
-use Rattle.base.proofs.steps.KeptLengths.{same_lengths, commit_lengths, start_lengths, step_lengths, sync_lengths, new_lengths}
+use Rattle.base.proofs.steps.KeptTrees.{explained-allowed, same_trees, commit_trees, next_bounded, start_trees, step_trees, sync_trees, new_trees}
 use Rattle.base.proofs.steps.KeptReserves.{same_reserves, begin_state, abort_state, close_state, start_state, step_state, end_state, log_state}
 use Rattle.base.proofs.steps.NewPools.{new_pool_is_exact}
 use Rattle.base.proofs.steps.StepEffects.{log_step_has, step_does}
@@ -212,44 +212,31 @@ module _ (old : State) (x : IsExplainedState old) where
   sync FlushesLog may = let t : State = state_after FlushesLog old in flush_sync s t.shown p t.past x.exact.log x.exact.sync
   sync e may = same_sync s (state_after e old).shown x.exact.sync
 
-  staged : (e : Effect) → MayHave e old → stage.IsStaged (state_after e old).shown (state_after e old).past
-  staged (AddsAdmission a) may = record {
-    middle = x.staged.middle;
-    syncing = x.staged.syncing;
-    built = λ i b at. elim (push-cases p.admissions a b i at) as (λ _. list_all stage.is_shape_built b.plan ≡ true) [
-      | inl before ↦ x.staged.built i b before
-      | inr last ↦ ap (λ (c : Admission). list_all stage.is_shape_built c.plan) (sym last.1) ∙ (and_parts (is_plan_allowed a.plan) (list_all stage.is_shape_built a.plan) may.built).1
-    ];
-  }
-  staged (AddsEntry tx a ops contents) may =
-      let t : State = state_after (AddsEntry tx a ops contents) old in
-      record {
-        middle = subst (λ (o : Option Middle). IfSome o (λ (m : Middle). stage.AreUpTo m.group t.past.entries)) (sym may.no_middle) tt;
-        syncing = subst (λ (o : Option ℕ). IfSome o (λ group. stage.AreUpTo group t.past.entries)) (sym may.no_sync) tt;
-        built = x.staged.built;
-      }
-  staged OpensNext may = record { middle = x.exact.isolated.admitted.committed; syncing = x.staged.syncing; built = x.staged.built }
-  staged (QuiescesMiddle group) (is, none) = record {
-    middle = subst (λ (o : Option Middle). IfSome o (λ (m : Middle). stage.AreUpTo m.group p.entries)) (quiescing_is s.line group is) x.staged.middle;
-    syncing = x.staged.syncing;
-    built = x.staged.built;
-  }
-  staged (PlansSync group plan) (moment, is, idle, planned) = record {
-    middle = tt;
-    syncing = subst (λ (o : Option Middle). IfSome o (λ (m : Middle). stage.AreUpTo m.group p.entries)) (quiesced_is s.line group is) x.staged.middle;
-    built = x.staged.built;
-  }
-  staged (EndsSync group plan) may = record { middle = x.staged.middle; syncing = tt; built = x.staged.built }
-  staged e may = record { middle = x.staged.middle; syncing = x.staged.syncing; built = x.staged.built }
+  built : (e : Effect) → MayHave e old → stage.AreBuilt (state_after e old).past.admissions
+  built (AddsAdmission a) may = λ i b at. elim (push-cases p.admissions a b i at) as (λ _. list_all stage.is_shape_built b.plan ≡ true) [
+    | inl before ↦ x.built i b before
+    | inr last ↦ ap (λ (c : Admission). list_all stage.is_shape_built c.plan) (sym last.1) ∙ (and_parts (is_plan_allowed a.plan) (list_all stage.is_shape_built a.plan) may.built).1
+  ]
+  built e may = x.built
 
-  lengths : (e : Effect) → MayHave e old → AreLengthsExact (state_after e old).shown (state_after e old).past
-  lengths (AddsEntry tx a ops contents) may =
+  trees : (e : Effect) → MayHave e old → AreTreesExact (state_after e old).shown (state_after e old).past
+  trees (AddsEntry tx a ops contents) may =
       let t : State = state_after (AddsEntry tx a ops contents) old in
-      commit_lengths s t.shown p t.past (next tx a ops contents may) x.lengths (within tx a ops contents may).0 may.no_sync
-  lengths (PlansSync group plan) (moment, is, idle, planned) = let t : State = state_after (PlansSync group plan) old in start_lengths s t.shown p t.past group plan x.lengths planned.lengths
-  lengths (CountsStep plan) (running, more) = let t : State = state_after (CountsStep plan) old in step_lengths s t.shown p t.past plan (plan.steps_left - 1) x.lengths running
-  lengths (EndsSync group plan) (syncing, running) = let t : State = state_after (EndsSync group plan) old in sync_lengths s t.shown p t.past group plan x.lengths syncing running
-  lengths e may = let t : State = state_after e old in same_lengths s t.shown p t.past x.lengths
+      let holds = x.exact.groups.members.holding (place tx a ops contents may).0 a (in_line tx a ops contents may) in
+      commit_trees s t.shown p t.past (next tx a ops contents may) x.trees (within tx a ops contents may).0 (λ group syncing. held_above_sync s.line a.group group x.exact.groups.line holds syncing)
+  trees (PlansSync group plan) (moment, is, idle, planned) =
+      let t : State = state_after (PlansSync group plan) old in
+      let one_more : group ≡ s.line.synced + 1 = subst (λ (o : Option Middle). IfSome o (λ (m : Middle). m.group ≡ unwrap_or s.line.syncing s.line.synced + 1)) (quiesced_is s.line group is) x.exact.groups.line.middle
+      ∙ ap (λ (o : Option ℕ). unwrap_or o s.line.synced + 1) idle in
+      start_trees s t.shown p t.past group plan x.trees (record {
+        replayed = planned.contents;
+        bounded = next_bounded p s.line.synced s.contents s.synced_contents plan.contents x.history (explained-allowed s p x) x.trees.synced.replayed x.trees.synced.bounded
+            (subst (λ (g : ℕ). IsReplayUpTo g p plan.contents) one_more planned.contents);
+        lengths = planned.lengths;
+      })
+  trees (CountsStep plan) (running, more) = let t : State = state_after (CountsStep plan) old in step_trees s t.shown p t.past plan (plan.steps_left - 1) x.trees running
+  trees (EndsSync group plan) (syncing, running) = let t : State = state_after (EndsSync group plan) old in sync_trees s t.shown p t.past group plan x.trees syncing running
+  trees e may = let t : State = state_after e old in same_trees s t.shown p t.past x.trees
 
   reserves : (e : Effect) → MayHave e old → HasReserves (state_after e old)
   reserves (AddsAdmission a) may = begin_state old x.exact.groups reserved a (may.named ∙ x.exact.groups.next) may.in_open may.within may.room
@@ -279,8 +266,8 @@ module _ (old : State) (x : IsExplainedState old) where
       sync = sync e may;
     };
     history = history e may;
-    staged = staged e may;
-    lengths = lengths e may;
+    built = built e may;
+    trees = trees e may;
   }
 
 pub effects_keep_tables : (old new : State) → HasEffect old new → IsExplainedNow old.shown old.past → IsExplainedNow new.shown new.past
@@ -314,10 +301,6 @@ pub new_pools_are_explained : (u : Uberblock) (blocks : ℕ) (contents : Content
 new_pools_are_explained u blocks contents created dirty_max s i bounded last = record {
   exact = new_pool_is_exact u blocks contents created dirty_max s i bounded last;
   history = search rules;
-  staged = record {
-    middle = subst (λ (l : Line). IfSome l.middle (λ (m : Middle). stage.AreUpTo m.group [])) (sym i.line) tt;
-    syncing = subst (λ (l : Line). IfSome l.syncing (λ group. stage.AreUpTo group [])) (sym i.line) tt;
-    built = λ j a at. cc;
-  };
-  lengths = new_lengths u blocks contents created dirty_max s i;
+  built = λ j a at. cc;
+  trees = new_trees u blocks contents created dirty_max s i bounded;
 }

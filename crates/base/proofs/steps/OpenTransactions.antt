@@ -10,7 +10,7 @@ use Rattle.base.specs.declared.operation.Op.{Op}
 use Rattle.base.specs.history.Plans.{ranges, plan_ranges, clash}
 use Rattle.base.specs.history.History.{Entry, Admitted, MayFollow, AreAdmitted}
 use Rattle.base.specs.steps.Groups.{Admission, admitted_of}
-use Rattle.base.specs.steps.Refusals.{transaction_of, whole_commit_refusal}
+use Rattle.base.specs.steps.Refusals.{transaction_of, commit_refusal}
 use Rattle.base.specs.steps.Steps.{State, transactions_without}
 use Rattle.base.proofs.common.Sieves.{AllPairs-cons, AllPairs-head, AllPairs-tail}
 use Rattle.base.proofs.history.Conflicts.{clashes_turn}
@@ -84,7 +84,7 @@ filtered entries filling p ts are = record {
       (AllPairs-filter AreApart p ts (AllPairs-of_map admitted_of (λ (a b : Admitted). clash a.touches b.touches ≡ false) ts are.apart));
 }
 
-pub commit-admitted : (tx : ℕ) (ops : List Op) (s : State) (a : Admission) → AreStillAdmitted s → whole_commit_refusal tx ops s.shown ≡ None → transaction_of tx s.shown ≡ Some a
+pub commit-admitted : (tx : ℕ) (ops : List Op) (s : State) (a : Admission) → AreStillAdmitted s → commit_refusal tx ops s.shown ≡ None → transaction_of tx s.shown ≡ Some a
     → AreAdmitted (s.past.entries ++ record { group = a.group; tx = tx; ops = ops } ∷ []) s.shown.line.open_group (map admitted_of (transactions_without tx s.shown.transactions))
 commit-admitted tx ops s a are passed found =
     let ts : List Admission = s.shown.transactions in

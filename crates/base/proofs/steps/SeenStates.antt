@@ -90,7 +90,7 @@ commits_are_seen tx ops receipt before after m =
   where
     ordinal : Step ⊥ m.now (step.Commit tx ops) (reply.Committed receipt) m.old m.new → receipt.ordinal.0 ≡ m.old.shown.next_ordinal
     ordinal (Ok r, is, h) =
-        let done = ok-none (stage.commit_refusal tx.0 ops m.old.shown) r m.old m.new _ _ h in
+        let done = ok-none (refusal.commit_refusal tx.0 ops m.old.shown) r m.old m.new _ _ h in
         let same : receipt ≡ record { ordinal = record { 0 = r.0 }; group = record { 0 = r.1 } } = cc in
         ap (λ (x : Receipt). x.ordinal.0) same ∙ ap (λ (p : ℕ × ℕ). p.0) done.1.5
     ordinal (Err e, is, h) = absurd (let no_way : reply.Committed receipt ≡ reply.Refused e = is in cc)

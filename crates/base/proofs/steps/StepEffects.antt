@@ -1,11 +1,10 @@
 -- Which effect on a pool each step with its reply has, and how it is refused: so what holds of each effect holds of each step.
-use Rattle.std.proofs.Common.{◌≡◌, ℕ, ◌+◌, ◌<◌, ◌≤◌, Bool, true, false, not, List, ◌∷◌, length, arith, refl, ap, sym, subst, ◌∙◌, ◌⊎◌, inl, inr}
+use Rattle.std.proofs.Common.{◌≡◌, ℕ, ◌+◌, ◌<◌, ◌≤◌, true, false, not, List, length, arith, refl, ap, sym, subst, ◌∙◌, ◌⊎◌, inl, inr}
 use Rattle.std.specs.Prelude.{Option, Some, None, Result, Ok, Err, is_some, is_none, nat_lt, nat_le, ◌==◌}
 use Rattle.std.specs.Option.{option_map_or}
 use Rattle.std.proofs.lemmas.Bool.{or_parts, not-false, ltb-false, leb-false, false≢true}
 use Rattle.base.specs.declared.error.PoolError.{PoolError}
 use Rattle.base.specs.declared.error.PoolError.TheVariants as error
-use Rattle.base.specs.declared.operation.Op.{Op}
 use Rattle.base.specs.declared.range.Mode.TheVariants.{Writer}
 use Rattle.base.specs.declared.step.Step as declared_step
 use Rattle.base.specs.declared.step.Step.TheVariants as step
@@ -110,23 +109,6 @@ module _ (s : Shown) where
       let held = some_there (refusal.lock_of owner id s) (no_refusal (refusal.unlock_tests owner id s) none 1 _ refl) in
       (held.0, held.1, subst (λ o. option_map_or (λ g. refusal.is_lock_in_use g s) o false ≡ false) held.1 (no_refusal (refusal.unlock_tests owner id s) none 2 _ refl))
 
-  none_older : (tests : List Test) → first_refusal (stage.waits_for_older s tests) ≡ None → (s.line.middle ≡ None) × (s.line.syncing ≡ None)
-  none_older tests none =
-      let parts = or_parts (is_some s.line.middle) (is_some s.line.syncing) (no_refusal (stage.waits_for_older s tests) none 1 _ refl) in
-      (none_there s.line.middle parts.0, none_there s.line.syncing parts.1)
-
-  later_none : (t : Test) (ts : List Test) → first_refusal (t ∷ ts) ≡ None → first_refusal ts ≡ None
-  later_none t ts none = go t.applies none
-    where
-      go : (b : Bool) → first_refusal (record { applies = b; error = t.error } ∷ ts) ≡ None → first_refusal ts ≡ None
-      go true h = absurd (let no_way : Some t.error ≡ None = h in cc)
-      go false h = h
-
-  commit_passes : (tx : ℕ) (ops : List Op) → stage.commit_refusal tx ops s ≡ None → refusal.whole_commit_refusal tx ops s ≡ None
-  commit_passes tx ops none =
-      let older : Test = refused_if (stage.has_older_group s.line) error.NotReady in
-      later_none older (refusal.commit_tests tx ops s) (later_none (refused_if s.suspended error.Suspended) (older ∷ refusal.commit_tests tx ops s) none)
-
   none_held : (group : ℕ) → refusal.quiesce_refusal s ≡ None → refusal.quiescing_group s.line ≡ Some group → (hold_count group s.transactions == 0) ≡ true
   none_held group none quiescing =
       not-false (hold_count group s.transactions == 0) (subst (λ o. not (option_map_or (λ g. hold_count g s.transactions == 0) o false) ≡ false) quiescing (no_refusal (refusal.quiesce_tests s) none 1 _ refl))
@@ -162,23 +144,21 @@ step_does keeps now (step.Begin owner plan) r old new (answer, is, h) =
     let tests = stage.begin_tests owner.0 plan old.shown in
     by_answer s old new _ r answer _ _ (λ a none d.
     let wanted : ℕ = refusal.blocks_wanted old.shown.contents plan in
-    let enough : wanted ≤ available old.shown = ltb-false (available old.shown) wanted (no_refusal tests none 8 _ refl) in
+    let enough : wanted ≤ available old.shown = ltb-false (available old.shown) wanted (no_refusal tests none 7 _ refl) in
     does s old new _ (AddsAdmission (steps.next_admission owner.0 plan old.shown)) none (record {
       named = refl;
       in_open = refl;
-      built = not-false (stage.is_plan_built plan) (no_refusal tests none 2 _ refl);
-      small = ltb-false max_log_record (log_record_size plan) (no_refusal tests none 3 _ refl);
-      covered = not-false (refusal.is_plan_covered owner.0 plan old.shown.locks) (no_refusal tests none 4 _ refl);
-      free = no_refusal tests none 5 _ refl;
-      within = ltb-false old.shown.dirty_max (dirty_total old.shown + charge_of plan) (no_refusal tests none 7 _ refl);
+      built = not-false (stage.is_plan_built plan) (no_refusal tests none 1 _ refl);
+      small = ltb-false max_log_record (log_record_size plan) (no_refusal tests none 2 _ refl);
+      covered = not-false (refusal.is_plan_covered owner.0 plan old.shown.locks) (no_refusal tests none 3 _ refl);
+      free = no_refusal tests none 4 _ refl;
+      within = ltb-false old.shown.dirty_max (dirty_total old.shown + charge_of plan) (no_refusal tests none 6 _ refl);
       room = omega arith;
     }) d.1 (rw d.0 refl) refl refl refl) (no_memory s old new) is h
 step_does keeps now (step.Commit tx ops) r old new (answer, is, h) =
     let s : declared_step.Step = step.Commit tx ops in
     by_answer s old new _ r answer _ _ (λ receipt none d.
-    let idle = none_older old.shown (refusal.commit_tests tx.0 ops old.shown) none in
-    does s old new _ (AddsEntry tx.0 d.0 ops d.1) none
-    (record { found = d.2; passed = commit_passes old.shown tx.0 ops none; applied = d.3; allowed = d.4; no_middle = idle.0; no_sync = idle.1 }) d.6 (rw d.5 refl) refl refl refl)
+    does s old new _ (AddsEntry tx.0 d.0 ops d.1) none (record { found = d.2; passed = none; applied = d.3; allowed = d.4 }) d.6 (rw d.5 refl) refl refl refl)
     (no_memory s old new) is h
 step_does keeps now (step.Abort tx) r old new (answer, is, h) =
     let s : declared_step.Step = step.Abort tx in
@@ -197,9 +177,8 @@ step_does keeps now step.Status r old new (answer, is, h) =
     by_answer step.Status old new _ r answer _ _ (λ status none d. does step.Status old new _ Stays none tt d.1 refl refl refl refl) (λ e none never. absurd never) is h
 step_does keeps now step.CloseGroup r old new (answer, is, h) =
     by_answer step.CloseGroup old new _ r answer _ _ (λ group none d.
-    let tests = stage.waits_for_older old.shown (refusal.close_tests old.shown) in
-    let last = (or_parts (is_some old.shown.line.middle) (nat_le last_number old.shown.line.open_group) (no_refusal tests none 3 _ refl)).1 in
-    does step.CloseGroup old new _ OpensNext none ((none_older old.shown (refusal.close_tests old.shown) none).0, leb-false last_number old.shown.line.open_group last) d.1 refl refl refl refl)
+    let parts = or_parts (is_some old.shown.line.middle) (nat_le last_number old.shown.line.open_group) (no_refusal (refusal.close_tests old.shown) none 1 _ refl) in
+    does step.CloseGroup old new _ OpensNext none (none_there old.shown.line.middle parts.0, leb-false last_number old.shown.line.open_group parts.1) d.1 refl refl refl refl)
     (λ e none never. absurd never) is h
 step_does keeps now step.MarkQuiesced r old new (answer, is, h) =
     by_answer step.MarkQuiesced old new _ r answer _ _

@@ -79,16 +79,16 @@ module _ (h : Held) (x : IsHeld h) (none : HasNoLogBlock h.now) where
       let of_group : z.group ≡ y.group = Some-injective (sym z.syncing ∙ y.syncing) in
       let of_plan : z.plan ≡ y.plan = Some-injective (sym z.running ∙ y.running) in
       let replayed : replay (entries_up_to y.group past.entries) past.base ≡ Ok z.contents = subst (λ (g : ℕ). replay (entries_up_to g past.entries) past.base ≡ Ok z.contents) of_group z.replayed in
-      let was : Ok s.contents ≡ Ok z.contents = sym (group-replayed h.now s past h.pointers new x.kept.stored y x.explained behind) ∙ replayed in
-      let same : s.contents ≡ z.contents = cc in (
+      let was : Ok y.plan.contents ≡ Ok z.contents = sym (group-replayed h.now s past h.pointers new x.kept.stored y x.explained behind) ∙ replayed in
+      let same : y.plan.contents ≡ z.contents = cc in (
         y.group,
         y.syncing,
         mounted y.group y.plan.root (uberblock_of s y.group y.plan) z.contents replayed
             (subst (λ (q : SyncPlan). ShowsUberblock h.now (uberblock_of s y.group q) z.contents.name) of_plan (subst (λ (g : ℕ). ShowsUberblock h.now (uberblock_of s g z.plan) z.contents.name) of_group z.shows))
             refl refl refl refl
             (subst (λ (c : Contents). IsTree h.now (frame_at s y.group) y.plan.root c.objects) same
-            (subst (λ (r : Pointer). IsTree h.now (frame_at s y.group) r s.contents.objects) y.planned.root
-            (holds-tree h.now (frame_at s y.group) new.pointers s.contents.objects (news h.now s past h.pointers new x.kept.stored y x.explained behind)))),
+            (subst (λ (r : Pointer). IsTree h.now (frame_at s y.group) r y.plan.contents.objects) y.planned.root
+            (holds-tree h.now (frame_at s y.group) new.pointers y.plan.contents.objects (news h.now s past h.pointers new x.kept.stored y x.explained behind)))),
       )
 
   abbrev Found : Type 0

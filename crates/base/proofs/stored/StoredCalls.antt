@@ -14,7 +14,6 @@ use Rattle.base.specs.steps.Shown.{Shown, SyncPlan, uberblock_of}
 use Rattle.base.specs.steps.ExactNow.{IsExplainedNow}
 use Rattle.base.specs.crash.SyncCalls.{PoolCall, IsCallAt, bytes_made}
 use Rattle.base.specs.crash.SyncCalls.PoolCall.{Put, Settle}
-use Rattle.base.specs.steps.Stage.{AreUpTo}
 use Rattle.base.specs.stored.ShownLabels.{ShowsUberblock, ShowsSyncing, AreLabelsShown, HasNoLogBlock}
 use Rattle.base.specs.stored.Stored.{NewTree, IsKept, SameBlocks, Advances}
 use Rattle.base.proofs.disk.Put.{length-put}
@@ -22,7 +21,6 @@ use Rattle.base.proofs.history.BuiltNames.{name-up_to}
 use Rattle.base.proofs.disk.WrittenLabels.{block-shows, slot-shows, slot-shows_again, slot-fits}
 use Rattle.base.proofs.stored.StoredLabels.{synced-later}
 use Rattle.base.proofs.stored.StoredTrees.{written-stored, written-syncing, written-no_log, same-stored, same-syncing, same-no_log, label-put, no-change, address-fits}
-use Rattle.base.proofs.steps.WaitingGroups.{up_to-all}
 use Rattle.base.proofs.common.KeptLists.{Some-injective}
 use Rattle.base.proofs.formats.Geometry.{slot-below}
 
@@ -103,11 +101,9 @@ module _ (now : List ℕ) (s : Shown) (pointers : Place → Pointer) (past : Pas
     next : x.sync.group ≡ s.line.synced + 1
     next = subst (λ (o : Option ℕ). IfSome o (λ g. g ≡ s.line.synced + 1)) x.sync.syncing explained.exact.groups.line.syncing
 
-    -- and the contents are what the entries up to it leave
-    replayed : replay (entries_up_to x.sync.group past.entries) past.base ≡ Ok s.contents
-    replayed =
-        let all : AreUpTo x.sync.group past.entries = subst (λ (o : Option ℕ). IfSome o (λ group. AreUpTo group past.entries)) x.sync.syncing explained.staged.syncing in
-        ap (λ es. replay es past.base) (up_to-all x.sync.group past.entries all) ∙ explained.history.replays
+    -- it writes what the entries up to it leave
+    replayed : replay (entries_up_to x.sync.group past.entries) past.base ≡ Ok x.sync.plan.contents
+    replayed = (explained.trees.planned x.sync.group x.sync.plan x.sync.syncing x.sync.running).replayed
 
     shown : AreLabelsShown now s (Some old) past → ShowsSyncing later s past
     shown (inl (low, y)) = record {
@@ -115,11 +111,11 @@ module _ (now : List ℕ) (s : Shown) (pointers : Place → Pointer) (past : Pas
       plan = x.sync.plan;
       syncing = x.sync.syncing;
       running = x.sync.running;
-      contents = s.contents;
+      contents = x.sync.plan.contents;
       replayed = replayed;
-      shows = slot-shows now old.slot coming label x.geometry below x.sync.slot y.shows.u s.contents.name y.shows.guid (let was = y.shows.group_is in omega (arith, was, next))
+      shows = slot-shows now old.slot coming label x.geometry below x.sync.slot y.shows.u x.sync.plan.contents.name y.shows.guid (let was = y.shows.group_is in omega (arith, was, next))
           (subst (λ (name : List ℕ). ShowsUberblock now y.shows.u name)
-          (name-up_to s past explained s.line.synced y.contents y.replayed ∙ sym (name-up_to s past explained x.sync.group s.contents replayed)) y.shows.shows);
+          (name-up_to s past explained s.line.synced y.contents y.replayed ∙ sym (name-up_to s past explained x.sync.group x.sync.plan.contents replayed)) y.shows.shows);
     }
     shown (inr (high, y)) =
         let of_group : y.group ≡ x.sync.group = Some-injective (sym y.syncing ∙ x.sync.syncing) in

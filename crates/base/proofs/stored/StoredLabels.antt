@@ -1,5 +1,5 @@
 -- What the labels of a pool show stays while its bytes or its state go on.
-use Rattle.std.proofs.Common.{◌≡◌, ℕ, List, refl, ap, sym, ◌∙◌, inl, inr}
+use Rattle.std.proofs.Common.{◌≡◌, ℕ, List, refl, ap, sym, ◌∙◌, ◌⊎◌, inl, inr}
 use Rattle.std.specs.Prelude.{Option, Some, None}
 use Rattle.base.specs.declared.pointer.Pointer.{Pointer}
 use Rattle.base.specs.formats.Chain.{Header}
@@ -74,8 +74,12 @@ counted-state now s t p q new left plan was is (inl (low, x)) = inl (low, synced
 counted-state now s t p q new left plan was is (inr (high, x)) =
     inr (high, syncing-state now s (record t { line = record t.line { synced = s.line.synced }; log = record t.log { kept = s.log.kept; next = s.log.next }; root = s.root }) p q left plan was is x)
 
+-- the entries up to the synced group, and up to the one that is syncing, are the same
+abbrev pub AreSameUpTo : Shown → List Entry → List Entry → Type 0
+AreSameUpTo s before after = (group : ℕ) → (group ≡ s.line.synced) ⊎ (s.line.syncing ≡ Some group) → entries_up_to group after ≡ entries_up_to group before
+
 -- in another state with the same groups and the same sync
-pub labels-state : (now : List ℕ) (s t : Shown) (p q : Past) (running : Option NewTree) → AreLabelsShown now s running p
+pub labels-state : (now : List ℕ) (s t : Shown) (p q : Past) (running : Option NewTree) → AreSameUpTo s p.entries q.entries → AreLabelsShown now s running p
     → AreLabelsShown now (record t {
       guid = s.guid;
       import_number = s.import_number;
@@ -83,11 +87,11 @@ pub labels-state : (now : List ℕ) (s t : Shown) (p q : Past) (running : Option
       log = record t.log { kept = s.log.kept; next = s.log.next };
       root = s.root;
       sync = s.sync;
-    }) running (record q { base = p.base; entries = p.entries })
-labels-state now s t p q None x = synced-again now s (record t { line = record t.line { syncing = s.line.syncing }; sync = s.sync }) p q x
-labels-state now s t p q (Some new) (inl (low, x)) =
-    inl (low, synced-again now s (record t { line = record t.line { syncing = s.line.syncing }; sync = s.sync }) p q x)
-labels-state now s t p q (Some new) (inr (high, x)) = inr (
+    }) running (record q { base = p.base })
+labels-state now s t p q None same x = synced-state now s (record t { line = record t.line { syncing = s.line.syncing }; sync = s.sync }) p q x (same s.line.synced (inl refl))
+labels-state now s t p q (Some new) same (inl (low, x)) =
+    inl (low, synced-state now s (record t { line = record t.line { syncing = s.line.syncing }; sync = s.sync }) p q x (same s.line.synced (inl refl)))
+labels-state now s t p q (Some new) same (inr (high, x)) = inr (
   high,
   record {
     group = x.group;
@@ -95,7 +99,7 @@ labels-state now s t p q (Some new) (inr (high, x)) = inr (
     syncing = x.syncing;
     running = x.running;
     contents = x.contents;
-    replayed = x.replayed;
+    replayed = ap (λ (es : List Entry). replay es p.base) (same x.group (inr x.syncing)) ∙ x.replayed;
     shows = x.shows;
   },
 )

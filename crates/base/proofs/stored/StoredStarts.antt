@@ -1,6 +1,6 @@
--- The start of a sync: what it takes is free, and what it plans is from the synced tree to that of the contents.
+-- The start of a sync: what it takes is free, and what it plans is from the synced tree to that of its group.
 use Rattle.std.proofs.Common.{◌≡◌, ℕ, ◌+◌, ◌-◌, ◌*◌, ◌/◌, ◌≤◌, Bool, true, false, not, ◌&&◌, List, length, map, refl, ap, sym, subst, ◌∙◌, arith, ◌⊎◌, inl, inr}
-use Rattle.std.specs.Prelude.{Option, Some, None, Ok, ◌≢◌, is_some, is_none, slice_get, IfSome, unwrap_or, option_map, find}
+use Rattle.std.specs.Prelude.{Option, Some, None, Ok, ◌≢◌, is_some, is_none, slice_get, unwrap_or, option_map, find}
 use Rattle.std.specs.Ordering.{nat_cmp}
 use Rattle.std.specs.FinMap as finite
 use Rattle.std.specs.FinMap.{FinMap}
@@ -10,7 +10,6 @@ use Rattle.std.proofs.lemmas.Bool.{and_parts, or_parts, not-true, false≢true, 
 use Rattle.std.proofs.lemmas.Cmp.{nat_cmp_total}
 use Rattle.base.specs.declared.pointer.Pointer.{Pointer}
 use Rattle.base.specs.steps.Locks.{is_in}
-use Rattle.base.specs.steps.Groups.{Middle}
 use Rattle.base.specs.formats.Limits.{object_count}
 use Rattle.base.specs.formats.Fields.{part, number_at}
 use Rattle.base.specs.formats.Geometry.{block_area, block_size, IsGeometry, IsBlockAddress}
@@ -24,7 +23,7 @@ use Rattle.base.specs.common.Rising.{rising}
 use Rattle.base.specs.steps.Logs.{KeptBlock, header_at, reaches_above}
 use Rattle.base.specs.formats.Uberblocks.{IsUberblock}
 use Rattle.base.specs.steps.Shown.{Shown, SyncPlan, taken_of, uberblock_of}
-use Rattle.base.specs.steps.Exact.{AreFree, IsInLog}
+use Rattle.base.specs.steps.Exact.{AreFree, IsBounded, IsInLog}
 use Rattle.base.specs.steps.ExactNow.{IsExplainedNow}
 use Rattle.base.specs.steps.Refusals as refusal
 use Rattle.base.specs.steps.Steps as steps
@@ -39,6 +38,7 @@ use Rattle.base.proofs.disk.WrittenBlocks.{put_blocks, free-leaves_tree, new-sta
 use Rattle.base.proofs.tree.FreedBlocks.{new-in_tree}
 use Rattle.base.proofs.history.KeptContents.{bounded-no_others}
 use Rattle.base.proofs.formats.Geometry.{IsGeometry-IsSize}
+use Rattle.base.proofs.steps.KeptTrees.{explained-allowed, next_bounded}
 use Rattle.base.proofs.steps.WaitingGroups.{next-group}
 use Rattle.base.proofs.stored.StoredLabels.{synced-state}
 use Rattle.base.proofs.stored.StoredSets.{in-at, at-in, set-at, at-set, rising-in, rising-rises, map-at}
@@ -167,7 +167,7 @@ pub record IsIdle (now : List ℕ) (s : Shown) (past : Past) : Type 0 where
 -- what is stored stays as a sync starts, and the sync has written nothing yet
 pub start-state : (now : List ℕ) (moment group : ℕ) (plan : SyncPlan) (s : State) (pointers new : Place → Pointer) (bs : List NewBlock) (slot : List ℕ) → IsExplainedNow s.shown s.past → (x : IsStored now s.shown pointers s.past)
     → IsIdle now s.shown s.past → s.shown.line.middle ≡ Some (record { group = group; quiesced = true }) → s.shown.line.syncing ≡ None → IsPlanned s moment group plan
-    → IsUberblock slot (uberblock_of s.shown group plan) → IsPlannedSync (frame_at s.shown group) pointers new bs x.synced.objects s.shown.contents.objects plan
+    → IsUberblock slot (uberblock_of s.shown group plan) → IsPlannedSync (frame_at s.shown group) pointers new bs x.synced.objects plan.contents.objects plan
     → IsKept now (steps.state_after_start group plan s).shown pointers (Some (record { pointers = new; blocks = bs; slot = slot; done = 0 })) (steps.state_after_start group plan s).past
 start-state now moment group plan s pointers new bs slot explained x idle_is middle idle planned coded y = record {
   stored = stored;
@@ -204,6 +204,10 @@ start-state now moment group plan s pointers new bs slot explained x idle_is mid
     next : group ≡ s.shown.line.synced + 1
     next = next-group s.shown s.past explained group idle middle
 
+    bounded : IsBounded plan.contents
+    bounded = next_bounded s.past s.shown.line.synced s.shown.contents s.shown.synced_contents plan.contents explained.history (explained-allowed s.shown s.past explained) explained.trees.synced.replayed explained.trees.synced.bounded
+        (subst (λ (g : ℕ). steps.IsReplayUpTo g s.past plan.contents) next planned.contents)
+
     room : block_area + block_size * s.shown.blocks ≤ length now
     room =
         let large = (IsGeometry-IsSize (length now) idle_is.geometry).least in
@@ -222,8 +226,8 @@ start-state now moment group plan s pointers new bs slot explained x idle_is mid
       are = are;
       leaves = leaves;
       log_apart = taken-not_log now s.shown s.past pointers x explained group idle plan bs planned.taken y.taken;
-      not_log = new-not_log now (frame_at s.shown s.shown.line.synced) (frame_at s.shown group) bs pointers new x.synced.objects s.shown.contents.objects refl refl (omega (arith, next)) x.tree y.planned
-          (bounded-no_others s.shown.contents explained.exact.bounded) are leaves y.used room;
+      not_log = new-not_log now (frame_at s.shown s.shown.line.synced) (frame_at s.shown group) bs pointers new x.synced.objects plan.contents.objects refl refl (omega (arith, next)) x.tree y.planned
+          (bounded-no_others plan.contents bounded) are leaves y.used room;
       header = planned.header ∙ ap (λ (bs : List KeptBlock). unwrap_or (option_map header_at (find (reaches_above group) bs)) s.shown.log.next) x.no_log;
       slot = coded;
       done = omega arith;
@@ -233,7 +237,7 @@ start-state now moment group plan s pointers new bs slot explained x idle_is mid
 -- the start of a sync, as a step
 pub start-keeps : (keeps : Type 0) (bytes now : List ℕ) (moment group : ℕ) (plan : SyncPlan) (old new : State) (pointers made : Place → Pointer) (bs : List NewBlock) (slot : List ℕ) → IsExplainedNow old.shown old.past
     → (running : Option NewTree) (x : IsKept now old.shown pointers running old.past) → stage.StartSync keeps bytes moment (Ok group) old new → new.shown.sync ≡ Some plan → IsUberblock slot (uberblock_of old.shown group plan)
-    → IsPlannedSync (frame_at old.shown group) pointers made bs x.stored.synced.objects old.shown.contents.objects plan
+    → IsPlannedSync (frame_at old.shown group) pointers made bs x.stored.synced.objects plan.contents.objects plan
     → IsKept now new.shown pointers (Some (record { pointers = made; blocks = bs; slot = slot; done = 0 })) new.past
 start-keeps keeps bytes now moment group plan old new pointers made bs slot explained running x h runs coded y =
     let done = ok-none (refusal.start_refusal old.shown) group old new _ _ h in
@@ -244,4 +248,4 @@ start-keeps keeps bytes now moment group plan old new pointers made bs slot expl
     subst (λ (u : State). IsKept now u.shown pointers (Some (record { pointers = made; blocks = bs; slot = slot; done = 0 })) u.past) (sym d.4)
     (start-state now moment group d.0 old pointers made bs slot explained x.stored idle line.0 line.1 d.2
     (subst (λ (q : SyncPlan). IsUberblock slot (uberblock_of old.shown group q)) (sym same) coded)
-    (subst (λ (q : SyncPlan). IsPlannedSync (frame_at old.shown group) pointers made bs x.stored.synced.objects old.shown.contents.objects q) (sym same) y))
+    (subst (λ (q : SyncPlan). IsPlannedSync (frame_at old.shown group) pointers made bs x.stored.synced.objects q.contents.objects q) (sym same) y))

@@ -1,37 +1,33 @@
 -- Steps that start and end no sync keep what a pool keeps of its device.
-use Rattle.std.proofs.Common.{◌≡◌, ℕ, ◌-◌, ◌<◌, Bool, true, false, cond, List, [], ◌∷◌, ◌++◌, refl, ap, sym, subst, ◌∙◌, ◌⊎◌, inl, inr}
-use Rattle.std.specs.Prelude.{Option, Some, None, slice_get, IfSome, nat_le, ◌==◌}
-use Rattle.std.specs.List.{list_all}
-use Rattle.std.proofs.lemmas.Bool.{and_parts, false≢true}
+use Rattle.std.proofs.Common.{◌≡◌, ℕ, ◌-◌, ◌<◌, true, false, List, refl, ap, sym, subst, ◌∙◌, ◌⊎◌, inl, inr}
+use Rattle.std.specs.Prelude.{Option, Some, None, Ok, slice_get, ◌==◌}
+use Rattle.std.proofs.lemmas.Bool.{false≢true}
 use Rattle.base.specs.declared.operation.Op.{Op}
 use Rattle.base.specs.declared.step.Step as declared_step
 use Rattle.base.specs.declared.step.Reply as declared_reply
 use Rattle.base.specs.declared.pointer.Pointer.{Pointer}
 use Rattle.base.specs.history.Contents.{Contents}
-use Rattle.base.specs.history.Plans.{is_plan_allowed}
 use Rattle.base.specs.history.History.{Entry, replay, entries_up_to}
 use Rattle.base.specs.steps.Locks.{is_in}
-use Rattle.base.specs.steps.Groups.{Middle, Admission, open_transactions}
+use Rattle.base.specs.steps.Groups.{Admission, open_transactions}
 use Rattle.base.specs.tree.Places.{Place, IsInTree}
 use Rattle.base.specs.history.Past.{Past}
 use Rattle.base.specs.steps.Shown.{Shown, SyncPlan, taken_of}
 use Rattle.base.specs.steps.Exact.{AreFree, IsInLog}
-use Rattle.base.specs.steps.Refusals as refusal
 use Rattle.base.specs.steps.Steps as steps
 use Rattle.base.specs.steps.Steps.{State, Answers, SyncProgress}
 use Rattle.base.specs.steps.Steps.SyncProgress.{More, Synced}
-use Rattle.base.specs.steps.Stage as stage
 use Rattle.base.specs.steps.Effects.{Effect, MayAddEntry, MayHave, is_logging, is_turning, state_after}
 use Rattle.base.specs.steps.Effects.Effect.{Suspends, AddsAdmission, AddsEntry, OpensNext, QuiescesMiddle, PlansSync, CountsStep, EndsSync, WritesLog, FlushesLog}
 use Rattle.base.specs.steps.Runs.{Step}
 use Rattle.base.specs.steps.ExactNow.{IsExplainedNow}
 use Rattle.base.specs.stored.ShownLabels.{AreLabelsShown}
 use Rattle.base.specs.stored.Stored.{NewTree, IsStored, IsSyncing, RunsAs, IsKept, is_turn}
-use Rattle.base.proofs.common.KeptLists.{found_at, Some-injective, push-cases}
+use Rattle.base.proofs.common.KeptLists.{found_at, Some-injective}
 use Rattle.base.proofs.history.Cuts.{up_to_push}
-use Rattle.base.proofs.steps.KeptGroups.{held_above, quiescing_is}
+use Rattle.base.proofs.steps.KeptGroups.{held_above, held_above_sync}
 use Rattle.base.proofs.steps.StepEffects.{StepDoes, step_does}
-use Rattle.base.proofs.stored.StoredLabels.{synced-state, counted-state, labels-state}
+use Rattle.base.proofs.stored.StoredLabels.{AreSameUpTo, counted-state, labels-state}
 
 -- the free blocks are the same where a sync has taken the same
 pub free-state : (now : List ℕ) (s t : Shown) → taken_of t.sync ≡ taken_of s.sync → AreFree now s
@@ -63,7 +59,7 @@ module _ (now : List ℕ) (s t : Shown) (pointers : Place → Pointer) (p q : Pa
 
   -- a running sync stays where only its steps are counted
   pub syncing-state : (new : NewTree) (x : IsSyncing now s pointers new p) (left : ℕ) → t.sync ≡ Some (record x.plan { steps_left = left })
-      → IsSyncing now (record t { guid = s.guid; import_number = s.import_number; blocks = s.blocks; line = record t.line { synced = s.line.synced; syncing = s.line.syncing }; contents = s.contents; log = record t.log { next = s.log.next } })
+      → IsSyncing now (record t { guid = s.guid; import_number = s.import_number; blocks = s.blocks; line = record t.line { synced = s.line.synced; syncing = s.line.syncing }; log = record t.log { next = s.log.next } })
       pointers new (record q { base = p.base; entries = p.entries })
   syncing-state new x left running = record {
     group = x.group;
@@ -90,24 +86,27 @@ module _ (now : List ℕ) (s t : Shown) (pointers : Place → Pointer) (p q : Pa
     written = x.written;
   }
 
-  -- all stays where the line moves on in the middle and there are more admissions
-  pub kept-state : (running : Option NewTree) → IsKept now s pointers running p
-      → IsKept now (record t { guid = s.guid; import_number = s.import_number; blocks = s.blocks; line = record t.line { synced = s.line.synced; syncing = s.line.syncing }; contents = s.contents; free = s.free; log = record t.log { kept = s.log.kept; next = s.log.next }; root = s.root; sync = s.sync })
-      pointers running (record q { base = p.base; entries = p.entries })
-  kept-state running x = record {
+  -- all stays where the line moves on in the middle, there are more admissions, and entries above the group that is syncing
+  pub kept-state : (running : Option NewTree) → AreSameUpTo s p.entries q.entries → IsKept now s pointers running p
+      → IsKept now (record t { guid = s.guid; import_number = s.import_number; blocks = s.blocks; line = record t.line { synced = s.line.synced; syncing = s.line.syncing }; free = s.free; log = record t.log { kept = s.log.kept; next = s.log.next }; root = s.root; sync = s.sync })
+      pointers running (record q { base = p.base })
+  kept-state running same x = record {
     stored = stored;
     sync = runs running x.sync;
     geometry = x.geometry;
-    labels = labels-state now s after p (record q { base = p.base; entries = p.entries }) running x.labels;
+    labels = labels-state now s after p (record q { base = p.base }) running same x.labels;
   }
     where
       after : Shown
-      after = record t { guid = s.guid; import_number = s.import_number; blocks = s.blocks; line = record t.line { synced = s.line.synced; syncing = s.line.syncing }; contents = s.contents; free = s.free; log = record t.log { kept = s.log.kept; next = s.log.next }; root = s.root; sync = s.sync }
+      after = record t { guid = s.guid; import_number = s.import_number; blocks = s.blocks; line = record t.line { synced = s.line.synced; syncing = s.line.syncing }; free = s.free; log = record t.log { kept = s.log.kept; next = s.log.next }; root = s.root; sync = s.sync }
 
-      stored : IsStored now after pointers (record q { base = p.base; entries = p.entries })
+      stay : (group : ℕ) (c : Contents) → (group ≡ s.line.synced) ⊎ (s.line.syncing ≡ Some group) → replay (entries_up_to group p.entries) p.base ≡ Ok c → replay (entries_up_to group q.entries) p.base ≡ Ok c
+      stay group c is replayed = ap (λ (es : List Entry). replay es p.base) (same group is) ∙ replayed
+
+      stored : IsStored now after pointers (record q { base = p.base })
       stored = record {
         synced = x.stored.synced;
-        replayed = x.stored.replayed;
+        replayed = stay s.line.synced x.stored.synced (inl refl) x.stored.replayed;
         blocks = x.stored.blocks;
         tree = x.stored.tree;
         root = x.stored.root;
@@ -117,7 +116,7 @@ module _ (now : List ℕ) (s t : Shown) (pointers : Place → Pointer) (p q : Pa
         log_apart = x.stored.log_apart;
       }
 
-      runs : (o : Option NewTree) → RunsAs now s pointers o p → RunsAs now after pointers o (record q { base = p.base; entries = p.entries })
+      runs : (o : Option NewTree) → RunsAs now s pointers o p → RunsAs now after pointers o (record q { base = p.base })
       runs None none = none
       runs (Some new) y = record {
         group = y.group;
@@ -125,7 +124,7 @@ module _ (now : List ℕ) (s t : Shown) (pointers : Place → Pointer) (p q : Pa
         syncing = y.syncing;
         running = y.running;
         synced = y.synced;
-        replayed = y.replayed;
+        replayed = stay s.line.synced y.synced (inl refl) y.replayed;
         planned = y.planned;
         are = y.are;
         leaves = y.leaves;
@@ -143,39 +142,26 @@ module _ (now : List ℕ) (pointers : Place → Pointer) (running : Option NewTr
 
   -- what changes neither the line nor the admissions
   stays : (s t : Shown) (p q : Past) → IsKept now s pointers running p
-      → IsKept now (record t { guid = s.guid; import_number = s.import_number; blocks = s.blocks; line = s.line; contents = s.contents; free = s.free; log = record t.log { kept = s.log.kept; next = s.log.next }; root = s.root; sync = s.sync })
+      → IsKept now (record t { guid = s.guid; import_number = s.import_number; blocks = s.blocks; line = s.line; free = s.free; log = record t.log { kept = s.log.kept; next = s.log.next }; root = s.root; sync = s.sync })
       pointers running (record q { base = p.base; entries = p.entries; admissions = p.admissions })
-  stays s t p q x = kept-state now s (record t { line = s.line }) pointers p (record q { admissions = p.admissions }) running x
+  stays s t p q x = kept-state now s (record t { line = s.line }) pointers p (record q { entries = p.entries; admissions = p.admissions }) running (λ group is. refl) x
 
-  -- while no group is syncing no sync runs
-  none_runs : (s : Shown) (p : Past) (o : Option NewTree) → s.line.syncing ≡ None → RunsAs now s pointers o p → (o ≡ None) × (s.sync ≡ None)
-  none_runs s p None idle none = (refl, none)
-  none_runs s p (Some new) idle y = absurd (let no_way : None ≡ Some y.group = sym idle ∙ y.syncing in cc)
-
-  -- an open transaction is of a group above the synced one
-  transaction_above : (tx : ℕ) (s : Shown) (p : Past) (a : Admission) → IsExplainedNow s p → refusal.transaction_of tx s ≡ Some a → s.line.synced < a.group
-  transaction_above tx s p a explained there =
-      let found = found_at (λ (b : Admission). b.tx == tx) s.transactions a there in
-      let in_line : slice_get (open_transactions p.admissions p.entries p.aborted) found.0 ≡ Some a = subst (λ ts. slice_get ts found.0 ≡ Some a) explained.exact.groups.transactions found.1 in
-      (held_above s.line a.group explained.exact.groups.line (explained.exact.groups.members.holding found.0 a in_line)).0
-
-  -- an entry comes while no older group is unsynced
+  -- an entry comes, above the synced group and the one that is syncing
   entry : (tx : ℕ) (a : Admission) (ops : List Op) (contents : Contents) (old : State) → IsExplainedNow old.shown old.past → IsKeptState old → MayAddEntry tx a ops contents old
       → IsKeptState (steps.state_after_commit tx a.group ops contents old)
   entry tx a ops contents old explained x may =
       let s : Shown = old.shown in
       let p : Past = old.past in
       let t : State = steps.state_after_commit tx a.group ops contents old in
-      let next : Entry = record { group = a.group; tx = tx; ops = ops } in
-      let off = none_runs s p running may.no_sync x.sync in
-      let same = up_to_push s.line.synced p.entries next (transaction_above tx s p a explained may.found) in
-      record {
-        stored = stored-state now s t.shown pointers p t.past x.stored refl same;
-        sync = subst (λ (o : Option NewTree). RunsAs now t.shown pointers o t.past) (sym off.0) off.1;
-        geometry = x.geometry;
-        labels = subst (λ (o : Option NewTree). AreLabelsShown now t.shown o t.past) (sym off.0)
-            (synced-state now s t.shown p t.past (subst (λ (o : Option NewTree). AreLabelsShown now s o p) off.0 x.labels) same);
-      }
+      let found = found_at (λ (b : Admission). b.tx == tx) s.transactions a may.found in
+      let in_line : slice_get (open_transactions p.admissions p.entries p.aborted) found.0 ≡ Some a = subst (λ ts. slice_get ts found.0 ≡ Some a) explained.exact.groups.transactions found.1 in
+      let holds = explained.exact.groups.members.holding found.0 a in_line in
+      let line = explained.exact.groups.line in
+      kept-state now s t.shown pointers p t.past running (λ group is. up_to_push group p.entries (record { group = a.group; tx = tx; ops = ops })
+      (elim is as (λ _. group < a.group) [
+        | inl synced ↦ subst (λ (g : ℕ). g < a.group) (sym synced) (held_above s.line a.group line holds).0
+        | inr syncing ↦ held_above_sync s.line a.group group line holds syncing
+      ])) x
 
   -- a device call of a sync was made, and more are left
   more : (plan : SyncPlan) (old : State) → IsKeptState old → old.shown.sync ≡ Some plan → IsKeptState (steps.state_after_step plan old)
@@ -203,14 +189,14 @@ module _ (now : List ℕ) (pointers : Place → Pointer) (running : Option NewTr
   effect_keeps : (e : Effect) (s : State) → is_turning e ≡ false → is_logging e ≡ false → IsExplainedNow s.shown s.past → IsKeptState s → MayHave e s → IsKeptState (state_after e s)
   effect_keeps (AddsAdmission a) s off no_log explained x may =
       let t : State = state_after (AddsAdmission a) s in
-      kept-state now s.shown t.shown pointers s.past t.past running x
+      kept-state now s.shown t.shown pointers s.past t.past running (λ group is. refl) x
   effect_keeps (AddsEntry tx a ops contents) s off no_log explained x may = entry tx a ops contents s explained x may
   effect_keeps OpensNext s off no_log explained x may =
       let t : State = state_after OpensNext s in
-      kept-state now s.shown t.shown pointers s.past t.past running x
+      kept-state now s.shown t.shown pointers s.past t.past running (λ group is. refl) x
   effect_keeps (QuiescesMiddle group) s off no_log explained x may =
       let t : State = state_after (QuiescesMiddle group) s in
-      kept-state now s.shown t.shown pointers s.past t.past running x
+      kept-state now s.shown t.shown pointers s.past t.past running (λ group is. refl) x
   effect_keeps (CountsStep plan) s off no_log explained x may = more plan s x may.0
   effect_keeps (PlansSync group plan) s turning no_log explained x may = absurd (false≢true (sym turning))
   effect_keeps (EndsSync group plan) s turning no_log explained x may = absurd (false≢true (sym turning))

@@ -4,13 +4,13 @@ use Rattle.std.specs.Prelude.{Option, Some, None, Ok, slice_get, IfSome, nat_le,
 use Rattle.std.specs.Ordering.{nat_cmp}
 use Rattle.std.specs.FinSet as set
 use Rattle.std.specs.FinSet.{FinSet, contains-union}
-use Rattle.std.proofs.lemmas.Bool.{or_parts, false≢true, le-leb, or_cases}
+use Rattle.std.proofs.lemmas.Bool.{or_parts, false≢true, or_cases}
 use Rattle.std.proofs.lemmas.Cmp.{nat_cmp_total}
 use Rattle.std.proofs.lemmas.Option.{slice_get_within}
 use Rattle.base.specs.declared.pointer.Pointer.{Pointer}
 use Rattle.base.specs.history.Contents.{Contents}
 use Rattle.base.specs.formats.Geometry.{IsBlockAddress}
-use Rattle.base.specs.history.History.{Entry, replay, entries_up_to}
+use Rattle.base.specs.history.History.{replay, entries_up_to}
 use Rattle.base.specs.steps.Locks.{is_in}
 use Rattle.base.specs.tree.Places.{Place, IsInTree}
 use Rattle.base.specs.tree.Places.Place.{Root}
@@ -25,7 +25,6 @@ use Rattle.base.specs.steps.Refusals as refusal
 use Rattle.base.specs.steps.Steps as steps
 use Rattle.base.specs.steps.Steps.{State, returned_addresses}
 use Rattle.base.specs.steps.Steps.SyncProgress.{Synced}
-use Rattle.base.specs.steps.Stage.{AreUpTo}
 use Rattle.base.specs.stored.ShownLabels.{ShowsUberblock, ShowsSynced, AreLabelsShown}
 use Rattle.base.specs.stored.Stored.{NewTree, IsStored, IsSyncing, IsKept, total_calls, frame_at}
 use Rattle.base.proofs.history.CommitOrder.{ok-none}
@@ -34,7 +33,6 @@ use Rattle.base.proofs.tree.PlacedTrees.{in-tree}
 use Rattle.base.proofs.tree.PlannedTrees.{planned-holds}
 use Rattle.base.proofs.history.KeptContents.{bounded-no_others}
 use Rattle.base.proofs.tree.FreedBlocks.{IsNewAddress, in-new_tree, new-in_tree, stays-or_freed, freed-old, freed-left}
-use Rattle.base.proofs.steps.WaitingGroups.{up_to-all}
 use Rattle.base.proofs.stored.StoredSets.{IsAt, in-at, at-in, set-at, at-set, at-map, map-at}
 use Rattle.base.proofs.stored.StoredTrees.{stored-placed}
 
@@ -43,12 +41,9 @@ no_more [] = refl
 no_more (x ∷ xs) = ap (λ l. x ∷ l) (no_more xs)
 
 module _ (now : List ℕ) (s : Shown) (p : Past) (pointers : Place → Pointer) (new : NewTree) (x : IsStored now s pointers p) (y : IsSyncing now s pointers new p) (explained : IsExplainedNow s p) (done : length new.blocks ≤ new.done) where
-  -- the contents are those of the entries up to its group
-  group-up_to : AreUpTo y.group p.entries
-  group-up_to = subst (λ (o : Option ℕ). IfSome o (λ group. AreUpTo group p.entries)) y.syncing explained.staged.syncing
-
-  pub group-replayed : replay (entries_up_to y.group p.entries) p.base ≡ Ok s.contents
-  group-replayed = ap (λ (es : List Entry). replay es p.base) (up_to-all y.group p.entries group-up_to) ∙ explained.history.replays
+  -- it writes what the entries up to its group leave
+  pub group-replayed : replay (entries_up_to y.group p.entries) p.base ≡ Ok y.plan.contents
+  group-replayed = (explained.trees.planned y.group y.plan y.syncing y.running).replayed
 
   one-more : y.group ≡ s.line.synced + 1
   one-more = subst (λ (o : Option ℕ). IfSome o (λ g. g ≡ s.line.synced + 1)) y.syncing explained.exact.groups.line.syncing
@@ -63,9 +58,9 @@ module _ (now : List ℕ) (s : Shown) (p : Past) (pointers : Place → Pointer) 
   stands i b at = y.written i b (let below = slice_get_within new.blocks i b at in omega (arith, below, done)) at
 
   -- the new tree is held
-  pub news : HoldsTree now (frame_at s y.group) new.pointers s.contents.objects
-  news = planned-holds now now (frame_at s s.line.synced) (frame_at s y.group) refl refl (omega (arith, one-more)) new.blocks stands pointers new.pointers y.synced.objects s.contents.objects olds y.planned.planned
-      (λ place in_range same some. refl) (bounded-no_others s.contents explained.exact.bounded)
+  pub news : HoldsTree now (frame_at s y.group) new.pointers y.plan.contents.objects
+  news = planned-holds now now (frame_at s s.line.synced) (frame_at s y.group) refl refl (omega (arith, one-more)) new.blocks stands pointers new.pointers y.synced.objects y.plan.contents.objects olds y.planned.planned
+      (λ place in_range same some. refl) (bounded-no_others y.plan.contents (explained.trees.planned y.group y.plan y.syncing y.running).bounded)
 
   abbrev Old : ℕ → Type 0
   Old address = IsInTree now s.root address
@@ -87,24 +82,24 @@ module _ (now : List ℕ) (s : Shown) (p : Past) (pointers : Place → Pointer) 
 
   new-from : (address : ℕ) → New address → Old address ⊎ IsNewAddress new.blocks address
   new-from address is =
-      elim (in-new_tree now now (frame_at s s.line.synced) (frame_at s y.group) new.blocks pointers new.pointers y.synced.objects s.contents.objects olds news y.planned.planned y.leaves address (from_new address is))
+      elim (in-new_tree now now (frame_at s s.line.synced) (frame_at s y.group) new.blocks pointers new.pointers y.synced.objects y.plan.contents.objects olds news y.planned.planned y.leaves address (from_new address is))
       as (λ _. Old address ⊎ IsNewAddress new.blocks address) [ inl old ↦ inl (to_old address old) | inr h ↦ inr h ]
 
   new-has : (address : ℕ) → IsNewAddress new.blocks address → New address
-  new-has address is = to_new address (new-in_tree now now (frame_at s s.line.synced) (frame_at s y.group) new.blocks pointers new.pointers y.synced.objects s.contents.objects olds news y.planned.planned y.leaves
+  new-has address is = to_new address (new-in_tree now now (frame_at s s.line.synced) (frame_at s y.group) new.blocks pointers new.pointers y.synced.objects y.plan.contents.objects olds news y.planned.planned y.leaves
       s.blocks y.are y.planned.used address is)
 
   stays : (address : ℕ) → Old address → New address ⊎ IsAt y.plan.freed address
   stays address is =
-      elim (stays-or_freed now now (frame_at s s.line.synced) (frame_at s y.group) new.blocks pointers new.pointers y.synced.objects s.contents.objects olds news y.planned.planned y.leaves
+      elim (stays-or_freed now now (frame_at s s.line.synced) (frame_at s y.group) new.blocks pointers new.pointers y.synced.objects y.plan.contents.objects olds news y.planned.planned y.leaves
       y.plan.freed y.planned.freed address (from_old address is)) as (λ _. New address ⊎ IsAt y.plan.freed address) [ inl h ↦ inl (to_new address h) | inr at ↦ inr at ]
 
   was-old : (address : ℕ) → IsAt y.plan.freed address → Old address
-  was-old address at = to_old address (freed-old now now (frame_at s s.line.synced) (frame_at s y.group) new.blocks pointers new.pointers y.synced.objects s.contents.objects olds news y.planned.planned y.leaves
+  was-old address at = to_old address (freed-old now now (frame_at s s.line.synced) (frame_at s y.group) new.blocks pointers new.pointers y.synced.objects y.plan.contents.objects olds news y.planned.planned y.leaves
       y.plan.freed y.planned.freed at.0 address at.1)
 
   left : (address : ℕ) → IsAt y.plan.freed address → New address → ⊥
-  left address at is = freed-left now now (frame_at s s.line.synced) (frame_at s y.group) new.blocks pointers new.pointers y.synced.objects s.contents.objects olds news y.planned.planned y.leaves
+  left address at is = freed-left now now (frame_at s s.line.synced) (frame_at s y.group) new.blocks pointers new.pointers y.synced.objects y.plan.contents.objects olds news y.planned.planned y.leaves
       y.plan.freed y.planned.freed at.0 address at.1 (from_new address is)
 
   -- an address of the synced tree is one of a block
@@ -224,7 +219,7 @@ end-state : (now : List ℕ) (s : State) (pointers : Place → Pointer) (new : N
     → new.done ≡ total_calls new → IsKept now (steps.state_after_sync k.sync.group k.sync.plan s).shown new.pointers None (steps.state_after_sync k.sync.group k.sync.plan s).past
 end-state now s pointers new explained k done = record {
   stored = record {
-    synced = s.shown.contents;
+    synced = y.plan.contents;
     replayed = group-replayed now s.shown s.past pointers new x y explained behind;
     blocks = x.blocks;
     tree = news now s.shown s.past pointers new x y explained behind;

@@ -39,6 +39,7 @@ pub record IsImported (u : Uberblock) (blocks : ℕ) (contents : Contents) (dirt
   pub kept : s.log.kept ≡ []
   pub log_number : s.log.next.number ≡ 0
   pub sync : s.sync ≡ None
+  pub synced_are : s.synced_contents ≡ contents
   pub lengths : (n : ℕ) → n < object_count → s.lengths n ≡ length_of contents n
 
 -- the first log block is the lowest that neither the old tree and chain nor the new tree has

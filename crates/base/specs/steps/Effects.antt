@@ -10,7 +10,7 @@ use Rattle.base.specs.history.Plans.{log_record_size, estimate_of, charge_of}
 use Rattle.base.specs.steps.Locks.{Grant, is_blocked}
 use Rattle.base.specs.steps.Groups.{Admission, hold_count}
 use Rattle.base.specs.steps.Shown.{SyncPlan, dirty_total, available}
-use Rattle.base.specs.steps.Refusals.{lock_of, is_lock_in_use, is_plan_blocked, is_plan_covered, transaction_of, whole_commit_refusal, quiescing_group, quiesced_group}
+use Rattle.base.specs.steps.Refusals.{lock_of, is_lock_in_use, is_plan_blocked, is_plan_covered, transaction_of, commit_refusal, quiescing_group, quiesced_group}
 use Rattle.base.specs.steps.Steps as steps
 use Rattle.base.specs.steps.Steps.{State, IsPlanned, TakesForLog}
 use Rattle.base.specs.steps.Stage.{is_plan_built}
@@ -66,14 +66,12 @@ pub record MayAddAdmission (a : Admission) (s : State) : Type 0 where
   pub within : dirty_total s.shown + charge_of a.plan ≤ s.shown.dirty_max
   pub room : estimate_of a.plan ≤ available s.shown
 
--- an entry of an open transaction, with operations that no test refuses, while no older group is unsynced
+-- an entry of an open transaction, with operations that no test refuses
 pub record MayAddEntry (tx : ℕ) (a : Admission) (ops : List Op) (contents : Contents) (s : State) : Type 0 where
   pub found : transaction_of tx s.shown ≡ Some a
-  pub passed : whole_commit_refusal tx ops s.shown ≡ None
+  pub passed : commit_refusal tx ops s.shown ≡ None
   pub applied : apply_all ops s.shown.contents ≡ Ok contents
   pub allowed : list_all is_content_allowed ops ≡ true
-  pub no_middle : s.shown.line.middle ≡ None
-  pub no_sync : s.shown.line.syncing ≡ None
 
 -- What the tests of a step have made sure of before its effect, as the facts of the tables need it. A grant has the next name, and no held
 -- lock blocks it; a lock that is let go is the owner's, and in no use; a transaction that is given up is open; the open group is closed while

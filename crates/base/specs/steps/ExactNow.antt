@@ -1,5 +1,5 @@
 -- What each step keeps: what is shown of a pool is exact, and its entries are a history that leads to its contents.
-use Rattle.std.specs.Prelude.{ℕ, ◌≡◌, ◌≤◌, ◌+◌, ◌⊎◌, List, Some, Result}
+use Rattle.std.specs.Prelude.{ℕ, ◌≡◌, ◌≤◌, ◌+◌, ◌⊎◌, List, Option, Some, Result}
 use Rattle.base.specs.declared.error.PoolError.{PoolError}
 use Rattle.base.specs.declared.step.Step as declared_step
 use Rattle.base.specs.declared.step.Reply as declared_reply
@@ -9,23 +9,29 @@ use Rattle.base.specs.history.History.{IsHistory}
 use Rattle.base.specs.formats.Uberblocks.{Uberblock}
 use Rattle.base.specs.history.Past.{Past, new_past}
 use Rattle.base.specs.steps.Shown.{Shown, SyncPlan}
-use Rattle.base.specs.steps.Steps.{State, AreLengthsUpTo, LogWrite, LogFlush}
+use Rattle.base.specs.steps.Steps.{State, AreLengthsOf, IsReplayUpTo, LogWrite, LogFlush}
 use Rattle.base.specs.steps.Runs.{Step, Run}
-use Rattle.base.specs.steps.Stage.{IsStaged}
+use Rattle.base.specs.steps.Stage.{AreBuilt}
 use Rattle.base.specs.steps.Exact.{IsExact, IsBounded}
 use Rattle.base.specs.crash.Imports.{IsImported}
 
--- the lengths of the synced tree are those of the synced contents, and those that a running sync writes are those after its group
-pub record AreLengthsExact (s : Shown) (past : Past) : Type 0 where
-  pub synced : AreLengthsUpTo s.line.synced past s.lengths
-  pub planned : (group : ℕ) (plan : SyncPlan) → s.line.syncing ≡ Some group → s.sync ≡ Some plan → AreLengthsUpTo group past plan.lengths
+-- contents are what the entries up to a group leave, within the limits, and these are the lengths of their objects
+pub record IsTreeOf (group : ℕ) (past : Past) (c : Contents) (by_object : ℕ → Option ℕ) : Type 0 where
+  pub replayed : IsReplayUpTo group past c
+  pub bounded : IsBounded c
+  pub lengths : AreLengthsOf c by_object
+
+-- the contents of the synced tree are those of the synced group, and those that a running sync writes are those of its group
+pub record AreTreesExact (s : Shown) (past : Past) : Type 0 where
+  pub synced : IsTreeOf s.line.synced past s.synced_contents s.lengths
+  pub planned : (group : ℕ) (plan : SyncPlan) → s.line.syncing ≡ Some group → s.sync ≡ Some plan → IsTreeOf group past plan.contents plan.lengths
 
 -- what is shown is exactly what the past of the run says, and the entries are a history that leads to the contents
 pub record IsExplainedNow (s : Shown) (past : Past) : Type 0 where
   pub exact : IsExact s past
   pub history : IsHistory past.entries past.base s.contents
-  pub staged : IsStaged s past
-  pub lengths : AreLengthsExact s past
+  pub built : AreBuilt past.admissions
+  pub trees : AreTreesExact s past
 
 -- steps one after another, each over some bytes of a device
 abbrev pub IsRun : Type 0 → List declared_step.Step → List declared_reply.Reply → State → State → Type 0

@@ -159,8 +159,8 @@ commit_tests tx ops s =
     ∷ refused_if (list_any gives_bad_name ops) BadRange
     ∷ ops_tests (apply_all ops s.contents) ++ refused_if (nat_lt last_number s.next_ordinal) TooMany ∷ []
 
-abbrev pub whole_commit_refusal : ℕ → List Op → Shown → Option PoolError
-whole_commit_refusal tx ops s = first_refusal (commit_tests tx ops s)
+abbrev pub commit_refusal : ℕ → List Op → Shown → Option PoolError
+commit_refusal tx ops s = first_refusal (commit_tests tx ops s)
 
 abbrev pub abort_tests : ℕ → Shown → List Test
 abort_tests tx s =
@@ -200,8 +200,8 @@ close_tests s =
     refused_if s.suspended Suspended
     ∷ refused_if (is_some s.line.middle || nat_le last_number s.line.open_group) NotReady ∷ []
 
-abbrev pub whole_close_refusal : Shown → Option PoolError
-whole_close_refusal s = first_refusal (close_tests s)
+abbrev pub close_refusal : Shown → Option PoolError
+close_refusal s = first_refusal (close_tests s)
 
 -- the quiescing group, and the quiesced one that waits
 abbrev pub quiescing_group : Line → Option ℕ

@@ -43,7 +43,7 @@ Step keeps now (step.Begin owner plan) given old new =
     Replies (λ (a : ℕ × ℕ). reply.Began (record { 0 = a.0 }) (record { 0 = a.1 })) given
     (λ answer. stage.Begin owner.0 plan answer old new)
 Step keeps now (step.Commit tx ops) given old new =
-    Replies receipt_reply given (λ answer. stage.Commit tx.0 ops answer old new)
+    Replies receipt_reply given (λ answer. steps.Commit tx.0 ops answer old new)
 Step keeps now (step.Abort tx) given old new =
     Replies (λ _. reply.Done) given (λ answer. steps.Abort tx.0 answer old new)
 Step keeps now (step.Read owner n range) given old new =
@@ -59,7 +59,7 @@ Step keeps now step.Status given old new =
     Replies (λ status. reply.Status status) given (λ answer. steps.Answers None answer old new (λ status. steps.Status status old new) steps.Never)
 Step keeps now step.CloseGroup given old new =
     Replies (λ group. reply.Opened (record { 0 = group })) given
-    (λ answer. stage.CloseGroup answer old new)
+    (λ answer. steps.CloseGroup answer old new)
 Step keeps now step.MarkQuiesced given old new =
     Replies (λ group. reply.Quiesced (record { 0 = group })) given
     (λ answer. steps.MarkQuiesced answer old new)
@@ -75,14 +75,14 @@ tests_of_step (step.Lock owner n range mode) s = refusal.lock_tests owner.0 (obj
 tests_of_step (step.LockAppend owner n) s = refusal.append_tests owner.0 n.0 s
 tests_of_step (step.Unlock owner id) s = refusal.unlock_tests owner.0 id.0 s
 tests_of_step (step.Begin owner plan) s = stage.begin_tests owner.0 plan s
-tests_of_step (step.Commit tx ops) s = stage.waits_for_older s (refusal.commit_tests tx.0 ops s)
+tests_of_step (step.Commit tx ops) s = refusal.commit_tests tx.0 ops s
 tests_of_step (step.Abort tx) s = refusal.abort_tests tx.0 s
 tests_of_step (step.Read owner n range) s = refusal.read_tests owner.0 (object_range n.0 range.low range.high) s
 tests_of_step (step.Length n) s = refusal.length_tests n.0 s
 tests_of_step step.Digest s = refusal.digest_tests s
 tests_of_step step.Name s = []
 tests_of_step step.Status s = []
-tests_of_step step.CloseGroup s = stage.waits_for_older s (refusal.close_tests s)
+tests_of_step step.CloseGroup s = refusal.close_tests s
 tests_of_step step.MarkQuiesced s = refusal.quiesce_tests s
 tests_of_step (step.StartSync moment) s = refusal.start_tests s
 tests_of_step step.SyncStep s = refusal.sync_step_tests s

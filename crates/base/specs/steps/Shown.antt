@@ -27,7 +27,8 @@ pub record SyncPlan : Type 0 where
   pub moment : ℕ
   pub root : Pointer
   pub header : Header
-  -- the length of each object of the tree that it writes
+  -- the contents that it writes, and the length of each object of its tree
+  pub contents : Contents
   pub lengths : ℕ → Option ℕ
 
 pub record Shown : Type 0 where
@@ -54,8 +55,9 @@ pub record Shown : Type 0 where
   -- the addresses of free blocks
   pub free : FinSet nat_cmp
   pub log : Log
-  -- the root pointer of the synced tree, and the length of each of its objects
+  -- the root pointer of the synced tree, the contents that it stands for, and the length of each of its objects
   pub root : Pointer
+  pub synced_contents : Contents
   pub lengths : ℕ → Option ℕ
   pub sync : Option SyncPlan
 

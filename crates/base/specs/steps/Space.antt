@@ -15,7 +15,7 @@ use Rattle.base.specs.steps.Groups.{Line, Admission, AreMembers}
 use Rattle.base.specs.steps.Charges.{transactions_of, estimate_sum}
 use Rattle.base.specs.steps.Shown.{Shown, free_count}
 use Rattle.base.specs.steps.Refusals.{quiesced_group}
-use Rattle.base.specs.steps.Steps.{State, SyncProgress, Lock, LockAppend, Unlock, WholeBegin, WholeCommit, Abort, WholeRead, Length, Digest, WholeCloseGroup, MarkQuiesced, WholeStartSync, SyncStep, LogWrite, LogFlush, ops_of_group}
+use Rattle.base.specs.steps.Steps.{State, SyncProgress, Lock, LockAppend, Unlock, WholeBegin, Commit, Abort, WholeRead, Length, Digest, CloseGroup, MarkQuiesced, WholeStartSync, SyncStep, LogWrite, LogFlush, ops_of_group}
 use Rattle.base.specs.crash.Imports.{IsImported}
 use Rattle.base.specs.steps.Exact.{AreGroupsExact, AreChargesExact, IsSyncExact, HasReservedBlocks}
 
@@ -43,7 +43,7 @@ SyncsHaveRoom = (s : State) (group : ℕ) (synced : Contents) (had_block : Place
 pub data IsChargedStep (old new : State) : Type 0 where
   Begins : (owner : ℕ) → (plan : List Shape) → (answer : Result (ℕ × ℕ) PoolError) → WholeBegin owner plan answer old new → IsChargedStep old new
   Aborts : (tx : ℕ) → (answer : Result (Unit {0}) PoolError) → Abort tx answer old new → IsChargedStep old new
-  Closes : (answer : Result ℕ PoolError) → WholeCloseGroup answer old new → IsChargedStep old new
+  Closes : (answer : Result ℕ PoolError) → CloseGroup answer old new → IsChargedStep old new
   Starts : (now : List ℕ) → (moment : ℕ) → (answer : Result ℕ PoolError) → WholeStartSync ⊥ now moment answer old new → IsChargedStep old new
   Syncs : (answer : Result SyncProgress PoolError) → SyncStep answer old new → IsChargedStep old new
   WritesLog : (answer : Result ℕ PoolError) → LogWrite answer old new → IsChargedStep old new
@@ -53,7 +53,7 @@ pub data IsUnchargedStep (old new : State) : Type 0 where
   Locks : (owner : ℕ) → (range : NumberRange) → (mode : Mode) → (answer : Result ℕ PoolError) → Lock owner range mode answer old new → IsUnchargedStep old new
   LocksAppend : (owner n : ℕ) → (answer : Result (ℕ × ℕ × ℕ) PoolError) → LockAppend owner n answer old new → IsUnchargedStep old new
   Unlocks : (owner id : ℕ) → (answer : Result (Unit {0}) PoolError) → Unlock owner id answer old new → IsUnchargedStep old new
-  Commits : (tx : ℕ) → (ops : List Op) → (answer : Result (ℕ × ℕ) PoolError) → WholeCommit tx ops answer old new → IsUnchargedStep old new
+  Commits : (tx : ℕ) → (ops : List Op) → (answer : Result (ℕ × ℕ) PoolError) → Commit tx ops answer old new → IsUnchargedStep old new
   Reads : (owner : ℕ) → (range : NumberRange) → (answer : Result (List ℕ) PoolError) → WholeRead ⊥ owner range answer old new → IsUnchargedStep old new
   Lengths : (n : ℕ) → (answer : Result ℕ PoolError) → Length n answer old new → IsUnchargedStep old new
   Digests : (answer : Result (List ℕ) PoolError) → Digest ⊥ answer old new → IsUnchargedStep old new

@@ -123,8 +123,8 @@ state_after_commit tx group ops contents s = record {
 }
 
 -- a transaction takes place whole, as the next entry of the history, in its own group, and is pending for the log
-abbrev pub WholeCommit : ℕ → List Op → Result (ℕ × ℕ) PoolError → State → State → Type 0
-WholeCommit tx ops answer old new = Answers (refusal.whole_commit_refusal tx ops old.shown) answer old new
+abbrev pub Commit : ℕ → List Op → Result (ℕ × ℕ) PoolError → State → State → Type 0
+Commit tx ops answer old new = Answers (refusal.commit_refusal tx ops old.shown) answer old new
     (λ receipt. (a : Admission) × (contents : Contents)
     × (refusal.transaction_of tx old.shown ≡ Some a) × (apply_all ops old.shown.contents ≡ Ok contents)
     × (list_all is_content_allowed ops ≡ true) × (receipt ≡ (old.shown.next_ordinal, a.group)) × (new ≡ state_after_commit tx a.group ops contents old)) (WantsMemory old new)
@@ -168,8 +168,8 @@ with_line line s = record s { shown = record s.shown { line = line } }
 abbrev pub line_after_close : Line → Line
 line_after_close l = record l { middle = Some (record { group = l.open_group; quiesced = false }); open_group = l.open_group + 1 }
 
-abbrev pub WholeCloseGroup : Result ℕ PoolError → State → State → Type 0
-WholeCloseGroup answer old new = Answers (refusal.whole_close_refusal old.shown) answer old new
+abbrev pub CloseGroup : Result ℕ PoolError → State → State → Type 0
+CloseGroup answer old new = Answers (refusal.close_refusal old.shown) answer old new
     (λ group. (group ≡ old.shown.line.open_group + 1) × (new ≡ with_line (line_after_close old.shown.line) old)) Never
 
 -- the middle group has no hold left, and waits for its sync
@@ -188,20 +188,24 @@ ops_of_group group entries = flat_map (λ (e : Entry). e.ops) (entries_in group 
 abbrev pub lowest_free : ℕ → Shown → List ℕ
 lowest_free count s = take count (rising s.free)
 
--- lengths are those of the objects once the entries up to a group have taken place
-abbrev pub AreLengthsUpTo : ℕ → Past → (ℕ → Option ℕ) → Type 0
-AreLengthsUpTo group past lengths = (c : Contents) → replay (entries_up_to group past.entries) past.base ≡ Ok c
-    → (n : ℕ) → n < object_count → lengths n ≡ length_of c n
+-- contents are what the entries up to a group leave
+abbrev pub IsReplayUpTo : ℕ → Past → Contents → Type 0
+IsReplayUpTo group past c = replay (entries_up_to group past.entries) past.base ≡ Ok c
+
+-- lengths are those of the objects of these contents
+abbrev pub AreLengthsOf : Contents → (ℕ → Option ℕ) → Type 0
+AreLengthsOf c lengths = (n : ℕ) → n < object_count → lengths n ≡ length_of c n
 
 -- A sync of a group takes the lowest free addresses, no more than its operations are estimated at, has a step for each and its other
--- steps, names the log header for its group, and writes the lengths after its group.
+-- steps, names the log header for its group, and writes what the entries up to its group leave.
 pub record IsPlanned (s : State) (moment group : ℕ) (plan : SyncPlan) : Type 0 where
   pub moment_is : plan.moment ≡ moment
   pub taken : plan.taken ≡ lowest_free (length plan.taken) s.shown
   pub fits : length plan.taken ≤ estimate_of (map shape_of (ops_of_group group s.past.entries))
   pub steps : plan.steps_left ≡ length plan.taken + syncs.other_step_count (ops_of_group group s.past.entries)
   pub header : plan.header ≡ header_for group s.shown.log
-  pub lengths : AreLengthsUpTo group s.past plan.lengths
+  pub contents : IsReplayUpTo group s.past plan.contents
+  pub lengths : AreLengthsOf plan.contents plan.lengths
 
 -- it takes an address for each place that it writes, by what the device holds
 pub record TakesForEach (now : List ℕ) (s : State) (group : ℕ) (plan : SyncPlan) : Type 0 where
@@ -245,6 +249,7 @@ state_after_sync group plan s = record {
     free = set.union s.shown.free (set.from_list (returned_addresses plan s.shown.log));
     log = log_after_sync group plan.header s.shown.log;
     root = plan.root;
+    synced_contents = plan.contents;
     lengths = plan.lengths;
     sync = None;
   };

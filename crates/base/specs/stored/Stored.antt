@@ -1,7 +1,6 @@
 -- What a pool keeps of its device: the synced tree with its pointers, the free blocks, of a running sync the tree, the blocks and the
 -- uberblock that it writes, and what the labels show.
-use Rattle.std.specs.Prelude.{ℕ, ◌≡◌, ◌≢◌, ◌≤◌, ◌<◌, Bool, true, false, List, [], map, length, slice_get, All, Option, Some, None, IfSome, Ok}
-use Rattle.std.specs.List.{list_all}
+use Rattle.std.specs.Prelude.{ℕ, ◌≡◌, ◌≢◌, ◌≤◌, ◌<◌, Bool, true, false, List, [], map, length, slice_get, Option, Some, None, Ok}
 use Rattle.std.specs.Ordering.{nat_cmp}
 use Rattle.std.specs.FinMap.{FinMap}
 use Rattle.base.specs.declared.pointer.Pointer.{Pointer}
@@ -10,8 +9,7 @@ use Rattle.base.specs.declared.step.Reply.TheVariants as reply
 use Rattle.base.specs.history.Contents.{Contents}
 use Rattle.base.specs.formats.Fields.{part, number_at, no_pointer}
 use Rattle.base.specs.formats.Geometry.{block_size, block_count, IsGeometry, IsBlockAddress}
-use Rattle.base.specs.history.History.{Entry, replay, entries_up_to}
-use Rattle.base.specs.steps.Groups.{Middle, Admission}
+use Rattle.base.specs.history.History.{replay, entries_up_to}
 use Rattle.base.specs.formats.Versions.{written_version}
 use Rattle.base.specs.formats.Blocks.{Frame}
 use Rattle.base.specs.tree.Places.{Place, IsPlace, IsInTree}
@@ -23,7 +21,6 @@ use Rattle.base.specs.formats.Uberblocks.{IsUberblock}
 use Rattle.base.specs.steps.Shown.{Shown, SyncPlan, uberblock_of}
 pub use Rattle.base.specs.crash.SyncCalls.{NewTree, Advances, total_calls}
 use Rattle.base.specs.stored.ShownLabels.{AreLabelsShown}
-use Rattle.base.specs.steps.Stage.{is_shape_built}
 use Rattle.base.specs.steps.Exact.{AreFree}
 use Rattle.base.specs.steps.ExactNow.{IsExplainedNow}
 use Rattle.base.specs.steps.Steps.{State}
@@ -72,7 +69,7 @@ pub record IsPlannedSync (frame : Frame) (old new : Place → Pointer) (bs : Lis
   pub used : AreUsed bs new
   pub root : new Root ≡ plan.root
 
--- The sync of the syncing group runs: it makes the tree of the contents, none of its blocks is one of the old tree or of the log, none
+-- The sync of the syncing group runs: it makes the tree of its plan's contents, none of its blocks is one of the old tree or of the log, none
 -- is a log block, and those are written whose calls were made. Its uberblock is the one of its plan.
 pub record IsSyncing (now : List ℕ) (s : Shown) (old : Place → Pointer) (new : NewTree) (past : Past) : Type 0 where
   pub group : ℕ
@@ -81,7 +78,7 @@ pub record IsSyncing (now : List ℕ) (s : Shown) (old : Place → Pointer) (new
   pub running : s.sync ≡ Some plan
   pub synced : Contents
   pub replayed : replay (entries_up_to s.line.synced past.entries) past.base ≡ Ok synced
-  pub planned : IsPlannedSync (frame_at s group) old new.pointers new.blocks synced.objects s.contents.objects plan
+  pub planned : IsPlannedSync (frame_at s group) old new.pointers new.blocks synced.objects plan.contents.objects plan
   pub are : AreBlocks s.blocks new.blocks
   pub leaves : LeavesTree new.blocks old
   pub log_apart : IsUnwritten new.blocks s.log.next.address
@@ -137,7 +134,7 @@ pub record Starts (group : ℕ) (old new : Held) : Type 0 where
   pub running : new.running ≡ Some (record { pointers = tree; blocks = bs; slot = slot; done = 0 })
   pub plan_is : new.state.shown.sync ≡ Some plan
   pub slot_is : IsUberblock slot (uberblock_of old.state.shown group plan)
-  pub planned : (x : IsHeld old) → IsPlannedSync (frame_at old.state.shown group) old.pointers tree bs x.kept.stored.synced.objects old.state.shown.contents.objects plan
+  pub planned : (x : IsHeld old) → IsPlannedSync (frame_at old.state.shown group) old.pointers tree bs x.kept.stored.synced.objects plan.contents.objects plan
 
 -- the next device call of a running sync was made
 pub record IsCallMade (old new : Held) (after : NewTree) : Type 0 where
