@@ -1,15 +1,18 @@
 -- Keys are in the order of their offsets, so what a range of the table has, and lacks, is told by offsets.
-use Rattle.std.proofs.Common.{◌≡◌, ℕ, ◌<◌, ◌≤◌, true, false, List, [], ◌∷◌, ◌++◌, refl, ap, sym, subst, ◌∙◌, arith, inl, inr}
+use Rattle.std.proofs.Common.{◌≡◌, ℕ, suc, ◌<◌, ◌≤◌, true, false, List, [], ◌∷◌, ◌++◌, length, refl, ap, sym, subst, ◌∙◌, arith, inl, inr}
 use Rattle.std.specs.Prelude.{Option, Some, None, IsSome, slice_get, IfSome}
-use Rattle.std.specs.BTreeMap.{BTreeMap, get}
+use Rattle.std.specs.BTreeMap.{BTreeMap, get, is_at}
+use Rattle.std.specs.Map.{lookup}
 use Rattle.std.specs.BTreeMap.Range.{IsInRange, IsLeBy, IsRangeOf}
 use Rattle.std.specs.Cmp.{nat_cmp_is}
-use Rattle.std.specs.Ordering.{nat_cmp, is_gt, is_lt}
+use Rattle.std.specs.Ordering.{nat_cmp, is_eq, is_gt, is_lt}
 use Rattle.std.specs.declared.cmp.Ordering.TheVariants.{Less, Equal, Greater}
 use Rattle.std.specs.declared.ops.Bound.TheVariants.{Included, Excluded}
 use Rattle.std.proofs.lemmas.Bool.{cases_lt, cases_order}
+use Rattle.std.proofs.lemmas.Map.Entries.{lookup_head}
 use Rattle.std.proofs.lemmas.Map.Keys.{le_from_not_gt}
 use Rattle.range_locks.specs.declared.parts.Part.{Part}
+use Rattle.range_locks.specs.Parts.{HasNoParts}
 
 less : (a b : ℕ) → a < b → nat_cmp a b ≡ Less
 less a b h = sym (nat_cmp_is a b Less h)
@@ -44,6 +47,24 @@ lt_from_less a b h = elim (cases_lt a b) as (λ _. a < b) [
 absent : {A : Type 0} (o : Option A) → (IsSome o → ⊥) → o ≡ None
 absent None h = refl
 absent (Some x) h = absurd (h refl)
+
+-- a table that has no parts has no entries
+pub no_entries : (table : BTreeMap ℕ Part) → HasNoParts table → length table.entries ≡ 0
+no_entries table none = by table.entries refl
+  where
+    by : (es : List (ℕ × Part)) → table.entries ≡ es → length table.entries ≡ 0
+    by [] is = ap length is
+    by (e ∷ es) is = absurd (
+        let there : get nat_cmp table e.0 ≡ Some e.1 = subst (λ l. lookup (is_at (nat_cmp e.0)) l ≡ Some e.1) (sym is) (lookup_head (is_at (nat_cmp e.0)) e es (ap is_eq (equal e.0))) in
+        let no_way : Some e.1 ≡ None = sym there ∙ none e.0 in cc)
+
+-- and one that has no entries has no parts
+pub no_parts : (table : BTreeMap ℕ Part) → length table.entries ≡ 0 → HasNoParts table
+no_parts table none = by table.entries refl
+  where
+    by : (es : List (ℕ × Part)) → table.entries ≡ es → HasNoParts table
+    by [] is = λ k. ap (lookup (is_at (nat_cmp k))) is
+    by (e ∷ es) is = absurd (let count : length table.entries ≡ suc (length es) = ap length is in omega (arith, none))
 
 module _ (table : BTreeMap ℕ Part) (low high : ℕ) (r : List (ℕ × Part)) where
   -- before the first key of a range there is none

@@ -8,6 +8,7 @@ pub mod Recounts
 pub mod LockCounts
 pub mod Blocked
 pub mod NumberParts
+pub mod KeptParts
 pub mod Writers
 pub mod CountedLocks
 pub mod Ends

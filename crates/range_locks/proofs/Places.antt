@@ -1,5 +1,5 @@
 -- The places of held locks show those that are held: an emptied place is one lock less, and a sweep takes none away.
-use Rattle.std.proofs.Common.{◌≡◌, ℕ, zero, suc, ◌+◌, ◌-◌, ◌<◌, Bool, true, false, cond, List, [], ◌∷◌, ◌++◌, length, filter, refl, ap, sym, subst, ◌∙◌, arith, inl, inr, MutBor}
+use Rattle.std.proofs.Common.{◌≡◌, ℕ, zero, suc, ◌+◌, ◌-◌, ◌*◌, ◌<◌, Bool, true, false, cond, List, [], ◌∷◌, ◌++◌, length, filter, refl, ap, sym, subst, ◌∙◌, arith, inl, inr, MutBor}
 use Rattle.std.specs.Prelude.{Option, Some, None, IsSome, is_some, slice_get, nat_eq}
 use Rattle.std.specs.Option.{option_copied_mut}
 use Rattle.std.specs.Map.{lookup, remove_entry, set_value}
@@ -7,6 +7,7 @@ use Rattle.std.proofs.lemmas.Bool.{cases_eq, eq-eqb, ne_eqb}
 use Rattle.std.proofs.lemmas.List.{length_push}
 use Rattle.std.proofs.lemmas.Option.{slice_get_within}
 use Rattle.base.specs.declared.names.LockId.{LockId}
+use Rattle.base.specs.formats.Limits.{max_locks}
 use Rattle.base.proofs.common.KeptLists.{at_filter, none_at, pair_filter, push-cases, Some-injective}
 use Rattle.range_locks.specs.declared.held.HeldLock.{HeldLock}
 use Rattle.range_locks.specs.Table.{ArePlaces, held_in, with_place}
@@ -108,7 +109,7 @@ length-removed id (x ∷ xs) there = by (is_key id x.0) there (λ rest. length-r
     by false is rest = let shorter : length (remove_entry (is_key id) xs) + 1 ≡ length xs = rest is in omega arith
 
 -- a sweep takes none away
-pub held_in-swept : (es : List Place) → held_in (filter (λ (e : Place). is_some e.1) es) ≡ held_in es
+held_in-swept : (es : List Place) → held_in (filter (λ (e : Place). is_some e.1) es) ≡ held_in es
 held_in-swept [] = refl
 held_in-swept (e ∷ es) = by e.0 e.1 (held_in-swept es)
   where
@@ -151,30 +152,60 @@ same_places id (e ∷ es) i f at = by (is_key id e.0) i (λ j at_j. same_places 
     by false zero rest at_k = (e, refl, ap (λ (x : Place). x.0) (Some-injective at_k))
     by false (suc k) rest at_k = rest k at_k
 
+abbrev PlacesNamed : List Place → ℕ → Type 0
+PlacesNamed es next = (i : ℕ) (e : Place) → slice_get es i ≡ Some e → e.0.0 < next
+
+-- after a sweep there are as many places as locks
+length-swept : (es : List Place) → length (filter (λ (e : Place). is_some e.1) es) ≡ length (held_in es)
+length-swept [] = refl
+length-swept (e ∷ es) = by e.0 e.1 (length-swept es)
+  where
+    by : (id : LockId) (o : Option HeldLock) → length (filter (λ (x : Place). is_some x.1) es) ≡ length (held_in es) → length (cond (is_some o) ((id, o) ∷ filter (λ (x : Place). is_some x.1) es) (filter (λ (x : Place). is_some x.1) es)) ≡ length (with_place id o (held_in es))
+    by id None rest = rest
+    by id (Some lock) rest = omega (arith, rest)
+
+-- however many of the places were empty
+swept_are : (es : List Place) (count next : ℕ) → PlacesRise es → PlacesNamed es next → count ≡ length (held_in es) → ArePlaces (filter (λ (e : Place). is_some e.1) es) count next
+swept_are es count next rise named counted = record {
+  rising = λ i j e f below at_i at_j. let pair = pair_filter (λ (x : Place). is_some x.1) es i j e f below at_i at_j in rise pair.0 pair.1 e f pair.2 pair.3 pair.4;
+  named = λ i e at. let old = at_filter (λ (x : Place). is_some x.1) es i e at in named old.0 e old.1;
+  counted = counted ∙ ap (λ (l : List (LockId × HeldLock)). length l) (sym (held_in-swept es));
+  swept = omega (arith, counted, length-swept es);
+}
+
 module _ (es : List Place) (count next : ℕ) (are : ArePlaces es count next) where
-  pub emptied_are : (id : ℕ) → IsSome (lookup (is_key id) (held_in es)) → ArePlaces (set_value (is_key id) es None) (count - 1) next
-  emptied_are id there = record {
-    rising = λ i j e f below at_i at_j.
+  module _ (id : ℕ) (there : IsSome (lookup (is_key id) (held_in es))) where
+    abbrev emptied : List Place
+    emptied = set_value (is_key id) es None
+
+    emptied_rise : PlacesRise emptied
+    emptied_rise i j e f below at_i at_j =
         let old_i = same_places id es i e at_i in
         let old_j = same_places id es j f at_j in
         let rise : old_i.0.0.0 < old_j.0.0.0 = are.rising i j old_i.0 old_j.0 below old_i.1 old_j.1 in
-        omega (arith, ap (λ (k : LockId). k.0) old_i.2, ap (λ (k : LockId). k.0) old_j.2);
-    named = λ i e at.
+        omega (arith, ap (λ (k : LockId). k.0) old_i.2, ap (λ (k : LockId). k.0) old_j.2)
+
+    emptied_named : PlacesNamed emptied next
+    emptied_named i e at =
         let old = same_places id es i e at in
         let low : old.0.0.0 < next = are.named i old.0 old.1 in
-        omega (arith, ap (λ (k : LockId). k.0) old.2);
-    counted =
+        omega (arith, ap (λ (k : LockId). k.0) old.2)
+
+    emptied_counted : count - 1 ≡ length (held_in emptied)
+    emptied_counted =
         let shorter = length-removed id (held_in es) there in
         let left = ap (λ (l : List (LockId × HeldLock)). length l) (held_in-emptied id es are.rising) in
-        omega (arith, are.counted);
-  }
+        omega (arith, are.counted)
 
-  pub swept_are : ArePlaces (filter (λ (e : Place). is_some e.1) es) count next
-  swept_are = record {
-    rising = λ i j e f below at_i at_j. let pair = pair_filter (λ (x : Place). is_some x.1) es i j e f below at_i at_j in are.rising pair.0 pair.1 e f pair.2 pair.3 pair.4;
-    named = λ i e at. let old = at_filter (λ (x : Place). is_some x.1) es i e at in are.named old.0 e old.1;
-    counted = are.counted ∙ ap (λ (l : List (LockId × HeldLock)). length l) (sym (held_in-swept es));
-  }
+    pub emptied_are : length (set_value (is_key id) es None) < 2 * max_locks → ArePlaces (set_value (is_key id) es None) (count - 1) next
+    emptied_are few = record { rising = emptied_rise; named = emptied_named; counted = emptied_counted; swept = omega (arith, few) }
+
+    pub emptied_swept_are : ArePlaces (filter (λ (e : Place). is_some e.1) (set_value (is_key id) es None)) (count - 1) next
+    emptied_swept_are = swept_are emptied (count - 1) next emptied_rise emptied_named emptied_counted
+
+    -- a sweep after it takes none away
+    pub held_in-emptied_swept : held_in (filter (λ (e : Place). is_some e.1) (set_value (is_key id) es None)) ≡ remove_entry (is_key id) (held_in es)
+    held_in-emptied_swept = held_in-swept emptied ∙ held_in-emptied id es are.rising
 
   pub pushed_are : (lock : HeldLock) → ArePlaces (es ++ (record { 0 = next }, Some lock) ∷ []) (count + 1) (next + 1)
   pushed_are lock = record {
@@ -195,6 +226,7 @@ module _ (es : List Place) (count next : ℕ) (are : ArePlaces es count next) wh
     counted =
         let longer = ap (λ (l : List (LockId × HeldLock)). length l) (held_in-push es (record { 0 = next }) lock) ∙ length_push (held_in es) (record { 0 = next }, lock) in
         omega (arith, are.counted, longer);
+    swept = let longer = length_push es last in omega (arith, are.swept, longer);
   }
     where
       last : Place

@@ -64,6 +64,10 @@ IsTable table f = (k : ℕ) → get nat_cmp table k ≡ stored (f k)
 abbrev pub HasNone : BTreeMap ℕ Part → ℕ → ℕ → Type 0
 HasNone table low high = (k : ℕ) → low ≤ k → k < high → get nat_cmp table k ≡ None
 
+-- the table has no parts at all
+abbrev pub HasNoParts : BTreeMap ℕ Part → Type 0
+HasNoParts table = (k : ℕ) → get nat_cmp table k ≡ None
+
 -- a table of counts becomes one of other counts
 abbrev pub Becomes : BTreeMap ℕ Part → (Counts → Counts) → BTreeMap ℕ Part → Type 0
 Becomes old change new = (f : Counts) → IsTable old f → IsTable new (change f)

@@ -1,6 +1,7 @@
 -- The places of held locks: one for each grant, empty where its lock was let go.
-use Rattle.std.specs.Prelude.{ℕ, ◌≡◌, ◌<◌, List, [], ◌∷◌, length, slice_get, Option, Some, None}
+use Rattle.std.specs.Prelude.{ℕ, ◌≡◌, ◌+◌, ◌*◌, ◌<◌, List, [], ◌∷◌, length, slice_get, Option, Some, None}
 use Rattle.base.specs.declared.names.LockId.{LockId}
+use Rattle.base.specs.formats.Limits.{max_locks}
 use Rattle.range_locks.specs.declared.held.HeldLock.{HeldLock}
 
 -- the held locks with their names, the name of the next one, and how many more fit with no memory
@@ -19,8 +20,9 @@ abbrev pub held_in : List (LockId × Option HeldLock) → List (LockId × HeldLo
 held_in [] = []
 held_in (e ∷ es) = with_place e.0 e.1 (held_in es)
 
--- names rise along places, up to the next one, and so many are taken
+-- names rise along places, up to the next one; so many are taken, and fewer than twice the locks that may be held are empty
 pub record ArePlaces (places : List (LockId × Option HeldLock)) (count next : ℕ) : Type 0 where
   pub rising : (i j : ℕ) (e f : LockId × Option HeldLock) → i < j → slice_get places i ≡ Some e → slice_get places j ≡ Some f → e.0.0 < f.0.0
   pub named : (i : ℕ) (e : LockId × Option HeldLock) → slice_get places i ≡ Some e → e.0.0 < next
   pub counted : count ≡ length (held_in places)
+  pub swept : length places < count + 2 * max_locks

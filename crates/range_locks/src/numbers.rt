@@ -1,9 +1,10 @@
 //! The parts of each number that held locks are of, so that a lock costs the same whatever other numbers have locks.
 
-ghost use Rattle.std.specs.Prelude.{ℕ, ◌≡◌, ◌≢◌, ◌≤◌, ◌<◌, true, false, None, IfSome, IfOk, OnOk, OnErr, IfErr};
+ghost use Rattle.std.specs.Prelude.{ℕ, ◌≡◌, ◌≢◌, ◌≤◌, ◌<◌, true, false, None, Some, IfSome, IfOk, OnOk, OnErr, IfErr};
+ghost use Rattle.range_locks.specs.declared.parts.Parts.{Parts};
 ghost use Rattle.range_locks.specs.Locks.{Held};
 ghost use Rattle.range_locks.specs.Pieces.{pieces_of};
-ghost use Rattle.range_locks.specs.Parts.{AreAllCounted, BecomesOf, CanRecount, change_of_grant, change_of_release, HasCounts, HoldsOf, IsBlockedIn, IsFreeIn, IsTableOf, most_counted, parts_of, with_lock, without_lock};
+ghost use Rattle.range_locks.specs.Parts.{AreAllCounted, BecomesOf, CanRecount, change_of_grant, change_of_release, HasCounts, HasNoParts, HoldsOf, IsBlockedIn, IsFreeIn, IsTableOf, most_counted, parts_of, with_lock, without_lock};
 
 use crate::held::HeldPiece;
 use crate::parts::{NOTHING, Part, Parts};
@@ -15,6 +16,7 @@ use std::alloc::Global;
 #[derive(Drop)]
 pub(crate) struct Numbers {
     parts: IndexMap<u32, Parts>,
+    ghost none_empty: { (n : ℕ) (p : Parts) → parts_of parts n ≡ Some p → HasNoParts p.table → ⊥ },
 }
 
 impl Numbers {
@@ -61,7 +63,7 @@ impl Numbers {
         Ok(())
     }
 
-    /// One lock fewer covers a range. It takes no memory.
+    /// One lock fewer covers a range. A number without parts is let go. It takes no memory.
     pub fn remove(&mut self, range: &ObjectRange, mode: Mode)
         requires ordered { range.now.range.low ≤ range.now.range.high }
         requires counted { IfSome (parts_of self.old.parts range.now.object.0)

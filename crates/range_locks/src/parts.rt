@@ -4,12 +4,12 @@
 //! lock covers. So a lock or an unlock touches its own two ends and the ends between them, and two pieces are joined where
 //! the last lock that begins or ends between them is let go.
 
-ghost use Rattle.std.specs.Prelude.{ℕ, ◌≡◌, ◌+◌, ◌<◌, ◌≤◌, true, false, None, Some, IfSome, IfNone, IfOk, OnOk, OnErr, IfErr, IsTrue};
+ghost use Rattle.std.specs.Prelude.{ℕ, ◌≡◌, ◌+◌, ◌<◌, ◌≤◌, ◌↔◌, true, false, None, Some, IfSome, IfNone, IfOk, OnOk, OnErr, IfErr, IsTrue};
 ghost use Rattle.std.specs.BTreeMap.{get};
 ghost use Rattle.std.specs.Ordering.{nat_cmp};
 ghost use Rattle.range_locks.specs.Locks.{Held};
 ghost use Rattle.range_locks.specs.Pieces.{pieces_of};
-ghost use Rattle.range_locks.specs.Parts.{AreCounted, Becomes, blocks_part, CanRecount, CanRecountPart, change_of_grant, change_of_release, HasCounts, HasNone, HoldsFor, IsBlockedIn, IsFreeIn, is_covered_part, IsTable, most_counted, recounted, recounted_part, with_end, with_lock, without_end, without_lock};
+ghost use Rattle.range_locks.specs.Parts.{AreCounted, Becomes, blocks_part, CanRecount, CanRecountPart, change_of_grant, change_of_release, HasCounts, HasNone, HasNoParts, HoldsFor, IsBlockedIn, IsFreeIn, is_covered_part, IsTable, most_counted, recounted, recounted_part, with_end, with_lock, without_end, without_lock};
 
 use crate::held::HeldPiece;
 use base::{LockId, MAX_LENGTH, Mode, PoolError, Range};
@@ -118,7 +118,7 @@ pub(crate) struct Parts {
 impl Parts {
     /// No parts. It takes no memory.
     pub fn new(alloc: Global) -> Self
-        ensures { (k : ℕ) → get nat_cmp result.table k ≡ None }
+        ensures { HasNoParts result.table }
     {
         Parts {
             table: BTreeMap::new(alloc),
@@ -127,7 +127,7 @@ impl Parts {
 
     /// Whether there are none.
     pub fn is_empty(&self) -> bool
-        ensures { IsTrue result → (k : ℕ) → get nat_cmp self.now.table k ≡ None }
+        ensures { IsTrue result ↔ HasNoParts self.now.table }
     {
         self.table.is_empty()
     }

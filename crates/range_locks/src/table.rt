@@ -112,20 +112,8 @@ impl HeldTable {
         *self.places.get_mut(&id).unwrap() = None;
         self.count -= 1;
         if self.places.len() >= 2 * MAX_LOCKS {
-            self.sweep();
+            sweep(&mut self.places);
         }
-    }
-
-    /// Takes the empty places out.
-    fn sweep(&mut self)
-        ensures entries { self.new.entries ≡ self.old.entries }
-        ensures next { self.new.next ≡ self.old.next }
-    {
-        self.places.retain(
-            |_id: &LockId, place: &mut Option<HeldLock>| -> bool
-                ensures { (result ≡ is_some place.old) × (place.new ≡ place.old) }
-            { place.is_some() },
-        );
     }
 
     /// The locks in order of grant, each with its name.
@@ -138,6 +126,17 @@ impl HeldTable {
             places: self.places.iter(),
         }
     }
+}
+
+/// Takes the empty places out. It takes no memory.
+fn sweep(places: &mut IndexMap<LockId, Option<HeldLock>>)
+    ensures { places.new.entries ≡ filter (λ e. is_some e.1) places.old.entries }
+{
+    places.retain(
+        |_id: &LockId, place: &mut Option<HeldLock>| -> bool
+            ensures { (result ≡ is_some place.old) × (place.new ≡ place.old) }
+        { place.is_some() },
+    );
 }
 
 /// The held locks in order of grant, each with its name.
