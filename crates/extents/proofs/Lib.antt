@@ -1,8 +1,14 @@
 pub mod PatchedBytes
 pub mod PatchedObjects
 pub mod LaidObjects
+pub mod LaidReads
+pub mod LaidWithin
+pub mod UnsyncedGroups
+pub mod GroupEntries
 pub mod MaskedBytes
 pub mod RecordWrites
 pub mod RecordCuts
 pub mod ReadRecords
 pub mod SamePatches
+pub mod LaidBytes
+pub mod LaidContents

@@ -1,10 +1,9 @@
--- A record of a patched object, from that of the object below.
-use Rattle.std.proofs.Common.{◌≡◌, ℕ, ◌+◌, ◌-◌, ◌*◌, ◌<◌, ◌≤◌, max, min, true, false, cond, refl, ap, sym, ◌∙◌, arith, ◌⊎◌, inl, inr, List, [], ◌++◌, length, get_or, take, drop, replicate, Option, Some, None, length-append, length-take, length-drop, get_or-take, get_or-drop}
+-- Bytes of a patched object, from those of the object below.
+use Rattle.std.proofs.Common.{◌≡◌, ℕ, ◌+◌, ◌-◌, ◌*◌, ◌<◌, ◌≤◌, max, min, true, false, cond, refl, ap, sym, ◌∙◌, arith, ◌⊎◌, inl, inr, List, [], length, get_or, take, Option, Some, None, length-take, get_or-take}
 use Rattle.std.specs.Prelude.{is_some, nat_lt, option_map, unwrap_or}
-use Rattle.std.proofs.lemmas.List.{ext_get_or, get_or_past, get_or_append_left, get_or-append_right, length-replicate}
+use Rattle.std.proofs.lemmas.List.{get_or_past}
 use Rattle.std.proofs.lemmas.Bool.{cases_lt, lt-ltb, le-ltb}
-use Rattle.base.proofs.common.KeptLists.{get_or-zeros}
-use Rattle.base.specs.tree.PlacedTrees.{padded_record}
+use Rattle.object_maps.specs.Sources.{AreBytesFrom}
 use Rattle.extents.specs.declared.basis.Basis.{Basis}
 use Rattle.extents.specs.declared.basis.Basis.TheVariants.{Grown, Cut, Made, Gone}
 use Rattle.extents.specs.Patches.{IsSized, is_shown, length_over, patched}
@@ -17,29 +16,6 @@ shown_count kept begin count k inside is = go (cases_lt (begin + k) kept)
     go : (begin + k < kept) ⊎ (kept ≤ begin + k) → nat_lt k count ≡ nat_lt (begin + k) kept
     go (inl l) = rw (lt-ltb k count (omega arith), lt-ltb (begin + k) kept l) refl
     go (inr g) = rw (le-ltb k count (omega arith), le-ltb (begin + k) kept g) refl
-
--- a byte of a record, and one that is not there
-pub length-record : (index : ℕ) (bytes : List ℕ) → length (padded_record index bytes) ≡ 4032
-length-record index bytes =
-    let short : length (take 4032 (drop (4032 * index) bytes)) ≤ 4032 = rw length-take (omega arith) in
-    simp (length-append, length-replicate) (omega arith)
-
-pub get_or-record : (index : ℕ) (bytes : List ℕ) (k : ℕ) → k < 4032 → get_or (padded_record index bytes) k 0 ≡ get_or bytes (4032 * index + k) 0
-get_or-record index bytes k inside = go (cases_lt k (length part))
-  where
-    part : List ℕ
-    part = take 4032 (drop (4032 * index) bytes)
-
-    long : length part ≡ min 4032 (length bytes - 4032 * index)
-    long = rw (length-take, length-drop) refl
-
-    go : (k < length part) ⊎ (length part ≤ k) → get_or (part ++ replicate (4032 - length part) 0) k 0 ≡ get_or bytes (4032 * index + k) 0
-    go (inl l) =
-        get_or_append_left part (replicate (4032 - length part) 0) 0 k l ∙ get_or-take 4032 (drop (4032 * index) bytes) k 0 inside
-        ∙ get_or-drop (4032 * index) bytes k 0
-    go (inr g) =
-        get_or-append_right part (replicate (4032 - length part) 0) (length part) k 0 refl g ∙ get_or-zeros (4032 - length part) (k - length part)
-        ∙ sym (get_or_past bytes (4032 * index + k) 0 (omega (arith, long)))
 
 -- a byte of a patched object that is there
 pub patched-byte : (basis : Basis) (written : ℕ → Option ℕ) (object : Option (List ℕ)) (size : ℕ) → IsSized (record { basis = basis; written = written })
@@ -60,25 +36,32 @@ patched-byte (Cut kept new) written (Some bytes) size sized is i =
 patched-byte (Made new) written object size sized is i = filled-at written [] new sized (omega arith) i
 patched-byte Gone written object size sized is i = absurd (let no_way : None ≡ Some size = is in cc)
 
--- The record of a patched object: the bytes of the one below as far as they show, and over them those that were written.
-pub record_over : (basis : Basis) (written : ℕ → Option ℕ) (object : Option (List ℕ)) (index size shown : ℕ) (old cleared new : List ℕ)
-    → IsSized (record { basis = basis; written = written }) → length_over basis (option_map length object) ≡ Some size
-    → ((k : ℕ) → k < 4032 → nat_lt k shown ≡ is_shown basis (4032 * index + k)) → old ≡ padded_record index (unwrap_or object [])
-    → ((k : ℕ) → k < 4032 → get_or cleared k 0 ≡ cond (nat_lt k shown) (get_or old k 0) 0)
-    → length new ≡ 4032 → ((k : ℕ) → k < 4032 → get_or new k 0 ≡ unwrap_or (written (4032 * index + k)) (get_or cleared k 0))
-    → new ≡ padded_record index (unwrap_or (patched (record { basis = basis; written = written }) object) [])
-record_over basis written object index size shown old cleared new sized is tells was clears long lays =
-    ext_get_or 0 _ _ (long ∙ sym (length-record index (unwrap_or (patched (record { basis = basis; written = written }) object) []))) (λ k l. at k (rw long at l))
+-- how many bytes of a part of a record are kept
+count_shown : (shown start size count k : ℕ) → count ≡ min (shown - start) size → k < size → nat_lt k count ≡ nat_lt (start + k) shown
+count_shown shown start size count k is inside = go (cases_lt (start + k) shown)
   where
-    at : (k : ℕ) → k < 4032
-        → get_or new k 0 ≡ get_or (padded_record index (unwrap_or (patched (record { basis = basis; written = written }) object) [])) k 0
-    at k inside =
-        let below : get_or old k 0 ≡ get_or (unwrap_or object []) (4032 * index + k) 0 = rw was (get_or-record index (unwrap_or object []) k inside) in
-        lays k inside
-        ∙ ap (unwrap_or (written (4032 * index + k))) (clears k inside ∙ ap (λ b. cond b (get_or old k 0) 0) (tells k inside)
-        ∙ ap (λ v. cond (is_shown basis (4032 * index + k)) v 0) below)
-        ∙ sym (get_or-record index (unwrap_or (patched (record { basis = basis; written = written }) object) []) k inside
-        ∙ patched-byte basis written object size sized is (4032 * index + k))
+    go : (start + k < shown) ⊎ (shown ≤ start + k) → nat_lt k count ≡ nat_lt (start + k) shown
+    go (inl l) = rw (lt-ltb k count (omega arith), lt-ltb (start + k) shown l) refl
+    go (inr g) = rw (le-ltb k count (omega arith), le-ltb (start + k) shown g) refl
+
+-- The bytes of a patched object in a part of a record: those of the one below as far as they show, and over them those that were written.
+module _ (basis : Basis) (written : ℕ → Option ℕ) (object : Option (List ℕ)) (index start size shown count : ℕ) (old cleared new : List ℕ)
+    (sized : IsSized (record { basis = basis; written = written })) (is : length_over basis (option_map length object) ≡ Some size)
+    (tells : (k : ℕ) → k < 4032 → nat_lt k shown ≡ is_shown basis (4032 * index + k)) (is_count : count ≡ min (shown - start) (length old)) (within : start + length old ≤ 4032)
+    (reads : AreBytesFrom (4032 * index + start) (unwrap_or object []) old)
+    (clears : (k : ℕ) → k < length old → get_or cleared k 0 ≡ cond (nat_lt k count) (get_or old k 0) 0) (long : length new ≡ length old)
+    (lays : (k : ℕ) → k < length old → get_or new k 0 ≡ unwrap_or (written (4032 * index + (start + k))) (get_or cleared k 0)) where
+  pub bytes_over : AreBytesFrom (4032 * index + start) (unwrap_or (patched (record { basis = basis; written = written }) object) []) new
+  bytes_over k low =
+      let inside : k < length old = rw long at low in
+      let same : 4032 * index + start + k ≡ 4032 * index + (start + k) = omega arith in
+      let shows : nat_lt k count ≡ is_shown basis (4032 * index + (start + k)) = count_shown shown start (length old) count k is_count inside ∙ tells (start + k) (omega (arith, within, inside)) in
+      let below : get_or old k 0 ≡ get_or (unwrap_or object []) (4032 * index + (start + k)) 0 = reads k inside ∙ ap (λ (j : ℕ). get_or (unwrap_or object []) j 0) same in
+      lays k inside
+      ∙ ap (unwrap_or (written (4032 * index + (start + k)))) (clears k inside ∙ ap (λ b. cond b (get_or old k 0) 0) shows
+      ∙ ap (λ v. cond (is_shown basis (4032 * index + (start + k))) v 0) below)
+      ∙ sym (ap (λ (j : ℕ). get_or (unwrap_or (patched (record { basis = basis; written = written }) object) []) j 0) same
+      ∙ patched-byte basis written object size sized is (4032 * index + (start + k)))
 
 pub some_at : (o : Option ℕ) → is_some o ≡ true → (n : ℕ) × (o ≡ Some n)
 some_at None is = absurd (let no_way : false ≡ true = is in cc)

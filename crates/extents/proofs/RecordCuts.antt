@@ -5,8 +5,8 @@ use Rattle.std.proofs.Math.ListN.{set}
 use Rattle.std.proofs.lemmas.Bool.{cases_lt, cases_eq, lt-ltb, le-ltb, eq-eqb, ne_eqb}
 use Rattle.extents.specs.declared.record.RecordPatch.{RecordPatch}
 use Rattle.extents.specs.Patches.{written_below}
-use Rattle.extents.specs.Records.{bytes_written}
-use Rattle.extents.specs.Objects.{written_by, left_at_record, left_before_record}
+use Rattle.extents.specs.Records.{bytes_written, written_by}
+use Rattle.extents.specs.Objects.{left_at_record, left_before_record}
 use Rattle.extents.proofs.RecordWrites.{record_set, record_at, past_last}
 
 -- bytes of a record are left where those of the object are

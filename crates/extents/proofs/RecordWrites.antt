@@ -7,8 +7,8 @@ use Rattle.extents.specs.Patches.{written_after}
 use Rattle.std.proofs.Math.ListN.{set}
 use Rattle.std.proofs.lemmas.Option.{slice_get_past}
 use Rattle.extents.specs.declared.record.RecordPatch.{RecordPatch}
-use Rattle.extents.specs.Records.{bytes_written}
-use Rattle.extents.specs.Objects.{written_by, written_at_record, written_before_record}
+use Rattle.extents.specs.Records.{bytes_written, written_by}
+use Rattle.extents.specs.Objects.{written_at_record, written_before_record}
 
 -- a byte out of the range of a write stays
 pub unwritten_at : (offset : ℕ) (content : List ℕ) (written : ℕ → Option ℕ) (i : ℕ) → (i < offset) ⊎ (offset + length content ≤ i) → written_after offset content written i ≡ written i

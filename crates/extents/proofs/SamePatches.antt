@@ -1,5 +1,5 @@
 -- Patches that say the same, and what operations make of them.
-use Rattle.std.proofs.Common.{◌≡◌, ℕ, ◌+◌, ◌-◌, ◌<◌, ◌≢◌, List, [], ◌∷◌, ◌++◌, Option, Some, None, length, get_or, take, drop, refl, ap, sym, ◌∙◌, ◌⊎◌, inl, inr, true, false, cond, arith, max}
+use Rattle.std.proofs.Common.{◌≡◌, ℕ, ◌+◌, ◌-◌, ◌<◌, ◌≢◌, List, [], ◌∷◌, ◌++◌, Option, Some, None, length, get_or, take, drop, refl, ap, subst, sym, ◌∙◌, ◌⊎◌, inl, inr, true, false, cond, arith, max}
 use Rattle.std.specs.Prelude.{Bool, fold, unwrap_or, nat_le, nat_lt, ◌&&◌, ◌==◌, IfSome, IsSome, IsSomeAnd}
 use Rattle.std.specs.List.{list_all}
 use Rattle.std.proofs.lemmas.Bool.{cases_eq, eq-eqb, ne_eqb, and_from}
@@ -14,7 +14,9 @@ use Rattle.extents.specs.declared.basis.Basis.{Basis}
 use Rattle.extents.specs.declared.basis.Basis.TheVariants.{Grown, Cut, Made, Gone}
 use Rattle.extents.proofs.PatchedBytes.{filled-in, length-filled}
 use Rattle.extents.proofs.PatchedObjects.{changes_follow, patched_nothing}
-use Rattle.extents.specs.Objects.{HasRoomFrom, KeepsRoom, LaysOver, whole_record}
+use Rattle.extents.proofs.LaidWithin.{patches_sized}
+use Rattle.object_maps.specs.Sources.{AreBytesFrom}
+use Rattle.extents.specs.Objects.{HasRoomFrom, KeepsRoom, LaysOver}
 use Rattle.extents.specs.Tables.{CanApply, IsSame, KeepsRooms, AppliesOps, entry_at, patches_of}
 
 pub same-trans : (p q r : Patch) → IsSame p q → IsSame q r → IsSame p r
@@ -36,7 +38,7 @@ same_on n m p q a b before after = go (cases_eq n m)
     go (inl e) = rw (eq-eqb n m e) after
     go (inr e) = rw (ne_eqb n m e) before
 
-same_patch : (p : Patch) → IsSame p p
+pub same_patch : (p : Patch) → IsSame p p
 same_patch p = record { basis = refl; written = λ i. refl }
 
 -- an operation makes of patches that say the same such ones
@@ -96,9 +98,9 @@ next_bytes p ops i op low is before here =
     ap (list_all p) (take_more ops i op low ∙ ap (λ (x : Op). take i ops ++ x ∷ []) (sym is))
     ∙ list_all-append p (take i ops) (op ∷ []) ∙ and_from (list_all p (take i ops)) (list_all p (op ∷ [])) before (and_from (p op) true here refl)
 
--- where an object has no patch its records are those below
-pub lays_nothing : (index : ℕ) (below : Option ℕ) (bytes : List ℕ) → LaysOver no_patch index below bytes bytes
-lays_nothing index below bytes object sized is was = was ∙ ap (whole_record index) (sym (patched_nothing object))
+-- where an object has no patch its bytes are those below
+pub lays_nothing : (offset : ℕ) (below : Option ℕ) (bytes : List ℕ) → LaysOver no_patch offset below bytes bytes
+lays_nothing offset below bytes object is was = subst (λ (o : Option (List ℕ)). AreBytesFrom offset (unwrap_or o []) bytes) (sym (patched_nothing object)) was
 
 -- patches that say the same make the same objects
 same_filled : (v w : ℕ → Option ℕ) (below : List ℕ) (size : ℕ) → ((i : ℕ) → v i ≡ w i) → filled v below size ≡ filled w below size
@@ -120,8 +122,16 @@ pub same_patched : (p q : Patch) (object : Option (List ℕ)) → IsSame p q →
 same_patched p q object is =
     same_by p.basis p.written q.written object is.written ∙ ap (λ b. patched (record { basis = b; written = q.written }) object) is.basis
 
+-- the changes of operations with more of them, and with none
+pub changes_added : (earlier ops : List Op) (old new : Patches) → ((n : ℕ) → IsSized (old n)) → ArePatchesOf earlier old → ((n : ℕ) → IsSame (new n) (with_ops ops old n))
+    → ArePatchesOf (earlier ++ ops) new
+changes_added earlier ops old new sized are applied n object =
+    same_patched (new n) (with_ops ops old n) object (applied n) ∙ changes_follow earlier ops old sized are n object
+
+pub changes_left : (ops : List Op) (old new : Patches) → ArePatchesOf ops old → ((n : ℕ) → IsSame (new n) (old n)) → ArePatchesOf ops new
+changes_left ops old new are same n object = same_patched (new n) (old n) object (same n) ∙ are n object
+
 -- what a group adds to its changes are the changes of what it added
-pub added_changes : (earlier ops : List Op) (old new : Extents) → ((n : ℕ) → IsSized (patches_of old n)) → ArePatchesOf earlier (patches_of old) → AppliesOps ops old new
+pub added_changes : (earlier ops : List Op) (old new : Extents) → ArePatchesOf earlier (patches_of old) → AppliesOps ops old new
     → ArePatchesOf (earlier ++ ops) (patches_of new)
-added_changes earlier ops old new sized are applied n object =
-    same_patched (patches_of new n) (with_ops ops (patches_of old) n) object (applied n) ∙ changes_follow earlier ops (patches_of old) sized are n object
+added_changes earlier ops old new are applied = changes_added earlier ops (patches_of old) (patches_of new) (patches_sized old) are applied

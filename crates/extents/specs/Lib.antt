@@ -4,3 +4,5 @@ pub mod Marks
 pub mod Records
 pub mod Objects
 pub mod Tables
+pub mod Synced
+pub mod Unsynced

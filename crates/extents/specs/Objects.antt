@@ -1,16 +1,13 @@
 -- The bytes that a group wrote into an object, by records.
-use Rattle.std.specs.Prelude.{cond, ℕ, ◌==◌, nat_lt, ◌≡◌, ◌<◌, ◌+◌, ◌*◌, ◌/◌, ◌%◌, List, [], length, Option, None, option_map, unwrap_or, slice_get, vec_len}
+use Rattle.std.specs.Prelude.{cond, ℕ, ◌==◌, nat_lt, ◌≡◌, ◌<◌, ◌+◌, ◌*◌, ◌/◌, List, [], length, Option, option_map, unwrap_or, slice_get, vec_len}
 use Rattle.std.specs.Option.{option_map_or}
 use Rattle.extents.specs.declared.record.RecordPatch.{RecordPatch}
 use Rattle.extents.specs.declared.object.ObjectPatch.{ObjectPatch}
-use Rattle.extents.specs.Records.{bytes_written}
-use Rattle.extents.specs.Patches.{Patch, IsSized, patched, written_after, written_below}
-use Rattle.base.specs.tree.PlacedTrees.{padded_record}
+use Rattle.extents.specs.Records.{patch_with, written_by}
+use Rattle.extents.specs.Patches.{Patch, patched, written_after, written_below}
+use Rattle.object_maps.specs.Sources.{AreBytesFrom}
 
 -- the byte that was written at an offset of an object
-abbrev pub written_by : List RecordPatch → ℕ → Option ℕ
-written_by records i = option_map_or (λ r. bytes_written r (i % 4032)) (slice_get records (i / 4032)) None
-
 abbrev pub written_in : ObjectPatch → ℕ → Option ℕ
 written_in o = written_by o.records.items
 
@@ -45,13 +42,9 @@ left_before_record index offset written i = cond (nat_lt (i / 4032) index) (writ
 
 -- what the group made of the object
 abbrev pub patch_of : ObjectPatch → Patch
-patch_of o = record { basis = o.basis; written = written_in o }
+patch_of o = patch_with o.basis o.records.items
 
--- a record of an object, with zeros behind its end; zeros where there is no object
-abbrev pub whole_record : ℕ → Option (List ℕ) → List ℕ
-whole_record index object = padded_record index (unwrap_or object [])
-
--- from the record of the object below, which has this length, to that of the patched one
+-- from bytes of the object below, which has this length, to those of the patched one, from the same offset on
 abbrev pub LaysOver : Patch → ℕ → Option ℕ → List ℕ → List ℕ → Type 0
-LaysOver p index below old new = (object : Option (List ℕ)) → IsSized p → option_map length object ≡ below
-    → old ≡ whole_record index object → new ≡ whole_record index (patched p object)
+LaysOver p offset below old new = (object : Option (List ℕ)) → option_map length object ≡ below
+    → AreBytesFrom offset (unwrap_or object []) old → AreBytesFrom offset (unwrap_or (patched p object) []) new

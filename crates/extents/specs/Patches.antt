@@ -1,12 +1,13 @@
 -- What one group made of the objects of a pool, told without what lies below: which bytes it wrote, and what stays of those below.
-use Rattle.std.specs.Prelude.{cond, ℕ, zero, suc, true, false, Bool, ◌≡◌, ◌<◌, ◌≤◌, ◌+◌, ◌-◌, ◌==◌, ◌&&◌, List, [], fold, map, length, max, min, take, get_or, nat_lt, nat_le, Option, Some, None, is_some, unwrap_or, option_map}
+use Rattle.std.specs.Prelude.{cond, ℕ, zero, suc, true, false, Bool, ◌≡◌, ◌<◌, ◌≤◌, ◌+◌, ◌-◌, ◌==◌, ◌&&◌, List, [], fold, map, length, max, min, take, get_or, nat_lt, nat_le, Option, Some, None, IfSome, is_some, unwrap_or, option_map}
 use Rattle.std.specs.List.{range_with_len}
+use Rattle.std.specs.Coded.{×_prop, Π_prop, →_prop, Unit-prop, le_prop}
 use Rattle.std.specs.Ordering.{nat_cmp}
 use Rattle.std.specs.FinMap as finite
 use Rattle.std.specs.FinMap.{FinMap}
 use Rattle.base.specs.declared.operation.Op.{Op}
 use Rattle.base.specs.declared.operation.Op.TheVariants.{Create, Remove, Write, SetLength, SetName}
-use Rattle.base.specs.formats.Limits.{object_count}
+use Rattle.base.specs.formats.Limits.{object_count, max_length}
 use Rattle.extents.specs.declared.basis.Basis.{Basis}
 use Rattle.extents.specs.declared.basis.Basis.TheVariants.{Grown, Cut, Made, Gone}
 use Rattle.base.specs.history.Contents.{object_after, stored}
@@ -89,6 +90,23 @@ IsSized p = elim p.basis [
   | Made size ↦ ((i : ℕ) → is_some (p.written i) ≡ true → i < size)
   | Gone ↦ Unit {0}
 ]
+
+-- a patch is sized in one way at most
+pub IsSized-prop : (p : Patch) → IsProp (IsSized p)
+IsSized-prop p = by_basis p.basis p.written
+  where
+    by_basis : (basis : Basis) (written : ℕ → Option ℕ) → IsProp (IsSized (record { basis = basis; written = written }))
+    by_basis (Grown end) written = Π_prop (λ i. →_prop le_prop)
+    by_basis (Cut kept size) written = ×_prop le_prop (Π_prop (λ i. →_prop le_prop))
+    by_basis (Made size) written = Π_prop (λ i. →_prop le_prop)
+    by_basis Gone written = Unit-prop
+
+-- the length that the patched object has at least, where it is there
+abbrev pub least_length : Basis → ℕ
+least_length (Grown end) = end
+least_length (Cut kept size) = size
+least_length (Made size) = size
+least_length Gone = 0
 
 -- the length of the patched object, from that of the one below
 abbrev pub length_over : Basis → Option ℕ → Option ℕ

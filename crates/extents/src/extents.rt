@@ -1,6 +1,6 @@
 //! What a group made of the objects of a pool.
 
-ghost use Rattle.std.specs.Prelude.{ℕ, ◌≡◌, ◌<◌, ◌≤◌, ◌+◌, true, IsSome, OnErr, OnOk, length, nat_lt};
+ghost use Rattle.std.specs.Prelude.{ℕ, ◌≡◌, ◌<◌, ◌≤◌, ◌+◌, ◌*◌, true, IsSome, OnErr, OnOk, length, nat_lt};
 ghost use Rattle.std.specs.List.{list_all};
 
 use crate::object::ObjectPatch;
@@ -11,7 +11,7 @@ use std::alloc::{AllocError, Global};
 /// The patches of the objects that a group changed, by their numbers.
 #[derive(Drop)]
 pub struct Extents {
-    patches: IndexMap<u32, ObjectPatch>,
+    pub(crate) patches: IndexMap<u32, ObjectPatch>,
 }
 
 impl Extents {
@@ -97,7 +97,8 @@ impl Extents {
     }
 
     fn set_length(&mut self, id: ObjectId, length: usize)
-        requires { HasEntry self.old id.0 }
+        requires entry { HasEntry self.old id.0 }
+        requires within { length ≤ 338688 }
         ensures kept { KeepsRooms self.old self.new }
         ensures others { KeepsOtherEntries id.0 self.old self.new }
         ensures here { IsSame (patches_of self.new id.0)
@@ -210,16 +211,25 @@ impl Extents {
         }
     }
 
-    /// Makes of a record of the object below, 4,032 bytes with zeros behind that object's end, the record of this object.
-    /// `below` is the length of the object below in bytes, `None` where there is no such object; its record is zeros then.
-    pub fn lay_over(&self, id: ObjectId, index: usize, below: Option<u64>, into: &mut [u8])
+    /// Makes of bytes of a record of the object below, from the offset `start` in it on and with zeros behind that object's
+    /// end, those of this object. `below` is the length of the object below in bytes, `None` where there is no such object;
+    /// its bytes are zeros then. It goes over these bytes alone, and takes no memory.
+    pub fn lay_over(
+        &self,
+        id: ObjectId,
+        index: usize,
+        start: usize,
+        below: Option<u64>,
+        into: &mut [u8],
+    )
         requires index { index < 84 }
-        requires size { length into.old ≡ 4032 }
-        ensures size { length into.new ≡ 4032 }
-        ensures record { LaysOver (patches_of self.now id.0) index below into.old into.new }
+        requires within { start + length into.old ≤ 4032 }
+        ensures size { length into.new ≡ length into.old }
+        ensures bytes { LaysOver (patches_of self.now id.0) (4032 * index + start) below
+            into.old into.new }
     {
         if let Some(patch) = self.patches.get(&id.0) {
-            patch.lay_over(index, below, into);
+            patch.lay_over(index, start, below, into);
         }
     }
 }

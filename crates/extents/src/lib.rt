@@ -3,11 +3,20 @@
 
 mod basis;
 mod extents;
+mod laid;
 mod laws;
 mod object;
 mod record;
+mod synced;
+mod unsynced;
 
 pub use basis::Basis;
 pub use extents::Extents;
-pub use laws::{added_changes, changes_follow, groups_are_read, lengths_follow, nothing_changes};
+pub use laid::Laid;
+pub use laws::{
+    added_changes, added_entry, changes_follow, group_is_read, groups_are_read, left_changes,
+    lengths_follow, moved_groups, nothing_changes, objects_stay_within, oldest_is_laid,
+    unsynced_are_read,
+};
 pub use object::ObjectPatch;
+pub use unsynced::UnsyncedExtents;

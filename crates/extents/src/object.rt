@@ -1,6 +1,8 @@
 //! What a group made of one object.
 
 ghost use Rattle.std.specs.Prelude.{ℕ, ◌≡◌, ◌<◌, ◌≤◌, ◌+◌, ◌*◌, None, cond, get_or, nat_lt, IfOk, OnOk, length, vec_len};
+ghost use Rattle.extents.specs.Patches.{IsSized, IsSized-prop, least_length};
+ghost use Rattle.extents.specs.Records.{patch_with};
 
 use crate::basis::Basis;
 use crate::record::RecordPatch;
@@ -12,8 +14,10 @@ use std::alloc::{AllocError, Global};
 pub struct ObjectPatch {
     /// What it leaves of the object below.
     pub basis: Basis,
-    records: Vec<RecordPatch>,
+    pub(crate) records: Vec<RecordPatch>,
     ghost all_records: { vec_len records ≡ 84 },
+    ghost sized: { IsSized (patch_with basis records.items) } by { IsSized-prop _ },
+    ghost within: { least_length basis ≤ 338688 },
 }
 
 impl ObjectPatch {
@@ -74,14 +78,16 @@ impl ObjectPatch {
         ensures written { (i : ℕ) → written_in self.new i
             ≡ written_after offset content.now (written_in self.old) i }
     {
-        self.write_records(offset, content);
         self.basis = self.basis.after_write((offset + content.len()) as u64);
+        self.write_records(offset, content);
     }
 
     fn write_records(&mut self, offset: usize, content: &[u8])
         requires some { 0 < length content.now }
         requires within { offset + length content.now ≤ 338688 }
         requires room { HasRoomFrom self.old offset (length content.now) }
+        requires reached { basis_after_write (offset + length content.now) self.old.basis
+            ≡ self.old.basis }
         ensures stays { KeepsRoom self.old self.new }
         ensures basis { self.new.basis ≡ self.old.basis }
         ensures written { (i : ℕ) → written_in self.new i
@@ -98,8 +104,10 @@ impl ObjectPatch {
         requires index { index < 84 }
         requires room { HasRoomAt self.old index }
         requires begun { offset < 4032 * (index + 1) }
-        requires reached { 4032 * index < offset + length content.now }
+        requires ended { 4032 * index < offset + length content.now }
         requires within { offset + length content.now ≤ 338688 }
+        requires reached { basis_after_write (offset + length content.now) self.old.basis
+            ≡ self.old.basis }
         ensures stays { KeepsRoom self.old self.new }
         ensures basis { self.new.basis ≡ self.old.basis }
         ensures written { (i : ℕ) → written_in self.new i
@@ -134,6 +142,7 @@ impl ObjectPatch {
 
     /// Sets the length of the object in bytes: what was written from there on is forgotten.
     pub fn set_length(&mut self, length: usize)
+        requires { length ≤ 338688 }
         ensures stays { KeepsRoom self.old self.new }
         ensures basis { self.new.basis ≡ basis_after_cut length self.old.basis }
         ensures written { (i : ℕ) → written_in self.new i
@@ -168,28 +177,30 @@ impl ObjectPatch {
         record.clear_from(offset.max(begin) - begin);
     }
 
-    /// Makes of a record of the object below, with zeros behind that object's end, the record of this object. `below` is the
-    /// length of the object below in bytes, `None` where there is no such object; its record is zeros then.
-    pub fn lay_over(&self, index: usize, below: Option<u64>, into: &mut [u8])
+    /// Makes of bytes of a record of the object below, from the offset `start` in it on and with zeros behind that object's
+    /// end, those of this object. `below` is the length of the object below in bytes, `None` where there is no such object;
+    /// its bytes are zeros then.
+    pub fn lay_over(&self, index: usize, start: usize, below: Option<u64>, into: &mut [u8])
         requires index { index < 84 }
-        requires size { length into.old ≡ 4032 }
-        ensures size { length into.new ≡ 4032 }
-        ensures record { LaysOver (patch_of self.now) index below into.old into.new }
+        requires within { start + length into.old ≤ 4032 }
+        ensures size { length into.new ≡ length into.old }
+        ensures bytes { LaysOver (patch_of self.now) (4032 * index + start) below
+            into.old into.new }
     {
         if self.basis.length_over(below).is_none() {
             into.fill(0);
             return;
         }
-        clear_from(into, self.basis.shown_in(index));
-        self.records[index].lay_over(into);
+        let shown = self.basis.shown_in(index).saturating_sub(start);
+        clear_from(into, shown.min(into.len()));
+        self.records[index].lay_over(start, into);
     }
 }
 
 fn clear_from(bytes: &mut [u8], offset: usize)
-    requires size { length bytes.old ≡ 4032 }
-    requires within { offset ≤ 4032 }
-    ensures size { length bytes.new ≡ 4032 }
-    ensures bytes { (k : ℕ) → k < 4032
+    requires { offset ≤ length bytes.old }
+    ensures size { length bytes.new ≡ length bytes.old }
+    ensures bytes { (k : ℕ) → k < length bytes.old
         → get_or bytes.new k 0 ≡ cond (nat_lt k offset) (get_or bytes.old k 0) 0 }
 {
     bytes[offset..].fill(0);

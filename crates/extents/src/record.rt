@@ -76,15 +76,15 @@ impl RecordPatch {
         }
     }
 
-    /// Lays the written bytes over a record.
-    pub fn lay_over(&self, into: &mut [u8])
-        requires { length into.old ≡ 4032 }
-        ensures size { length into.new ≡ 4032 }
-        ensures bytes { (k : ℕ) → k < 4032
-            → get_or into.new k 0 ≡ unwrap_or (bytes_written self.now k) (get_or into.old k 0) }
+    /// Lays the bytes that were written from the offset `start` of the record on over others.
+    pub fn lay_over(&self, start: usize, into: &mut [u8])
+        ensures size { length into.new ≡ length into.old }
+        ensures bytes { (k : ℕ) → k < length into.old → get_or into.new k 0
+            ≡ unwrap_or (bytes_written self.now (start + k)) (get_or into.old k 0) }
     {
-        for i in 0..self.mask.len() {
-            into[i] = laid_byte(into[i], self.bytes[i], self.mask[i]);
+        let count = self.mask.len().saturating_sub(start).min(into.len());
+        for i in 0..count {
+            into[i] = laid_byte(into[i], self.bytes[start + i], self.mask[start + i]);
         }
     }
 }

@@ -1,0 +1,44 @@
+-- The changes of the unsynced groups, by places: the oldest group has place 0.
+use Rattle.std.specs.Prelude.{ℕ, zero, suc, ◌≡◌, ◌≢◌, ◌+◌, List, Option, Some, None, IsSomeAnd}
+use Rattle.std.specs.Option.{option_map_or}
+use Rattle.std.specs.Ordering.{nat_cmp}
+use Rattle.std.specs.FinMap.{FinMap}
+use Rattle.base.specs.declared.operation.Op.{Op}
+use Rattle.extents.specs.declared.extents.Extents.{Extents}
+use Rattle.extents.specs.declared.unsynced.UnsyncedExtents.{UnsyncedExtents}
+use Rattle.extents.specs.Patches.{Patches, laid_over, no_patch, with_ops}
+use Rattle.extents.specs.Tables.{CanApplyAll, IsSame, patches_of}
+
+-- what the group at a place made; there are three places
+abbrev pub extents_at : UnsyncedExtents → ℕ → Option Extents
+extents_at e zero = Some e.oldest
+extents_at e (suc zero) = Some e.second
+extents_at e (suc (suc zero)) = Some e.third
+extents_at e (suc (suc (suc n))) = None
+
+abbrev pub changes_at : UnsyncedExtents → ℕ → Patches
+changes_at e place = option_map_or patches_of (extents_at e place) (λ _. no_patch)
+
+-- the operations have their room at a place
+abbrev pub CanApplyAt : ℕ → UnsyncedExtents → List Op → Type 0
+CanApplyAt place e ops = IsSomeAnd (extents_at e place) (λ extents. CanApplyAll extents ops)
+
+-- what the groups at other places made is as it was, with its room
+abbrev pub KeepsOtherPlaces : ℕ → UnsyncedExtents → UnsyncedExtents → Type 0
+KeepsOtherPlaces place old new = (other : ℕ) → other ≢ place → extents_at new other ≡ extents_at old other
+
+-- at each place all objects have patches that say the same
+abbrev pub LeavesChanges : UnsyncedExtents → UnsyncedExtents → Type 0
+LeavesChanges old new = (place n : ℕ) → IsSame (changes_at new place n) (changes_at old place n)
+
+-- the new changes at a place are those of before with these operations
+abbrev pub AppliesAt : ℕ → List Op → UnsyncedExtents → UnsyncedExtents → Type 0
+AppliesAt place ops old new = (n : ℕ) → IsSame (changes_at new place n) (with_ops ops (changes_at old place) n)
+
+-- each group has the place before its old one
+abbrev pub MovesUp : UnsyncedExtents → UnsyncedExtents → Type 0
+MovesUp old new = (place n : ℕ) → changes_at new place n ≡ changes_at old (place + 1) n
+
+-- all changes laid one over the other, the oldest first
+abbrev pub laid_all : UnsyncedExtents → FinMap nat_cmp (List ℕ) → FinMap nat_cmp (List ℕ)
+laid_all e below = laid_over (changes_at e 2) (laid_over (changes_at e 1) (laid_over (changes_at e 0) below))

@@ -1,0 +1,105 @@
+//! What the unsynced groups made of the objects of a pool.
+//!
+//! At most three groups are unsynced: one that is written out, one that quiesces and the open one. Each has a place, the
+//! oldest one place 0, and keeps what it made until it is synced: then the tree has it, and the others move up by one place.
+//! So the contents are the objects of the tree with the changes at places 0, 1 and 2 laid over them.
+
+ghost use Rattle.std.specs.Prelude.{ℕ, ◌≡◌, ◌<◌, true, Some, OnOk};
+ghost use Rattle.std.specs.List.{list_all};
+
+use crate::extents::Extents;
+use crate::laid::Laid;
+use base::Op;
+use object_maps::ObjectSource;
+use std::alloc::{AllocError, Global};
+use std::mem;
+
+/// The changes of the unsynced groups, oldest first: at most three are there, one that is written out, one that quiesces and
+/// the open one.
+#[derive(Drop)]
+pub struct UnsyncedExtents {
+    alloc: Global,
+    oldest: Extents,
+    second: Extents,
+    third: Extents,
+}
+
+impl UnsyncedExtents {
+    ghost use Rattle.base.specs.formats.Records.{is_content_allowed};
+    ghost use Rattle.object_maps.specs.Ops.{AreOpsAllowed};
+    ghost use Rattle.extents.specs.Patches.{no_patch};
+    ghost use Rattle.extents.specs.Unsynced.{AppliesAt, CanApplyAt, KeepsOtherPlaces, LeavesChanges, MovesUp, changes_at, extents_at, laid_all};
+
+    /// No changes of any group. It takes no memory.
+    pub fn new(alloc: Global) -> Self
+        ensures { (place n : ℕ) → changes_at result place n ≡ no_patch }
+    {
+        UnsyncedExtents {
+            alloc,
+            oldest: Extents::new(alloc),
+            second: Extents::new(alloc),
+            third: Extents::new(alloc),
+        }
+    }
+
+    /// Takes the room that operations of the group at a place need, so that `apply` takes no memory. What the groups made
+    /// stays.
+    ///
+    /// # Errors
+    /// Where there is no memory.
+    pub fn reserve(&mut self, place: usize, ops: &[Op]) -> Result<(), AllocError>
+        requires place { place < 3 }
+        requires allowed { AreOpsAllowed ops.now }
+        ensures room { OnOk result (CanApplyAt place self.new ops.now) }
+        ensures bytes { OnOk result (list_all is_content_allowed ops.now ≡ true) }
+        ensures same { LeavesChanges self.old self.new }
+        ensures others { KeepsOtherPlaces place self.old self.new }
+    {
+        match place {
+            0 => self.oldest.reserve(ops),
+            1 => self.second.reserve(ops),
+            _ => self.third.reserve(ops),
+        }
+    }
+
+    /// Adds operations that have their room to what the group at a place made, in order. It takes no memory.
+    pub fn apply(&mut self, place: usize, ops: &[Op])
+        requires place { place < 3 }
+        requires allowed { AreOpsAllowed ops.now }
+        requires room { CanApplyAt place self.old ops.now }
+        ensures applied { AppliesAt place ops.now self.old self.new }
+        ensures others { KeepsOtherPlaces place self.old self.new }
+    {
+        match place {
+            0 => self.oldest.apply(ops),
+            1 => self.second.apply(ops),
+            _ => self.third.apply(ops),
+        }
+    }
+
+    /// What the oldest group made. It takes no memory.
+    pub fn oldest(&self) -> &Extents
+        ensures { Some result.now ≡ extents_at self.now 0 }
+    {
+        &self.oldest
+    }
+
+    /// The objects of a source with the changes of all groups laid over them. It takes no memory.
+    pub fn over<'a, O: ObjectSource>(&'a self, below: O) -> Laid<'a, Laid<'a, Laid<'a, O>>>
+        ensures { ⟦<Laid<'a, Laid<'a, Laid<'a, O>>> as ObjectSource>⟧.objects result
+            ≡ laid_all self.now (O.objects below) }
+    {
+        let oldest = Laid::new(&self.oldest, below);
+        let second = Laid::new(&self.second, oldest);
+        Laid::new(&self.third, second)
+    }
+
+    /// The oldest group is synced: its changes go, the other groups move up by one place, and the group at the last place has
+    /// no changes. It takes no memory.
+    pub fn drop_oldest(&mut self)
+        ensures { MovesUp self.old self.new }
+    {
+        let third = mem::replace(&mut self.third, Extents::new(self.alloc));
+        self.oldest = mem::replace(&mut self.second, third);
+    }
+}
