@@ -2,13 +2,14 @@
 use Rattle.std.proofs.Common.{◌≡◌, ℕ, ◌+◌, ◌-◌, ◌*◌, ◌<◌, ◌≤◌, List, ◌++◌, length, take, drop, replicate, get_or, refl, ap, sym, ◌∙◌, arith, ◌≢◌, ◌⊎◌, inl, inr, true, false}
 use Rattle.std.specs.List.{All}
 use Rattle.std.specs.Int.{from_le_bytes, w64}
-use Rattle.std.proofs.lemmas.List.{drop-drop, drop-take, take-take, take-append-drop}
+use Rattle.std.proofs.lemmas.List.{drop-drop, drop-take, take-take}
 use Rattle.std.proofs.lemmas.List.Elements.{All-from_get_or}
 use Rattle.base.specs.declared.pointer.Pointer.{Pointer}
 use Rattle.base.specs.formats.Fields.{part, number_at, number_bytes, pointer_at, entry_in, entry_present, entry_length, entry_pointer, no_pointer}
 use Rattle.base.specs.formats.Limits.{max_length}
 use Rattle.base.specs.tree.Faults.{IsPointerForm, IsEntryForm}
 use Rattle.checked_blocks.proofs.Placed.{number_bytes-number_at}
+use Rattle.object_maps.proofs.Records.{part-split}
 
 -- a part of a part
 part-part : (bytes : List ℕ) (at size i n : ℕ) → i + n ≤ size → part (part bytes at size) i n ≡ part bytes (at + i) n
@@ -46,13 +47,6 @@ pointer-at payload k =
 zero-bytes : (bytes : List ℕ) (at : ℕ) → at + 8 ≤ length bytes → All (λ b. b < 256) bytes → number_at bytes at ≡ 0 → part bytes at 8 ≡ replicate 8 0
 unfolding number_bytes
 zero-bytes bytes at fits each zero = sym (number_bytes-number_at bytes at fits each) ∙ ap number_bytes zero
-
--- what is left of a part behind its front
-part-split : (bytes : List ℕ) (at m n : ℕ) → part bytes at (m + n) ≡ part bytes at m ++ part bytes (at + m) n
-part-split bytes at m n =
-    sym (take-append-drop m (part bytes at (m + n)))
-    ∙ ap (λ (l : List ℕ). l ++ drop m (part bytes at (m + n))) (take-take m (m + n) (drop at bytes) (omega arith))
-    ∙ ap (λ (l : List ℕ). part bytes at m ++ l) (drop-take m n (drop at bytes) ∙ ap (λ (l : List ℕ). take n l) (drop-drop m at bytes) ∙ ap (λ (k : ℕ). part bytes k n) (omega arith))
 
 -- an entry whose fields are all zero is all zeros
 absent-zeros : (payload : List ℕ) (k : ℕ) → 64 * k + 64 ≤ length payload → All (λ b. b < 256) payload

@@ -3,7 +3,7 @@ use Rattle.std.proofs.Common.{◌≡◌, ℕ, suc, ◌<◌, ◌+◌, List, [], �
 use Rattle.std.specs.Prelude.{◌==◌, ◌||◌, ◌&&◌, not, is_some, get_or, nat_lt, option_map, fold, IfOk}
 use Rattle.std.specs.List.{list_all}
 use Rattle.std.proofs.lemmas.Bool.{and_from, lt-ltb}
-use Rattle.std.proofs.lemmas.List.{append-nil, drop_more, take_more, take-append-drop}
+use Rattle.std.proofs.lemmas.List.{append-nil, take_more, take-append-drop}
 use Rattle.std.specs.FinMap as finite
 use Rattle.base.specs.declared.error.PoolError.{PoolError}
 use Rattle.base.specs.declared.error.PoolError.TheVariants.{NoObject, Exists}
@@ -17,7 +17,7 @@ use Rattle.base.proofs.common.Sequences.{parted, joined}
 use Rattle.base.proofs.history.Objects.{reach}
 use Rattle.base.proofs.history.Projections.{objects_replay}
 use Rattle.object_maps.specs.Presence.{is_present_after, is_present_after_all}
-use Rattle.object_maps.specs.ContentsShown.{Applies, Apply}
+use Rattle.object_maps.specs.ContentsShown.{Apply}
 
 -- a front that is refused refuses the whole
 err_front : {A B : Type 0} (r : Result A PoolError) (f g : A → Result B PoolError) (e : PoolError)
@@ -160,14 +160,6 @@ judged_refused ops i op c e low is h =
     let front : take (i + 1) ops ≡ take i ops ++ op ∷ [] = take_more ops i op low ∙ ap (λ (x : Op). take i ops ++ x ∷ []) (sym is) in
     let whole : ops ≡ (take i ops ++ op ∷ []) ++ drop (i + 1) ops = sym (take-append-drop (i + 1) ops) ∙ ap (λ l. l ++ drop (i + 1) ops) front in
     ap (λ l. apply_all l c) whole ∙ err-append (take i ops ++ op ∷ []) (drop (i + 1) ops) c e h
-
--- a loop that applies operations: what is left to apply, and where it ends
-pub next_applies : (ops : List Op) (i : ℕ) (op : Op) (b c : Contents) → i < length ops → op ≡ get_or ops i op → Apply ops b
-    → apply_all (drop i ops) c ≡ apply_all ops b → Applies op c
-next_applies ops i op b c low is can same =
-    let left : drop i ops ≡ op ∷ drop (i + 1) ops = drop_more ops i op low ∙ ap (λ (x : Op). x ∷ drop (i + 1) ops) (sym is) in
-    let p = parted (apply op c) (apply_all (drop (i + 1) ops)) (can.0) (ap (λ l. apply_all l c) (sym left) ∙ same ∙ can.1) in
-    (p.0, p.1)
 
 -- elements of bytes are bytes
 pub all_bytes : (xs : List ℕ) → ((i : ℕ) → Fits w8 (get_or xs i 0)) → list_all (λ b. nat_lt b 256) xs ≡ true

@@ -1,8 +1,8 @@
 pub mod ContentsShown
-pub mod Digests
-pub mod Growth
+pub mod Feeds
 pub mod Judged
 pub mod Records
+pub mod RisingObjects
 pub mod SetMaps
 pub mod LoadedBlocks
 pub mod LoadedRecords

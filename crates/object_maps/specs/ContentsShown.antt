@@ -6,7 +6,7 @@ use Rattle.std.specs.FinMap as finite
 use Rattle.std.specs.FinMap.{FinMap}
 use Rattle.base.specs.declared.error.PoolError.{PoolError}
 use Rattle.base.specs.declared.operation.Op.{Op}
-use Rattle.base.specs.history.Contents.{Contents, stored, apply}
+use Rattle.base.specs.history.Contents.{Contents, stored}
 use Rattle.base.specs.history.History.{apply_all}
 use Rattle.object_maps.specs.declared.contents.Slot.{Slot}
 use Rattle.object_maps.specs.declared.contents.Contents as declared
@@ -27,10 +27,6 @@ objects_from n (s ∷ slots) = stored (objects_from (suc n) slots) n (object_of 
 -- the contents that a name and slots hold
 abbrev pub contents_of : declared.Contents → Contents
 contents_of c = record { name = c.name; objects = objects_from 0 c.slots.items }
-
--- the operation can take place
-abbrev pub Applies : Op → Contents → Type 0
-Applies op c = (after : Contents) × (apply op c ≡ Ok after)
 
 -- the operations can take place in order
 abbrev pub Apply : List Op → Contents → Type 0

@@ -1,13 +1,17 @@
--- What the digest of a pool's contents has of their slots.
-use Rattle.std.specs.Prelude.{ℕ, suc, cond, List, [], ◌∷◌, ◌++◌}
+-- What the digest of a pool's contents has of their objects.
+use Rattle.std.specs.Prelude.{ℕ, List, [], ◌++◌}
+use Rattle.std.specs.Option.{option_map_or}
+use Rattle.std.specs.Ordering.{nat_cmp}
+use Rattle.std.specs.FinMap as finite
+use Rattle.std.specs.FinMap.{FinMap}
+use Rattle.sha2.specs.Hashers.{Holds256}
+use Rattle.sha2.specs.declared.Sha256.{Sha256}
 use Rattle.base.specs.formats.Digest.{object_text}
-use Rattle.object_maps.specs.declared.contents.Slot.{Slot}
 
--- of a slot, whose object has this number: of the object, if it is there
-abbrev pub slot_text : ℕ → Slot → List ℕ
-slot_text n s = cond s.present (object_text (n, s.bytes.items)) []
+-- a hasher takes in these bytes behind the message that it has
+abbrev pub Feeds : List ℕ → Sha256 → Sha256 → Type 0
+Feeds bytes old new = (m : List ℕ) → Holds256 old m → Holds256 new (m ++ bytes)
 
--- of slots, whose objects have the numbers from this one on
-abbrev pub slots_text : ℕ → List Slot → List ℕ
-slots_text n [] = []
-slots_text n (s ∷ slots) = slot_text n s ++ slots_text (suc n) slots
+-- of object n, if it is there: its number, its length and its bytes
+abbrev pub text_at : FinMap nat_cmp (List ℕ) → ℕ → List ℕ
+text_at objects n = option_map_or (λ bytes. object_text (n, bytes)) (finite.get objects n) []

@@ -2,15 +2,18 @@
 #![tactic(auto)]
 
 mod contents;
-mod digest;
+mod digests;
 mod judging;
 mod objects;
+mod reading;
 mod source;
 mod tree;
 mod walk;
 
 pub use contents::{Contents, Slot, empty_slots};
+pub use digests::digest;
 pub use judging::judge;
+pub use reading::read_range;
 pub use source::ObjectSource;
 pub use tree::{ObjectMap, Tree, empty_maps};
 pub use walk::{Loaded, load};

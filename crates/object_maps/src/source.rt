@@ -1,23 +1,21 @@
-//! Where the objects of a pool are read: their lengths, and one record at a time.
+//! Where the objects of a pool are read: their lengths, and parts of one record at a time.
 //!
 //! Whoever plans a tree or judges operations asks for objects by this interface, so that it doesn't matter whether they
 //! stand in memory or are read from a device.
 
-ghost use Rattle.std.specs.Prelude.{◌≡◌, ◌<◌, ◌≤◌, ℕ, List, IfErr, OnOk, is_some, length};
+ghost use Rattle.std.specs.Prelude.{◌≡◌, ◌<◌, ◌≤◌, ◌+◌, ◌*◌, ℕ, List, IfErr, OnOk, is_some, length};
 ghost use Rattle.std.specs.Ordering.{nat_cmp};
 ghost use Rattle.std.specs.FinMap as finite;
 ghost use Rattle.std.specs.FinMap.{FinMap};
 ghost use Rattle.base.specs.declared.error.PoolError.{PoolError};
 ghost use Rattle.base.specs.declared.error.PoolError.TheVariants as error;
-ghost use Rattle.base.specs.tree.PlacedTrees.{padded_record};
-ghost use Rattle.base.specs.tree.Tree.{record_bytes};
 ghost use Rattle.object_maps.specs.ContentsShown.{contents_of};
-ghost use Rattle.object_maps.specs.Sources.{object_length, object_record};
+ghost use Rattle.object_maps.specs.Sources.{AreBytesFrom, bytes_in, object_length, object_record};
 
 use crate::contents::Contents;
 use base::{ObjectId, PoolError, RECORD_SIZE};
 
-/// Where the objects of a pool are read: their lengths, and one record at a time.
+/// Where the objects of a pool are read: their lengths, and parts of one record at a time.
 pub trait ObjectSource {
     /// The objects that it stands for, by their numbers.
     ghost objects: { Self → FinMap nat_cmp (List ℕ) };
@@ -36,6 +34,23 @@ pub trait ObjectSource {
         self.length(id).is_some()
     }
 
+    /// Reads bytes of a record of an object, from the offset `start` in it on, as many as `into` has, with zeros behind the
+    /// object's end. An object that is not there has zeros. Where it is refused `into` may hold anything.
+    fn read_part(
+        &mut self,
+        id: ObjectId,
+        index: usize,
+        start: usize,
+        into: &mut [u8],
+    ) -> Result<(), PoolError>
+        requires index { index < 84 }
+        requires within { start + length into.old ≤ 4032 }
+        ensures kept { objects self.new ≡ objects self.old }
+        ensures size { length into.new ≡ length into.old }
+        ensures part { OnOk result (AreBytesFrom (4032 * index + start)
+            (bytes_in (objects self.old) id.0) into.new) }
+        ensures refused { IfErr result may_refuse };
+
     /// Reads a record of an object, 4,032 bytes, with zeros behind the object's end. The record of an object that is not
     /// there is zeros. Where it is refused `into` may hold anything.
     fn read_record(&mut self, id: ObjectId, index: usize, into: &mut [u8]) -> Result<(), PoolError>
@@ -44,7 +59,10 @@ pub trait ObjectSource {
         ensures kept { objects self.new ≡ objects self.old }
         ensures size { length into.new ≡ 4032 }
         ensures record { OnOk result (into.new ≡ object_record (objects self.old) id.0 index) }
-        ensures refused { IfErr result may_refuse };
+        ensures refused { IfErr result may_refuse }
+    {
+        self.read_part(id, index, 0, into)
+    }
 
     /// A read takes no blocks, so none is refused for want of them.
     ghost takes_no_blocks: { may_refuse error.NoSpace → ⊥ };
@@ -62,35 +80,26 @@ impl ObjectSource for &Contents {
         self.object(id).map(|bytes| bytes.len() as u64)
     }
 
-    fn read_record(
+    fn read_part(
         &mut self,
         id: ObjectId,
         index: usize,
+        start: usize,
         into: &mut [u8],
     ) -> Result<(), PoolError> {
-        copy_record(self.object(id).unwrap_or(&[]), index, into);
+        let object = self.object(id).unwrap_or(&[]);
+        copy_from(object, RECORD_SIZE * index + start, into);
         Ok(())
     }
 }
 
-// Copies a record of an object, with zeros behind the object's end.
-fn copy_record(bytes: &[u8], index: usize, into: &mut [u8])
-    requires index { index < 84 }
-    requires size { length into.old ≡ 4032 }
-    ensures { into.new ≡ padded_record index bytes.now }
+// Copies bytes of an object from an offset on, with zeros behind the object's end.
+fn copy_from(object: &[u8], offset: usize, into: &mut [u8])
+    ensures size { length into.new ≡ length into.old }
+    ensures bytes { AreBytesFrom offset object.now into.new }
 {
-    let record = record_of(bytes, index);
-    into[..record.len()].copy_from_slice(record);
-    into[record.len()..].fill(0);
-}
-
-// The bytes of an object in a record, as far as it reaches.
-fn record_of(bytes: &[u8], index: usize) -> &[u8]
-    requires { index < 84 }
-    ensures bytes { result.now ≡ record_bytes index bytes.now }
-    ensures size { length result.now ≤ 4032 }
-{
-    let low = (RECORD_SIZE * index).min(bytes.len());
-    let high = (RECORD_SIZE * (index + 1)).min(bytes.len());
-    &bytes[low..high]
+    let low = offset.min(object.len());
+    let count = into.len().min(object.len() - low);
+    into[..count].copy_from_slice(&object[low..low + count]);
+    into[count..].fill(0);
 }

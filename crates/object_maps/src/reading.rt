@@ -1,0 +1,60 @@
+//! A range of an object's bytes, read from a source by the parts of records that it touches.
+
+ghost use Rattle.std.specs.Prelude.{◌≡◌, ◌+◌, ◌≤◌, ◌⊎◌, length, OnOk, IfOk, IfErr};
+ghost use Rattle.base.specs.declared.error.PoolError.TheVariants as error;
+ghost use Rattle.base.specs.formats.Fields.{part};
+ghost use Rattle.base.specs.formats.Limits.{max_length};
+ghost use Rattle.object_maps.specs.Sources.{bytes_in, range_in};
+
+use crate::source::ObjectSource;
+use base::{Bytes, ObjectId, PoolError, RECORD_SIZE, Range};
+use std::alloc::Global;
+
+/// The bytes of a range of an object that lie below its length; none where the object is not there. Only the parts
+/// of records that they lie in are read, straight into their place. It is refused `NoMemory` where there is none for the bytes, and as the source refuses a read.
+pub fn read_range<O: ObjectSource>(
+    objects: &mut O,
+    alloc: Global,
+    id: ObjectId,
+    range: Range,
+) -> Result<Bytes, PoolError>
+    requires ordered { range.low ≤ range.high }
+    requires within { range.high ≤ max_length }
+    ensures kept { O.objects objects.new ≡ O.objects objects.old }
+    ensures bytes { IfOk result (λ bytes. bytes ≡ range_in (O.objects objects.old) id range) }
+    ensures refused { IfErr result (λ e. (e ≡ error.NoMemory) ⊎ O.may_refuse e) }
+{
+    let length = objects.length(id).unwrap_or(0);
+    let low = range.low.min(length) as usize;
+    let high = range.high.min(length) as usize;
+    let mut bytes = Vec::new(alloc);
+    bytes.resize(high - low, 0)?;
+    read_bytes(objects, id, low, bytes.as_mut_slice())?;
+    Ok(Bytes::new(bytes))
+}
+
+// Reads bytes of an object from an offset on, as many as `into` has. They lie below the object's length.
+fn read_bytes<O: ObjectSource>(
+    objects: &mut O,
+    id: ObjectId,
+    low: usize,
+    into: &mut [u8],
+) -> Result<(), PoolError>
+    requires within { low + length into.old ≤ max_length }
+    requires inside { low + length into.old ≤ length (bytes_in (O.objects objects.old) id.0) }
+    ensures kept { O.objects objects.new ≡ O.objects objects.old }
+    ensures size { length into.new ≡ length into.old }
+    ensures bytes { OnOk result (into.new
+        ≡ part (bytes_in (O.objects objects.old) id.0) low (length into.old)) }
+    ensures refused { IfErr result O.may_refuse }
+{
+    let mut done = 0;
+    while done < into.len() {
+        let start = (low + done) % RECORD_SIZE;
+        let count = (RECORD_SIZE - start).min(into.len() - done);
+        let index = (low + done) / RECORD_SIZE;
+        objects.read_part(id, index, start, &mut into[done..done + count])?;
+        done += count;
+    }
+    Ok(())
+}
