@@ -148,6 +148,7 @@ module _ (size : ℕ) (u : Uberblock) (name : List ℕ) (slots : List Slot) (tre
     kept = refl;
     log_number = refl;
     sync = refl;
+    synced_are = refl;
     lengths = λ n below. ap (λ (t : Tree). lengths_of t n) from.tree_is ∙ told n below ∙ ap (λ (l : List Slot). option_map length (finite.get (objects_of l) n)) (sym from.slots_are);
   }
 

@@ -42,6 +42,7 @@ shown_of_import m = record {
   free = m.free.free;
   log = record { pending = []; kept = []; next = record { address = m.log_address; number = 0 } };
   root = m.tree.root;
+  synced_contents = contents_of m.contents;
   lengths = lengths_of m.tree;
   sync = None;
 }
