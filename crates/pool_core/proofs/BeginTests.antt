@@ -12,7 +12,7 @@ use Rattle.base.specs.history.Plans.{charge_of, is_plan_allowed, is_shape_allowe
 use Rattle.base.specs.steps.Locks.{Grant}
 use Rattle.base.specs.steps.Refusals.{Test, blocks_wanted, first_refusal, is_plan_blocked, is_plan_covered}
 use Rattle.base.specs.steps.Shown.{Shown, available, dirty_total}
-use Rattle.base.specs.steps.Stage.{has_older_group, is_plan_built, is_shape_built, begin_refusal, begin_tests, Begin}
+use Rattle.base.specs.steps.Stage.{is_plan_built, is_shape_built, begin_refusal, begin_tests, Begin}
 use Rattle.base.specs.steps.Steps.{State, next_admission, state_after_charged_admission}
 use Rattle.throttle.specs.Blocks.{ShowsSums, blocks_of}
 use Rattle.throttle.specs.DirtyBytes.{DirtyBytes, after_admit}
@@ -80,13 +80,10 @@ module _ (owner : ℕ) (plan : List Shape) (s : Shown) where
   pub begin_suspended : s.suspended ≡ true → begin_refusal owner plan s ≡ Some error.Suspended
   begin_suspended h = rw h refl
 
-  pub begin_older : s.suspended ≡ false → has_older_group s.line ≡ true → begin_refusal owner plan s ≡ Some error.NotReady
-  begin_older h older = rw (h, older) refl
-
-  -- no older group is unsynced: the tests of the plan are next, then those of its ranges, then those of the room
-  module _ (running : s.suspended ≡ false) (no_older : has_older_group s.line ≡ false) where
+  -- of a pool that runs: the tests of the plan are first, then those of its ranges, then those of the room
+  module _ (running : s.suspended ≡ false) where
     waited : begin_refusal owner plan s ≡ first_refusal (plan_tests plan ++ range_tests owner plan s ++ room_tests plan s)
-    waited = rw (running, no_older) refl
+    waited = rw running refl
 
     pub begin_bad : (e : PoolError) → first_refusal (plan_tests plan) ≡ Some e → begin_refusal owner plan s ≡ Some e
     begin_bad e bad = waited ∙ refused_before (plan_tests plan) (range_tests owner plan s ++ room_tests plan s) e bad
@@ -110,7 +107,7 @@ module _ (owner : ℕ) (plan : List Shape) (s : Shown) where
   -- where none of its tests applies
   pub may_begin : begin_refusal owner plan s ≡ None → MayBegin plan s
   may_begin none =
-      let passed = (all_pass (begin_tests owner plan s) none).1.1 in
+      let passed = (all_pass (begin_tests owner plan s) none).1 in
       let ranges = passed.1.1.1 in
       record {
         built = from_not_false _ _ refl passed.0;

@@ -4,12 +4,13 @@ use Rattle.std.proofs.lemmas.Bool.Decides.{nat_tests}
 use Rattle.std.proofs.lemmas.List.{length-map}
 use Rattle.std.specs.FinMap.{get-empty}
 use Rattle.std.specs.Ordering.{nat_cmp}
-use Rattle.std.specs.Prelude.{IfSome, Option, Some, None, OnErr, OnOk, Result, Ok, Err, option_map}
+use Rattle.std.specs.Prelude.{Option, Some, None, OnErr, OnOk, Result, Ok, Err, option_map}
 use Rattle.base.specs.declared.error.PoolError.{PoolError}
 use Rattle.base.specs.declared.names.Group.{Group}
 use Rattle.base.specs.declared.status.Status.{Status}
 use Rattle.base.specs.declared.operation.Shape.{Shape}
 use Rattle.base.specs.formats.Geometry.{block_address, block_size}
+use Rattle.base.specs.history.Contents.{Contents}
 use Rattle.base.specs.history.Plans.{charge_of, estimate_of}
 use Rattle.base.specs.steps.Groups.{Middle}
 use Rattle.base.specs.steps.Charges.{available_of}
@@ -28,7 +29,8 @@ use Rattle.pool_core.specs.declared.pool.Pool.{Pool}
 use Rattle.pool_core.specs.declared.pool.RunningSync.{RunningSync}
 use Rattle.pool_core.proofs.HeldGroups.{none_syncing}
 use Rattle.pool_core.proofs.SameSyncs.{taken_count}
-use Rattle.pool_core.specs.Shows.{plan_of, pool_shown}
+use Rattle.pool_core.proofs.UnsyncedChanges.{syncing_follows}
+use Rattle.pool_core.specs.Shows.{contents_after_oldest, plan_of, pool_shown}
 
 -- the blocks of all sums are those of one of whole blocks and those of the rest
 module _ (reserved total sum rest : ℕ) (reserved_is : reserved ≡ blocks_in total) (is : rest + sum ≡ total) (whole : sum % block_size ≡ 0) where
@@ -57,9 +59,9 @@ pub total-behind : (limit synced : ℕ) → total_of (dirty_behind limit synced)
 total-behind limit synced = rw (get-empty nat_cmp (synced + 1), get-empty nat_cmp (synced + 1 + 1), get-empty nat_cmp (synced + 1 + 1 + 1)) refl
 
 -- how many blocks a running sync has taken
-length-taken : (address : ℕ) (tree : Tree) (sync : Option RunningSync) → length (taken_of (option_map (plan_of address tree) sync)) ≡ taken_count sync
-length-taken address tree None = refl
-length-taken address tree (Some r) = length-map r.run.blocks.items (λ (b : PlannedBlock). block_address b.index)
+length-taken : (address : ℕ) (tree : Tree) (contents : Contents) (sync : Option RunningSync) → length (taken_of (option_map (plan_of address tree contents) sync)) ≡ taken_count sync
+length-taken address tree contents None = refl
+length-taken address tree contents (Some r) = length-map r.run.blocks.items (λ (b : PlannedBlock). block_address b.index)
 
 module _ (p : Pool) where
   pub shows_sums : ShowsSums (pool_shown p) p.dirty
@@ -70,7 +72,7 @@ module _ (p : Pool) where
 
   -- what is available is what the free set says
   pub available_told : available_in p.free ≡ available (pool_shown p)
-  available_told k = available_of (free_count (pool_shown p)) ((p.reserved ∙ sym pool_totals.reserved) k) ((p.free_taken ∙ sym (length-taken p.log_address p.tree p.sync)) k)
+  available_told k = available_of (free_count (pool_shown p)) ((p.reserved ∙ sym pool_totals.reserved) k) ((p.free_taken ∙ sym (length-taken p.log_address p.tree (contents_after_oldest p) p.sync)) k)
 
   -- where a plan's blocks are available they may be reserved
   pub enough_free : (plan : List Shape) (count : ℕ) → count ≡ estimate_of plan → nat_lt (available (pool_shown p)) (blocks_wanted (pool_shown p).contents plan) ≡ false → is_short count 0 p.free ≡ true → ⊥
@@ -90,9 +92,7 @@ module _ (p : Pool) where
 
   -- the syncing group is the one after that of the sums
   pub syncing_next : (group : ℕ) → p.groups.line.syncing ≡ Some group → group ≡ p.dirty.synced + 1
-  syncing_next group is =
-      let next : IfSome (Some group) (λ g. g ≡ p.groups.line.synced + 1) = subst (λ (o : Option ℕ). IfSome o (λ g. g ≡ p.groups.line.synced + 1)) is p.counted.line.syncing in
-      next ∙ ap (λ n. n + 1) p.charged.synced
+  syncing_next group is = syncing_follows p.groups.line group p.counted.line is ∙ ap (λ n. n + 1) p.charged.synced
 
   -- and no open transaction is of it, so once it is synced the groups are charged for the open ones
   pub synced_open_charged : (group : ℕ) → p.groups.line.syncing ≡ Some group → AreOpenOnesCharged p.transactions.transactions (after_synced group p.dirty)

@@ -6,7 +6,6 @@ use Rattle.base.specs.declared.operation.Shape.{Shape}
 use Rattle.base.specs.history.Plans.{shape_of}
 use Rattle.base.specs.steps.Groups.{Admission}
 use Rattle.base.specs.steps.Refusals.{is_same_plan, transaction_of}
-use Rattle.base.specs.steps.Stage.{has_older_group}
 use Rattle.object_maps.specs.Ops.{AreOpsAllowed}
 use Rattle.pool_core.specs.declared.pool.Pool.{Pool}
 use Rattle.pool_core.specs.Shows.{pool_shown}
@@ -21,10 +20,9 @@ module _ (tx : ℕ) (ops : List Op) (pool : Pool) (a : Admission) (found : trans
   ops_allowed plan plan_is tested = allowed_ops ops a.plan (tested.0 passed ∙ plan_is) (found_built tx pool.transactions.transactions a found pool.plans_built)
 
   -- and pass the tests up to that of the contents
-  pub in_plan : pool.suspended ≡ false → has_older_group pool.groups.line ≡ false → test ≡ is_same_plan (map shape_of ops) a.plan → AreOpsAllowed ops → IsInPlan tx ops a (pool_shown pool)
-  in_plan running no_older tested allowed = record {
+  pub in_plan : pool.suspended ≡ false → test ≡ is_same_plan (map shape_of ops) a.plan → AreOpsAllowed ops → IsInPlan tx ops a (pool_shown pool)
+  in_plan running tested allowed = record {
     running = running;
-    no_older = no_older;
     found = found;
     same = sym tested ∙ passed;
     no_name = no_names ops allowed;

@@ -8,7 +8,7 @@ use Rattle.std.proofs.lemmas.List.Elements.{filter-append}
 use Rattle.base.specs.declared.error.PoolError.{PoolError}
 use Rattle.base.specs.declared.names.Group.{Group}
 use Rattle.base.specs.formats.Limits.{first_group, last_number, max_transactions}
-use Rattle.base.specs.steps.Groups.{Admission, MayHold, hold_count}
+use Rattle.base.specs.steps.Groups.{Admission, Line, MayHold, hold_count}
 use Rattle.base.specs.steps.Refusals.{quiesced_group, quiescing_group}
 use Rattle.base.specs.steps.Steps.{transactions_without}
 use Rattle.base.proofs.common.KeptLists.{Some-injective}
@@ -111,12 +111,15 @@ pub of_group : (made : ℕ → CountedLine) (o : Option ℕ) (group other : ℕ)
 of_group made o group other {new} is also at = subst (λ g. new ≡ made g) (Some-injective (sym also ∙ is)) at
 
 -- where the sync of a group may start it is not refused
+pub may_start : (l : Line) (group : ℕ) → MayStart group l → is_start_refused l ≡ false
+may_start l group may = λ i. is_none (may.0 i) || may.1 i
+
+-- so it starts
 pub started : (answer : Result Group PoolError) (l new : CountedLine) (group : ℕ) → MayStart group l.line → (IsErr answer ↔ IsTrue (is_start_refused l.line)) → IfOk answer (λ g. new ≡ after_start g.0 l)
     → IfOk answer (λ g. quiesced_group l.line ≡ Some g.0) → new ≡ after_start group l
 started (Ok g) l new group may refused is at = of_group (λ n. after_start n l) (quiesced_group l.line) group g.0 may.0 at is
 started (Err e) l new group may refused is at =
-    let passes : is_start_refused l.line ≡ false = λ i. is_none (may.0 i) || may.1 i in
-    absurd (false≢true (sym passes ∙ refused.0 refl))
+    absurd (false≢true (sym (may_start l.line group may) ∙ refused.0 refl))
 
 -- a close and a quiesce, refused or not
 module _ (answer : Result Group PoolError) (ts : List Admission) (old new : CountedLine) (counted : IsCounted old) (exact : AreHoldsExact ts old) where

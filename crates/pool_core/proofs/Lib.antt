@@ -8,6 +8,9 @@ pub mod Charges
 pub mod CommitTests
 pub mod Flags
 pub mod CommitSteps
+pub mod ReadContents
+pub mod Entered
+pub mod PendingChanges
 pub mod ReadSteps
 pub mod ToldContents
 pub mod OfNoDevice
@@ -21,10 +24,14 @@ pub mod StepsOver
 pub mod StillSteps
 pub mod MadeSteps
 pub mod SyncLeads
+pub mod PendingOps
+pub mod UnsyncedChanges
 pub mod PlannedGroups
+pub mod PlannedContents
 pub mod PlannedCounts
 pub mod StartLeads
 pub mod Starts
+pub mod StartedSyncs
 pub mod SyncSteps
 pub mod FreeBlocks
 pub mod PlannedPointers

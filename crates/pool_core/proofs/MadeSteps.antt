@@ -3,6 +3,9 @@ use Rattle.std.proofs.Common.{◌≡◌, ℕ, true, false, List, [], refl, ap, s
 use Rattle.std.specs.Prelude.{IsOkAnd, IsTrue, MatchResult, None, Result, Ok, Err}
 use Rattle.base.specs.declared.error.PoolError.{PoolError}
 use Rattle.base.specs.declared.names.Group.{Group}
+use Rattle.base.specs.declared.names.Receipt.{Receipt}
+use Rattle.base.specs.declared.names.TxId.{TxId}
+use Rattle.base.specs.declared.operation.Op.{Op}
 use Rattle.base.specs.declared.step.Step as declared_step
 use Rattle.base.specs.declared.step.Step.TheVariants as step
 use Rattle.base.specs.declared.step.Reply.{Reply}
@@ -10,6 +13,8 @@ use Rattle.base.specs.declared.step.Reply.TheVariants as reply
 use Rattle.base.specs.declared.refused.RefusedCalls.{RefusedCalls}
 use Rattle.base.specs.declared.status.Status.{Status}
 use Rattle.base.specs.disk.Calls.{counted}
+use Rattle.base.specs.history.Past.{Past}
+use Rattle.base.specs.steps.ExactNow.{IsExplainedNow}
 use Rattle.base.specs.steps.Runs.{Replies, is_start, progress_reply, reply_of}
 use Rattle.base.specs.steps.Shown.{status_of}
 use Rattle.base.specs.steps.Stage as stage
@@ -25,8 +30,8 @@ use Rattle.pool_core.specs.Holds.{Leads, start_reply, sync_step_reply}
 use Rattle.pool_core.specs.Meets.{Meets}
 use Rattle.pool_core.specs.Progresses.{plain_progress}
 use Rattle.pool_core.specs.States.{CountsRefused, MakesNoCall, MovesNothing, device_of, refused_calls, shown, told, told_over}
-use Rattle.pool_core.specs.StepAnswers.{StartsSync, StepsSync, group_number}
-use Rattle.pool_core.specs.StepReplies.{IsStep, StepReplies}
+use Rattle.pool_core.specs.StepAnswers.{Commits, StartsSync, StepsSync, group_number, receipt_numbers}
+use Rattle.pool_core.specs.StepReplies.{IsStep, StepReplies, rests_on_past}
 use Rattle.pool_core.specs.SyncStarts.{StartLeads, StartsHeld}
 use Rattle.pool_core.specs.Tables.{result_map}
 use Rattle.pool_core.specs.Turns.{MakesStep}
@@ -51,12 +56,12 @@ read_moves_nothing no_call = record { no_call = no_call; kept = record { geometr
 
 module _ {Dev : Type 0} {G : Ghosts Dev} {old new : PoolState Dev G} where
   -- one that moves nothing: neither the start of a sync nor a step of one
-  pub still_step : {A B : Type 0} {s : declared_step.Step} {Does : Result B PoolError → State → State → Type 0} {make : B → Reply} {answer : Result A PoolError} (f : A → B) (made : Result Reply PoolError)
+  led_step : {A B : Type 0} {s : declared_step.Step} {Does : Result B PoolError → State → State → Type 0} {make : B → Reply} {answer : Result A PoolError} (f : A → B) (made : Result Reply PoolError)
       → ((r : Reply) (x y : State) → Replies make r (λ a. Does a x y) → IsStep s r x y) → is_start s ≡ false → ((b : B) → is_still (make b) ≡ true)
       → ((r : Reply) → device_of new ≡ device_of old → CallsDevice s r old new)
-      → Meets Does (result_map f answer) (shown old) (shown new) → MovesNothing answer old new → MatchResult answer (λ a. IsOkAnd made (λ r. r ≡ make (f a))) (λ e. made ≡ Err e)
-      → MakesStep s (reply_in made) old new
-  still_step {A} {B} {s} {Does} {make} {answer} f made same off quiet calls meets moves makes = record {
+      → ((past : Past) → (rests_on_past s ≡ true → IsExplainedNow (shown old) past) → (later : Past) × Does (result_map f answer) (record { shown = shown old; past = past }) (record { shown = shown new; past = later }))
+      → MovesNothing answer old new → MatchResult answer (λ a. IsOkAnd made (λ r. r ≡ make (f a))) (λ e. made ≡ Err e) → MakesStep s (reply_in made) old new
+  led_step {A} {B} {s} {Does} {make} {answer} f made same off quiet calls meets moves makes = record {
     replied = replies;
     turns = any_turns (IsTrue G.keeps_model) s (reply_in made) (told old) (told new) off replies leads;
     leads = leads;
@@ -70,11 +75,25 @@ module _ {Dev : Type 0} {G : Ghosts Dev} {old new : PoolState Dev G} where
       replies : StepReplies s (reply_in made) (shown old) (shown new)
       replies past explained =
           let before : State = record { shown = shown old; past = past } in
-          let one = replied_with (λ answer later. Does answer before (record { shown = shown new; past = later })) f make answer (reply_in made) is (meets past) in
+          let one = replied_with (λ answer later. Does answer before (record { shown = shown new; past = later })) f make answer (reply_in made) is (meets past explained) in
           (one.0, same (reply_in made) before (record { shown = shown new; past = one.0 }) one.1)
 
       leads : IsTrue G.keeps_model → Leads (reply_in made) (told old) (told new)
       leads keeps = still_replied old new (λ (a : A). make (f a)) answer (reply_in made) (λ a. quiet (f a)) is moves
+
+  -- whatever the past
+  pub still_step : {A B : Type 0} {s : declared_step.Step} {Does : Result B PoolError → State → State → Type 0} {make : B → Reply} {answer : Result A PoolError} (f : A → B) (made : Result Reply PoolError)
+      → ((r : Reply) (x y : State) → Replies make r (λ a. Does a x y) → IsStep s r x y) → is_start s ≡ false → ((b : B) → is_still (make b) ≡ true)
+      → ((r : Reply) → device_of new ≡ device_of old → CallsDevice s r old new)
+      → Meets Does (result_map f answer) (shown old) (shown new) → MovesNothing answer old new → MatchResult answer (λ a. IsOkAnd made (λ r. r ≡ make (f a))) (λ e. made ≡ Err e)
+      → MakesStep s (reply_in made) old new
+  still_step f made same off quiet calls meets moves makes = led_step f made same off quiet calls (λ past explained. meets past) moves makes
+
+  -- a commit, for a past that explains what was shown
+  pub commit_step : {tx : TxId} {ops : List Op} {answer : Result Receipt PoolError} (made : Result Reply PoolError) → Commits tx ops answer (shown old) (shown new) → MovesNothing answer old new
+      → MatchResult answer (λ receipt. IsOkAnd made (λ r. r ≡ reply.Committed receipt)) (λ e. made ≡ Err e) → MakesStep (step.Commit tx ops) (reply_in made) old new
+  commit_step {tx} {ops} {answer} made commits moves makes =
+      led_step receipt_numbers made (λ r x y h. h) refl (λ b. refl) (λ r d. d) (λ past explained. commits past (explained refl)) moves makes
 
   -- one of which the definitions speak of the answer as it is
   pub plain_step : {A : Type 0} {s : declared_step.Step} {Does : Result A PoolError → State → State → Type 0} {make : A → Reply} {answer : Result A PoolError} (made : Result Reply PoolError)

@@ -1,12 +1,18 @@
 -- The state that an import gives is held by its device, with a past in which nothing happened.
-use Rattle.std.proofs.Common.{◌≡◌, ℕ, List, length, refl, sym, subst}
-use Rattle.std.specs.Prelude.{None, option_map}
+use Rattle.std.proofs.Common.{◌≡◌, ◌<◌, ◌≤◌, ℕ, List, length, nat_lt, refl, sym, subst, true}
+use Rattle.std.proofs.Math.Logic.{∥∥₁_elim}
+use Rattle.std.specs.Coded.{×_prop, Π_prop, Unit-prop, le_prop}
+use Rattle.std.specs.FinMap as finite
+use Rattle.std.specs.List.{list_all}
+use Rattle.std.specs.Prelude.{IfSome, None, Option, Some, option_map}
 use Rattle.base.specs.formats.Geometry.{block_count}
+use Rattle.base.specs.formats.Limits.{max_length, object_count}
 use Rattle.base.specs.history.Past.{new_past}
 use Rattle.base.specs.steps.Shown.{Shown}
 use Rattle.base.specs.stored.Stored.{IsHeld, IsStored}
 use Rattle.object_maps.specs.ContentsShown.{contents_of}
 use Rattle.object_maps.specs.Pointers.{pointers_of}
+use Rattle.object_maps.specs.Sources.{AreWithin}
 use Rattle.import_replay.specs.declared.mounted.Mounted.{Mounted}
 use Rattle.import_replay.specs.Mounts.{IsExplainedAnew, StandsOn, shown_of_import}
 use Rattle.import_replay.specs.ShownMounts.{LabelsShow}
@@ -37,6 +43,20 @@ module _ (now : List ℕ) (created : ℕ) (m : Mounted) (sized : block_count m.g
     running = None;
   })
   is_held = record { explained = explained created; kept = record { stored = stored; sync = refl; geometry = shows.geometry; labels = shows.labels created } }
+
+-- The contents that an import mounts are within the limits.
+pub mounted_within : (m : Mounted) → ∥ IsExplainedAnew m ∥₁ → AreWithin (contents_of m.contents).objects
+mounted_within m explained =
+    ∥∥₁_elim explained (Π_prop (λ n. within_prop n (finite.get (contents_of m.contents).objects n))) (λ at n. of_bounded n (finite.get (contents_of m.contents).objects n) ((at 0).exact.bounded.objects n))
+  where
+    within_prop : (n : ℕ) (o : Option (List ℕ)) → IsProp (IfSome o (λ bytes. (n < object_count) × (length bytes ≤ max_length)))
+    within_prop n None = Unit-prop
+    within_prop n (Some bytes) = ×_prop le_prop le_prop
+
+    of_bounded : (n : ℕ) (o : Option (List ℕ)) → IfSome o (λ bytes. (n < object_count) × (length bytes ≤ max_length) × (list_all (λ b. nat_lt b 256) bytes ≡ true))
+        → IfSome o (λ bytes. (n < object_count) × (length bytes ≤ max_length))
+    of_bounded n None bounded = tt
+    of_bounded n (Some bytes) bounded = (bounded.0, bounded.1)
 
 -- A pool that shows what an import mounted is explained by its own first past.
 pub explained_as : (m : Mounted) (shown : Shown) → shown ≡ shown_of_import m → IsExplainedAnew m → IsExplainedAtFirst shown

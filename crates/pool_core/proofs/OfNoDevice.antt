@@ -16,7 +16,7 @@ use Rattle.base.specs.history.Contents.{Contents, apply, created, removed, chang
 use Rattle.base.specs.history.History.{apply_all}
 use Rattle.base.specs.history.Past.{Past, new_past}
 use Rattle.base.specs.history.Plans.{NumberRange}
-use Rattle.base.specs.steps.Refusals.{Test, first_refusal, abort_tests, append_tests, digest_tests, length_tests, ops_tests, lock_tests, unlock_tests, read_tests, commit_tests, close_tests, quiesce_tests}
+use Rattle.base.specs.steps.Refusals.{Test, first_refusal, abort_tests, append_tests, digest_tests, length_tests, ops_tests, lock_tests, unlock_tests, read_tests, commit_tests, close_tests, quiesce_tests, commit_refusal}
 use Rattle.base.specs.history.Sequences.{and_then, in_turn}
 use Rattle.base.specs.steps.Shown.{Shown}
 use Rattle.base.specs.steps.Stage as stage
@@ -87,6 +87,11 @@ ops_tests_own : (r : Result Contents PoolError) (t : Test) → is_own_answer r �
 ops_tests_own (Ok c) t h own = rw own refl
 ops_tests_own (Err e) t h own = rw (h, own) refl
 
+-- So a commit that its tests refuse counts nothing.
+pub commit_own : (tx : ℕ) (ops : List Op) (s : Shown) (e : PoolError) → commit_refusal tx ops s ≡ Some e → (calls : RefusedCalls) → with_refusal e calls ≡ calls
+commit_own tx ops s e refused calls =
+    counts_none e calls (first_own (commit_tests tx ops s) (Some e) (ops_tests_own (apply_all ops s.contents) _ (ops_own ops s.contents) refl) refused e refl)
+
 some_past : Shown → Past
 some_past s = new_past s.contents 0 s.dirty_max
 
@@ -104,9 +109,6 @@ module _ (old new : Shown) where
   pub begin_own : (owner : ℕ) (plan : List Shape) (answer : Result (ℕ × ℕ) PoolError) → Meets (stage.Begin owner plan) answer old new → is_own_answer answer ≡ true
   begin_own owner plan answer meets = own_answer (stage.begin_tests owner plan old) _ answer _ _ _ _ refl refl (λ e own. wants_memory e own.0) (meets (some_past old)).1
 
-  pub commit_own : (tx : ℕ) (ops : List Op) (answer : Result (ℕ × ℕ) PoolError) → Meets (stage.Commit tx ops) answer old new → is_own_answer answer ≡ true
-  commit_own tx ops answer meets = own_answer (stage.waits_for_older old (commit_tests tx ops old)) _ answer _ _ _ _ (ops_tests_own (apply_all ops old.contents) _ (ops_own ops old.contents) refl) refl (λ e own. wants_memory e own.0) (meets (some_past old)).1
-
   pub abort_own : (tx : ℕ) (answer : Result (Unit {0}) PoolError) → Meets (steps.Abort tx) answer old new → is_own_answer answer ≡ true
   abort_own tx answer meets = own_answer (abort_tests tx old) _ answer _ _ _ _ refl refl (λ e own. absurd own) (meets (some_past old)).1
 
@@ -119,8 +121,8 @@ module _ (old new : Shown) where
   pub digest_own : (answer : Result (List ℕ) PoolError) → Meets stage.Digest answer old new → is_own_answer answer ≡ true
   digest_own answer meets = own_answer (digest_tests old) _ answer _ _ _ _ refl refl (λ e own. absurd own) (meets (some_past old)).1
 
-  pub close_own : (answer : Result ℕ PoolError) → Meets stage.CloseGroup answer old new → is_own_answer answer ≡ true
-  close_own answer meets = own_answer (stage.waits_for_older old (close_tests old)) _ answer _ _ _ _ refl refl (λ e own. absurd own) (meets (some_past old)).1
+  pub close_own : (answer : Result ℕ PoolError) → Meets steps.CloseGroup answer old new → is_own_answer answer ≡ true
+  close_own answer meets = own_answer (close_tests old) _ answer _ _ _ _ refl refl (λ e own. absurd own) (meets (some_past old)).1
 
   pub quiesce_own : (answer : Result ℕ PoolError) → Meets steps.MarkQuiesced answer old new → is_own_answer answer ≡ true
   quiesce_own answer meets = own_answer (quiesce_tests old) _ answer _ _ _ _ refl refl (λ e own. absurd own) (meets (some_past old)).1

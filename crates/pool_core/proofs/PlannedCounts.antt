@@ -1,5 +1,5 @@
 -- The places that the sync of a group writes, told by the changes of its plan: it takes one block for each, in their order.
-use Rattle.std.proofs.Common.{◌≡◌, ℕ, ◌<◌, ◌≤◌, Bool, true, List, [], length, map, refl, ap, sym, subst, ◌∙◌, arith}
+use Rattle.std.proofs.Common.{◌≡◌, ℕ, ◌<◌, ◌≤◌, Bool, List, [], length, map, refl, ap, sym, subst, ◌∙◌, arith}
 use Rattle.std.specs.Prelude.{Some, None, Ok, ◌==◌, not}
 use Rattle.std.proofs.lemmas.List.{length-map}
 use Rattle.base.specs.declared.names.ObjectId.{ObjectId}
@@ -7,7 +7,7 @@ use Rattle.base.specs.declared.operation.Op.{Op}
 use Rattle.base.specs.declared.pointer.Pointer.{Pointer}
 use Rattle.base.specs.formats.Limits.{object_count, pointer_count}
 use Rattle.base.specs.history.Contents.{Contents}
-use Rattle.base.specs.history.History.{entries_up_to, replay}
+use Rattle.base.specs.history.History.{apply_all}
 use Rattle.base.specs.history.Plans.{estimate_of, shape_of}
 use Rattle.base.specs.steps.ExactNow.{IsExplainedNow}
 use Rattle.base.specs.history.Past.{Past}
@@ -20,7 +20,6 @@ use Rattle.base.specs.steps.Steps.{TakesForEach, ops_of_group}
 use Rattle.base.specs.stored.Stored.{IsStored, frame_at}
 use Rattle.base.specs.tree.Syncs.{written_by, written_places}
 use Rattle.base.proofs.steps.Reservations.{syncs_have_room}
-use Rattle.base.proofs.steps.WaitingGroups.{synced-contents}
 use Rattle.base.proofs.tree.Estimates.{syncs_fit}
 use Rattle.base.proofs.tree.PlacedTrees.{pointers-told}
 use Rattle.base.proofs.tree.WrittenPlaces.{written-places}
@@ -32,19 +31,19 @@ use Rattle.tree_plans.specs.Changes.{group_of, names_block}
 use Rattle.tree_plans.specs.Marks.{AreChangesOf, pending_ops}
 use Rattle.pool_core.specs.GroupPlans.{IsPlannedGroup, IsShortOfBlocks}
 use Rattle.pool_core.specs.Shows.{record_of as shown_record}
-use Rattle.pool_core.proofs.PlannedGroups.{follows, in_range, ops_are, states_are}
+use Rattle.pool_core.proofs.PlannedGroups.{in_range, ops_are, states_are, synced_tree}
 
 -- Whatever the device holds, and from whichever pointers it is planned.
-module _ (s : Shown) (p : Past) (explained : IsExplainedNow s p) (group : ℕ) (idle : s.line.syncing ≡ None) (middle : s.line.middle ≡ Some (record { group = group; quiesced = true })) (no_log : s.log.kept ≡ [])
-    (pending : List Committed) (log : s.log.pending ≡ map shown_record pending) (maps : List ObjectMap) (told : (n : ℕ) → s.lengths n ≡ map_length maps n) (pointers : Place → Pointer) where
+module _ (s : Shown) (p : Past) (explained : IsExplainedNow s p) (group : ℕ) (above : s.line.synced < group) (no_log : s.log.kept ≡ []) (pending : List Committed) (log : s.log.pending ≡ map shown_record pending)
+    (after : Contents) (leads : apply_all (pending_ops group pending) s.synced_contents ≡ Ok after) (maps : List ObjectMap) (told : (n : ℕ) → s.lengths n ≡ map_length maps n) (pointers : Place → Pointer) where
   -- the places that are written are those that the changes tell
-  pub places_told : (objects : List (ObjectId × ObjectChanges)) → AreChangesOf (pending_ops group pending) maps objects → (synced : Contents) → replay (entries_up_to s.line.synced p.entries) p.base ≡ Ok synced
+  pub places_told : (objects : List (ObjectId × ObjectChanges)) → AreChangesOf (pending_ops group pending) maps objects
       → (had : Place → Bool) → ((n r : ℕ) → n < object_count → r < pointer_count → names_block (pointers (Data n r)) ≡ had (Data n r))
-      → written_places (ops_of_group group p.entries) synced had ≡ written_by (group_of objects pointers s.contents.objects)
-  places_told objects changes synced replayed had same =
-      ap (λ (ops : List Op). written_places ops synced had) (ops_are s p explained group idle middle no_log pending log)
-      ∙ written-places (group_of objects pointers s.contents.objects) (pending_ops group pending) synced s.contents had (follows s p explained group idle middle no_log pending log synced replayed) (record {
-        states = λ n r low below. states_are s p explained group idle middle no_log pending log synced replayed maps told objects changes n r below;
+      → written_places (ops_of_group group p.entries) s.synced_contents had ≡ written_by (group_of objects pointers after.objects)
+  places_told objects changes had same =
+      ap (λ (ops : List Op). written_places ops s.synced_contents had) (ops_are s p explained group above no_log pending log)
+      ∙ written-places (group_of objects pointers after.objects) (pending_ops group pending) s.synced_contents after had leads (record {
+        states = λ n r low below. states_are s p explained group above no_log pending log after leads maps told objects changes n r below;
         blocks = same;
         changed = λ n low. changes.changed n;
         touched = λ n low. changes.there n;
@@ -55,57 +54,53 @@ module _ (s : Shown) (p : Past) (explained : IsExplainedNow s p) (group : ℕ) (
   abbrev named : Place → Bool
   named place = names_block (pointers place)
 
-  synced_now : (synced : Contents) × (replay (entries_up_to s.line.synced p.entries) p.base ≡ Ok synced)
-  synced_now = synced-contents s p explained
-
   -- they are as many as some operations write
   count_told : (objects : List (ObjectId × ObjectChanges)) → AreChangesOf (pending_ops group pending) maps objects
-      → length (written_places (ops_of_group group p.entries) synced_now.0 named) ≡ length (written_by (group_of objects pointers s.contents.objects))
-  count_told objects changes = ap (λ (l : List Place). length l) (places_told objects changes synced_now.0 synced_now.1 named (λ n r low below. refl))
+      → length (written_places (ops_of_group group p.entries) s.synced_contents named) ≡ length (written_by (group_of objects pointers after.objects))
+  count_told objects changes = ap (λ (l : List Place). length l) (places_told objects changes named (λ n r low below. refl))
 
   -- a plan takes no more blocks than the operations are estimated at
-  pub taken_fit : (new : Place → Pointer) (bs : List NewBlock) → IsPlannedGroup group pending maps (frame_at s group) pointers new bs s.contents.objects
+  pub taken_fit : (new : Place → Pointer) (bs : List NewBlock) → IsPlannedGroup group pending maps (frame_at s group) pointers new bs after.objects
       → length bs ≤ estimate_of (map shape_of (ops_of_group group p.entries))
   taken_fit new bs from =
-      let each : length bs ≡ length (written_by (group_of from.objects pointers s.contents.objects)) =
+      let each : length bs ≡ length (written_by (group_of from.objects pointers after.objects)) =
       sym (length-map bs (λ (b : NewBlock). b.address))
-      ∙ ap (λ (l : List ℕ). length l) (from.order (in_range s p explained group idle middle no_log pending log maps from.objects from.changes))
-      ∙ length-map (written_by (group_of from.objects pointers s.contents.objects)) (λ (place : Place). (new place).address) in
+      ∙ ap (λ (l : List ℕ). length l) (from.order (in_range s p explained group above no_log pending log maps from.objects from.changes))
+      ∙ length-map (written_by (group_of from.objects pointers after.objects)) (λ (place : Place). (new place).address) in
       subst (λ (n : ℕ). n ≤ estimate_of (map shape_of (ops_of_group group p.entries))) (count_told from.objects from.changes ∙ sym each)
-      (syncs_fit (ops_of_group group p.entries) synced_now.0 named)
+      (syncs_fit (ops_of_group group p.entries) s.synced_contents named)
 
   -- and with what is reserved for the group no plan is short of blocks
-  pub enough_blocks : (free : List ℕ) → length free ≡ free_count s → IsShortOfBlocks group pending maps pointers s.contents.objects free → ⊥
-  enough_blocks free counted short =
-      let quiesced : quiesced_group s.line ≡ Some group = rw middle refl in
-      let room = syncs_have_room (record { shown = s; past = p }) group synced_now.0 named explained.exact.groups explained.exact.sync
+  pub enough_blocks : s.line.syncing ≡ None → quiesced_group s.line ≡ Some group → (free : List ℕ) → length free ≡ free_count s → IsShortOfBlocks group pending maps pointers after.objects free → ⊥
+  enough_blocks idle quiesced free counted short =
+      let room = syncs_have_room (record { shown = s; past = p }) group s.synced_contents named explained.exact.groups explained.exact.sync
       (record { charges = explained.exact.charges; blocks = explained.exact.blocks }) idle quiesced in
       let written = count_told short.objects short.changes in
-      let fewer = short.fewer (in_range s p explained group idle middle no_log pending log maps short.objects short.changes) in
+      let fewer = short.fewer (in_range s p explained group above no_log pending log maps short.objects short.changes) in
       omega (arith, room, written, fewer, counted)
 
-module _ (now : List ℕ) (s : Shown) (p : Past) (pointers : Place → Pointer) (x : IsStored now s pointers p) (explained : IsExplainedNow s p) (group : ℕ) (idle : s.line.syncing ≡ None)
-    (middle : s.line.middle ≡ Some (record { group = group; quiesced = true })) (pending : List Committed) (log : s.log.pending ≡ map shown_record pending)
-    (maps : List ObjectMap) (told : (n : ℕ) → s.lengths n ≡ map_length maps n) (new : Place → Pointer) (bs : List NewBlock) (plan : SyncPlan) (from : IsPlannedGroup group pending maps (frame_at s group) pointers new bs s.contents.objects) (taken : map (λ (b : NewBlock). b.address) bs ≡ plan.taken) where
+module _ (now : List ℕ) (s : Shown) (p : Past) (pointers : Place → Pointer) (x : IsStored now s pointers p) (explained : IsExplainedNow s p) (group : ℕ) (above : s.line.synced < group)
+    (pending : List Committed) (log : s.log.pending ≡ map shown_record pending) (after : Contents) (leads : apply_all (pending_ops group pending) s.synced_contents ≡ Ok after)
+    (maps : List ObjectMap) (told : (n : ℕ) → s.lengths n ≡ map_length maps n) (new : Place → Pointer) (bs : List NewBlock) (plan : SyncPlan) (from : IsPlannedGroup group pending maps (frame_at s group) pointers new bs after.objects) (taken : map (λ (b : NewBlock). b.address) bs ≡ plan.taken) where
   -- the places that the sync of the group writes
   abbrev pub places : List Place
-  places = written_places (ops_of_group group p.entries) x.synced (has_block now s.root)
+  places = written_places (ops_of_group group p.entries) s.synced_contents (has_block now s.root)
 
-  places_are : places ≡ written_by (group_of from.objects pointers s.contents.objects)
-  places_are = places_told s p explained group idle middle x.no_log pending log maps told pointers from.objects from.changes x.synced x.replayed (has_block now s.root)
-      (λ n r low below. ap (λ (q : Pointer). not (q.address == 0)) (sym (pointers-told now (frame_at s s.line.synced) pointers x.synced.objects x.tree (Data n r) (low, below)))
+  places_are : places ≡ written_by (group_of from.objects pointers after.objects)
+  places_are = places_told s p explained group above x.no_log pending log after leads maps told pointers from.objects from.changes (has_block now s.root)
+      (λ n r low below. ap (λ (q : Pointer). not (q.address == 0)) (sym (pointers-told now (frame_at s s.line.synced) pointers s.synced_contents.objects (synced_tree now s p pointers x explained) (Data n r) (low, below)))
       ∙ ap (λ (q : Pointer). has_block now q (Data n r)) x.root)
 
   -- the new tree has the taken addresses at them, in order
   pub takes_in_order : map (λ (place : Place). (new place).address) places ≡ plan.taken
   takes_in_order =
       ap (λ (ps : List Place). map (λ (place : Place). (new place).address) ps) places_are
-      ∙ sym (from.order (in_range s p explained group idle middle x.no_log pending log maps from.objects from.changes)) ∙ taken
+      ∙ sym (from.order (in_range s p explained group above x.no_log pending log maps from.objects from.changes)) ∙ taken
 
   -- so it takes one for each
   pub takes_for_each : TakesForEach now (record { shown = s; past = p }) group plan
   takes_for_each = record {
-    synced = x.synced;
-    replayed = x.replayed;
+    synced = s.synced_contents;
+    replayed = explained.trees.synced.replayed;
     each = ap (λ (l : List ℕ). length l) (sym takes_in_order) ∙ length-map places (λ (place : Place). (new place).address);
   }

@@ -12,6 +12,7 @@ use Rattle.base.specs.formats.Geometry.{block_address}
 use Rattle.base.specs.disk.SyncOrder.{DeviceCall}
 use Rattle.base.specs.disk.SyncOrder.DeviceCall.{Block, Config, Uberblock, Flush}
 use Rattle.base.specs.formats.Uberblocks.{Uberblock as Fields, IsUberblock}
+use Rattle.base.specs.history.Contents.{Contents}
 use Rattle.sync.specs.Calls.{refusal_of}
 use Rattle.tree_plans.specs.declared.planner.PlannedBlock.{PlannedBlock}
 use Rattle.base.specs.tree.Places.{IsPlace, Place}
@@ -39,9 +40,10 @@ pub none_running : (sync : Option RunningSync) (r : RunningSync) → is_some syn
 none_running sync r none is = true≢false (ap (λ (o : Option RunningSync). is_some o) (sym is) ∙ none)
 
 -- nor has one a plan, on whichever tree
-pub none_planned : (address : ℕ) (old new : Tree) (sync : Option RunningSync) → is_some sync ≡ false → option_map (plan_of address old) sync ≡ option_map (plan_of address new) sync
-none_planned address old new None none = refl
-none_planned address old new (Some r) none = absurd (true≢false none)
+pub none_planned : (address : ℕ) (old new : Tree) (contents : Contents) (sync : Option RunningSync) → is_some sync ≡ false
+    → option_map (plan_of address old contents) sync ≡ option_map (plan_of address new contents) sync
+none_planned address old new contents None none = refl
+none_planned address old new contents (Some r) none = absurd (true≢false none)
 
 -- pointers that are told otherwise are placed as well
 pub placed_after : (blocks : ℕ) (old new : Place → Pointer) → ((place : Place) → IsPlace place → new place ≡ old place) → ∥ ArePlaced blocks old ∥₁ → ∥ ArePlaced blocks new ∥₁

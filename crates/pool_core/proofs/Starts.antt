@@ -19,7 +19,7 @@ use Rattle.base.specs.formats.Records.{Record}
 use Rattle.base.specs.steps.Refusals.{quiesced_group, start_refusal}
 use Rattle.base.specs.steps.Shown.{Shown, SyncPlan}
 use Rattle.base.specs.steps.Stage.{StartSync}
-use Rattle.base.specs.steps.Steps.{AreLengthsUpTo, IsPlanned, TakesForEach, lowest_free, ops_of_group, State}
+use Rattle.base.specs.steps.Steps.{AreLengthsOf, IsPlanned, IsReplayUpTo, TakesForEach, lowest_free, ops_of_group, State}
 use Rattle.base.specs.tree.Syncs.{is_rename, other_step_count}
 use Rattle.base.proofs.steps.KeptGroups.{quiesced_is}
 use Rattle.tree_plans.specs.declared.planner.Committed.{Committed}
@@ -95,11 +95,11 @@ module _ (keeps : Type 0) (now : List ℕ) (past : Past) (s : Shown) (moment : �
   -- a sync that is planned starts, where the past explains what was shown
   pub start_done : (n : Shown) (group : ℕ) (plan : SyncPlan) → IsExplainedNow s past → (keeps → TakesForEach now (record { shown = s; past = past }) group plan)
       → s.suspended ≡ false → quiesced_group s.line ≡ Some group → is_some s.line.syncing ≡ false
-      → length plan.taken ≤ estimate_of (map shape_of (ops_of_group group past.entries)) → AreLengthsUpTo group past plan.lengths
+      → length plan.taken ≤ estimate_of (map shape_of (ops_of_group group past.entries)) → IsReplayUpTo group past plan.contents → AreLengthsOf plan.contents plan.lengths
       → All HasNoName s.log.pending → s.log.kept ≡ [] → plan.moment ≡ moment → plan.taken ≡ lowest_free (length plan.taken) s → plan.steps_left ≡ length plan.taken + 6 → plan.header ≡ s.log.next
       → n ≡ record s { line = record s.line { syncing = Some group; middle = None }; free = set.difference s.free (set.from_list plan.taken); sync = Some plan }
       → StartsAt keeps now moment (Ok group) past s n
-  start_done n group plan explained takes h is none fits lengths built kept at_moment taken left header same =
+  start_done n group plan explained takes h is none fits replayed lengths built kept at_moment taken left header same =
       let above = quiesced_above s.line group explained.exact.groups.line none is in
       let all_above : List KeptBlock → List Record = λ k. filter (λ (r : Record). nat_lt s.line.synced r.group && not (list_any (λ b. has_record b (committed_of r)) k)) (map record_of (enumerate_from 0 past.entries)) in
       let pending : s.log.pending ≡ all_above [] = explained.exact.log.pending ∙ ap all_above kept in
@@ -107,7 +107,7 @@ module _ (keeps : Type 0) (now : List ℕ) (past : Past) (s : Shown) (moment : �
       let steps : plan.steps_left ≡ length plan.taken + other_step_count (ops_of_group group past.entries) =
       left ∙ ap (λ b. length plan.taken + (6 + (if b then 6 else 0))) (sym names) in
       let at : plan.header ≡ header_for group s.log = header ∙ sym (ap (λ k. unwrap_or (option_map header_at (find (reaches_above group) k)) s.log.next) kept) in
-      let planned : IsPlanned (record { shown = s; past = past }) moment group plan = record { moment_is = at_moment; taken = taken; steps = steps; fits = fits; header = at; lengths = lengths } in
+      let planned : IsPlanned (record { shown = s; past = past }) moment group plan = record { moment_is = at_moment; taken = taken; steps = steps; fits = fits; header = at; contents = replayed; lengths = lengths } in
       rw (starts group h is none) (plan, is, planned, takes, ap (λ (x : Shown). let state : State = record { shown = x; past = past } in state) same)
 
 -- the pending transactions of a pool give no new name

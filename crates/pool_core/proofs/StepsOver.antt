@@ -1,7 +1,6 @@
 -- Steps over the bytes of a device.
-use Rattle.std.proofs.Common.{◌≡◌, ◌∙◌, ℕ, false, List, [], sym}
+use Rattle.std.proofs.Common.{◌≡◌, ℕ, false, List, []}
 use Rattle.std.specs.Prelude.{Result}
-use Rattle.std.proofs.lemmas.Bool.{false≢true}
 use Rattle.base.specs.declared.error.PoolError.{PoolError}
 use Rattle.base.specs.declared.names.Group.{Group}
 use Rattle.base.specs.declared.step.Step as declared_step
@@ -22,7 +21,7 @@ use Rattle.pool_core.proofs.RepliedSteps.{replied_with}
 -- each step but the start of a sync is the same over every device
 pub any_bytes : (s : declared_step.Step) (r : declared_reply.Reply) (old new : Told) → is_start s ≡ false → StepReplies s r old.shown new.shown → StepsOver s r old new
 any_bytes s r old new off replies past x =
-    let one = replies past (λ starts. absurd (false≢true (sym off ∙ starts))) in
+    let one = replies past (λ rests. x.explained) in
     (one.0, same_over ⊥ (Unit {0}) [] old.now s r (state_with old past) (state_with new one.0) off one.1)
 
 -- the start of a sync, over the bytes with which a past holds the pool

@@ -45,6 +45,7 @@ pub step_synced : (s n : Shown) (group g : ℕ) (plan : SyncPlan) → s.suspende
       free = set.union s.free (set.from_list plan.freed);
       log = record s.log { pending = filter (λ (r : Record). nat_lt group r.group) s.log.pending };
       root = plan.root;
+      synced_contents = plan.contents;
       lengths = plan.lengths;
       sync = None;
     }
@@ -62,6 +63,7 @@ step_synced s n group g plan h is running last same_group no_kept same = λ past
       free = set.union s.free (set.from_list plan.freed);
       log = record s.log { pending = filter (λ (r : Record). nat_lt group r.group) s.log.pending };
       root = plan.root;
+      synced_contents = plan.contents;
       lengths = plan.lengths;
       sync = None;
     } ≡ (state_after_sync group plan (record { shown = s; past = past })).shown = λ k. record s {
@@ -71,6 +73,7 @@ step_synced s n group g plan h is running last same_group no_kept same = λ past
       free = set.union s.free (set.from_list (back k));
       log = record s.log { pending = filter (λ (r : Record). nat_lt group r.group) s.log.pending; kept = kept k };
       root = plan.root;
+      synced_contents = plan.contents;
       lengths = plan.lengths;
       sync = None;
     } in

@@ -1,6 +1,6 @@
 -- What is told of an object and of the contents, step by step.
 use Rattle.std.proofs.Common.{ℕ, ◌≡◌, true, false, List, refl}
-use Rattle.std.specs.Prelude.{Some, None, Result, Ok, Err}
+use Rattle.std.specs.Prelude.{Some, None, Result, Ok, Err, IfErr, IfOk}
 use Rattle.base.specs.declared.error.PoolError.{PoolError}
 use Rattle.base.specs.declared.error.PoolError.TheVariants as error
 use Rattle.base.specs.formats.Digest.{digest_of}
@@ -20,5 +20,7 @@ length_found n (Err e) s h none = λ past. (past, let is : length_refusal n s �
 pub digest_suspended : (s : Shown) → s.suspended ≡ true → Meets Digest (Err error.Suspended) s s
 digest_suspended s h = λ past. (past, rw h (refl, refl))
 
-pub digest_told : (digest : List ℕ) (s : Shown) → s.suspended ≡ false → digest ≡ digest_of s.contents → Meets Digest (Ok digest) s s
-digest_told digest s h is = λ past. (past, rw h (is, refl))
+-- nothing refuses the digest of contents in memory with changes in memory laid over them
+pub digest_told : (answer : Result (List ℕ) PoolError) (s : Shown) → s.suspended ≡ false → IfOk answer (λ digest. digest ≡ digest_of s.contents) → IfErr answer (λ e. ⊥) → Meets Digest answer s s
+digest_told (Ok digest) s h is refused = λ past. (past, rw h (is, refl))
+digest_told (Err e) s h is refused = absurd refused

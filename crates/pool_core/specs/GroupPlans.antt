@@ -37,7 +37,7 @@ use Rattle.pool_core.specs.declared.pool.RunningSync.{RunningSync}
 use Rattle.pool_core.specs.Areas.{AreBlocksOf}
 use Rattle.pool_core.specs.Pointers.{lengths_after, pointers_after}
 use Rattle.pool_core.specs.RunningUberblocks.{uberblock_with}
-use Rattle.pool_core.specs.Shows.{new_plan, shown_objects, pool_shown}
+use Rattle.pool_core.specs.Shows.{contents_after_oldest, new_plan, pool_shown}
 
 -- Some changes are those of the group's pending operations on a tree with these maps. By them these blocks make the tree after the
 -- group from the old one, whatever objects were there before of which the changes cover all that differs; and they are those of the places
@@ -79,15 +79,15 @@ TakesLowest pool p = map address_of p.blocks.items ≡ take (length p.blocks.ite
 -- in the group or later, what comes back is what the old tree has and the new one has not. Its lengths are those after the group.
 pub record MakesGroupTree (pool : Pool) (group : ℕ) (p : TreePlan) : Type 0 where
   pub placed : ∥ ArePlaced (block_count pool.geometry) (plan_pointers pool p) ∥₁
-  pub planned : IsPlannedGroup group pool.pending.items pool.tree.maps.items (frame_at (pool_shown pool) group) (pointers_of pool.tree) (plan_pointers pool p) (map new_block p.blocks.items) (shown_objects pool)
+  pub planned : IsPlannedGroup group pool.pending.items pool.tree.maps.items (frame_at (pool_shown pool) group) (pointers_of pool.tree) (plan_pointers pool p) (map new_block p.blocks.items) (contents_after_oldest pool).objects
   pub freed : AreBornBefore group (pointers_of pool.tree) → AreFreed (pointers_of pool.tree) (plan_pointers pool p) p.freed.items
   pub used : AreUsed (map new_block p.blocks.items) (plan_pointers pool p)
   pub whole : (i : ℕ) (b : NewBlock) → slice_get (map new_block p.blocks.items) i ≡ Some b → length b.content ≡ block_size
-  pub lengths : HasGroupLengths group pool.pending.items pool.tree.maps.items (lengths_after p.maps pool.tree) (shown_objects pool)
+  pub lengths : HasGroupLengths group pool.pending.items pool.tree.maps.items (lengths_after p.maps pool.tree) (contents_after_oldest pool).objects
 
 -- refused NoSpace, a pool is short of blocks
 abbrev pub IsRefusedShort : Pool → ℕ → PoolError → Type 0
-IsRefusedShort pool group e = e ≡ NoSpace → IsShortOfBlocks group pool.pending.items pool.tree.maps.items (pointers_of pool.tree) (shown_objects pool) (rising pool.free.free)
+IsRefusedShort pool group e = e ≡ NoSpace → IsShortOfBlocks group pool.pending.items pool.tree.maps.items (pointers_of pool.tree) (contents_after_oldest pool).objects (rising pool.free.free)
 
 -- a sync of a plan that has made no call yet
 pub record BeginsPlan (p : TreePlan) (r : RunningSync) : Type 0 where
@@ -100,7 +100,7 @@ pub record BeginsPlan (p : TreePlan) (r : RunningSync) : Type 0 where
 
 -- what is shown of it, with this moment, and its uberblock
 abbrev pub begun_plan : Pool → ℕ → TreePlan → SyncPlan
-begun_plan pool moment p = new_plan moment pool.log_address (map address_of p.blocks.items) p.freed.items p.root (lengths_after p.maps pool.tree)
+begun_plan pool moment p = new_plan moment pool.log_address (map address_of p.blocks.items) p.freed.items p.root (contents_after_oldest pool) (lengths_after p.maps pool.tree)
 
 abbrev pub uberblock_for : Pool → ℕ → ℕ → Pointer → Uberblock
 uberblock_for pool group moment root = uberblock_with pool.guid pool.import_number pool.log_address group moment root

@@ -4,6 +4,7 @@ pub mod Shows
 pub mod Tables
 pub mod Targets
 pub mod Meets
+pub mod Entries
 pub mod StepAnswers
 pub mod Lines
 pub mod BeginTests

@@ -1,13 +1,16 @@
 -- What contracts show of a pool, read off its fields.
-use Rattle.std.specs.Prelude.{ℕ, ◌-◌, ◌+◌, List, [], filter, length, map, nat_lt, Option, option_map}
+use Rattle.std.specs.Prelude.{ℕ, ◌-◌, ◌+◌, List, [], length, map, Option, option_map}
 use Rattle.std.specs.FinMap.{FinMap}
 use Rattle.std.specs.Ordering.{nat_cmp}
 use Rattle.std.specs.FinSet as set
 use Rattle.base.specs.declared.pointer.Pointer.{Pointer}
 use Rattle.base.specs.formats.Geometry.{block_address, block_count}
 use Rattle.base.specs.formats.Records.{Record}
+use Rattle.base.specs.history.Contents.{Contents}
 use Rattle.base.specs.steps.Logs.{Log}
 use Rattle.base.specs.steps.Shown.{Shown, SyncPlan}
+use Rattle.extents.specs.Synced.{patched_contents}
+use Rattle.extents.specs.Unsynced.{changes_at, laid_all}
 use Rattle.object_maps.specs.declared.tree.Tree.{Tree}
 use Rattle.object_maps.specs.ContentsShown.{contents_of}
 use Rattle.object_maps.specs.Lengths.{lengths_of}
@@ -25,28 +28,38 @@ record_of c = record { group = c.group.0; ordinal = c.ordinal; ops = c.ops }
 abbrev pub log_of : List Committed → ℕ → Log
 log_of pending address = record { pending = map record_of pending; kept = []; next = record { address = address; number = 0 } }
 
-abbrev pub plan_of : ℕ → Tree → RunningSync → SyncPlan
-plan_of address tree r = record {
+-- what is shown of a running sync, which makes this tree into that of these contents
+abbrev pub plan_of : ℕ → Tree → Contents → RunningSync → SyncPlan
+plan_of address tree contents r = record {
   steps_left = call_count r.run - r.run.done;
   taken = map (λ (b : PlannedBlock). block_address b.index) r.run.blocks.items;
   freed = r.freed.items;
   moment = r.moment;
   root = r.root;
   header = record { address = address; number = 0 };
+  contents = contents;
   lengths = lengths_after r.maps tree;
 }
 
--- the plan of a sync that starts, with the addresses that it takes and those that come back
-abbrev pub new_plan : ℕ → ℕ → List ℕ → List ℕ → Pointer → (ℕ → Option ℕ) → SyncPlan
-new_plan moment address taken freed root lengths = record {
+-- the plan of a sync that starts, with the addresses that it takes and those that come back, and the contents that it writes
+abbrev pub new_plan : ℕ → ℕ → List ℕ → List ℕ → Pointer → Contents → (ℕ → Option ℕ) → SyncPlan
+new_plan moment address taken freed root contents lengths = record {
   steps_left = length taken + 6;
   taken = taken;
   freed = freed;
   moment = moment;
   root = root;
   header = record { address = address; number = 0 };
+  contents = contents;
   lengths = lengths;
 }
+
+-- the contents of the synced tree, and what the oldest unsynced group makes of them
+abbrev pub synced_of : Pool → Contents
+synced_of p = contents_of p.synced
+
+abbrev pub contents_after_oldest : Pool → Contents
+contents_after_oldest p = patched_contents (changes_at p.changes 0) (synced_of p)
 
 -- what is shown of a pool that has these objects
 abbrev pub shown_of : FinMap nat_cmp (List ℕ) → Pool → Shown
@@ -61,21 +74,21 @@ shown_of objects p = record {
   line = p.groups.line;
   transactions = p.transactions.transactions;
   next_tx = p.transactions.next;
-  contents = record { name = p.contents.name; objects = objects };
+  contents = record { name = p.synced.name; objects = objects };
   next_ordinal = p.next_ordinal;
   dirty = p.dirty.sums;
   reserved = blocks_of p.dirty.sums;
   free = p.free.free;
   log = log_of p.pending.items p.log_address;
   root = p.tree.root;
+  synced_contents = synced_of p;
   lengths = lengths_of p.tree;
-  sync = option_map (plan_of p.log_address p.tree) p.sync;
+  sync = option_map (plan_of p.log_address p.tree (contents_after_oldest p)) p.sync;
 }
 
--- The objects that a pool shows are those of its synced tree with the changes of its unsynced groups laid over; memory holds the result.
--- Where they stand on the device alone, this word says how they are read, and no clause changes.
+-- the objects that a pool shows are those of its synced tree with the changes of its unsynced groups laid over
 abbrev pub shown_objects : Pool → FinMap nat_cmp (List ℕ)
-shown_objects p = (contents_of p.contents).objects
+shown_objects p = laid_all p.changes (synced_of p).objects
 
 abbrev pub pool_shown : Pool → Shown
 pool_shown p = shown_of (shown_objects p) p
@@ -84,7 +97,6 @@ pool_shown p = shown_of (shown_objects p) p
 abbrev pub shown_after_tree : RunningSync → Tree → Shown → Shown
 shown_after_tree r tree s = record s {
   free = set.union s.free (set.from_list r.freed.items);
-  log = record s.log { pending = filter (λ (x : Record). nat_lt r.group.0 x.group) s.log.pending };
   root = r.root;
   lengths = lengths_after r.maps tree;
 }

@@ -48,8 +48,9 @@ Unlocks owner id answer = Meets (steps.Unlock owner.0 id.0) answer
 abbrev pub Begins : Owner → List Shape → Result (TxId × Group) PoolError → Shown → Shown → Type 0
 Begins owner plan answer = Meets (stage.Begin owner.0 plan) (result_map admitted_numbers answer)
 
+-- for each past that explains what was shown: in whatever order groups commit, their history tells the contents
 abbrev pub Commits : TxId → List Op → Result Receipt PoolError → Shown → Shown → Type 0
-Commits tx ops answer = Meets (stage.Commit tx.0 ops) (result_map receipt_numbers answer)
+Commits tx ops answer = MeetsExplained (steps.Commit tx.0 ops) (result_map receipt_numbers answer)
 
 abbrev pub Aborts : TxId → Result (Unit {0}) PoolError → Shown → Shown → Type 0
 Aborts tx answer = Meets (steps.Abort tx.0) answer
@@ -64,7 +65,7 @@ abbrev pub TellsDigest : Result (List ℕ) PoolError → Shown → Type 0
 TellsDigest answer shown = Meets stage.Digest answer shown shown
 
 abbrev pub ClosesGroup : Result Group PoolError → Shown → Shown → Type 0
-ClosesGroup answer = Meets stage.CloseGroup (result_map group_number answer)
+ClosesGroup answer = Meets steps.CloseGroup (result_map group_number answer)
 
 abbrev pub MarksQuiesced : Result Group PoolError → Shown → Shown → Type 0
 MarksQuiesced answer = Meets steps.MarkQuiesced (result_map group_number answer)

@@ -1,11 +1,11 @@
 -- Steps and their replies.
-use Rattle.std.specs.Prelude.{◌≡◌, true, []}
+use Rattle.std.specs.Prelude.{◌≡◌, Bool, true, false, []}
 use Rattle.base.specs.declared.step.Step as declared_step
+use Rattle.base.specs.declared.step.Step.TheVariants as step
 use Rattle.base.specs.declared.step.Reply as declared_reply
 use Rattle.base.specs.steps.ExactNow.{IsExplainedNow}
 use Rattle.base.specs.history.Past.{Past}
 use Rattle.base.specs.steps.Runs as runs
-use Rattle.base.specs.steps.Runs.{is_start}
 use Rattle.base.specs.steps.Shown.{Shown}
 use Rattle.base.specs.steps.Steps.{State}
 
@@ -14,8 +14,14 @@ use Rattle.base.specs.steps.Steps.{State}
 abbrev pub IsStep : declared_step.Step → declared_reply.Reply → State → State → Type 0
 IsStep s r old new = runs.Step ⊥ [] s r old new
 
--- whatever the past of a run, of the start of a sync one that explains what was shown, the step leads with this reply from what was shown
--- before to what is shown after
+-- whether a step is told for pasts that explain what was shown: what a commit leaves follows from the history, and so does the tree of a sync
+abbrev pub rests_on_past : declared_step.Step → Bool
+rests_on_past (step.Commit tx ops) = true
+rests_on_past (step.StartSync moment) = true
+rests_on_past _ = false
+
+-- whatever the past of a run, of these steps one that explains what was shown, the step leads with this reply from what was shown before to
+-- what is shown after
 abbrev pub StepReplies : declared_step.Step → declared_reply.Reply → Shown → Shown → Type 0
-StepReplies s r old new = (past : Past) → (is_start s ≡ true → IsExplainedNow old past)
+StepReplies s r old new = (past : Past) → (rests_on_past s ≡ true → IsExplainedNow old past)
     → (later : Past) × IsStep s r (record { shown = old; past = past }) (record { shown = new; past = later })

@@ -1,6 +1,7 @@
 //! The state of a pool, one step at a time.
 #![tactic(auto)]
 
+mod blocks;
 mod plans;
 mod pool;
 mod runs;

@@ -1,23 +1,27 @@
 //! A pool without its device, and each of its steps.
 
-ghost use Rattle.std.specs.Prelude.{◌≡◌, ◌<◌, ◌-◌, ◌+◌, ◌≤◌, ◌^◌, ◌⊎◌, All, IfErr, IfOk, IsTrue, None, OnOk, false, is_some, length, map, nat_lt, option_map, true, vec_len};
+ghost use Rattle.std.specs.Prelude.{◌≡◌, ◌<◌, ◌-◌, ◌+◌, ◌≤◌, ◌^◌, ◌⊎◌, All, IfErr, IfOk, IsTrue, None, OnOk, false, is_some, length, map, nat_lt, option_map, true, vec_capacity, vec_len};
 ghost use Rattle.std.proofs.Props.{props};
 ghost use Rattle.std.specs.List.{list_any};
 ghost use Rattle.std.specs.Option.{ForSome, option_map_or};
 ghost use Rattle.base.specs.formats.Fields.{part};
 ghost use Rattle.base.specs.formats.Geometry.{IsGeometry, block_count};
-ghost use Rattle.base.specs.formats.Limits.{max_log_record};
+ghost use Rattle.base.specs.formats.Limits.{max_length, max_log_record};
 ghost use Rattle.base.specs.history.Contents.{length_of};
 ghost use Rattle.base.specs.history.Plans.{estimate_of, log_record_size};
 ghost use Rattle.base.specs.tree.PlacedTrees.{ArePlaced};
 ghost use Rattle.base.specs.steps.Groups.{Admission};
 ghost use Rattle.base.specs.steps.Refusals.{blocks_wanted, is_lock_in_use, transaction_of};
 ghost use Rattle.base.specs.steps.Shown as show;
-ghost use Rattle.base.specs.steps.Stage.{has_older_group, is_plan_built};
+ghost use Rattle.base.specs.steps.Stage.{is_plan_built};
 ghost use Rattle.groups.specs.CountedLines.{IsCounted};
 ghost use Rattle.groups.specs.Laws.{AreHoldsExact};
 ghost use Rattle.base.specs.tree.Syncs.{is_rename};
+ghost use Rattle.extents.specs.Synced.{HasRoomForPatches, patched_contents};
+ghost use Rattle.extents.specs.Unsynced.{CanApplyAt, MovesUp, changes_at};
+ghost use Rattle.object_maps.specs.ContentsShown.{contents_of};
 ghost use Rattle.object_maps.specs.Ops.{AreOpsAllowed};
+ghost use Rattle.object_maps.specs.Sources.{AreWithin};
 ghost use Rattle.object_maps.specs.Pointers.{pointers_of};
 ghost use Rattle.sync.specs.Runs.{call_count};
 ghost use Rattle.space.specs.FreeSets.{after_sync_end};
@@ -27,11 +31,12 @@ ghost use Rattle.tree_plans.specs.Plans.{address_of};
 ghost use Rattle.tree_plans.specs.declared.planner.Committed.{Committed};
 ghost use Rattle.pool_core.specs.Areas.{AreBlocksOf, after_gives, after_sync_takes, is_block_of};
 ghost use Rattle.pool_core.specs.Numbers.{IsGroup};
-ghost use Rattle.pool_core.specs.Pending.{pending_after};
+ghost use Rattle.pool_core.specs.Pending.{KeepsUnsynced, pending_after};
 ghost use Rattle.pool_core.specs.Pointers.{pointers_after};
 ghost use Rattle.pool_core.specs.RunningUberblocks.{WritesUberblock, uberblock_with};
 ghost use Rattle.pool_core.specs.Targets.{is_readable};
 
+use crate::blocks::{end_charges, give_all, take_all};
 use crate::plans::{KEPT_BACK, check_plan};
 use crate::state::Progress;
 use base::{
@@ -40,10 +45,11 @@ use base::{
     WRITTEN_VERSION,
 };
 use device_model::SectorDevice;
+use extents::{Laid, UnsyncedExtents};
 use groups::Groups;
 use import_replay::Mounted;
 use labels::Geometry;
-use object_maps::{Contents, ObjectMap, Tree};
+use object_maps::{Contents, ObjectMap, ObjectSource, Tree, digest, judge, read_range};
 use range_locks::{HeldLock, HeldLocks, HeldPiece, RangeLocks};
 use space::FreeSet;
 use std::alloc::Global;
@@ -51,11 +57,8 @@ use std::collections::BTreeMap;
 use sync::{SyncCall, SyncRun};
 use throttle::Dirty;
 use transactions::{OpenTransactions, charge, estimate, is_in_plan, is_shrinking, range_of};
-use tree_plans::{Committed, PlanSource, PlannedBlock, TreePlan, changed_objects, plan};
+use tree_plans::{Committed, PlanSource, TreePlan, changed_objects, plan};
 use uberblocks::{Uberblock, slot};
-
-// The bytes of a block.
-const BLOCK_SIZE: u64 = 4096;
 
 // A sync that runs, and what it makes of the tree.
 #[derive(Drop)]
@@ -90,7 +93,10 @@ pub(crate) struct Pool {
     transactions: OpenTransactions,
     // the bytes charged to the unsynced groups; their blocks are reserved
     dirty: Dirty,
-    contents: Contents,
+    // the objects of the synced tree
+    synced: Contents,
+    // what the unsynced groups made of them
+    changes: UnsyncedExtents,
     next_ordinal: u64,
     // the committed transactions of unsynced groups, in order
     pending: Vec<Committed>,
@@ -112,11 +118,15 @@ pub(crate) struct Pool {
     ghost running: { ForSome sync (λ r. (r.run.geometry ≡ geometry) × (r.run.done < call_count r.run)) },
     ghost uberblock: { ForSome sync (λ r. WritesUberblock
         (uberblock_with guid import_number log_address r.group.0 r.moment r.root) r.run) },
-    ghost planned: { ForSome sync (λ r. ∥ ArePlaced (block_count geometry) (pointers_after r.root r.directories.items r.maps tree) ∥₁) },
+    ghost planned: { ForSome sync (λ r. ∥ ArePlaced (block_count geometry) (pointers_after r.root r.directories.items r.maps tree) ∥₁
+        × ∥ HasRoomForPatches (changes_at changes 0) synced.slots.items ∥₁) },
     ghost sync_line: { option_map (λ r. r.group.0) sync ≡ groups.line.syncing } by { Prim.hlevel props },
-    ghost pending_built: { All (λ (c : Committed). list_any is_rename c.ops ≡ false) pending.items },
     ghost tree_placed: { ∥ ArePlaced (block_count geometry) (pointers_of tree) ∥₁ },
+    ghost unsynced: { KeepsUnsynced groups.line pending.items synced changes } by { Prim.hlevel props },
 }
+
+// The objects of the synced tree, with what the unsynced groups made of them.
+type Objects<'a> = Laid<'a, Laid<'a, Laid<'a, &'a Contents>>>;
 
 impl Pool {
     ghost use Rattle.std.specs.Map.Iter.{ShowsInOrder, deref_pair};
@@ -131,16 +141,18 @@ impl Pool {
     ghost use Rattle.pool_core.specs.Calls.{MakesNextOf};
     ghost use Rattle.pool_core.specs.GroupPlans.{BeginsPlan, FitsIn, IsRefusedShort, MakesGroupTree, TakesLowest, begun_plan, uberblock_for};
     ghost use Rattle.pool_core.specs.Holds.{Leads, SamePlaces, sync_step_reply, pool_told, tree_after};
+    ghost use Rattle.pool_core.specs.Entries.{IsUnsynced, shown_after_entry};
     ghost use Rattle.pool_core.specs.Lines.{ChecksStart};
     ghost use Rattle.pool_core.specs.BeginTests.{range_tests, room_tests};
-    ghost use Rattle.pool_core.specs.Meets.{ChecksBegin, ChecksCommit, FindsLength, Passes, RefusesIf};
-    ghost use Rattle.pool_core.specs.Shows.{plan_of, shown_after_tree, pool_shown};
+    ghost use Rattle.pool_core.specs.Meets.{ChecksBegin, ChecksCommit, FindsLength, MayCommit, Passes, RefusesIf};
+    ghost use Rattle.pool_core.specs.Shows.{contents_after_oldest, plan_of, shown_after_tree, shown_objects, pool_shown};
     ghost use Rattle.pool_core.specs.States.{IsOfNoDevice, KeepsTree};
     ghost use Rattle.pool_core.specs.StepAnswers.{Aborts, Begins, ClosesGroup, Commits, Locks, LocksAppend, MarksQuiesced, Reads, StartsSync, StepsSync, TellsDigest, TellsLength, Unlocks};
     ghost use Rattle.pool_core.specs.SyncStarts.{StartLeads, StartsHeld, StartsInOrder};
     ghost use Rattle.pool_core.specs.Targets.{is_kept_covered};
 
     pub(crate) fn new(mounted: Mounted) -> Self
+        requires { AreWithin (contents_of mounted.contents).objects }
         ensures geometry { result.geometry ≡ mounted.geometry }
         ensures shown { pool_shown result ≡ shown_of_import mounted }
         ensures tree { result.tree ≡ mounted.tree }
@@ -168,7 +180,8 @@ impl Pool {
             groups: Groups::new(group),
             transactions: OpenTransactions::new(alloc),
             dirty: Dirty::new(dirty_max, group),
-            contents,
+            synced: contents,
+            changes: UnsyncedExtents::new(alloc),
             next_ordinal: 0,
             pending: Vec::new(alloc),
             free,
@@ -189,22 +202,6 @@ impl Pool {
             return Err(PoolError::Suspended);
         }
         Ok(())
-    }
-
-    // A transaction begins and commits, and a group is closed, only where no older group is unsynced.
-    fn check_no_older(&self) -> Result<(), PoolError>
-        ensures { RefusesIf (has_older_group self.now.groups.line) PoolError.NotReady result }
-    {
-        if self.has_older() {
-            return Err(PoolError::NotReady);
-        }
-        Ok(())
-    }
-
-    fn has_older(&self) -> bool
-        ensures { result ≡ has_older_group self.now.groups.line }
-    {
-        self.groups.middle().is_some() || self.groups.syncing().is_some()
     }
 
     pub(crate) fn lock(
@@ -297,7 +294,6 @@ impl Pool {
         ensures { ChecksBegin owner plan.now result (pool_shown self.now) }
     {
         self.check_running()?;
-        self.check_no_older()?;
         check_plan(plan)?;
         self.check_ranges(owner, plan)?;
         self.check_room(plan)
@@ -397,28 +393,62 @@ impl Pool {
         ensures named { OnOk result (self.now.next_ordinal ≤ 2 ^ 60) }
     {
         self.check_running()?;
-        self.check_no_older()?;
         let Some(transaction) = self.transactions.find(tx) else {
             return Err(PoolError::NoSuchTransaction);
         };
         if !is_in_plan(ops, transaction.plan.as_slice()) {
             return Err(PoolError::OutOfPlan);
         }
-        self.contents.judge(ops)?;
+        judge(&self.objects(), ops)?;
         if self.next_ordinal > LAST_NUMBER {
             return Err(PoolError::TooMany);
         }
         Ok(transaction.group)
     }
 
+    // The objects as the last commit left them.
+    fn objects<'a>(&'a self) -> Objects<'a>
+        ensures { ⟦<Objects<'a> as ObjectSource>⟧.objects result ≡ shown_objects self.now }
+    {
+        self.changes.over(&self.synced)
+    }
+
+    // Which of the unsynced groups an open transaction is in, counted from the oldest on.
+    fn place_of(&self, group: Group) -> usize
+        requires { IsUnsynced self.now.groups.line group.0 }
+        ensures place { self.now.groups.line.synced + 1 + result ≡ group.0 }
+        ensures within { result < 3 }
+    {
+        (group.0 - self.groups.synced().0 - 1) as usize
+    }
+
     pub(crate) fn commit(&mut self, tx: TxId, ops: Ops) -> Result<Receipt, PoolError>
         ensures step { Commits tx ops result (pool_shown self.old) (pool_shown self.new) }
         ensures kept { KeepsTree self.old self.new }
+        ensures own { IsOfNoDevice result }
     {
         let group = self.check_commit(tx, ops.as_slice())?;
         self.pending.reserve(1)?;
-        self.contents.reserve(ops.as_slice())?;
-        self.contents.apply(ops.as_slice());
+        let place = self.place_of(group);
+        self.changes.reserve(place, ops.as_slice())?;
+        let ordinal = self.enter(tx, group, place, ops);
+        Ok(Receipt { ordinal, group })
+    }
+
+    // The transaction takes place in its group, of which this is the place. The room is there.
+    fn enter(&mut self, tx: TxId, group: Group, place: usize, ops: Ops) -> Ordinal
+        requires may { MayCommit tx.0 ops group.0 (pool_shown self.old) }
+        requires allowed { AreOpsAllowed ops }
+        requires place { self.old.groups.line.synced + 1 + place ≡ group.0 }
+        requires room { CanApplyAt place self.old.changes ops }
+        requires named { self.old.next_ordinal ≤ 2 ^ 60 }
+        requires more { vec_len self.old.pending < vec_capacity self.old.pending }
+        ensures ordinal { result.0 ≡ self.old.next_ordinal }
+        ensures kept { KeepsTree self.old self.new }
+        ensures shown { pool_shown self.new
+            ≡ shown_after_entry tx.0 group.0 ops (shown_objects self.new) (pool_shown self.old) }
+    {
+        self.changes.apply(place, ops.as_slice());
         self.transactions.end(tx);
         self.groups.release(group);
         let ordinal = self.next_ordinal;
@@ -428,10 +458,7 @@ impl Pool {
             ordinal,
             ops,
         });
-        Ok(Receipt {
-            ordinal: Ordinal(ordinal),
-            group,
-        })
+        Ordinal(ordinal)
     }
 
     pub(crate) fn abort(&mut self, tx: TxId) -> Result<(), PoolError>
@@ -464,10 +491,11 @@ impl Pool {
         if !self.locks.covers(owner, &ObjectRange { object, range }) {
             return Err(PoolError::NotLocked);
         }
-        let Some(bytes) = self.contents.object(object) else {
+        let mut objects = self.objects();
+        if !objects.has(object) {
             return Err(PoolError::NoObject);
-        };
-        Ok(Bytes::from_slice(self.alloc, bytes_in(bytes, range))?)
+        }
+        read_range(&mut objects, self.alloc, object, range)
     }
 
     pub(crate) fn length(&self, object: ObjectId) -> Result<u64, PoolError>
@@ -491,21 +519,20 @@ impl Pool {
     fn shown_length(&self, object: ObjectId) -> Option<u64>
         ensures { result ≡ length_of (pool_shown self.now).contents object.0 }
     {
-        let bytes = self.contents.object(object)?;
-        Some(bytes.len() as u64)
+        self.objects().length(object)
     }
 
     pub(crate) fn digest(&self) -> Result<[u8; 32], PoolError>
         ensures { TellsDigest result (pool_shown self.now) }
     {
         self.check_running()?;
-        Ok(self.contents.digest())
+        digest(&self.synced.name, &mut self.objects())
     }
 
     pub(crate) fn name(&self) -> PoolName
         ensures { result ≡ (pool_shown self.now).contents.name }
     {
-        self.contents.name.copy()
+        self.synced.name.copy()
     }
 
     pub(crate) fn status(&self) -> Status
@@ -527,7 +554,6 @@ impl Pool {
         ensures kept { KeepsTree self.old self.new }
     {
         self.check_running()?;
-        self.check_no_older()?;
         self.groups.close_open()
     }
 
@@ -549,6 +575,7 @@ impl Pool {
     {
         self.check_running()?;
         let group = self.check_start()?;
+        self.reserve_synced()?;
         let planned = self.plan_group(group)?;
         let running = self.running_sync(group, moment, planned);
         take_all(&mut self.free, &running.run.blocks);
@@ -557,6 +584,19 @@ impl Pool {
             unreachable!();
         };
         Ok(group)
+    }
+
+    // Takes the room in the synced objects that the end of the next sync needs, where none runs.
+    fn reserve_synced(&mut self) -> Result<(), PoolError>
+        requires { is_some self.old.groups.line.syncing ≡ false }
+        ensures geometry { self.new.geometry ≡ self.old.geometry }
+        ensures kept { pool_told self.new ≡ pool_told self.old }
+        ensures room { OnOk result
+            (HasRoomForPatches (changes_at self.new.changes 0) self.new.synced.slots.items) }
+        ensures refused { IfErr result (λ e. e ≡ PoolError.NoMemory) }
+    {
+        self.changes.oldest().reserve_in(&mut self.synced)?;
+        Ok(())
     }
 
     // The quiesced group, where a sync of it may start.
@@ -583,7 +623,8 @@ impl Pool {
             tree: &self.tree,
             free: &self.free,
         };
-        plan(&source, &mut &self.contents, &objects)
+        let mut after = Laid::new(self.changes.oldest(), &self.synced);
+        plan(&source, &mut after, &objects)
     }
 
     fn running_sync(&self, group: Group, moment: u64, planned: TreePlan) -> RunningSync
@@ -593,8 +634,8 @@ impl Pool {
         ensures group { result.group ≡ group }
         ensures moment { result.moment ≡ moment }
         ensures begins { BeginsPlan planned result }
-        ensures plan { plan_of self.now.log_address self.now.tree result
-            ≡ begun_plan self.now moment planned }
+        ensures plan { plan_of self.now.log_address self.now.tree
+            (contents_after_oldest self.now) result ≡ begun_plan self.now moment planned }
         ensures uberblock { WritesUberblock
             (uberblock_for self.now group.0 moment planned.root) result.run }
     {
@@ -657,6 +698,8 @@ impl Pool {
                     unreachable!();
                 };
                 end_charges(&mut self.dirty, &mut self.free, group);
+                drop_synced(&mut self.pending, group);
+                lay_oldest(&mut self.changes, &mut self.synced);
                 self.finish_tree(synced);
                 Ok(Progress::Synced(group))
             }
@@ -668,7 +711,7 @@ impl Pool {
         }
     }
 
-    // The synced group's tree is the pool's, what it replaced is free, and its transactions are no longer pending.
+    // The synced group's tree is the pool's, and what it replaced is free.
     fn finish_tree(&mut self, running: RunningSync)
         requires none { is_some self.old.sync ≡ false }
         requires geometry { running.run.geometry ≡ self.old.geometry }
@@ -682,7 +725,7 @@ impl Pool {
             (tree_after running self.old.tree) }
     {
         let RunningSync {
-            group,
+            group: _,
             moment: _,
             run: _,
             maps,
@@ -694,7 +737,6 @@ impl Pool {
         self.tree.directories = directories;
         self.tree.set_all(maps);
         give_all(&mut self.free, self.geometry, &freed);
-        drop_synced(&mut self.pending, group);
     }
 }
 
@@ -702,53 +744,9 @@ impl Pool {
 fn is_readable(object: ObjectId, range: Range) -> bool
     ensures allowed { result ≡ is_readable object.0 range }
     ensures ordered { IsTrue result → range.low ≤ range.high }
+    ensures within { IsTrue result → range.high ≤ max_length }
 {
     object.0 < OBJECT_COUNT && range.is_allowed()
-}
-
-// The bytes of a range that an object has.
-fn bytes_in(bytes: &[u8], range: Range) -> &[u8]
-    requires { range.low ≤ range.high }
-    ensures { result.now ≡ part bytes.now range.low (range.high - range.low) }
-{
-    let low = bytes.len().min(range.low as usize);
-    let high = bytes.len().min(range.high as usize);
-    &bytes[low..high]
-}
-
-// What a group was charged ends once it is synced, and so does what was reserved for it.
-fn end_charges(dirty: &mut Dirty, free: &mut FreeSet, group: Group)
-    requires next { group.0 ≡ dirty.old.synced + 1 }
-    requires whole { AreWholeBlocks dirty.old }
-    requires reserved { free.old.reserved ≡ blocks_in (total_of dirty.old) }
-    ensures dirty { dirty.new ≡ after_synced group.0 dirty.old }
-    ensures free { free.new ≡ after_sync_end (blocks_in (sum_of dirty.old group.0)) free.old }
-    ensures reserved { free.new.reserved ≡ blocks_in (total_of dirty.new) }
-{
-    let reserved = dirty.of(group) / BLOCK_SIZE;
-    dirty.synced(group);
-    free.end_sync(reserved);
-}
-
-// The sync that starts takes these blocks.
-fn take_all(free: &mut FreeSet, blocks: &[PlannedBlock])
-    requires { free.old.taken ≡ 0 }
-    ensures { free.new ≡ after_sync_takes (map address_of blocks.now) free.old }
-{
-    for planned in blocks {
-        free.take_for_sync(planned.index);
-    }
-}
-
-// The blocks at these addresses come back.
-fn give_all(free: &mut FreeSet, geometry: Geometry, addresses: &[u64])
-    requires count { free.old.blocks ≡ block_count geometry }
-    requires placed { AreBlocksOf (block_count geometry) addresses.now }
-    ensures { free.new ≡ after_gives addresses.now free.old }
-{
-    for address in addresses {
-        free.give(geometry.block_index(*address) as usize);
-    }
 }
 
 // The transactions of a synced group are no longer pending, nor are those of older ones.
@@ -756,4 +754,15 @@ fn drop_synced(pending: &mut Vec<Committed>, group: Group)
     ensures { pending.new.items ≡ pending_after group.0 pending.old.items }
 {
     pending.retain(|committed| committed.group > group);
+}
+
+// The oldest group is synced: the synced objects are those that it left, and the groups after it move up.
+fn lay_oldest(changes: &mut UnsyncedExtents, synced: &mut Contents)
+    requires { HasRoomForPatches (changes_at changes.old 0) synced.old.slots.items }
+    ensures contents { contents_of synced.new
+        ≡ patched_contents (changes_at changes.old 0) (contents_of synced.old) }
+    ensures changes { MovesUp changes.old changes.new }
+{
+    changes.oldest().lay_into(synced);
+    changes.drop_oldest();
 }

@@ -155,8 +155,7 @@ impl<D: SectorDevice> PoolState<D> {
     /// for each block that the plan is estimated at, and so many blocks are reserved for it, both until it is synced.
     ///
     /// # Errors
-    /// In this order: `Suspended`; `NotReady` where an older group is unsynced; `BadRange` where the plan has no shape, or
-    /// one that neither creates, removes nor writes or is outside its limits; `TooLarge` where its log record would have more
+    /// In this order: `Suspended`; `BadRange` where the plan has no shape, or one that gives a name or is outside its limits; `TooLarge` where its log record would have more
     /// than 4,008 bytes; `NotLocked` where a range of it does not lie in one writer lock of the owner; `Busy` where one
     /// overlaps a range of an open transaction; `TooMany` where 64 transactions are open or the next name would pass 2^60;
     /// `Throttled` where the charges of all unsynced groups would pass the import's limit; `NoSpace` where fewer blocks are
@@ -179,8 +178,7 @@ impl<D: SectorDevice> PoolState<D> {
     /// Commits a transaction whole, in its own group.
     ///
     /// # Errors
-    /// In this order: `Suspended`; `NotReady` where an older group is unsynced; `NoSuchTransaction` where none of this name
-    /// is open; `OutOfPlan` where the operations have not the plan's shapes, one for one; `NoObject` or `Exists`, that of
+    /// In this order: `Suspended`; `NoSuchTransaction` where none of this name is open; `OutOfPlan` where the operations have not the plan's shapes, one for one; `NoObject` or `Exists`, that of
     /// the first operation that can't take place on the contents after those before it; `TooMany` where the next ordinal
     /// would pass 2^60; `NoMemory`. After each the transaction is still open.
     pub fn commit(&mut self, tx: TxId, ops: Ops) -> Result<Receipt, PoolError>
@@ -255,7 +253,8 @@ impl<D: SectorDevice> PoolState<D> {
     /// The open group quiesces, and the next one is open (`txg.c`). It takes no memory.
     ///
     /// # Errors
-    /// In this order: `Suspended`; `NotReady` where an older group is unsynced, or the open group is 2^60.
+    /// In this order: `Suspended`; `NotReady` where a group is closed and its sync was not started, or the open group is
+    /// 2^60.
     pub fn close_group(&mut self) -> Result<Group, PoolError>
         ensures step { ClosesGroup result (shown self.old) (shown self.new) }
         ensures unmoved { MovesNothing result self.old self.new }

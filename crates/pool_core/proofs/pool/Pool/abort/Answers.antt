@@ -1,16 +1,12 @@
-use Rattle.std.proofs.Common.{◌≡◌, ◌∙◌, ◌==◌, Bool, not, List, Some, ap, sym, subst, refl}
-use Rattle.std.specs.Prelude.{All}
+use Rattle.std.proofs.Common.{◌∙◌, ◌==◌, not, List, ap, sym, subst, refl}
 use Rattle.std.proofs.lemmas.Result.{err_from_is_err_and}
 use Rattle.std.proofs.lemmas.List.Elements.{All-filter}
-use Rattle.base.specs.history.Plans.{charge_of, estimate_of, is_plan_allowed}
-use Rattle.base.specs.declared.operation.Shape.{Shape}
 use Rattle.base.specs.steps.Groups.{Admission}
 use Rattle.groups.specs.CountedLines.{after_release}
 use Rattle.groups.specs.Laws.{AreHoldsExact}
 use Rattle.space.specs.FreeSets.{FreeSpace}
 use Rattle.throttle.proofs.ShownSums.{sums_stay_on_lines}
-use Rattle.throttle.specs.Blocks.{AreOpenOnesCharged}
-use Rattle.transactions.specs.Open.{Open, admission_of}
+use Rattle.transactions.specs.Open.{admission_of}
 use Rattle.pool_core.specs.Shows.{pool_shown}
 use Rattle.pool_core.proofs.Aborts.{abort_done, abort_none, abort_suspended, ended_allowed, ended_charged, ended_held, ended_reserved, ended_small, ended_unsynced, none_ended, others_charged, others_reserved}
 use Rattle.pool_core.proofs.Charges.{shows_sums}
@@ -116,6 +112,11 @@ invariant_of-self-2-clause-plans_built c =
 pub invariant_of-self-2-clause-plans_small : goal.invariant_of-self-2-clause-plans_small
 invariant_of-self-2-clause-plans_small c =
     rw c.in-Some.ensures.others (All-filter (λ (a : Admission). not (a.tx == c.args.tx.0)) IsSmall c.args.self.now.transactions.transactions c.args.self.now.plans_small)
+
+pub invariant_of-self-2-clause-unsynced : goal.invariant_of-self-2-clause-unsynced
+invariant_of-self-2-clause-unsynced c =
+    let pool = c.args.self.now in
+    rw (c.release.ensures, line-after_release pool.groups pool.counted c.in-Some.transaction.group.0) pool.unsynced
 
 pub returns-clause-step : goal.returns-clause-step
 returns-clause-step c =

@@ -119,6 +119,9 @@ invariant_of-self-2-clause-open_charged c =
     rw (c.in_ok-tx.ensures.admitted, c.in-Ok.ensures.admitted, c.charge.ensures, c.as_slice-shapes.ensures, ← c.in_ok-plan.ensures)
     ((stay_charged pool.transactions.transactions pool.dirty pool.open_charged).admitted _)
 
+pub invariant_of-self-2-clause-unsynced : goal.invariant_of-self-2-clause-unsynced
+invariant_of-self-2-clause-unsynced c = rw c.hold.ensures.counted c.args.self.now.unsynced
+
 pub returns-clause-step : goal.returns-clause-step
 returns-clause-step c =
     let pool = c.args.self.now in

@@ -1,5 +1,9 @@
-use Rattle.std.proofs.Common.{◌∙◌, sym, arith}
+use Rattle.std.proofs.Common.{◌∙◌, List, ℕ, sym, subst, arith}
+use Rattle.std.specs.FinMap.{FinMap}
+use Rattle.std.specs.Ordering.{nat_cmp}
+use Rattle.std.specs.Prelude.{Err, Ok}
 use Rattle.std.proofs.lemmas.Result.{err_from_is_err_and}
+use Rattle.object_maps.specs.Judging.{JudgesOver}
 use Rattle.transactions.specs.Open.{admission_of}
 use Rattle.pool_core.specs.Shows.{pool_shown}
 use Rattle.pool_core.proofs.Opens.{above_last, up_to_last}
@@ -9,12 +13,12 @@ use Rattle.pool_core.proofs.pool.Pool.check_commit.Goals as goal
 
 pub returns-in_default-clause-refusal : goal.returns-in_default-clause-refusal
 returns-in_default-clause-refusal c =
-    commit_none c.args.tx.0 c.args.ops.now (pool_shown c.args.self.now) c.in_ok-check_running.ensures c.in_ok-check_no_older.ensures (sym c.in_default.ensures)
+    commit_none c.args.tx.0 c.args.ops.now (pool_shown c.args.self.now) c.in_ok-check_running.ensures (sym c.in_default.ensures)
 
 pub returns-then-not-is_in_plan-clause-refusal : goal.returns-then-not-is_in_plan-clause-refusal
 returns-then-not-is_in_plan-clause-refusal c =
     let a = admission_of c.in-Some.transaction.now in
-    commit_out c.args.tx.0 c.args.ops.now a (pool_shown c.args.self.now) c.in_ok-check_running.ensures c.in_ok-check_no_older.ensures (sym c.in-Some.ensures)
+    commit_out c.args.tx.0 c.args.ops.now a (pool_shown c.args.self.now) c.in_ok-check_running.ensures (sym c.in-Some.ensures)
     (sym (rw c.as_slice.ensures at c.is_in_plan.ensures.same) ∙ c.if-not-is_in_plan.true)
 
 pub judge-requires : goal.judge-requires
@@ -30,9 +34,10 @@ returns-in_err-judge-clause-refusal c =
     let a = admission_of c.in-Some.transaction.now in
     let passed = c.if-not-is_in_plan.false in
     let allowed = ops_allowed tx ops pool a (sym c.in-Some.ensures) passed _ c.as_slice.ensures c.is_in_plan.ensures.equal in
-    let may = in_plan tx ops pool a (sym c.in-Some.ensures) passed c.in_ok-check_running.ensures c.in_ok-check_no_older.ensures (rw c.as_slice.ensures at c.is_in_plan.ensures.same) allowed in
+    let may = in_plan tx ops pool a (sym c.in-Some.ensures) passed c.in_ok-check_running.ensures (rw c.as_slice.ensures at c.is_in_plan.ensures.same) allowed in
     let p = err_from_is_err_and c.from_residual-in_err-judge.result c.from_residual-in_err-judge.ensures.1 in
-    rw (p.1, p.2) (commit_fails tx ops a _ (pool_shown pool) may c.in_err-judge.ensures)
+    rw (p.1, p.2) (commit_fails tx ops a _ (pool_shown pool) may
+    (subst (λ (o : FinMap nat_cmp (List ℕ)). JudgesOver ops o (Err c.in_err-judge.field-0.0)) c.objects.ensures c.in_err-judge.ensures pool.synced.name))
 
 pub returns-then-self-gt-LAST_NUMBER-clause-refusal : goal.returns-then-self-gt-LAST_NUMBER-clause-refusal
 returns-then-self-gt-LAST_NUMBER-clause-refusal c =
@@ -42,8 +47,8 @@ returns-then-self-gt-LAST_NUMBER-clause-refusal c =
     let a = admission_of c.in-Some.transaction.now in
     let passed = c.if-not-is_in_plan.false in
     let allowed = ops_allowed tx ops pool a (sym c.in-Some.ensures) passed _ c.as_slice.ensures c.is_in_plan.ensures.equal in
-    let may = in_plan tx ops pool a (sym c.in-Some.ensures) passed c.in_ok-check_running.ensures c.in_ok-check_no_older.ensures (rw c.as_slice.ensures at c.is_in_plan.ensures.same) allowed in
-    let ok = c.in_ok-judge.ensures in
+    let may = in_plan tx ops pool a (sym c.in-Some.ensures) passed c.in_ok-check_running.ensures (rw c.as_slice.ensures at c.is_in_plan.ensures.same) allowed in
+    let ok = subst (λ (o : FinMap nat_cmp (List ℕ)). JudgesOver ops o (Ok c.in_ok-judge.field-0)) c.objects.ensures c.in_ok-judge.ensures pool.synced.name in
     commit_many tx ops a ok.0 (pool_shown pool) may ok.1 (above_last pool.next_ordinal (omega arith))
 
 pub returns-clause-refusal : goal.returns-clause-refusal
@@ -54,8 +59,8 @@ returns-clause-refusal c =
     let a = admission_of c.in-Some.transaction.now in
     let passed = c.if-not-is_in_plan.false in
     let allowed = ops_allowed tx ops pool a (sym c.in-Some.ensures) passed _ c.as_slice.ensures c.is_in_plan.ensures.equal in
-    let may = in_plan tx ops pool a (sym c.in-Some.ensures) passed c.in_ok-check_running.ensures c.in_ok-check_no_older.ensures (rw c.as_slice.ensures at c.is_in_plan.ensures.same) allowed in
-    let ok = c.in_ok-judge.ensures in
+    let may = in_plan tx ops pool a (sym c.in-Some.ensures) passed c.in_ok-check_running.ensures (rw c.as_slice.ensures at c.is_in_plan.ensures.same) allowed in
+    let ok = subst (λ (o : FinMap nat_cmp (List ℕ)). JudgesOver ops o (Ok c.in_ok-judge.field-0)) c.objects.ensures c.in_ok-judge.ensures pool.synced.name in
     commit_passes tx ops a ok.0 (pool_shown pool) may ok.1 (up_to_last pool.next_ordinal (omega arith))
 
 pub returns-clause-allowed : goal.returns-clause-allowed

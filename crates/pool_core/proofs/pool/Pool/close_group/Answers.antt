@@ -1,8 +1,9 @@
 use Rattle.std.proofs.Common.{refl}
 use Rattle.std.proofs.lemmas.Result.{err_from_is_err_and}
-use Rattle.pool_core.proofs.Closes.{close_suspended, close_older, close_ends}
+use Rattle.pool_core.proofs.Closes.{close_ends, close_moves, close_suspended}
 use Rattle.pool_core.proofs.Charges.{close_charged}
 use Rattle.pool_core.proofs.HeldGroups.{close_keeps}
+use Rattle.pool_core.proofs.UnsyncedChanges.{moved_on}
 use Rattle.pool_core.specs.Shows.{pool_shown}
 use Rattle.pool_core.proofs.pool.Pool.close_group.Goals as goal
 
@@ -11,12 +12,6 @@ returns-in_err-check_running-clause-step c =
     let p = err_from_is_err_and c.from_residual.result c.from_residual.ensures.1 in
     let told = c.in_err-check_running.ensures in
     rw (p.1, p.2, told.0) (close_suspended (pool_shown c.args.self.now) told.1)
-
-pub returns-in_err-check_no_older-clause-step : goal.returns-in_err-check_no_older-clause-step
-returns-in_err-check_no_older-clause-step c =
-    let p = err_from_is_err_and c.from_residual-in_err-check_no_older.result c.from_residual-in_err-check_no_older.ensures.1 in
-    let told = c.in_err-check_no_older.ensures in
-    rw (p.1, p.2, told.0) (close_older (pool_shown c.args.self.now) c.in_ok-check_running.ensures told.1)
 
 pub invariant_of-self-clause-counted : goal.invariant_of-self-clause-counted
 invariant_of-self-clause-counted c =
@@ -33,7 +28,13 @@ invariant_of-self-clause-holds_exact c =
 pub invariant_of-self-clause-charged : goal.invariant_of-self-clause-charged
 invariant_of-self-clause-charged c = close_charged c.args.self.now c.close_open.result c.close_open.new.self c.close_open.ensures.unchanged c.close_open.ensures.closed
 
+pub invariant_of-self-clause-unsynced : goal.invariant_of-self-clause-unsynced
+invariant_of-self-clause-unsynced c =
+    let pool = c.args.self.now in
+    let told = c.close_open.ensures in
+    moved_on pool.groups.line c.close_open.new.self.line pool.pending.items pool.synced pool.changes (close_moves c.close_open.result pool.groups c.close_open.new.self told.unchanged told.closed) pool.unsynced
+
 pub returns-clause-step : goal.returns-clause-step
 returns-clause-step c =
     let told = c.close_open.ensures in
-    close_ends c.close_open.result c.args.self.now.groups c.close_open.new.self (pool_shown c.args.self.now) c.in_ok-check_running.ensures refl c.in_ok-check_no_older.ensures told.refused told.error told.unchanged told.closed told.group
+    close_ends c.close_open.result c.args.self.now.groups c.close_open.new.self (pool_shown c.args.self.now) c.in_ok-check_running.ensures refl told.refused told.error told.unchanged told.closed told.group

@@ -1,28 +1,23 @@
-use Rattle.std.proofs.Common.{◌≡◌, ◌∙◌, ◌==◌, Bool, true, false, not, List, Some, Err, ap, sym, subst, refl}
-use Rattle.std.specs.List.{list_all, list_any}
+use Rattle.std.proofs.Common.{◌≡◌, ◌∙◌, true, List, Some, Err, ap, sym, subst}
+use Rattle.std.specs.List.{list_all}
 use Rattle.std.proofs.lemmas.Result.{err_from_is_err_and}
-use Rattle.std.proofs.lemmas.List.{map-append}
-use Rattle.std.proofs.lemmas.List.Elements.{All-filter, All-push}
 use Rattle.base.specs.declared.error.PoolError.TheVariants as error
 use Rattle.base.specs.declared.operation.Op.{Op}
-use Rattle.base.specs.history.Contents.{Contents}
-use Rattle.base.specs.steps.Groups.{Admission}
-use Rattle.base.specs.history.History.{apply_all}
 use Rattle.base.specs.formats.Records.{is_content_allowed}
-use Rattle.base.specs.steps.Stage.{commit_refusal, Commit}
-use Rattle.base.specs.tree.Syncs.{is_rename}
-use Rattle.groups.specs.CountedLines.{after_release}
-use Rattle.groups.specs.Laws.{AreHoldsExact}
-use Rattle.throttle.proofs.OpenCharges.{stay_charged}
-use Rattle.object_maps.specs.ContentsShown.{contents_of}
+use Rattle.base.specs.steps.Refusals.{commit_refusal}
+use Rattle.base.specs.steps.Shown.{Shown}
+use Rattle.base.specs.steps.Steps.{Commit}
+use Rattle.extents.specs.Patches.{Patches}
+use Rattle.extents.specs.Synced.{HasRoomForPatches}
 use Rattle.object_maps.specs.Ops.{AreOpsAllowed}
-use Rattle.tree_plans.specs.declared.planner.Committed.{Committed}
-use Rattle.pool_core.specs.Meets.{Meets, MayCommit}
-use Rattle.pool_core.specs.Shows.{pool_shown}
-use Rattle.pool_core.proofs.CommitSteps.{commit_refused, commit_wants, commit_done}
-use Rattle.pool_core.proofs.HeldGroups.{counted_release, exact_end, has_hold, line-after_release}
-use Rattle.pool_core.proofs.Opens.{IsBuilt, IsSmall}
-use Rattle.pool_core.proofs.SamePlans.{built_names}
+use Rattle.pool_core.specs.Meets.{MayCommit, MeetsExplained}
+use Rattle.pool_core.specs.Entries.{shown_after_entry}
+use Rattle.pool_core.specs.Shows.{pool_shown, shown_objects}
+use Rattle.pool_core.proofs.CommitSteps.{commit_refused, commit_wants}
+use Rattle.pool_core.proofs.Entered.{entered}
+use Rattle.pool_core.proofs.OfNoDevice.{commit_own}
+use Rattle.pool_core.proofs.PendingChanges.{changes_left_at, committed_behind, same_changes, shown_left}
+use Rattle.pool_core.proofs.PendingChanges.{both}
 use Rattle.pool_core.proofs.pool.Pool.commit.Goals as goal
 
 pub returns-in_err-group-clause-step : goal.returns-in_err-group-clause-step
@@ -34,6 +29,12 @@ returns-in_err-group-clause-step c =
     let e = c.in_err-group.field-0.0 in
     rw (p.1, p.2) (commit_refused tx ops e s (subst (λ (l : List Op). commit_refusal tx l s ≡ Some e) c.as_slice.ensures c.in_err-group.ensures.refusal))
 
+pub returns-in_err-group-clause-own : goal.returns-in_err-group-clause-own
+returns-in_err-group-clause-own c =
+    let s = pool_shown c.args.self.now in
+    let p = err_from_is_err_and c.from_residual.result c.from_residual.ensures.1 in
+    rw (p.1, p.2) (commit_own c.args.tx.0 _ s c.in_err-group.field-0.0 c.in_err-group.ensures.refusal)
+
 pub returns-in_err-reserve-clause-step : goal.returns-in_err-reserve-clause-step
 returns-in_err-reserve-clause-step c =
     let tx = c.args.tx.0 in
@@ -43,72 +44,72 @@ returns-in_err-reserve-clause-step c =
     let p = err_from_is_err_and c.from_residual-in_err-reserve.result c.from_residual-in_err-reserve.ensures.1 in
     rw (p.1, p.2, c.in_err-reserve.ensures.items) (commit_wants tx ops s may.passes)
 
+pub place_of-place-requires : goal.place_of-place-requires
+place_of-place-requires c =
+    let s = pool_shown c.args.self.now in
+    let ops = c.args.ops in
+    let may : MayCommit c.args.tx.0 ops c.in_ok-group.group.0 s = subst (λ (l : List Op). MayCommit c.args.tx.0 l c.in_ok-group.group.0 s) c.as_slice.ensures c.in_ok-group.ensures.refusal in
+    committed_behind c.args.self.now c.args.tx.0 ops c.in_ok-group.group.0 may
+
+pub invariant_of-self-2 : goal.invariant_of-self-2
+invariant_of-self-2 c =
+    let pool = c.args.self.now in
+    record {
+      free_sized = pool.free_sized;
+      free_taken = pool.free_taken;
+      import_fits = pool.import_fits;
+      next_ordinal_fits = pool.next_ordinal_fits;
+      counted = pool.counted;
+      holds_exact = pool.holds_exact;
+      charged = pool.charged;
+      open_charged = pool.open_charged;
+      reserved = pool.reserved;
+      plans_built = pool.plans_built;
+      plans_small = pool.plans_small;
+      running = pool.running;
+      uberblock = pool.uberblock;
+      planned = both (λ r is. (pool.planned r is).0) (λ r is. subst (λ (patches : Patches). ∥ HasRoomForPatches patches pool.synced.slots.items ∥₁) (sym (same_changes pool.changes c.reserve-2.new.self c.reserve-2.ensures.same 0)) (pool.planned r is).1);
+      sync_line = pool.sync_line;
+      tree_placed = pool.tree_placed;
+      unsynced = record {
+        built = rw c.in_ok-reserve.ensures.items pool.unsynced.built;
+        open_or_before = rw c.in_ok-reserve.ensures.items pool.unsynced.open_or_before;
+        within = pool.unsynced.within;
+        changed = rw c.in_ok-reserve.ensures.items (changes_left_at pool.groups.line.synced pool.pending.items pool.changes c.reserve-2.new.self pool.unsynced.changed c.reserve-2.ensures.same);
+      };
+    }
+
 pub returns-in_err-reserve-2-clause-step : goal.returns-in_err-reserve-2-clause-step
 returns-in_err-reserve-2-clause-step c =
     let tx = c.args.tx.0 in
     let ops = c.args.ops in
-    let s = pool_shown c.args.self.now in
+    let pool = c.args.self.now in
+    let s = pool_shown pool in
     let may : MayCommit tx ops c.in_ok-group.group.0 s = subst (λ (l : List Op). MayCommit tx l c.in_ok-group.group.0 s) c.as_slice.ensures c.in_ok-group.ensures.refusal in
     let p = err_from_is_err_and c.from_residual-in_err-reserve-2.result c.from_residual-in_err-reserve-2.ensures.1 in
-    rw (p.1, p.2, c.in_ok-reserve.ensures.items)
-    (subst (λ (x : Contents). Meets (Commit tx ops) (Err error.NoMemory) s (record s { contents = x })) (sym c.in_err-reserve-2.ensures.kept) (commit_wants tx ops s may.passes))
+    rw (p.1, p.2)
+    (subst (λ (x : Shown). MeetsExplained (Commit tx ops) (Err error.NoMemory) s x) (sym (shown_left pool c.reserve-2.new.self c.reserve.new.self.items c.reserve-2.ensures.same c.in_ok-reserve.ensures.items)) (commit_wants tx ops s may.passes))
 
-pub apply-requires-clause-judged : goal.apply-requires-clause-judged
-apply-requires-clause-judged c =
+pub enter-ordinal-requires-clause-may : goal.enter-ordinal-requires-clause-may
+enter-ordinal-requires-clause-may c =
     let tx = c.args.tx.0 in
     let ops = c.args.ops in
-    let s = pool_shown c.args.self.now in
+    let pool = c.args.self.now in
+    let s = pool_shown pool in
     let may : MayCommit tx ops c.in_ok-group.group.0 s = subst (λ (l : List Op). MayCommit tx l c.in_ok-group.group.0 s) c.as_slice.ensures c.in_ok-group.ensures.refusal in
-    let new = contents_of c.reserve-2.new.self in
-    (may.after, ap (λ (l : List Op). apply_all l new) c.as_slice-3.ensures ∙ ap (λ (x : Contents). apply_all ops x) c.in_ok-reserve-2.ensures.kept ∙ may.applied)
-
-pub release-requires : goal.release-requires
-release-requires c =
-    let pool = c.args.self.now in
-    let ops = c.args.ops in
-    let may : MayCommit c.args.tx.0 ops c.in_ok-group.group.0 (pool_shown pool) = subst (λ (l : List Op). MayCommit c.args.tx.0 l c.in_ok-group.group.0 (pool_shown pool)) c.as_slice.ensures c.in_ok-group.ensures.refusal in
-    has_hold pool.transactions.transactions pool.groups c.args.tx.0 may.admission c.in_ok-group.group.0 pool.holds_exact c.end.ensures.apart may.found may.group_is
-
-pub invariant_of-self-2-clause-counted : goal.invariant_of-self-2-clause-counted
-invariant_of-self-2-clause-counted c = rw c.release.ensures (counted_release c.args.self.now.groups c.args.self.now.counted c.in_ok-group.group.0)
-
-pub invariant_of-self-2-clause-holds_exact : goal.invariant_of-self-2-clause-holds_exact
-invariant_of-self-2-clause-holds_exact c =
-    let pool = c.args.self.now in
-    let ops = c.args.ops in
-    let may : MayCommit c.args.tx.0 ops c.in_ok-group.group.0 (pool_shown pool) = subst (λ (l : List Op). MayCommit c.args.tx.0 l c.in_ok-group.group.0 (pool_shown pool)) c.as_slice.ensures c.in_ok-group.ensures.refusal in
-    subst (AreHoldsExact c.end.new.self.transactions) (sym c.release.ensures)
-    (subst (λ (ts : List Admission). AreHoldsExact ts (after_release c.in_ok-group.group.0 pool.groups)) (sym c.end.ensures.others)
-    (exact_end pool.transactions.transactions pool.groups c.args.tx.0 may.admission c.in_ok-group.group.0 pool.holds_exact c.end.ensures.apart may.found may.group_is))
-
-pub invariant_of-self-2-clause-plans_built : goal.invariant_of-self-2-clause-plans_built
-invariant_of-self-2-clause-plans_built c =
-    let p : Admission → Bool = λ (a : Admission). not (a.tx == c.args.tx.0) in
-    rw c.end.ensures.others (All-filter p IsBuilt c.args.self.now.transactions.transactions c.args.self.now.plans_built)
-
-pub invariant_of-self-2-clause-plans_small : goal.invariant_of-self-2-clause-plans_small
-invariant_of-self-2-clause-plans_small c =
-    let p : Admission → Bool = λ (a : Admission). not (a.tx == c.args.tx.0) in
-    rw c.end.ensures.others (All-filter p IsSmall c.args.self.now.transactions.transactions c.args.self.now.plans_small)
-
-pub invariant_of-self-2-clause-open_charged : goal.invariant_of-self-2-clause-open_charged
-invariant_of-self-2-clause-open_charged c =
-    let pool = c.args.self.now in
-    rw c.end.ensures.others ((stay_charged pool.transactions.transactions pool.dirty pool.open_charged).ended c.args.tx.0)
-
-pub invariant_of-self-2-clause-pending_built : goal.invariant_of-self-2-clause-pending_built
-invariant_of-self-2-clause-pending_built c =
-    let names = built_names c.args.ops (subst AreOpsAllowed c.as_slice.ensures c.in_ok-group.ensures.allowed) in
-    rw (c.push_reserved.ensures.items, c.in_ok-reserve.ensures.items) (All-push (λ (x : Committed). list_any is_rename x.ops ≡ false) c.args.self.now.pending.items _ c.args.self.now.pending_built names)
+    subst (λ (x : Shown). MayCommit tx ops c.in_ok-group.group.0 x) (sym (shown_left pool c.reserve-2.new.self c.reserve.new.self.items c.in_ok-reserve-2.ensures.same c.in_ok-reserve.ensures.items)) may
 
 pub returns-clause-step : goal.returns-clause-step
 returns-clause-step c =
     let tx = c.args.tx.0 in
     let ops = c.args.ops in
-    let s = pool_shown c.args.self.now in
-    let may : MayCommit tx ops c.in_ok-group.group.0 s = subst (λ (l : List Op). MayCommit tx l c.in_ok-group.group.0 s) c.as_slice.ensures c.in_ok-group.ensures.refusal in
-    let new = contents_of c.reserve-2.new.self in
-    let ok = sym (ap (λ (l : List Op). apply_all l new) c.as_slice-3.ensures ∙ ap (λ (x : Contents). apply_all ops x) c.in_ok-reserve-2.ensures.kept) ∙ c.apply.ensures in
+    let group = c.in_ok-group.group.0 in
+    let pool = c.args.self.now in
+    let s = pool_shown pool in
+    let new = c.enter-ordinal.new.self in
+    let may : MayCommit tx ops group s = subst (λ (l : List Op). MayCommit tx l group s) c.as_slice.ensures c.in_ok-group.ensures.refusal in
     let bytes = subst (λ (l : List Op). list_all is_content_allowed l ≡ true) c.as_slice-2.ensures c.in_ok-reserve-2.ensures.bytes in
-    commit_done tx ops c.in_ok-group.group.0 (contents_of c.apply.new.self) s _ may ok bytes
-    (rw (c.end.ensures.others, c.end.ensures.next, c.release.ensures, line-after_release c.args.self.now.groups c.args.self.now.counted c.in_ok-group.group.0, c.push_reserved.ensures.items, c.in_ok-reserve.ensures.items, map-append) refl)
+    let allowed = subst AreOpsAllowed c.as_slice.ensures c.in_ok-group.ensures.allowed in
+    let shown : pool_shown new ≡ shown_after_entry tx group ops (shown_objects new) s = c.enter-ordinal.ensures.shown
+    ∙ ap (λ (x : Shown). shown_after_entry tx group ops (shown_objects new) x) (shown_left pool c.reserve-2.new.self c.reserve.new.self.items c.in_ok-reserve-2.ensures.same c.in_ok-reserve.ensures.items) in
+    rw c.enter-ordinal.ensures.ordinal (entered tx ops group s may bytes allowed new shown)

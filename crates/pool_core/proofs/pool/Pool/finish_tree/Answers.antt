@@ -1,23 +1,16 @@
-use Rattle.std.proofs.Common.{ℕ, ◌≡◌, ◌∙◌, ap, sym, false, map, nat_lt, List, Bool}
+use Rattle.std.proofs.Common.{◌∙◌, ℕ, List, ap}
 use Rattle.std.specs.FinSet as set
-use Rattle.std.specs.List.{list_any}
-use Rattle.std.proofs.lemmas.List.Elements.{All-filter}
 use Rattle.base.specs.formats.Geometry.{block_count}
-use Rattle.base.specs.formats.Records.{Record}
-use Rattle.base.specs.tree.Syncs.{is_rename}
 use Rattle.space.specs.FreeSets.{FreeSpace}
-use Rattle.tree_plans.specs.declared.planner.Committed.{Committed}
-use Rattle.pool_core.specs.Shows.{record_of, pool_shown}
-use Rattle.pool_core.proofs.Mapped.{filter-map}
+use Rattle.pool_core.specs.Shows.{contents_after_oldest, pool_shown}
 use Rattle.pool_core.proofs.PlannedPointers.{lengths-set}
 use Rattle.pool_core.proofs.SameSyncs.{none_planned, none_running, placed_after}
+use Rattle.pool_core.proofs.PendingChanges.{both}
 use Rattle.pool_core.proofs.pool.Pool.finish_tree.Goals as goal
 
 pub invariant_of-self-3 : goal.invariant_of-self-3
 invariant_of-self-3 c =
     let pool = c.args.self.now in
-    let later : Committed → Bool = λ (x : Committed). nat_lt c.args.running.group.0 x.group.0 in
-    let Built : Committed → Type 0 = λ (x : Committed). list_any is_rename x.ops ≡ false in
     record {
       free_sized = ap (λ (s : FreeSpace). s.blocks) c.give_all.ensures ∙ pool.free_sized;
       free_taken = ap (λ (s : FreeSpace). s.taken) c.give_all.ensures ∙ pool.free_taken;
@@ -32,10 +25,15 @@ invariant_of-self-3 c =
       plans_small = pool.plans_small;
       running = pool.running;
       uberblock = λ x e. absurd (none_running pool.sync x c.requires.none e);
-      planned = λ x e. absurd (none_running pool.sync x c.requires.none e);
+      planned = both (λ x e. absurd (none_running pool.sync x c.requires.none e)) (λ r is. (pool.planned r is).1);
       sync_line = pool.sync_line;
-      pending_built = rw c.drop_synced.ensures (All-filter later Built pool.pending.items pool.pending_built);
       tree_placed = placed_after (block_count pool.geometry) _ _ c.set_all.ensures.pointers c.requires.placed;
+      unsynced = record {
+        built = pool.unsynced.built;
+        open_or_before = pool.unsynced.open_or_before;
+        within = pool.unsynced.within;
+        changed = pool.unsynced.changed;
+      };
     }
 
 pub returns-clause-shown : goal.returns-clause-shown
@@ -43,9 +41,7 @@ returns-clause-shown c =
     let pool = c.args.self.now in
     let s = pool_shown pool in
     let rs = c.args.running in
-    let later : Record → Bool = λ (r : Record). nat_lt rs.group.0 r.group in
     let free = ap (λ (f : FreeSpace). f.free) c.give_all.ensures ∙ ap (λ (l : List ℕ). set.union s.free (set.from_list l)) c.deref.ensures.value in
-    let pending = ap (map record_of) c.drop_synced.ensures ∙ sym (filter-map later record_of pool.pending.items) in
     let lengths = lengths-set pool.tree c.set_all.new.self rs.maps c.set_all.ensures.lengths in
-    let idle = none_planned pool.log_address c.set_all.new.self pool.tree pool.sync c.requires.none in
-    rw c.set_all.ensures.root (λ k. record s { free = free k; log = record s.log { pending = pending k }; root = rs.root; lengths = lengths k; sync = idle k })
+    let idle = none_planned pool.log_address c.set_all.new.self pool.tree (contents_after_oldest pool) pool.sync c.requires.none in
+    rw c.set_all.ensures.root (λ k. record s { free = free k; root = rs.root; lengths = lengths k; sync = idle k })

@@ -1,8 +1,9 @@
 use Rattle.std.proofs.Common.{refl}
 use Rattle.std.proofs.lemmas.Result.{err_from_is_err_and}
 use Rattle.groups.proofs.ExactHolds.{count_transactions}
-use Rattle.pool_core.proofs.Closes.{quiesce_ends, quiesce_suspended}
+use Rattle.pool_core.proofs.Closes.{quiesce_ends, quiesce_moves, quiesce_suspended}
 use Rattle.pool_core.proofs.HeldGroups.{quiesce_keeps}
+use Rattle.pool_core.proofs.UnsyncedChanges.{moved_on}
 use Rattle.pool_core.specs.Shows.{pool_shown}
 use Rattle.pool_core.proofs.pool.Pool.mark_quiesced.Goals as goal
 
@@ -23,6 +24,12 @@ invariant_of-self-clause-holds_exact c =
     let pool = c.args.self.now in
     let told = c.mark_quiesced.ensures in
     (quiesce_keeps c.mark_quiesced.result pool.transactions.transactions pool.groups c.mark_quiesced.new.self pool.counted pool.holds_exact told.refused told.unchanged told.quiesced told.group).1
+
+pub invariant_of-self-clause-unsynced : goal.invariant_of-self-clause-unsynced
+invariant_of-self-clause-unsynced c =
+    let pool = c.args.self.now in
+    let told = c.mark_quiesced.ensures in
+    moved_on pool.groups.line c.mark_quiesced.new.self.line pool.pending.items pool.synced pool.changes (quiesce_moves c.mark_quiesced.result pool.groups c.mark_quiesced.new.self told.unchanged told.quiesced) pool.unsynced
 
 pub returns-clause-step : goal.returns-clause-step
 returns-clause-step c =

@@ -1,34 +1,35 @@
-use Rattle.std.proofs.Common.{◌≡◌, ◌<◌, ◌∙◌, ap, sym, subst, refl, length, map, List, [], Some, None, arith}
-use Rattle.std.specs.FinSet as set
+use Rattle.std.proofs.Common.{◌≡◌, ◌<◌, ◌∙◌, ap, sym, subst, refl, ◌≤◌, inl, length, List, [], Some, arith, All}
+use Rattle.std.proofs.lemmas.Bool.{false≢true}
 use Rattle.std.proofs.lemmas.Result.{err_from_is_err_and}
 use Rattle.base.specs.formats.Geometry.{block_count}
-use Rattle.base.specs.common.Rising.{rising}
 use Rattle.groups.specs.CountedLines.{CountedLine, IsCounted, after_start}
 use Rattle.groups.specs.Laws.{AreHoldsExact}
 use Rattle.base.specs.tree.PlacedTrees.{ArePlaced}
 use Rattle.sync.specs.Runs.{call_count}
 use Rattle.space.specs.FreeSets.{FreeSpace}
+use Rattle.tree_plans.specs.declared.planner.Committed.{Committed}
 use Rattle.tree_plans.specs.declared.planner.PlannedBlock.{PlannedBlock}
 use Rattle.throttle.specs.Blocks.{AreSumsOn}
 use Rattle.throttle.proofs.ShownSums.{sums_stay_on_lines}
 use Rattle.pool_core.specs.declared.pool.RunningSync.{RunningSync}
-use Rattle.tree_plans.specs.Plans.{address_of}
-use Rattle.pool_core.specs.Pointers.{lengths_after, pointers_after}
+use Rattle.pool_core.specs.Pointers.{pointers_after}
 use Rattle.pool_core.specs.RunningUberblocks.{WritesUberblock, uberblock_with}
-use Rattle.pool_core.specs.Shows.{new_plan, pool_shown}
+use Rattle.pool_core.specs.Pending.{AreChangesOfPending}
+use Rattle.pool_core.specs.Shows.{pool_shown}
 use Rattle.std.specs.Prelude.{Result}
 use Rattle.base.specs.declared.error.PoolError.{PoolError}
 use Rattle.base.specs.declared.names.Group.{Group}
 use Rattle.base.specs.steps.Shown.{SyncPlan}
 use Rattle.base.specs.stored.Stored.{NewTree}
-use Rattle.tree_plans.specs.Plans.{new_block}
-use Rattle.pool_core.specs.Holds.{start_reply}
-use Rattle.pool_core.proofs.StartLeads.{blocks_kept, group_fits, group_lengths, group_planned, group_takes, group_takes_each, never_short, none_counted, nothing_made, taken_anew}
-use Rattle.pool_core.proofs.HeldGroups.{counted_start, exact_moves, started}
+use Rattle.pool_core.specs.Holds.{pool_told, start_reply}
+use Rattle.pool_core.proofs.StartLeads.{blocks_kept, none_counted, nothing_made, taken_anew}
+use Rattle.pool_core.proofs.StartedSyncs.{may_still, plan_wants, refused_held, refused_leads, refused_step, shown-started, started_held, started_leads, started_order, started_step}
+use Rattle.pool_core.proofs.HeldGroups.{counted_start, exact_moves, may_start, started}
 use Rattle.pool_core.proofs.OfNoDevice.{plan_own}
 use Rattle.pool_core.proofs.StillSteps.{still_pool}
 use Rattle.pool_core.proofs.SameSyncs.{kept_sync}
-use Rattle.pool_core.proofs.Starts.{lowest_taken, pending_names, start_done, start_not_ready, start_suspended, start_wants, wants_only}
+use Rattle.pool_core.proofs.Starts.{start_not_ready, start_suspended}
+use Rattle.pool_core.proofs.PendingChanges.{both}
 use Rattle.pool_core.proofs.pool.Pool.start_sync.Goals as goal
 
 pub returns-in_err-check_running-clause-step : goal.returns-in_err-check_running-clause-step
@@ -43,15 +44,17 @@ returns-in_err-group-clause-step c =
     let told = c.in_err-group.ensures.may in
     rw (p.1, p.2, told.0) (λ past explained. (past, start_not_ready ⊥ [] past (pool_shown c.args.self.now) c.args.moment c.in_ok-check_running.ensures told.1))
 
+pub returns-in_err-reserve_synced-clause-step : goal.returns-in_err-reserve_synced-clause-step
+returns-in_err-reserve_synced-clause-step c =
+    let p = err_from_is_err_and c.from_residual-in_err-reserve_synced.result c.from_residual-in_err-reserve_synced.ensures.1 in
+    rw (p.1, p.2) (refused_step c.args.self.now (pool_told c.reserve_synced.new.self) c.reserve_synced.ensures.kept c.in_ok-group.group c.args.moment c.in_err-reserve_synced.field-0.0 c.in_ok-check_running.ensures c.in_ok-group.ensures.may
+    (λ past x. c.in_err-reserve_synced.ensures.refused))
+
 pub returns-in_err-planned-clause-step : goal.returns-in_err-planned-clause-step
 returns-in_err-planned-clause-step c =
     let p = err_from_is_err_and c.from_residual-in_err-planned.result c.from_residual-in_err-planned.ensures.1 in
-    let may = c.in_ok-group.ensures.may in
-    rw (p.1, p.2) (λ past explained. (
-      past,
-      start_wants ⊥ [] past (pool_shown c.args.self.now) c.args.moment c.in_ok-group.group.0 c.in_err-planned.field-0.0 c.in_ok-check_running.ensures may.0 may.1
-          (wants_only c.in_err-planned.field-0.0 c.in_err-planned.ensures.refused (λ space. never_short past c.args.self.now c.in_ok-group.group.0 may explained (c.in_err-planned.ensures.no_space space))),
-    ))
+    rw (p.1, p.2) (refused_step c.args.self.now (pool_told c.reserve_synced.new.self) c.reserve_synced.ensures.kept c.in_ok-group.group c.args.moment c.in_err-planned.field-0.0 c.in_ok-check_running.ensures c.in_ok-group.ensures.may
+    (plan_wants c.reserve_synced.new.self (pool_told c.args.self.now) c.reserve_synced.ensures.kept c.in_ok-group.group.0 c.in_ok-group.ensures.may c.in_err-planned.field-0.0 c.in_err-planned.ensures.refused c.in_err-planned.ensures.no_space))
 
 pub returns-in_err-check_running-clause-held : goal.returns-in_err-check_running-clause-held
 returns-in_err-check_running-clause-held c =
@@ -65,15 +68,17 @@ returns-in_err-group-clause-held c =
     let told = c.in_err-group.ensures.may in
     rw (p.1, p.2, told.0) (λ now past x. (past, start_not_ready (Unit {0}) now past (pool_shown c.args.self.now) c.args.moment c.in_ok-check_running.ensures told.1))
 
+pub returns-in_err-reserve_synced-clause-held : goal.returns-in_err-reserve_synced-clause-held
+returns-in_err-reserve_synced-clause-held c =
+    let p = err_from_is_err_and c.from_residual-in_err-reserve_synced.result c.from_residual-in_err-reserve_synced.ensures.1 in
+    rw (p.1, p.2) (refused_held c.args.self.now (pool_told c.reserve_synced.new.self) c.reserve_synced.ensures.kept c.in_ok-group.group c.args.moment c.in_err-reserve_synced.field-0.0 c.in_ok-check_running.ensures c.in_ok-group.ensures.may
+    (λ past x. c.in_err-reserve_synced.ensures.refused))
+
 pub returns-in_err-planned-clause-held : goal.returns-in_err-planned-clause-held
 returns-in_err-planned-clause-held c =
     let p = err_from_is_err_and c.from_residual-in_err-planned.result c.from_residual-in_err-planned.ensures.1 in
-    let may = c.in_ok-group.ensures.may in
-    rw (p.1, p.2) (λ now past x. (
-      past,
-      start_wants (Unit {0}) now past (pool_shown c.args.self.now) c.args.moment c.in_ok-group.group.0 c.in_err-planned.field-0.0 c.in_ok-check_running.ensures may.0 may.1
-          (wants_only c.in_err-planned.field-0.0 c.in_err-planned.ensures.refused (λ space. never_short past c.args.self.now c.in_ok-group.group.0 may x.explained (c.in_err-planned.ensures.no_space space))),
-    ))
+    rw (p.1, p.2) (refused_held c.args.self.now (pool_told c.reserve_synced.new.self) c.reserve_synced.ensures.kept c.in_ok-group.group c.args.moment c.in_err-planned.field-0.0 c.in_ok-check_running.ensures c.in_ok-group.ensures.may
+    (plan_wants c.reserve_synced.new.self (pool_told c.args.self.now) c.reserve_synced.ensures.kept c.in_ok-group.group.0 c.in_ok-group.ensures.may c.in_err-planned.field-0.0 c.in_err-planned.ensures.refused c.in_err-planned.ensures.no_space))
 
 pub returns-in_err-check_running-clause-order : goal.returns-in_err-check_running-clause-order
 returns-in_err-check_running-clause-order c =
@@ -85,19 +90,72 @@ returns-in_err-group-clause-order c =
     let p = err_from_is_err_and c.from_residual-in_err-group.result c.from_residual-in_err-group.ensures.1 in
     rw (p.1) (λ now past x. tt)
 
+pub returns-in_err-reserve_synced-clause-order : goal.returns-in_err-reserve_synced-clause-order
+returns-in_err-reserve_synced-clause-order c =
+    let p = err_from_is_err_and c.from_residual-in_err-reserve_synced.result c.from_residual-in_err-reserve_synced.ensures.1 in
+    rw (p.1) (λ now past x. tt)
+
 pub returns-in_err-planned-clause-order : goal.returns-in_err-planned-clause-order
 returns-in_err-planned-clause-order c =
     let p = err_from_is_err_and c.from_residual-in_err-planned.result c.from_residual-in_err-planned.ensures.1 in
     rw (p.1) (λ now past x. tt)
 
+pub returns-in_err-check_running-clause-leads : goal.returns-in_err-check_running-clause-leads
+returns-in_err-check_running-clause-leads c = λ now.
+    let p = err_from_is_err_and c.from_residual.result c.from_residual.ensures.1 in
+    still_pool (start_reply c.from_residual.result) p.0 now c.args.self.now (ap (λ (r : Result Group PoolError). start_reply r) p.1)
+
+pub returns-in_err-group-clause-leads : goal.returns-in_err-group-clause-leads
+returns-in_err-group-clause-leads c = λ now.
+    let p = err_from_is_err_and c.from_residual-in_err-group.result c.from_residual-in_err-group.ensures.1 in
+    still_pool (start_reply c.from_residual-in_err-group.result) p.0 now c.args.self.now (ap (λ (r : Result Group PoolError). start_reply r) p.1)
+
+pub returns-in_err-reserve_synced-clause-leads : goal.returns-in_err-reserve_synced-clause-leads
+returns-in_err-reserve_synced-clause-leads c =
+    let p = err_from_is_err_and c.from_residual-in_err-reserve_synced.result c.from_residual-in_err-reserve_synced.ensures.1 in
+    rw (p.1) (refused_leads c.args.self.now (pool_told c.reserve_synced.new.self) c.reserve_synced.ensures.kept p.0)
+
+pub returns-in_err-planned-clause-leads : goal.returns-in_err-planned-clause-leads
+returns-in_err-planned-clause-leads c =
+    let p = err_from_is_err_and c.from_residual-in_err-planned.result c.from_residual-in_err-planned.ensures.1 in
+    rw (p.1) (refused_leads c.args.self.now (pool_told c.reserve_synced.new.self) c.reserve_synced.ensures.kept p.0)
+
+pub returns-in_err-check_running-clause-own : goal.returns-in_err-check_running-clause-own
+returns-in_err-check_running-clause-own c =
+    let p = err_from_is_err_and c.from_residual.result c.from_residual.ensures.1 in
+    rw (p.1, p.2, c.in_err-check_running.ensures.0) (λ calls. refl)
+
+pub returns-in_err-group-clause-own : goal.returns-in_err-group-clause-own
+returns-in_err-group-clause-own c =
+    let p = err_from_is_err_and c.from_residual-in_err-group.result c.from_residual-in_err-group.ensures.1 in
+    rw (p.1, p.2, c.in_err-group.ensures.may.0) (λ calls. refl)
+
+pub returns-in_err-reserve_synced-clause-own : goal.returns-in_err-reserve_synced-clause-own
+returns-in_err-reserve_synced-clause-own c =
+    let p = err_from_is_err_and c.from_residual-in_err-reserve_synced.result c.from_residual-in_err-reserve_synced.ensures.1 in
+    rw (p.1, p.2) (plan_own c.in_err-reserve_synced.field-0.0 (inl c.in_err-reserve_synced.ensures.refused))
+
+pub returns-in_err-planned-clause-own : goal.returns-in_err-planned-clause-own
+returns-in_err-planned-clause-own c =
+    let p = err_from_is_err_and c.from_residual-in_err-planned.result c.from_residual-in_err-planned.ensures.1 in
+    rw (p.1, p.2) (plan_own c.in_err-planned.field-0.0 c.in_err-planned.ensures.refused)
+
 pub take_all-requires : goal.take_all-requires
-take_all-requires c = none_counted c.args.self.now c.in_ok-group.ensures.may.1
+take_all-requires c =
+    let may = may_still c.reserve_synced.new.self (pool_told c.args.self.now) c.reserve_synced.ensures.kept c.in_ok-group.group.0 c.in_ok-group.ensures.may in
+    none_counted c.reserve_synced.new.self may.1
+
+pub unreachable-requires : goal.unreachable-requires
+unreachable-requires c =
+    let pool = c.reserve_synced.new.self in
+    let may = may_still pool (pool_told c.args.self.now) c.reserve_synced.ensures.kept c.in_ok-group.group.0 c.in_ok-group.ensures.may in
+    false≢true (sym (may_start pool.groups.line c.in_ok-group.group.0 may) ∙ c.in_default.ensures.refused.0 refl)
 
 pub invariant_of-self : goal.invariant_of-self
 invariant_of-self c =
-    let pool = c.args.self.now in
+    let pool = c.reserve_synced.new.self in
     let group = c.in_ok-group.group.0 in
-    let may = c.in_ok-group.ensures.may in
+    let may = may_still pool (pool_told c.args.self.now) c.reserve_synced.ensures.kept group c.in_ok-group.ensures.may in
     let told = c.start_sync.ensures in
     let now : c.start_sync.new.self ≡ after_start group pool.groups = started c.start_sync.result pool.groups c.start_sync.new.self group may told.refused told.started told.group in
     let rs = c.running_sync-running.result in
@@ -120,118 +178,67 @@ invariant_of-self c =
       );
       uberblock = λ x e. subst (λ (r : RunningSync). WritesUberblock (uberblock_with pool.guid pool.import_number pool.log_address r.group.0 r.moment r.root) r.run) (kept_sync rs x e)
           (rw (ens.group, ens.moment, ens.begins.root) ens.uberblock);
-      planned = λ x e. subst (λ (r : RunningSync). ∥ ArePlaced (block_count pool.geometry) (pointers_after r.root r.directories.items r.maps pool.tree) ∥₁) (kept_sync rs x e)
-          (rw (ens.begins.root, ens.begins.directories, ens.begins.maps) c.in_ok-planned.ensures.tree.placed);
+      planned = both (λ x e. subst (λ (r : RunningSync). ∥ ArePlaced (block_count pool.geometry) (pointers_after r.root r.directories.items r.maps pool.tree) ∥₁) (kept_sync rs x e)
+          (rw (ens.begins.root, ens.begins.directories, ens.begins.maps) c.in_ok-planned.ensures.tree.placed)) (λ x e. ∣ c.in_ok-reserve_synced.ensures.room ∣₁);
       sync_line = ap (λ (g : _). Some g.0) ens.group ∙ sym (ap (λ (l : CountedLine). l.line.syncing) now);
-      pending_built = pool.pending_built;
       tree_placed = pool.tree_placed;
+      unsynced = record {
+        built = pool.unsynced.built;
+        open_or_before = subst (λ (l : CountedLine). All (λ (c : Committed). c.group.0 ≤ l.line.open_group) pool.pending.items) (sym now) pool.unsynced.open_or_before;
+        within = pool.unsynced.within;
+        changed = subst (λ (l : CountedLine). AreChangesOfPending l.line.synced pool.pending.items pool.changes) (sym now) pool.unsynced.changed;
+      };
     }
 
 pub returns-clause-step : goal.returns-clause-step
-returns-clause-step c = λ past explained.
-    let pool = c.args.self.now in
-    let s = pool_shown pool in
-    let blocks : List PlannedBlock = c.in_ok-planned.planned.blocks.items in
-    let plan = new_plan c.args.moment pool.log_address (map address_of blocks) c.in_ok-planned.planned.freed.items c.in_ok-planned.planned.root (lengths_after c.in_ok-planned.planned.maps pool.tree) in
-    let may = c.in_ok-group.ensures.may in
+returns-clause-step c =
+    let old = pool_told c.args.self.now in
+    let pool = c.reserve_synced.new.self in
+    let g = c.in_ok-group.group in
+    let planned = c.in_ok-planned.planned in
+    let ens = c.running_sync-running.ensures in
+    let may = may_still pool old c.reserve_synced.ensures.kept g.0 c.in_ok-group.ensures.may in
     let told = c.start_sync.ensures in
-    let line = started c.start_sync.result pool.groups c.start_sync.new.self c.in_ok-group.group.0 may told.refused told.started told.group in (
-      past,
-      start_done ⊥ [] past s c.args.moment _ c.in_ok-group.group.0 plan explained (λ never. absurd never)
-          c.in_ok-check_running.ensures may.0 may.1
-          (group_fits past pool c.in_ok-group.group.0 blocks (pointers_after c.in_ok-planned.planned.root c.in_ok-planned.planned.directories.items c.in_ok-planned.planned.maps pool.tree) may explained c.in_ok-planned.ensures.tree.planned)
-          (group_lengths past pool c.in_ok-group.group.0 (lengths_after c.in_ok-planned.planned.maps pool.tree) may explained c.in_ok-planned.ensures.tree.lengths)
-          (pending_names pool.pending.items pool.pending_built) refl refl
-          (lowest_taken blocks (rising pool.free.free) c.in_ok-planned.ensures.taken) refl refl
-          (rw (line, c.take_all.ensures, c.running_sync-running.ensures.plan) (ap (λ (l : List PlannedBlock). record s { line = record s.line { syncing = Some c.in_ok-group.group.0; middle = None }; free = set.difference s.free (set.from_list (map address_of l)); sync = Some plan }) (blocks_kept c.running_sync-running.result c.in_ok-planned.planned.blocks c.deref.result.now c.running_sync-running.ensures.begins.blocks c.deref.ensures.value))),
-    )
+    let line = started c.start_sync.result pool.groups c.start_sync.new.self g.0 may told.refused told.started told.group in
+    let shown = shown-started pool g c.args.moment planned c.start_sync.new.self c.take_all.new.free c.deref.result.now c.running_sync-running.result line c.take_all.ensures
+    (blocks_kept c.running_sync-running.result planned.blocks c.deref.result.now ens.begins.blocks c.deref.ensures.value) ens.plan in
+    started_step pool g c.args.moment planned old c.reserve_synced.ensures.kept c.in_ok-check_running.ensures may c.in_ok-planned.ensures.taken c.in_ok-planned.ensures.tree _ shown
 
 pub returns-clause-held : goal.returns-clause-held
-returns-clause-held c = λ now past x.
-    let pool = c.args.self.now in
-    let s = pool_shown pool in
+returns-clause-held c =
+    let old = pool_told c.args.self.now in
+    let pool = c.reserve_synced.new.self in
+    let g = c.in_ok-group.group in
     let planned = c.in_ok-planned.planned in
-    let blocks : List PlannedBlock = planned.blocks.items in
-    let plan = new_plan c.args.moment pool.log_address (map address_of blocks) planned.freed.items planned.root (lengths_after planned.maps pool.tree) in
-    let may = c.in_ok-group.ensures.may in
+    let ens = c.running_sync-running.ensures in
+    let may = may_still pool old c.reserve_synced.ensures.kept g.0 c.in_ok-group.ensures.may in
     let told = c.start_sync.ensures in
-    let line = started c.start_sync.result pool.groups c.start_sync.new.self c.in_ok-group.group.0 may told.refused told.started told.group in (
-      past,
-      start_done (Unit {0}) now past s c.args.moment _ c.in_ok-group.group.0 plan x.explained
-          (λ keeps. group_takes_each now past pool c.in_ok-group.group.0 c.args.moment blocks planned.freed.items planned.root planned.directories.items planned.maps may c.in_ok-planned.ensures.tree.planned x)
-          c.in_ok-check_running.ensures may.0 may.1
-          (group_fits past pool c.in_ok-group.group.0 blocks (pointers_after c.in_ok-planned.planned.root c.in_ok-planned.planned.directories.items c.in_ok-planned.planned.maps pool.tree) may x.explained c.in_ok-planned.ensures.tree.planned)
-          (group_lengths past pool c.in_ok-group.group.0 (lengths_after planned.maps pool.tree) may x.explained c.in_ok-planned.ensures.tree.lengths)
-          (pending_names pool.pending.items pool.pending_built) refl refl
-          (lowest_taken blocks (rising pool.free.free) c.in_ok-planned.ensures.taken) refl refl
-          (rw (line, c.take_all.ensures, c.running_sync-running.ensures.plan) (ap (λ (l : List PlannedBlock). record s { line = record s.line { syncing = Some c.in_ok-group.group.0; middle = None }; free = set.difference s.free (set.from_list (map address_of l)); sync = Some plan }) (blocks_kept c.running_sync-running.result c.in_ok-planned.planned.blocks c.deref.result.now c.running_sync-running.ensures.begins.blocks c.deref.ensures.value))),
-    )
+    let line = started c.start_sync.result pool.groups c.start_sync.new.self g.0 may told.refused told.started told.group in
+    let shown = shown-started pool g c.args.moment planned c.start_sync.new.self c.take_all.new.free c.deref.result.now c.running_sync-running.result line c.take_all.ensures
+    (blocks_kept c.running_sync-running.result planned.blocks c.deref.result.now ens.begins.blocks c.deref.ensures.value) ens.plan in
+    started_held pool g c.args.moment planned old c.reserve_synced.ensures.kept c.in_ok-check_running.ensures may c.in_ok-planned.ensures.taken c.in_ok-planned.ensures.tree _ shown
 
 pub returns-clause-order : goal.returns-clause-order
-returns-clause-order c = λ now past x.
-    let pool = c.args.self.now in
+returns-clause-order c =
+    let old = pool_told c.args.self.now in
+    let pool = c.reserve_synced.new.self in
+    let g = c.in_ok-group.group in
     let planned = c.in_ok-planned.planned in
-    let rs = c.running_sync-running.result in
     let ens = c.running_sync-running.ensures in
-    record {
-      synced = x.kept.stored.synced;
-      replayed = x.kept.stored.replayed;
-      tree = record { pointers = pointers_after planned.root planned.directories.items planned.maps pool.tree; blocks = map new_block planned.blocks.items; slot = rs.run.uberblock; done = 0 };
-      running = ap (λ (t : NewTree). Some t) (nothing_made pool.tree rs planned.root planned.directories planned.maps planned.blocks ens.begins.root ens.begins.directories ens.begins.maps ens.begins.blocks ens.begins.done);
-      plan = new_plan c.args.moment pool.log_address (map address_of planned.blocks.items) planned.freed.items planned.root (lengths_after planned.maps pool.tree);
-      plan_is = ap (λ (q : SyncPlan). Some q) ens.plan;
-      each = group_takes now past pool c.in_ok-group.group.0 c.args.moment planned.blocks.items planned.freed.items planned.root planned.directories.items planned.maps
-          c.in_ok-group.ensures.may c.in_ok-planned.ensures.tree.planned x;
-    }
-
-pub returns-in_err-check_running-clause-leads : goal.returns-in_err-check_running-clause-leads
-returns-in_err-check_running-clause-leads c = λ now.
-    let p = err_from_is_err_and c.from_residual.result c.from_residual.ensures.1 in
-    still_pool (start_reply c.from_residual.result) p.0 now c.args.self.now (ap (λ (r : Result Group PoolError). start_reply r) p.1)
-
-pub returns-in_err-group-clause-leads : goal.returns-in_err-group-clause-leads
-returns-in_err-group-clause-leads c = λ now.
-    let p = err_from_is_err_and c.from_residual-in_err-group.result c.from_residual-in_err-group.ensures.1 in
-    still_pool (start_reply c.from_residual-in_err-group.result) p.0 now c.args.self.now (ap (λ (r : Result Group PoolError). start_reply r) p.1)
-
-pub returns-in_err-planned-clause-leads : goal.returns-in_err-planned-clause-leads
-returns-in_err-planned-clause-leads c = λ now.
-    let p = err_from_is_err_and c.from_residual-in_err-planned.result c.from_residual-in_err-planned.ensures.1 in
-    still_pool (start_reply c.from_residual-in_err-planned.result) p.0 now c.args.self.now (ap (λ (r : Result Group PoolError). start_reply r) p.1)
+    let may = may_still pool old c.reserve_synced.ensures.kept g.0 c.in_ok-group.ensures.may in
+    let rs = c.running_sync-running.result in
+    let made = nothing_made pool.tree rs planned.root planned.directories planned.maps planned.blocks ens.begins.root ens.begins.directories ens.begins.maps ens.begins.blocks ens.begins.done in
+    started_order pool g c.args.moment planned old c.reserve_synced.ensures.kept c.in_ok-check_running.ensures may c.in_ok-planned.ensures.taken c.in_ok-planned.ensures.tree _ rs.run.uberblock (λ now. ap (λ (t : NewTree). Some t) made) (λ now. ap (λ (q : SyncPlan). Some q) ens.plan)
 
 pub returns-clause-leads : goal.returns-clause-leads
-returns-clause-leads c = λ now past later.
-    let pool = c.args.self.now in
+returns-clause-leads c =
+    let old = pool_told c.args.self.now in
+    let pool = c.reserve_synced.new.self in
+    let g = c.in_ok-group.group in
     let planned = c.in_ok-planned.planned in
-    let told = c.in_ok-planned.ensures in
-    let rs = c.running_sync-running.result in
     let ens = c.running_sync-running.ensures in
+    let may = may_still pool old c.reserve_synced.ensures.kept g.0 c.in_ok-group.ensures.may in
+    let rs = c.running_sync-running.result in
     let made = nothing_made pool.tree rs planned.root planned.directories planned.maps planned.blocks ens.begins.root ens.begins.directories ens.begins.maps ens.begins.blocks ens.begins.done in
-    record {
-      same = refl;
-      pointers = refl;
-      tree = pointers_after planned.root planned.directories.items planned.maps pool.tree;
-      bs = map new_block planned.blocks.items;
-      slot = rs.run.uberblock;
-      plan = new_plan c.args.moment pool.log_address (map address_of planned.blocks.items) planned.freed.items planned.root (lengths_after planned.maps pool.tree);
-      running = ap (λ (t : NewTree). Some t) made;
-      plan_is = ap (λ (q : SyncPlan). Some q) ens.plan;
-      slot_is = ens.uberblock.bytes;
-      planned = λ x. group_planned now past pool c.in_ok-group.group.0 c.args.moment planned.blocks.items planned.freed.items planned.root planned.directories.items planned.maps
-          c.in_ok-group.ensures.may told.tree.planned told.tree.freed told.tree.used told.tree.whole x;
-    }
-
-pub returns-in_err-check_running-clause-own : goal.returns-in_err-check_running-clause-own
-returns-in_err-check_running-clause-own c =
-    let p = err_from_is_err_and c.from_residual.result c.from_residual.ensures.1 in
-    rw (p.1, p.2, c.in_err-check_running.ensures.0) (λ calls. refl)
-
-pub returns-in_err-group-clause-own : goal.returns-in_err-group-clause-own
-returns-in_err-group-clause-own c =
-    let p = err_from_is_err_and c.from_residual-in_err-group.result c.from_residual-in_err-group.ensures.1 in
-    rw (p.1, p.2, c.in_err-group.ensures.may.0) (λ calls. refl)
-
-pub returns-in_err-planned-clause-own : goal.returns-in_err-planned-clause-own
-returns-in_err-planned-clause-own c =
-    let p = err_from_is_err_and c.from_residual-in_err-planned.result c.from_residual-in_err-planned.ensures.1 in
-    rw (p.1, p.2) (plan_own c.in_err-planned.field-0.0 c.in_err-planned.ensures.refused)
+    started_leads pool g c.args.moment planned old c.reserve_synced.ensures.kept c.in_ok-check_running.ensures may c.in_ok-planned.ensures.taken c.in_ok-planned.ensures.tree _ rs.run.uberblock (λ now. refl) (λ now. refl)
+    (λ now. ap (λ (t : NewTree). Some t) made) (λ now. ap (λ (q : SyncPlan). Some q) ens.plan) ens.uberblock.bytes

@@ -1,5 +1,5 @@
-use Rattle.std.proofs.Common.{◌≡◌, ◌∙◌, ◌<◌, ◌-◌, ap, map, sym, subst, refl, true, Some, None}
-use Rattle.std.specs.Prelude.{Option, Result, option_map}
+use Rattle.std.proofs.Common.{◌≡◌, ◌∙◌, ◌<◌, ◌≤◌, ◌-◌, ap, filter, map, nat_lt, sym, subst, refl, true, false, Some, None}
+use Rattle.std.specs.Prelude.{Bool, Option, Result, option_map}
 use Rattle.std.proofs.lemmas.Result.{err_from_is_err_and}
 use Rattle.base.specs.formats.Geometry.{block_address, block_count}
 use Rattle.tree_plans.specs.declared.planner.PlannedBlock.{PlannedBlock}
@@ -9,7 +9,15 @@ use Rattle.sync.specs.Runs.{call_count}
 use Rattle.object_maps.specs.Pointers.{pointers_of}
 use Rattle.pool_core.specs.declared.pool.RunningSync.{RunningSync}
 use Rattle.pool_core.specs.RunningUberblocks.{WritesUberblock, uberblock_with}
-use Rattle.pool_core.specs.Shows.{plan_of, pool_shown, shown_after_tree}
+use Rattle.pool_core.specs.Shows.{contents_after_oldest, plan_of, pool_shown, record_of, shown_after_tree}
+use Rattle.pool_core.proofs.Mapped.{filter-map}
+use Rattle.pool_core.proofs.UnsyncedChanges.{has_room, open_three, same_contents, synced_changes, synced_within, syncing_follows}
+use Rattle.extents.specs.Unsynced.{changes_at}
+use Rattle.base.specs.formats.Records.{Record}
+use Rattle.base.specs.tree.Syncs.{is_rename}
+use Rattle.tree_plans.specs.declared.planner.Committed.{Committed}
+use Rattle.std.specs.List.{list_any}
+use Rattle.std.proofs.lemmas.List.Elements.{All-filter}
 use Rattle.pool_core.proofs.SameSyncs.{as_many, kept_sync, left_as_before, more_left, one_left, one_less, refused_as, same_taken, same_taken_count, same_uberblock}
 use Rattle.base.specs.disk.Disk.{bytes_of}
 use Rattle.base.specs.declared.step.Reply.TheVariants as reply
@@ -25,6 +33,7 @@ use Rattle.pool_core.specs.Holds.{SamePlaces, pool_told, made_by, sync_step_repl
 use Rattle.pool_core.proofs.StillSteps.{leads_as, still_pool}
 use Rattle.pool_core.proofs.SyncLeads.{advanced, failed_call, failed_running, synced_told, was_running, was_syncing}
 use Rattle.pool_core.proofs.SyncSteps.{step_failed, step_more, step_not_ready, step_suspended, step_synced}
+use Rattle.pool_core.proofs.PendingChanges.{both}
 use Rattle.pool_core.proofs.pool.Pool.sync_step.Goals as goal
 
 pub returns-in_err-check_running-clause-step : goal.returns-in_err-check_running-clause-step
@@ -50,7 +59,7 @@ pub finish_tree-requires-clause-placed : goal.finish_tree-requires-clause-placed
 finish_tree-requires-clause-placed g c =
     let pool = c.args.self.now in
     let same = kept_sync c.in-Some-take.synced _ c.in-Some-take.ensures.value in
-    subst (λ (r : RunningSync). ∥ ArePlaced (block_count pool.geometry) (tree_after r pool.tree) ∥₁) (sym same) (pool.planned c.in-Some.running c.in-Some.is)
+    subst (λ (r : RunningSync). ∥ ArePlaced (block_count pool.geometry) (tree_after r pool.tree) ∥₁) (sym same) ((pool.planned c.in-Some.running c.in-Some.is).0)
 
 pub end_charges-requires-clause-next : goal.end_charges-requires-clause-next
 end_charges-requires-clause-next g c =
@@ -77,6 +86,28 @@ invariant_of-self-in-Ok-Last-clause-open_charged g c =
     subst (AreOpenOnesCharged pool.transactions.transactions) (sym c.end_charges.ensures.dirty)
     (synced_open_charged pool c.in-Some-take.synced.group.0 (syncing ∙ ap (λ (r : RunningSync). Some r.group.0) (sym same)))
 
+pub lay_oldest-requires : goal.lay_oldest-requires
+lay_oldest-requires g c =
+    let pool = c.args.self.now in
+    has_room (changes_at pool.changes 0) pool.synced.slots.items ((pool.planned c.in-Some.running c.in-Some.is).1)
+
+pub invariant_of-self-in-Ok-Last-clause-unsynced : goal.invariant_of-self-in-Ok-Last-clause-unsynced
+invariant_of-self-in-Ok-Last-clause-unsynced g c =
+    let pool = c.args.self.now in
+    let group = c.in-Some-take.synced.group.0 in
+    let same = kept_sync c.in-Some-take.synced _ c.in-Some-take.ensures.value in
+    let syncing = was_syncing pool c.in-Some.running c.in-Some.is ∙ ap (λ (r : RunningSync). Some r.group.0) (sym same) in
+    let finished : c.finish_sync.new.self ≡ after_sync group pool.groups =
+    of_group (λ n. after_sync n pool.groups) pool.groups.line.syncing group _ syncing c.in-Ok.ensures.group c.in-Ok.ensures.synced in
+    let later : Committed → Bool = λ (x : Committed). nat_lt group x.group.0 in
+    rw (finished, c.drop_synced.ensures) (record {
+      built = All-filter later (λ (x : Committed). list_any is_rename x.ops ≡ false) pool.pending.items pool.unsynced.built;
+      open_or_before = All-filter later (λ (x : Committed). x.group.0 ≤ pool.groups.line.open_group) pool.pending.items pool.unsynced.open_or_before;
+      within = synced_within pool.changes pool.synced c.lay_oldest.new.synced c.lay_oldest.ensures.contents pool.unsynced.within;
+      changed = synced_changes pool.groups.line.synced group pool.pending.items pool.changes c.lay_oldest.new.changes (syncing_follows pool.groups.line group pool.counted.line syncing)
+          pool.unsynced.changed (open_three pool.groups.line pool.pending.items pool.counted.line pool.unsynced.open_or_before) c.lay_oldest.ensures.changes;
+    })
+
 pub invariant_of-self-in-Ok-More : goal.invariant_of-self-in-Ok-More
 invariant_of-self-in-Ok-More g c =
     let pool = c.args.self.now in
@@ -102,10 +133,15 @@ invariant_of-self-in-Ok-More g c =
       );
       uberblock = λ x e. subst (λ (r : RunningSync). WritesUberblock (uberblock_with pool.guid pool.import_number pool.log_address r.group.0 r.moment r.root) r.run) (kept_sync _ x e)
           (same_uberblock c.in-Some.running.run c.next.new.self told.counts.same _ (pool.uberblock c.in-Some.running is));
-      planned = λ x e. subst (λ (r : RunningSync). ∥ ArePlaced (block_count pool.geometry) (tree_after r pool.tree) ∥₁) (kept_sync _ x e) (pool.planned c.in-Some.running is);
+      planned = both (λ x e. subst (λ (r : RunningSync). ∥ ArePlaced (block_count pool.geometry) (tree_after r pool.tree) ∥₁) (kept_sync _ x e) ((pool.planned c.in-Some.running is).0)) (λ x e. (pool.planned c.in-Some.running is).1);
       sync_line = ap (λ (o : Option RunningSync). option_map (λ (r : RunningSync). r.group.0) o) (sym is) ∙ pool.sync_line;
-      pending_built = pool.pending_built;
       tree_placed = pool.tree_placed;
+      unsynced = record {
+        built = pool.unsynced.built;
+        open_or_before = pool.unsynced.open_or_before;
+        within = pool.unsynced.within;
+        changed = pool.unsynced.changed;
+      };
     }
 
 pub invariant_of-self-in-Err : goal.invariant_of-self-in-Err
@@ -133,10 +169,15 @@ invariant_of-self-in-Err g c =
       );
       uberblock = λ x e. subst (λ (r : RunningSync). WritesUberblock (uberblock_with pool.guid pool.import_number pool.log_address r.group.0 r.moment r.root) r.run) (kept_sync _ x e)
           (same_uberblock c.in-Some.running.run c.next.new.self told.counts.same _ (pool.uberblock c.in-Some.running is));
-      planned = λ x e. subst (λ (r : RunningSync). ∥ ArePlaced (block_count pool.geometry) (tree_after r pool.tree) ∥₁) (kept_sync _ x e) (pool.planned c.in-Some.running is);
+      planned = both (λ x e. subst (λ (r : RunningSync). ∥ ArePlaced (block_count pool.geometry) (tree_after r pool.tree) ∥₁) (kept_sync _ x e) ((pool.planned c.in-Some.running is).0)) (λ x e. (pool.planned c.in-Some.running is).1);
       sync_line = ap (λ (o : Option RunningSync). option_map (λ (r : RunningSync). r.group.0) o) (sym is) ∙ pool.sync_line;
-      pending_built = pool.pending_built;
       tree_placed = pool.tree_placed;
+      unsynced = record {
+        built = pool.unsynced.built;
+        open_or_before = pool.unsynced.open_or_before;
+        within = pool.unsynced.within;
+        changed = pool.unsynced.changed;
+      };
     }
 
 pub returns-in-Ok-clause-step : goal.returns-in-Ok-clause-step
@@ -145,12 +186,15 @@ returns-in-Ok-clause-step g c =
     let s = pool_shown pool in
     let is = c.in-Some.is in
     let told = c.in-Ok-Last.ensures in
-    let plan : SyncPlan = plan_of pool.log_address pool.tree c.in-Some.running in
+    let plan : SyncPlan = plan_of pool.log_address pool.tree (contents_after_oldest pool) c.in-Some.running in
     let syncing = sym pool.sync_line ∙ ap (λ (o : Option RunningSync). option_map (λ (r : RunningSync). r.group.0) o) is in
     let same = kept_sync c.in-Some-take.synced _ c.in-Some-take.ensures.value in
-    let running = ap (λ (o : Option RunningSync). option_map (plan_of pool.log_address pool.tree) o) is in
+    let running = ap (λ (o : Option RunningSync). option_map (plan_of pool.log_address pool.tree (contents_after_oldest pool)) o) is in
     let finished : c.finish_sync.new.self ≡ after_sync c.in-Some-take.synced.group.0 pool.groups =
     of_group (λ n. after_sync n pool.groups) pool.groups.line.syncing c.in-Some-take.synced.group.0 _ (syncing ∙ ap (λ (r : RunningSync). Some r.group.0) (sym same)) c.in-Ok.ensures.group c.in-Ok.ensures.synced in
+    let pending = ap (map record_of) c.drop_synced.ensures ∙ sym (filter-map (λ (x : Record). nat_lt c.in-Some-take.synced.group.0 x.group) record_of pool.pending.items)
+    ∙ (λ k. filter (λ (x : Record). nat_lt (same k).group.0 x.group) s.log.pending) in
+    let contents = same_contents pool.changes pool.synced c.lay_oldest.new.synced c.lay_oldest.ensures.contents c.lay_oldest.new.changes c.lay_oldest.ensures.changes in
     step_synced s _ c.in-Some.running.group.0 c.in-Some-take.synced.group.0 plan c.in_ok-check_running.ensures syncing running
     (one_left c.in-Some.running.run c.next.new.self told.counts.same told.counts.done (told.counts.last.0 c.in-Ok-Last.field-0-is)) (ap (λ (r : RunningSync). r.group.0) same) refl
     (c.finish_tree.ensures.shown ∙ rw (finished, c.take.ensures.after, c.end_charges.ensures.dirty, c.end_charges.ensures.free, blocks_of-remove)
@@ -158,6 +202,9 @@ returns-in-Ok-clause-step g c =
       line = line_after_sync (same k).group.0 s.line;
       dirty = finite.remove s.dirty (same k).group.0;
       reserved = finite.remove s.reserved (same k).group.0;
+      contents = contents k;
+      log = record s.log { pending = pending k };
+      synced_contents = c.lay_oldest.ensures.contents k;
       sync = None;
     })))
 
@@ -168,9 +215,9 @@ returns-in-Ok-More-clause-step g c =
     let is = c.in-Some.is in
     let was = pool.running c.in-Some.running is in
     let told = c.in-Ok-More.ensures in
-    let plan : SyncPlan = plan_of pool.log_address pool.tree c.in-Some.running in
+    let plan : SyncPlan = plan_of pool.log_address pool.tree (contents_after_oldest pool) c.in-Some.running in
     let syncing = sym pool.sync_line ∙ ap (λ (o : Option RunningSync). option_map (λ (r : RunningSync). r.group.0) o) is in
-    let running = ap (λ (o : Option RunningSync). option_map (plan_of pool.log_address pool.tree) o) is in
+    let running = ap (λ (o : Option RunningSync). option_map (plan_of pool.log_address pool.tree (contents_after_oldest pool)) o) is in
     let left = more_left c.in-Some.running.run c.next.new.self told.counts.same told.counts.done was.1 (λ e. let other = sym c.in-Ok-More.field-0-is ∙ told.counts.last.1 e in cc) in
     let steps = one_less c.in-Some.running.run c.next.new.self told.counts.same told.counts.done in
     let taken = same_taken c.in-Some.running.run c.next.new.self told.counts.same in
@@ -183,9 +230,9 @@ returns-in-Err-clause-step g c =
     let s = pool_shown pool in
     let is = c.in-Some.is in
     let told = c.in-Err.ensures in
-    let plan : SyncPlan = plan_of pool.log_address pool.tree c.in-Some.running in
+    let plan : SyncPlan = plan_of pool.log_address pool.tree (contents_after_oldest pool) c.in-Some.running in
     let syncing = sym pool.sync_line ∙ ap (λ (o : Option RunningSync). option_map (λ (r : RunningSync). r.group.0) o) is in
-    let running = ap (λ (o : Option RunningSync). option_map (plan_of pool.log_address pool.tree) o) is in
+    let running = ap (λ (o : Option RunningSync). option_map (plan_of pool.log_address pool.tree (contents_after_oldest pool)) o) is in
     let steps = as_many c.in-Some.running.run c.next.new.self told.counts.same told.counts.done in
     let taken = same_taken c.in-Some.running.run c.next.new.self told.counts.same in
     let same : Some (record plan { steps_left = call_count c.next.new.self - c.next.new.self.done; taken = map (λ (b : PlannedBlock). block_address b.index) c.next.new.self.blocks.items }) ≡ s.sync =

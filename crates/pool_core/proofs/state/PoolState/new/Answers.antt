@@ -3,8 +3,11 @@ use Rattle.std.proofs.Math.Logic.{∥∥₁_elim, ∥∥₁_map, ∥∥₁_prop}
 use Rattle.base.specs.disk.Disk.{bytes_of}
 use Rattle.base.specs.formats.Geometry.{block_count}
 use Rattle.pool_core.specs.Shows.{pool_shown}
-use Rattle.pool_core.proofs.NewStates.{explained_as, held_as}
+use Rattle.pool_core.proofs.NewStates.{explained_as, held_as, mounted_within}
 use Rattle.pool_core.proofs.state.PoolState.new.Goals as goal
+
+pub new-requires : goal.new-requires
+new-requires g c = mounted_within c.args.imported.mounted c.args.imported.explained
 
 pub returns-clause-explained : goal.returns-clause-explained
 returns-clause-explained g c = ∥∥₁_map c.args.imported.explained (explained_as c.args.imported.mounted (pool_shown c.new.result) c.new.ensures.shown)

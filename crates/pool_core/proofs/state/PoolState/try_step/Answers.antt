@@ -1,6 +1,6 @@
 use Rattle.std.proofs.Common.{refl, rules}
-use Rattle.pool_core.specs.StepAnswers.{admitted_numbers, appended_numbers, group_number, lock_number, receipt_numbers}
-use Rattle.pool_core.proofs.MadeSteps.{name_step, plain_step, start_step, status_step, read_moves_nothing, still_step, sync_step}
+use Rattle.pool_core.specs.StepAnswers.{admitted_numbers, appended_numbers, group_number, lock_number}
+use Rattle.pool_core.proofs.MadeSteps.{commit_step, name_step, plain_step, start_step, status_step, read_moves_nothing, still_step, sync_step}
 use Rattle.pool_core.proofs.state.PoolState.try_step.Goals as goal
 
 pub returns-in-Lock : goal.returns-in-Lock
@@ -16,7 +16,7 @@ pub returns-in-Begin : goal.returns-in-Begin
 returns-in-Begin g c = rw c.in-Begin.is (still_step admitted_numbers c.map-in-Begin.result (λ r x y h. h) refl (λ b. refl) (λ r d. d) c.begin.ensures.step c.begin.ensures.unmoved (search rules))
 
 pub returns-in-Commit : goal.returns-in-Commit
-returns-in-Commit g c = rw c.in-Commit.is (still_step receipt_numbers _ (λ r x y h. h) refl (λ b. refl) (λ r d. d) c.commit.ensures.step c.commit.ensures.unmoved c.map-in-Commit.ensures.cases)
+returns-in-Commit g c = rw c.in-Commit.is (commit_step _ c.commit.ensures.step c.commit.ensures.unmoved c.map-in-Commit.ensures.cases)
 
 pub returns-in-Abort : goal.returns-in-Abort
 returns-in-Abort g c = rw c.in-Abort.is (plain_step c.map-in-Abort.result (λ r x y h. h) refl (λ b. refl) (λ r d. d) c.abort.ensures.step c.abort.ensures.unmoved (search rules))

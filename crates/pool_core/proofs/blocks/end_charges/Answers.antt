@@ -3,7 +3,7 @@ use Rattle.space.specs.FreeSets.{FreeSpace, after_sync_end}
 use Rattle.throttle.specs.Blocks.{blocks_in}
 use Rattle.throttle.specs.DirtyBytes.{sum_of, total_of}
 use Rattle.pool_core.proofs.Charges.{blocks_left, blocks_within}
-use Rattle.pool_core.proofs.pool.end_charges.Goals as goal
+use Rattle.pool_core.proofs.blocks.end_charges.Goals as goal
 
 pub end_sync-requires : goal.end_sync-requires
 end_sync-requires c =

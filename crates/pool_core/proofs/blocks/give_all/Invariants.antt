@@ -1,6 +1,6 @@
 use Rattle.std.proofs.Common.{◌≡◌, take}
 use Rattle.pool_core.specs.Areas.{after_gives}
-use Rattle.pool_core.proofs.pool.give_all.Given as goal
+use Rattle.pool_core.proofs.blocks.give_all.Given as goal
 
 -- the addresses so far have come back
 abbrev pub invariant-loop-address : goal.invariant-loop-address

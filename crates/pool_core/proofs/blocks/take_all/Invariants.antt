@@ -1,7 +1,7 @@
 use Rattle.std.proofs.Common.{◌≡◌, map, take}
 use Rattle.tree_plans.specs.Plans.{address_of}
 use Rattle.pool_core.specs.Areas.{after_sync_takes}
-use Rattle.pool_core.proofs.pool.take_all.Given as goal
+use Rattle.pool_core.proofs.blocks.take_all.Given as goal
 
 -- the blocks so far are taken
 abbrev pub invariant-loop-planned : goal.invariant-loop-planned

@@ -1,6 +1,6 @@
 use Rattle.std.proofs.Common.{arith}
 use Rattle.pool_core.proofs.FreeBlocks.{none_taken, taken_so_far, taken_more}
-use Rattle.pool_core.proofs.pool.take_all.Goals as goal
+use Rattle.pool_core.proofs.blocks.take_all.Goals as goal
 
 pub loop-planned-init : goal.loop-planned-init
 loop-planned-init c = none_taken c.args.free.now

@@ -2,7 +2,7 @@ use Rattle.std.proofs.Common.{◌<◌, ap, arith}
 use Rattle.base.specs.formats.Geometry.{block_count}
 use Rattle.space.specs.FreeSets.{FreeSpace}
 use Rattle.pool_core.proofs.FreeBlocks.{block_of, given_more, none_given}
-use Rattle.pool_core.proofs.pool.give_all.Goals as goal
+use Rattle.pool_core.proofs.blocks.give_all.Goals as goal
 
 pub loop-address-init : goal.loop-address-init
 loop-address-init c = none_given c.args.free.now

@@ -1,0 +1,22 @@
+-- What a commit makes of what a pool shows, and what it needs.
+use Rattle.std.specs.Prelude.{ℕ, ◌+◌, ◌<◌, ◌≤◌, ◌++◌, List, [], ◌∷◌}
+use Rattle.std.specs.FinMap.{FinMap}
+use Rattle.std.specs.Ordering.{nat_cmp}
+use Rattle.base.specs.declared.operation.Op.{Op}
+use Rattle.base.specs.steps.Groups.{Line}
+use Rattle.base.specs.steps.Shown.{Shown}
+use Rattle.base.specs.steps.Steps.{transactions_without}
+
+-- a group behind the synced one, up to the open one
+pub record IsUnsynced (l : Line) (group : ℕ) : Type 0 where
+  pub above : l.synced < group
+  pub open_or_before : group ≤ l.open_group
+
+-- what is shown once a transaction of a group has committed and left these objects
+abbrev pub shown_after_entry : ℕ → ℕ → List Op → FinMap nat_cmp (List ℕ) → Shown → Shown
+shown_after_entry tx group ops objects s = record s {
+  transactions = transactions_without tx s.transactions;
+  contents = record s.contents { objects = objects };
+  next_ordinal = s.next_ordinal + 1;
+  log = record s.log { pending = s.log.pending ++ record { group = group; ordinal = s.next_ordinal; ops = ops } ∷ [] };
+}
