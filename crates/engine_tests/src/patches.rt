@@ -1,10 +1,24 @@
 //! What a group made of objects: lengths and records over those below, and the memory that it takes.
 
-use base::{Bytes, ObjectId, Op, RECORD_SIZE};
-use extents::{Basis, Extents, ObjectPatch};
+use base::{Bytes, ObjectId, Op, PoolError, PoolName, RECORD_SIZE, Range};
+use extents::{Basis, Extents, Laid, ObjectPatch, UnsyncedExtents};
+use object_maps::{Contents, ObjectSource, read_range};
+use std::alloc::Global;
 use std::test::Fail;
 
 const OBJECT: ObjectId = ObjectId(1);
+
+const OTHER: ObjectId = ObjectId(2);
+
+const FRONT: Range = Range { low: 0, high: 10 };
+
+// Contents named `tank`, with no object.
+fn contents(alloc: Global) -> Result<Contents, PoolError> {
+    let Some(name) = PoolName::new(b"tank") else {
+        return Err(PoolError::BadRange);
+    };
+    Ok(Contents::new(alloc, name)?)
+}
 
 #[test]
 fn a_patch_grows_and_cuts(rt: HostRuntime) -> Result<(), Fail> {
@@ -54,12 +68,12 @@ fn a_group_is_laid_over_a_record(rt: HostRuntime) -> Result<(), Fail> {
     assert_eq!(rt; group.length_over(ObjectId(2), Some(10)), Some(10));
     let mut record = [0; RECORD_SIZE];
     record[..2].copy_from_slice(b"xy");
-    group.lay_over(OBJECT, 0, Some(10), &mut record);
+    group.lay_over(OBJECT, 0, 0, Some(10), &mut record);
     assert_eq!(rt; record[..3], b"xy\0"[..]);
     assert_eq!(rt; record[4_030..], b"ab"[..]);
     // of the second record the cut leaves one byte, and what lies below it doesn't show behind the cut
     let mut next = [b'z'; RECORD_SIZE];
-    group.lay_over(OBJECT, 1, Some(9_000), &mut next);
+    group.lay_over(OBJECT, 1, 0, Some(9_000), &mut next);
     assert_eq!(rt; next[..3], b"c\0\0"[..]);
     Ok(())
 }
@@ -74,7 +88,112 @@ fn a_created_object_has_no_byte_of_before(rt: HostRuntime) -> Result<(), Fail> {
     group.add(&vec![in alloc; Op::Create(OBJECT), Op::SetLength(OBJECT, 3)]?)?;
     assert_eq!(rt; group.length_over(OBJECT, Some(10)), Some(3));
     let mut record = [b'z'; RECORD_SIZE];
-    group.lay_over(OBJECT, 0, Some(10), &mut record);
+    group.lay_over(OBJECT, 0, 0, Some(10), &mut record);
     assert_eq!(rt; record[..5], b"\0\0\0\0\0"[..]);
+    Ok(())
+}
+
+#[test]
+fn a_synced_group_becomes_part_of_contents(rt: HostRuntime) -> Result<(), Fail> {
+    let alloc = rt.alloc();
+    let mut contents = contents(alloc)?;
+    let mut first = Extents::new(alloc);
+    let write = Op::Write(OBJECT, 4_030, Bytes::from_slice(alloc, b"abcd")?);
+    first.add(&vec![in alloc; Op::Create(OBJECT), write, Op::Create(OTHER)]?)?;
+    first.reserve_in(&mut contents)?;
+    first.lay_into(&mut contents);
+    let object = contents.object(OBJECT).unwrap_or(&[]);
+    assert!(rt; object.get(4_029..) == Some(b"\0abcd".as_slice()));
+    assert_eq!(rt; contents.object(OTHER).map(|bytes| bytes.len()), Some(0));
+    let mut second = Extents::new(alloc);
+    let write = Op::Write(OBJECT, 4_035, Bytes::from_slice(alloc, b"x")?);
+    second.add(&vec![in alloc; Op::SetLength(OBJECT, 4_033), write, Op::Remove(OTHER)]?)?;
+    second.reserve_in(&mut contents)?;
+    second.lay_into(&mut contents);
+    let object = contents.object(OBJECT).unwrap_or(&[]);
+    assert!(rt; object.get(4_029..) == Some(b"\0abc\0\0x".as_slice()));
+    assert!(rt; contents.object(OTHER).is_none());
+    Ok(())
+}
+
+#[test]
+fn a_source_is_read_through_a_group(rt: HostRuntime) -> Result<(), Fail> {
+    let alloc = rt.alloc();
+    let contents = contents(alloc)?;
+    let mut group = Extents::new(alloc);
+    let write = Op::Write(OBJECT, 4_030, Bytes::from_slice(alloc, b"abcd")?);
+    group.add(&vec![in alloc; Op::Create(OBJECT), write]?)?;
+    let mut objects = Laid::new(&group, &contents);
+    assert_eq!(rt; objects.length(OBJECT), Some(4_034));
+    assert_eq!(rt; objects.length(OTHER), None);
+    let mut record = [7; RECORD_SIZE];
+    objects.read_record(OBJECT, 1, &mut record)?;
+    assert_eq!(rt; record[..3], b"cd\0"[..]);
+    let mut part = [7; 3];
+    objects.read_part(OBJECT, 0, 4_029, &mut part)?;
+    assert_eq!(rt; part, *b"\0ab");
+    let across = Range {
+        low: 4_029,
+        high: 4_040,
+    };
+    let bytes = read_range(&mut objects, alloc, OBJECT, across)?;
+    assert_eq!(rt; bytes.as_slice(), b"\0abcd".as_slice());
+    Ok(())
+}
+
+// The front of the object, with the changes of all groups.
+fn front(alloc: Global, groups: &UnsyncedExtents, contents: &Contents) -> Result<Bytes, PoolError> {
+    read_range(&mut groups.over(contents), alloc, OBJECT, FRONT)
+}
+
+// The oldest group makes the object, with bytes.
+fn change_first(alloc: Global, groups: &mut UnsyncedExtents) -> Result<(), PoolError> {
+    let write = Op::Write(OBJECT, 0, Bytes::from_slice(alloc, b"aaaa")?);
+    let ops = vec![in alloc; Op::Create(OBJECT), write]?;
+    groups.reserve(0, &ops)?;
+    groups.apply(0, &ops);
+    Ok(())
+}
+
+// The group behind it writes over its bytes and behind them.
+fn change_second(alloc: Global, groups: &mut UnsyncedExtents) -> Result<(), PoolError> {
+    let write = Op::Write(OBJECT, 2, Bytes::from_slice(alloc, b"bbbb")?);
+    let ops = vec![in alloc; write]?;
+    groups.reserve(1, &ops)?;
+    groups.apply(1, &ops);
+    Ok(())
+}
+
+// The newest one cuts the object.
+fn change_third(alloc: Global, groups: &mut UnsyncedExtents) -> Result<(), PoolError> {
+    let ops = vec![in alloc; Op::SetLength(OBJECT, 5)]?;
+    groups.reserve(2, &ops)?;
+    groups.apply(2, &ops);
+    Ok(())
+}
+
+// The oldest group is synced.
+fn sync_oldest(groups: &mut UnsyncedExtents, contents: &mut Contents) -> Result<(), PoolError> {
+    groups.oldest().reserve_in(contents)?;
+    groups.oldest().lay_into(contents);
+    groups.drop_oldest();
+    Ok(())
+}
+
+#[test]
+fn three_groups_are_laid_over_one_another(rt: HostRuntime) -> Result<(), Fail> {
+    let alloc = rt.alloc();
+    let mut contents = contents(alloc)?;
+    let mut groups = UnsyncedExtents::new(alloc);
+    // the group between the others is the last to change the object
+    change_first(alloc, &mut groups)?;
+    change_third(alloc, &mut groups)?;
+    change_second(alloc, &mut groups)?;
+    let shown = front(alloc, &groups, &contents)?;
+    assert_eq!(rt; shown.as_slice(), b"aabbb".as_slice());
+    sync_oldest(&mut groups, &mut contents)?;
+    assert_eq!(rt; contents.object(OBJECT).map(|bytes| bytes.len()), Some(4));
+    let shown = front(alloc, &groups, &contents)?;
+    assert_eq!(rt; shown.as_slice(), b"aabbb".as_slice());
     Ok(())
 }

@@ -122,7 +122,7 @@ fn a_sync_takes_the_lowest_blocks_in_order(rt: HostRuntime) -> Result<(), Fail> 
     fill(alloc, &mut pool, b"abcd")?;
     assert_eq!(rt;
         pool.begin(OWNER, &Plan::new(Vec::new(alloc))),
-        Err(PoolError::NotReady)
+        Err(PoolError::BadRange)
     );
     assert_eq!(rt; pool.start_sync(7)?, Group(9));
     assert_eq!(rt; pool.start_sync(7), Err(PoolError::NotReady));

@@ -18,17 +18,25 @@ fn main(rt: HostRuntime) -> Result<()> {
     let alloc = rt.alloc();
     let disk = MemDevice::new(alloc, 16_384)?;
     let disk = create(disk, b"tank", 77, 0).map_err(|(error, _)| error)?;
-    let mut pool = mount(alloc, disk)?;
-
-    write_hello(alloc, &mut pool)?;
-    sync(&mut pool)?;
-
-    let disk = pool.into_device().crash(&[]);
-    let mut pool = mount(alloc, disk)?;
-    pool.lock(OWNER, NOTES, FRONT, Mode::Reader)?;
-    let bytes = pool.read(OWNER, NOTES, FRONT)?;
+    let disk = write(alloc, disk)?.crash(&[]);
+    let bytes = read(alloc, disk)?;
     println!(rt; "{}", str::from_utf8(bytes.as_slice())?)?;
     Ok(())
+}
+
+// Writes to the pool on a disk, syncs it, and gives the disk back.
+fn write(alloc: Global, disk: MemDevice) -> Result<MemDevice, PoolError> {
+    let mut pool = mount(alloc, disk)?;
+    write_hello(alloc, &mut pool)?;
+    sync(&mut pool)?;
+    Ok(pool.into_device())
+}
+
+// Reads from the pool on a disk what was synced.
+fn read(alloc: Global, disk: MemDevice) -> Result<Bytes, PoolError> {
+    let mut pool = mount(alloc, disk)?;
+    pool.lock(OWNER, NOTES, FRONT, Mode::Reader)?;
+    pool.read(OWNER, NOTES, FRONT)
 }
 
 // The pool that the disk mounts. The limit of dirty bytes is a megabyte.

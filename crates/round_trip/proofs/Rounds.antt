@@ -1,6 +1,7 @@
 -- A run of steps from an import on, and what the bytes mount then.
 use Rattle.std.proofs.Common.{◌≡◌, ℕ, List, [], ◌∷◌, refl, sym, ap, subst, ◌∙◌, ◌⊎◌, inl, inr}
-use Rattle.std.specs.Prelude.{IsTrue, None, Some, Ok}
+use Rattle.std.specs.Prelude.{IsTrue, None, Some, Ok, nat_le}
+use Rattle.std.proofs.lemmas.Bool.{le-leb}
 use Rattle.base.specs.declared.step.Step as declared_step
 use Rattle.base.specs.declared.step.Reply as declared_reply
 use Rattle.base.specs.declared.step.Reply.TheVariants as reply
@@ -14,9 +15,9 @@ use Rattle.base.specs.steps.Runs.{Run}
 use Rattle.base.specs.stored.ShownLabels.{HasNoLogBlock}
 use Rattle.base.specs.stored.Stored.{Held, IsHeld}
 use Rattle.base.specs.formats.Uberblocks.{Uberblock}
+use Rattle.base.proofs.common.Sieves.{filter_all}
 use Rattle.base.proofs.steps.Additions.{runs_grow}
 use Rattle.base.proofs.stored.HeldMounts.{held_mounts, steps_write_no_log}
-use Rattle.base.proofs.steps.WaitingGroups.{up_to-all}
 use Rattle.device_model.specs.declared.device.SectorDevice.{Ghosts}
 use Rattle.pool_core.specs.declared.state.PoolState.{PoolState}
 use Rattle.pool_core.specs.Holds.{KeepsHeld, Leads, Told, held_with, state_with}
@@ -52,7 +53,7 @@ all_shown h x after left all = by_group left.group_is
     by_group : (left.group ≡ h.state.shown.line.synced) ⊎ (h.state.shown.line.syncing ≡ Some left.group) → after ≡ h.state.shown.contents
     by_group (inr is) = let none : None ≡ Some left.group = sym all.idle ∙ is in cc
     by_group (inl is) =
-        let whole : entries_up_to h.state.shown.line.synced entries ≡ entries = up_to-all h.state.shown.line.synced entries all.none_above in
+        let whole : entries_up_to h.state.shown.line.synced entries ≡ entries = filter_all (λ (e : Entry). nat_le e.group h.state.shown.line.synced) entries (λ k d below. le-leb _ _ (all.none_above k d below)) in
         let replayed : replay (entries_up_to h.state.shown.line.synced entries) h.state.past.base ≡ Ok after =
         subst (λ (g : ℕ). replay (entries_up_to g entries) h.state.past.base ≡ Ok after) is left.replayed in
         let same : Ok after ≡ Ok h.state.shown.contents = sym replayed ∙ ap (λ (l : List Entry). replay l h.state.past.base) whole ∙ x.explained.history.replays in

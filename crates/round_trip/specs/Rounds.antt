@@ -1,17 +1,16 @@
 -- Rounds of a pool: an import, steps, and the device given up for the next import.
-use Rattle.std.specs.Prelude.{ℕ, ◌≡◌, ◌+◌, ◌⊎◌, List, Ok, None, Some}
+use Rattle.std.specs.Prelude.{ℕ, ◌≡◌, ◌+◌, ◌≤◌, ◌⊎◌, All, List, Ok, None, Some}
 use Rattle.std.specs.FinMap as finite
 use Rattle.base.specs.declared.error.PoolError.{PoolError}
 use Rattle.base.specs.declared.step.Step as declared_step
 use Rattle.base.specs.declared.step.Reply as declared_reply
 use Rattle.base.specs.formats.Uberblocks.{Uberblock, IsActive}
 use Rattle.base.specs.history.Contents.{Contents}
-use Rattle.base.specs.history.History.{entries_up_to, replay}
+use Rattle.base.specs.history.History.{Entry, entries_up_to, replay}
 use Rattle.base.specs.crash.Mount.{MountsTo}
 use Rattle.base.specs.history.Past.{new_past}
 use Rattle.base.specs.steps.Runs.{Run}
 use Rattle.base.specs.stored.ShownLabels.{HasNoLogBlock}
-use Rattle.base.specs.steps.Stage.{AreUpTo}
 use Rattle.base.specs.stored.Stored.{Held, IsHeld}
 use Rattle.import_replay.specs.CreateRefusals.{CanCreate, IsCreateRefusal}
 use Rattle.import_replay.specs.Creations.{IsNewPool}
@@ -51,7 +50,7 @@ pub record AreLeft (h : Held) (contents : Contents) : Type 0 where
 -- no sync runs, and no entry is above the synced group
 pub record IsAllSynced (h : Held) : Type 0 where
   pub idle : h.state.shown.line.syncing ≡ None
-  pub none_above : AreUpTo h.state.shown.line.synced h.state.past.entries
+  pub none_above : All (λ (e : Entry). e.group ≤ h.state.shown.line.synced) h.state.past.entries
 
 -- A round over an image of the contents before, at a moment and with a limit: the image's pool is opened at this moment and shows the
 -- contents at first, with this limit and a past in which nothing happened; the steps with these replies are a run of the definitions; and the bytes, which are given up, hold what the pool leaves. Where all is synced these are

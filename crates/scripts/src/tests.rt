@@ -230,6 +230,58 @@ const ABORTS: Row = Row {
     answers: "ok\nsynced 8 open 9 records 0\nlock 0\nsynced 8 syncing - middle - open 9 dirty 0 free 895 available 895\ntx 0 group 9\nsynced 8 syncing - middle - open 9 dirty 24576 free 895 available 889\nok\nsynced 8 syncing - middle - open 9 dirty 0 free 895 available 895\nrefused 19 NoSuchTransaction\nrefused 19 NoSuchTransaction\nok\nlock 1\ntx 1 group 9\nopen 10\nrefused 20 NotReady\nok\nquiesced 9\nsyncing 9\nsynced 9\nsynced 9 syncing - middle - open 10 dirty 0 free 895 available 895\nrefused 19 NoSuchTransaction\n",
 };
 
+/// One group is synced while the next waits and a third takes transactions: a read shows the bytes of all three, and the charges
+/// of each last until it is synced.
+const THREE_GROUPS: Row = Row {
+    size: SIZE,
+    script: "create tank 77\nimport 1048576\nlock 1 1 w 0 338688\nbegin 1 c:1\ncommit 0\nclose\nquiesce\nstart\nbegin 1 w:1:0:4\ncommit 1 aaaa\nclose\nbegin 1 w:1:4:4\ncommit 2 bbbb\nstatus\nbegin 1 w:1:0:4\nabort 3\nread 1 1 0 8\nquiesce\nstart\nfinish\nstatus\n",
+    status: 0,
+    answers: "ok\nsynced 8 open 9 records 0\nlock 0\ntx 0 group 9\nentry 0 group 9\nopen 10\nquiesced 9\nsyncing 9\ntx 1 group 10\nentry 1 group 10\nopen 11\ntx 2 group 11\nentry 2 group 11\nsynced 8 syncing 9 middle 10 open 11 dirty 40960 free 893 available 885\ntx 3 group 11\nok\nbytes 8 6161616162626262\nquiesced 10\nrefused 20 NotReady\nsynced 9\nsynced 9 syncing - middle 10 open 11 dirty 32768 free 893 available 885\n",
+};
+
+/// A transaction that began before its group was closed commits to that group after one of the next group, and a crash after the
+/// sync of the older group leaves its bytes alone.
+const LATE_COMMIT: Row = Row {
+    size: SIZE,
+    script: "create tank 77\nimport 1048576\nlock 1 1 w 0 338688\nbegin 1 c:1\ncommit 0\nunlock 1 0\nlock 1 1 w 0 4\nbegin 1 w:1:0:4\nclose\nlock 2 1 w 100 104\nbegin 2 w:1:100:4\ncommit 2 wxyz\nquiesce\ncommit 1 abcd\nquiesce\nstart\nfinish\nstatus\ncrash\nimport 1048576\nlength 1\n",
+    status: 0,
+    answers: "ok\nsynced 8 open 9 records 0\nlock 0\ntx 0 group 9\nentry 0 group 9\nok\nlock 1\ntx 1 group 9\nopen 10\nlock 2\ntx 2 group 10\nentry 1 group 10\nrefused 20 NotReady\nentry 2 group 9\nquiesced 9\nsyncing 9\nsynced 9\nsynced 9 syncing - middle - open 10 dirty 16384 free 891 available 887\ncrashed 0\nsynced 13 open 14 records 0\nlength 4\n",
+};
+
+/// Bytes of the quiescing group and, behind a gap of zeros, of the open one.
+const LATE_BYTES: Row = Row {
+    size: SIZE,
+    script: "create tank 77\nimport 1048576\nlock 1 1 w 0 338688\nbegin 1 c:1\ncommit 0\nunlock 1 0\nlock 1 1 w 0 4\nbegin 1 w:1:0:4\nclose\nlock 2 1 w 100 104\nbegin 2 w:1:100:4\ncommit 2 wxyz\nquiesce\ncommit 1 abcd\nunlock 1 1\nunlock 2 2\nlock 3 1 r 0 110\nread 3 1 0 110\nread 3 1 104 110\n",
+    status: 0,
+    answers: "ok\nsynced 8 open 9 records 0\nlock 0\ntx 0 group 9\nentry 0 group 9\nok\nlock 1\ntx 1 group 9\nopen 10\nlock 2\ntx 2 group 10\nentry 1 group 10\nrefused 20 NotReady\nentry 2 group 9\nok\nok\nlock 3\nbytes 104 616263640000000000000000000000000000000000000000000000000000000000000000000000000000000000000000000000000000000000000000000000000000000000000000000000000000000000000000000000000000000000000000000000007778797a\nbytes 0\n",
+};
+
+/// The last transaction of the quiescing group is given up while an older group is synced: its charge and its reservation end, and
+/// the group quiesces.
+const QUIESCING_ABORT: Row = Row {
+    size: SIZE,
+    script: "create tank 77\nimport 1048576\nlock 1 1 w 0 338688\nbegin 1 c:1\ncommit 0\nclose\nquiesce\nstart\nbegin 1 w:1:0:4\nclose\nbegin 1 w:1:4:4\nclose\nquiesce\nstatus\nabort 1\nstatus\nquiesce\ncommit 1 aaaa\nstart\nfinish\nstatus\nstart\nfinish\ncommit 2 bbbb\nread 1 1 0 10\n",
+    status: 0,
+    answers: "ok\nsynced 8 open 9 records 0\nlock 0\ntx 0 group 9\nentry 0 group 9\nopen 10\nquiesced 9\nsyncing 9\ntx 1 group 10\nopen 11\ntx 2 group 11\nrefused 20 NotReady\nrefused 20 NotReady\nsynced 8 syncing 9 middle 10 open 11 dirty 40960 free 893 available 885\nok\nsynced 8 syncing 9 middle 10 open 11 dirty 24576 free 893 available 889\nquiesced 10\nrefused 19 NoSuchTransaction\nrefused 20 NotReady\nsynced 9\nsynced 9 syncing - middle 10 open 11 dirty 16384 free 893 available 889\nsyncing 10\nsynced 10\nentry 1 group 11\nbytes 8 0000000062626262\n",
+};
+
+/// Three groups over one another: bytes over bytes, a length over a cut, and an object that is created again after a removal. No
+/// sync changes what is shown (the digest is Python's hashlib's).
+const LAID_OVER: Row = Row {
+    size: SIZE,
+    script: "create tank 77\nimport 1048576\nlock 1 1 w 0 338688\nlock 1 2 w 0 338688\nlock 1 3 w 0 338688\nbegin 1 c:1 w:1:0:12 c:2 w:2:0:8 c:3 w:3:0:4\ncommit 0 aaaaaaaaaaaa abcdefgh wxyz\nclose\nquiesce\nstart\nbegin 1 w:1:4:4 l:2:4 d:3\ncommit 1 bbbb\nlength 3\nread 1 3 0 8\nread 1 2 0 8\nclose\nbegin 1 w:1:6:4 l:2:6 c:3 l:3:2\ncommit 2 cccc\nread 1 1 0 20\nread 1 2 0 8\nread 1 3 0 8\ndigest\nquiesce\nfinish\ndigest\nstart\ndigest\nfinish\ndigest\nsync\ndigest\ncrash\nimport 1048576\ndigest\nlock 1 1 r 0 338688\nlock 1 2 r 0 338688\nlock 1 3 r 0 338688\nread 1 1 0 20\nread 1 2 0 8\nread 1 3 0 8\n",
+    status: 0,
+    answers: "ok\nsynced 8 open 9 records 0\nlock 0\nlock 1\nlock 2\ntx 0 group 9\nentry 0 group 9\nopen 10\nquiesced 9\nsyncing 9\ntx 1 group 10\nentry 1 group 10\nrefused 9 NoObject\nrefused 9 NoObject\nbytes 4 61626364\nopen 11\ntx 2 group 11\nentry 2 group 11\nbytes 12 616161616262636363636161\nbytes 6 616263640000\nbytes 2 0000\ndigest 23081a36188fe9f4521900610ef07eded52be1d9ab8c009116ad55c5ebc701fd\nquiesced 10\nsynced 9\ndigest 23081a36188fe9f4521900610ef07eded52be1d9ab8c009116ad55c5ebc701fd\nsyncing 10\ndigest 23081a36188fe9f4521900610ef07eded52be1d9ab8c009116ad55c5ebc701fd\nsynced 10\ndigest 23081a36188fe9f4521900610ef07eded52be1d9ab8c009116ad55c5ebc701fd\nsynced 11\ndigest 23081a36188fe9f4521900610ef07eded52be1d9ab8c009116ad55c5ebc701fd\ncrashed 0\nsynced 15 open 16 records 0\ndigest 23081a36188fe9f4521900610ef07eded52be1d9ab8c009116ad55c5ebc701fd\nlock 0\nlock 1\nlock 2\nbytes 12 616161616262636363636161\nbytes 6 616263640000\nbytes 2 0000\n",
+};
+
+/// A crash in the sync of a group loses that group and the open one, and leaves the older group's bytes, whatever was shown over them.
+const NEWER_LOST: Row = Row {
+    size: SIZE,
+    script: "create tank 77\nimport 1048576\nlock 1 1 w 0 338688\nbegin 1 c:1 w:1:0:4\ncommit 0 aaaa\nclose\nquiesce\nstart\nbegin 1 d:1 c:1 w:1:2:2\ncommit 1 bb\nclose\nquiesce\nbegin 1 l:1:3\ncommit 2\nread 1 1 0 8\nfinish\nread 1 1 0 8\nstart\nstep\ncrash t\nimport 1048576\nlock 1 1 r 0 338688\nread 1 1 0 8\n",
+    status: 0,
+    answers: "ok\nsynced 8 open 9 records 0\nlock 0\ntx 0 group 9\nentry 0 group 9\nopen 10\nquiesced 9\nsyncing 9\ntx 1 group 10\nentry 1 group 10\nopen 11\nquiesced 10\ntx 2 group 11\nentry 2 group 11\nbytes 3 000062\nsynced 9\nbytes 3 000062\nsyncing 10\nmore\ncrashed 1\nsynced 13 open 14 records 0\nlock 0\nbytes 4 61616161\n",
+};
+
 /// A device without a pool fails as planned, once, and a call is not planned to fail as the 0th.
 const FAILS: Row = Row {
     size: SIZE,
@@ -275,6 +327,23 @@ fn tells_lengths_digests_and_the_name(rt: HostRuntime) -> Result<(), Fail> {
 #[test]
 fn charges_reserves_removes_and_gives_up(rt: HostRuntime) -> Result<(), Fail> {
     for row in [CHARGES, REMOVES, ABORTS] {
+        let (status, text) = run(rt.alloc(), &row)?;
+        assert_eq!(rt; text.as_str(), row.answers);
+        assert_eq!(rt; status, row.status);
+    }
+    Ok(())
+}
+
+#[test]
+fn keeps_three_groups_at_once(rt: HostRuntime) -> Result<(), Fail> {
+    for row in [
+        THREE_GROUPS,
+        LATE_COMMIT,
+        LATE_BYTES,
+        QUIESCING_ABORT,
+        LAID_OVER,
+        NEWER_LOST,
+    ] {
         let (status, text) = run(rt.alloc(), &row)?;
         assert_eq!(rt; text.as_str(), row.answers);
         assert_eq!(rt; status, row.status);

@@ -1,5 +1,6 @@
-use Rattle.std.proofs.Common.{◌≡◌, ◌∙◌, ℕ, List, ap, sym, subst}
+use Rattle.std.proofs.Common.{rules, ◌≡◌, ◌∙◌, ℕ, List, ap, sym, subst}
 use Rattle.std.proofs.Math.Logic.{∥∥₁_map}
+use Rattle.std.proofs.lemmas.Result.{err_from_is_err_and}
 use Rattle.base.specs.history.Contents.{Contents}
 use Rattle.base.specs.disk.Disk.{bytes_of}
 use Rattle.base.specs.history.Past.{new_past}
@@ -31,3 +32,8 @@ returns-clause-went g c = λ keeps before holds.
     subst (λ (k : ℕ). IsHeld (held_with (told state) (new_past before 0 k))) limit based in
     subst (λ d. (after : Contents) × IsCleanRound image before c.args.dirty_max c.args.moment ss rs (bytes_of (disk d).now) after) (sym c.into_device.ensures)
     (round keeps image ss rs state c.run.new.state c.in_ok-replies.ensures.ran before c.args.dirty_max c.args.moment opened shows held none))
+
+pub returns-in_err-replies-clause-refusal : goal.returns-in_err-replies-clause-refusal
+returns-in_err-replies-clause-refusal g c =
+    let p = err_from_is_err_and c.from_residual-in_err-replies.result c.from_residual-in_err-replies.ensures.1 in
+    rw (p.1, p.2, c.in_err-replies.ensures.refused) (c.in_ok-imported.ensures.made, search rules)
