@@ -1,17 +1,23 @@
 #!/usr/bin/env python3
-"""Instruction counts of commits, by callgrind of valgrind.
+"""Instruction counts of commits, reads and syncs, by callgrind of valgrind.
 
-    python3 tools/costs.py PROGRAM
+    python3 tools/costs.py PROGRAM [WORD]
 
-PROGRAM is a built `ztxg`. A row of the table is a pool in which 1,000 small transactions commit, 50 in a group, each by
-four lines of a script (docs/FORMATS.md, "The script"): lock, begin, commit, unlock. Before each, the lock of another owner
-that was granted first is let go and granted anew. A number is the mean of the instructions that the pool spends on such a
-line, `all` is their sum, and `sync` is the mean of the lines that sync a group. The reading of lines and the printing of
-answers don't count, nor does what the script does before the first of these commits.
+PROGRAM is a built `ztxg`. Each row of a table is a pool on which a script runs (docs/FORMATS.md, "The script"). A number is
+the mean of the instructions that the pool spends on a counted line, and `all` is the sum of those of a row. The reading of
+lines and the printing of answers don't count, nor do the lines that make a pool ready. With a WORD only the tables run whose
+names have it.
 
-The rows of a pair differ in one number: the bytes of the pool, the locks of other owners, the objects. Their sums have to
-be within 10 percent of one another. The status is 1 where those of a pair are not, and 2 where a script can't be counted.
-The pool of 1 GiB takes some minutes.
+- Commits: 1,000 small transactions, 50 in a group, each by four lines: lock, begin, commit, unlock. Before each, the lock of
+  another owner that was granted first is let go and granted anew. `sync` is the mean of the lines that sync a group.
+- Writes in the group: as these, but before 20 transactions that are counted the open group has so many writes, each a
+  transaction on an object of its own.
+- Unsynced groups: as these, with 100 writes in each group; with three, the oldest one is being synced and the next one waits.
+- Reads: of 100 bytes of an object that each unsynced group has written to.
+- Syncs of a group of one write, while the open group has so many.
+
+The rows of a pair differ in one number. Their sums have to be within 10 percent of one another. The status is 1 where those
+of a pair are not, and 2 where a script can't be counted. The pool of 1 GiB takes some minutes.
 """
 
 import collections
@@ -26,31 +32,30 @@ LINE = "scripts::session::Session::run"
 
 COMMITS = 1000
 GROUP = 50
+ROUNDS = 5
+ROUND = 20
 MOST_APART = 0.10
-KINDS = ["lock", "begin", "commit", "unlock"]
 
 MIB = 2**20
 GIB = 2**30
-DIRTY_MAX = 16 * MIB
+DIRTY_MAX = 2**40
 TOP = 338_688
-
-Pool = collections.namedtuple("Pool", "size locks objects")
-SMALL = Pool(size=8 * MIB, locks=1, objects=1)
-PAIRS = {
-    "objects": (SMALL, SMALL._replace(objects=5000)),
-    "locks of other owners": (SMALL, SMALL._replace(locks=250)),
-    "bytes of the pool": (SMALL, SMALL._replace(size=GIB)),
-}
 
 
 class Script:
-    """The lines of a script, with the names of its next lock and its next transaction."""
+    """The lines of a script, which of them count and as what, and the names of its next lock and its next transaction."""
 
     def __init__(self):
-        self.lines = []
+        self.lines = ["create tank 77", f"import {DIRTY_MAX}"]
+        self.counted = {}
         self.next_lock = 0
         self.next_tx = 0
         self.others = collections.deque()
+
+    def count(self, *kinds):
+        """The last lines, as many as there are kinds, count as these."""
+        for at, kind in enumerate(kinds, len(self.lines) - len(kinds)):
+            self.counted[at] = kind
 
     def lock(self, owner, number, high):
         self.lines.append(f"lock {owner} {number} w 0 {high}")
@@ -84,27 +89,156 @@ class Script:
                 self.unlock(1, lock)
             self.lines.append("sync")
 
-    def commit(self):
-        """The commits that are counted: each writes the first 100 bytes of object 0."""
-        for done in range(1, COMMITS + 1):
+    def write(self, number):
+        """A transaction that writes the first 100 bytes of an object."""
+        lock = self.lock(2, number, 100)
+        self.transact(2, f"w:{number}:0:100", "@100:x")
+        self.unlock(2, lock)
+
+    def write_many(self, count):
+        """So many writes, each to an object of its own."""
+        for number in range(count):
+            self.write(number)
+
+    def write_counted(self):
+        """A write to object 0 that counts. Before it, the oldest lock of another owner is let go and granted anew."""
+        if self.others:
             self.renew_oldest()
-            lock = self.lock(2, 0, 100)
-            self.transact(2, "w:0:0:100", "@100:x")
-            self.unlock(2, lock)
-            if done % GROUP == 0:
-                self.lines.append("sync")
+        self.write(0)
+        self.count("lock", "begin", "commit", "unlock")
+
+    def close(self):
+        self.lines += ["close", "quiesce"]
+
+    def finish(self):
+        """The open group is closed, and all groups that are unsynced then are synced, the oldest first."""
+        self.lines.append("sync")
 
 
-def script_of(pool):
-    """The lines of a pool's script, those before the counted ones and those."""
+Commits = collections.namedtuple("Commits", "MiB locks objects")
+Writes = collections.namedtuple("Writes", "writes")
+Groups = collections.namedtuple("Groups", "groups")
+Reads = collections.namedtuple("Reads", "groups")
+Syncs = collections.namedtuple("Syncs", "writes")
+
+
+def commits(row):
     script = Script()
-    script.lines += ["create tank 77", f"import {DIRTY_MAX}"]
-    script.create(pool.objects)
-    for other in range(1, pool.locks + 1):
+    script.create(row.objects)
+    for other in range(1, row.locks + 1):
         script.lock_other(other)
-    first = len(script.lines)
-    script.commit()
-    return script.lines[:first], script.lines[first:]
+    for done in range(1, COMMITS + 1):
+        script.write_counted()
+        if done % GROUP == 0:
+            script.finish()
+            script.count("sync")
+    return script
+
+
+def writes(row):
+    script = Script()
+    script.create(max(row.writes, 1))
+    for _ in range(ROUNDS):
+        script.write_many(row.writes)
+        for _ in range(ROUND):
+            script.write_counted()
+        script.finish()
+    return script
+
+
+def start_older(script, groups, count):
+    """All but the newest of so many unsynced groups get so many writes, and the oldest one's sync starts."""
+    for older in range(groups - 1):
+        script.write_many(count)
+        script.close()
+        if older == 0:
+            script.lines.append("start")
+
+
+def sync_older(script, groups):
+    """Those groups are synced."""
+    for older in range(groups - 1):
+        if older > 0:
+            script.lines.append("start")
+        script.lines.append("finish")
+
+
+def groups(row):
+    script = Script()
+    script.create(100)
+    for _ in range(ROUNDS):
+        start_older(script, row.groups, 100)
+        script.write_many(100)
+        for _ in range(ROUND):
+            script.write_counted()
+        sync_older(script, row.groups)
+        script.finish()
+    return script
+
+
+def reads(row):
+    script = Script()
+    script.create(100)
+    script.write(0)
+    script.finish()
+    start_older(script, row.groups, 100)
+    script.write_many(100)
+    script.lock(3, 0, 100)
+    for _ in range(ROUND):
+        script.lines.append("read 3 0 0 100")
+        script.count("read")
+    return script
+
+
+def syncs(row):
+    script = Script()
+    script.create(max(row.writes, 1))
+    for _ in range(ROUNDS):
+        script.write(0)
+        script.close()
+        script.count("close", "quiesce")
+        script.write_many(row.writes)
+        script.lines += ["start", "finish"]
+        script.count("start", "finish")
+        script.finish()
+    return script
+
+
+# A table has its name, what makes the script of a row, the bytes of its pools, its kinds of lines, and its pairs of rows.
+Table = collections.namedtuple("Table", "name script size kinds pairs")
+SMALL = Commits(MiB=8, locks=1, objects=1)
+LINES = ["lock", "begin", "commit", "unlock"]
+TABLES = [
+    Table(
+        "Commits",
+        commits,
+        None,
+        LINES,
+        {
+            "objects": (SMALL, SMALL._replace(objects=5000)),
+            "locks of other owners": (SMALL, SMALL._replace(locks=250)),
+            "bytes of the pool": (SMALL, SMALL._replace(MiB=1024)),
+        },
+    ),
+    Table(
+        "Commits behind writes of their group",
+        writes,
+        64 * MIB,
+        LINES,
+        {f"1 or {many} writes": (Writes(1), Writes(many)) for many in (10, 100, 1000)},
+    ),
+    Table(
+        "Commits with groups unsynced", groups, 64 * MIB, LINES, {"one or three groups": (Groups(1), Groups(3))}
+    ),
+    Table("Reads with groups unsynced", reads, 64 * MIB, ["read"], {"one or three groups": (Reads(1), Reads(3))}),
+    Table(
+        "Syncs beside writes of the open group",
+        syncs,
+        64 * MIB,
+        ["close", "quiesce", "start", "finish"],
+        {"none or 1000 writes": (Syncs(0), Syncs(1000))},
+    ),
+]
 
 
 def fail(reason):
@@ -112,58 +246,66 @@ def fail(reason):
     sys.exit(2)
 
 
-def count(program, pool, folder):
-    """The mean of the instructions of the counted lines, by the first word of the line."""
-    before, counted = script_of(pool)
-    lines = before + counted
+def count(program, size, made, folder):
+    """The mean of the instructions of the counted lines, by their kinds."""
     script, counts = folder / "script", folder / "counts"
-    script.write_text("\n".join(lines) + "\n")
+    script.write_text("\n".join(made.lines) + "\n")
     words = ["valgrind", "--tool=callgrind", f"--callgrind-out-file={counts}", "--combine-dumps=yes"]
     words += [f"--toggle-collect={STEP}", f"--dump-before={LINE}"]
-    words += [program, "script", str(pool.size), str(script)]
+    words += [program, "script", str(size), str(script)]
     ran = subprocess.run(words, capture_output=True, text=True)
     answers = ran.stdout.splitlines()
-    for line, answer in zip(lines, answers):
+    for line, answer in zip(made.lines, answers):
         if answer.startswith(("refused", "line")):
             fail(f"`{line[:60]}` is answered `{answer}`")
-    if ran.returncode or len(answers) != len(lines):
+    if ran.returncode or len(answers) != len(made.lines):
         fail(ran.stderr[-1000:])
     with open(counts) as parts:
         totals = [int(line.split()[1]) for line in parts if line.startswith("totals:")]
     # The first part is what comes before the first line.
-    if len(totals) != 1 + len(lines) or not any(totals):
+    if len(totals) != 1 + len(made.lines) or not any(totals):
         fail(f"the program lacks a function {STEP} or {LINE}")
     costs = collections.defaultdict(list)
-    for line, cost in zip(counted, totals[-len(counted) :]):
-        costs[line.split()[0]].append(cost)
+    for at, kind in made.counted.items():
+        costs[kind].append(totals[1 + at])
     return {kind: sum(some) / len(some) for kind, some in costs.items()}
 
 
-def numbers(costs):
-    return "".join(f"{cost:8.0f}" for cost in costs)
+def head(row, kinds):
+    """The head of a table."""
+    return "".join(f"{word:>9}" for word in [*row._fields, *kinds])
+
+
+def judge(name, one, other):
+    """Prints how far two sums are apart, and tells whether that is too far."""
+    low, high = sorted([one, other])
+    apart = high / low - 1
+    verdict = "within" if apart <= MOST_APART else "not within"
+    print(f"{name}: {apart:.1%} apart, {verdict} {MOST_APART:.0%}", flush=True)
+    return apart > MOST_APART
+
+
+def run_table(program, table, folder):
+    """Prints a table and its verdicts, and tells whether a pair is too far apart."""
+    rows = list(dict.fromkeys(row for pair in table.pairs.values() for row in pair))
+    print(f"{table.name}\n{head(rows[0], table.kinds + ['all', 'sync'])}")
+    sums = {}
+    for row in rows:
+        costs = count(program, table.size or row.MiB * MIB, table.script(row), folder)
+        sums[row] = sum(costs[kind] for kind in table.kinds)
+        numbers = [*(costs[kind] for kind in table.kinds), sums[row], costs.get("sync", 0)]
+        print("".join(f"{number:9.0f}" for number in [*row, *numbers]), flush=True)
+    return any([judge(name, sums[one], sums[other]) for name, (one, other) in table.pairs.items()])
 
 
 def main():
-    if len(sys.argv) != 2:
-        fail("usage: python3 tools/costs.py PROGRAM")
-    print("  MiB locks objects" + "".join(f"{kind:>8}" for kind in [*KINDS, "all", "sync"]))
-    sums = {}
+    if len(sys.argv) not in (2, 3):
+        fail("usage: python3 tools/costs.py PROGRAM [WORD]")
+    word = "".join(sys.argv[2:]).lower()
     with tempfile.TemporaryDirectory() as folder:
-        for pool in dict.fromkeys(pool for pair in PAIRS.values() for pool in pair):
-            costs = count(sys.argv[1], pool, pathlib.Path(folder))
-            sums[pool] = sum(costs[kind] for kind in KINDS)
-            row = [*(costs[kind] for kind in KINDS), sums[pool], costs["sync"]]
-            print(f"{pool.size // MIB:5}{pool.locks:6}{pool.objects:8}{numbers(row)}", flush=True)
-    status = 0
-    for name, (one, other) in PAIRS.items():
-        low, high = sorted([sums[one], sums[other]])
-        apart = high / low - 1
-        if apart <= MOST_APART:
-            verdict = "within"
-        else:
-            verdict, status = "not within", 1
-        print(f"{name}: {apart:.1%} apart, {verdict} {MOST_APART:.0%}")
-    sys.exit(status)
+        tables = [table for table in TABLES if word in table.name.lower()]
+        too_far = [run_table(sys.argv[1], table, pathlib.Path(folder)) for table in tables]
+    sys.exit(1 if any(too_far) else 0)
 
 
 main()
