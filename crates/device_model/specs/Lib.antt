@@ -1,5 +1,6 @@
 pub mod Certain
 pub mod MemState
+pub mod FileState
 pub mod Plans
 pub mod Notes
 pub mod Memory
