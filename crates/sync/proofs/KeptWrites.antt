@@ -11,7 +11,7 @@ use Rattle.sync.proofs.Steps.{after_call}
 use Rattle.sync.proofs.Targets.{IsSound}
 
 -- how many calls were made after one with this answer
-abbrev done_after : ℕ → Result (Unit {0}) PoolError → ℕ
+abbrev pub done_after : ℕ → Result (Unit {0}) PoolError → ℕ
 done_after done (Ok x) = done + 1
 done_after done (Err e) = done
 

@@ -5,3 +5,13 @@ pub mod Steps
 pub mod Pending
 pub mod Blocks
 pub mod KeptWrites
+pub mod CheckedWrites
+pub mod SparedPlaces
+pub mod CallTurns
+pub mod PhaseSteps
+pub mod SlotSteps
+pub mod QuietCalls
+pub mod LaidViews
+pub mod KeptPhases
+pub mod PhasesSince
+pub mod ConfigWrites

@@ -53,7 +53,7 @@ call_in_labels run k call at = elim (cases_lt k (vec_len run.blocks)) [
       (sym (others_stand (vec_len run.blocks) (is_some run.stages) (first_labels run.stages) (last_labels run.stages) k (k - vec_len run.blocks) (omega (arith, behind))) ∙ at)
 ]
 
-mapped : {A B : Type 0} (f : A → B) (o : Option A) (y : B) → option_map f o ≡ Some y → (x : A) × (o ≡ Some x) × (f x ≡ y)
+pub mapped : {A B : Type 0} (f : A → B) (o : Option A) (y : B) → option_map f o ≡ Some y → (x : A) × (o ≡ Some x) × (f x ≡ y)
 mapped f None y is = absurd (let no_way : None ≡ Some y = is in cc)
 mapped f (Some x) y is = let same : f x ≡ y = cc in (x, refl, same)
 

@@ -6,6 +6,7 @@ mod laws;
 mod run;
 
 pub use laws::{
-    blocks_are_settled, blocks_are_written, calls_are_writable, syncs_begin_with_nothing,
+    blocks_are_settled, blocks_are_written, calls_are_writable, configs_are_staged,
+    syncs_begin_at_rest, syncs_begin_with_nothing, syncs_end_at_rest, syncs_keep_phases,
 };
 pub use run::{LabelStages, SyncCall, SyncRun};

@@ -51,6 +51,7 @@ impl SyncRun {
     ghost use Rattle.sync.specs.CallOrder.{call_said};
     ghost use Rattle.sync.specs.Calls.{HasCall, IsNextCall, MakesCall, MakesNextCall, TargetFits, calls_of, plain_answer, refusal_of};
     ghost use Rattle.sync.specs.Made.{KeepsWritten};
+    ghost use Rattle.sync.specs.Phases.{KeepsPhases};
     ghost use Rattle.sync.specs.Runs.{CountsCall, HasPlaces, call_count};
 
     /// A sync that has made no call yet: it writes these blocks, then this uberblock into this slot of each label, and with
@@ -98,6 +99,10 @@ impl SyncRun {
     /// blocks have one place. So does that what is not flushed are its own writes since its last flush: `HasPending`. After
     /// the last call nothing is unflushed.
     ///
+    /// At each moment of the call, whatever it answers, a disk that was at rest on the view of before is so, or between it
+    /// and the view of the sync, or at rest on that: `HasPhaseOf`, by the calls that were made. Which premises the blocks,
+    /// the config and the uberblock take is in `LeadsViews`.
+    ///
     /// # Errors
     /// `Write`, `Flush`: what the call was, where the device refused it.
     pub fn next<D: SectorDevice>(&mut self, device: &mut D) -> Result<SyncCall, PoolError>
@@ -110,6 +115,8 @@ impl SyncRun {
             (D.disk device.old) (D.disk device.new) }
         ensures written { IsTrue D.keeps_model
             → KeepsWritten self.old self.new (D.disk device.old).now (D.disk device.new).now }
+        ensures phases { IsTrue D.keeps_model
+            → KeepsPhases self.old self.new (D.disk device.old) (D.disk device.new) }
         ensures finished { IsTrue D.keeps_model
             → IfOk result (λ call. call ≡ SyncCall.Last → (D.disk device.new).now.unflushed ≡ []) }
     {

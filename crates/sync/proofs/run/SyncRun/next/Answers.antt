@@ -4,6 +4,7 @@ use Rattle.sync.specs.Calls.{MakesNextCall}
 use Rattle.sync.specs.CallOrder.{call_said}
 use Rattle.sync.specs.Runs.{call_count}
 use Rattle.sync.proofs.Blocks.{last_cleans}
+use Rattle.sync.proofs.KeptPhases.{kept_phases}
 use Rattle.sync.proofs.KeptWrites.{keeps_written}
 use Rattle.sync.proofs.Targets.{is_sound}
 use Rattle.sync.proofs.run.SyncRun.next.Goals as goal
@@ -39,3 +40,18 @@ returns-then-self-total-clause-finished g c = λ keeps last.
     let run = c.args.self.now in
     let count : run.done + 1 ≡ call_count run = omega (arith, c.if-self-total.true, c.total.ensures.count) in
     last_cleans run (call_said c.call.result) (g.D.SectorDevice.disk c.args.device.now) (g.D.SectorDevice.disk c.make.new.device) count c.call.ensures.next (c.in_ok-make.ensures.called keeps)
+
+pub returns-in_err-make-clause-phases : goal.returns-in_err-make-clause-phases
+returns-in_err-make-clause-phases g c = λ keeps.
+    kept_phases c.args.self.now (is_sound c.args.self.now c.args.self.now.sized) (call_said c.call.result) c.call.ensures.next c.in_err-make.ensures.fits
+    (g.D.SectorDevice.disk c.args.device.now) (g.D.SectorDevice.disk c.make.new.device) (Err c.in_err-make.field-0.0) (c.in_err-make.ensures.called keeps) _ (record { geometry = refl; blocks = refl; uberblock = refl; slot = refl; stages = refl }) refl
+
+pub returns-then-self-total-clause-phases : goal.returns-then-self-total-clause-phases
+returns-then-self-total-clause-phases g c = λ keeps.
+    kept_phases c.args.self.now (is_sound c.args.self.now c.args.self.now.sized) (call_said c.call.result) c.call.ensures.next c.in_ok-make.ensures.fits
+    (g.D.SectorDevice.disk c.args.device.now) (g.D.SectorDevice.disk c.make.new.device) (Ok tt) (c.in_ok-make.ensures.called keeps) _ (record { geometry = refl; blocks = refl; uberblock = refl; slot = refl; stages = refl }) refl
+
+pub returns-else-self-total-clause-phases : goal.returns-else-self-total-clause-phases
+returns-else-self-total-clause-phases g c = λ keeps.
+    kept_phases c.args.self.now (is_sound c.args.self.now c.args.self.now.sized) (call_said c.call.result) c.call.ensures.next c.in_ok-make.ensures.fits
+    (g.D.SectorDevice.disk c.args.device.now) (g.D.SectorDevice.disk c.make.new.device) (Ok tt) (c.in_ok-make.ensures.called keeps) _ (record { geometry = refl; blocks = refl; uberblock = refl; slot = refl; stages = refl }) refl

@@ -1,0 +1,5 @@
+use Rattle.sync.proofs.PhasesSince.{ends_at_rest}
+use Rattle.sync.proofs.laws.syncs_end_at_rest.Goals as goal
+
+pub returns : goal.returns
+returns c = ends_at_rest

@@ -1,0 +1,5 @@
+use Rattle.sync.proofs.PhasesSince.{keeps_phases}
+use Rattle.sync.proofs.laws.syncs_keep_phases.Goals as goal
+
+pub returns : goal.returns
+returns c = keeps_phases
