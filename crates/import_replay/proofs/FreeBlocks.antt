@@ -52,7 +52,7 @@ taken_more p xs i x old mid new low is first second =
 tied : (q k : ℕ) → eq_by_cmp nat_cmp q k ≡ nat_eq k q
 tied q k = unsigned_tied q k ∙ nat_eq_equiv.symm q k
 
-contains-without : (numbers : FinSet nat_cmp) (n q : ℕ) → set.contains (set.remove numbers n) q ≡ (not (nat_eq n q) && set.contains numbers q)
+pub contains-without : (numbers : FinSet nat_cmp) (n q : ℕ) → set.contains (set.remove numbers n) q ≡ (not (nat_eq n q) && set.contains numbers q)
 contains-without numbers n q = contains-remove nat_cmp_total numbers n q ∙ ap (λ (b : Bool). not b && set.contains numbers q) (tied q n)
 
 swapped : (a b : Bool) → (a && b) ≡ (b && a)

@@ -1,7 +1,7 @@
 -- What each call of a sync of the labels leaves of the blocks.
-use Rattle.std.proofs.Common.{◌≡◌, ◌≢◌, ◌⊎◌, inl, inr, ℕ, zero, suc, ◌+◌, ◌-◌, ◌*◌, ◌<◌, ◌≤◌, List, length, Option, Ok, Bool, false, IsTrue, ◌↔◌, refl, sym, ◌∙◌, ap, subst, arith}
+use Rattle.std.proofs.Common.{◌≡◌, ◌≢◌, ◌⊎◌, inl, inr, ℕ, zero, suc, ◌+◌, ◌-◌, ◌*◌, ◌<◌, ◌≤◌, List, length, Option, Ok, refl, sym, ◌∙◌, ap, subst, arith}
 use Rattle.std.specs.Prelude.{vec_len}
-use Rattle.std.proofs.lemmas.Bool.{cases_eq, false≢true}
+use Rattle.std.proofs.lemmas.Bool.{cases_eq}
 use Rattle.base.specs.declared.error.PoolError.{PoolError}
 use Rattle.base.specs.disk.Disk.{Disk, bytes_of, certain, put}
 use Rattle.base.specs.formats.Geometry.{IsGeometry, block_address, block_count, label_place, config_place, slot_of, slot_place}

@@ -14,3 +14,5 @@ pub mod MountedPools
 pub mod ReadPools
 pub mod StoppedImports
 pub mod ShownMounts
+pub mod UsedBlocks
+pub mod Inspections

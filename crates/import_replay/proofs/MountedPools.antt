@@ -1,5 +1,5 @@
 -- The pool that an import gives, from what it found, loaded and wrote.
-use Rattle.std.proofs.Common.{◌≡◌, ◌≢◌, ◌⊎◌, inl, inr, ℕ, ◌+◌, ◌<◌, ◌≤◌, true, false, List, [], length, Some, None, refl, sym, subst, ap, ◌∙◌, arith}
+use Rattle.std.proofs.Common.{◌≡◌, ◌≢◌, ◌⊎◌, inl, inr, ℕ, ◌+◌, ◌≤◌, true, false, List, [], length, Some, None, refl, sym, subst, ap, ◌∙◌, arith}
 use Rattle.std.specs.Prelude.{IfSome, nat_lt, option_map}
 use Rattle.std.specs.Ordering.{nat_cmp}
 use Rattle.std.specs.FinMap as finite
@@ -15,7 +15,7 @@ use Rattle.base.specs.formats.Fields.{part}
 use Rattle.base.specs.formats.Geometry.{IsBlockAddress, block_count, block_size}
 use Rattle.base.specs.crash.Imports.{IsFirstLogBlock, IsImported, IsImportOf, is_dirty_max_allowed, is_past_last}
 use Rattle.base.specs.formats.Labels.{Config}
-use Rattle.base.specs.formats.Limits.{last_number, object_count}
+use Rattle.base.specs.formats.Limits.{last_number}
 use Rattle.base.specs.formats.Names.{IsName}
 use Rattle.base.specs.crash.Mount.{HasPool, IsChainOf, IsUsed, Mounts}
 use Rattle.base.specs.history.Past.{new_past}
@@ -42,24 +42,18 @@ use Rattle.import_replay.specs.ImportRefusals.{HasAllBlocks, HasSoundPool}
 use Rattle.import_replay.specs.Labelled.{HoldLabels}
 use Rattle.import_replay.specs.LabelSyncs.{HasSameBlocks}
 use Rattle.import_replay.specs.Mounts.{IsImport, IsMountedFrom, frame_of_import, shown_of_import}
+use Rattle.import_replay.specs.ReadPools.{IsReadPool, frame_at}
 use Rattle.import_replay.specs.declared.mounted.Mounted.{Mounted}
 
--- the frame of an active uberblock, on a device of so many bytes
-abbrev pub frame_with : Uberblock → ℕ → Frame
-frame_with u blocks = record { version = u.version; guid = u.guid; blocks = blocks; group = u.group }
-
-abbrev pub frame_at : Uberblock → ℕ → Frame
-frame_at u size = frame_with u (block_count size)
-
-not_zero : (blocks address : ℕ) → IsBlockAddress blocks address → address ≢ 0
+pub not_zero : (blocks address : ℕ) → IsBlockAddress blocks address → address ≢ 0
 not_zero blocks address is none = let e = is.2 in omega (arith, e, none)
 
 -- in an image that holds a tree, the addresses of its blocks are those that its pointers name
 module _ (image : List ℕ) (frame : Frame) (pointers : Place → Pointer) (objects : FinMap nat_cmp (List ℕ)) (holds : HoldsTree image frame pointers objects) (address : ℕ) where
-  named-of_tree : IsInTree image (pointers Root) address → IsNamed pointers address
+  pub named-of_tree : IsInTree image (pointers Root) address → IsNamed pointers address
   named-of_tree is = let t = in-tree image frame pointers objects holds address is in (t.0, t.1, t.2)
 
-  tree-of_named : address ≢ 0 → IsNamed pointers address → IsInTree image (pointers Root) address
+  pub tree-of_named : address ≢ 0 → IsNamed pointers address → IsInTree image (pointers Root) address
   tree-of_named some (place, in_range, is) =
       subst (λ (a : ℕ). IsInTree image (pointers Root) a) is
       (told-in_tree image frame pointers objects holds place in_range (λ none. some (sym is ∙ ap (λ (p : Pointer). p.address) none)))
@@ -80,6 +74,21 @@ sound_pool size u name tree slots image long held root pool = record {
   objects = objects_of slots;
   tree = subst (λ (n : ℕ). IsTree image (frame_at u n) u.root (objects_of slots)) (sym long)
       (subst (λ (p : Pointer). IsTree image (frame_at u size) p (objects_of slots)) root (holds-tree image (frame_at u size) (pointers_of tree) (objects_of slots) held));
+}
+
+-- and where the active uberblock has no chain, the image mounts it
+pub mounts_read : (image : List ℕ) (size : ℕ) (u : Uberblock) (name : List ℕ) (tree : Tree) (slots : List Slot) → IsReadPool image size u name tree slots → (c : declared.Contents) → c.name ≡ name → c.slots.items ≡ slots
+    → IsChainOf image u [] → Mounts image u [] (contents_of c)
+mounts_read image size u name tree slots read c named same chain = record {
+  synced = contents_of c;
+  found = record {
+    pool = subst (λ (n : List ℕ). HasPool image u n) (sym named) read.pool;
+    tree = subst (λ (l : List Slot). IsTree image (frame_at u (length image)) u.root (objects_of l)) (sym same)
+        (subst (λ (n : ℕ). IsTree image (frame_at u n) u.root (objects_of slots)) (sym read.long)
+        (subst (λ (p : Pointer). IsTree image (frame_at u size) p (objects_of slots)) read.root (holds-tree image (frame_at u size) (pointers_of tree) (objects_of slots) read.held)));
+    chain_is = chain;
+  };
+  applied = refl;
 }
 
 -- contents of objects that were loaded are within the limits of a pool
@@ -230,16 +239,7 @@ module _ (size : ℕ) (u : Uberblock) (name : List ℕ) (slots : List Slot) (tre
         other address block (inr is) = inr (inl (inl is))
 
     mounts : IsChainOf image u [] → Mounts image u [] (contents_of m.contents)
-    mounts chain = record {
-      synced = contents_of m.contents;
-      found = record {
-        pool = subst (λ (n : List ℕ). HasPool image u n) (sym from.name_is) pool;
-        tree = subst (λ (n : ℕ). IsTree image (frame_at u n) u.root objects) (sym long)
-            (subst (λ (p : Pointer). IsTree image (frame_at u size) p objects) root_is (holds-tree image (frame_at u size) pointers objects held));
-        chain_is = chain;
-      };
-      applied = refl;
-    }
+    mounts chain = mounts_read image size u name tree slots (record { long = long; pool = pool; held = loaded; root = root }) m.contents from.name_is from.slots_are chain
 
     import_of : IsChainOf image u [] → IsImportOf image now dirty_max 0 shown
     import_of chain = record {

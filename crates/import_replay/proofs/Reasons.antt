@@ -75,14 +75,3 @@ reason-many image past = record {
 pub not_both : (e : PoolError) → IsReadingRefusal e → IsSyncRefusal e → ⊥
 not_both e reading (inl is) = subst IsReadingRefusal is reading
 not_both e reading (inr is) = subst IsReadingRefusal is reading
-
--- those of a search and of a load come before it
-pub find_reading : (e : PoolError) → IsFindRefusal e → IsReadingRefusal e
-find_reading e (inl is) = subst IsReadingRefusal (sym is) tt
-find_reading e (inr (inl is)) = subst IsReadingRefusal (sym is) tt
-find_reading e (inr (inr is)) = subst IsReadingRefusal (sym is) tt
-
-pub load_reading : (e : PoolError) → IsLoadRefusal e → IsReadingRefusal e
-load_reading e (inl is) = subst IsReadingRefusal (sym is) tt
-load_reading e (inr (inl is)) = subst IsReadingRefusal (sym is) tt
-load_reading e (inr (inr (kind, address, is))) = subst IsReadingRefusal (sym is) tt

@@ -14,7 +14,8 @@ use Rattle.object_maps.specs.Pointers.{objects_of, pointers_of}
 use Rattle.import_replay.specs.Found.{HasFirstStage}
 use Rattle.import_replay.specs.ImportStops.{IsImportStopped, IsOpenStopped, next_config, next_uberblock}
 use Rattle.import_replay.specs.LabelSyncs.{IsStoppedSync}
-use Rattle.import_replay.proofs.MountedPools.{frame_at, log_block_found, sound_pool}
+use Rattle.import_replay.specs.ReadPools.{frame_at}
+use Rattle.import_replay.proofs.MountedPools.{log_block_found, sound_pool}
 
 pub stopped_import : (size : ℕ) (old mid before new : Disk) (u : Uberblock) (name : List ℕ) (slots : List Slot) (tree : Tree) (moment : ℕ) (even_first : Bool) (e : PoolError)
     → length (bytes_of old.now) ≡ size → Flushes old (Ok tt) mid → before ≡ mid → HasPool (bytes_of old.now) u name → HasFirstStage (bytes_of old.now) u.guid u.group name even_first

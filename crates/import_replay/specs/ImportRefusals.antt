@@ -20,7 +20,20 @@ CanImport size dirty_max = IsGeometry size × (is_dirty_max_allowed dirty_max �
 abbrev pub IsFindRefusal : PoolError → Type 0
 IsFindRefusal e = (e ≡ NoMemory) ⊎ ((e ≡ Read) ⊎ (e ≡ NoPool))
 
--- while they are written a write or a flush is refused
+-- while the tree is walked as well, a block may be damaged
+abbrev pub IsWalkRefusal : PoolError → Type 0
+IsWalkRefusal NoMemory = ⊤
+IsWalkRefusal Read = ⊤
+IsWalkRefusal NoPool = ⊤
+IsWalkRefusal (Damaged kind address) = ⊤
+IsWalkRefusal _ = ⊥
+
+-- an inspection of a device of so many bytes is refused: the size comes first, before any device call
+abbrev pub IsInspectionRefusal : ℕ → PoolError → Type 0
+IsInspectionRefusal size BadGeometry = IsGeometry size → ⊥
+IsInspectionRefusal size e = IsGeometry size × IsWalkRefusal e
+
+-- while the labels are written a write or a flush is refused
 abbrev pub IsSyncRefusal : PoolError → Type 0
 IsSyncRefusal e = (e ≡ Write) ⊎ (e ≡ Flush)
 

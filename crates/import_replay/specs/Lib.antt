@@ -4,6 +4,7 @@ pub mod Creations
 pub mod Labelled
 pub mod Outside
 pub mod Found
+pub mod ReadPools
 pub mod FreeBlocks
 pub mod ImportRefusals
 pub mod LabelSyncs
@@ -11,3 +12,4 @@ pub mod ImportSyncs
 pub mod ImportStops
 pub mod Mounts
 pub mod ShownMounts
+pub mod Inspections

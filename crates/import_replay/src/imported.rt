@@ -26,16 +26,16 @@ ghost use Rattle.import_replay.specs.Labelled.{HasOtherSlots};
 ghost use Rattle.import_replay.specs.LabelSyncs.{HasSameBlocks, after_calls, is_even};
 ghost use Rattle.import_replay.specs.Mounts.{IsImport, IsMountedFrom, frame_of_import, shown_of_import};
 
-use crate::finding::{Found, copy_name, find_pool};
+use crate::finding::{Found, copy_name};
 use crate::free_blocks::free_set;
 use crate::imported_pool::Imported;
 use crate::label_sync::sync_labels;
 use crate::mounted::Mounted;
+use crate::reading::read_pool;
 use base::{GREATEST_DIRTY_MAX, Group, LAST_NUMBER, LEAST_DIRTY_MAX, PoolError, WRITTEN_VERSION};
-use checked_blocks::Frame;
 use device_model::SectorDevice;
 use labels::{Geometry, LabelConfig};
-use object_maps::{Contents, Loaded, load};
+use object_maps::{Contents, Loaded};
 use std::alloc::Global;
 use uberblocks::Uberblock;
 
@@ -182,15 +182,7 @@ fn mount_pool<D: SectorDevice>(
         → IfOk result (IsImportWritten (D.disk device.old) (D.disk device.new) moment) }
 {
     device.flush()?;
-    let found = find_pool(alloc, device, geometry)?;
-    let count = geometry.blocks();
-    let frame = Frame::new(
-        found.uberblock.version,
-        found.uberblock.guid,
-        count,
-        found.uberblock.group,
-    );
-    let loaded = load(alloc, device, &frame, found.uberblock.root)?;
+    let (found, loaded) = read_pool(alloc, device, geometry)?;
     if is_past_last(&found.uberblock) {
         return Err(PoolError::TooMany);
     }

@@ -1,0 +1,53 @@
+-- What an inspection tells of an image.
+use Rattle.std.specs.Prelude.{ℕ, ◌≡◌, ◌+◌, ◌-◌, List, []}
+use Rattle.std.specs.Ordering.{nat_cmp}
+use Rattle.std.specs.FinSet as set
+use Rattle.std.specs.FinSet.{FinSet}
+use Rattle.base.specs.crash.Imports.{IsImportOf}
+use Rattle.base.specs.crash.Mount.{IsChainOf, IsMounted, Mount}
+use Rattle.base.specs.formats.Uberblocks.{Uberblock, IsActive}
+use Rattle.base.specs.steps.Shown.{Shown}
+use Rattle.object_maps.specs.declared.contents.Slot.{Slot}
+use Rattle.object_maps.specs.ContentsShown.{contents_of}
+use Rattle.import_replay.specs.declared.inspection.Inspected.{Inspected}
+
+-- what is told, as the definitions have what an image mounts
+abbrev pub mount_of : Inspected → Mount
+mount_of i = record {
+  contents = contents_of i.contents;
+  guid = i.guid;
+  group = i.group.0;
+  import_number = i.import_number;
+  blocks = i.blocks;
+  used = i.used;
+  records = i.records;
+}
+
+-- what is told is of this active uberblock and name, with these slots and these free blocks of so many
+pub record IsInspectedFrom (u : Uberblock) (name : List ℕ) (slots : List Slot) (blocks : ℕ) (free : FinSet nat_cmp) (i : Inspected) : Type 0 where
+  pub guid : i.guid ≡ u.guid
+  pub group : i.group.0 ≡ u.group
+  pub import_number : i.import_number ≡ u.import_number
+  pub blocks_are : i.blocks ≡ blocks
+  pub used : i.used ≡ blocks - set.len free
+  pub records : i.records ≡ 0
+  pub name_is : i.contents.name ≡ name
+  pub slots_are : i.contents.slots.items ≡ slots
+
+-- for the active uberblock, where it has no chain, it is what the image mounts, with all its numbers
+abbrev pub IsInspectionOf : List ℕ → Inspected → Type 0
+IsInspectionOf image i = (u : Uberblock) → IsActive image u → IsChainOf image u [] → IsMounted image (mount_of i)
+
+-- a pool that an import gives has what an inspection told: these contents and blocks, four groups and an import later
+pub record IsToldBefore (i : Inspected) (s : Shown) : Type 0 where
+  pub contents : s.contents ≡ contents_of i.contents
+  pub guid : s.guid ≡ i.guid
+  pub group : s.line.synced ≡ i.group.0 + 4
+  pub import_number : s.import_number ≡ i.import_number + 1
+  pub blocks : s.blocks ≡ i.blocks
+
+-- so is that of each import of this image, whatever the import leaves, for the active uberblock, where it has no chain
+abbrev pub AgreesWithImports : List ℕ → Inspected → Type 0
+AgreesWithImports image i =
+    (u : Uberblock) → IsActive image u → IsChainOf image u []
+    → (now : List ℕ) (dirty_max records : ℕ) (s : Shown) → IsImportOf image now dirty_max records s → IsToldBefore i s
