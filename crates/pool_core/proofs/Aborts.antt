@@ -51,31 +51,31 @@ module _ (p : Pool) (tx : ℕ) (a : Admission) (found : admission_of_name tx p.t
   ts = p.transactions.transactions
 
   pub ended_allowed : is_plan_allowed a.plan ≡ true
-  ended_allowed = built_allowed a.plan (found_built tx ts a found p.plans_built)
+  ended_allowed = built_allowed a.plan (found_built tx ts a found p.accounted.plans_built)
 
   pub ended_small : IsSmall a
-  ended_small = found_small tx ts a found p.plans_small
+  ended_small = found_small tx ts a found p.accounted.plans_small
 
   -- its group has its hold, is one of those that are charged, and is charged for it
   pub ended_held : AreNamedApart ts → 0 < holds_of p.groups a.group
-  ended_held apart = has_hold ts p.groups tx a a.group p.holds_exact apart found refl
+  ended_held apart = has_hold ts p.groups tx a a.group p.accounted.holds_exact apart found refl
 
   pub ended_unsynced : AreNamedApart ts → MayBeUnsynced p.dirty a.group
-  ended_unsynced apart = (holding_groups_are_charged p.groups.line p.dirty a.group p.counted.line p.charged (may_hold p.groups p.counted a.group (ended_held apart))).0
+  ended_unsynced apart = (holding_groups_are_charged p.groups.line p.dirty a.group p.accounted.counted.line p.accounted.charged (may_hold p.groups p.accounted.counted a.group (ended_held apart))).0
 
   pub ended_charged : charge_of a.plan ≤ sum_of p.dirty a.group
-  ended_charged = let at = found_index tx ts a found in (stay_charged ts p.dirty p.open_charged).charged at.0 a at.1
+  ended_charged = let at = found_index tx ts a found in (stay_charged ts p.dirty p.accounted.open_charged).charged at.0 a at.1
 
   -- without it the groups are charged for the others
   pub others_charged : AreOpenOnesCharged (transactions_without tx ts) (after_cancel a.group (charge_of a.plan) p.dirty)
   others_charged =
       let at = found_index tx ts a found in
-      subst (λ n. AreOpenOnesCharged (transactions_without n ts) (after_cancel a.group (charge_of a.plan) p.dirty)) (found_name tx ts a found) ((stay_charged ts p.dirty p.open_charged).canceled at.0 a at.1)
+      subst (λ n. AreOpenOnesCharged (transactions_without n ts) (after_cancel a.group (charge_of a.plan) p.dirty)) (found_name tx ts a found) ((stay_charged ts p.dirty p.accounted.open_charged).canceled at.0 a at.1)
 
   -- its blocks are reserved, and those of the others are left
   module _ (rest : ℕ) (is : rest + charge_of a.plan ≡ total_of p.dirty) where
     pub ended_reserved : estimate_of a.plan ≤ p.free.reserved
-    ended_reserved = omega (arith, p.reserved, is)
+    ended_reserved = omega (arith, p.free_counted.reserved, is)
 
     pub others_reserved : p.free.reserved - estimate_of a.plan ≡ blocks_in rest
-    others_reserved = omega (arith, p.reserved, is)
+    others_reserved = omega (arith, p.free_counted.reserved, is)

@@ -4,8 +4,7 @@ use Rattle.std.proofs.lemmas.Bool.Decides.{nat_tests}
 use Rattle.std.proofs.lemmas.List.{length-map}
 use Rattle.std.specs.FinMap.{get-empty}
 use Rattle.std.specs.Ordering.{nat_cmp}
-use Rattle.std.specs.Prelude.{Option, Some, None, OnErr, OnOk, Result, Ok, Err, option_map}
-use Rattle.base.specs.declared.error.PoolError.{PoolError}
+use Rattle.std.specs.Prelude.{Option, Some, None, option_map}
 use Rattle.base.specs.declared.names.Group.{Group}
 use Rattle.base.specs.declared.status.Status.{Status}
 use Rattle.base.specs.declared.operation.Shape.{Shape}
@@ -18,7 +17,7 @@ use Rattle.base.specs.steps.Refusals.{blocks_wanted}
 use Rattle.base.specs.steps.Shown.{Shown, available, dirty_total, free_count, status_of, taken_of}
 use Rattle.space.specs.FreeSets.{available_in, is_short}
 use Rattle.tree_plans.specs.declared.planner.PlannedBlock.{PlannedBlock}
-use Rattle.groups.specs.CountedLines.{CountedLine, after_close, line_after_sync, middle_group, number_of}
+use Rattle.groups.specs.CountedLines.{line_after_sync, middle_group, number_of}
 use Rattle.throttle.specs.Blocks.{AreOpenOnesCharged, AreSumsOn, ShowsSums, blocks_in}
 use Rattle.throttle.specs.DirtyBytes.{MayBeUnsynced, after_synced, dirty_behind, is_throttled, total_of}
 use Rattle.throttle.specs.Laws.{SameTotals}
@@ -68,11 +67,11 @@ module _ (p : Pool) where
   shows_sums = record { limit = refl; dirty = refl; reserved = refl }
 
   pub pool_totals : SameTotals (pool_shown p) p.dirty
-  pool_totals = same_totals (pool_shown p) p.dirty p.counted.line p.charged shows_sums
+  pool_totals = same_totals (pool_shown p) p.dirty p.accounted.counted.line p.accounted.charged shows_sums
 
   -- what is available is what the free set says
   pub available_told : available_in p.free ≡ available (pool_shown p)
-  available_told k = available_of (free_count (pool_shown p)) ((p.reserved ∙ sym pool_totals.reserved) k) ((p.free_taken ∙ sym (length-taken p.log_address p.tree (contents_after_oldest p) p.sync)) k)
+  available_told k = available_of (free_count (pool_shown p)) ((p.free_counted.reserved ∙ sym pool_totals.reserved) k) ((p.free_counted.taken ∙ sym (length-taken p.log_address p.tree (contents_after_oldest p) p.sync)) k)
 
   -- where a plan's blocks are available they may be reserved
   pub enough_free : (plan : List Shape) (count : ℕ) → count ≡ estimate_of plan → nat_lt (available (pool_shown p)) (blocks_wanted (pool_shown p).contents plan) ≡ false → is_short count 0 p.free ≡ true → ⊥
@@ -88,26 +87,20 @@ module _ (p : Pool) where
 
   -- bytes may be charged to the open group
   pub open_charged : MayBeUnsynced p.dirty p.groups.line.open_group
-  open_charged = (holding_groups_are_charged p.groups.line p.dirty p.groups.line.open_group p.counted.line p.charged (inl refl)).0
+  open_charged = (holding_groups_are_charged p.groups.line p.dirty p.groups.line.open_group p.accounted.counted.line p.accounted.charged (inl refl)).0
 
   -- the syncing group is the one after that of the sums
   pub syncing_next : (group : ℕ) → p.groups.line.syncing ≡ Some group → group ≡ p.dirty.synced + 1
-  syncing_next group is = syncing_follows p.groups.line group p.counted.line is ∙ ap (λ n. n + 1) p.charged.synced
+  syncing_next group is = syncing_follows p.groups.line group p.accounted.counted.line is ∙ ap (λ n. n + 1) p.accounted.charged.synced
 
   -- and no open transaction is of it, so once it is synced the groups are charged for the open ones
   pub synced_open_charged : (group : ℕ) → p.groups.line.syncing ≡ Some group → AreOpenOnesCharged p.transactions.transactions (after_synced group p.dirty)
   synced_open_charged group is =
-      (stay_charged p.transactions.transactions p.dirty p.open_charged).synced group (none_syncing p.groups p.counted p.transactions.transactions p.holds_exact group is)
-
-  -- they stay those of the line where a group is closed, or the close is refused
-  pub close_charged : (answer : Result Group PoolError) (new : CountedLine) → OnErr answer (new ≡ p.groups) → OnOk answer (new ≡ after_close p.groups) → AreSumsOn new.line p.dirty
-  close_charged (Ok group) new unchanged closed =
-      subst (λ (l : CountedLine). AreSumsOn l.line p.dirty) (sym closed) ((sums_stay_on_lines p.groups.line p.dirty p.charged).moved (after_close p.groups).line refl (omega arith))
-  close_charged (Err e) new unchanged closed = subst (λ (l : CountedLine). AreSumsOn l.line p.dirty) (sym unchanged) p.charged
+      (stay_charged p.transactions.transactions p.dirty p.accounted.open_charged).synced group (none_syncing p.groups p.accounted.counted p.transactions.transactions p.accounted.holds_exact group is)
 
   -- once it is synced the sums are those of the line then
   pub synced_charged : (group : ℕ) → AreSumsOn (line_after_sync group p.groups.line) (after_synced group p.dirty)
-  synced_charged group = (sums_stay_on_lines p.groups.line p.dirty p.charged).synced (line_after_sync group p.groups.line) (omega arith)
+  synced_charged group = (sums_stay_on_lines p.groups.line p.dirty p.accounted.charged).synced (line_after_sync group p.groups.line) (omega arith)
 
 -- groups that are told by their numbers
 numbered : (o : Option Group) → o ≡ option_map (λ g. record { 0 = g }) (option_map number_of o)

@@ -17,7 +17,7 @@ use Rattle.pool_core.proofs.SamePlans.{allowed_ops}
 module _ (tx : ℕ) (ops : List Op) (pool : Pool) (a : Admission) (found : transaction_of tx (pool_shown pool) ≡ Some a) {test : Bool} (passed : test ≡ true) where
   -- where they have its shapes they are allowed
   pub ops_allowed : (plan : List Shape) → plan ≡ a.plan → IsTrue test ↔ (map shape_of ops ≡ plan) → AreOpsAllowed ops
-  ops_allowed plan plan_is tested = allowed_ops ops a.plan (tested.0 passed ∙ plan_is) (found_built tx pool.transactions.transactions a found pool.plans_built)
+  ops_allowed plan plan_is tested = allowed_ops ops a.plan (tested.0 passed ∙ plan_is) (found_built tx pool.transactions.transactions a found pool.accounted.plans_built)
 
   -- and pass the tests up to that of the contents
   pub in_plan : pool.suspended ≡ false → test ≡ is_same_plan (map shape_of ops) a.plan → AreOpsAllowed ops → IsInPlan tx ops a (pool_shown pool)

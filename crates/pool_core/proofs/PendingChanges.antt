@@ -29,10 +29,6 @@ use Rattle.pool_core.specs.Shows.{contents_after_oldest, log_of, plan_of, pool_s
 use Rattle.pool_core.proofs.HeldGroups.{may_hold}
 use Rattle.pool_core.proofs.Opens.{found_index}
 
--- two facts of a running sync
-pub both : {R : Type 0} {sync : Option R} {A B : R → Type 0} → ((r : R) → sync ≡ Some r → A r) → ((r : R) → sync ≡ Some r → B r) → (r : R) → sync ≡ Some r → A r × B r
-both a b r is = (a r is, b r is)
-
 -- the operations of a group, with a transaction more
 pending_with : (group : ℕ) (pending : List Committed) (c : Committed)
     → pending_ops group (pending ++ c ∷ []) ≡ pending_ops group pending ++ cond (c.group.0 == group) (c.ops ++ []) []
@@ -74,7 +70,7 @@ module _ (pool : Pool) (group : ℕ) (hold : 0 < holds_of pool.groups group) whe
   -- a group with a hold is unsynced
   pub entered_behind : IsUnsynced pool.groups.line group
   entered_behind =
-      let between = held_above pool.groups.line group pool.counted.line (may_hold pool.groups pool.counted group hold) in
+      let between = held_above pool.groups.line group pool.accounted.counted.line (may_hold pool.groups pool.accounted.counted group hold) in
       record { above = between.0; open_or_before = between.1 }
 
   -- and lies behind the one that is syncing, so what is entered in it leaves the changes of that one
@@ -85,10 +81,10 @@ module _ (pool : Pool) (group : ℕ) (hold : 0 < holds_of pool.groups group) whe
       syncing = sym pool.sync_line ∙ ap (λ (o : Option RunningSync). option_map (λ (x : RunningSync). x.group.0) o) is
 
       above : r.group.0 < group
-      above = held_above_sync pool.groups.line group r.group.0 pool.counted.line (may_hold pool.groups pool.counted group hold) syncing
+      above = held_above_sync pool.groups.line group r.group.0 pool.accounted.counted.line (may_hold pool.groups pool.accounted.counted group hold) syncing
 
       next : r.group.0 ≡ pool.groups.line.synced + 1
-      next = subst (λ (o : Option ℕ). IfSome o (λ g. g ≡ pool.groups.line.synced + 1)) syncing pool.counted.line.syncing
+      next = subst (λ (o : Option ℕ). IfSome o (λ g. g ≡ pool.groups.line.synced + 1)) syncing pool.accounted.counted.line.syncing
 
 -- a running sync has the same plan where the changes of its group stay
 pub same_plan : (pool : Pool) (new : UnsyncedExtents) → ((r : RunningSync) → pool.sync ≡ Some r → changes_at new 0 ≡ changes_at pool.changes 0)
@@ -123,5 +119,5 @@ shown_left pool new pending same items =
 pub committed_behind : (pool : Pool) (tx : ℕ) (ops : List Op) (group : ℕ) → MayCommit tx ops group (pool_shown pool) → IsUnsynced pool.groups.line group
 committed_behind pool tx ops group may =
     let at = found_index tx pool.transactions.transactions may.admission may.found in
-    let held : 0 < holds_of pool.groups may.admission.group = subst (λ n. 0 < n) (sym (pool.holds_exact may.admission.group)) (has_hold pool.transactions.transactions at.0 may.admission at.1) in
+    let held : 0 < holds_of pool.groups may.admission.group = subst (λ n. 0 < n) (sym (pool.accounted.holds_exact may.admission.group)) (has_hold pool.transactions.transactions at.0 may.admission at.1) in
     entered_behind pool group (subst (λ g. 0 < holds_of pool.groups g) may.group_is held)

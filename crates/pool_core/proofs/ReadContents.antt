@@ -1,11 +1,10 @@
 -- What the changes of the unsynced groups make of the synced contents: for each past that explains a pool, the contents that are shown.
 use Rattle.std.proofs.Common.{◌≡◌, ℕ, ◌+◌, ◌<◌, ◌≤◌, List, [], map, sym, subst, arith}
-use Rattle.std.specs.Prelude.{Option, Some, None, All, IfSome, unwrap_or}
+use Rattle.std.specs.Prelude.{All}
 use Rattle.base.specs.declared.operation.Op.{Op}
 use Rattle.base.specs.history.History.{Entry}
 use Rattle.base.specs.history.Past.{Past}
 use Rattle.base.specs.steps.ExactNow.{IsExplainedNow}
-use Rattle.base.specs.steps.Groups.{IsLine, Line, Middle, before_open}
 use Rattle.base.specs.steps.Shown.{Shown}
 use Rattle.base.specs.steps.Steps.{ops_of_group}
 use Rattle.base.proofs.common.KeptLists.{All-each}

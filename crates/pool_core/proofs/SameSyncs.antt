@@ -21,8 +21,12 @@ use Rattle.sync.specs.declared.run.SyncRun.{SyncRun}
 use Rattle.object_maps.specs.declared.tree.Tree.{Tree}
 use Rattle.pool_core.specs.declared.pool.RunningSync.{RunningSync}
 use Rattle.pool_core.specs.Shows.{plan_of}
+use Rattle.extents.specs.Unsynced.{changes_at}
 use Rattle.sync.specs.Runs.{SameSync, call_count, other_calls}
-use Rattle.pool_core.specs.RunningUberblocks.{WritesUberblock}
+use Rattle.pool_core.specs.declared.pool.Pool.{Pool}
+use Rattle.pool_core.specs.Holds.{tree_after}
+use Rattle.pool_core.specs.Running.{IsRunning}
+use Rattle.pool_core.specs.RunningUberblocks.{WritesUberblock, uberblock_with}
 
 pub same_count : (old new : SyncRun) → SameSync old new → call_count new ≡ call_count old
 same_count old new same = omega (arith, ap vec_len same.blocks, ap other_calls same.stages)
@@ -87,6 +91,24 @@ same_taken_count sync r new same is = ap taken_count is ∙ ap (λ (v : Vec Plan
 -- and its uberblock is the one that it was
 pub same_uberblock : (old new : SyncRun) → SameSync old new → (u : Fields) → WritesUberblock u old → WritesUberblock u new
 same_uberblock old new same u writes = record { slot = same.slot ∙ writes.slot; bytes = subst (λ (l : List ℕ). IsUberblock l u) (sym same.uberblock) writes.bytes }
+
+-- the sync is one that a pool may run
+abbrev pub RunsIn : Pool → RunningSync → Type 0
+RunsIn pool r =
+    IsRunning pool.geometry (uberblock_with pool.guid pool.import_number pool.log_address r.group.0 r.moment r.root) (tree_after r pool.tree)
+    (changes_at pool.changes 0) pool.synced.slots.items r.run
+
+-- behind a call with others left, a run of the same blocks and uberblock is one still
+pub runs_on : (pool : Pool) (r : RunningSync) (new : SyncRun) → SameSync r.run new → new.done < call_count new → RunsIn pool r
+    → IsRunning pool.geometry (uberblock_with pool.guid pool.import_number pool.log_address r.group.0 r.moment r.root) (tree_after r pool.tree)
+    (changes_at pool.changes 0) pool.synced.slots.items new
+runs_on pool r new same left was = record {
+  geometry = same.geometry ∙ was.geometry;
+  left = left;
+  uberblock = same_uberblock r.run new same _ was.uberblock;
+  placed = was.placed;
+  room = was.room;
+}
 
 -- a call is refused as a write or as a flush
 pub refused_as : (call : DeviceCall) (e : PoolError) → e ≡ refusal_of call → (e ≡ error.Write) ⊎ (e ≡ error.Flush)

@@ -66,7 +66,7 @@ blocks_kept r planned told kept is = is ∙ ap (λ (v : Vec PlannedBlock). v.ite
 -- where no sync runs none is counted as taken, so those that it takes are all
 pub none_counted : (pool : Pool) → is_some pool.groups.line.syncing ≡ false → pool.free.taken ≡ 0
 none_counted pool idle =
-    pool.free_taken ∙ ap taken_count (none_there pool.sync (sym (is_some-map (λ (r : RunningSync). r.group.0) pool.sync) ∙ ap (λ (o : Option ℕ). is_some o) pool.sync_line ∙ idle))
+    pool.free_counted.taken ∙ ap taken_count (none_there pool.sync (sym (is_some-map (λ (r : RunningSync). r.group.0) pool.sync) ∙ ap (λ (o : Option ℕ). is_some o) pool.sync_line ∙ idle))
 
 pub taken_anew : (pool : Pool) (blocks : List PlannedBlock) → is_some pool.groups.line.syncing ≡ false → pool.free.taken + length (map address_of blocks) ≡ length blocks
 taken_anew pool blocks idle = omega (arith, none_counted pool idle, length-map blocks address_of)

@@ -173,7 +173,7 @@ module _ (pool : Pool) (r : RunningSync) (next : SyncRun) (before after : Disk) 
 
   pub advanced : next.done ≡ r.run.done + 1 → IsMade → Advances r.group.0 (bytes_of before.now) (bytes_of after.now) (made_by pointers r.run) (made_by pointers next)
   advanced done makes =
-      call_advances r.run next same pointers r.no_stages done before after (sized ∙ sym size) r.group.0 (pool.uberblock r is).slot call at makes
+      call_advances r.run next same pointers r.no_stages done before after (sized ∙ sym size) r.group.0 (pool.running r is).uberblock.slot call at makes
 
   pub synced_told : (new : Pool) → next.done ≡ r.run.done + 1 → next.done ≡ call_count next → IsMade → new.sync ≡ None → SamePlaces (pointers_of new.tree) pointers
       → Leads (reply.Synced r.group) (pool_told pool (bytes_of before.now)) (pool_told new (bytes_of after.now))

@@ -16,6 +16,8 @@ pub mod Areas
 pub mod Pointers
 pub mod Progresses
 pub mod RunningUberblocks
+pub mod Running
+pub mod Accounts
 pub mod Calls
 pub mod Turns
 pub mod NewStates

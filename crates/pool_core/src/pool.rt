@@ -29,10 +29,12 @@ ghost use Rattle.throttle.specs.Blocks.{AreOpenOnesCharged, AreSumsOn, AreWholeB
 ghost use Rattle.throttle.specs.DirtyBytes.{after_synced, sum_of, total_of};
 ghost use Rattle.tree_plans.specs.Plans.{address_of};
 ghost use Rattle.tree_plans.specs.declared.planner.Committed.{Committed};
+ghost use Rattle.pool_core.specs.Accounts.{AreAccounted, IsFreeSetOf};
 ghost use Rattle.pool_core.specs.Areas.{AreBlocksOf, after_gives, after_sync_takes, is_block_of};
 ghost use Rattle.pool_core.specs.Numbers.{IsGroup};
 ghost use Rattle.pool_core.specs.Pending.{KeepsUnsynced, pending_after};
 ghost use Rattle.pool_core.specs.Pointers.{pointers_after};
+ghost use Rattle.pool_core.specs.Running.{IsRunning};
 ghost use Rattle.pool_core.specs.RunningUberblocks.{WritesUberblock, uberblock_with};
 ghost use Rattle.pool_core.specs.Targets.{is_readable};
 
@@ -81,7 +83,6 @@ struct RunningSync {
 
 // What a running pool keeps in memory: all but its device. Each step changes it, or leaves it as it was. `PoolState` says
 // what each answers, and why it is refused.
-#[derive(Drop)]
 pub(crate) struct Pool {
     alloc: Global,
     geometry: Geometry,
@@ -104,25 +105,45 @@ pub(crate) struct Pool {
     log_address: u64,
     tree: Tree,
     sync: Option<RunningSync>,
-    ghost free_sized: { free.blocks ≡ block_count geometry },
-    ghost free_taken: { free.taken ≡ option_map_or (λ r. length r.run.blocks.items) sync 0 },
+    ghost free_counted: { IsFreeSetOf (block_count geometry)
+        (option_map_or (λ r. length r.run.blocks.items) sync 0)
+        (total_of dirty)
+        free } by { Prim.hlevel props },
     ghost import_fits: { import_number ≤ 2 ^ 60 },
     ghost next_ordinal_fits: { next_ordinal ≤ 2 ^ 60 + 1 },
-    ghost counted: { IsCounted groups } by { Prim.hlevel props },
-    ghost holds_exact: { AreHoldsExact transactions.transactions groups },
-    ghost charged: { AreSumsOn groups.line dirty } by { Prim.hlevel props },
-    ghost open_charged: { AreOpenOnesCharged transactions.transactions dirty },
-    ghost reserved: { free.reserved ≡ blocks_in (total_of dirty) },
-    ghost plans_built: { All (λ (a : Admission). is_plan_built a.plan ≡ true) transactions.transactions },
-    ghost plans_small: { All (λ (a : Admission). log_record_size a.plan ≤ max_log_record) transactions.transactions },
-    ghost running: { ForSome sync (λ r. (r.run.geometry ≡ geometry) × (r.run.done < call_count r.run)) },
-    ghost uberblock: { ForSome sync (λ r. WritesUberblock
-        (uberblock_with guid import_number log_address r.group.0 r.moment r.root) r.run) },
-    ghost planned: { ForSome sync (λ r. ∥ ArePlaced (block_count geometry) (pointers_after r.root r.directories.items r.maps tree) ∥₁
-        × ∥ HasRoomForPatches (changes_at changes 0) synced.slots.items ∥₁) },
+    ghost accounted: { AreAccounted transactions.transactions groups dirty } by { Prim.hlevel props },
+    ghost running: { ForSome sync (λ r. IsRunning geometry
+        (uberblock_with guid import_number log_address r.group.0 r.moment r.root)
+        (pointers_after r.root r.directories.items r.maps tree)
+        (changes_at changes 0) synced.slots.items r.run) } by { Prim.hlevel props },
     ghost sync_line: { option_map (λ r. r.group.0) sync ≡ groups.line.syncing } by { Prim.hlevel props },
     ghost tree_placed: { ∥ ArePlaced (block_count geometry) (pointers_of tree) ∥₁ },
     ghost unsynced: { KeepsUnsynced groups.line pending.items synced changes } by { Prim.hlevel props },
+}
+
+impl Drop for Pool {
+    // One function drops all tables, for each place where a pool is let go.
+    fn drop(self) {
+        let Pool {
+            alloc: _,
+            geometry: _,
+            guid: _,
+            import_number: _,
+            suspended: _,
+            locks: _,
+            groups: _,
+            transactions: _,
+            dirty: _,
+            synced: _,
+            changes: _,
+            next_ordinal: _,
+            pending: _,
+            free: _,
+            log_address: _,
+            tree: _,
+            sync: _,
+        } = self;
+    }
 }
 
 // The objects of the synced tree, with what the unsynced groups made of them.

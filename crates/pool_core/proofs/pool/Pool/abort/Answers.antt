@@ -1,4 +1,4 @@
-use Rattle.std.proofs.Common.{◌∙◌, ◌==◌, not, List, ap, sym, subst, refl}
+use Rattle.std.proofs.Common.{◌∙◌, ◌==◌, Bool, not, List, ap, sym, subst, refl}
 use Rattle.std.proofs.lemmas.Result.{err_from_is_err_and}
 use Rattle.std.proofs.lemmas.List.Elements.{All-filter}
 use Rattle.base.specs.steps.Groups.{Admission}
@@ -20,29 +20,11 @@ returns-in_err-check_running-clause-step c =
     let told = c.in_err-check_running.ensures in
     rw (p.1, p.2, told.0) (abort_suspended c.args.tx.0 (pool_shown c.args.self.now) told.1)
 
-pub invariant_of-self-clause-holds_exact : goal.invariant_of-self-clause-holds_exact
-invariant_of-self-clause-holds_exact c =
+pub invariant_of-self-clause-accounted : goal.invariant_of-self-clause-accounted
+invariant_of-self-clause-accounted c =
     let pool = c.args.self.now in
     let same = none_ended c.args.tx.0 pool.transactions c.end.new.self (sym c.in_default.ensures.ended) c.in_default.ensures.others c.in_default.ensures.next in
-    rw same pool.holds_exact
-
-pub invariant_of-self-clause-open_charged : goal.invariant_of-self-clause-open_charged
-invariant_of-self-clause-open_charged c =
-    let pool = c.args.self.now in
-    let same = none_ended c.args.tx.0 pool.transactions c.end.new.self (sym c.in_default.ensures.ended) c.in_default.ensures.others c.in_default.ensures.next in
-    rw same pool.open_charged
-
-pub invariant_of-self-clause-plans_built : goal.invariant_of-self-clause-plans_built
-invariant_of-self-clause-plans_built c =
-    let pool = c.args.self.now in
-    let same = none_ended c.args.tx.0 pool.transactions c.end.new.self (sym c.in_default.ensures.ended) c.in_default.ensures.others c.in_default.ensures.next in
-    rw same pool.plans_built
-
-pub invariant_of-self-clause-plans_small : goal.invariant_of-self-clause-plans_small
-invariant_of-self-clause-plans_small c =
-    let pool = c.args.self.now in
-    let same = none_ended c.args.tx.0 pool.transactions c.end.new.self (sym c.in_default.ensures.ended) c.in_default.ensures.others c.in_default.ensures.next in
-    rw same pool.plans_small
+    rw same pool.accounted
 
 pub returns-in_default-clause-step : goal.returns-in_default-clause-step
 returns-in_default-clause-step c =
@@ -76,51 +58,44 @@ unreserve-requires c =
 pub release-requires : goal.release-requires
 release-requires c = ended_held c.args.self.now c.args.tx.0 (admission_of c.in-Some.transaction) (sym c.in-Some.ensures.ended) c.in-Some.ensures.apart
 
-pub invariant_of-self-2-clause-counted : goal.invariant_of-self-2-clause-counted
-invariant_of-self-2-clause-counted c = rw c.release.ensures (counted_release c.args.self.now.groups c.args.self.now.counted c.in-Some.transaction.group.0)
-
-pub invariant_of-self-2-clause-holds_exact : goal.invariant_of-self-2-clause-holds_exact
-invariant_of-self-2-clause-holds_exact c =
+pub invariant_of-self-2-clause-accounted : goal.invariant_of-self-2-clause-accounted
+invariant_of-self-2-clause-accounted c =
     let pool = c.args.self.now in
+    let all = pool.transactions.transactions in
     let a = admission_of c.in-Some.transaction in
-    subst (AreHoldsExact c.end.new.self.transactions) (sym c.release.ensures)
-    (subst (λ (ts : List Admission). AreHoldsExact ts (after_release a.group pool.groups)) (sym c.in-Some.ensures.others)
-    (exact_end pool.transactions.transactions pool.groups c.args.tx.0 a a.group pool.holds_exact c.in-Some.ensures.apart (sym c.in-Some.ensures.ended) refl))
+    let others : Admission → Bool = λ (x : Admission). not (x.tx == c.args.tx.0) in
+    record {
+      counted = rw c.release.ensures (counted_release pool.groups pool.accounted.counted a.group);
+      holds_exact = subst (AreHoldsExact c.end.new.self.transactions) (sym c.release.ensures)
+          (subst (λ (ts : List Admission). AreHoldsExact ts (after_release a.group pool.groups)) (sym c.in-Some.ensures.others)
+          (exact_end all pool.groups c.args.tx.0 a a.group pool.accounted.holds_exact c.in-Some.ensures.apart (sym c.in-Some.ensures.ended) refl));
+      charged = rw (c.release.ensures, line-after_release pool.groups pool.accounted.counted a.group, c.cancel.ensures.canceled, c.charge.ensures)
+          ((sums_stay_on_lines pool.groups.line pool.dirty pool.accounted.charged).cancel a.group c.as_slice-shapes.result.now);
+      open_charged = rw (c.in-Some.ensures.others, c.cancel.ensures.canceled, c.charge.ensures, c.as_slice-shapes.ensures)
+          (others_charged pool c.args.tx.0 a (sym c.in-Some.ensures.ended));
+      plans_built = rw c.in-Some.ensures.others (All-filter others IsBuilt all pool.accounted.plans_built);
+      plans_small = rw c.in-Some.ensures.others (All-filter others IsSmall all pool.accounted.plans_small);
+    }
 
-pub invariant_of-self-2-clause-charged : goal.invariant_of-self-2-clause-charged
-invariant_of-self-2-clause-charged c =
+pub invariant_of-self-2-clause-free_counted : goal.invariant_of-self-2-clause-free_counted
+invariant_of-self-2-clause-free_counted c =
     let pool = c.args.self.now in
-    let group = c.in-Some.transaction.group.0 in
-    rw (c.release.ensures, line-after_release pool.groups pool.counted group, c.cancel.ensures.canceled, c.charge.ensures)
-    ((sums_stay_on_lines pool.groups.line pool.dirty pool.charged).cancel group c.as_slice-shapes.result.now)
-
-pub invariant_of-self-2-clause-open_charged : goal.invariant_of-self-2-clause-open_charged
-invariant_of-self-2-clause-open_charged c =
-    rw (c.in-Some.ensures.others, c.cancel.ensures.canceled, c.charge.ensures, c.as_slice-shapes.ensures)
-    (others_charged c.args.self.now c.args.tx.0 (admission_of c.in-Some.transaction) (sym c.in-Some.ensures.ended))
-
-pub invariant_of-self-2-clause-reserved : goal.invariant_of-self-2-clause-reserved
-invariant_of-self-2-clause-reserved c =
-    ap (λ (f : FreeSpace). f.reserved) c.unreserve.ensures
-    ∙ rw (c.estimate.ensures, c.as_slice-shapes.ensures)
-    (others_reserved c.args.self.now c.args.tx.0 (admission_of c.in-Some.transaction) (sym c.in-Some.ensures.ended) _ (rw (c.charge.ensures, c.as_slice-shapes.ensures) at c.cancel.ensures.total))
-
-pub invariant_of-self-2-clause-plans_built : goal.invariant_of-self-2-clause-plans_built
-invariant_of-self-2-clause-plans_built c =
-    rw c.in-Some.ensures.others (All-filter (λ (a : Admission). not (a.tx == c.args.tx.0)) IsBuilt c.args.self.now.transactions.transactions c.args.self.now.plans_built)
-
-pub invariant_of-self-2-clause-plans_small : goal.invariant_of-self-2-clause-plans_small
-invariant_of-self-2-clause-plans_small c =
-    rw c.in-Some.ensures.others (All-filter (λ (a : Admission). not (a.tx == c.args.tx.0)) IsSmall c.args.self.now.transactions.transactions c.args.self.now.plans_small)
+    record {
+      sized = ap (λ (f : FreeSpace). f.blocks) c.unreserve.ensures ∙ pool.free_counted.sized;
+      taken = ap (λ (f : FreeSpace). f.taken) c.unreserve.ensures ∙ pool.free_counted.taken;
+      reserved = ap (λ (f : FreeSpace). f.reserved) c.unreserve.ensures
+          ∙ rw (c.estimate.ensures, c.as_slice-shapes.ensures)
+          (others_reserved pool c.args.tx.0 (admission_of c.in-Some.transaction) (sym c.in-Some.ensures.ended) _ (rw (c.charge.ensures, c.as_slice-shapes.ensures) at c.cancel.ensures.total));
+    }
 
 pub invariant_of-self-2-clause-unsynced : goal.invariant_of-self-2-clause-unsynced
 invariant_of-self-2-clause-unsynced c =
     let pool = c.args.self.now in
-    rw (c.release.ensures, line-after_release pool.groups pool.counted c.in-Some.transaction.group.0) pool.unsynced
+    rw (c.release.ensures, line-after_release pool.groups pool.accounted.counted c.in-Some.transaction.group.0) pool.unsynced
 
 pub returns-clause-step : goal.returns-clause-step
 returns-clause-step c =
     let pool = c.args.self.now in
     let a = admission_of c.in-Some.transaction in
-    abort_done c.args.tx.0 a (pool_shown pool) _ pool.dirty c.in_ok-check_running.ensures (sym c.in-Some.ensures.ended) pool.charged (shows_sums pool)
-    (rw (c.in-Some.ensures.others, c.in-Some.ensures.next, c.release.ensures, line-after_release pool.groups pool.counted a.group, c.cancel.ensures.canceled, c.charge.ensures, c.as_slice-shapes.ensures, c.unreserve.ensures) refl)
+    abort_done c.args.tx.0 a (pool_shown pool) _ pool.dirty c.in_ok-check_running.ensures (sym c.in-Some.ensures.ended) pool.accounted.charged (shows_sums pool)
+    (rw (c.in-Some.ensures.others, c.in-Some.ensures.next, c.release.ensures, line-after_release pool.groups pool.accounted.counted a.group, c.cancel.ensures.canceled, c.charge.ensures, c.as_slice-shapes.ensures, c.unreserve.ensures) refl)

@@ -15,7 +15,7 @@ use Rattle.throttle.proofs.ShownSums.{sums_stay_on_lines}
 use Rattle.pool_core.specs.Shows.{pool_shown}
 use Rattle.pool_core.proofs.BeginTests.{begin_admits, begin_done, begin_refused, begin_wants, built_allowed, may_begin}
 use Rattle.pool_core.proofs.Charges.{charge_throttled, enough_free, open_charged, shows_sums}
-use Rattle.pool_core.proofs.HeldGroups.{exact_begin, few_holds}
+use Rattle.pool_core.proofs.HeldGroups.{counted_hold, exact_begin, few_holds}
 use Rattle.pool_core.proofs.Opens.{IsBuilt, IsSmall}
 use Rattle.pool_core.proofs.pool.Pool.begin.Goals as goal
 
@@ -84,40 +84,29 @@ pub hold-requires : goal.hold-requires
 hold-requires c =
     let pool = c.args.self.now in
     let may = may_begin c.args.owner.0 c.as_slice-shapes.result.now (pool_shown pool) c.in_ok-check_begin.ensures in
-    few_holds pool.groups pool.counted pool.transactions.transactions pool.holds_exact may.few
+    few_holds pool.groups pool.accounted.counted pool.transactions.transactions pool.accounted.holds_exact may.few
 
-pub invariant_of-self-2-clause-holds_exact : goal.invariant_of-self-2-clause-holds_exact
-invariant_of-self-2-clause-holds_exact c =
+pub invariant_of-self-2-clause-accounted : goal.invariant_of-self-2-clause-accounted
+invariant_of-self-2-clause-accounted c =
     let pool = c.args.self.now in
-    let admitted = exact_begin pool.transactions.transactions pool.groups _ pool.holds_exact c.open_group-group.ensures.open_group in
-    subst (AreHoldsExact c.admit.new.self.transactions) (sym c.hold.ensures.counted)
-    (subst (λ (o : Open). AreHoldsExact o.transactions (after_hold pool.groups)) (sym c.in_ok-tx.ensures.admitted) admitted)
-
-pub invariant_of-self-2-clause-charged : goal.invariant_of-self-2-clause-charged
-invariant_of-self-2-clause-charged c =
-    let pool = c.args.self.now in
+    let all = pool.transactions.transactions in
+    let may = may_begin c.args.owner.0 c.as_slice-shapes.result.now (pool_shown pool) c.in_ok-check_begin.ensures in
     let opened = c.open_group-group.ensures.open_group in
-    rw (c.hold.ensures.counted, c.in-Ok.ensures.admitted, c.charge.ensures, opened) ((sums_stay_on_lines pool.groups.line pool.dirty pool.charged).admit pool.groups.line.open_group c.as_slice-shapes.result.now (omega arith))
-
-pub invariant_of-self-2-clause-plans_built : goal.invariant_of-self-2-clause-plans_built
-invariant_of-self-2-clause-plans_built c =
-    let pool = c.args.self.now in
-    let may = may_begin c.args.owner.0 c.as_slice-shapes.result.now (pool_shown pool) c.in_ok-check_begin.ensures in
-    let built = subst (λ (l : List Shape). is_plan_built l ≡ true) (c.as_slice-shapes.ensures ∙ sym c.in_ok-plan.ensures) may.built in
-    subst (λ (o : Open). All IsBuilt o.transactions) (sym c.in_ok-tx.ensures.admitted) (All-push IsBuilt pool.transactions.transactions _ pool.plans_built built)
-
-pub invariant_of-self-2-clause-plans_small : goal.invariant_of-self-2-clause-plans_small
-invariant_of-self-2-clause-plans_small c =
-    let pool = c.args.self.now in
-    let may = may_begin c.args.owner.0 c.as_slice-shapes.result.now (pool_shown pool) c.in_ok-check_begin.ensures in
-    let small = subst (λ (l : List Shape). log_record_size l ≤ max_log_record) (c.as_slice-shapes.ensures ∙ sym c.in_ok-plan.ensures) may.small in
-    subst (λ (o : Open). All IsSmall o.transactions) (sym c.in_ok-tx.ensures.admitted) (All-push IsSmall pool.transactions.transactions _ pool.plans_small small)
-
-pub invariant_of-self-2-clause-open_charged : goal.invariant_of-self-2-clause-open_charged
-invariant_of-self-2-clause-open_charged c =
-    let pool = c.args.self.now in
-    rw (c.in_ok-tx.ensures.admitted, c.in-Ok.ensures.admitted, c.charge.ensures, c.as_slice-shapes.ensures, ← c.in_ok-plan.ensures)
-    ((stay_charged pool.transactions.transactions pool.dirty pool.open_charged).admitted _)
+    let same = c.as_slice-shapes.ensures ∙ sym c.in_ok-plan.ensures in
+    let admitted = sym c.in_ok-tx.ensures.admitted in
+    record {
+      counted = rw c.hold.ensures.counted (counted_hold pool.groups pool.accounted.counted);
+      holds_exact = subst (AreHoldsExact c.admit.new.self.transactions) (sym c.hold.ensures.counted)
+          (subst (λ (o : Open). AreHoldsExact o.transactions (after_hold pool.groups)) admitted (exact_begin all pool.groups _ pool.accounted.holds_exact opened));
+      charged = rw (c.hold.ensures.counted, c.in-Ok.ensures.admitted, c.charge.ensures, opened)
+          ((sums_stay_on_lines pool.groups.line pool.dirty pool.accounted.charged).admit pool.groups.line.open_group c.as_slice-shapes.result.now (omega arith));
+      open_charged = rw (c.in_ok-tx.ensures.admitted, c.in-Ok.ensures.admitted, c.charge.ensures, c.as_slice-shapes.ensures, ← c.in_ok-plan.ensures)
+          ((stay_charged all pool.dirty pool.accounted.open_charged).admitted _);
+      plans_built = subst (λ (o : Open). All IsBuilt o.transactions) admitted
+          (All-push IsBuilt all _ pool.accounted.plans_built (subst (λ (l : List Shape). is_plan_built l ≡ true) same may.built));
+      plans_small = subst (λ (o : Open). All IsSmall o.transactions) admitted
+          (All-push IsSmall all _ pool.accounted.plans_small (subst (λ (l : List Shape). log_record_size l ≤ max_log_record) same may.small));
+    }
 
 pub invariant_of-self-2-clause-unsynced : goal.invariant_of-self-2-clause-unsynced
 invariant_of-self-2-clause-unsynced c = rw c.hold.ensures.counted c.args.self.now.unsynced

@@ -17,7 +17,6 @@ use Rattle.pool_core.proofs.CommitSteps.{commit_refused, commit_wants}
 use Rattle.pool_core.proofs.Entered.{entered}
 use Rattle.pool_core.proofs.OfNoDevice.{commit_own}
 use Rattle.pool_core.proofs.PendingChanges.{changes_left_at, committed_behind, same_changes, shown_left}
-use Rattle.pool_core.proofs.PendingChanges.{both}
 use Rattle.pool_core.proofs.pool.Pool.commit.Goals as goal
 
 pub returns-in_err-group-clause-step : goal.returns-in_err-group-clause-step
@@ -55,20 +54,17 @@ pub invariant_of-self-2 : goal.invariant_of-self-2
 invariant_of-self-2 c =
     let pool = c.args.self.now in
     record {
-      free_sized = pool.free_sized;
-      free_taken = pool.free_taken;
+      free_counted = pool.free_counted;
       import_fits = pool.import_fits;
       next_ordinal_fits = pool.next_ordinal_fits;
-      counted = pool.counted;
-      holds_exact = pool.holds_exact;
-      charged = pool.charged;
-      open_charged = pool.open_charged;
-      reserved = pool.reserved;
-      plans_built = pool.plans_built;
-      plans_small = pool.plans_small;
-      running = pool.running;
-      uberblock = pool.uberblock;
-      planned = both (λ r is. (pool.planned r is).0) (λ r is. subst (λ (patches : Patches). ∥ HasRoomForPatches patches pool.synced.slots.items ∥₁) (sym (same_changes pool.changes c.reserve-2.new.self c.reserve-2.ensures.same 0)) (pool.planned r is).1);
+      accounted = pool.accounted;
+      running = λ r is. let was = pool.running r is in record {
+        geometry = was.geometry;
+        left = was.left;
+        uberblock = was.uberblock;
+        placed = was.placed;
+        room = subst (λ (patches : Patches). ∥ HasRoomForPatches patches pool.synced.slots.items ∥₁) (sym (same_changes pool.changes c.reserve-2.new.self c.reserve-2.ensures.same 0)) was.room;
+      };
       sync_line = pool.sync_line;
       tree_placed = pool.tree_placed;
       unsynced = record {

@@ -19,14 +19,13 @@ use Rattle.pool_core.proofs.HeldGroups.{counted_release, exact_end, has_hold, li
 use Rattle.pool_core.proofs.Opens.{IsBuilt, IsSmall}
 use Rattle.pool_core.proofs.PendingChanges.{changes_entered, entered_behind, kept_oldest, same_plan}
 use Rattle.pool_core.proofs.SamePlans.{built_names}
-use Rattle.pool_core.proofs.PendingChanges.{both}
 use Rattle.pool_core.proofs.pool.Pool.enter.Goals as goal
 
 pub release-requires : goal.release-requires
 release-requires c =
     let pool = c.args.self.now in
     let may = c.requires.may in
-    has_hold pool.transactions.transactions pool.groups c.args.tx.0 may.admission c.args.group.0 pool.holds_exact c.end.ensures.apart may.found may.group_is
+    has_hold pool.transactions.transactions pool.groups c.args.tx.0 may.admission c.args.group.0 pool.accounted.holds_exact c.end.ensures.apart may.found may.group_is
 
 pub invariant_of-self : goal.invariant_of-self
 invariant_of-self c =
@@ -34,28 +33,32 @@ invariant_of-self c =
     let may = c.requires.may in
     let group = c.args.group.0 in
     let ops : List _ = c.args.ops in
-    let hold = has_hold pool.transactions.transactions pool.groups c.args.tx.0 may.admission group pool.holds_exact c.end.ensures.apart may.found may.group_is in
+    let hold = has_hold pool.transactions.transactions pool.groups c.args.tx.0 may.admission group pool.accounted.holds_exact c.end.ensures.apart may.found may.group_is in
     let behind = entered_behind pool group hold in
-    let line : c.release.new.self.line ≡ pool.groups.line = ap (λ (l : CountedLine). l.line) c.release.ensures ∙ line-after_release pool.groups pool.counted group in
+    let line : c.release.new.self.line ≡ pool.groups.line = ap (λ (l : CountedLine). l.line) c.release.ensures ∙ line-after_release pool.groups pool.accounted.counted group in
     let p : Admission → Bool = λ (a : Admission). not (a.tx == c.args.tx.0) in
     record {
-      free_sized = pool.free_sized;
-      free_taken = pool.free_taken;
+      free_counted = pool.free_counted;
       import_fits = pool.import_fits;
       next_ordinal_fits = omega (arith, c.requires.named);
-      counted = rw c.release.ensures (counted_release pool.groups pool.counted group);
-      holds_exact = subst (AreHoldsExact c.end.new.self.transactions) (sym c.release.ensures)
-          (subst (λ (ts : List Admission). AreHoldsExact ts (after_release group pool.groups)) (sym c.end.ensures.others)
-          (exact_end pool.transactions.transactions pool.groups c.args.tx.0 may.admission group pool.holds_exact c.end.ensures.apart may.found may.group_is));
-      charged = subst (λ l. AreSumsOn l pool.dirty) (sym line) pool.charged;
-      open_charged = rw c.end.ensures.others ((stay_charged pool.transactions.transactions pool.dirty pool.open_charged).ended c.args.tx.0);
-      reserved = pool.reserved;
-      plans_built = rw c.end.ensures.others (All-filter p IsBuilt pool.transactions.transactions pool.plans_built);
-      plans_small = rw c.end.ensures.others (All-filter p IsSmall pool.transactions.transactions pool.plans_small);
-      running = pool.running;
-      uberblock = pool.uberblock;
-      planned = both (λ r is. (pool.planned r is).0) (λ r is. subst (λ (patches : Patches). ∥ HasRoomForPatches patches pool.synced.slots.items ∥₁)
-          (sym (kept_oldest pool group hold c.args.place c.apply.new.self c.requires.place r is c.apply.ensures.others)) (pool.planned r is).1);
+      accounted = record {
+        counted = rw c.release.ensures (counted_release pool.groups pool.accounted.counted group);
+        holds_exact = subst (AreHoldsExact c.end.new.self.transactions) (sym c.release.ensures)
+            (subst (λ (ts : List Admission). AreHoldsExact ts (after_release group pool.groups)) (sym c.end.ensures.others)
+            (exact_end pool.transactions.transactions pool.groups c.args.tx.0 may.admission group pool.accounted.holds_exact c.end.ensures.apart may.found may.group_is));
+        charged = subst (λ l. AreSumsOn l pool.dirty) (sym line) pool.accounted.charged;
+        open_charged = rw c.end.ensures.others ((stay_charged pool.transactions.transactions pool.dirty pool.accounted.open_charged).ended c.args.tx.0);
+        plans_built = rw c.end.ensures.others (All-filter p IsBuilt pool.transactions.transactions pool.accounted.plans_built);
+        plans_small = rw c.end.ensures.others (All-filter p IsSmall pool.transactions.transactions pool.accounted.plans_small);
+      };
+      running = λ r is. let was = pool.running r is in record {
+        geometry = was.geometry;
+        left = was.left;
+        uberblock = was.uberblock;
+        placed = was.placed;
+        room = subst (λ (patches : Patches). ∥ HasRoomForPatches patches pool.synced.slots.items ∥₁)
+            (sym (kept_oldest pool group hold c.args.place c.apply.new.self c.requires.place r is c.apply.ensures.others)) was.room;
+      };
       sync_line = pool.sync_line ∙ ap (λ l. l.syncing) (sym line);
       tree_placed = pool.tree_placed;
       unsynced = record {
@@ -74,7 +77,7 @@ returns-clause-shown c =
     let s = pool_shown pool in
     let may = c.requires.may in
     let group = c.args.group.0 in
-    let hold = has_hold pool.transactions.transactions pool.groups c.args.tx.0 may.admission group pool.holds_exact c.end.ensures.apart may.found may.group_is in
+    let hold = has_hold pool.transactions.transactions pool.groups c.args.tx.0 may.admission group pool.accounted.holds_exact c.end.ensures.apart may.found may.group_is in
     let same = same_plan pool c.apply.new.self (λ r is. kept_oldest pool group hold c.args.place c.apply.new.self c.requires.place r is c.apply.ensures.others) in
-    rw (c.end.ensures.others, c.end.ensures.next, c.release.ensures, line-after_release pool.groups pool.counted group, c.push_reserved.ensures.items, map-append)
+    rw (c.end.ensures.others, c.end.ensures.next, c.release.ensures, line-after_release pool.groups pool.accounted.counted group, c.push_reserved.ensures.items, map-append)
     (λ k. record (shown_after_entry c.args.tx.0 group c.args.ops (laid_all c.apply.new.self (synced_of pool).objects) s) { sync = same k })

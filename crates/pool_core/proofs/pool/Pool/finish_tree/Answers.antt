@@ -5,27 +5,21 @@ use Rattle.space.specs.FreeSets.{FreeSpace}
 use Rattle.pool_core.specs.Shows.{contents_after_oldest, pool_shown}
 use Rattle.pool_core.proofs.PlannedPointers.{lengths-set}
 use Rattle.pool_core.proofs.SameSyncs.{none_planned, none_running, placed_after}
-use Rattle.pool_core.proofs.PendingChanges.{both}
 use Rattle.pool_core.proofs.pool.Pool.finish_tree.Goals as goal
 
 pub invariant_of-self-3 : goal.invariant_of-self-3
 invariant_of-self-3 c =
     let pool = c.args.self.now in
     record {
-      free_sized = ap (λ (s : FreeSpace). s.blocks) c.give_all.ensures ∙ pool.free_sized;
-      free_taken = ap (λ (s : FreeSpace). s.taken) c.give_all.ensures ∙ pool.free_taken;
+      free_counted = record {
+        sized = ap (λ (s : FreeSpace). s.blocks) c.give_all.ensures ∙ pool.free_counted.sized;
+        taken = ap (λ (s : FreeSpace). s.taken) c.give_all.ensures ∙ pool.free_counted.taken;
+        reserved = ap (λ (s : FreeSpace). s.reserved) c.give_all.ensures ∙ pool.free_counted.reserved;
+      };
       import_fits = pool.import_fits;
-      counted = pool.counted;
-      holds_exact = pool.holds_exact;
-      charged = pool.charged;
-      open_charged = pool.open_charged;
-      reserved = ap (λ (s : FreeSpace). s.reserved) c.give_all.ensures ∙ pool.reserved;
       next_ordinal_fits = pool.next_ordinal_fits;
-      plans_built = pool.plans_built;
-      plans_small = pool.plans_small;
-      running = pool.running;
-      uberblock = λ x e. absurd (none_running pool.sync x c.requires.none e);
-      planned = both (λ x e. absurd (none_running pool.sync x c.requires.none e)) (λ r is. (pool.planned r is).1);
+      accounted = pool.accounted;
+      running = λ x e. absurd (none_running pool.sync x c.requires.none e);
       sync_line = pool.sync_line;
       tree_placed = placed_after (block_count pool.geometry) _ _ c.set_all.ensures.pointers c.requires.placed;
       unsynced = record {

@@ -3,6 +3,7 @@ use Rattle.std.proofs.lemmas.Result.{err_from_is_err_and}
 use Rattle.groups.proofs.ExactHolds.{count_transactions}
 use Rattle.pool_core.proofs.Closes.{quiesce_ends, quiesce_moves, quiesce_suspended}
 use Rattle.pool_core.proofs.HeldGroups.{quiesce_keeps}
+use Rattle.throttle.proofs.ShownSums.{sums_stay_on_lines}
 use Rattle.pool_core.proofs.UnsyncedChanges.{moved_on}
 use Rattle.pool_core.specs.Shows.{pool_shown}
 use Rattle.pool_core.proofs.pool.Pool.mark_quiesced.Goals as goal
@@ -13,17 +14,20 @@ returns-in_err-check_running-clause-step c =
     let told = c.in_err-check_running.ensures in
     rw (p.1, p.2, told.0) (quiesce_suspended (pool_shown c.args.self.now) told.1)
 
-pub invariant_of-self-clause-counted : goal.invariant_of-self-clause-counted
-invariant_of-self-clause-counted c =
+pub invariant_of-self-clause-accounted : goal.invariant_of-self-clause-accounted
+invariant_of-self-clause-accounted c =
     let pool = c.args.self.now in
     let told = c.mark_quiesced.ensures in
-    (quiesce_keeps c.mark_quiesced.result pool.transactions.transactions pool.groups c.mark_quiesced.new.self pool.counted pool.holds_exact told.refused told.unchanged told.quiesced told.group).0
-
-pub invariant_of-self-clause-holds_exact : goal.invariant_of-self-clause-holds_exact
-invariant_of-self-clause-holds_exact c =
-    let pool = c.args.self.now in
-    let told = c.mark_quiesced.ensures in
-    (quiesce_keeps c.mark_quiesced.result pool.transactions.transactions pool.groups c.mark_quiesced.new.self pool.counted pool.holds_exact told.refused told.unchanged told.quiesced told.group).1
+    let kept = quiesce_keeps c.mark_quiesced.result pool.transactions.transactions pool.groups c.mark_quiesced.new.self pool.accounted.counted pool.accounted.holds_exact told.refused told.unchanged told.quiesced told.group in
+    let moves = quiesce_moves c.mark_quiesced.result pool.groups c.mark_quiesced.new.self told.unchanged told.quiesced in
+    record {
+      counted = kept.0;
+      holds_exact = kept.1;
+      charged = (sums_stay_on_lines pool.groups.line pool.dirty pool.accounted.charged).moved c.mark_quiesced.new.self.line moves.0 moves.1;
+      open_charged = pool.accounted.open_charged;
+      plans_built = pool.accounted.plans_built;
+      plans_small = pool.accounted.plans_small;
+    }
 
 pub invariant_of-self-clause-unsynced : goal.invariant_of-self-clause-unsynced
 invariant_of-self-clause-unsynced c =
@@ -35,5 +39,5 @@ pub returns-clause-step : goal.returns-clause-step
 returns-clause-step c =
     let pool = c.args.self.now in
     let told = c.mark_quiesced.ensures in
-    let exact = (count_transactions pool.transactions.transactions pool.groups pool.counted pool.holds_exact).refused in
+    let exact = (count_transactions pool.transactions.transactions pool.groups pool.accounted.counted pool.accounted.holds_exact).refused in
     quiesce_ends c.mark_quiesced.result pool.groups c.mark_quiesced.new.self (pool_shown pool) c.in_ok-check_running.ensures refl exact told.refused told.error told.unchanged told.quiesced told.group

@@ -1,4 +1,4 @@
-use Rattle.std.proofs.Common.{◌≡◌, ◌∙◌, ◌≤◌, ap, false, refl, sym}
+use Rattle.std.proofs.Common.{◌≡◌, ◌∙◌, ◌≤◌, ap, arith, false, refl, sym}
 use Rattle.std.specs.List.{list_any}
 use Rattle.std.proofs.lemmas.List.Elements.{All-nil}
 use Rattle.base.specs.tree.Syncs.{is_rename}
@@ -9,14 +9,31 @@ use Rattle.throttle.proofs.BlockSums.{blocks_of-empty}
 use Rattle.throttle.proofs.ShownSums.{new_sums_are_on_lines}
 use Rattle.object_maps.specs.ContentsShown.{contents_of}
 use Rattle.pool_core.proofs.Charges.{total-behind}
+use Rattle.pool_core.proofs.HeldGroups.{counted_new, exact_new}
+use Rattle.pool_core.proofs.Opens.{IsBuilt, IsSmall}
 use Rattle.pool_core.proofs.UnsyncedChanges.{first_changes, first_objects}
 use Rattle.pool_core.proofs.pool.Pool.new.Goals as goal
 
-pub invariant_of-result-clause-charged : goal.invariant_of-result-clause-charged
-invariant_of-result-clause-charged c = rw (c.new-2.ensures, c.new-4.ensures) (new_sums_are_on_lines (counted_behind c.args.mounted.group.0).line c.args.mounted.dirty_max)
+pub invariant_of-result-clause-accounted : goal.invariant_of-result-clause-accounted
+invariant_of-result-clause-accounted c =
+    let group = c.args.mounted.group.0 in
+    rw (c.new-2.ensures, c.new-3.ensures.none, c.new-4.ensures) (record {
+      counted = counted_new group c.args.mounted.group_fits.0 c.args.mounted.group_fits.1;
+      holds_exact = exact_new group;
+      charged = new_sums_are_on_lines (counted_behind group).line c.args.mounted.dirty_max;
+      open_charged = λ other. omega arith;
+      plans_built = All-nil IsBuilt;
+      plans_small = All-nil IsSmall;
+    })
 
-pub invariant_of-result-clause-reserved : goal.invariant_of-result-clause-reserved
-invariant_of-result-clause-reserved c = rw c.new-4.ensures (c.args.mounted.free_idle.reserved ∙ sym (ap blocks_in (total-behind c.args.mounted.dirty_max c.args.mounted.group.0)))
+pub invariant_of-result-clause-free_counted : goal.invariant_of-result-clause-free_counted
+invariant_of-result-clause-free_counted c =
+    let idle = c.args.mounted.free_idle in
+    record {
+      sized = c.args.mounted.free_sized;
+      taken = idle.taken;
+      reserved = rw c.new-4.ensures (idle.reserved ∙ sym (ap blocks_in (total-behind c.args.mounted.dirty_max c.args.mounted.group.0)));
+    }
 
 pub invariant_of-result-clause-unsynced : goal.invariant_of-result-clause-unsynced
 invariant_of-result-clause-unsynced c = rw (c.new-2.ensures, c.new-6.ensures.items) (record {

@@ -1,19 +1,13 @@
-use Rattle.std.proofs.Common.{◌≡◌, ◌<◌, ◌∙◌, ap, sym, subst, refl, ◌≤◌, inl, length, List, [], Some, arith, All}
+use Rattle.std.proofs.Common.{◌≡◌, ◌∙◌, ap, sym, subst, refl, ◌≤◌, inl, length, List, [], Some, arith, All}
 use Rattle.std.proofs.lemmas.Bool.{false≢true}
 use Rattle.std.proofs.lemmas.Result.{err_from_is_err_and}
-use Rattle.base.specs.formats.Geometry.{block_count}
 use Rattle.groups.specs.CountedLines.{CountedLine, IsCounted, after_start}
 use Rattle.groups.specs.Laws.{AreHoldsExact}
-use Rattle.base.specs.tree.PlacedTrees.{ArePlaced}
-use Rattle.sync.specs.Runs.{call_count}
 use Rattle.space.specs.FreeSets.{FreeSpace}
 use Rattle.tree_plans.specs.declared.planner.Committed.{Committed}
 use Rattle.tree_plans.specs.declared.planner.PlannedBlock.{PlannedBlock}
 use Rattle.throttle.specs.Blocks.{AreSumsOn}
 use Rattle.throttle.proofs.ShownSums.{sums_stay_on_lines}
-use Rattle.pool_core.specs.declared.pool.RunningSync.{RunningSync}
-use Rattle.pool_core.specs.Pointers.{pointers_after}
-use Rattle.pool_core.specs.RunningUberblocks.{WritesUberblock, uberblock_with}
 use Rattle.pool_core.specs.Pending.{AreChangesOfPending}
 use Rattle.pool_core.specs.Shows.{pool_shown}
 use Rattle.std.specs.Prelude.{Result}
@@ -27,9 +21,8 @@ use Rattle.pool_core.proofs.StartedSyncs.{may_still, plan_wants, refused_held, r
 use Rattle.pool_core.proofs.HeldGroups.{counted_start, exact_moves, may_start, started}
 use Rattle.pool_core.proofs.OfNoDevice.{plan_own}
 use Rattle.pool_core.proofs.StillSteps.{still_pool}
-use Rattle.pool_core.proofs.SameSyncs.{kept_sync}
+use Rattle.pool_core.proofs.SameSyncs.{RunsIn, kept_sync}
 use Rattle.pool_core.proofs.Starts.{start_not_ready, start_suspended}
-use Rattle.pool_core.proofs.PendingChanges.{both}
 use Rattle.pool_core.proofs.pool.Pool.start_sync.Goals as goal
 
 pub returns-in_err-check_running-clause-step : goal.returns-in_err-check_running-clause-step
@@ -161,25 +154,28 @@ invariant_of-self c =
     let rs = c.running_sync-running.result in
     let ens = c.running_sync-running.ensures in
     record {
-      free_sized = ap (λ (s : FreeSpace). s.blocks) c.take_all.ensures ∙ pool.free_sized;
-      free_taken = ap (λ (s : FreeSpace). s.taken) c.take_all.ensures ∙ taken_anew pool c.deref.result.now may.1 ∙ ap (λ (l : List PlannedBlock). length l) c.deref.ensures.value;
+      free_counted = record {
+        sized = ap (λ (s : FreeSpace). s.blocks) c.take_all.ensures ∙ pool.free_counted.sized;
+        taken = ap (λ (s : FreeSpace). s.taken) c.take_all.ensures ∙ taken_anew pool c.deref.result.now may.1 ∙ ap (λ (l : List PlannedBlock). length l) c.deref.ensures.value;
+        reserved = ap (λ (s : FreeSpace). s.reserved) c.take_all.ensures ∙ pool.free_counted.reserved;
+      };
       import_fits = pool.import_fits;
-      counted = subst IsCounted (sym now) (counted_start pool.groups pool.counted group may.0 may.1);
-      charged = subst (λ (l : CountedLine). AreSumsOn l.line pool.dirty) (sym now) ((sums_stay_on_lines pool.groups.line pool.dirty pool.charged).moved (after_start group pool.groups).line refl (omega arith));
-      reserved = ap (λ (s : FreeSpace). s.reserved) c.take_all.ensures ∙ pool.reserved;
-      holds_exact = subst (AreHoldsExact pool.transactions.transactions) (sym now) ((exact_moves pool.transactions.transactions pool.groups pool.counted pool.holds_exact).start group may.0);
       next_ordinal_fits = pool.next_ordinal_fits;
-      plans_built = pool.plans_built;
-      plans_small = pool.plans_small;
-      open_charged = pool.open_charged;
-      running = λ x e. let same = kept_sync rs x e in (
-        ap (λ (r : RunningSync). r.run.geometry) (sym same) ∙ ens.geometry,
-        subst (λ (r : RunningSync). r.run.done < call_count r.run) same ens.begins.left,
-      );
-      uberblock = λ x e. subst (λ (r : RunningSync). WritesUberblock (uberblock_with pool.guid pool.import_number pool.log_address r.group.0 r.moment r.root) r.run) (kept_sync rs x e)
-          (rw (ens.group, ens.moment, ens.begins.root) ens.uberblock);
-      planned = both (λ x e. subst (λ (r : RunningSync). ∥ ArePlaced (block_count pool.geometry) (pointers_after r.root r.directories.items r.maps pool.tree) ∥₁) (kept_sync rs x e)
-          (rw (ens.begins.root, ens.begins.directories, ens.begins.maps) c.in_ok-planned.ensures.tree.placed)) (λ x e. ∣ c.in_ok-reserve_synced.ensures.room ∣₁);
+      accounted = record {
+        counted = subst IsCounted (sym now) (counted_start pool.groups pool.accounted.counted group may.0 may.1);
+        charged = subst (λ (l : CountedLine). AreSumsOn l.line pool.dirty) (sym now) ((sums_stay_on_lines pool.groups.line pool.dirty pool.accounted.charged).moved (after_start group pool.groups).line refl (omega arith));
+        holds_exact = subst (AreHoldsExact pool.transactions.transactions) (sym now) ((exact_moves pool.transactions.transactions pool.groups pool.accounted.counted pool.accounted.holds_exact).start group may.0);
+        plans_built = pool.accounted.plans_built;
+        plans_small = pool.accounted.plans_small;
+        open_charged = pool.accounted.open_charged;
+      };
+      running = λ x e. subst (RunsIn pool) (kept_sync rs x e) (record {
+        geometry = ens.geometry;
+        left = ens.begins.left;
+        uberblock = rw (ens.group, ens.moment, ens.begins.root) ens.uberblock;
+        placed = rw (ens.begins.root, ens.begins.directories, ens.begins.maps) c.in_ok-planned.ensures.tree.placed;
+        room = ∣ c.in_ok-reserve_synced.ensures.room ∣₁;
+      });
       sync_line = ap (λ (g : _). Some g.0) ens.group ∙ sym (ap (λ (l : CountedLine). l.line.syncing) now);
       tree_placed = pool.tree_placed;
       unsynced = record {

@@ -1,4 +1,4 @@
-use Rattle.std.proofs.Common.{◌≡◌, ◌∙◌, ◌<◌, ◌≤◌, ◌-◌, ap, filter, map, nat_lt, sym, subst, refl, true, false, Some, None}
+use Rattle.std.proofs.Common.{◌≡◌, ◌∙◌, ◌≤◌, ◌-◌, ap, filter, map, nat_lt, sym, subst, refl, true, false, Some, None}
 use Rattle.std.specs.Prelude.{Bool, Option, Result, option_map}
 use Rattle.std.proofs.lemmas.Result.{err_from_is_err_and}
 use Rattle.base.specs.formats.Geometry.{block_address, block_count}
@@ -8,7 +8,6 @@ use Rattle.base.specs.steps.Shown.{SyncPlan}
 use Rattle.sync.specs.Runs.{call_count}
 use Rattle.object_maps.specs.Pointers.{pointers_of}
 use Rattle.pool_core.specs.declared.pool.RunningSync.{RunningSync}
-use Rattle.pool_core.specs.RunningUberblocks.{WritesUberblock, uberblock_with}
 use Rattle.pool_core.specs.Shows.{contents_after_oldest, plan_of, pool_shown, record_of, shown_after_tree}
 use Rattle.pool_core.proofs.Mapped.{filter-map}
 use Rattle.pool_core.proofs.UnsyncedChanges.{has_room, open_three, same_contents, synced_changes, synced_within, syncing_follows}
@@ -18,7 +17,7 @@ use Rattle.base.specs.tree.Syncs.{is_rename}
 use Rattle.tree_plans.specs.declared.planner.Committed.{Committed}
 use Rattle.std.specs.List.{list_any}
 use Rattle.std.proofs.lemmas.List.Elements.{All-filter}
-use Rattle.pool_core.proofs.SameSyncs.{as_many, kept_sync, left_as_before, more_left, one_left, one_less, refused_as, same_taken, same_taken_count, same_uberblock}
+use Rattle.pool_core.proofs.SameSyncs.{RunsIn, as_many, kept_sync, left_as_before, more_left, one_left, one_less, refused_as, runs_on, same_taken, same_taken_count}
 use Rattle.base.specs.disk.Disk.{bytes_of}
 use Rattle.base.specs.declared.step.Reply.TheVariants as reply
 use Rattle.groups.specs.CountedLines.{CountedLine, after_sync, line_after_sync}
@@ -26,14 +25,13 @@ use Rattle.std.specs.FinMap as finite
 use Rattle.throttle.proofs.BlockSums.{blocks_of-remove}
 use Rattle.throttle.specs.Blocks.{AreOpenOnesCharged, AreSumsOn}
 use Rattle.pool_core.proofs.Charges.{synced_charged, synced_open_charged, syncing_next}
-use Rattle.pool_core.proofs.HeldGroups.{of_group}
+use Rattle.pool_core.proofs.HeldGroups.{counted_sync, exact_moves, of_group}
 use Rattle.base.specs.declared.error.PoolError.{PoolError}
 use Rattle.pool_core.specs.declared.state.Progress.{Progress}
 use Rattle.pool_core.specs.Holds.{SamePlaces, pool_told, made_by, sync_step_reply, tree_after}
 use Rattle.pool_core.proofs.StillSteps.{leads_as, still_pool}
 use Rattle.pool_core.proofs.SyncLeads.{advanced, failed_call, failed_running, synced_told, was_running, was_syncing}
 use Rattle.pool_core.proofs.SyncSteps.{step_failed, step_more, step_not_ready, step_suspended, step_synced}
-use Rattle.pool_core.proofs.PendingChanges.{both}
 use Rattle.pool_core.proofs.pool.Pool.sync_step.Goals as goal
 
 pub returns-in_err-check_running-clause-step : goal.returns-in_err-check_running-clause-step
@@ -53,13 +51,13 @@ returns-in_default-clause-step g c =
 pub next-requires-clause-sized : goal.next-requires-clause-sized
 next-requires-clause-sized g c =
     let was = c.args.self.now.running c.in-Some.running c.in-Some.is in
-    c.requires ∙ sym was.0
+    c.requires ∙ sym was.geometry
 
 pub finish_tree-requires-clause-placed : goal.finish_tree-requires-clause-placed
 finish_tree-requires-clause-placed g c =
     let pool = c.args.self.now in
     let same = kept_sync c.in-Some-take.synced _ c.in-Some-take.ensures.value in
-    subst (λ (r : RunningSync). ∥ ArePlaced (block_count pool.geometry) (tree_after r pool.tree) ∥₁) (sym same) ((pool.planned c.in-Some.running c.in-Some.is).0)
+    subst (λ (r : RunningSync). ∥ ArePlaced (block_count pool.geometry) (tree_after r pool.tree) ∥₁) (sym same) ((pool.running c.in-Some.running c.in-Some.is).placed)
 
 pub end_charges-requires-clause-next : goal.end_charges-requires-clause-next
 end_charges-requires-clause-next g c =
@@ -68,28 +66,28 @@ end_charges-requires-clause-next g c =
     let syncing = sym pool.sync_line ∙ ap (λ (o : Option RunningSync). option_map (λ (r : RunningSync). r.group.0) o) c.in-Some.is in
     syncing_next pool c.in-Some-take.synced.group.0 (syncing ∙ ap (λ (r : RunningSync). Some r.group.0) (sym same))
 
-pub invariant_of-self-in-Ok-Last-clause-charged : goal.invariant_of-self-in-Ok-Last-clause-charged
-invariant_of-self-in-Ok-Last-clause-charged g c =
+pub invariant_of-self-in-Ok-Last-clause-accounted : goal.invariant_of-self-in-Ok-Last-clause-accounted
+invariant_of-self-in-Ok-Last-clause-accounted g c =
     let pool = c.args.self.now in
+    let group = c.in-Some-take.synced.group.0 in
     let same = kept_sync c.in-Some-take.synced _ c.in-Some-take.ensures.value in
-    let syncing = sym pool.sync_line ∙ ap (λ (o : Option RunningSync). option_map (λ (r : RunningSync). r.group.0) o) c.in-Some.is in
-    let finished : c.finish_sync.new.self ≡ after_sync c.in-Some-take.synced.group.0 pool.groups =
-    of_group (λ n. after_sync n pool.groups) pool.groups.line.syncing c.in-Some-take.synced.group.0 _ (syncing ∙ ap (λ (r : RunningSync). Some r.group.0) (sym same)) c.in-Ok.ensures.group c.in-Ok.ensures.synced in
-    subst (λ (l : CountedLine). AreSumsOn l.line c.end_charges.new.dirty) (sym finished)
-    (subst (AreSumsOn (line_after_sync c.in-Some-take.synced.group.0 pool.groups.line)) (sym c.end_charges.ensures.dirty) (synced_charged pool c.in-Some-take.synced.group.0))
-
-pub invariant_of-self-in-Ok-Last-clause-open_charged : goal.invariant_of-self-in-Ok-Last-clause-open_charged
-invariant_of-self-in-Ok-Last-clause-open_charged g c =
-    let pool = c.args.self.now in
-    let same = kept_sync c.in-Some-take.synced _ c.in-Some-take.ensures.value in
-    let syncing = sym pool.sync_line ∙ ap (λ (o : Option RunningSync). option_map (λ (r : RunningSync). r.group.0) o) c.in-Some.is in
-    subst (AreOpenOnesCharged pool.transactions.transactions) (sym c.end_charges.ensures.dirty)
-    (synced_open_charged pool c.in-Some-take.synced.group.0 (syncing ∙ ap (λ (r : RunningSync). Some r.group.0) (sym same)))
+    let was = was_syncing pool c.in-Some.running c.in-Some.is ∙ ap (λ (r : RunningSync). Some r.group.0) (sym same) in
+    let finished : c.finish_sync.new.self ≡ after_sync group pool.groups =
+    of_group (λ n. after_sync n pool.groups) pool.groups.line.syncing group _ was c.in-Ok.ensures.group c.in-Ok.ensures.synced in
+    record {
+      counted = rw finished (counted_sync pool.groups pool.accounted.counted group was);
+      holds_exact = rw finished ((exact_moves pool.transactions.transactions pool.groups pool.accounted.counted pool.accounted.holds_exact).sync group);
+      charged = subst (λ (l : CountedLine). AreSumsOn l.line c.end_charges.new.dirty) (sym finished)
+          (subst (AreSumsOn (line_after_sync group pool.groups.line)) (sym c.end_charges.ensures.dirty) (synced_charged pool group));
+      open_charged = subst (AreOpenOnesCharged pool.transactions.transactions) (sym c.end_charges.ensures.dirty) (synced_open_charged pool group was);
+      plans_built = pool.accounted.plans_built;
+      plans_small = pool.accounted.plans_small;
+    }
 
 pub lay_oldest-requires : goal.lay_oldest-requires
 lay_oldest-requires g c =
     let pool = c.args.self.now in
-    has_room (changes_at pool.changes 0) pool.synced.slots.items ((pool.planned c.in-Some.running c.in-Some.is).1)
+    has_room (changes_at pool.changes 0) pool.synced.slots.items ((pool.running c.in-Some.running c.in-Some.is).room)
 
 pub invariant_of-self-in-Ok-Last-clause-unsynced : goal.invariant_of-self-in-Ok-Last-clause-unsynced
 invariant_of-self-in-Ok-Last-clause-unsynced g c =
@@ -104,8 +102,8 @@ invariant_of-self-in-Ok-Last-clause-unsynced g c =
       built = All-filter later (λ (x : Committed). list_any is_rename x.ops ≡ false) pool.pending.items pool.unsynced.built;
       open_or_before = All-filter later (λ (x : Committed). x.group.0 ≤ pool.groups.line.open_group) pool.pending.items pool.unsynced.open_or_before;
       within = synced_within pool.changes pool.synced c.lay_oldest.new.synced c.lay_oldest.ensures.contents pool.unsynced.within;
-      changed = synced_changes pool.groups.line.synced group pool.pending.items pool.changes c.lay_oldest.new.changes (syncing_follows pool.groups.line group pool.counted.line syncing)
-          pool.unsynced.changed (open_three pool.groups.line pool.pending.items pool.counted.line pool.unsynced.open_or_before) c.lay_oldest.ensures.changes;
+      changed = synced_changes pool.groups.line.synced group pool.pending.items pool.changes c.lay_oldest.new.changes (syncing_follows pool.groups.line group pool.accounted.counted.line syncing)
+          pool.unsynced.changed (open_three pool.groups.line pool.pending.items pool.accounted.counted.line pool.unsynced.open_or_before) c.lay_oldest.ensures.changes;
     })
 
 pub invariant_of-self-in-Ok-More : goal.invariant_of-self-in-Ok-More
@@ -114,26 +112,17 @@ invariant_of-self-in-Ok-More g c =
     let is = c.in-Some.is in
     let was = pool.running c.in-Some.running is in
     let told = c.in-Ok-More.ensures in
-    let left = more_left c.in-Some.running.run c.next.new.self told.counts.same told.counts.done was.1 (λ e. let other = sym c.in-Ok-More.field-0-is ∙ told.counts.last.1 e in cc) in
+    let left = more_left c.in-Some.running.run c.next.new.self told.counts.same told.counts.done was.left (λ e. let other = sym c.in-Ok-More.field-0-is ∙ told.counts.last.1 e in cc) in
     record {
-      free_sized = pool.free_sized;
-      free_taken = pool.free_taken ∙ same_taken_count pool.sync c.in-Some.running c.next.new.self told.counts.same is;
+      free_counted = record {
+        sized = pool.free_counted.sized;
+        taken = pool.free_counted.taken ∙ same_taken_count pool.sync c.in-Some.running c.next.new.self told.counts.same is;
+        reserved = pool.free_counted.reserved;
+      };
       import_fits = pool.import_fits;
-      counted = pool.counted;
-      holds_exact = pool.holds_exact;
-      charged = pool.charged;
-      open_charged = pool.open_charged;
-      reserved = pool.reserved;
       next_ordinal_fits = pool.next_ordinal_fits;
-      plans_built = pool.plans_built;
-      plans_small = pool.plans_small;
-      running = λ x e. let same = kept_sync _ x e in (
-        ap (λ (r : RunningSync). r.run.geometry) (sym same) ∙ told.counts.same.geometry ∙ was.0,
-        subst (λ (r : RunningSync). r.run.done < call_count r.run) same left.1,
-      );
-      uberblock = λ x e. subst (λ (r : RunningSync). WritesUberblock (uberblock_with pool.guid pool.import_number pool.log_address r.group.0 r.moment r.root) r.run) (kept_sync _ x e)
-          (same_uberblock c.in-Some.running.run c.next.new.self told.counts.same _ (pool.uberblock c.in-Some.running is));
-      planned = both (λ x e. subst (λ (r : RunningSync). ∥ ArePlaced (block_count pool.geometry) (tree_after r pool.tree) ∥₁) (kept_sync _ x e) ((pool.planned c.in-Some.running is).0)) (λ x e. (pool.planned c.in-Some.running is).1);
+      accounted = pool.accounted;
+      running = λ x e. subst (RunsIn pool) (kept_sync _ x e) (runs_on pool c.in-Some.running c.next.new.self told.counts.same left.1 was);
       sync_line = ap (λ (o : Option RunningSync). option_map (λ (r : RunningSync). r.group.0) o) (sym is) ∙ pool.sync_line;
       tree_placed = pool.tree_placed;
       unsynced = record {
@@ -150,26 +139,17 @@ invariant_of-self-in-Err g c =
     let is = c.in-Some.is in
     let was = pool.running c.in-Some.running is in
     let told = c.in-Err.ensures in
-    let left = left_as_before c.in-Some.running.run c.next.new.self told.counts.same told.counts.done was.1 in
+    let left = left_as_before c.in-Some.running.run c.next.new.self told.counts.same told.counts.done was.left in
     record {
-      free_sized = pool.free_sized;
-      free_taken = pool.free_taken ∙ same_taken_count pool.sync c.in-Some.running c.next.new.self told.counts.same is;
+      free_counted = record {
+        sized = pool.free_counted.sized;
+        taken = pool.free_counted.taken ∙ same_taken_count pool.sync c.in-Some.running c.next.new.self told.counts.same is;
+        reserved = pool.free_counted.reserved;
+      };
       import_fits = pool.import_fits;
-      counted = pool.counted;
-      holds_exact = pool.holds_exact;
-      charged = pool.charged;
-      open_charged = pool.open_charged;
-      reserved = pool.reserved;
       next_ordinal_fits = pool.next_ordinal_fits;
-      plans_built = pool.plans_built;
-      plans_small = pool.plans_small;
-      running = λ x e. let same = kept_sync _ x e in (
-        ap (λ (r : RunningSync). r.run.geometry) (sym same) ∙ told.counts.same.geometry ∙ was.0,
-        subst (λ (r : RunningSync). r.run.done < call_count r.run) same left,
-      );
-      uberblock = λ x e. subst (λ (r : RunningSync). WritesUberblock (uberblock_with pool.guid pool.import_number pool.log_address r.group.0 r.moment r.root) r.run) (kept_sync _ x e)
-          (same_uberblock c.in-Some.running.run c.next.new.self told.counts.same _ (pool.uberblock c.in-Some.running is));
-      planned = both (λ x e. subst (λ (r : RunningSync). ∥ ArePlaced (block_count pool.geometry) (tree_after r pool.tree) ∥₁) (kept_sync _ x e) ((pool.planned c.in-Some.running is).0)) (λ x e. (pool.planned c.in-Some.running is).1);
+      accounted = pool.accounted;
+      running = λ x e. subst (RunsIn pool) (kept_sync _ x e) (runs_on pool c.in-Some.running c.next.new.self told.counts.same left was);
       sync_line = ap (λ (o : Option RunningSync). option_map (λ (r : RunningSync). r.group.0) o) (sym is) ∙ pool.sync_line;
       tree_placed = pool.tree_placed;
       unsynced = record {
@@ -218,7 +198,7 @@ returns-in-Ok-More-clause-step g c =
     let plan : SyncPlan = plan_of pool.log_address pool.tree (contents_after_oldest pool) c.in-Some.running in
     let syncing = sym pool.sync_line ∙ ap (λ (o : Option RunningSync). option_map (λ (r : RunningSync). r.group.0) o) is in
     let running = ap (λ (o : Option RunningSync). option_map (plan_of pool.log_address pool.tree (contents_after_oldest pool)) o) is in
-    let left = more_left c.in-Some.running.run c.next.new.self told.counts.same told.counts.done was.1 (λ e. let other = sym c.in-Ok-More.field-0-is ∙ told.counts.last.1 e in cc) in
+    let left = more_left c.in-Some.running.run c.next.new.self told.counts.same told.counts.done was.left (λ e. let other = sym c.in-Ok-More.field-0-is ∙ told.counts.last.1 e in cc) in
     let steps = one_less c.in-Some.running.run c.next.new.self told.counts.same told.counts.done in
     let taken = same_taken c.in-Some.running.run c.next.new.self told.counts.same in
     step_more s _ c.in-Some.running.group.0 plan c.in_ok-check_running.ensures syncing running left.0
@@ -259,7 +239,7 @@ returns-in-Ok-clause-leads g c = λ keeps.
     let sized = g.met.D.SectorDevice.sized keeps c.args.device.now ∙ c.requires in
     leads_as (reply.Synced c.in-Some.running.group) (reply.Synced c.in-Some-take.synced.group) (pool_told pool (bytes_of (g.D.SectorDevice.disk c.args.device.now).now))
     (pool_told c.finish_tree.new.self (bytes_of (g.D.SectorDevice.disk c.next.new.device).now)) (ap (λ (r : RunningSync). reply.Synced r.group) (sym same))
-    (synced_told pool c.in-Some.running c.next.new.self (g.D.SectorDevice.disk c.args.device.now) (g.D.SectorDevice.disk c.next.new.device) is told.counts.same sized was.0 told.called.call told.called.next
+    (synced_told pool c.in-Some.running c.next.new.self (g.D.SectorDevice.disk c.args.device.now) (g.D.SectorDevice.disk c.next.new.device) is told.counts.same sized was.geometry told.called.call told.called.next
     c.finish_tree.new.self told.counts.done (told.counts.last.0 c.in-Ok-Last.field-0-is) (told.called.made keeps) (c.finish_tree.ensures.sync ∙ c.take.ensures.after)
     (subst (λ (r : RunningSync). SamePlaces (pointers_of c.finish_tree.new.self.tree) (tree_after r pool.tree)) same c.finish_tree.ensures.pointers))
 
@@ -268,7 +248,7 @@ returns-in-Ok-More-clause-leads g c = λ keeps past later.
     let pool = c.args.self.now in
     let r = c.in-Some.running in
     let is = c.in-Some.is in
-    let size = (pool.running r is).0 in
+    let size = (pool.running r is).geometry in
     let told = c.in-Ok-More.ensures in
     let sized = g.met.D.SectorDevice.sized keeps c.args.device.now ∙ c.requires in
     let before = g.D.SectorDevice.disk c.args.device.now in
