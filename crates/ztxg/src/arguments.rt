@@ -3,6 +3,15 @@
 use clap::{Arg, ArgMatches, Command, Error, value_parser};
 use std::alloc::{AllocError, Global};
 
+/// What the program is asked to do.
+#[derive(Clone, Copy, Debug, PartialEq, Eq)]
+pub enum Arguments<'a> {
+    Script(ScriptArguments<'a>),
+    Create(CreateArguments<'a>),
+    /// `ztxg show`, with the path of the pool's file.
+    Show(&'a str),
+}
+
 /// What `ztxg script` is given.
 #[derive(Clone, Copy, Debug, PartialEq, Eq)]
 pub struct ScriptArguments<'a> {
@@ -14,31 +23,99 @@ pub struct ScriptArguments<'a> {
     pub moment: u64,
 }
 
-fn script_command<'a>(alloc: Global) -> Result<Command<'a>, AllocError> {
-    let size = Arg::new(alloc, "SIZE")
+/// What `ztxg create` is given.
+#[derive(Clone, Copy, Debug, PartialEq, Eq)]
+pub struct CreateArguments<'a> {
+    /// The path of the pool's file.
+    pub file: &'a str,
+    /// The pool's name.
+    pub name: &'a str,
+    /// The pool's guid.
+    pub guid: u64,
+    /// The bytes of the file.
+    pub size: u64,
+    /// The moment of the new pool's uberblocks.
+    pub moment: u64,
+}
+
+fn number<'a>(alloc: Global, name: &'a str, help: &'a str) -> Arg<'a> {
+    Arg::new(alloc, name)
         .required(true)
-        .help("The bytes of the device in memory")
-        .value_parser(value_parser!(u64));
-    let script = Arg::new(alloc, "SCRIPT")
-        .required(true)
-        .help("The path of the script, or - for standard input");
-    let moment = Arg::new(alloc, "moment")
+        .help(help)
+        .value_parser(value_parser!(u64))
+}
+
+fn word<'a>(alloc: Global, name: &'a str, help: &'a str) -> Arg<'a> {
+    Arg::new(alloc, name).required(true).help(help)
+}
+
+fn moment<'a>(alloc: Global) -> Arg<'a> {
+    Arg::new(alloc, "moment")
         .long("moment")
         .value_name("M")
-        .help("The moment of each uberblock that the run writes")
+        .help("The moment, in seconds, that each written uberblock gets: below 2^64")
         .value_parser(value_parser!(u64))
-        .default_value("0");
+        .default_value("0")
+}
+
+fn script_command<'a>(alloc: Global) -> Result<Command<'a>, AllocError> {
     Command::new(alloc, "script")
-        .about("Runs a script on a pool in memory")
-        .arg(size)?
-        .arg(script)?
-        .arg(moment)
+        .about("Runs a script on a pool in memory, and prints a line for each of its commands")
+        .after_help("Example: ztxg script 8388608 - < stdin")
+        .arg(number(
+            alloc,
+            "SIZE",
+            "The bytes of the device in memory: 6291456 to 1073741824, a multiple of 262144",
+        ))?
+        .arg(word(
+            alloc,
+            "SCRIPT",
+            "The path of the script, or - for standard input",
+        ))?
+        .arg(moment(alloc))
+}
+
+fn create_command<'a>(alloc: Global) -> Result<Command<'a>, AllocError> {
+    Command::new(alloc, "create")
+        .about("Makes a new pool in a file, over what the file held, and prints its blocks")
+        .after_help("Example: ztxg create tank.pool tank 77 8388608")
+        .arg(word(
+            alloc,
+            "FILE",
+            "The path of the file, which is made, or resized to SIZE bytes",
+        ))?
+        .arg(word(
+            alloc,
+            "NAME",
+            "The pool's name: 1 to 64 bytes, first a letter, then letters, digits, '-', '_', '.'",
+        ))?
+        .arg(number(alloc, "GUID", "The pool's guid: a number below 2^64"))?
+        .arg(number(
+            alloc,
+            "SIZE",
+            "The bytes of the file: 6291456 to 1073741824, a multiple of 262144",
+        ))?
+        .arg(moment(alloc))
+}
+
+fn show_command<'a>(alloc: Global) -> Result<Command<'a>, AllocError> {
+    Command::new(alloc, "show")
+        .about("Tells what an import of the pool in a file would mount; it only reads the file")
+        .after_help("Example: ztxg show tank.pool")
+        .arg(word(
+            alloc,
+            "FILE",
+            "The path of the file, of 6291456 to 1073741824 bytes",
+        ))
 }
 
 fn command<'a>(alloc: Global) -> Result<Command<'a>, AllocError> {
     Command::new(alloc, "ztxg")
-        .about("The write engine of a copy-on-write storage pool")
+        .about("The write engine of a copy-on-write storage pool, in memory or in a file")
+        .after_help("Example: ztxg create tank.pool tank 77 8388608")
         .subcommand_required(true)
+        .subcommand(create_command(alloc)?)?
+        .subcommand(show_command(alloc)?)?
         .subcommand(script_command(alloc)?)
 }
 
@@ -50,12 +127,31 @@ pub fn parse_arguments<'a>(alloc: Global, words: &'a [String]) -> Result<ArgMatc
     command(alloc)?.try_get_matches_from(words)
 }
 
-/// What was given to `script`.
-pub fn read_arguments<'a>(matches: &ArgMatches<'a>) -> Option<ScriptArguments<'a>> {
-    let (_, script) = matches.subcommand()?;
+/// What was given to the command that was named.
+pub fn read_arguments<'a>(matches: &ArgMatches<'a>) -> Option<Arguments<'a>> {
+    let (name, given) = matches.subcommand()?;
+    match name {
+        "script" => Some(Arguments::Script(read_script(given)?)),
+        "create" => Some(Arguments::Create(read_create(given)?)),
+        "show" => Some(Arguments::Show(given.get_str("FILE")?)),
+        _ => None,
+    }
+}
+
+fn read_script<'a>(given: &ArgMatches<'a>) -> Option<ScriptArguments<'a>> {
     Some(ScriptArguments {
-        size: script.get_one::<u64>("SIZE")?,
-        script: script.get_str("SCRIPT")?,
-        moment: script.get_one::<u64>("moment")?,
+        size: given.get_one::<u64>("SIZE")?,
+        script: given.get_str("SCRIPT")?,
+        moment: given.get_one::<u64>("moment")?,
+    })
+}
+
+fn read_create<'a>(given: &ArgMatches<'a>) -> Option<CreateArguments<'a>> {
+    Some(CreateArguments {
+        file: given.get_str("FILE")?,
+        name: given.get_str("NAME")?,
+        guid: given.get_one::<u64>("GUID")?,
+        size: given.get_one::<u64>("SIZE")?,
+        moment: given.get_one::<u64>("moment")?,
     })
 }

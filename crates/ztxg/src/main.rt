@@ -1,13 +1,17 @@
-//! The command line of the pool's write engine. `ztxg script SIZE SCRIPT` runs a script on a device in memory.
+//! The command line of the pool's write engine. `ztxg script SIZE SCRIPT` runs a script on a device in memory, and
+//! `ztxg create FILE NAME GUID SIZE` makes a pool in a file, which `ztxg show FILE` shows.
 #![tactic(auto)]
 
 mod arguments;
+mod fault;
+mod pool_files;
 #[cfg(test)]
 mod tests;
 
 ghost use Rattle.std.specs.Prelude.{◌≡◌, ◌≢◌, ◌≤◌, IsErr};
 
-use arguments::{ScriptArguments, parse_arguments, read_arguments};
+use arguments::{Arguments, ScriptArguments, parse_arguments, read_arguments};
+use pool_files::{run_create, run_show};
 use scripts::{FAILED, run_script};
 use std::alloc::Global;
 use std::fs::File;
@@ -23,7 +27,7 @@ fn main(rt: HostRuntime) -> ExitCode {
     };
     match parse_arguments(rt.alloc(), words.as_slice()) {
         Ok(matches) => match read_arguments(&matches) {
-            Some(arguments) => run(&rt, arguments),
+            Some(arguments) => ExitCode::from(run(&rt, arguments)),
             None => ExitCode::from(BAD_ARGUMENTS),
         },
         Err(error) => {
@@ -44,11 +48,36 @@ fn not_text(rt: &HostRuntime) -> ExitCode {
     ExitCode::from(BAD_ARGUMENTS)
 }
 
-fn run(rt: &HostRuntime, arguments: ScriptArguments<'_>) -> ExitCode {
+// Does what was asked for, and gives the status to end with.
+fn run(rt: &HostRuntime, arguments: Arguments<'_>) -> u8
+    ensures { result ≤ 3 }
+{
+    match arguments {
+        Arguments::Script(arguments) => run_named_script(rt, arguments),
+        Arguments::Create(arguments) => run_create(
+            rt,
+            arguments,
+            &mut io::writer(rt),
+            &mut rt.stderr(),
+        ),
+        Arguments::Show(file) => run_show(
+            rt.alloc(),
+            file,
+            File::open(rt, file),
+            &mut io::writer(rt),
+            &mut rt.stderr(),
+        ),
+    }
+}
+
+fn run_named_script(rt: &HostRuntime, arguments: ScriptArguments<'_>) -> u8
+    ensures range { result ≤ 3 }
+    ensures no_refusal { result ≢ 1 }
+{
     let alloc = rt.alloc();
     let out = io::writer(rt);
     let mut errors = rt.stderr();
-    let status = if arguments.script == "-" {
+    if arguments.script == "-" {
         run_opened(alloc, arguments, Ok(rt.reader()), out, &mut errors)
     } else {
         run_opened(
@@ -58,8 +87,7 @@ fn run(rt: &HostRuntime, arguments: ScriptArguments<'_>) -> ExitCode {
             out,
             &mut errors,
         )
-    };
-    ExitCode::from(status)
+    }
 }
 
 /// Runs a script that was to be opened, with what was given to it.
