@@ -1,8 +1,8 @@
 //! A pool that is made on a memory device: the places of its parts, and each call that is refused.
 
-use base::{PoolError, read_u64};
+use base::{Group, OBJECT_COUNT, ObjectId, PoolError, read_u64};
 use device_model::{Fault, MemDevice, SectorDevice};
-use import_replay::{Imported, create, import};
+use import_replay::{Imported, create, import, inspect};
 use std::alloc::Global;
 use std::test::Fail;
 
@@ -126,5 +126,64 @@ fn an_import_tells_the_call_that_was_refused(rt: HostRuntime) -> Result<(), Fail
             device = left;
         }
     }
+    Ok(())
+}
+
+#[test]
+fn an_inspection_tells_a_new_pool(rt: HostRuntime) -> Result<(), Fail> {
+    let alloc = rt.alloc();
+    let mut device = match create(MemDevice::new(alloc, 16_384)?, b"tank", 77, 5) {
+        Ok(device) => device,
+        Err(_) => return Err("refused")?,
+    };
+    let told = inspect(alloc, &mut device)?;
+    assert_eq!(rt; told.name().as_slice(), b"tank".as_slice());
+    assert_eq!(rt; told.guid, 77);
+    assert_eq!(rt; told.group, Group(4));
+    assert_eq!(rt; told.import_number, 0);
+    assert_eq!(rt; told.blocks, 896);
+    assert_eq!(rt; told.used, 0);
+    assert_eq!(rt; told.records, 0);
+    for number in 0..OBJECT_COUNT {
+        assert!(rt; told.contents.object(ObjectId(number)).is_none());
+    }
+    Ok(())
+}
+
+// How many blocks an inspection tells.
+fn inspected_blocks(alloc: Global, device: &mut MemDevice) -> Result<u64, PoolError> {
+    Ok(inspect(alloc, device)?.blocks)
+}
+
+#[test]
+fn an_inspection_tells_the_read_that_was_refused(rt: HostRuntime) -> Result<(), Fail> {
+    let alloc = rt.alloc();
+    let (_, mut device) = create_failing(MemDevice::new(alloc, 12_288)?, Fault::Read, 0);
+    // It reads 4 arrays and 4 configs, and no tree; it makes no write and no flush that could fail.
+    device.fail(Fault::Write, 1);
+    device.fail(Fault::Flush, 1);
+    for n in [1, 4, 5, 8] {
+        device.fail(Fault::Read, n);
+        assert_eq!(rt;
+            inspected_blocks(alloc, &mut device),
+            Err(PoolError::Read),
+            "call {n}"
+        );
+    }
+    device.fail(Fault::Read, 9);
+    assert_eq!(rt; inspected_blocks(alloc, &mut device), Ok(384));
+    Ok(())
+}
+
+#[test]
+fn an_inspection_finds_no_pool_on_a_blank_device(rt: HostRuntime) -> Result<(), Fail> {
+    let alloc = rt.alloc();
+    let mut small = MemDevice::new(alloc, 12_287)?;
+    assert_eq!(rt;
+        inspected_blocks(alloc, &mut small),
+        Err(PoolError::BadGeometry)
+    );
+    let mut blank = MemDevice::new(alloc, 12_288)?;
+    assert_eq!(rt; inspected_blocks(alloc, &mut blank), Err(PoolError::NoPool));
     Ok(())
 }

@@ -14,6 +14,8 @@ mod devices;
 #[cfg(test)]
 mod dirty_bytes;
 #[cfg(test)]
+mod file_devices;
+#[cfg(test)]
 mod free_blocks;
 #[cfg(test)]
 mod group_lines;

@@ -5,7 +5,7 @@ use base::{
     Step, TxId, read_u64,
 };
 use device_model::{Fault, MemDevice, SectorDevice};
-use import_replay::{create, import};
+use import_replay::{create, import, inspect};
 use pool_core::{PoolState, Progress, run};
 use std::alloc::Global;
 use std::test::Fail;
@@ -142,6 +142,39 @@ fn a_sync_takes_the_lowest_blocks_in_order(rt: HostRuntime) -> Result<(), Fail> 
         assert_eq!(rt; number_at(&mut device, address / 512, 0)?, kind);
         assert_eq!(rt; number_at(&mut device, address / 512, 16)?, 9);
     }
+    Ok(())
+}
+
+#[test]
+fn an_inspection_tells_what_a_sync_wrote(rt: HostRuntime) -> Result<(), Fail> {
+    let alloc = rt.alloc();
+    let mut pool = tank(alloc, MemDevice::new(alloc, 16_384)?)?;
+    fill(alloc, &mut pool, b"abcd")?;
+    pool.start_sync(7)?;
+    // four blocks, a flush, and four uberblocks that nothing flushes
+    for _ in 0..9 {
+        pool.sync_step()?;
+    }
+    let mut device = pool.into_device();
+    let told = inspect(alloc, &mut device)?;
+    assert_eq!(rt; device.unflushed(), 4);
+    assert_eq!(rt; told.group, Group(9));
+    assert_eq!(rt; told.import_number, 1);
+    assert_eq!(rt; told.blocks, 896);
+    assert_eq!(rt; told.used, 4);
+    assert_eq!(rt; told.contents.object(OBJECT), Some(b"abcd".as_slice()));
+    assert!(rt; told.contents.object(ObjectId(0)).is_none());
+    // the root is damaged
+    let root = 8224;
+    if root < device.sectors() {
+        device.write(512 * root, &[0u8; 512])?;
+    }
+    let told = inspect(alloc, &mut device);
+    let damaged = PoolError::Damaged {
+        kind: 2,
+        address: 4_210_688,
+    };
+    assert_eq!(rt; told.err(), Some(damaged));
     Ok(())
 }
 
