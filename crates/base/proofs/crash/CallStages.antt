@@ -1,4 +1,4 @@
--- Each moment of a whole sync, stopped anywhere or refused anywhere, is one of the three phases. No contract cites these lemmas yet.
+-- Each moment of a whole sync, stopped anywhere or refused anywhere, is one of the three phases.
 use Rattle.std.proofs.Common.{◌≡◌, ◌⊎◌, inl, inr, ℕ, suc, ◌+◌, ◌<◌, ◌≤◌, Bool, true, List, [], ◌∷◌, length, Result, Ok, Err, sym, ◌∙◌, ap, subst, arith}
 use Rattle.std.specs.Prelude.{◌≢◌}
 use Rattle.base.specs.declared.error.PoolError.{PoolError}

@@ -1,5 +1,4 @@
--- Every fair image that a crash leaves of a disk at rest on a view is found as that view, and between two views as one of them. No contract
--- cites these lemmas yet.
+-- Every fair image that a crash leaves of a disk at rest on a view is found as that view, and between two views as one of them.
 use Rattle.std.proofs.Common.{◌≡◌, ◌⊎◌, inl, inr, ℕ, zero, suc, ◌+◌, ◌-◌, ◌<◌, ◌≤◌, Bool, true, false, List, [], ◌∷◌, length, map, take, refl, sym, ◌∙◌, ap, subst, arith}
 use Rattle.std.specs.Prelude.{slice_get, Some, None}
 use Rattle.std.specs.Str.{bytes_eq}

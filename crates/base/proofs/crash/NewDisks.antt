@@ -1,4 +1,4 @@
--- What a create leaves is a disk of its pool alone, with no objects. No contract cites these lemmas yet.
+-- What a create leaves is a disk of its pool alone, with no objects.
 use Rattle.std.proofs.Common.{◌≡◌, ◌⊎◌, inl, inr, ℕ, ◌≤◌, List, length, map, Ok, refl, sym, ◌∙◌, ap, arith}
 use Rattle.base.specs.formats.Fields.{part, number_at}
 use Rattle.base.specs.formats.Geometry.{block_size, block_address, config_place, slot_place, slot_of}

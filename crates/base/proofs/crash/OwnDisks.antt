@@ -1,11 +1,10 @@
--- Where a disk in one of the phases ends, it is the pool's own: an import ends on what it mounted, and a run on a cut of its entries. No contract
--- cites these lemmas yet.
+-- Where a disk in one of the phases ends, it is the pool's own: an import ends on what it mounted, and a run on a cut of its entries.
 use Rattle.std.proofs.Common.{◌≡◌, ◌⊎◌, inl, inr, ⊎_elim, ℕ, ◌+◌, ◌≤◌, List, [], ◌∷◌, length, map, take, Ok, refl, sym, ◌∙◌, ap, subst, arith}
 use Rattle.std.specs.Prelude.{IfSome}
 use Rattle.base.specs.declared.pointer.Pointer.{Pointer}
 use Rattle.base.specs.history.Contents.{Contents}
 use Rattle.base.specs.history.History.{IsHistory}
-use Rattle.base.specs.disk.Disk.{Write, Moment, Disk, MayLeave, bytes_of, handed, settled, moments, certain, certain_with, disk_size}
+use Rattle.base.specs.disk.Disk.{Write, Moment, Disk, MayLeave, bytes_of, handed, settled, moments, certain, disk_size}
 use Rattle.base.specs.disk.Fairness.{IsFair, HasFairBytes, passes_check}
 use Rattle.base.specs.formats.Chain.{Header}
 use Rattle.base.specs.crash.Mount.{apply_records, records_above}
@@ -19,7 +18,7 @@ use Rattle.base.specs.crash.Layout.{LiesAs, kept_from, header_now}
 use Rattle.base.specs.crash.Views.{View, Logged, IsFoundAs, AreConfigsUpTo, config_content}
 use Rattle.base.specs.crash.Own.{IsAtRest, AreConfigsBelowImport, IsOwnImage, IsOwnWith}
 use Rattle.base.specs.crash.PoolViews.{IsViewOf, IsPoolLaid, IsPoolDisk, IsSyncConfig}
-use Rattle.base.specs.crash.CrashRule.{MountsAs, AreImportViews, IsImportMoment, HasSteadyPhases, IsImportKept, IsRunLeft}
+use Rattle.base.specs.crash.CrashRule.{MountsAs, AreImportViews, IsImportMoment, HasSteadyPhases, IsOwnOnceFlushed, IsSteady, IsRunLeft}
 use Rattle.base.proofs.disk.Moments.{bytes_may_be_left, latest, moments_grow}
 use Rattle.base.proofs.disk.Fairness.{fair_settled}
 use Rattle.base.proofs.crash.KeptViews.{rest_settled}
@@ -85,19 +84,14 @@ steady_own size created before after guid contents began steady =
       };
     }
 
--- an import of a disk that is the pool's own keeps it so
-pub import_kept : (old new : Disk) (created guid : ℕ) (contents : Contents) → IsOwnWith old created guid contents
-    → (new ≡ old) ⊎ HasSteadyPhases (disk_size old) created (certain (bytes_of old.now) old) new guid contents → IsImportKept old new created guid contents
-import_kept old new created guid contents own (inl same) = record { steady = inl same; own = subst (λ (d : Disk). IsOwnWith d created guid contents) (sym same) own }
-import_kept old new created guid contents own (inr steady) =
+-- an import of a disk that is the pool's own once it is flushed keeps it so from its first good flush on
+pub import_kept : (old new : Disk) (created guid : ℕ) (contents : Contents) → IsOwnOnceFlushed old created guid contents
+    → HasSteadyPhases (disk_size old) created (certain (bytes_of old.now) old) new guid contents → IsSteady old new created guid contents
+import_kept old new created guid contents own steady =
     let flushed : Disk = certain (bytes_of old.now) old in
     let later : moments flushed ≤ moments new = moments_grow (IsImportMoment (disk_size old) created steady.old steady.new) flushed new steady.each in
-    let began : created ≤ moments old = own.began in
-    record { steady = inr steady; own = steady_own (disk_size old) created flushed new guid contents (omega (arith, began, later, more old.now.unflushed)) steady }
-  where
-    more : (ws : List Write) → moments old ≤ moments (certain_with (bytes_of old.now) old ws)
-    more [] = omega arith
-    more (w ∷ ws) = omega arith
+    let began : created ≤ moments flushed = own.began in
+    record { phases = steady; own = steady_own (disk_size old) created flushed new guid contents (omega (arith, began, later)) steady }
 
 -- A run, wherever it ends, leaves a disk that is the pool's own, with a cut of its entries.
 module _ (size : ℕ) (m : Moment) (s : Shown) (past : Past) (now : Contents) (image : List ℕ) (left : MayLeave m image) (kept : IsPoolDisk size m s past)

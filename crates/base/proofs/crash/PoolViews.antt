@@ -1,4 +1,4 @@
--- A pool whose views are laid lies in every fair image that a crash may leave. No contract cites these lemmas yet.
+-- A pool whose views are laid lies in every fair image that a crash may leave.
 use Rattle.std.proofs.Common.{◌≡◌, inl, inr, ℕ, zero, suc, ◌<◌, ◌≤◌, List, [], ◌∷◌, length, map, take, refl, sym, ap, subst, arith}
 use Rattle.std.specs.Prelude.{slice_get, Some, None}
 use Rattle.base.specs.declared.pointer.Pointer.{Pointer}

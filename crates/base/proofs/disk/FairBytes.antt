@@ -1,5 +1,4 @@
--- What a read gives stays fair: under a write of a whole place that the format checks, refused or not, and under a flush. No contract cites
--- these lemmas yet.
+-- What a read gives stays fair: under a write of a whole place that the format checks, refused or not, and under a flush.
 use Rattle.std.proofs.Common.{◌≡◌, ◌⊎◌, inl, inr, ℕ, zero, suc, ◌+◌, ◌*◌, ◌<◌, ◌≤◌, Bool, true, false, ◌&&◌, ◌||◌, List, [], ◌∷◌, length, refl, sym, ◌∙◌, ap, subst, arith}
 use Rattle.std.specs.Prelude.{◌==◌, nat_lt, not}
 use Rattle.std.specs.List.{list_any}

@@ -79,11 +79,14 @@ has-grows old new has = elim (has.left) as (λ _. Grows old.past new.past) [
   | inr is ↦ subst (λ (x : State). Grows old.past x.past) (sym is) (effect-grows has.effect old)
 ]
 
+pub step_grows : (keeps : Type 0) (now : List ℕ) (s : declared_step.Step) (r : declared_reply.Reply) (old new : State) → Step keeps now s r old new → Grows old.past new.past
+step_grows keeps now s r old new h = has-grows old new (step_does keeps now s r old new h).has
+
 pub runs_grow : (ss : List declared_step.Step) (rs : List declared_reply.Reply) (old new : State) → IsRun ⊥ ss rs old new → Grows old.past new.past
 runs_grow [] [] old new same = subst (λ (x : State). Grows old.past x.past) (sym same) (grows-same old.past)
 runs_grow (s ∷ ss) (r ∷ rs) old new (middle, (now, one), rest) =
     grows-onward old.past middle.past new.past
-    (has-grows old middle (step_does ⊥ now s r old middle one).has)
+    (step_grows ⊥ now s r old middle one)
     (runs_grow ss rs middle new rest)
 runs_grow [] (r ∷ rs) old new h = absurd h
 runs_grow (s ∷ ss) [] old new h = absurd h

@@ -1,6 +1,5 @@
 -- The device calls of a sync in three stages, each with what it asks of a call: quiet ones in front, by which the old view stays at rest; the
 -- writes of the new uberblock, between the two views; quiet ones behind, at rest on the new view. Calls may stop, or be refused, anywhere.
--- No contract cites them yet.
 use Rattle.std.specs.Prelude.{ℕ, ◌≡◌, ◌≢◌, ◌≤◌, ◌<◌, ◌+◌, ◌⊎◌, ⊤, Bool, true, List, [], ◌∷◌, length, slice_get, Some, Ok, Err, Result}
 use Rattle.base.specs.declared.error.PoolError.{PoolError}
 use Rattle.base.specs.formats.Fields.{no_pointer}

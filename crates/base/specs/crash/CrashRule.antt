@@ -1,6 +1,6 @@
 -- The crash rule for a pool's disk from its create on: what an import keeps, what a step keeps, what a run leaves, and what a client finds
 -- after any number of rounds, each an import with its run and then a crash. `created` is never free: it is the moment with which the disk is
--- the pool's own. No contract cites them yet.
+-- the pool's own.
 use Rattle.std.specs.Prelude.{ℕ, ◌≡◌, ◌≤◌, ◌+◌, ◌⊎◌, List, [], ◌∷◌, length, map, Ok}
 use Rattle.base.specs.history.Contents.{Contents}
 use Rattle.base.specs.disk.Disk.{Moment, Disk, moments, EachMoment, MayLeave, bytes_of, handed, certain, disk_size}
@@ -45,15 +45,24 @@ pub record HasSteadyPhases (size t : ℕ) (before after : Disk) (guid : ℕ) (co
   pub views : AreImportViews old new guid contents
   pub each : EachMoment (IsImportMoment size t old new) before after
 
--- An import, wherever it stops and whatever it answers, of a disk that this pool alone wrote: no flush answered Ok and nothing is written, or
--- from the first good flush on each moment mounts what the disk mounted; and a crash, or another import, finds a disk that this pool alone wrote.
-pub record IsImportKept (old new : Disk) (created guid : ℕ) (contents : Contents) : Type 0 where
-  pub steady : (new ≡ old) ⊎ HasSteadyPhases (disk_size old) created (certain (bytes_of old.now) old) new guid contents
+-- a disk that this pool alone wrote, once what a read gives is certain: as a good flush leaves it
+abbrev pub IsOwnOnceFlushed : Disk → ℕ → ℕ → Contents → Type 0
+IsOwnOnceFlushed disk created guid contents = IsOwnWith (certain (bytes_of disk.now) disk) created guid contents
+
+-- from the first good flush of the old disk on each moment mounts these contents, and a crash, or another import, finds a disk that this pool
+-- alone wrote
+pub record IsSteady (old new : Disk) (created guid : ℕ) (contents : Contents) : Type 0 where
+  pub phases : HasSteadyPhases (disk_size old) created (certain (bytes_of old.now) old) new guid contents
   pub own : IsOwnWith new created guid contents
 
--- it is asked of an import of each disk that is the pool's own, with the moment of the create and the contents with which it is
+-- An import, wherever it stops and whatever it answers: no flush answered Ok and the disk is as it was, or all since its first good flush is steady.
+abbrev pub IsImportKept : Disk → Disk → (created guid : ℕ) → Contents → Type 0
+IsImportKept old new created guid contents = (new ≡ old) ⊎ IsSteady old new created guid contents
+
+-- It is asked of an import of each disk that is the pool's own once it is flushed, with the moment of the create and the contents with which it is.
+-- So is one that the pool alone wrote, and one that a run gave up.
 abbrev pub KeepsOwn : Disk → Disk → Type 0
-KeepsOwn old new = (created guid : ℕ) (contents : Contents) → IsOwnWith old created guid contents → IsImportKept old new created guid contents
+KeepsOwn old new = (created guid : ℕ) (contents : Contents) → IsOwnOnceFlushed old created guid contents → IsImportKept old new created guid contents
 
 -- a step of a run: at each of its moments the disk is kept for what was shown before, or for what is shown after
 abbrev pub IsStepKept : Disk → Disk → Shown → Shown → Past → Past → Type 0

@@ -1,5 +1,5 @@
 -- The phases of a pool's disk, at rest on one view or between two while the uberblocks of the new one are written; and when a pool alone has
--- written a disk since its create. No contract cites them yet.
+-- written a disk since its create.
 use Rattle.std.specs.Prelude.{ℕ, ◌≡◌, ◌≢◌, ◌≤◌, ◌<◌, ◌+◌, ◌⊎◌, List, [], length, map, Ok}
 use Rattle.base.specs.history.Contents.{Contents}
 use Rattle.base.specs.formats.Fields.{part, number_at}

@@ -1,5 +1,4 @@
 -- The views that a running pool keeps on its disk: the one of its synced group, and, while a sync runs, also the one of that sync's group.
--- No contract cites them yet.
 use Rattle.std.specs.Prelude.{ℕ, ◌≡◌, ◌<◌, ◌⊎◌, true, List, length, slice_get, Some, Ok}
 use Rattle.std.specs.List.{list_any}
 use Rattle.base.specs.declared.pointer.Pointer.{Pointer}

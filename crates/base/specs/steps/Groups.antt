@@ -1,5 +1,5 @@
 -- The line of transaction groups, and which transactions each has.
-use Rattle.std.specs.Prelude.{ℕ, ◌≡◌, ◌+◌, ◌==◌, ◌<◌, ◌≤◌, ◌&&◌, ◌⊎◌, Bool, true, false, not, List, map, filter, length, slice_get, Option, Some, None, IfSome, IsSomeAnd, unwrap_or}
+use Rattle.std.specs.Prelude.{ℕ, ◌≡◌, ◌≢◌, ◌+◌, ◌==◌, ◌<◌, ◌≤◌, ◌&&◌, ◌⊎◌, Bool, true, false, not, List, map, filter, AllPairs, length, slice_get, Option, Some, None, IfSome, IsSomeAnd, unwrap_or}
 use Rattle.std.specs.List.{list_any}
 use Rattle.base.specs.declared.operation.Shape.{Shape}
 use Rattle.base.specs.formats.Limits.{first_group, last_number, max_log_record}
@@ -40,6 +40,10 @@ pub record Admission : Type 0 where
   pub group : ℕ
   pub owner : ℕ
   pub plan : List Shape
+
+-- no two transactions have one name
+abbrev pub AreNamedApart : List Admission → Type 0
+AreNamedApart transactions = AllPairs (λ (a b : Admission). a.tx ≢ b.tx) transactions
 
 -- its group, and the ranges that its plan says
 abbrev pub admitted_of : Admission → Admitted

@@ -52,7 +52,7 @@ Step keeps now (step.Read owner n range) given old new =
 Step keeps now (step.Length n) given old new =
     Replies (λ length. reply.Length length) given (λ answer. steps.Length n.0 answer old new)
 Step keeps now step.Digest given old new =
-    Replies (λ digest. reply.Digest digest) given (λ answer. stage.Digest answer old new)
+    Replies (λ digest. reply.Digest digest) given (λ answer. stage.DigestInMemory answer old new)
 Step keeps now step.Name given old new =
     Replies (λ name. reply.Name name) given (λ answer. steps.Answers None answer old new (λ name. steps.Name name old new) steps.Never)
 Step keeps now step.Status given old new =

@@ -44,8 +44,8 @@ Read owner range answer old new = Answers (refusal.read_refusal owner range old.
     (λ bytes. IfSome (finite.get old.shown.contents.objects range.number) (λ all. bytes ≡ bytes_in range all) × (new ≡ old)) (WantsMemory old new)
 
 -- the digest of contents that stand in memory: it takes no memory, and asks nothing of the device
-abbrev pub Digest : Result (List ℕ) PoolError → State → State → Type 0
-Digest answer old new = Answers (refusal.digest_refusal old.shown) answer old new
+abbrev pub DigestInMemory : Result (List ℕ) PoolError → State → State → Type 0
+DigestInMemory answer old new = Answers (refusal.digest_refusal old.shown) answer old new
     (λ digest. (digest ≡ digest_of old.shown.contents) × (new ≡ old)) Never
 
 -- a sync may want memory, and then all stands: what is reserved for its group suffices for the blocks that it takes
