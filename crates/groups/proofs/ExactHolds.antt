@@ -2,11 +2,11 @@
 use Rattle.std.proofs.Common.{rules, ◌≡◌, ◌≢◌, ℕ, ◌+◌, ◌<◌, false, not, cond, List, length, refl, ap, sym, subst, ◌∙◌, arith, ◌⊎◌}
 use Rattle.std.specs.Prelude.{Option, Some, None, slice_get, ◌==◌}
 use Rattle.std.specs.Option.{option_map_or}
-use Rattle.base.specs.steps.Groups.{Middle, Admission, hold_count}
+use Rattle.base.specs.steps.Groups.{AreNamedApart, Middle, Admission, hold_count}
 use Rattle.base.specs.steps.Refusals.{quiescing_group}
 use Rattle.base.specs.steps.Steps.{transactions_without}
 use Rattle.groups.specs.CountedLines.{CountedLine, IsCounted, holds_of, after_release}
-use Rattle.groups.specs.Laws.{AreHoldsExact, AreNamedApart, IsReleased, CountTransactions}
+use Rattle.groups.specs.Laws.{AreHoldsExact, IsReleased, CountTransactions}
 use Rattle.groups.proofs.HoldCounts.{hold_in, hold_count-without, has_hold, length-of_two}
 
 -- a release takes one hold from its group, and none from another

@@ -5,8 +5,7 @@ use Rattle.std.proofs.lemmas.List.Kept.{AllPairs-filter}
 use Rattle.std.proofs.lemmas.Option.{slice_get-get_or}
 use Rattle.base.specs.history.History.{Entry}
 use Rattle.base.specs.steps.Locks.{is_in}
-use Rattle.base.specs.steps.Groups.{Line, Admission, AreMembers, open_transactions, is_committed}
-use Rattle.groups.specs.Laws.{AreNamedApart}
+use Rattle.base.specs.steps.Groups.{AreNamedApart, Line, Admission, AreMembers, open_transactions, is_committed}
 
 pub open_ones_are_named_apart : (l : Line) (admissions : List Admission) (entries : List Entry) (aborted : List ℕ) → AreMembers l admissions entries aborted
     → AreNamedApart (open_transactions admissions entries aborted)

@@ -39,8 +39,8 @@ IsLineOf g = IsLine (counted_line_of g).line
 abbrev pub middle_with : ℕ → line.Middle → Middle
 middle_with holds m = if m.quiesced then Quiesced (group_of m.group) else Quiescing (group_of m.group) holds
 
-abbrev pub fields_of : CountedLine → Inside
-fields_of l = record {
+abbrev pub line_fields : CountedLine → Inside
+line_fields l = record {
   synced = group_of l.line.synced;
   syncing = option_map group_of l.line.syncing;
   middle = option_map (middle_with l.middle_holds) l.line.middle;
@@ -57,8 +57,8 @@ same_middle None = refl
 same_middle (Some (Quiescing group holds)) = refl
 same_middle (Some (Quiesced group)) = refl
 
-pub fields_of-counted_line_of : (g : Inside) → fields_of (counted_line_of g) ≡ g
-fields_of-counted_line_of g = λ i. record {
+pub line_fields-counted_line_of : (g : Inside) → line_fields (counted_line_of g) ≡ g
+line_fields-counted_line_of g = λ i. record {
   synced = g.synced;
   syncing = same_group g.syncing i;
   middle = same_middle g.middle i;

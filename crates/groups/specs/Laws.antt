@@ -1,8 +1,8 @@
 -- What holds of the counts of holds, beside the transactions that are open.
-use Rattle.std.specs.Prelude.{ℕ, ◌≡◌, ◌≢◌, ◌<◌, ◌==◌, ◌++◌, false, not, List, [], ◌∷◌, length, slice_get, Some, AllPairs}
+use Rattle.std.specs.Prelude.{ℕ, ◌≡◌, ◌≢◌, ◌<◌, ◌==◌, ◌++◌, false, not, List, [], ◌∷◌, length, slice_get, Some}
 use Rattle.std.specs.Option.{option_map_or}
 use Rattle.base.specs.history.History.{Entry}
-use Rattle.base.specs.steps.Groups.{Line, Admission, AreMembers, open_transactions, hold_count}
+use Rattle.base.specs.steps.Groups.{AreNamedApart, Line, Admission, AreMembers, open_transactions, hold_count}
 use Rattle.base.specs.steps.Refusals.{quiescing_group, quiesced_group}
 use Rattle.base.specs.steps.Steps.{transactions_without}
 use Rattle.groups.specs.CountedLines.{CountedLine, IsCounted, holds_of, hold_total, counted_behind, after_hold, after_release, after_close, after_quiesce, after_start, after_sync, is_close_refused, is_quiesce_refused}
@@ -10,10 +10,6 @@ use Rattle.groups.specs.CountedLines.{CountedLine, IsCounted, holds_of, hold_tot
 -- each group has as many holds as it has open transactions
 abbrev pub AreHoldsExact : List Admission → CountedLine → Type 0
 AreHoldsExact transactions l = (group : ℕ) → holds_of l group ≡ hold_count group transactions
-
--- no two transactions have one name
-abbrev pub AreNamedApart : List Admission → Type 0
-AreNamedApart transactions = AllPairs (λ (a b : Admission). a.tx ≢ b.tx) transactions
 
 -- so it is of the open transactions of a pool
 abbrev pub OpenOnesAreNamedApart : Type 0

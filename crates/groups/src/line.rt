@@ -55,15 +55,15 @@ impl Model for Groups {
 
     ghost Value = { CountedLine };
 
-    ghost use Rattle.groups.specs.GroupFields.{IsLineOf, counted_line_of, fields_of, fields_of-counted_line_of};
+    ghost use Rattle.groups.specs.GroupFields.{IsLineOf, counted_line_of, line_fields, line_fields-counted_line_of};
 
     ghost view = { counted_line_of };
 
     ghost invariant = { IsLineOf };
 
-    ghost inverse = { fields_of };
+    ghost inverse = { line_fields };
 
-    ghost inverse_ok = { λ a h. fields_of-counted_line_of a };
+    ghost inverse_ok = { λ a h. line_fields-counted_line_of a };
 }
 
 impl Groups {

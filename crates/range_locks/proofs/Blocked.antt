@@ -10,7 +10,7 @@ use Rattle.base.specs.declared.range.Mode.TheVariants.{Reader, Writer}
 use Rattle.base.specs.history.Plans.{NumberRange, overlaps}
 use Rattle.base.specs.steps.Locks.{Grant, is_blocked, is_reader}
 use Rattle.base.proofs.common.KeptLists.{any_at, any_found}
-use Rattle.range_locks.specs.Locks.{Held, AreHeld, blocks}
+use Rattle.range_locks.specs.Locks.{LockTable, AreHeld, blocks}
 use Rattle.range_locks.proofs.LockCounts.{any-find, found_counted, one, span}
 use Rattle.range_locks.specs.Parts.{counts_of, IsBlockedIn, IsFreeIn, reads_at, writes_at}
 use Rattle.range_locks.specs.Pieces.{covers_byte}
@@ -28,7 +28,7 @@ counted_found p (x ∷ xs) some = by (counted_found p xs) (p x) refl
         let found = rest (omega arith) in
         (suc found.0, found.1, found.2, found.3)
 
-module _ (held : Held) (was : AreHeld held) (r : NumberRange) (some : r.low < r.high) (mode : Mode) where
+module _ (held : LockTable) (was : AreHeld held) (r : NumberRange) (some : r.low < r.high) (mode : Mode) where
   -- an offset that is covered by a lock of the other kind
   blocked_by : (k i : ℕ) (g : Grant) → r.low ≤ k → k < r.high → slice_get held.locks i ≡ Some g → covers_byte r.number k g ≡ true → not (is_reader g.mode && is_reader mode) ≡ true → is_blocked r mode held.locks ≡ true
   blocked_by k i g from below at covers apart =
@@ -99,7 +99,7 @@ module _ (held : Held) (was : AreHeld held) (r : NumberRange) (some : r.low < r.
               ∙ ap (λ b. b && nat_lt k g.range.high) (le-leb g.range.low k from) ∙ lt-ltb k g.range.high below
 
 -- so a range is blocked by the parts of its number exactly where it is by the held locks
-pub is_blocked-found : (held : Held) → AreHeld held → (r : NumberRange) → r.low < r.high → (mode : Mode) (b : Bool)
+pub is_blocked-found : (held : LockTable) → AreHeld held → (r : NumberRange) → r.low < r.high → (mode : Mode) (b : Bool)
     → (b ≡ true → IsBlockedIn (span r) mode (counts_of r.number held.locks))
     → (b ≡ false → IsFreeIn (span r) mode (counts_of r.number held.locks)) → b ≡ is_blocked r mode held.locks
 is_blocked-found held are r some mode true yields _ = sym (blocked_in held are r some mode (yields refl))

@@ -1,4 +1,4 @@
--- Held locks and the parts of all numbers stay in step as a lock is granted and as one is let go.
+-- LockTable locks and the parts of all numbers stay in step as a lock is granted and as one is let go.
 use Rattle.std.proofs.Common.{◌≡◌, ℕ, ◌<◌, ◌≤◌, ◌==◌, true, false, not, length, filter, ap, sym, subst, ◌∙◌, arith, inl, inr}
 use Rattle.std.specs.Prelude.{Some, None, Option, IfSome, slice_get}
 use Rattle.std.specs.List.{find}
@@ -12,8 +12,8 @@ use Rattle.base.specs.steps.Locks.{Grant, is_blocked, is_range_allowed, is_reade
 use Rattle.base.proofs.common.KeptLists.{at_filter, at_last, at_old, found_at, Some-injective}
 use Rattle.range_locks.specs.declared.parts.Part.{Part}
 use Rattle.range_locks.specs.declared.parts.Parts.{Parts}
-use Rattle.range_locks.specs.Locks.{Held, is_named, with_grant, without}
-use Rattle.range_locks.specs.Parts.{AreAllCounted, CanRecount, change_of_grant, change_of_release, Counts, counts_of, HasCounts, IsTableOf, most_counted, parts_of, stored, with_lock, without_lock, writes_at}
+use Rattle.range_locks.specs.Locks.{LockTable, is_named, with_grant, without}
+use Rattle.range_locks.specs.Parts.{AreAllCounted, CanRecount, change_of_grant, change_of_release, Counts, counts_of, HasCounts, IsTableOf, most_counted, parts_of, stored_part, with_lock, without_lock, writes_at}
 use Rattle.range_locks.specs.Pieces.{covers_byte}
 use Rattle.range_locks.proofs.Grants.{granted_are, without_are}
 use Rattle.range_locks.proofs.LockCounts.{counts_small, granted_elsewhere, granted_here, is_counted, let_go_elsewhere, let_go_here, span}
@@ -22,9 +22,9 @@ use Rattle.range_locks.proofs.Writers.{find_none, writer_alone}
 -- parts of counts are those of the same counts
 same_counts : (parts : Option Parts) (f g : Counts) → ((k : ℕ) → f k ≡ g k) → IsTableOf parts f → IsTableOf parts g
 same_counts None f g same is = λ k. ap (λ (p : Part). p.ends) (sym (same k)) ∙ is k
-same_counts (Some parts) f g same is = λ k. is k ∙ ap stored (same k)
+same_counts (Some parts) f g same is = λ k. is k ∙ ap stored_part (same k)
 
-module _ {S : Type 0} (held : Held) (numbers : HashMap ℕ Parts S) (was : AreAllCounted held numbers) where
+module _ {S : Type 0} (held : LockTable) (numbers : HashMap ℕ Parts S) (was : AreAllCounted held numbers) where
   -- the counts of a number are small
   pub numbers_small : (n : ℕ) → IfSome (parts_of numbers n) (λ (parts : Parts). HasCounts most_counted parts.table)
   numbers_small n = by (parts_of numbers n) (was.is n)

@@ -12,9 +12,9 @@ use Rattle.base.specs.history.Plans.{NumberRange}
 use Rattle.base.specs.steps.Locks.{Grant, is_blocked, is_range_allowed}
 use Rattle.base.proofs.common.KeptLists.{at_filter, pair_filter, push-cases}
 use Rattle.base.proofs.steps.BusyLocks.{granted-sound}
-use Rattle.range_locks.specs.Locks.{Held, AreHeld, with_grant, without}
+use Rattle.range_locks.specs.Locks.{LockTable, AreHeld, with_grant, without}
 
-module _ (held : Held) (was : AreHeld held) where
+module _ (held : LockTable) (was : AreHeld held) where
   -- one that is granted
   pub granted_are : (owner : ℕ) (range : NumberRange) (mode : Mode) → is_range_allowed range.low range.high ≡ true
       → is_blocked range mode held.locks ≡ false → length held.locks < max_locks → held.next ≤ last_number → AreHeld (with_grant owner range mode held)

@@ -11,7 +11,7 @@ use Rattle.base.specs.formats.Limits.{max_length}
 use Rattle.base.specs.steps.Locks.{Grant, is_in, is_reader}
 use Rattle.range_locks.specs.declared.held.HeldPiece.{HeldPiece}
 use Rattle.range_locks.specs.declared.parts.Part.{Part}
-use Rattle.range_locks.specs.Locks.{Held}
+use Rattle.range_locks.specs.Locks.{LockTable}
 use Rattle.range_locks.specs.Parts.{AreCounted, counts_of, is_covered_part, reads_at, writes_at}
 use Rattle.range_locks.specs.Pieces.{covers_byte, ends_of, piece_between, pieces_along, pieces_from, pieces_of, with_offset}
 use Rattle.range_locks.proofs.StoredParts.{no_end, part_here, stored_is}
@@ -67,7 +67,7 @@ no_pieces n locks none = ap (pieces_along n locks) (by (ends_of n locks) refl)
         let there : is_in x (ends_of n locks) ≡ true = ap (is_in x) is ∙ ap (λ b. b || is_in x xs) (eq-eqb x x refl) in
         let no_way : false ≡ true = sym (ap (λ y. nat_lt 0 y) (none x)) ∙ sym (in-ends_of n x locks) ∙ there in cc)
 
-module _ (table : BTreeMap ℕ Part) (n : ℕ) (held : Held) (was : AreCounted n held table) where
+module _ (table : BTreeMap ℕ Part) (n : ℕ) (held : LockTable) (was : AreCounted n held table) where
   is_end : (k : ℕ) (p : Part) → get nat_cmp table k ≡ Some p → is_in k (ends_of n held.locks) ≡ true
   is_end k p at = in-ends_of n k held.locks ∙ lt-ltb 0 (counts_of n held.locks k).ends (stored_is (counts_of n held.locks k) p (sym (was.is k) ∙ at)).1
 
@@ -107,9 +107,9 @@ module _ (table : BTreeMap ℕ Part) (n : ℕ) (held : Held) (was : AreCounted n
 
 -- the pieces so far, and those from the next key on, are all of them
 abbrev pub IsWalked : BTreeMap ℕ Part → List HeldPiece → Option (ℕ × Part) → Type 0
-IsWalked table pieces None = (n : ℕ) (held : Held) → AreCounted n held table → pieces ≡ pieces_of n held.locks
+IsWalked table pieces None = (n : ℕ) (held : LockTable) → AreCounted n held table → pieces ≡ pieces_of n held.locks
 IsWalked table pieces (Some b) = (b.0 < 338689) × (get nat_cmp table b.0 ≡ Some b.1)
-    × ((n : ℕ) (held : Held) → AreCounted n held table → pieces ++ pieces_from n held.locks b.0 (ends_from (b.0 + 1) (ends_of n held.locks)) ≡ pieces_of n held.locks)
+    × ((n : ℕ) (held : LockTable) → AreCounted n held table → pieces ++ pieces_from n held.locks b.0 (ends_from (b.0 + 1) (ends_of n held.locks)) ≡ pieces_of n held.locks)
 
 module _ (table : BTreeMap ℕ Part) where
   walk_begins : (low : ℕ) (p : Part) → low < 338689 → get nat_cmp table low ≡ Some p → ((k : ℕ) → 0 ≤ k → k < low → get nat_cmp table k ≡ None) → IsWalked table [] (Some (low, p))

@@ -10,7 +10,7 @@ use Rattle.base.specs.declared.range.Mode.TheVariants.{Reader, Writer}
 use Rattle.base.specs.steps.Locks.{is_reader}
 use Rattle.range_locks.specs.declared.parts.Change.{Change}
 use Rattle.range_locks.specs.declared.parts.Part.{Part}
-use Rattle.range_locks.specs.Parts.{blocks_part, CanRecountPart, change_of_grant, Counts, most_counted, IsFreeIn, IsTable, IsStill, stored, recounted, recounted_part}
+use Rattle.range_locks.specs.Parts.{blocks_part, CanRecountPart, change_of_grant, Counts, most_counted, IsFreeIn, IsTable, IsStill, stored_part, recounted, recounted_part}
 use Rattle.range_locks.proofs.StoredParts.{no_end, part_here, stored_is, stored_none, stored-zero}
 use Rattle.range_locks.proofs.Updates.{written, stored-some, ends-recounted_part, recounted-in, recounted-before, recounted-behind}
 
@@ -22,16 +22,16 @@ module _ (low : ℕ) (change : Change) where
   pub widened : (table : BTreeMap ℕ Part) (offset at : ℕ) → low ≤ offset → offset ≤ at
       → ((k : ℕ) → offset ≤ k → k < at → get nat_cmp table k ≡ None) → (f : Counts)
       → IsTable table (recounted (record { low = low; high = offset }) change f) → IsTable table (recounted (record { low = low; high = at }) change f)
-  widened table offset at from within none f is j = is j ∙ elim (cases_lt j low) as (λ _. stored (up_to offset f j) ≡ stored (up_to at f j)) [
-    | inl before ↦ ap stored (recounted-before low offset change f j before ∙ sym (recounted-before low at change f j before))
-    | inr after ↦ elim (cases_lt j offset) as (λ _. stored (up_to offset f j) ≡ stored (up_to at f j)) [
-      | inl below ↦ ap stored (recounted-in low offset change f j after below ∙ sym (recounted-in low at change f j after (omega arith)))
-      | inr beyond ↦ elim (cases_lt j at) as (λ _. stored (up_to offset f j) ≡ stored (up_to at f j)) [
+  widened table offset at from within none f is j = is j ∙ elim (cases_lt j low) as (λ _. stored_part (up_to offset f j) ≡ stored_part (up_to at f j)) [
+    | inl before ↦ ap stored_part (recounted-before low offset change f j before ∙ sym (recounted-before low at change f j before))
+    | inr after ↦ elim (cases_lt j offset) as (λ _. stored_part (up_to offset f j) ≡ stored_part (up_to at f j)) [
+      | inl below ↦ ap stored_part (recounted-in low offset change f j after below ∙ sym (recounted-in low at change f j after (omega arith)))
+      | inr beyond ↦ elim (cases_lt j at) as (λ _. stored_part (up_to offset f j) ≡ stored_part (up_to at f j)) [
         | inl between ↦
-            let nothing : stored (f j) ≡ None = sym (ap stored (recounted-behind low offset change f j beyond)) ∙ sym (is j) ∙ none j beyond between in
+            let nothing : stored_part (f j) ≡ None = sym (ap stored_part (recounted-behind low offset change f j beyond)) ∙ sym (is j) ∙ none j beyond between in
             let no_ends : (f j).ends ≡ 0 = stored_none (f j) nothing in
-            ap stored (recounted-behind low offset change f j beyond) ∙ nothing ∙ sym (ap stored (recounted-in low at change f j after between) ∙ stored-zero (recounted_part change (f j)) (ends-recounted_part change (f j) ∙ no_ends))
-        | inr behind ↦ ap stored (recounted-behind low offset change f j beyond ∙ sym (recounted-behind low at change f j behind))
+            ap stored_part (recounted-behind low offset change f j beyond) ∙ nothing ∙ sym (ap stored_part (recounted-in low at change f j after between) ∙ stored-zero (recounted_part change (f j)) (ends-recounted_part change (f j) ∙ no_ends))
+        | inr behind ↦ ap stored_part (recounted-behind low offset change f j beyond ∙ sym (recounted-behind low at change f j behind))
       ]
     ]
   ]
@@ -53,10 +53,10 @@ module _ (low : ℕ) (change : Change) where
       some : 0 < (f at).ends
       some = subst (λ (p : Part). 0 < p.ends) (recounted-behind low at change f at (omega arith)) (stored_is (up_to at f at) part (sym (wide at) ∙ there)).1
 
-      here : Some v ≡ stored (up_to (at + 1) f at)
+      here : Some v ≡ stored_part (up_to (at + 1) f at)
       here = ap Some v_is ∙ ap (λ (p : Part). Some (recounted_part change p)) part_is
           ∙ sym (stored-some (recounted_part change (f at)) (subst (λ x. 0 < x) (sym (ends-recounted_part change (f at))) some))
-          ∙ ap stored (sym (recounted-in low (at + 1) change f at (omega arith) (omega arith)))
+          ∙ ap stored_part (sym (recounted-in low (at + 1) change f at (omega arith) (omega arith)))
 
       apart : (j : ℕ) → (j ≡ at → ⊥) → up_to (at + 1) f j ≡ up_to at f j
       apart j other = elim (cases_lt j at) as (λ _. up_to (at + 1) f j ≡ up_to at f j) [

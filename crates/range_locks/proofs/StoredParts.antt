@@ -6,24 +6,24 @@ use Rattle.std.specs.Ordering.{nat_cmp}
 use Rattle.std.proofs.lemmas.Bool.{eq-eqb, eqb-true, eqb-false}
 use Rattle.base.proofs.common.KeptLists.{Some-injective}
 use Rattle.range_locks.specs.declared.parts.Part.{Part}
-use Rattle.range_locks.specs.Parts.{Counts, IsStill, IsTable, stored}
+use Rattle.range_locks.specs.Parts.{Counts, IsStill, IsTable, stored_part}
 
--- a part that is stored is what is counted, and some lock begins or ends there
-pub stored_is : (q p : Part) → stored q ≡ Some p → (p ≡ q) × (0 < q.ends)
+-- a part that is stored_part is what is counted, and some lock begins or ends there
+pub stored_is : (q p : Part) → stored_part q ≡ Some p → (p ≡ q) × (0 < q.ends)
 stored_is q p h = by (q.ends == 0) refl
   where
     by : (b : Bool) → (q.ends == 0) ≡ b → (p ≡ q) × (0 < q.ends)
     by true e = absurd (let no_way : ◌≡◌ {A = Option Part} None (Some p) = sym (ap (λ b. cond b None (Some q)) e) ∙ h in cc)
     by false e = (sym (Some-injective (sym (ap (λ b. cond b None (Some q)) e) ∙ h)), let some : q.ends ≡ 0 → ⊥ = eqb-false q.ends 0 e in omega (arith, some))
 
-pub stored_none : (q : Part) → stored q ≡ None → q.ends ≡ 0
+pub stored_none : (q : Part) → stored_part q ≡ None → q.ends ≡ 0
 stored_none q h = by (q.ends == 0) refl
   where
     by : (b : Bool) → (q.ends == 0) ≡ b → q.ends ≡ 0
     by true e = eqb-true q.ends 0 e
     by false e = absurd (let no_way : ◌≡◌ {A = Option Part} (Some q) None = sym (ap (λ b. cond b None (Some q)) e) ∙ h in cc)
 
-pub stored-zero : (q : Part) → q.ends ≡ 0 → stored q ≡ None
+pub stored-zero : (q : Part) → q.ends ≡ 0 → stored_part q ≡ None
 stored-zero q h = ap (λ b. cond b None (Some q)) (eq-eqb q.ends 0 h)
 
 -- where no lock begins or ends nothing changes

@@ -9,7 +9,7 @@ use Rattle.std.proofs.lemmas.Bool.{eq-eqb, ne_eqb, cases_eq, cases_order, le-leb
 use Rattle.range_locks.specs.declared.parts.Change.{Change}
 use Rattle.range_locks.specs.declared.parts.Change.TheVariants.{ReaderCame, ReaderLeft, WriterCame, WriterLeft}
 use Rattle.range_locks.specs.declared.parts.Part.{Part}
-use Rattle.range_locks.specs.Parts.{Counts, IsTable, IsStill, stored, recounted, recounted_part, with_end, without_end}
+use Rattle.range_locks.specs.Parts.{Counts, IsTable, IsStill, stored_part, recounted, recounted_part, with_end, without_end}
 use Rattle.range_locks.proofs.StoredParts.{no_end, part_here, stored-zero}
 
 is_at-key : (k j : ℕ) → is_at (nat_cmp k) j ≡ (j == k)
@@ -24,10 +24,10 @@ is_at-key k j = elim (cases_order k j) as (λ _. is_eq (nat_cmp k j) ≡ (j == k
 -- a table that differs at one key is one of counts that differ at one offset
 pub updated : (old new : BTreeMap ℕ Part) (k : ℕ) (w : Option Part) (f g : Counts) → IsTable old f
     → ((q : ℕ) → get nat_cmp new q ≡ cond (is_at (nat_cmp k) q) w (get nat_cmp old q))
-    → w ≡ stored (g k) → ((j : ℕ) → (j ≡ k → ⊥) → g j ≡ f j) → IsTable new g
-updated old new k w f g is update here apart j = update j ∙ ap (λ b. cond b w (get nat_cmp old j)) (is_at-key k j) ∙ elim (cases_eq j k) as (λ _. cond (j == k) w (get nat_cmp old j) ≡ stored (g j)) [
-  | inl same ↦ ap (λ b. cond b w (get nat_cmp old j)) (eq-eqb j k same) ∙ here ∙ ap (λ x. stored (g x)) (sym same)
-  | inr other ↦ ap (λ b. cond b w (get nat_cmp old j)) (ne_eqb j k other) ∙ is j ∙ ap stored (sym (apart j other))
+    → w ≡ stored_part (g k) → ((j : ℕ) → (j ≡ k → ⊥) → g j ≡ f j) → IsTable new g
+updated old new k w f g is update here apart j = update j ∙ ap (λ b. cond b w (get nat_cmp old j)) (is_at-key k j) ∙ elim (cases_eq j k) as (λ _. cond (j == k) w (get nat_cmp old j) ≡ stored_part (g j)) [
+  | inl same ↦ ap (λ b. cond b w (get nat_cmp old j)) (eq-eqb j k same) ∙ here ∙ ap (λ x. stored_part (g x)) (sym same)
+  | inr other ↦ ap (λ b. cond b w (get nat_cmp old j)) (ne_eqb j k other) ∙ is j ∙ ap stored_part (sym (apart j other))
 ]
 
 module _ (k : ℕ) (f : Counts) where
@@ -76,11 +76,11 @@ module _ (k : ℕ) (f : Counts) where
 -- a value that is written at a key
 pub written : (old new : BTreeMap ℕ Part) (k : ℕ) (v : Part) (f g : Counts) → IsTable old f
     → WritesThrough nat_cmp (nat_cmp k) old v new → IsSome (get nat_cmp old k)
-    → Some v ≡ stored (g k) → ((j : ℕ) → (j ≡ k → ⊥) → g j ≡ f j) → IsTable new g
+    → Some v ≡ stored_part (g k) → ((j : ℕ) → (j ≡ k → ⊥) → g j ≡ f j) → IsTable new g
 written old new k v f g is writes there here apart = updated old new k (Some v) f g is (writes.3 there).0 here apart
 
--- a part that is stored
-pub stored-some : (p : Part) → 0 < p.ends → stored p ≡ Some p
+-- a part that is stored_part
+pub stored-some : (p : Part) → 0 < p.ends → stored_part p ≡ Some p
 stored-some p some = ap (λ b. cond b None (Some p)) (ne_eqb p.ends 0 (λ none. omega arith))
 
 -- how many locks end at a part does not depend on what covers it
@@ -121,7 +121,7 @@ end_fewer old new k p q f is there some there_too writes =
     let q_is : q ≡ f k = part_here old f is k q there_too in
     let more : 1 < (f k).ends = subst (λ (x : Part). 1 < x.ends) p_is some in
     written old new k (record q { ends = p.ends - 1 }) f (without_end k f) is writes (ap is_some there)
-    ((λ i. Some (record (q_is i) { ends = (p_is i).ends - 1 })) ∙ sym (ap stored (without_end-here k f) ∙ stored-some (record (f k) { ends = (f k).ends - 1 }) (omega arith)))
+    ((λ i. Some (record (q_is i) { ends = (p_is i).ends - 1 })) ∙ sym (ap stored_part (without_end-here k f) ∙ stored-some (record (f k) { ends = (f k).ends - 1 }) (omega arith)))
     (without_end-apart k f)
 
 -- and where there are none
@@ -130,7 +130,7 @@ pub end_gone : (old new : BTreeMap ℕ Part) (k : ℕ) (f : Counts) → IsTable 
     → ((q : ℕ) → get nat_cmp new q ≡ cond (is_at (nat_cmp k) q) None (get nat_cmp old q)) → IsTable new (without_end k f)
 end_gone old new k f is few update =
     updated old new k None f (without_end k f) is update
-    (sym (ap stored (without_end-here k f) ∙ stored-zero (record (f k) { ends = (f k).ends - 1 }) (let most : (f k).ends ≤ 1 = by (get nat_cmp old k) refl few in omega arith)))
+    (sym (ap stored_part (without_end-here k f) ∙ stored-zero (record (f k) { ends = (f k).ends - 1 }) (let most : (f k).ends ≤ 1 = by (get nat_cmp old k) refl few in omega arith)))
     (without_end-apart k f)
   where
     by : (o : Option Part) → get nat_cmp old k ≡ o → IfSome o (λ (p : Part). p.ends ≤ 1) → (f k).ends ≤ 1

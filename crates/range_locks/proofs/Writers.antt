@@ -10,7 +10,7 @@ use Rattle.base.specs.declared.range.Mode.TheVariants.{Reader, Writer}
 use Rattle.base.specs.history.Plans.{NumberRange, lies_in, overlaps}
 use Rattle.base.specs.steps.Locks.{AreLocksSound, Grant, is_covered, is_covered_for_writing, is_reader}
 use Rattle.base.proofs.common.KeptLists.{any_found, any_none, found_at, none_any, not_found, Some-injective}
-use Rattle.range_locks.specs.Locks.{Held, AreHeld, covers, covers_for_writing, is_named}
+use Rattle.range_locks.specs.Locks.{LockTable, AreHeld, covers, covers_for_writing, is_named}
 use Rattle.range_locks.specs.Parts.{counts_of, name_of, reads_at, writes_at}
 use Rattle.range_locks.specs.Pieces.{covers_byte}
 use Rattle.range_locks.proofs.LockCounts.{same_name, found_counted}
@@ -68,7 +68,7 @@ find_none p locks none = by (find p locks) refl
     by None is = refl
     by (Some g) is = absurd (let found = found_at p locks g is in none found.0 g found.1 found.2)
 
-module _ (held : Held) (are : AreHeld held) (owner : ℕ) (r : NumberRange) (some : r.low < r.high) where
+module _ (held : LockTable) (are : AreHeld held) (owner : ℕ) (r : NumberRange) (some : r.low < r.high) where
   -- a lock that covers a range covers its first offset
   covers_first : (h : Grant) → covers owner r h ≡ true → covers_byte r.number r.low h ≡ true
   covers_first h is =

@@ -13,7 +13,7 @@ use Rattle.base.specs.declared.range.Range.{Range}
 use Rattle.base.specs.formats.Limits.{max_locks}
 use Rattle.base.specs.steps.Locks.{Grant, is_reader}
 use Rattle.range_locks.specs.Pieces.{covers_byte}
-use Rattle.range_locks.specs.Locks.{Held, AreHeld}
+use Rattle.range_locks.specs.Locks.{LockTable, AreHeld}
 use Rattle.range_locks.specs.declared.parts.Part.{Part}
 use Rattle.range_locks.specs.declared.parts.Parts.{Parts}
 use Rattle.range_locks.specs.declared.parts.Change.{Change}
@@ -54,11 +54,11 @@ counts_of n locks k = record {
 }
 
 -- the table has the offsets where a lock begins or ends
-abbrev pub stored : Part → Option Part
-stored p = if p.ends == 0 then None else Some p
+abbrev pub stored_part : Part → Option Part
+stored_part p = if p.ends == 0 then None else Some p
 
 abbrev pub IsTable : BTreeMap ℕ Part → Counts → Type 0
-IsTable table f = (k : ℕ) → get nat_cmp table k ≡ stored (f k)
+IsTable table f = (k : ℕ) → get nat_cmp table k ≡ stored_part (f k)
 
 -- the table has nothing at the offsets from one to another
 abbrev pub HasNone : BTreeMap ℕ Part → ℕ → ℕ → Type 0
@@ -145,7 +145,7 @@ abbrev pub IsFreeIn : Range → Mode → Counts → Type 0
 IsFreeIn r mode f = (k : ℕ) → r.low ≤ k → k < r.high → blocks_part mode (f k) ≡ false
 
 -- held locks, and a table of the parts of a number that is theirs
-pub record AreCounted (n : ℕ) (held : Held) (table : BTreeMap ℕ Part) : Type 0 where
+pub record AreCounted (n : ℕ) (held : LockTable) (table : BTreeMap ℕ Part) : Type 0 where
   pub are : AreHeld held
   pub is : IsTable table (counts_of n held.locks)
 
@@ -166,6 +166,6 @@ abbrev pub BecomesOf : Option Parts → (Counts → Counts) → Option Parts →
 BecomesOf old change new = (f : Counts) → IsTableOf old f → IsTableOf new (change f)
 
 -- held locks, and the parts of all numbers that are theirs
-pub record AreAllCounted {S : Type 0} (held : Held) (numbers : HashMap ℕ Parts S) : Type 0 where
+pub record AreAllCounted {S : Type 0} (held : LockTable) (numbers : HashMap ℕ Parts S) : Type 0 where
   pub are : AreHeld held
   pub is : (n : ℕ) → IsTableOf (parts_of numbers n) (counts_of n held.locks)

@@ -27,10 +27,10 @@ pub struct RangeLocks {
 
 impl Model for RangeLocks {
     ghost use Rattle.std.specs.Prelude.{map};
-    ghost use Rattle.range_locks.specs.Locks.{Held, grant_of};
+    ghost use Rattle.range_locks.specs.Locks.{LockTable, grant_of};
     ghost use Rattle.range_locks.specs.Parts.{AreAllCounted};
 
-    ghost Value = { Held };
+    ghost Value = { LockTable };
 
     ghost view = { λ a. record { locks = map grant_of a.held.entries; next = a.held.next } };
 
@@ -44,7 +44,7 @@ impl RangeLocks {
     ghost use Rattle.std.specs.Map.Iter.{ShowsInOrder, deref_pair};
     ghost use Rattle.base.specs.formats.Limits.{max_locks};
     ghost use Rattle.base.specs.steps.Locks.{AreLocksSound, is_blocked, is_covered, is_covered_for_writing};
-    ghost use Rattle.range_locks.specs.Locks.{AnswersBy, Appends, append_refusal, GrantsOne, grant_of, is_named, lock_refusal, without};
+    ghost use Rattle.range_locks.specs.Locks.{AnswersBy, Appends, first_append_refusal, GrantsOne, grant_of, is_named, first_lock_refusal, without};
     ghost use Rattle.range_locks.specs.Pieces.{pieces_of};
 
     /// No locks. It takes no memory.
@@ -70,7 +70,7 @@ impl RangeLocks {
         range: ObjectRange,
         mode: Mode,
     ) -> Result<LockId, PoolError>
-        ensures refused { AnswersBy (lock_refusal (number_range range) mode self.old) result }
+        ensures refused { AnswersBy (first_lock_refusal (number_range range) mode self.old) result }
         ensures granted { IfOk result
             (λ id. GrantsOne id owner (number_range range) mode self.old self.new) }
         ensures unchanged { OnErr result (self.new ≡ self.old) }
@@ -110,7 +110,7 @@ impl RangeLocks {
         object: ObjectId,
         length: Option<u64>,
     ) -> Result<(LockId, Range), PoolError>
-        ensures refused { AnswersBy (append_refusal object.0 length self.old) result }
+        ensures refused { AnswersBy (first_append_refusal object.0 length self.old) result }
         ensures granted { IfOk result
             (λ a. Appends a.0 a.1 owner object length self.old self.new) }
         ensures unchanged { OnErr result (self.new ≡ self.old) }

@@ -2,7 +2,7 @@
 
 ghost use Rattle.std.specs.Prelude.{ℕ, ◌≡◌, ◌≢◌, ◌≤◌, ◌<◌, true, false, None, Some, IfSome, IfOk, OnOk, OnErr, IfErr};
 ghost use Rattle.range_locks.specs.declared.parts.Parts.{Parts};
-ghost use Rattle.range_locks.specs.Locks.{Held};
+ghost use Rattle.range_locks.specs.Locks.{LockTable};
 ghost use Rattle.range_locks.specs.Pieces.{pieces_of};
 ghost use Rattle.range_locks.specs.Parts.{AreAllCounted, BecomesOf, CanRecount, change_of_grant, change_of_release, HasCounts, HasNoParts, HoldsOf, IsBlockedIn, IsFreeIn, IsTableOf, most_counted, parts_of, with_lock, without_lock};
 
@@ -101,7 +101,7 @@ impl Numbers {
 
     /// The pieces of a number, rising.
     pub fn pieces(&self, number: ObjectId) -> Result<Vec<HeldPiece>, PoolError>
-        ensures pieces { IfOk result (λ pieces. (held : Held)
+        ensures pieces { IfOk result (λ pieces. (held : LockTable)
             → AreAllCounted held self.now.parts → pieces.items ≡ pieces_of number.0 held.locks) }
         ensures refused { IfErr result (λ e. e ≡ PoolError.NoMemory) }
     {

@@ -7,7 +7,7 @@
 ghost use Rattle.std.specs.Prelude.{ℕ, ◌≡◌, ◌+◌, ◌<◌, ◌≤◌, ◌↔◌, true, false, None, Some, IfSome, IfNone, IfOk, OnOk, OnErr, IfErr, IsTrue};
 ghost use Rattle.std.specs.BTreeMap.{get};
 ghost use Rattle.std.specs.Ordering.{nat_cmp};
-ghost use Rattle.range_locks.specs.Locks.{Held};
+ghost use Rattle.range_locks.specs.Locks.{LockTable};
 ghost use Rattle.range_locks.specs.Pieces.{pieces_of};
 ghost use Rattle.range_locks.specs.Parts.{AreCounted, Becomes, blocks_part, CanRecount, CanRecountPart, change_of_grant, change_of_release, HasCounts, HasNone, HasNoParts, HoldsFor, IsBlockedIn, IsFreeIn, is_covered_part, IsTable, most_counted, recounted, recounted_part, with_end, with_lock, without_end, without_lock};
 
@@ -253,7 +253,7 @@ impl Parts {
 
     /// The pieces, rising.
     pub fn pieces(&self, alloc: Global) -> Result<Vec<HeldPiece>, PoolError>
-        ensures pieces { IfOk result (λ pieces. (n : ℕ) (held : Held)
+        ensures pieces { IfOk result (λ pieces. (n : ℕ) (held : LockTable)
             → AreCounted n held self.now.table → pieces.items ≡ pieces_of n held.locks) }
         ensures refused { IfErr result (λ e. e ≡ PoolError.NoMemory) }
     {

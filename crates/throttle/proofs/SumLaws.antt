@@ -10,7 +10,7 @@ use Rattle.std.specs.FinMap.{FinMap, same_map, nat_cmp-IsAntisymmetric}
 use Rattle.base.specs.steps.Groups.{Line, IsLine}
 use Rattle.base.specs.steps.Shown.{Shown, dirty_of, dirty_total}
 use Rattle.base.specs.steps.Charges.{with_sum}
-use Rattle.throttle.specs.DirtyBytes.{DirtyBytes, AreWithinLimit, sum_of, total_of, entry_of, after_admit, after_cancel}
+use Rattle.throttle.specs.DirtyBytes.{DirtyBytes, AreWithinLimit, sum_of, total_of, kept_sum, after_admit, after_cancel}
 use Rattle.throttle.specs.Laws.{AreSumsOf}
 use Rattle.throttle.proofs.GroupSums.{with_sum-some, unwrap_or-entry_of, get-with_sum_own, get-with_sum_other}
 
@@ -62,7 +62,7 @@ pub admits_are_entered : (d : DirtyBytes) (group charge : ℕ) → 0 < charge �
 admits_are_entered d group charge some = λ k. record { limit = d.limit; synced = d.synced; sums = with_sum-some group (sum_of d group + charge) d.sums (omega arith) k }
 
 -- the entry of a sum is what the map has, where it has no zero
-entry_of-sum : (o : Option ℕ) → ((n : ℕ) → o ≡ Some n → 0 < n) → entry_of (unwrap_or o 0) ≡ o
+entry_of-sum : (o : Option ℕ) → ((n : ℕ) → o ≡ Some n → 0 < n) → kept_sum (unwrap_or o 0) ≡ o
 entry_of-sum None some = refl
 entry_of-sum (Some zero) some = absurd (let no_way : 0 < 0 = some 0 refl in omega arith)
 entry_of-sum (Some (suc n)) some = refl

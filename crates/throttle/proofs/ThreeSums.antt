@@ -7,7 +7,7 @@ use Rattle.std.specs.Ordering.{nat_cmp}
 use Rattle.std.specs.FinMap as finite
 use Rattle.std.specs.FinMap.{FinMap, get-empty}
 use Rattle.base.specs.steps.Charges.{with_sum}
-use Rattle.throttle.specs.DirtyBytes.{MayBeUnsynced, AreWithinLimit, sum_of, total_of, entry_of}
+use Rattle.throttle.specs.DirtyBytes.{MayBeUnsynced, AreWithinLimit, sum_of, total_of, kept_sum}
 use Rattle.throttle.specs.DirtyFields.{sums_from, dirty_bytes_of, three_total}
 use Rattle.throttle.specs.declared.dirty.Dirty.TheInside.{Inside}
 use Rattle.throttle.proofs.GroupSums.{unwrap_or-entry_of, get-with_sum_own, get-with_sum_other, get-removed, get-removed_other, get-before, get-past, get-at, same_sums}
@@ -60,8 +60,8 @@ module _ (d : Inside) (three : length d.sums ≡ 3) where
       no_entry : {A : Type 0} (o : Option A) (a : A) → o ≡ None → o ≡ Some a → ⊥
       no_entry o a none some = let no_way : None ≡ Some a = sym none ∙ some in cc
 
-      positive : (n sum : ℕ) → entry_of n ≡ Some sum → 0 < sum
-      positive zero sum is = absurd (no_entry (entry_of zero) sum refl is)
+      positive : (n sum : ℕ) → kept_sum n ≡ Some sum → 0 < sum
+      positive zero sum is = absurd (no_entry (kept_sum zero) sum refl is)
       positive (suc n) sum is = let same : suc n ≡ sum = ap (λ o. unwrap_or o 0) is in omega arith
 
       by : (group sum : ℕ) → finite.get (sums_from (d.synced.0 + 1) d.sums) group ≡ Some sum → (d.synced.0 < group) ⊎ (group ≤ d.synced.0) → (d.synced.0 + 3 < group) ⊎ (group ≤ d.synced.0 + 3)
@@ -87,7 +87,7 @@ module _ (d : Inside) (three : length d.sums ≡ 3) where
       (λ i q low is. at i q (omega arith) is (cases_eq q group))
     where
       at : (i q : ℕ) → i < 3 → q ≡ d.synced.0 + 1 + i → (q ≡ group) ⊎ (q ≢ group)
-          → finite.get (with_sum group n (sums_from (d.synced.0 + 1) d.sums)) q ≡ entry_of (get_or (list_set d.sums (group - d.synced.0 - 1) n) i 0)
+          → finite.get (with_sum group n (sums_from (d.synced.0 + 1) d.sums)) q ≡ kept_sum (get_or (list_set d.sums (group - d.synced.0 - 1) n) i 0)
       at i q low is (inl same) =
           let place : i ≡ group - d.synced.0 - 1 = omega arith in
           rw (same, place, get_or-set_same d.sums (group - d.synced.0 - 1) n 0 (omega arith)) (get-with_sum_own group n (sums_from (d.synced.0 + 1) d.sums))
@@ -96,7 +96,7 @@ module _ (d : Inside) (three : length d.sums ≡ 3) where
           let apart : i ≢ group - d.synced.0 - 1 = λ e. other (omega arith) in
           get-with_sum_other group n (sums_from (d.synced.0 + 1) d.sums) q other
           ∙ get-at (d.synced.0 + 1) d.sums i q (omega arith) is
-          ∙ ap entry_of (sym (get_or-set_other d.sums (group - d.synced.0 - 1) i n 0 apart))
+          ∙ ap kept_sum (sym (get_or-set_other d.sums (group - d.synced.0 - 1) i n 0 apart))
 
   -- the first sum ends, and the others move up
   pub sums_from-synced : finite.remove (sums_from (d.synced.0 + 1) d.sums) (d.synced.0 + 1)
@@ -114,7 +114,7 @@ module _ (d : Inside) (three : length d.sums ≡ 3) where
       before q (inl same) low = rw same (get-removed sums (d.synced.0 + 1))
       before q (inr other) low = get-removed_other sums (d.synced.0 + 1) q other ∙ get-before (d.synced.0 + 1) d.sums q (omega arith)
 
-      at : (i q : ℕ) → i < 3 → q ≡ d.synced.0 + 1 + 1 + i → finite.get sums q ≡ entry_of (get_or (get_or d.sums 1 0 ∷ get_or d.sums 2 0 ∷ 0 ∷ []) i 0)
+      at : (i q : ℕ) → i < 3 → q ≡ d.synced.0 + 1 + 1 + i → finite.get sums q ≡ kept_sum (get_or (get_or d.sums 1 0 ∷ get_or d.sums 2 0 ∷ 0 ∷ []) i 0)
       at zero q low is = get-at (d.synced.0 + 1) d.sums 1 q (omega arith) (omega arith)
       at (suc zero) q low is = get-at (d.synced.0 + 1) d.sums 2 q (omega arith) (omega arith)
       at (suc (suc zero)) q low is = get-past (d.synced.0 + 1) d.sums q (omega arith)
@@ -124,7 +124,7 @@ module _ (d : Inside) (three : length d.sums ≡ 3) where
 pub sums_from-none : (first : ℕ) → sums_from first (0 ∷ 0 ∷ 0 ∷ []) ≡ finite.empty
 sums_from-none first = sym (same_sums finite.empty first (0 ∷ 0 ∷ 0 ∷ []) (λ q low. get-empty nat_cmp q) (λ q high. get-empty nat_cmp q) (λ i q low is. get-empty nat_cmp q ∙ none i low))
   where
-    none : (i : ℕ) → i < 3 → None ≡ entry_of (get_or (0 ∷ 0 ∷ 0 ∷ []) i 0)
+    none : (i : ℕ) → i < 3 → None ≡ kept_sum (get_or (0 ∷ 0 ∷ 0 ∷ []) i 0)
     none zero low = refl
     none (suc zero) low = refl
     none (suc (suc zero)) low = refl

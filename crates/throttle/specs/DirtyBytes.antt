@@ -40,9 +40,9 @@ abbrev pub is_throttled : ℕ → DirtyBytes → Bool
 is_throttled charge d = nat_lt d.limit (total_of d + charge)
 
 -- what a map has of a sum
-abbrev pub entry_of : ℕ → Option ℕ
-entry_of zero = None
-entry_of (suc n) = Some (suc n)
+abbrev pub kept_sum : ℕ → Option ℕ
+kept_sum zero = None
+kept_sum (suc n) = Some (suc n)
 
 abbrev pub dirty_behind : ℕ → ℕ → DirtyBytes
 dirty_behind limit synced = record { limit = limit; synced = synced; sums = finite.empty }

@@ -13,7 +13,7 @@ use Rattle.base.specs.history.Plans.{is_plan_allowed}
 use Rattle.base.specs.steps.Groups.{Admission}
 use Rattle.base.specs.steps.Steps.{transactions_without}
 use Rattle.transactions.specs.declared.«open».OpenTransaction.{OpenTransaction}
-use Rattle.transactions.specs.Open.{admission_of, admissions_at, passes_at, is_of_name, keys_without, AreHeld, AreNamed, admission_of_name}
+use Rattle.transactions.specs.Open.{admission_of, admissions_at, passes_at, is_of_name, keys_without, AreOpenAt, AreNamed, admission_of_name}
 
 abbrev is_present : Slab OpenTransaction → ℕ → Bool
 is_present slots key = is_some (get slots key)
@@ -60,7 +60,7 @@ module _ (old new : Slab OpenTransaction) (key : ℕ) (t : OpenTransaction) (vac
       filter_map-append (λ k. option_map admission_of (get new k)) keys (key ∷ [])
       ∙ (λ i. admissions_stay keys present i ++ cons_option (option_map admission_of (updates.changed i)) [])
 
-  pub held_push : (keys : List ℕ) (next : ℕ) → AreHeld old keys next → t.tx.0 ≡ next → is_plan_allowed t.plan ≡ true → AreHeld new (keys ++ key ∷ []) (next + 1)
+  pub held_push : (keys : List ℕ) (next : ℕ) → AreOpenAt old keys next → t.tx.0 ≡ next → is_plan_allowed t.plan ≡ true → AreOpenAt new (keys ++ key ∷ []) (next + 1)
   held_push keys next held named allowed =
       let here : is_present new key ≡ true = ap is_some updates.changed in
       let before = held.allowed in
@@ -72,7 +72,7 @@ module _ (old new : Slab OpenTransaction) (key : ℕ) (t : OpenTransaction) (vac
 
 -- behind a reserve of room, which leaves the slots
 module _ (slots reserved new : Slab OpenTransaction) (order keys : List ℕ) (key next : ℕ) (t : OpenTransaction) (same : reserved.slots ≡ slots.slots) (vacant : get reserved key ≡ None) (updates : Updates reserved new key (Some t))
-    (keys_are : keys ≡ order ++ key ∷ []) (held : AreHeld slots order next) where
+    (keys_are : keys ≡ order ++ key ∷ []) (held : AreOpenAt slots order next) where
   get_same : (k : ℕ) → get reserved k ≡ get slots k
   get_same k = ap (λ (l : List (Option OpenTransaction)). slice_index_or l k None) same
 
@@ -82,9 +82,9 @@ module _ (slots reserved new : Slab OpenTransaction) (order keys : List ℕ) (ke
   pub admitted : admissions_at new keys ≡ admissions_at slots order ++ admission_of t ∷ []
   admitted = ap (admissions_at new) keys_are ∙ admissions-push slots new key t (sym (get_same key) ∙ vacant) updates_slots order held.present
 
-  pub held_admitted : t.tx.0 ≡ next → is_plan_allowed t.plan ≡ true → AreHeld new keys (next + 1)
+  pub held_admitted : t.tx.0 ≡ next → is_plan_allowed t.plan ≡ true → AreOpenAt new keys (next + 1)
   held_admitted named allowed =
-      subst (λ (l : List ℕ). AreHeld new l (next + 1)) (sym keys_are) (held_push slots new key t (sym (get_same key) ∙ vacant) updates_slots order next held named allowed)
+      subst (λ (l : List ℕ). AreOpenAt new l (next + 1)) (sym keys_are) (held_push slots new key t (sym (get_same key) ∙ vacant) updates_slots order next held named allowed)
 
 all_step : (b : Bool) (a : Admission) (rest : List Admission) → has_allowed_plan a ≡ true → list_all has_allowed_plan rest ≡ true → list_all has_allowed_plan (cond b (a ∷ rest) rest) ≡ true
 all_step true a rest this others = rw (this, others) refl
@@ -129,7 +129,7 @@ module _ (tx : ℕ) (old new : Slab OpenTransaction) (key : ℕ) (named : passes
       let parts = and_parts (is_present old k) (list_all (is_present old) keys) present in
       present_step k (passes_at (is_of_name tx) old k) (keys_without tx old keys) parts.0 refl (present_without keys parts.1)
 
-  pub held_without : (keys : List ℕ) (next : ℕ) → AreHeld old keys next → AreHeld new (keys_without tx old keys) next
+  pub held_without : (keys : List ℕ) (next : ℕ) → AreOpenAt old keys next → AreOpenAt new (keys_without tx old keys) next
   held_without keys next held = record {
     present = present_without keys held.present;
     allowed = ap (list_all has_allowed_plan) (admissions-without keys) ∙ all_without tx (admissions_at old keys) held.allowed;

@@ -9,7 +9,7 @@ use Rattle.base.specs.formats.Limits.{max_log_record}
 use Rattle.base.specs.formats.Records.{op_bytes}
 use Rattle.base.specs.history.Plans.{shape_of, size_of_shape}
 use Rattle.base.proofs.formats.RecordSizes.{length-op_bytes, length-ops_bytes}
-use Rattle.transactions.specs.Writing.{Appends, HasRoomFor}
+use Rattle.transactions.specs.Writing.{AppendsBytes, HasRoomFor}
 
 -- an operation, with those before it, has no more bytes than all
 op_fits : (ops : List Op) (i : ℕ) (op : Op) → i < length ops → op ≡ get_or ops i op
@@ -23,13 +23,13 @@ module _ (ops : List Op) (i : ℕ) (op : Op) (below : i < length ops) (is : op �
   pub op_small : sum_by size_of_shape (map shape_of ops) ≤ max_log_record → size_of_shape (shape_of op) ≤ max_log_record
   op_small small = omega (arith, op_fits ops i op below is)
 
-  pub op_has_room : (first out : Vec ℕ) → HasRoomFor first (sum_by size_of_shape (map shape_of ops)) → Appends first out (flat_map op_bytes (take i ops)) → HasRoomFor out (size_of_shape (shape_of op))
+  pub op_has_room : (first out : Vec ℕ) → HasRoomFor first (sum_by size_of_shape (map shape_of ops)) → AppendsBytes first out (flat_map op_bytes (take i ops)) → HasRoomFor out (size_of_shape (shape_of op))
   op_has_room first out room so_far =
       let long = so_far.len in
       let kept = so_far.room in
       omega (arith, op_fits ops i op below is)
 
-Appends-then : (a b c : Vec ℕ) (x y : List ℕ) → Appends a b x → Appends b c y → Appends a c (x ++ y)
+Appends-then : (a b c : Vec ℕ) (x y : List ℕ) → AppendsBytes a b x → AppendsBytes b c y → AppendsBytes a c (x ++ y)
 Appends-then a b c x y p q =
     let room_p = p.room in
     let room_q = q.room in
@@ -42,7 +42,7 @@ Appends-then a b c x y p q =
     }
 
 -- the parts of a record, one behind the other
-pub five : (a b c d e f : Vec ℕ) (size group ordinal count ops : List ℕ) → Appends a b size → Appends b c group → Appends c d ordinal → Appends d e count → Appends e f ops
-    → Appends a f (size ++ group ++ ordinal ++ count ++ ops)
+pub five : (a b c d e f : Vec ℕ) (size group ordinal count ops : List ℕ) → AppendsBytes a b size → AppendsBytes b c group → AppendsBytes c d ordinal → AppendsBytes d e count → AppendsBytes e f ops
+    → AppendsBytes a f (size ++ group ++ ordinal ++ count ++ ops)
 five a b c d e f size group ordinal count ops p q r s t =
     Appends-then a e f (size ++ group ++ ordinal ++ count) ops (Appends-then a d e (size ++ group ++ ordinal) count (Appends-then a c d (size ++ group) ordinal (Appends-then a b c size group p q) r) s) t

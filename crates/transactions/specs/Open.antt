@@ -1,5 +1,5 @@
 -- The open transactions of a pool: their admissions in order, and how one is admitted.
-use Rattle.std.specs.Prelude.{ℕ, ◌≡◌, ◌≢◌, ◌<◌, ◌==◌, ◌+◌, ◌||◌, ◌++◌, ◌∷◌, [], All, AllPairs, Bool, true, false, not, List, length, filter, filter_map, nat_le, nat_lt, Option, is_some, option_map}
+use Rattle.std.specs.Prelude.{ℕ, ◌≡◌, ◌≢◌, ◌<◌, ◌==◌, ◌+◌, ◌||◌, ◌++◌, ◌∷◌, [], All, Bool, true, false, not, List, length, filter, filter_map, nat_le, nat_lt, Option, is_some, option_map}
 use Rattle.std.specs.List.{find, list_all, list_any}
 use Rattle.std.specs.Option.{option_map_or}
 use Rattle.slab.specs.Slab.{Slab, get}
@@ -8,7 +8,7 @@ use Rattle.base.specs.declared.error.PoolError.TheVariants.{Busy, TooMany}
 use Rattle.base.specs.declared.operation.Shape.{Shape}
 use Rattle.base.specs.formats.Limits.{last_number, max_transactions}
 use Rattle.base.specs.history.Plans.{NumberRange, is_plan_allowed, lies_in, range_of}
-use Rattle.base.specs.steps.Groups.{Admission}
+use Rattle.base.specs.steps.Groups.{AreNamedApart, Admission}
 use Rattle.base.specs.steps.Refusals.{Test, refused_if, first_refusal, is_plan_blocked}
 use Rattle.transactions.specs.Ranges.{has_kept_in, kept_ranges_overlap}
 use Rattle.transactions.specs.declared.«open».OpenTransaction.{OpenTransaction}
@@ -46,24 +46,20 @@ has_plan_in range t = has_kept_in range t.plan
 abbrev pub keys_without : ℕ → Slab OpenTransaction → List ℕ → List ℕ
 keys_without tx slots keys = filter (λ key. not (passes_at (is_of_name tx) slots key)) keys
 
--- no two have one name
-abbrev pub AreNamedApart : List Admission → Type 0
-AreNamedApart transactions = AllPairs (λ (a b : Admission). a.tx ≢ b.tx) transactions
-
 -- and each name comes before this one
 pub record AreNamed (next : ℕ) (transactions : List Admission) : Type 0 where
   pub apart : AreNamedApart transactions
   pub before : All (λ (a : Admission). a.tx < next) transactions
 
 -- each key has a transaction, its plan is allowed, and its name is its own and comes before the next one
-pub record AreHeld (slots : Slab OpenTransaction) (keys : List ℕ) (next : ℕ) : Type 0 where
+pub record AreOpenAt (slots : Slab OpenTransaction) (keys : List ℕ) (next : ℕ) : Type 0 where
   pub present : list_all (λ key. is_some (get slots key)) keys ≡ true
   pub allowed : list_all (λ (a : Admission). is_plan_allowed a.plan) (admissions_at slots keys) ≡ true
   pub named : AreNamed next (admissions_at slots keys)
 
 -- the admission of the next name, and the state after it
-abbrev pub next_admission : ℕ → ℕ → List Shape → Open → Admission
-next_admission owner group plan o = record { tx = o.next; group = group; owner = owner; plan = plan }
+abbrev pub next_to_open : ℕ → ℕ → List Shape → Open → Admission
+next_to_open owner group plan o = record { tx = o.next; group = group; owner = owner; plan = plan }
 
 abbrev pub with_admission : Admission → Open → Open
 with_admission a o = record { transactions = o.transactions ++ a ∷ []; next = o.next + 1 }
@@ -76,14 +72,14 @@ is_kept_blocked plan transactions = list_any (λ (a : Admission). kept_ranges_ov
 abbrev pub is_too_many : ℕ → ℕ → Bool
 is_too_many count next = nat_le max_transactions count || nat_lt last_number next
 
-abbrev pub has_too_many : Open → Bool
-has_too_many o = is_too_many (length o.transactions) o.next
+abbrev pub are_too_many : Open → Bool
+are_too_many o = is_too_many (length o.transactions) o.next
 
 -- why a transaction is not admitted; want of memory comes after these
 abbrev pub admit_tests : List Shape → Open → List Test
 admit_tests plan o =
     refused_if (is_plan_blocked plan o.transactions) Busy
-    ∷ refused_if (has_too_many o) TooMany ∷ []
+    ∷ refused_if (are_too_many o) TooMany ∷ []
 
 abbrev pub admit_refusal : List Shape → Open → Option PoolError
 admit_refusal plan o = first_refusal (admit_tests plan o)

@@ -13,8 +13,8 @@ use Rattle.base.specs.steps.Refusals.{Test, refused_if, first_refusal}
 use Rattle.transactions.specs.declared.record.Record.{Record}
 
 -- the fields that definitions of records speak of
-abbrev pub fields_of : Record → formats.Record
-fields_of r = record { group = r.group.0; ordinal = r.ordinal.0; ops = r.ops }
+abbrev pub record_fields : Record → formats.Record
+record_fields r = record { group = r.group.0; ordinal = r.ordinal.0; ops = r.ops }
 
 -- whether an operation is within its limits
 abbrev pub is_op_allowed : Op → Bool
@@ -39,6 +39,6 @@ encode_refusal r = first_refusal (encode_tests r)
 
 -- bytes are decoded as this record and these bytes behind it, unless memory runs out
 abbrev pub Decodes : Result (Option (Record × Bor (List ℕ))) PoolError → formats.Record → List ℕ → Type 0
-Decodes (Ok (Some (found, after))) r rest = (fields_of found ≡ r) × (after.now ≡ rest)
+Decodes (Ok (Some (found, after))) r rest = (record_fields found ≡ r) × (after.now ≡ rest)
 Decodes (Ok None) r rest = ⊥
 Decodes (Err e) r rest = Unit {0}

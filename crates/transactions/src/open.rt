@@ -9,11 +9,11 @@
 ghost use Rattle.std.specs.Prelude.{◌≡◌, [], IfErr, IfOk, None, OnErr, OnOk, count_by, option_map, true};
 ghost use Rattle.std.specs.List.{find, list_any};
 ghost use Rattle.base.specs.history.Plans.{is_plan_allowed, number_range};
-ghost use Rattle.base.specs.steps.Groups.{hold_count};
+ghost use Rattle.base.specs.steps.Groups.{AreNamedApart, hold_count};
 ghost use Rattle.base.specs.steps.Refusals.{is_plan_blocked};
 ghost use Rattle.base.specs.steps.Steps.{transactions_without};
 ghost use Rattle.transactions.specs.Open as words;
-ghost use Rattle.transactions.specs.Open.{AreNamedApart, admission_of, admit_refusal, has_plan_in, has_too_many, is_kept_blocked, is_of_group, is_of_name, is_range_in_use, keys_without, next_admission, overlaps_plan_of, passes_at, admission_of_name, with_admission};
+ghost use Rattle.transactions.specs.Open.{admission_of, admit_refusal, has_plan_in, are_too_many, is_kept_blocked, is_of_group, is_of_name, is_range_in_use, keys_without, next_to_open, overlaps_plan_of, passes_at, admission_of_name, with_admission};
 ghost use Rattle.transactions.specs.Refusals.{Refuses};
 
 use crate::plan::{has_range_in, ranges_overlap};
@@ -44,13 +44,13 @@ pub struct OpenTransactions {
 }
 
 impl Model for OpenTransactions {
-    ghost use Rattle.transactions.specs.Open.{AreHeld, Open, admissions_at};
+    ghost use Rattle.transactions.specs.Open.{AreOpenAt, Open, admissions_at};
 
     ghost Value = { Open };
 
     ghost view = { λ o. record { transactions = admissions_at o.slots o.order.items; next = o.next } };
 
-    ghost invariant = { λ o. AreHeld o.slots o.order.items o.next };
+    ghost invariant = { λ o. AreOpenAt o.slots o.order.items o.next };
 }
 
 impl OpenTransactions {
@@ -78,7 +78,7 @@ impl OpenTransactions {
 
     /// Whether 64 are open or the next name is past the last one, 2^60.
     pub fn is_full(&self) -> bool
-        ensures { result ≡ has_too_many self.now }
+        ensures { result ≡ are_too_many self.now }
     {
         is_too_many(self.order.len(), self.next)
     }
@@ -93,7 +93,7 @@ impl OpenTransactions {
         requires { is_plan_allowed plan ≡ true }
         ensures name { IfOk result (λ tx. tx.0 ≡ self.old.next) }
         ensures admitted { IfOk result
-            (λ _. self.new ≡ with_admission (next_admission owner.0 group.0 plan self.old) self.old) }
+            (λ _. self.new ≡ with_admission (next_to_open owner.0 group.0 plan self.old) self.old) }
         ensures passed { OnOk result (admit_refusal plan self.old ≡ None) }
         ensures refused { IfErr result (λ e. Refuses (admit_refusal plan self.old) e) }
         ensures unchanged { OnErr result (self.new ≡ self.old) }

@@ -5,7 +5,7 @@ ghost use Rattle.std.specs.Int.{w16, w32, w64};
 ghost use Rattle.transactions.specs.declared.reading.ReadError.TheVariants.{NoMemory};
 ghost use Rattle.base.specs.declared.operation.Op.TheVariants.{Write};
 ghost use Rattle.transactions.specs.Records as words;
-ghost use Rattle.transactions.specs.Records.{fields_of};
+ghost use Rattle.transactions.specs.Records.{record_fields};
 ghost use Rattle.transactions.specs.Reading.{Gives, number_in, split_at, string_in, create_in, remove_in, write_in, set_length_in, set_name_in, tagged_in, op_in, ops_in, body_in, record_in};
 
 use crate::plan::is_shape_allowed;
@@ -186,7 +186,7 @@ fn read_ops(alloc: Global, count: u16, bytes: &[u8]) -> Result<(Vec<Op>, &[u8]),
 /// The record of which these are all the bytes behind its length.
 #[tactic(auto, unfolding(crate::specs::Reading::body_in))]
 fn read_body(alloc: Global, bytes: &[u8]) -> Result<Record, ReadError>
-    ensures { Gives (λ r. fields_of r) result (body_in bytes.now) }
+    ensures { Gives (λ r. record_fields r) result (body_in bytes.now) }
 {
     let (group, rest) = read_number(bytes)?;
     let (ordinal, rest) = read_number(rest)?;
@@ -205,7 +205,7 @@ fn read_body(alloc: Global, bytes: &[u8]) -> Result<Record, ReadError>
 /// The record at the front of the bytes.
 #[tactic(auto, unfolding(crate::specs::Reading::record_in))]
 pub(crate) fn read_record(alloc: Global, bytes: &[u8]) -> Result<(Record, &[u8]), ReadError>
-    ensures { Gives (λ x. (fields_of x.0, x.1.now)) result (record_in bytes.now) }
+    ensures { Gives (λ x. (record_fields x.0, x.1.now)) result (record_in bytes.now) }
 {
     let (size, rest) = read_u32(bytes)?;
     if u64::from(size) > MAX_LOG_RECORD {

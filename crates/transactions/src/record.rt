@@ -8,7 +8,7 @@ ghost use Rattle.base.specs.formats.Records as records;
 ghost use Rattle.base.specs.formats.Records.{HasNoRecord, IsAllowed, IsDecoded, bytes_of_record, size_of};
 ghost use Rattle.transactions.specs.Refusals.{Refuses};
 ghost use Rattle.transactions.specs.Records as words;
-ghost use Rattle.transactions.specs.Records.{Decodes, encode_refusal, fields_of};
+ghost use Rattle.transactions.specs.Records.{Decodes, encode_refusal, record_fields};
 ghost use Rattle.transactions.specs.Writing.{HasRoomFor};
 
 use crate::plan::{RECORD_HEAD, with_shape};
@@ -35,9 +35,9 @@ pub struct Record {
 /// `BadRange` where there is no operation, or one of them, the group or the ordinal is outside its limits; then `TooLarge`
 /// where it would be longer than 4,008 bytes; then `NoMemory` where there is no memory for the bytes.
 pub fn encode_record(alloc: Global, committed: &Record) -> Result<Vec<u8>, PoolError>
-    ensures bytes { IfOk result (λ bytes. bytes.items ≡ bytes_of_record (fields_of committed.now)) }
-    ensures allowed { OnOk result (IsAllowed (fields_of committed.now)) }
-    ensures refused { IfErr result (λ e. Refuses (encode_refusal (fields_of committed.now)) e) }
+    ensures bytes { IfOk result (λ bytes. bytes.items ≡ bytes_of_record (record_fields committed.now)) }
+    ensures allowed { OnOk result (IsAllowed (record_fields committed.now)) }
+    ensures refused { IfErr result (λ e. Refuses (encode_refusal (record_fields committed.now)) e) }
 {
     let mut bytes = Vec::new(alloc);
     encode_into(&mut bytes, committed)?;
@@ -51,11 +51,11 @@ pub fn encode_record(alloc: Global, committed: &Record) -> Result<Vec<u8>, PoolE
 /// As those of `encode_record`, and `NoMemory` only where the bytes have no room for the record.
 pub fn encode_into(out: &mut Vec<u8>, committed: &Record) -> Result<(), PoolError>
     ensures bytes { OnOk result
-        (out.new.items ≡ out.old.items ++ bytes_of_record (fields_of committed.now)) }
-    ensures allowed { OnOk result (IsAllowed (fields_of committed.now)) }
-    ensures refused { IfErr result (λ e. Refuses (encode_refusal (fields_of committed.now)) e) }
-    ensures room { HasRoomFor out.old (size_of (fields_of committed.now))
-        → encode_refusal (fields_of committed.now) ≡ None → IsOk result }
+        (out.new.items ≡ out.old.items ++ bytes_of_record (record_fields committed.now)) }
+    ensures allowed { OnOk result (IsAllowed (record_fields committed.now)) }
+    ensures refused { IfErr result (λ e. Refuses (encode_refusal (record_fields committed.now)) e) }
+    ensures room { HasRoomFor out.old (size_of (record_fields committed.now))
+        → encode_refusal (record_fields committed.now) ≡ None → IsOk result }
     ensures capacity { vec_capacity out.old ≤ vec_capacity out.new }
     ensures unchanged { OnErr result (out.new.items ≡ out.old.items) }
 {
@@ -72,7 +72,7 @@ pub fn encode_into(out: &mut Vec<u8>, committed: &Record) -> Result<(), PoolErro
 
 /// Whether a record is within its limits, but for its size.
 fn is_in_limits(committed: &Record) -> bool
-    ensures { result ≡ words.is_in_limits (fields_of committed.now) }
+    ensures { result ≡ words.is_in_limits (record_fields committed.now) }
 {
     committed.group.0 <= LAST_NUMBER
         && committed.ordinal.0 <= LAST_NUMBER
@@ -114,7 +114,7 @@ fn size_of(ops: &[Op]) -> Option<u32>
 /// `NoMemory` where there is no memory for the operations.
 pub fn decode_record(alloc: Global, bytes: &[u8]) -> Result<Option<(Record, &[u8])>, PoolError>
     ensures found { IfOk result (λ found. IfSome found
-        (λ (read, rest). IsDecoded bytes.now (fields_of read) rest.now)) }
+        (λ (read, rest). IsDecoded bytes.now (record_fields read) rest.now)) }
     ensures none { IfOk result (λ found. IfNone found (HasNoRecord bytes.now)) }
     ensures again { (r : records.Record) (rest : List ℕ) → IsDecoded bytes.now r rest
         → Decodes result r rest }

@@ -6,18 +6,18 @@ ghost use Rattle.std.specs.Int.{to_le_bytes, w32};
 ghost use Rattle.base.specs.formats.Limits.{max_log_record};
 ghost use Rattle.base.specs.formats.Records.{bytes_of_record, op_bytes, size_of};
 ghost use Rattle.base.specs.history.Plans.{shape_of, size_of_shape};
-ghost use Rattle.transactions.specs.Records.{fields_of};
-ghost use Rattle.transactions.specs.Writing.{Appends, HasRoomFor};
+ghost use Rattle.transactions.specs.Records.{record_fields};
+ghost use Rattle.transactions.specs.Writing.{AppendsBytes, HasRoomFor};
 
 use crate::record::Record;
 use base::{ObjectId, Op};
 
-/// Appends a record of so many bytes.
+/// AppendsBytes a record of so many bytes.
 pub(crate) fn write_record(out: &mut Vec<u8>, committed: &Record, size: u32)
-    requires size { size ≡ size_of (fields_of committed.now) }
+    requires size { size ≡ size_of (record_fields committed.now) }
     requires small { size ≤ max_log_record }
     requires room { HasRoomFor out.old size }
-    ensures { Appends out.old out.new (bytes_of_record (fields_of committed.now)) }
+    ensures { AppendsBytes out.old out.new (bytes_of_record (record_fields committed.now)) }
 {
     let ops = committed.ops.as_slice();
     write_bytes(out, &size.to_le_bytes());
@@ -27,22 +27,22 @@ pub(crate) fn write_record(out: &mut Vec<u8>, committed: &Record, size: u32)
     write_ops(out, ops);
 }
 
-/// Appends operations.
+/// AppendsBytes operations.
 fn write_ops(out: &mut Vec<u8>, ops: &[Op])
     requires small { sum_by size_of_shape (map shape_of ops.now) ≤ max_log_record }
     requires room { HasRoomFor out.old (sum_by size_of_shape (map shape_of ops.now)) }
-    ensures { Appends out.old out.new (flat_map op_bytes ops.now) }
+    ensures { AppendsBytes out.old out.new (flat_map op_bytes ops.now) }
 {
     for op in ops {
         write_op(out, op);
     }
 }
 
-/// Appends an operation.
+/// AppendsBytes an operation.
 fn write_op(out: &mut Vec<u8>, op: &Op)
     requires small { size_of_shape (shape_of op.now) ≤ max_log_record }
     requires room { HasRoomFor out.old (size_of_shape (shape_of op.now)) }
-    ensures { Appends out.old out.new (op_bytes op.now) }
+    ensures { AppendsBytes out.old out.new (op_bytes op.now) }
 {
     match op {
         Op::Create(object) => write_object(out, 1, *object),
@@ -63,29 +63,29 @@ fn write_op(out: &mut Vec<u8>, op: &Op)
     }
 }
 
-/// Appends the tag of an operation and the object's number.
+/// AppendsBytes the tag of an operation and the object's number.
 fn write_object(out: &mut Vec<u8>, tag: u8, object: ObjectId)
     requires { HasRoomFor out.old 5 }
-    ensures { Appends out.old out.new (tag ∷ to_le_bytes w32 object.0) }
+    ensures { AppendsBytes out.old out.new (tag ∷ to_le_bytes w32 object.0) }
 {
     write_bytes(out, &[tag]);
     write_bytes(out, &object.0.to_le_bytes());
 }
 
-/// Appends bytes behind their number.
+/// AppendsBytes bytes behind their number.
 fn write_string(out: &mut Vec<u8>, content: &[u8])
     requires small { length content.now ≤ max_log_record }
     requires room { HasRoomFor out.old (4 + length content.now) }
-    ensures { Appends out.old out.new (to_le_bytes w32 (length content.now) ++ content.now) }
+    ensures { AppendsBytes out.old out.new (to_le_bytes w32 (length content.now) ++ content.now) }
 {
     write_bytes(out, &(content.len() as u32).to_le_bytes());
     write_bytes(out, content);
 }
 
-/// Appends these bytes.
+/// AppendsBytes these bytes.
 fn write_bytes(out: &mut Vec<u8>, bytes: &[u8])
     requires { HasRoomFor out.old (length bytes.now) }
-    ensures { Appends out.old out.new bytes.now }
+    ensures { AppendsBytes out.old out.new bytes.now }
 {
     out.extend_from_slice(bytes).unwrap();
 }

@@ -1,5 +1,5 @@
 use Rattle.std.proofs.Common.{ap, ◌∙◌, arith}
-use Rattle.range_locks.specs.Parts.{stored, with_end}
+use Rattle.range_locks.specs.Parts.{stored_part, with_end}
 use Rattle.range_locks.proofs.NumberParts.{refused}
 use Rattle.range_locks.proofs.Recounts.{can_count}
 use Rattle.range_locks.proofs.Updates.{with_end_covers, with_end_still, without_end-with_end}
@@ -27,7 +27,7 @@ pub returns-in-Err-clause-unchanged : goal.returns-in-Err-clause-unchanged
 returns-in-Err-clause-unchanged c = λ f is still k.
     let low = c.args.range.low in
     let gone = c.remove_end.ensures _ (c.in-Err.ensures.unchanged (with_end low f) (c.in_ok-add_end.ensures.added f is still)) in
-    gone k ∙ ap stored (without_end-with_end low f k)
+    gone k ∙ ap stored_part (without_end-with_end low f k)
 
 pub recount-requires-clause-counted : goal.recount-requires-clause-counted
 recount-requires-clause-counted c = λ k from below.
