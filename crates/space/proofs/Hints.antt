@@ -1,9 +1,10 @@
--- The hint below which no block is free, after a block is taken or given, and where to look for a free one by it.
-use Rattle.std.proofs.Common.{◌≡◌, ℕ, zero, suc, Bool, true, false, List, [], ◌∷◌, max, min, get_or, inl, inr, refl, ◌∙◌, arith}
+-- The hint at the lowest free block, after a block is taken or given, and where to look for a free one by it.
+use Rattle.std.proofs.Common.{◌≡◌, ℕ, zero, suc, ◌<◌, ◌≤◌, Bool, true, false, List, [], ◌∷◌, length, max, min, get_or, ◌⊎◌, inl, inr, refl, sym, subst, ◌∙◌, arith}
+use Rattle.std.specs.Prelude.{replicate}
 use Rattle.std.proofs.Math.ListN.{set as list_set}
 use Rattle.std.proofs.lemmas.Bool.{cases_lt}
-use Rattle.std.proofs.lemmas.List.{get_or-set_other}
-use Rattle.space.specs.Flags.{AreTaken, IsFirstFree}
+use Rattle.std.proofs.lemmas.List.{get_or-set_other, get_or-set_same, length-set}
+use Rattle.space.specs.Flags.{AreTaken, IsFirstFree, IsHint}
 
 -- below the hint no block is free: it suffices to look from there on
 pub taken_from : (first hint last : ℕ) (flags : List Bool) → AreTaken 0 hint flags → AreTaken (max first hint) last flags → AreTaken first last flags
@@ -32,6 +33,31 @@ pub still_taken : (hint i : ℕ) (flags : List Bool) → AreTaken 0 hint flags �
 still_taken hint i flags taken k from below = cleared flags i k (taken k from below)
 
 -- and one that is given those below it too
-pub taken_below : (hint i : ℕ) (flags : List Bool) → AreTaken 0 hint flags → AreTaken 0 (min hint i) (list_set flags i true)
+taken_below : (hint i : ℕ) (flags : List Bool) → AreTaken 0 hint flags → AreTaken 0 (min hint i) (list_set flags i true)
 taken_below hint i flags taken k from below =
     get_or-set_other flags i k true false (λ same. omega (arith, below, same)) ∙ taken k from (omega (arith, below))
+
+-- so the hint is at the lowest one where a block is given, and at the start where all are free
+pub hint_given : (hint i : ℕ) (flags : List Bool) → i < length flags → IsHint flags hint → IsHint (list_set flags i true) (min hint i)
+hint_given hint i flags low is = record {
+  below = taken_below hint i flags is.below;
+  free = λ inside. free_at (cases_lt hint i) (rw (length-set flags i true) at inside);
+}
+  where
+    free_at : (hint < i) ⊎ (i ≤ hint) → min hint i < length flags → get_or (list_set flags i true) (min hint i) false ≡ true
+    free_at (inl less) inside =
+        let at_hint : min hint i ≡ hint = omega arith in
+        rw at_hint (get_or-set_other flags i hint true false (λ same. omega (arith, less, same)) ∙ is.free (omega (arith, inside, at_hint)))
+    free_at (inr more) inside =
+        let at_block : min hint i ≡ i = omega arith in
+        rw at_block (get_or-set_same flags i true false low)
+
+pub hint_of_all : (n : ℕ) (flags : List Bool) → flags ≡ replicate n true → IsHint flags 0
+hint_of_all n flags all = record {
+  below = λ k from below. absurd (omega (arith, below));
+  free = λ inside. subst (λ l. 0 < length l → get_or l 0 false ≡ true) (sym all) (first n) inside;
+}
+  where
+    first : (count : ℕ) → 0 < length (replicate count true) → get_or (replicate count true) 0 false ≡ true
+    first zero inside = absurd (omega (arith, inside))
+    first (suc count) inside = refl

@@ -27,12 +27,17 @@ pub record IsFirstFree (first : ℕ) (flags : List Bool) (block : ℕ) : Type 0 
   pub free : get_or flags block false ≡ true
   pub lowest : AreTaken first block flags
 
+-- the hint is at the lowest free block, or behind the last block where none is free
+pub record IsHint (flags : List Bool) (hint : ℕ) : Type 0 where
+  pub below : AreTaken 0 hint flags
+  pub free : hint < length flags → get_or flags hint false ≡ true
+
 abbrev pub space_of : Inside → FreeSpace
 space_of a = record { blocks = vec_len a.flags; free = free_of a.flags.items; reserved = a.reserved; taken = a.taken }
 
 -- the count and the hint are right, and a reservation that fits the available blocks fits beside the others
-pub record IsKept (a : Inside) : Type 0 where
+pub record HasRightCounts (a : Inside) : Type 0 where
   pub count : a.free ≡ set.len (free_of a.flags.items)
-  pub hint : AreTaken 0 a.hint a.flags.items
+  pub hint : IsHint a.flags.items a.hint
   pub taken : a.taken ≤ most_taken
   pub reserved : a.reserved ≤ vec_len a.flags + most_taken

@@ -34,8 +34,8 @@ abbrev pub HasAllOf : ℕ → FinSet nat_cmp → Type 0
 HasAllOf blocks free = (address : ℕ) → IsTrue (set.contains free address) ↔ IsBlockAddress blocks address
 
 -- each free address is that of a block
-abbrev pub AreBlocks : FreeSpace → Type 0
-AreBlocks s = (address : ℕ) → IsTrue (set.contains s.free address) → IsBlockAddress s.blocks address
+abbrev pub AreBlockAddresses : FreeSpace → Type 0
+AreBlockAddresses s = (address : ℕ) → IsTrue (set.contains s.free address) → IsBlockAddress s.blocks address
 
 -- a sync takes fewer blocks than this: no list has as many
 abbrev pub most_taken : ℕ

@@ -1,8 +1,8 @@
 //! The free blocks of a pool, and what is reserved of them (`metaslab.c`, `dsl_dir.c`).
 //!
 //! A flag for each block says whether it is free. Beside the flags stand counts that are kept with each change, and a hint:
-//! no block below it is free. Taking the block at the hint moves it up to the next free one, and giving a lower one moves it
-//! down. So the lowest free block is found at once, and a count is a look at a field.
+//! the lowest free block. Taking that block moves it up to the next free one, and giving a lower one moves it down. So the
+//! lowest free block is found at once, and a count is a look at a field.
 //!
 //! A transaction reserves the blocks that its sync may take, before it begins. They stay reserved until its group is synced.
 //! What the syncing group has taken is counted apart, for it is in its own reservation: the blocks that are available are
@@ -11,8 +11,8 @@
 ghost use Rattle.std.specs.Prelude.{◌≡◌, ◌+◌, ◌<◌, ◌≤◌, ◌∷◌, [], ◌↔◌, IsErr, IsTrue, IfErr, IfNone, IfOk, IfSome, OnErr, OnOk, false, get_or, length};
 ghost use Rattle.std.specs.FinSet as set;
 ghost use Rattle.base.specs.formats.Geometry.{block_address};
-ghost use Rattle.space.specs.FreeSets.{AreBlocks, AreNotFree, HasAllOf, IsIdle, IsLowestFree, after_give, after_reserve, after_sync_end, after_sync_take, after_take, after_unreserve, available_in, free_from, is_free, is_short, most_taken};
-ghost use Rattle.space.specs.Flags.{AreTaken, IsFirstFree};
+ghost use Rattle.space.specs.FreeSets.{AreBlockAddresses, AreNotFree, HasAllOf, IsIdle, IsLowestFree, after_give, after_reserve, after_sync_end, after_sync_take, after_take, after_unreserve, available_in, free_from, is_free, is_short, most_taken};
+ghost use Rattle.space.specs.Flags.{AreTaken, IsFirstFree, IsHint};
 
 use base::PoolError;
 use std::alloc::{AllocError, Global};
@@ -23,7 +23,7 @@ use std::marker::Model;
 pub struct FreeSet {
     // whether the block of each index is free
     flags: Vec<bool>,
-    // no block below this one is free
+    // the lowest free block, or the number of blocks where none is free
     hint: usize,
     // how many blocks are free
     free: u64,
@@ -38,11 +38,11 @@ impl Model for FreeSet {
 
     ghost coded = { space_code };
 
-    ghost use Rattle.space.specs.Flags.{IsKept, space_of};
+    ghost use Rattle.space.specs.Flags.{HasRightCounts, space_of};
 
     ghost view = { space_of };
 
-    ghost invariant = { IsKept };
+    ghost invariant = { HasRightCounts };
 }
 
 impl FreeSet {
@@ -64,7 +64,7 @@ impl FreeSet {
     /// How many blocks the area has.
     pub fn blocks(&self) -> usize
         ensures blocks { result ≡ self.now.blocks }
-        ensures placed { AreBlocks self.now }
+        ensures placed { AreBlockAddresses self.now }
     {
         self.flags.len()
     }
@@ -206,10 +206,10 @@ fn is_set(flags: &[bool], block: usize) -> bool
     block < flags.len() && flags[block]
 }
 
-// The hint at the first free block, or behind the last block where none is free.
+// The hint at the lowest free block, or behind the last block where none is free. No block below the given hint is free.
 fn raised(flags: &[bool], hint: usize) -> usize
     requires { AreTaken 0 hint flags.now }
-    ensures { AreTaken 0 result flags.now }
+    ensures { IsHint flags.now result }
 {
     match first_free(flags, hint) {
         Some(block) => block,

@@ -2,7 +2,7 @@ use Rattle.std.proofs.Common.{◌≡◌, ◌∙◌, ◌<◌, ◌+◌, refl, sym,
 use Rattle.std.specs.FinSet as set
 use Rattle.space.proofs.Counts.{len-given, one_taken}
 use Rattle.space.proofs.Flags.{free_of-given, free_already}
-use Rattle.space.proofs.Hints.{taken_below}
+use Rattle.space.proofs.Hints.{hint_given}
 use Rattle.space.proofs.free_set.FreeSet.give.Goals as goal
 use Rattle.space.proofs.free_set.FreeSet.give.Goals.{else-block-len-via-then-block-len+else-not-is_set, else-block-len-via-else-block-len}
 
@@ -20,7 +20,7 @@ invariant_of-self c =
     let low : c.args.block < length flags = omega (arith, c.if-block-len.true, c.len.ensures, c.self.inside.flags.ok.0) in
     record {
       count = ap (λ n. n + 1) c.self.invariant.count ∙ sym (ap (λ s. set.len s) (free_of-given flags c.args.block low) ∙ len-given flags c.args.block is);
-      hint = rw c.min-self-inside.ensures (taken_below c.self.inside.hint c.args.block flags c.self.invariant.hint);
+      hint = rw c.min-self-inside.ensures (hint_given c.self.inside.hint c.args.block flags low c.self.invariant.hint);
       taken = c.self.invariant.taken;
       reserved = c.self.invariant.reserved;
     }

@@ -19,23 +19,23 @@ none (Some block) P first hint flags below told t = tt
 pub returns-clause-free : goal.returns-clause-free
 returns-clause-free c =
     let flags : List Bool = c.self.inside.flags.items in
-    rw (← c.self.view_is) (found c.first_free.result _ c.args.first c.self.inside.hint flags c.self.invariant.hint
+    rw (← c.self.view_is) (found c.first_free.result _ c.args.first c.self.inside.hint flags c.self.invariant.hint.below
     (λ block f. contains-free_of flags block ∙ f.free) (rw (c.deref.ensures.value, c.max.ensures) at c.first_free.ensures.found))
 
 pub returns-clause-skipped : goal.returns-clause-skipped
 returns-clause-skipped c =
     let flags : List Bool = c.self.inside.flags.items in
-    rw (← c.self.view_is) (found c.first_free.result _ c.args.first c.self.inside.hint flags c.self.invariant.hint
+    rw (← c.self.view_is) (found c.first_free.result _ c.args.first c.self.inside.hint flags c.self.invariant.hint.below
     (λ block f k low high. contains-free_of flags k ∙ f.lowest k low high) (rw (c.deref.ensures.value, c.max.ensures) at c.first_free.ensures.found))
 
 pub returns-clause-lowest : goal.returns-clause-lowest
 returns-clause-lowest c =
     let flags : List Bool = c.self.inside.flags.items in
-    rw (← c.self.view_is) (found c.first_free.result _ c.args.first c.self.inside.hint flags c.self.invariant.hint
+    rw (← c.self.view_is) (found c.first_free.result _ c.args.first c.self.inside.hint flags c.self.invariant.hint.below
     (λ block f. first_free-lowest c.args.first block flags f) (rw (c.deref.ensures.value, c.max.ensures) at c.first_free.ensures.found))
 
 pub returns-clause-none : goal.returns-clause-none
 returns-clause-none c =
     let flags : List Bool = c.self.inside.flags.items in
-    rw (← c.self.view_is) (none c.first_free.result _ c.args.first c.self.inside.hint flags c.self.invariant.hint
+    rw (← c.self.view_is) (none c.first_free.result _ c.args.first c.self.inside.hint flags c.self.invariant.hint.below
     (λ t. none_free c.args.first flags t) (rw (c.deref.ensures.value, c.max.ensures) at c.first_free.ensures.none))

@@ -27,7 +27,7 @@ invariant_of-self c =
     }
 
 pub raised-self-inside-requires : goal.raised-self-inside-requires
-raised-self-inside-requires c = rw c.deref-2.ensures.value (still_taken c.self.inside.hint c.args.block c.self.inside.flags.items c.self.invariant.hint)
+raised-self-inside-requires c = rw c.deref-2.ensures.value (still_taken c.self.inside.hint c.args.block c.self.inside.flags.items c.self.invariant.hint.below)
 
 pub returns : goal.returns
 returns c = rw (← c.self.view_is) (rw (free_of-taken c.self.inside.flags.items c.args.block) refl)
