@@ -17,7 +17,7 @@ use Rattle.extents.proofs.PatchedObjects.{changes_follow, patched_nothing}
 use Rattle.extents.proofs.LaidWithin.{patches_sized}
 use Rattle.object_maps.specs.Sources.{AreBytesFrom}
 use Rattle.extents.specs.Objects.{HasRoomFrom, KeepsRoom, LaysOver}
-use Rattle.extents.specs.Tables.{CanApply, IsSame, KeepsRooms, AppliesOps, entry_at, patches_of}
+use Rattle.extents.specs.Tables.{CanApply, CanStillApply, IsSame, KeepsRooms, AppliesOps, entry_at, patches_of}
 
 pub same-trans : (p q r : Patch) → IsSame p q → IsSame q r → IsSame p r
 same-trans p q r pq qr = record { basis = pq.basis ∙ qr.basis; written = λ i. pq.written i ∙ qr.written i }
@@ -81,6 +81,9 @@ room_kept (Write m offset bytes) old new kept has =
     has_kept (entry_at old m.0) (entry_at new m.0) (λ o. HasRoomFrom o offset (length bytes)) (λ x y k h index from to. k index (h index from to)) (kept m.0) has
 room_kept (SetLength m size) old new kept has = entry_kept (entry_at old m.0) (entry_at new m.0) (kept m.0) has
 room_kept (SetName bytes) old new kept has = has
+
+pub rooms_kept : (old new : Extents) → KeepsRooms old new → CanStillApply old new
+rooms_kept old new kept ops can = λ k d l. room_kept (get_or ops k d) old new kept (can k d l)
 
 -- so has one operation more
 pub next_room : (ops : List Op) (i : ℕ) (op : Op) (old new : Extents) → op ≡ get_or ops i op → KeepsRooms old new → CanApply new op

@@ -59,6 +59,10 @@ CanApply e (SetName bytes) = Unit {0}
 abbrev pub CanApplyAll : Extents → List Op → Type 0
 CanApplyAll e ops = All (CanApply e) ops
 
+-- operations that had their room have it
+abbrev pub CanStillApply : Extents → Extents → Type 0
+CanStillApply old new = (ops : List Op) → CanApplyAll old ops → CanApplyAll new ops
+
 -- the new changes are those of before with these operations
 abbrev pub AppliesOps : List Op → Extents → Extents → Type 0
 AppliesOps ops old new = (n : ℕ) → IsSame (patches_of new n) (with_ops ops (patches_of old) n)

@@ -23,6 +23,10 @@ changes_at e place = option_map_or patches_of (extents_at e place) (λ _. no_pat
 abbrev pub CanApplyAt : ℕ → UnsyncedExtents → List Op → Type 0
 CanApplyAt place e ops = IsSomeAnd (extents_at e place) (λ extents. CanApplyAll extents ops)
 
+-- operations that had their room at a place have it
+abbrev pub CanStillApplyAt : UnsyncedExtents → UnsyncedExtents → Type 0
+CanStillApplyAt old new = (place : ℕ) (ops : List Op) → CanApplyAt place old ops → CanApplyAt place new ops
+
 -- what the groups at other places made is as it was, with its room
 abbrev pub KeepsOtherPlaces : ℕ → UnsyncedExtents → UnsyncedExtents → Type 0
 KeepsOtherPlaces place old new = (other : ℕ) → other ≢ place → extents_at new other ≡ extents_at old other

@@ -15,7 +15,7 @@ pub struct Extents {
 }
 
 impl Extents {
-    ghost use Rattle.extents.specs.Tables.{AppliesOps, HasEntry, CanApply, HasRoomIn, CanApplyAll, IsSame, KeepsEntries, KeepsOtherEntries, KeepsRooms, LeavesPatches, patches_of};
+    ghost use Rattle.extents.specs.Tables.{AppliesOps, HasEntry, CanApply, CanStillApply, HasRoomIn, CanApplyAll, IsSame, KeepsEntries, KeepsOtherEntries, KeepsRooms, LeavesPatches, patches_of};
     ghost use Rattle.base.specs.formats.Records.{is_content_allowed};
     ghost use Rattle.extents.specs.Objects.{LaysOver};
     ghost use Rattle.object_maps.specs.Ops.{AreOpsAllowed, IsOpAllowed};
@@ -118,13 +118,15 @@ impl Extents {
         requires { AreOpsAllowed ops.now }
         ensures added { OnOk result (AppliesOps ops.now self.old self.new) }
         ensures unchanged { OnErr result (LeavesPatches self.old self.new) }
+        ensures kept { CanStillApply self.old self.new }
     {
         self.reserve(ops)?;
         self.apply(ops);
         Ok(())
     }
 
-    /// Takes the room that operations need, so that `apply` takes no memory. What the group made stays.
+    /// Takes the room that operations need, so that `apply` takes no memory. What the group made stays, and so does the room
+    /// that was taken before.
     ///
     /// # Errors
     /// Where there is no memory.
@@ -133,6 +135,7 @@ impl Extents {
         ensures room { OnOk result (CanApplyAll self.new ops.now) }
         ensures bytes { OnOk result (list_all is_content_allowed ops.now ≡ true) }
         ensures same { LeavesPatches self.old self.new }
+        ensures kept { CanStillApply self.old self.new }
     {
         for op in ops {
             self.reserve_for(op)?;
@@ -174,11 +177,12 @@ impl Extents {
         self.reserve_write(id, offset, content.len())
     }
 
-    /// Applies operations that have their room, in order. It takes no memory.
+    /// Applies operations that have their room, in order. It takes no memory, and all room stays.
     pub fn apply(&mut self, ops: &[Op])
         requires allowed { AreOpsAllowed ops.now }
         requires room { CanApplyAll self.old ops.now }
-        ensures { AppliesOps ops.now self.old self.new }
+        ensures applied { AppliesOps ops.now self.old self.new }
+        ensures kept { CanStillApply self.old self.new }
     {
         for op in ops {
             self.apply_op(op);

@@ -28,7 +28,7 @@ impl UnsyncedExtents {
     ghost use Rattle.base.specs.formats.Records.{is_content_allowed};
     ghost use Rattle.object_maps.specs.Ops.{AreOpsAllowed};
     ghost use Rattle.extents.specs.Patches.{no_patch};
-    ghost use Rattle.extents.specs.Unsynced.{AppliesAt, CanApplyAt, KeepsOtherPlaces, LeavesChanges, MovesUp, changes_at, extents_at, laid_all};
+    ghost use Rattle.extents.specs.Unsynced.{AppliesAt, CanApplyAt, CanStillApplyAt, KeepsOtherPlaces, LeavesChanges, MovesUp, changes_at, extents_at, laid_all};
 
     /// No changes of any group. It takes no memory.
     pub fn new(alloc: Global) -> Self
@@ -43,7 +43,7 @@ impl UnsyncedExtents {
     }
 
     /// Takes the room that operations of the group at a place need, so that `apply` takes no memory. What the groups made
-    /// stays.
+    /// stays, and so does the room that was taken before.
     ///
     /// # Errors
     /// Where there is no memory.
@@ -54,6 +54,7 @@ impl UnsyncedExtents {
         ensures bytes { OnOk result (list_all is_content_allowed ops.now ≡ true) }
         ensures same { LeavesChanges self.old self.new }
         ensures others { KeepsOtherPlaces place self.old self.new }
+        ensures kept { CanStillApplyAt self.old self.new }
     {
         match place {
             0 => self.oldest.reserve(ops),
@@ -62,13 +63,15 @@ impl UnsyncedExtents {
         }
     }
 
-    /// Adds operations that have their room to what the group at a place made, in order. It takes no memory.
+    /// Adds operations that have their room to what the group at a place made, in order. It takes no memory, and all room
+    /// stays.
     pub fn apply(&mut self, place: usize, ops: &[Op])
         requires place { place < 3 }
         requires allowed { AreOpsAllowed ops.now }
         requires room { CanApplyAt place self.old ops.now }
         ensures applied { AppliesAt place ops.now self.old self.new }
         ensures others { KeepsOtherPlaces place self.old self.new }
+        ensures kept { CanStillApplyAt self.old self.new }
     {
         match place {
             0 => self.oldest.apply(ops),
