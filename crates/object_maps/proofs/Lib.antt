@@ -4,6 +4,7 @@ pub mod Judged
 pub mod Records
 pub mod RisingObjects
 pub mod SetMaps
+pub mod PutObjects
 pub mod LoadedBlocks
 pub mod LoadedRecords
 pub mod LoadedEntries

@@ -13,7 +13,7 @@ use Rattle.base.specs.tree.Places.Place.{Indirect, Data}
 use Rattle.base.specs.tree.Tree.{OpensAt, IsRecord, record_bytes}
 use Rattle.base.proofs.disk.Put.{length-put, part-put_same, part-put_apart}
 use Rattle.object_maps.specs.Pointers.{pointer_of_list}
-use Rattle.object_maps.specs.Loading.{IsLoadedRecord, IsZeroRecord, AreLoadedRecords, IsLoadedObject, IsObjectContent}
+use Rattle.object_maps.specs.Loading.{IsLoadedRecord, HasZeroRecord, AreLoadedRecords, IsLoadedObject, IsObjectContent}
 
 -- bytes that are all zero
 zeros-by : (xs : List ℕ) → ((i : ℕ) → i < length xs → get_or xs i 0 ≡ 0) → xs ≡ replicate (length xs) 0
@@ -32,7 +32,7 @@ zeros-part xs at n zeros = zeros-by (part xs at n) (λ i below.
     let low : i < n = omega (arith, below, length-take n (drop at xs)) in
     get_or-take n (drop at xs) i 0 low ∙ get_or-drop at xs i 0 ∙ zero-at xs zeros (at + i))
 
-pub zero_records : (bytes : List ℕ) → bytes ≡ replicate (length bytes) 0 → (r : ℕ) → IsZeroRecord r bytes
+pub zero_records : (bytes : List ℕ) → bytes ≡ replicate (length bytes) 0 → (r : ℕ) → HasZeroRecord r bytes
 zero_records bytes zeros r = zeros-part bytes (record_size * r) record_size zeros
 
 -- the front of a payload, as far as a list reaches behind a place, is what stands there once it is put

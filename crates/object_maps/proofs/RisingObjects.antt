@@ -1,6 +1,6 @@
--- Objects within the limits of a pool, told by rising number: what the digest has of them, and how many they are.
+-- Objects within the limits of a pool, told by rising number: what the digest has of them, how many they are, and the list of their lengths.
 use Rattle.std.proofs.Common.{◌≡◌, ℕ, zero, suc, ◌+◌, ◌<◌, ◌≤◌, ◌≢◌, Bool, List, [], ◌∷◌, ◌++◌, length, Option, Some, None, Greater, cond, is_some, refl, ap, sym, ◌∙◌, inl, inr, ◌⊎◌, arith, add-one, append_assoc, append-nil, length-append}
-use Rattle.std.specs.Prelude.{All, IfSome, option_map, unwrap_or}
+use Rattle.std.specs.Prelude.{All, IfSome, map, option_map, unwrap_or}
 use Rattle.std.specs.Option.{option_map_or}
 use Rattle.std.specs.Ordering.{nat_cmp}
 use Rattle.std.specs.Cmp.{nat_cmp_is}
@@ -11,15 +11,17 @@ use Rattle.std.specs.FinMap.{FinMap, entries-insert, get-empty, len-empty, len-e
 use Rattle.std.proofs.lemmas.Cmp.{nat_cmp_total}
 use Rattle.std.proofs.lemmas.Bool.{cases_eq, cases_lt}
 use Rattle.std.proofs.lemmas.Grind.{flat_map-append}
-use Rattle.std.proofs.lemmas.List.{nil_from_length}
+use Rattle.std.proofs.lemmas.List.{map-append, nil_from_length}
 use Rattle.std.proofs.lemmas.List.Elements.{All-head, All-nil, All-push, All-tail, All-weaker}
+use Rattle.base.specs.declared.names.ObjectId.{ObjectId}
 use Rattle.base.specs.formats.Digest.{contents_text, object_text}
 use Rattle.base.specs.formats.Limits.{object_count}
 use Rattle.base.specs.history.Contents.{stored}
 use Rattle.base.proofs.history.Objects.{get-stored_same, get-stored_other}
 use Rattle.object_maps.specs.Digests.{text_at}
 use Rattle.object_maps.specs.Judging.{with_name}
-use Rattle.object_maps.specs.Sources.{AreWithin, bytes_in, object_length}
+use Rattle.object_maps.specs.Sources.{AreWithin, object_bytes, object_length}
+use Rattle.object_maps.specs.Surveys.{listed}
 
 -- those of some objects whose numbers lie below this one
 objects_below : FinMap nat_cmp (List ℕ) → ℕ → FinMap nat_cmp (List ℕ)
@@ -108,6 +110,14 @@ entries-objects_below objects (suc n) = go (finite.get objects n) (entries-objec
 entries_below-all : (objects : FinMap nat_cmp (List ℕ)) → AreWithin objects → entries_below objects object_count ≡ finite.entries objects
 entries_below-all objects within = sym (entries-objects_below objects object_count) ∙ ap finite.entries (objects_below-all objects within)
 
+-- the line of an entry in the list of objects with their lengths
+abbrev line_of : ℕ × List ℕ → ObjectId × ℕ
+line_of e = (record { 0 = e.0 }, length e.1)
+
+-- the lines of an object of this number and length, if it is there
+abbrev pub listed_at : ℕ → Option ℕ → List (ObjectId × ℕ)
+listed_at n o = option_map_or (λ (size : ℕ). (record { 0 = n }, size) ∷ []) o []
+
 -- what the digest has of those whose numbers lie below this one
 unfoldable pub text_below : FinMap nat_cmp (List ℕ) → ℕ → List ℕ
 text_below objects zero = []
@@ -115,7 +125,7 @@ text_below objects (suc n) = text_below objects n ++ text_at objects n
 
 -- what the digest has of an object that is there: its number, its length, and the bytes
 pub text_at-there : (objects : FinMap nat_cmp (List ℕ)) (n size : ℕ) → Some size ≡ object_length objects n
-    → to_le_bytes w32 n ++ to_le_bytes w64 size ++ bytes_in objects n ≡ text_at objects n
+    → to_le_bytes w32 n ++ to_le_bytes w64 size ++ object_bytes objects n ≡ text_at objects n
 text_at-there objects n size is = go (finite.get objects n) is
   where
     go : (o : Option (List ℕ)) → Some size ≡ option_map length o
@@ -160,6 +170,30 @@ counted_next objects n so_far count there counted told is =
 
 pub count_below-all : (objects : FinMap nat_cmp (List ℕ)) → AreWithin objects → count_below objects object_count ≡ finite.len objects
 count_below-all objects within = sym (length-entries_below objects object_count) ∙ ap length (entries_below-all objects within) ∙ sym (len-entries objects)
+
+-- the list of those whose numbers lie below this one, each with its length
+unfoldable pub listed_below : FinMap nat_cmp (List ℕ) → ℕ → List (ObjectId × ℕ)
+listed_below objects zero = []
+listed_below objects (suc n) = listed_below objects n ++ listed_at n (option_map length (finite.get objects n))
+
+map-entries_below : (objects : FinMap nat_cmp (List ℕ)) (n : ℕ) → map line_of (entries_below objects n) ≡ listed_below objects n
+unfolding entries_below listed_below entry_at
+map-entries_below objects zero = refl
+map-entries_below objects (suc n) =
+    map-append line_of (entries_below objects n) (entry_at n (finite.get objects n))
+    ∙ ap (λ (l : List (ObjectId × ℕ)). l ++ map line_of (entry_at n (finite.get objects n))) (map-entries_below objects n)
+    ∙ ap (λ (l : List (ObjectId × ℕ)). listed_below objects n ++ l) (go (finite.get objects n))
+  where
+    go : (o : Option (List ℕ)) → map line_of (entry_at n o) ≡ listed_at n (option_map length o)
+    go None = refl
+    go (Some bytes) = refl
+
+pub listed_next : (objects : FinMap nat_cmp (List ℕ)) (n : ℕ) (o : Option ℕ) → o ≡ option_map length (finite.get objects n) → listed_below objects n ++ listed_at n o ≡ listed_below objects (n + 1)
+unfolding listed_below
+listed_next objects n o is = rw add-one (ap (λ (p : Option ℕ). listed_below objects n ++ listed_at n p) is)
+
+pub listed_below-all : (objects : FinMap nat_cmp (List ℕ)) → AreWithin objects → listed_below objects object_count ≡ listed objects
+listed_below-all objects within = sym (map-entries_below objects object_count) ∙ ap (map line_of) (entries_below-all objects within)
 
 -- what the digest is of, as far as the objects below a number
 unfoldable pub text_so_far : List ℕ → FinMap nat_cmp (List ℕ) → ℕ → List ℕ

@@ -5,10 +5,8 @@ use Rattle.std.specs.Ordering.{nat_cmp}
 use Rattle.std.specs.FinMap as finite
 use Rattle.std.specs.FinMap.{FinMap}
 use Rattle.base.specs.formats.Limits.{object_count}
-use Rattle.object_maps.specs.declared.contents.Slot.{Slot}
 use Rattle.object_maps.specs.declared.tree.ObjectMap.{ObjectMap}
 use Rattle.object_maps.specs.declared.tree.Tree.{Tree}
-use Rattle.object_maps.specs.ContentsShown.{object_in}
 
 -- the length of object n, None where there is no such object
 abbrev pub map_length : List ObjectMap → ℕ → Option ℕ
@@ -25,6 +23,6 @@ with_lengths new old n = option_map_or (λ (m : ObjectMap). m.length) (new n) (o
 abbrev pub HasLengthsOf : Tree → FinMap nat_cmp (List ℕ) → Type 0
 HasLengthsOf t objects = (n : ℕ) → n < object_count → lengths_of t n ≡ option_map length (finite.get objects n)
 
--- maps have the lengths of the objects of slots
-abbrev pub HaveSlotLengths : List Slot → List ObjectMap → Type 0
-HaveSlotLengths slots maps = (n : ℕ) → map_length maps n ≡ option_map length (object_in slots n)
+-- maps have the lengths of these objects
+abbrev pub HaveLengthsOf : List ObjectMap → FinMap nat_cmp (List ℕ) → Type 0
+HaveLengthsOf maps objects = (n : ℕ) → map_length maps n ≡ option_map length (finite.get objects n)

@@ -12,3 +12,4 @@ pub mod Loading
 pub mod Kinds
 pub mod Walking
 pub mod Loaders
+pub mod Surveys

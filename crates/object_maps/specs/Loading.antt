@@ -1,6 +1,9 @@
 -- What a load of a tree puts into memory, and how it stands for what the image has.
 use Rattle.std.specs.Prelude.{ℕ, ◌≡◌, ◌≤◌, ◌<◌, ◌+◌, ◌*◌, ◌⊎◌, Bool, true, IsTrue, List, [], Option, None, IfSome, length, nat_lt, slice_get, replicate}
 use Rattle.std.specs.List.{list_all}
+use Rattle.std.specs.Ordering.{nat_cmp}
+use Rattle.std.specs.FinMap as finite
+use Rattle.std.specs.FinMap.{FinMap}
 use Rattle.base.specs.declared.error.PoolError.{PoolError}
 use Rattle.base.specs.declared.error.PoolError.TheVariants.{NoMemory, Read, Damaged}
 use Rattle.base.specs.declared.pointer.Pointer.{Pointer}
@@ -11,9 +14,7 @@ use Rattle.base.specs.formats.Blocks.{Frame}
 use Rattle.base.specs.tree.Places.Place.{Root, Directory, Indirect}
 use Rattle.base.specs.tree.Tree.{OpensAt, IsRecord, record_bytes}
 use Rattle.base.specs.tree.PlacedTrees.{IsEntryFor, IsPlaced}
-use Rattle.object_maps.specs.declared.contents.Slot.{Slot}
 use Rattle.object_maps.specs.declared.tree.ObjectMap.{ObjectMap}
-use Rattle.object_maps.specs.ContentsShown.{object_in}
 use Rattle.object_maps.specs.Pointers.{pointer_of_list, indirect_of, records_of}
 
 -- a device that keeps the model has this image now
@@ -30,13 +31,13 @@ pub record IsLoadedRecord (keeps : Bool) (image : List ℕ) (frame : Frame) (n r
   pub stands : IsTrue keeps → IsRecord image frame n r pointer bytes
 
 -- an object has zeros in its record r
-abbrev pub IsZeroRecord : ℕ → List ℕ → Type 0
-IsZeroRecord r bytes = record_bytes r bytes ≡ replicate (length (record_bytes r bytes)) 0
+abbrev pub HasZeroRecord : ℕ → List ℕ → Type 0
+HasZeroRecord r bytes = record_bytes r bytes ≡ replicate (length (record_bytes r bytes)) 0
 
 -- so many records of object n, and zeros for the others
 pub record AreLoadedRecords (keeps : Bool) (image : List ℕ) (frame : Frame) (n : ℕ) (records : List Pointer) (bytes : List ℕ) (count : ℕ) : Type 0 where
   pub loaded : (r : ℕ) → r < count → IsLoadedRecord keeps image frame n r (pointer_of_list records r) bytes
-  pub rest : (r : ℕ) → count ≤ r → IsZeroRecord r bytes
+  pub rest : (r : ℕ) → count ≤ r → HasZeroRecord r bytes
 
 -- no indirect block and no records, or the block with the pointers to the records
 abbrev pub IndirectStands : List ℕ → Frame → ℕ → Pointer → List Pointer → Type 0
@@ -60,53 +61,58 @@ pub record IsLoadedObject (keeps : Bool) (image : List ℕ) (frame : Frame) (n :
   pub stands : IsTrue keeps → IndirectStands image frame n indirect records
   pub records_stand : IsTrue keeps → (r : ℕ) → r < pointer_count → IfSome object (λ bytes. IsRecord image frame n r (pointer_of_list records r) bytes)
 
--- object n of the slots, with its pointers
-abbrev pub IsLoadedAt : Bool → List ℕ → Frame → List Slot → List ObjectMap → ℕ → Type 0
-IsLoadedAt keeps image frame slots maps n = IsLoadedObject keeps image frame n (object_in slots n) (indirect_of maps n) (records_of maps n)
+-- object n of those that are loaded, with its pointers
+abbrev pub IsLoadedAt : Bool → List ℕ → Frame → FinMap nat_cmp (List ℕ) → List ObjectMap → ℕ → Type 0
+IsLoadedAt keeps image frame objects maps n = IsLoadedObject keeps image frame n (finite.get objects n) (indirect_of maps n) (records_of maps n)
 
--- the slots have no object n, and no pointers of it
-pub record IsEmptyAt (slots : List Slot) (maps : List ObjectMap) (n : ℕ) : Type 0 where
-  pub object : object_in slots n ≡ None
+-- there is no object n, and no pointers of it
+pub record IsEmptyAt (objects : FinMap nat_cmp (List ℕ)) (maps : List ObjectMap) (n : ℕ) : Type 0 where
+  pub object : finite.get objects n ≡ None
   pub indirect : indirect_of maps n ≡ no_pointer
   pub records : records_of maps n ≡ []
 
--- they have no object from this one on
-pub record AreEmptyFrom (start : ℕ) (slots : List Slot) (maps : List ObjectMap) : Type 0 where
-  pub each : (n : ℕ) → start ≤ n → IsEmptyAt slots maps n
+-- there is no object from this one on
+pub record AreEmptyFrom (start : ℕ) (objects : FinMap nat_cmp (List ℕ)) (maps : List ObjectMap) : Type 0 where
+  pub each : (n : ℕ) → start ≤ n → IsEmptyAt objects maps n
 
 -- the entry of object n
-abbrev pub IsEntryAt : List Slot → List ObjectMap → ℕ → List ℕ → Type 0
-IsEntryAt slots maps n entry = IsEntryFor entry (indirect_of maps n) (object_in slots n)
+abbrev pub IsEntryAt : FinMap nat_cmp (List ℕ) → List ObjectMap → ℕ → List ℕ → Type 0
+IsEntryAt objects maps n entry = IsEntryFor entry (indirect_of maps n) (finite.get objects n)
 
 -- all but so many objects from this one on are as before
-pub record SameBut (start count : ℕ) (old_slots slots : List Slot) (old_maps maps : List ObjectMap) : Type 0 where
-  pub same_slots : (n : ℕ) → (n < start) ⊎ (start + count ≤ n) → slice_get slots n ≡ slice_get old_slots n
+pub record SameBut (start count : ℕ) (old_objects objects : FinMap nat_cmp (List ℕ)) (old_maps maps : List ObjectMap) : Type 0 where
+  pub same_objects : (n : ℕ) → (n < start) ⊎ (start + count ≤ n) → finite.get objects n ≡ finite.get old_objects n
   pub same_maps : (n : ℕ) → (n < start) ⊎ (start + count ≤ n) → slice_get maps n ≡ slice_get old_maps n
 
 -- so many objects of directory d as its entries say, the others as before
 pub record AreLoadedEntries (keeps : Bool) (image : List ℕ) (frame : Frame) (d : ℕ) (payload : List ℕ) (count : ℕ)
-    (old_slots slots : List Slot) (old_maps maps : List ObjectMap) : Type 0 where
-  pub objects : (k : ℕ) → k < count → IsLoadedAt keeps image frame slots maps (entry_count * d + k)
-  pub entries : (k : ℕ) → k < count → IsEntryAt slots maps (entry_count * d + k) (entry_in payload k)
-  pub others : SameBut (entry_count * d) count old_slots slots old_maps maps
+    (old_objects objects : FinMap nat_cmp (List ℕ)) (old_maps maps : List ObjectMap) : Type 0 where
+  pub each : (k : ℕ) → k < count → IsLoadedAt keeps image frame objects maps (entry_count * d + k)
+  pub entries : (k : ℕ) → k < count → IsEntryAt objects maps (entry_count * d + k) (entry_in payload k)
+  pub others : SameBut (entry_count * d) count old_objects objects old_maps maps
 
 -- no directory and none of its objects, or the block with their entries
-abbrev pub DirectoryStands : List ℕ → Frame → ℕ → Pointer → List Slot → List ObjectMap → Type 0
-DirectoryStands image frame d pointer slots maps =
-    ((pointer ≡ no_pointer) × ((k : ℕ) → k < entry_count → IsEmptyAt slots maps (entry_count * d + k)))
+abbrev pub DirectoryStands : List ℕ → Frame → ℕ → Pointer → FinMap nat_cmp (List ℕ) → List ObjectMap → Type 0
+DirectoryStands image frame d pointer objects maps =
+    ((pointer ≡ no_pointer) × ((k : ℕ) → k < entry_count → IsEmptyAt objects maps (entry_count * d + k)))
     ⊎ ((payload : List ℕ) × OpensAt image frame (Directory d) pointer payload
-    × ((k : ℕ) → k < entry_count → IsEntryAt slots maps (entry_count * d + k) (entry_in payload k)))
+    × ((k : ℕ) → k < entry_count → IsEntryAt objects maps (entry_count * d + k) (entry_in payload k)))
 
 -- the objects of directory d, with this pointer to it
-pub record IsLoadedDirectory (keeps : Bool) (image : List ℕ) (frame : Frame) (d : ℕ) (pointer : Pointer) (slots : List Slot) (maps : List ObjectMap) : Type 0 where
+pub record IsLoadedDirectory (keeps : Bool) (image : List ℕ) (frame : Frame) (d : ℕ) (pointer : Pointer) (objects : FinMap nat_cmp (List ℕ)) (maps : List ObjectMap) : Type 0 where
   pub placed : IsPlaced frame.blocks pointer
-  pub objects : (k : ℕ) → k < entry_count → IsLoadedAt keeps image frame slots maps (entry_count * d + k)
-  pub stands : IsTrue keeps → DirectoryStands image frame d pointer slots maps
+  pub each : (k : ℕ) → k < entry_count → IsLoadedAt keeps image frame objects maps (entry_count * d + k)
+  pub stands : IsTrue keeps → DirectoryStands image frame d pointer objects maps
+
+-- the objects of directory d are loaded, the others are as before
+pub record LoadsDirectory (keeps : Bool) (image : List ℕ) (frame : Frame) (d : ℕ) (pointer : Pointer) (old_objects objects : FinMap nat_cmp (List ℕ)) (old_maps maps : List ObjectMap) : Type 0 where
+  pub loaded : IsLoadedDirectory keeps image frame d pointer objects maps
+  pub others : SameBut (entry_count * d) entry_count old_objects objects old_maps maps
 
 -- the objects of so many directories, and none of the others
-pub record AreLoadedDirectories (keeps : Bool) (image : List ℕ) (frame : Frame) (directories : List Pointer) (count : ℕ) (slots : List Slot) (maps : List ObjectMap) : Type 0 where
-  pub loaded : (d : ℕ) → d < count → IsLoadedDirectory keeps image frame d (pointer_of_list directories d) slots maps
-  pub rest : AreEmptyFrom (entry_count * count) slots maps
+pub record AreLoadedDirectories (keeps : Bool) (image : List ℕ) (frame : Frame) (directories : List Pointer) (count : ℕ) (objects : FinMap nat_cmp (List ℕ)) (maps : List ObjectMap) : Type 0 where
+  pub loaded : (d : ℕ) → d < count → IsLoadedDirectory keeps image frame d (pointer_of_list directories d) objects maps
+  pub rest : AreEmptyFrom (entry_count * count) objects maps
 
 -- no root and no directories, or the block with the pointers to these
 abbrev pub RootStands : List ℕ → Frame → Pointer → List Pointer → Type 0
@@ -114,8 +120,9 @@ RootStands image frame root directories =
     ((root ≡ no_pointer) × ((d : ℕ) → d < pointer_count → pointer_of_list directories d ≡ no_pointer))
     ⊎ ((payload : List ℕ) × OpensAt image frame Root root payload × ((d : ℕ) → d < pointer_count → pointer_in payload d ≡ pointer_of_list directories d))
 
--- a tree, with the pointers to its root and its directories
-pub record IsLoadedTree (keeps : Bool) (image : List ℕ) (frame : Frame) (root : Pointer) (directories : List Pointer) (slots : List Slot) (maps : List ObjectMap) : Type 0 where
+-- a tree, with the pointers to its root and its directories, and no other objects
+pub record IsLoadedTree (keeps : Bool) (image : List ℕ) (frame : Frame) (root : Pointer) (directories : List Pointer) (objects : FinMap nat_cmp (List ℕ)) (maps : List ObjectMap) : Type 0 where
   pub placed : IsPlaced frame.blocks root
   pub stands : IsTrue keeps → RootStands image frame root directories
-  pub each : (d : ℕ) → d < pointer_count → IsLoadedDirectory keeps image frame d (pointer_of_list directories d) slots maps
+  pub each : (d : ℕ) → d < pointer_count → IsLoadedDirectory keeps image frame d (pointer_of_list directories d) objects maps
+  pub rest : AreEmptyFrom object_count objects maps

@@ -19,12 +19,12 @@ abbrev pub object_length : FinMap nat_cmp (List ℕ) → ℕ → Option ℕ
 object_length objects n = option_map length (finite.get objects n)
 
 -- the bytes of object n, none where there is no such object
-abbrev pub bytes_in : FinMap nat_cmp (List ℕ) → ℕ → List ℕ
-bytes_in objects n = unwrap_or (finite.get objects n) []
+abbrev pub object_bytes : FinMap nat_cmp (List ℕ) → ℕ → List ℕ
+object_bytes objects n = unwrap_or (finite.get objects n) []
 
 -- record r of object n with zeros behind the object's end; an object that is not there has zeros alone
 abbrev pub object_record : FinMap nat_cmp (List ℕ) → ℕ → ℕ → List ℕ
-object_record objects n r = padded_record r (bytes_in objects n)
+object_record objects n r = padded_record r (object_bytes objects n)
 
 -- these are an object's bytes from an offset on, with zeros behind its end
 abbrev pub AreBytesFrom : ℕ → List ℕ → List ℕ → Type 0
@@ -32,4 +32,4 @@ AreBytesFrom offset object bytes = (k : ℕ) → k < length bytes → get_or byt
 
 -- the bytes of a range of an object that lie below its length, none where there is no such object
 abbrev pub range_in : FinMap nat_cmp (List ℕ) → ObjectId → Range → List ℕ
-range_in objects id range = steps.bytes_in (object_range id.0 range.low range.high) (bytes_in objects id.0)
+range_in objects id range = steps.bytes_in (object_range id.0 range.low range.high) (object_bytes objects id.0)

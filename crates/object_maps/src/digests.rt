@@ -6,7 +6,7 @@ ghost use Rattle.base.specs.formats.Digest.{digest_of};
 ghost use Rattle.base.specs.formats.Limits.{max_length};
 ghost use Rattle.object_maps.specs.Digests.{Feeds, text_at};
 ghost use Rattle.object_maps.specs.Judging.{with_name};
-ghost use Rattle.object_maps.specs.Sources.{AreWithin, bytes_in};
+ghost use Rattle.object_maps.specs.Sources.{AreWithin, object_bytes};
 
 use crate::source::ObjectSource;
 use base::{OBJECT_COUNT, ObjectId, PoolError, PoolName, RECORD_SIZE};
@@ -72,11 +72,11 @@ fn feed_bytes<O: ObjectSource>(
     size: usize,
     hasher: &mut Sha256,
 ) -> Result<(), PoolError>
-    requires size { size ≡ length (bytes_in (O.objects objects.old) id.0) }
+    requires size { size ≡ length (object_bytes (O.objects objects.old) id.0) }
     requires within { size ≤ max_length }
     ensures kept { O.objects objects.new ≡ O.objects objects.old }
     ensures fed { OnOk result
-        (Feeds (bytes_in (O.objects objects.old) id.0) hasher.old hasher.new) }
+        (Feeds (object_bytes (O.objects objects.old) id.0) hasher.old hasher.new) }
     ensures refused { IfErr result O.may_refuse }
 {
     let mut record = [0; RECORD_SIZE];

@@ -16,4 +16,4 @@ pub use judging::judge;
 pub use reading::read_range;
 pub use source::ObjectSource;
 pub use tree::{ObjectMap, Tree, empty_maps};
-pub use walk::{Loaded, load};
+pub use walk::{Loaded, load, survey};

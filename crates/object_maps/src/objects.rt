@@ -1,33 +1,80 @@
-//! The objects that a load has brought in so far.
+//! What a load puts its objects into, one after another: it keeps all their bytes, or their maps alone.
 
-ghost use Rattle.std.specs.Prelude.{◌≡◌, ◌<◌, length, option_map, vec_len};
-ghost use Rattle.std.proofs.Props.{props};
+ghost use Rattle.std.specs.Prelude.{◌≡◌, ◌<◌, ℕ, List, Some, length, vec_len};
+ghost use Rattle.std.proofs.Common.{◌∙◌, sym};
+ghost use Rattle.std.specs.Ordering.{nat_cmp};
+ghost use Rattle.std.specs.FinMap as finite;
+ghost use Rattle.std.specs.FinMap.{FinMap};
 ghost use Rattle.std.proofs.Math.ListN.{set};
-ghost use Rattle.object_maps.specs.ContentsShown.{object_of};
-ghost use Rattle.object_maps.specs.Lengths.{HaveSlotLengths};
+ghost use Rattle.object_maps.specs.Lengths.{HaveLengthsOf};
+ghost use Rattle.object_maps.specs.Pointers.{objects_of};
 
 use crate::contents::Slot;
 use crate::tree::ObjectMap;
 
-/// A slot and the map for each object number.
+/// What a load puts objects into. One that doesn't keep their bytes stands for all objects of the same lengths.
+pub trait ObjectSink {
+    ghost use Rattle.object_maps.specs.declared.tree.ObjectMap.{ObjectMap};
+
+    /// The map of each object number.
+    ghost maps: { Self → List ObjectMap };
+
+    /// It stands for these objects.
+    ghost stands_for: { Self → FinMap nat_cmp (List ℕ) → Type 0 };
+
+    /// Puts an object into its place, with its map.
+    fn put(&mut self, number: usize, bytes: Vec<u8>, map: ObjectMap)
+        requires in_range { number < 5292 }
+        requires length { map.length ≡ Some (length bytes.items) }
+        ensures maps { maps self.new ≡ set (maps self.old) number map }
+        ensures objects { (objects : FinMap nat_cmp (List ℕ)) → stands_for self.old objects
+            → stands_for self.new (finite.insert objects number bytes.items) };
+
+    /// There is a map for each object number.
+    ghost sized: { (sink : Self) → length (maps sink) ≡ 5292 };
+}
+
+/// Objects with their bytes: a slot and the map for each object number.
 #[derive(Debug, Drop, PartialEq, Eq)]
 pub struct Objects {
     pub slots: Vec<Slot>,
     pub maps: Vec<ObjectMap>,
     ghost all_slots: { vec_len slots ≡ 5292 },
     ghost all_maps: { vec_len maps ≡ 5292 },
-    ghost lengths: { HaveSlotLengths slots.items maps.items } by { Prim.hlevel props },
 }
 
-impl Objects {
-    /// Puts an object into its place, with its map.
-    pub fn put(&mut self, number: usize, slot: Slot, map: ObjectMap)
-        requires in_range { number < 5292 }
-        requires length { map.length ≡ option_map length (object_of slot) }
-        ensures slots { self.new.slots.items ≡ set self.old.slots.items number slot }
-        ensures maps { self.new.maps.items ≡ set self.old.maps.items number map }
-    {
-        self.slots[number] = slot;
+impl ObjectSink for Objects {
+    ghost maps = { λ o. o.maps.items };
+
+    ghost stands_for = { λ o objects.
+        (objects_of o.slots.items ≡ objects) × HaveLengthsOf o.maps.items objects };
+
+    ghost sized = { λ o. sym o.maps.ok.0 ∙ o.all_maps };
+
+    fn put(&mut self, number: usize, bytes: Vec<u8>, map: ObjectMap) {
+        self.slots[number] = Slot {
+            present: true,
+            bytes,
+        };
+        self.maps[number] = map;
+    }
+}
+
+/// Objects without their bytes: the map for each object number.
+#[derive(Debug, Drop, PartialEq, Eq)]
+pub struct Maps {
+    pub maps: Vec<ObjectMap>,
+    ghost all_maps: { vec_len maps ≡ 5292 },
+}
+
+impl ObjectSink for Maps {
+    ghost maps = { λ o. o.maps.items };
+
+    ghost stands_for = { λ o objects. HaveLengthsOf o.maps.items objects };
+
+    ghost sized = { λ o. sym o.maps.ok.0 ∙ o.all_maps };
+
+    fn put(&mut self, number: usize, _bytes: Vec<u8>, map: ObjectMap) {
         self.maps[number] = map;
     }
 }

@@ -4,7 +4,7 @@ ghost use Rattle.std.specs.Prelude.{◌≡◌, ◌+◌, ◌≤◌, ◌⊎◌, le
 ghost use Rattle.base.specs.declared.error.PoolError.TheVariants as error;
 ghost use Rattle.base.specs.formats.Fields.{part};
 ghost use Rattle.base.specs.formats.Limits.{max_length};
-ghost use Rattle.object_maps.specs.Sources.{bytes_in, range_in};
+ghost use Rattle.object_maps.specs.Sources.{object_bytes, range_in};
 
 use crate::source::ObjectSource;
 use base::{Bytes, ObjectId, PoolError, RECORD_SIZE, Range};
@@ -41,11 +41,11 @@ fn read_bytes<O: ObjectSource>(
     into: &mut [u8],
 ) -> Result<(), PoolError>
     requires within { low + length into.old ≤ max_length }
-    requires inside { low + length into.old ≤ length (bytes_in (O.objects objects.old) id.0) }
+    requires inside { low + length into.old ≤ length (object_bytes (O.objects objects.old) id.0) }
     ensures kept { O.objects objects.new ≡ O.objects objects.old }
     ensures size { length into.new ≡ length into.old }
     ensures bytes { OnOk result (into.new
-        ≡ part (bytes_in (O.objects objects.old) id.0) low (length into.old)) }
+        ≡ part (object_bytes (O.objects objects.old) id.0) low (length into.old)) }
     ensures refused { IfErr result O.may_refuse }
 {
     let mut done = 0;

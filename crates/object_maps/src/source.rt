@@ -10,7 +10,7 @@ ghost use Rattle.std.specs.FinMap.{FinMap};
 ghost use Rattle.base.specs.declared.error.PoolError.{PoolError};
 ghost use Rattle.base.specs.declared.error.PoolError.TheVariants as error;
 ghost use Rattle.object_maps.specs.ContentsShown.{contents_of};
-ghost use Rattle.object_maps.specs.Sources.{AreBytesFrom, bytes_in, object_length, object_record};
+ghost use Rattle.object_maps.specs.Sources.{AreBytesFrom, object_bytes, object_length, object_record};
 
 use crate::contents::Contents;
 use base::{ObjectId, PoolError, RECORD_SIZE};
@@ -48,7 +48,7 @@ pub trait ObjectSource {
         ensures kept { objects self.new ≡ objects self.old }
         ensures size { length into.new ≡ length into.old }
         ensures part { OnOk result (AreBytesFrom (4032 * index + start)
-            (bytes_in (objects self.old) id.0) into.new) }
+            (object_bytes (objects self.old) id.0) into.new) }
         ensures refused { IfErr result may_refuse };
 
     /// Reads a record of an object, 4,032 bytes, with zeros behind the object's end. The record of an object that is not

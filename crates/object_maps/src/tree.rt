@@ -64,6 +64,7 @@ impl Tree {
     ghost use Rattle.base.specs.tree.Places.{Place, IsPlace};
     ghost use Rattle.object_maps.specs.Lengths.{lengths_of, with_lengths};
     ghost use Rattle.object_maps.specs.Pointers.{pointers_of, with_maps, map_among};
+    ghost use Rattle.object_maps.specs.Surveys.{ListsObjectsOf};
     ghost use Rattle.std.proofs.Math.ListN.{set};
 
     /// Sets the lengths and the pointers of these objects. Those with no place in the tree are let go.
@@ -78,6 +79,19 @@ impl Tree {
         for (id, map) in maps {
             self.set(id, map);
         }
+    }
+
+    /// The numbers of its objects, rising, each with the object's length. It is refused where there is no memory.
+    pub fn list_objects(&self, alloc: Global) -> Result<Vec<(ObjectId, u64)>, AllocError>
+        ensures { IfOk result (λ list. ListsObjectsOf self.now list.items) }
+    {
+        let mut list = Vec::new(alloc);
+        for number in 0..OBJECT_COUNT {
+            if let Some(length) = self.maps[number as usize].length {
+                list.push((ObjectId(number), length))?;
+            }
+        }
+        Ok(list)
     }
 
     fn set(&mut self, id: ObjectId, map: ObjectMap)

@@ -19,15 +19,16 @@ ghost use Rattle.checked_blocks.proofs.NamedBlocks.{IsNamed};
 ghost use Rattle.object_maps.specs.Pointers.{pointers_of, objects_of, pointer_of_list};
 ghost use Rattle.object_maps.specs.Kinds.{kind_number};
 ghost use Rattle.object_maps.specs.Lengths.{HasLengthsOf};
-ghost use Rattle.object_maps.specs.Loading.{IsLimitedObject, IsLoadRefusal, IsLoadedRecord, AreLoadedRecords, IsZeroRecord, IsLoadedObject, IsLoadedDirectory, AreLoadedDirectories, IsLoadedTree};
+ghost use Rattle.object_maps.specs.Loading.{IsLimitedObject, IsLoadRefusal, IsLoadedRecord, AreLoadedEntries, AreLoadedRecords, HasZeroRecord, IsLoadedObject, LoadsDirectory, AreLoadedDirectories, IsLoadedTree};
 ghost use Rattle.base.specs.declared.pointer.Pointer.{Pointer};
 ghost use Rattle.base.specs.tree.Places.{IsPlace, walk_index_of, walk_index_of_indirect, pointer_of};
 ghost use Rattle.base.specs.tree.Places.Place.{Directory, Data};
-ghost use Rattle.object_maps.specs.Loaders.{AreRecordPointers, HasNoneFrom, IsEntryPayload, IsObjectOf, KeepsOthers, LoadsEntries, OnImage, OnWalk};
+ghost use Rattle.object_maps.specs.Loaders.{AreRecordPointers, IsEntryPayload, IsObjectOf, LoadsFrom, OnImage, OnWalk};
+ghost use Rattle.object_maps.specs.Surveys.{HasObjects};
 ghost use Rattle.object_maps.specs.Walking.{TellsBlock, TellsFault, Walks, IsDataOf, AreDataOf, IsIndirectOf, IsPayloadOf, AreDirectoriesOf, directory_index, objects_index};
 
 use crate::contents::{Slot, empty_slots};
-use crate::objects::Objects;
+use crate::objects::{Maps, ObjectSink, Objects};
 use crate::tree::{ObjectMap, Tree, empty_maps};
 use base::{
     ENTRY_COUNT, ENTRY_SIZE, Group, MAX_LENGTH, POINTER_COUNT, POINTER_SIZE, Pointer, PoolError,
@@ -255,6 +256,46 @@ pub fn load<D: SectorDevice>(
     })
 }
 
+/// Walks the tree under a root pointer as `load` does, with the same reads and refusals, and gives its pointers and the
+/// lengths of its objects. No object's bytes are kept: while it walks it has those of one.
+///
+/// # Errors
+/// As `load`: `Damaged` with the first fault in the order of the walk, `Read` where the device refuses a read, `NoMemory`.
+pub fn survey<D: SectorDevice>(
+    alloc: Global,
+    device: &mut D,
+    frame: &Frame,
+    root: Pointer,
+) -> Result<Tree, PoolError>
+    requires fits { block_address frame.now.blocks ≤ D.size device.old }
+    ensures reads { OnlyReads D.SectorDevice result device.old device.new }
+    ensures cause { IfErr result IsLoadRefusal }
+
+    // The tree has the root and pointers to blocks of the area alone.
+    ensures root { IfOk result (λ t. t.root ≡ root) }
+    ensures placed { IfOk result (λ t. ArePlaced (frame.now.blocks) (pointers_of t)) }
+
+    // There are objects whose lengths it has, and with which the image holds it.
+    ensures objects { IfOk result
+        (HasObjects D.keeps_model (bytes_of (D.disk device.old).now) frame.now) }
+
+    // And the block that is told damaged is the first fault of the walk.
+    ensures fault { IsTrue D.keeps_model → IfErr result (λ e.
+        (kind address : ℕ) → e ≡ PoolError.Damaged kind address
+        → IsFirstFault (bytes_of (D.disk device.old).now) frame.now root kind address) }
+{
+    let loader = Loader { alloc, frame };
+    let maps = empty_maps(alloc)?;
+    let mut directories = vec![in alloc; Pointer::NONE; POINTER_COUNT]?;
+    let mut objects = Maps { maps };
+    loader.load_tree(device, &root, &mut directories, &mut objects)?;
+    Ok(Tree {
+        root,
+        directories,
+        maps: objects.maps,
+    })
+}
+
 impl Loader<'_> {
     // Reads the block that a pointer names into the buffer. Refused Damaged where it is none of this place.
     fn read_block<D: SectorDevice>(
@@ -284,23 +325,23 @@ impl Loader<'_> {
         Ok(())
     }
 
-    // Loads a tree into slots and pointers of which none is there.
-    fn load_tree<D: SectorDevice>(
+    // Loads a tree into a sink and pointers of which none is there.
+    fn load_tree<D: SectorDevice, S: ObjectSink>(
         &self,
         device: &mut D,
         root: &Pointer,
         directories: &mut [Pointer],
-        objects: &mut Objects,
+        objects: &mut S,
     ) -> Result<(), PoolError>
         requires fits { block_address self.now.frame.now.blocks ≤ D.size device.old }
         requires directories { length directories.old ≡ 84 }
         requires no_directories { (d : ℕ) → pointer_of_list directories.old d ≡ no_pointer }
-        requires empty { HasNoneFrom 0 objects.old }
         ensures reads { OnlyReads D.SectorDevice result device.old device.new }
         ensures cause { IfErr result IsLoadRefusal }
         ensures loaded { OnImage D.keeps_model (D.disk device.old) (λ image. OnOk result
-            (IsLoadedTree D.keeps_model image self.now.frame.now
-            root.now directories.new objects.new.slots.items objects.new.maps.items)) }
+            (LoadsFrom 0 S.stands_for S.maps objects.old objects.new
+            (λ _ after _. IsLoadedTree D.keeps_model image self.now.frame.now
+            root.now directories.new after))) }
         ensures fault { IsTrue D.keeps_model → (image : List ℕ)
             → bytes_of (D.disk device.old).now ≡ image
             → IfErr result (TellsFault image self.now.frame.now root.now 0) }
@@ -326,20 +367,20 @@ impl Loader<'_> {
     }
 
     // Loads the directories that these pointers name.
-    fn load_directories<D: SectorDevice>(
+    fn load_directories<D: SectorDevice, S: ObjectSink>(
         &self,
         device: &mut D,
         directories: &[Pointer],
-        objects: &mut Objects,
+        objects: &mut S,
     ) -> Result<(), PoolError>
         requires fits { block_address self.now.frame.now.blocks ≤ D.size device.old }
         requires directories { length directories.now ≡ 84 }
-        requires empty { HasNoneFrom 0 objects.old }
         ensures reads { OnlyReads D.SectorDevice result device.old device.new }
         ensures cause { IfErr result IsLoadRefusal }
         ensures loaded { OnImage D.keeps_model (D.disk device.old) (λ image. OnOk result
-            (AreLoadedDirectories D.keeps_model image self.now.frame.now
-            directories.now 84 objects.new.slots.items objects.new.maps.items)) }
+            (LoadsFrom 0 S.stands_for S.maps objects.old objects.new
+            (λ _ after _. AreLoadedDirectories D.keeps_model image self.now.frame.now
+            directories.now 84 after))) }
         ensures walked { OnWalk D.keeps_model (D.disk device.old) (λ image top.
             AreDirectoriesOf image top directories.now
             → Walks image self.now.frame.now top 1 (directory_index 84) result) }
@@ -355,22 +396,20 @@ impl Loader<'_> {
     }
 
     // Loads the directory of this number.
-    fn load_directory<D: SectorDevice>(
+    fn load_directory<D: SectorDevice, S: ObjectSink>(
         &self,
         device: &mut D,
         directory: usize,
         pointer: &Pointer,
-        objects: &mut Objects,
+        objects: &mut S,
     ) -> Result<(), PoolError>
         requires fits { block_address self.now.frame.now.blocks ≤ D.size device.old }
         requires in_range { directory < 84 }
-        requires empty { HasNoneFrom (63 * directory) objects.old }
         ensures reads { OnlyReads D.SectorDevice result device.old device.new }
         ensures cause { IfErr result IsLoadRefusal }
         ensures loaded { OnImage D.keeps_model (D.disk device.old) (λ image. OnOk result
-            (IsLoadedDirectory D.keeps_model image self.now.frame.now
-            directory pointer.now objects.new.slots.items objects.new.maps.items)) }
-        ensures others { OnOk result (KeepsOthers (63 * directory) 63 objects.old objects.new) }
+            (LoadsFrom (63 * directory) S.stands_for S.maps objects.old objects.new
+            (LoadsDirectory D.keeps_model image self.now.frame.now directory pointer.now))) }
         ensures walked { OnWalk D.keeps_model (D.disk device.old) (λ image top.
             pointer_of image top (Directory directory) ≡ pointer.now → pointer.now ≢ no_pointer
             → Walks image self.now.frame.now top
@@ -390,22 +429,22 @@ impl Loader<'_> {
     }
 
     // Loads the objects that the entries of a directory name.
-    fn load_entries<D: SectorDevice>(
+    fn load_entries<D: SectorDevice, S: ObjectSink>(
         &self,
         device: &mut D,
         directory: usize,
         payload: &[u8],
-        objects: &mut Objects,
+        objects: &mut S,
     ) -> Result<(), PoolError>
         requires fits { block_address self.now.frame.now.blocks ≤ D.size device.old }
         requires in_range { directory < 84 }
         requires payload { IsEntryPayload payload.now }
-        requires empty { HasNoneFrom (63 * directory) objects.old }
         ensures reads { OnlyReads D.SectorDevice result device.old device.new }
         ensures cause { IfErr result IsLoadRefusal }
         ensures loaded { OnImage D.keeps_model (D.disk device.old) (λ image. OnOk result
-            (LoadsEntries D.keeps_model image self.now.frame.now
-            directory payload.now 63 objects.old objects.new)) }
+            (LoadsFrom (63 * directory) S.stands_for S.maps objects.old objects.new
+            (AreLoadedEntries D.keeps_model image self.now.frame.now
+            directory payload.now 63))) }
         ensures walked { OnWalk D.keeps_model (D.disk device.old) (λ image top.
             IsPayloadOf image self.now.frame.now top directory payload.now
             → Walks image self.now.frame.now top
@@ -417,8 +456,8 @@ impl Loader<'_> {
                 continue;
             }
             let number = ENTRY_COUNT * directory + index;
-            let (slot, map) = self.load_object(device, number, &entry)?;
-            objects.put(number, slot, map);
+            let (bytes, map) = self.load_object(device, number, &entry)?;
+            objects.put(number, bytes, map);
         }
         Ok(())
     }
@@ -429,16 +468,16 @@ impl Loader<'_> {
         device: &mut D,
         number: usize,
         entry: &Entry,
-    ) -> Result<(Slot, ObjectMap), PoolError>
+    ) -> Result<(Vec<u8>, ObjectMap), PoolError>
         requires fits { block_address self.now.frame.now.blocks ≤ D.size device.old }
         requires in_range { number < 5292 }
         requires length { entry.now.length ≤ 338688 }
         ensures reads { OnlyReads D.SectorDevice result device.old device.new }
         ensures cause { IfErr result IsLoadRefusal }
-        ensures object { IfOk result (λ o. IsObjectOf entry.now o.0 o.1) }
+        ensures object { IfOk result (λ o. IsObjectOf entry.now o.0.items o.1) }
         ensures loaded { OnImage D.keeps_model (D.disk device.old) (λ image. IfOk result (λ o.
             IsLoadedObject D.keeps_model image self.now.frame.now
-            number (Some o.0.bytes.items) o.1.indirect o.1.records.items)) }
+            number (Some o.0.items) o.1.indirect o.1.records.items)) }
         ensures walked { OnWalk D.keeps_model (D.disk device.old) (λ image top.
             IsIndirectOf image top number entry.now.pointer entry.now.length
             → Walks image self.now.frame.now top
@@ -446,16 +485,12 @@ impl Loader<'_> {
     {
         let mut bytes = vec![in self.alloc; 0u8; entry.length as usize]?;
         let records = self.load_bytes(device, number, &entry.pointer, &mut bytes)?;
-        let slot = Slot {
-            present: true,
-            bytes,
-        };
         let map = ObjectMap {
             length: Some(entry.length),
             indirect: entry.pointer,
             records,
         };
-        Ok((slot, map))
+        Ok((bytes, map))
     }
 
     // Loads the bytes of an object over zeros. The pointers to its records come back.
@@ -510,7 +545,7 @@ impl Loader<'_> {
         requires fits { block_address self.now.frame.now.blocks ≤ D.size device.old }
         requires in_range { number < 5292 }
         requires records { AreRecordPointers (length bytes.old) records.now }
-        requires zeros { (r : ℕ) → IsZeroRecord r bytes.old }
+        requires zeros { (r : ℕ) → HasZeroRecord r bytes.old }
         ensures reads { OnlyReads D.SectorDevice result device.old device.new }
         ensures cause { IfErr result IsLoadRefusal }
         ensures loaded { OnImage D.keeps_model (D.disk device.old) (λ image. OnOk result

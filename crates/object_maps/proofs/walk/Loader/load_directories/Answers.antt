@@ -1,14 +1,24 @@
 use Rattle.std.proofs.Common.{◌≡◌, ◌<◌, ◌+◌, ◌*◌, ◌∙◌, ℕ, length, ap, subst, refl, arith}
 use Rattle.object_maps.proofs.LoadedBlocks.{still_shows}
-use Rattle.object_maps.proofs.LoadedEntries.{directories_skip, directories_load, empty_more, empty_behind}
+use Rattle.object_maps.proofs.LoadedEntries.{directories_skip, directories_load, no_directories}
 use Rattle.std.proofs.lemmas.List.{get_or_default}
 use Rattle.std.proofs.lemmas.Result.{err_from_is_err_and}
 use Rattle.base.specs.formats.Fields.{no_pointer}
 use Rattle.base.specs.disk.Disk.{Disk, bytes_of}
 use Rattle.object_maps.specs.Walking.{AreSound}
-use Rattle.object_maps.proofs.WalkOrder.{sound_more}
+use Rattle.object_maps.proofs.WalkOrder.{sound_more, sound_none}
 use Rattle.object_maps.proofs.WalkParts.{tells_behind, directory_skip}
 use Rattle.object_maps.proofs.walk.Loader.load_directories.Goals as goal
+
+pub loop-index-init : goal.loop-index-init
+loop-index-init g c = record {
+  size = refl;
+  disk = λ keeps. refl;
+  count = refl;
+  sound = λ keeps image top shows all. sound_none image c.args.self.now.frame.now top 1 1 (omega arith);
+  loaded = λ image shows before stood empty.
+      (before, stood, no_directories g.D.SectorDevice.keeps_model image c.args.self.now.frame.now c.args.directories.now before (g.S.ObjectSink.maps c.args.objects.now) empty);
+}
 
 pub loop-index-preserved-then-is_none : goal.loop-index-preserved-then-is_none
 loop-index-preserved-then-is_none g c =
@@ -18,11 +28,15 @@ loop-index-preserved-then-is_none g c =
       size = i.size;
       disk = i.disk;
       count = i.count;
-      empty = empty_more c.loop-index.index c.loop-index.objects.slots.items c.loop-index.objects.maps.items i.empty;
       sound = λ keeps image top shows all. directory_skip image c.args.self.now.frame.now top c.loop-index.index c.args.directories.now _ c.loop-index-test.true all within
           (c.if-is_none.ensures.0 refl) (i.sound keeps image top shows all);
-      loaded = λ image shows. directories_skip g.D.SectorDevice.keeps_model image c.args.self.now.frame.now c.args.directories.now c.loop-index.index
-          c.loop-index.objects.slots.items c.loop-index.objects.maps.items (i.loaded image shows) _ within (c.if-is_none.ensures.0 refl);
+      loaded = λ image shows before stood empty.
+          let (after, stands, so_far) = i.loaded image shows before stood empty in (
+            after,
+            stands,
+            directories_skip g.D.SectorDevice.keeps_model image c.args.self.now.frame.now c.args.directories.now c.loop-index.index
+                after (g.S.ObjectSink.maps c.loop-index.objects) so_far _ within (c.if-is_none.ensures.0 refl),
+          );
     }
 
 pub loop-index-preserved : goal.loop-index-preserved
@@ -34,15 +48,20 @@ loop-index-preserved g c =
       size = call.reads.size ∙ i.size;
       disk = λ keeps. call.reads.disk keeps ∙ i.disk keeps;
       count = call.reads.count ∙ i.count;
-      empty = empty_behind c.loop-index.index c.loop-index.objects.slots.items c.load_directory.new.objects.slots.items c.loop-index.objects.maps.items c.load_directory.new.objects.maps.items i.empty call.others;
       sound = λ keeps image top shows all.
           sound_more image c.args.self.now.frame.now top 1 (1 + 5356 * c.loop-index.index) (1 + 5356 * (c.loop-index.index + 1)) (i.sound keeps image top shows all)
           (call.walked keeps image top (ap (λ (d : Disk). bytes_of d.now) (i.disk keeps) ∙ shows)
           (all.at c.loop-index.index c.loop-index-test.true ∙ get_or_default c.args.directories.now c.loop-index.index no_pointer _ within)
           (λ none. let no = c.if-is_none.ensures.1 none in cc));
-      loaded = λ image shows. directories_load g.D.SectorDevice.keeps_model image c.args.self.now.frame.now c.args.directories.now c.loop-index.index
-          c.loop-index.objects.slots.items c.load_directory.new.objects.slots.items c.loop-index.objects.maps.items c.load_directory.new.objects.maps.items (i.loaded image shows) call.others _ within
-          (call.loaded image (still_shows g.D.SectorDevice.keeps_model (g.D.SectorDevice.disk c.args.device.now) (g.D.SectorDevice.disk c.loop-index.device) image i.disk shows));
+      loaded = λ image shows before stood empty.
+          let (so_many, stood_then, so_far) = i.loaded image shows before stood empty in
+          let now_shows = still_shows g.D.SectorDevice.keeps_model (g.D.SectorDevice.disk c.args.device.now) (g.D.SectorDevice.disk c.loop-index.device) image i.disk shows in
+          let (after, stands, here) = call.loaded image now_shows so_many stood_then so_far.rest in (
+            after,
+            stands,
+            directories_load g.D.SectorDevice.keeps_model image c.args.self.now.frame.now c.args.directories.now c.loop-index.index
+                so_many after (g.S.ObjectSink.maps c.loop-index.objects) (g.S.ObjectSink.maps c.load_directory.new.objects) so_far _ within here,
+          );
     }
 
 pub returns-clause-loaded : goal.returns-clause-loaded

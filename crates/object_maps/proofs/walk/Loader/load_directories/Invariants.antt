@@ -3,7 +3,8 @@ use Rattle.std.specs.Prelude.{IsTrue}
 use Rattle.base.specs.declared.pointer.Pointer.{Pointer}
 use Rattle.base.specs.disk.Disk.{bytes_of}
 use Rattle.object_maps.specs.Walking.{AreSound, AreDirectoriesOf}
-use Rattle.object_maps.specs.Loading.{Shows, AreLoadedDirectories, AreEmptyFrom}
+use Rattle.object_maps.specs.Loaders.{LoadsFrom}
+use Rattle.object_maps.specs.Loading.{Shows, AreLoadedDirectories}
 use Rattle.object_maps.proofs.walk.Loader.load_directories.Given as goal
 
 -- the device is as it was, and so many directories are loaded
@@ -12,9 +13,9 @@ invariant-loop-index g l = record {
   size : g.D.SectorDevice.size l.device ≡ g.D.SectorDevice.size l.fn.device;
   disk : IsTrue g.D.SectorDevice.keeps_model → g.D.SectorDevice.disk l.device ≡ g.D.SectorDevice.disk l.fn.device;
   count : g.D.SectorDevice.refused l.device ≡ g.D.SectorDevice.refused l.fn.device;
-  empty : AreEmptyFrom (63 * l.index) l.objects.slots.items l.objects.maps.items;
   sound : IsTrue g.D.SectorDevice.keeps_model → (image : List ℕ) (top : Pointer) → bytes_of (g.D.SectorDevice.disk l.fn.device).now ≡ image
       → AreDirectoriesOf image top l.directories → AreSound image l.self.frame.now top 1 (1 + 5356 * l.index);
   loaded : (image : List ℕ) → Shows g.D.SectorDevice.keeps_model (g.D.SectorDevice.disk l.fn.device) image
-      → AreLoadedDirectories g.D.SectorDevice.keeps_model image l.self.frame.now l.directories l.index l.objects.slots.items l.objects.maps.items;
+      → LoadsFrom 0 g.S.ObjectSink.stands_for g.S.ObjectSink.maps l.fn.objects l.objects
+      (λ _ after _. AreLoadedDirectories g.D.SectorDevice.keeps_model image l.self.frame.now l.directories l.index after);
 }

@@ -18,15 +18,13 @@ returns-clause-loaded g c = λ image shows.
     let same = still_shows keeps_model (g.D.SectorDevice.disk c.args.device.now) (g.D.SectorDevice.disk c.read_block.new.device) image read.reads.disk shows in
     let opens = λ (keeps : IsTrue keeps_model). subst (λ (l : List ℕ). OpensAt image frame (Directory c.args.directory) c.args.pointer.now l) (sym c.payload_of-payload.ensures.payload)
     (read.opens image shows keeps) in
+    let old_maps = g.S.ObjectSink.maps c.args.objects.now in
+    let maps = g.S.ObjectSink.maps c.load_entries.new.objects in
     on_ok_weaker c.load_entries.result
-    (directory_loaded keeps_model image frame c.args.directory c.args.pointer.now c.payload_of-payload.result.now c.args.objects.now.slots.items c.load_entries.new.objects.slots.items
-    c.args.objects.now.maps.items c.load_entries.new.objects.maps.items read.placed opens)
+    (λ loads before stood empty.
+    let (after, stands, all) = loads before stood empty in
+    (after, stands, directory_loaded keeps_model image frame c.args.directory c.args.pointer.now c.payload_of-payload.result.now before after old_maps maps read.placed opens all))
     (c.load_entries.ensures.loaded image same)
-
-pub returns-clause-others : goal.returns-clause-others
-returns-clause-others g c =
-    on_ok_weaker c.load_entries.result (λ loaded. loaded.others)
-    (c.load_entries.ensures.loaded (bytes_of (g.D.SectorDevice.disk c.read_block.new.device).now) (λ keeps. refl))
 
 pub returns-in_err-read_block-clause-walked : goal.returns-in_err-read_block-clause-walked
 returns-in_err-read_block-clause-walked g c = λ keeps image top shows at named.

@@ -3,6 +3,7 @@ use Rattle.std.specs.Prelude.{IsTrue}
 use Rattle.base.specs.declared.pointer.Pointer.{Pointer}
 use Rattle.base.specs.disk.Disk.{bytes_of}
 use Rattle.object_maps.specs.Walking.{AreSound, IsPayloadOf}
+use Rattle.object_maps.specs.Loaders.{LoadsFrom}
 use Rattle.object_maps.specs.Loading.{Shows, AreLoadedEntries}
 use Rattle.object_maps.proofs.walk.Loader.load_entries.Given as goal
 
@@ -16,5 +17,6 @@ invariant-loop-index g l = record {
       → IsPayloadOf image l.self.frame.now top l.directory l.payload
       → AreSound image l.self.frame.now top (2 + 5356 * l.directory) (2 + 5356 * l.directory + 85 * l.index);
   loaded : (image : List ℕ) → Shows g.D.SectorDevice.keeps_model (g.D.SectorDevice.disk l.fn.device) image
-      → AreLoadedEntries g.D.SectorDevice.keeps_model image l.self.frame.now l.directory l.payload l.index l.fn.objects.slots.items l.objects.slots.items l.fn.objects.maps.items l.objects.maps.items;
+      → LoadsFrom (63 * l.directory) g.S.ObjectSink.stands_for g.S.ObjectSink.maps l.fn.objects l.objects
+      (AreLoadedEntries g.D.SectorDevice.keeps_model image l.self.frame.now l.directory l.payload l.index);
 }

@@ -12,9 +12,12 @@ use Rattle.object_maps.proofs.WalkParts.{tells_behind, told_by, root_sound, root
 use Rattle.object_maps.proofs.walk.Loader.load_tree.Goals as goal
 
 pub returns-then-is_none-clause-loaded : goal.returns-then-is_none-clause-loaded
-returns-then-is_none-clause-loaded g c = λ image shows.
-    no_tree g.D.SectorDevice.keeps_model image c.args.self.now.frame.now c.args.root.now c.args.directories.now c.args.objects.now.slots.items c.args.objects.now.maps.items
-    (c.if-is_none.ensures.0 refl) c.requires.no_directories c.requires.empty
+returns-then-is_none-clause-loaded g c = λ image shows before stood empty. (
+  before,
+  stood,
+  no_tree g.D.SectorDevice.keeps_model image c.args.self.now.frame.now c.args.root.now c.args.directories.now before (g.S.ObjectSink.maps c.args.objects.now)
+      (c.if-is_none.ensures.0 refl) c.requires.no_directories empty,
+)
 
 pub returns-clause-loaded : goal.returns-clause-loaded
 returns-clause-loaded g c = λ image shows.
@@ -25,8 +28,13 @@ returns-clause-loaded g c = λ image shows.
     let opens = λ (keeps : IsTrue keeps_model). subst (λ (l : List ℕ). OpensAt image frame Root c.args.root.now l) (sym c.payload_of-payload.ensures.payload)
     (read.opens image shows keeps) in
     on_ok_weaker c.load_directories.result
-    (tree_loaded keeps_model image frame c.args.root.now c.read_pointers.new.pointers c.payload_of-payload.result.now c.load_directories.new.objects.slots.items
-    c.load_directories.new.objects.maps.items read.placed opens c.read_pointers.ensures)
+    (λ loads before stood empty.
+    let (after, stands, all) = loads before stood empty in (
+      after,
+      stands,
+      tree_loaded keeps_model image frame c.args.root.now c.read_pointers.new.pointers c.payload_of-payload.result.now after
+          (g.S.ObjectSink.maps c.load_directories.new.objects) read.placed opens c.read_pointers.ensures all,
+    ))
     (c.load_directories.ensures.loaded image same)
 
 pub returns-then-root-eq0-clause-fault : goal.returns-then-root-eq0-clause-fault

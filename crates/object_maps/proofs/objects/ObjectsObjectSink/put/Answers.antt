@@ -1,0 +1,15 @@
+use Rattle.std.proofs.Common.{◌∙◌, ◌<◌, ℕ, List, length, ap, refl, arith}
+use Rattle.std.specs.Ordering.{nat_cmp}
+use Rattle.std.specs.FinMap as finite
+use Rattle.std.specs.FinMap.{FinMap}
+use Rattle.object_maps.proofs.PutObjects.{lengths-set, objects-set}
+use Rattle.object_maps.proofs.objects.ObjectsObjectSink.put.Goals as goal
+
+pub returns-clause-objects : goal.returns-clause-objects
+returns-clause-objects c = λ objects (are, lengths).
+    let old = c.args.self.now in
+    let slot_in : c.args.number < length old.slots.items = omega (arith, c.requires.in_range, old.slots.ok.0, old.all_slots) in
+    let map_in : c.args.number < length old.maps.items = omega (arith, c.requires.in_range, old.maps.ok.0, old.all_maps) in (
+      objects-set old.slots.items c.args.number _ slot_in refl ∙ ap (λ (m : FinMap nat_cmp (List ℕ)). finite.insert m c.args.number c.args.bytes.items) are,
+      lengths-set old.maps.items objects c.args.number c.args.map c.args.bytes.items map_in c.requires.length lengths,
+    )

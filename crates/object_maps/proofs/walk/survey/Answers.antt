@@ -1,0 +1,36 @@
+use Rattle.std.proofs.Common.{◌∙◌, ℕ, List, refl}
+use Rattle.std.specs.FinMap as finite
+use Rattle.std.proofs.lemmas.Result.{err_from_is_err_and}
+use Rattle.base.specs.disk.Disk.{bytes_of}
+use Rattle.object_maps.specs.declared.tree.ObjectMap.{ObjectMap}
+use Rattle.object_maps.proofs.LoadedTrees.{no_lengths, no_pointers, none_there, whole_tree}
+use Rattle.object_maps.proofs.WalkParts.{first_fault}
+use Rattle.object_maps.proofs.walk.survey.Goals as goal
+
+pub load_tree-requires-clause-no_directories : goal.load_tree-requires-clause-no_directories
+load_tree-requires-clause-no_directories g c =
+    no_pointers c.deref_mut.result.now 84 (c.deref_mut.ensures.value ∙ c.in_ok-directories.ensures.items_if_clones_equal (λ p same. same))
+
+pub returns-clause-placed : goal.returns-clause-placed
+returns-clause-placed g c =
+    let image : List ℕ = bytes_of (g.D.SectorDevice.disk c.args.device.now).now in
+    let maps : List ObjectMap = c.in_ok-maps.maps.items in
+    let (objects, stands, tree) = c.in_ok-load_tree.ensures.loaded image (λ keeps. refl) finite.empty (no_lengths maps c.in_ok-maps.ensures.empty) (none_there maps c.in_ok-maps.ensures.empty) in
+    let whole = whole_tree g.D.SectorDevice.keeps_model image c.args.frame.now c.args.root c.load_tree.new.directories c.in_ok-directories.directories.items objects
+    c.load_tree.new.objects.maps.items c.in_ok-directories.directories.len (c.load_tree.auto.directories ∙ c.deref_mut.ensures.len) tree objects refl in
+    whole.placed
+
+pub returns-clause-objects : goal.returns-clause-objects
+returns-clause-objects g c =
+    let image : List ℕ = bytes_of (g.D.SectorDevice.disk c.args.device.now).now in
+    let maps : List ObjectMap = c.in_ok-maps.maps.items in
+    let (objects, stands, tree) = c.in_ok-load_tree.ensures.loaded image (λ keeps. refl) finite.empty (no_lengths maps c.in_ok-maps.ensures.empty) (none_there maps c.in_ok-maps.ensures.empty) in
+    let whole = whole_tree g.D.SectorDevice.keeps_model image c.args.frame.now c.args.root c.load_tree.new.directories c.in_ok-directories.directories.items objects
+    c.load_tree.new.objects.maps.items c.in_ok-directories.directories.len (c.load_tree.auto.directories ∙ c.deref_mut.ensures.len) tree objects refl in
+    record { objects = objects; bounded = whole.bounded; lengths = λ n low. stands n; held = whole.held }
+
+pub returns-in_err-load_tree-clause-fault : goal.returns-in_err-load_tree-clause-fault
+returns-in_err-load_tree-clause-fault g c = λ keeps.
+    let p = err_from_is_err_and c.from_residual-in_err-load_tree.result c.from_residual-in_err-load_tree.ensures.1 in
+    let image : List ℕ = bytes_of (g.D.SectorDevice.disk c.args.device.now).now in
+    rw (p.1, p.2) (first_fault image c.args.frame.now c.args.root c.in_err-load_tree.field-0.0 (c.in_err-load_tree.ensures.fault keeps image refl))
