@@ -23,7 +23,7 @@ use Rattle.base.proofs.history.Writes.{length-bytes_after_write, length-resize}
 use Rattle.base.proofs.tree.RecordStates.{at-object, bytes-changed, bytes-created, bytes-removed, contents-after_all, elsewhere}
 use Rattle.object_maps.specs.declared.tree.ObjectMap.{ObjectMap}
 use Rattle.tree_plans.specs.declared.changes.ObjectChanges.{ObjectChanges}
-use Rattle.tree_plans.specs.Marks.{AreToldSoFar, NotesOp, length_in, length_with, sets_length, size_of, state_with}
+use Rattle.tree_plans.specs.Marks.{AreToldSoFar, NotesOp, length_so_far, length_with, sets_length, object_size, marked_after}
 
 -- a value in a row of equal ones
 pub in_row : {A : Type 0} (count r : ℕ) (a d : A) → r < count → slice_index_or (replicate count a) r d ≡ a
@@ -48,7 +48,7 @@ state-append n r [] op c s = refl
 state-append n r (x ∷ xs) op c s = state-append n r xs op (contents_after x c) (state_after_op n r x c s)
 
 -- the state after an operation, by the length of the object where the operation sets it
-state-by_length : (n r : ℕ) (op : Op) (c : Contents) (size : ℕ) (s : RecordState) → (sets_length n op ≡ true → size ≡ size_of c n) → state_with n r op size s ≡ state_after_op n r op c s
+state-by_length : (n r : ℕ) (op : Op) (c : Contents) (size : ℕ) (s : RecordState) → (sets_length n op ≡ true → size ≡ object_size c n) → marked_after n r op size s ≡ state_after_op n r op c s
 state-by_length n r (Create m) c size s is = refl
 state-by_length n r (Remove m) c size s is = refl
 state-by_length n r (Write m offset bytes) c size s is = refl
@@ -69,24 +69,24 @@ either_size : (b : Bool) (x y z : ℕ) → (b ≡ true → x ≡ z) → (b ≡ f
 either_size true x y z first second = first refl
 either_size false x y z first second = second refl
 
-length-after : (n : ℕ) (op : Op) (c d : Contents) → apply op c ≡ Ok d → length_with n op (size_of c n) ≡ size_of d n
-length-after n (Create m) c d h = either_size (m.0 == n) 0 (size_of c n) (size_of d n)
+length-after : (n : ℕ) (op : Op) (c d : Contents) → apply op c ≡ Ok d → length_with n op (object_size c n) ≡ object_size d n
+length-after n (Create m) c d h = either_size (m.0 == n) 0 (object_size c n) (object_size d n)
     (λ same. ap (λ (l : List ℕ). length l) (sym (bytes-created (finite.get c.objects n) (finite.get d.objects n) (at-object n m.0 created c d same h))))
     (λ other. ap (λ (o : Option (List ℕ)). length (unwrap_or o [])) (elsewhere n m.0 created c d other h))
-length-after n (Remove m) c d h = either_size (m.0 == n) 0 (size_of c n) (size_of d n)
+length-after n (Remove m) c d h = either_size (m.0 == n) 0 (object_size c n) (object_size d n)
     (λ same. ap (λ (o : Option (List ℕ)). length (unwrap_or o [])) (sym (bytes-removed (finite.get c.objects n) (finite.get d.objects n) (at-object n m.0 removed c d same h))))
     (λ other. ap (λ (o : Option (List ℕ)). length (unwrap_or o [])) (elsewhere n m.0 removed c d other h))
-length-after n (Write m offset bytes) c d h = either_size (m.0 == n) (max (size_of c n) (offset + length bytes)) (size_of c n) (size_of d n)
+length-after n (Write m offset bytes) c d h = either_size (m.0 == n) (max (object_size c n) (offset + length bytes)) (object_size c n) (object_size d n)
     (λ same.
     let to = bytes-changed (bytes_after_write offset bytes) (finite.get c.objects n) (finite.get d.objects n) (at-object n m.0 (changed (bytes_after_write offset bytes)) c d same h) in
     ap (λ (o : Option (List ℕ)). max (length (unwrap_or o [])) (offset + length bytes)) to.1 ∙ sym (length-bytes_after_write offset bytes to.0) ∙ ap (λ (o : Option (List ℕ)). length (unwrap_or o [])) (sym to.2))
     (λ other. ap (λ (o : Option (List ℕ)). length (unwrap_or o [])) (elsewhere n m.0 (changed (bytes_after_write offset bytes)) c d other h))
-length-after n (SetLength m new) c d h = either_size (m.0 == n) new (size_of c n) (size_of d n)
+length-after n (SetLength m new) c d h = either_size (m.0 == n) new (object_size c n) (object_size d n)
     (λ same.
     let to = bytes-changed (resize new) (finite.get c.objects n) (finite.get d.objects n) (at-object n m.0 (changed (resize new)) c d same h) in
     sym (length-resize new to.0) ∙ ap (λ (o : Option (List ℕ)). length (unwrap_or o [])) (sym to.2))
     (λ other. ap (λ (o : Option (List ℕ)). length (unwrap_or o [])) (elsewhere n m.0 (changed (resize new)) c d other h))
-length-after n (SetName bytes) c d h = let e : record { name = bytes; objects = c.objects } ≡ d = cc in ap (λ (x : Contents). size_of x n) e
+length-after n (SetName bytes) c d h = let e : record { name = bytes; objects = c.objects } ≡ d = cc in ap (λ (x : Contents). object_size x n) e
 
 -- operations that take place one after another do so up to each of them
 apart : (xs ys : List Op) (a c : Contents) → apply_all (xs ++ ys) a ≡ Ok c → (b : Contents) × (apply_all xs a ≡ Ok b) × (apply_all ys b ≡ Ok c)
@@ -130,8 +130,8 @@ told_more done op maps old new told noted = record {
         let parts = front_ranges done op within in
         let middle : contents_after_all done before ≡ p.0 = contents-after_all done before p.0 p.1 in
         noted.states n r low
-        ∙ ap (λ (s : RecordState). state_with n r op (length_in maps old n) s) (told.changes.states before p.0 p.1 parts.0 n r low (λ sets. is (any_first (sets_length n) done op sets)))
-        ∙ state-by_length n r op p.0 (length_in maps old n) (record_state n r done before Unchanged) (λ sets. told.sizes before p.0 p.1 parts.0 n (is (any_last (sets_length n) done op sets)))
+        ∙ ap (λ (s : RecordState). marked_after n r op (length_so_far maps old n) s) (told.changes.states before p.0 p.1 parts.0 n r low (λ sets. is (any_first (sets_length n) done op sets)))
+        ∙ state-by_length n r op p.0 (length_so_far maps old n) (record_state n r done before Unchanged) (λ sets. told.sizes before p.0 p.1 parts.0 n (is (any_last (sets_length n) done op sets)))
         ∙ ap (λ (c : Contents). state_after_op n r op c (record_state n r done before Unchanged)) (sym middle)
         ∙ sym (state-append n r done op before Unchanged);
   };

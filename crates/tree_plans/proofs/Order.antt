@@ -32,7 +32,7 @@ use Rattle.object_maps.specs.declared.tree.ObjectMap.{ObjectMap}
 use Rattle.object_maps.specs.declared.tree.Tree.{Tree}
 use Rattle.tree_plans.specs.declared.changes.ObjectChanges.{ObjectChanges}
 use Rattle.tree_plans.specs.Pointers.{IsPut, entry_of, planned_map, pointers_before, pointers_from, record_in}
-use Rattle.tree_plans.specs.Changes.{AreInRange, group_of, names_block, state_at, state_in}
+use Rattle.tree_plans.specs.Changes.{AreInRange, changes_of_group, has_address, state_at, state_in}
 use Rattle.tree_plans.specs.declared.planner.PlannedBlock.{PlannedBlock}
 use Rattle.tree_plans.specs.Plans.{AreRecordsPlanned, IsRecordPlanned, Progress, address_of, indirect_state, is_dirty_in, is_indirect_written_in, new_block, state_above}
 use Rattle.tree_plans.specs.Walks.{has_object, has_objects, is_any_touched, is_directory_dirty, is_directory_replaced, is_directory_touched, root_state}
@@ -133,7 +133,7 @@ passes_at p a (suc n) k low high is = elim (cases_eq a k) [
 -- what is told of an object by its entry, and of one that has none
 module _ (objects : List (ObjectId × ObjectChanges)) (pointers : Place → Pointer) (after : FinMap nat_cmp (List ℕ)) (n : ℕ) where
   abbrev entry_group : GroupChanges
-  entry_group = group_of objects pointers after
+  entry_group = changes_of_group objects pointers after
 
   pub entry-state : (changes : ObjectChanges) → entry_of objects n ≡ Some changes → (r : ℕ) → state_in objects n r ≡ state_at changes r
   entry-state changes is r = ap (λ (o : Option ObjectChanges). option_map_or (λ (c : ObjectChanges). state_at c r) o Unchanged) is
@@ -144,7 +144,7 @@ module _ (objects : List (ObjectId × ObjectChanges)) (pointers : Place → Poin
   pub entry-indirect : (changes : ObjectChanges) (was : ObjectMap) → entry_of objects n ≡ Some changes → ((r : ℕ) → pointers (Data n r) ≡ record_in was r) → is_indirect_written entry_group n ≡ is_indirect_written_in changes was
   entry-indirect changes was is pointers_are =
       (λ k. option_map_or (λ (c : ObjectChanges). c.is_changed) (is k) false
-      && list_any (λ r. has_block_after (entry-state changes is r k) (names_block (pointers_are r k))) record_numbers)
+      && list_any (λ r. has_block_after (entry-state changes is r k) (has_address (pointers_are r k))) record_numbers)
 
   pub absent-written : entry_of objects n ≡ None → (r : ℕ) → is_record_written entry_group n r ≡ false
   absent-written none r = ap (λ (o : Option ObjectChanges). is_dirty (option_map_or (λ (c : ObjectChanges). state_at c r) o Unchanged)) none
@@ -164,13 +164,13 @@ object_added group n changes was m o s t there records indirect added =
     ++ address_if (is_indirect_written group n) (option_map_or (λ (m : ObjectMap). m.indirect) q no_pointer))) (sym there)
 
 -- the records after a plan that have a block are those that the states say
-pub record-names_block : (s : Progress) (n r : ℕ) (bytes : List ℕ) (state : RecordState) (old new : Pointer) → IsRecordPlanned s n r bytes state old new → names_block new ≡ has_block_after state (names_block old)
-record-names_block s n r bytes Unchanged old new same = ap names_block same
+pub record-names_block : (s : Progress) (n r : ℕ) (bytes : List ℕ) (state : RecordState) (old new : Pointer) → IsRecordPlanned s n r bytes state old new → has_address new ≡ has_block_after state (has_address old)
+record-names_block s n r bytes Unchanged old new same = ap has_address same
 record-names_block s n r bytes Dirty old new h =
     let area = h.1.in_area in
     let positive : (new.address == 0) ≡ false = ne_eqb new.address 0 (λ zero_is. let is = area.2 in omega (arith, zero_is, is)) in
     rw positive refl
-record-names_block s n r bytes Hole old new h = ap names_block h.none
+record-names_block s n r bytes Hole old new h = ap has_address h.none
 
 any-range : (p : ℕ → Bool) (q : Pointer → Bool) (xs : List Pointer) (a : ℕ) → ((k : ℕ) → k < length xs → q (slice_index_or xs k no_pointer) ≡ p (a + k)) → list_any q xs ≡ list_any p (range_with_len a (length xs))
 any-range p q [] a same = refl
@@ -182,12 +182,12 @@ any-range p q (x ∷ xs) a same =
 pub indirect-told : (s : Progress) (n : ℕ) (bytes : List ℕ) (changes : ObjectChanges) (was : ObjectMap) (records : List Pointer) → length records ≡ 84 → AreRecordsPlanned s n bytes changes was 84 records
     → is_dirty (indirect_state changes.is_changed records) ≡ is_indirect_written_in changes was
 indirect-told s n bytes changes was records long planned =
-    let any : list_any names_block records ≡ list_any (λ r. has_block_after (state_at changes r) (names_block (record_in was r))) (range_with_len 0 84) =
-    any-range (λ r. has_block_after (state_at changes r) (names_block (record_in was r))) names_block records 0
+    let any : list_any has_address records ≡ list_any (λ r. has_block_after (state_at changes r) (has_address (record_in was r))) (range_with_len 0 84) =
+    any-range (λ r. has_block_after (state_at changes r) (has_address (record_in was r))) has_address records 0
     (λ k low. record-names_block s n k bytes (state_at changes k) (record_in was k) (slice_index_or records k no_pointer) (planned k (omega (arith, low, long)))
-    ∙ ap (λ (i : ℕ). has_block_after (state_at changes i) (names_block (record_in was i))) (let e : k ≡ 0 + k = omega arith in e))
-    ∙ ap (λ (c : ℕ). list_any (λ r. has_block_after (state_at changes r) (names_block (record_in was r))) (range_with_len 0 c)) long in
-    told (changes.is_changed && list_any names_block records) ∙ ap (λ (b : Bool). changes.is_changed && b) any
+    ∙ ap (λ (i : ℕ). has_block_after (state_at changes i) (has_address (record_in was i))) (let e : k ≡ 0 + k = omega arith in e))
+    ∙ ap (λ (c : ℕ). list_any (λ r. has_block_after (state_at changes r) (has_address (record_in was r))) (range_with_len 0 c)) long in
+    told (changes.is_changed && list_any has_address records) ∙ ap (λ (b : Bool). changes.is_changed && b) any
   where
     told : (b : Bool) → is_dirty (if b then Dirty else Hole) ≡ b
     told true = refl
@@ -199,8 +199,8 @@ data_before t n was is r = ap (λ (o : Option ObjectMap). option_map_or (λ (m :
 
 -- no address of an object that no operation is on
 pub absent_addresses : (objects : List (ObjectId × ObjectChanges)) (pointers : Place → Pointer) (after : FinMap nat_cmp (List ℕ)) (n : ℕ) (o : Option ObjectMap) → entry_of objects n ≡ None
-    → object_addresses (group_of objects pointers after) n o ≡ []
-absent_addresses objects pointers after n o none = none_written (group_of objects pointers after) n o (absent-written objects pointers after n none) (absent-indirect_written objects pointers after n none)
+    → object_addresses (changes_of_group objects pointers after) n o ≡ []
+absent_addresses objects pointers after n o none = none_written (changes_of_group objects pointers after) n o (absent-written objects pointers after n none) (absent-indirect_written objects pointers after n none)
 
 -- an object that is put has the pointers that are put
 pub map_put : (maps : List ObjectMap) (old new : List (ObjectId × ObjectMap)) (id : ObjectId) (m : ObjectMap) → IsPut old id m new → planned_map maps new id.0 ≡ Some m
@@ -400,7 +400,7 @@ module _ (root : Pointer) (directories : List Pointer) (map_of : ℕ → Option 
 -- of a whole walk, the directories and the root that are written are those that the definitions write
 module _ (objects : List (ObjectId × ObjectChanges)) (pointers : Place → Pointer) (after : FinMap nat_cmp (List ℕ)) where
   abbrev whole_group : GroupChanges
-  whole_group = group_of objects pointers after
+  whole_group = changes_of_group objects pointers after
 
   dirty_above : (touched left : Bool) → is_dirty (state_above touched left) ≡ (touched && left)
   dirty_above true true = refl

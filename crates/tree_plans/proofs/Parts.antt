@@ -27,7 +27,7 @@ use Rattle.std.specs.BTreeMap.{BTreeMap}
 use Rattle.std.specs.Ordering.{nat_cmp}
 use Rattle.std.specs.FinMap.{FinMap}
 use Rattle.tree_plans.specs.Uses.{UsesOnly}
-use Rattle.tree_plans.specs.Changes.{names_block}
+use Rattle.tree_plans.specs.Changes.{has_address}
 use Rattle.tree_plans.proofs.Order.{adds_if, adds_none, adds_not}
 use Rattle.tree_plans.proofs.Progress.{goes_nowhere}
 use Rattle.tree_plans.proofs.Walks.{frees_weaker, not-is_empty}
@@ -92,7 +92,7 @@ state_if : (b : Bool) (s t u : RecordState) → ((b ≡ true) × (s ≡ u)) ⊎ 
 state_if b s t u (inl h) = rw (h.0, h.1) refl
 state_if b s t u (inr h) = rw (h.0, h.1) refl
 
-pub indirect_cleared : (free : FreeSpace) (id : ObjectId) (records : List Pointer) (was : Pointer) (is_changed : Bool) (old new : Planner) (pointer : Pointer) → (is_changed && list_any names_block records) ≡ false
+pub indirect_cleared : (free : FreeSpace) (id : ObjectId) (records : List Pointer) (was : Pointer) (is_changed : Bool) (old new : Planner) (pointer : Pointer) → (is_changed && list_any has_address records) ≡ false
     → ClearsPlace was old new pointer → PlansIndirect free id records was is_changed old new pointer
 indirect_cleared free id records was is_changed old new pointer no_block done =
     indirect_done free id records was is_changed old new pointer (cleared _ (Indirect id) _ was (FitsRecords records) (state_if _ Dirty Hole Hole (inr (no_block, refl))) old new pointer done) done.frees

@@ -33,7 +33,7 @@ use Rattle.tree_plans.specs.declared.planner.PlannedBlock.{PlannedBlock}
 use Rattle.tree_plans.specs.Pointers.{entry_of, record_in, planned_map, pointers_from, pointers_before}
 use Rattle.tree_plans.specs.Plans.{Progress, HasBecome, IsRecordPlanned, Goes, HasTaken, IsAmong, IsOf, address_of, indirect_state, new_block, replaces, state_above}
 use Rattle.tree_plans.specs.Walks.{IsEntryWritten, IsPlannedFrom, IsOfObject, IsDirectoryPlanned, IsRootPlanned, IsWalked, directory_state, has_object, has_objects, is_any_touched, is_directory_replaced, is_directory_touched, is_emptied, root_state}
-use Rattle.tree_plans.specs.Changes.{AreBornBefore, AreChanges, AreTreePointers, IsCoveredBy, names_block, state_at, state_in}
+use Rattle.tree_plans.specs.Changes.{AreBornBefore, AreChanges, AreTreePointers, IsCoveredBy, has_address, state_at, state_in}
 use Rattle.base.specs.declared.record_state.RecordState.{RecordState}
 use Rattle.base.specs.declared.record_state.RecordState.TheVariants.{Unchanged, Dirty, Hole}
 use Rattle.base.proofs.common.KeptLists.{any_none, none_any}
@@ -89,7 +89,7 @@ untouched (o ∷ objects) d n e none =
     rest false b no_one = no_one
 
 -- a pointer that names no block
-named_zero : (p : Pointer) → names_block p ≡ false → p.address ≡ 0
+named_zero : (p : Pointer) → has_address p ≡ false → p.address ≡ 0
 named_zero p e = elim (cases_Bool (p.address == 0)) as (λ _. p.address ≡ 0) [ inl is ↦ eqb-true p.address 0 is | inr other ↦ absurd (true≢false (ap not (sym other) ∙ e)) ]
 
 -- an element of a list
@@ -196,7 +196,7 @@ module _ (s : Progress) (t : Tree) (after : FinMap nat_cmp (List ℕ)) (objects 
         record_planned n r m f below e (state_at f.changes r) state (f.planned.records r below)
 
     -- no record of an object has a block, where its indirect block is not written
-    none_below : (n : ℕ) (m : ObjectMap) (f : IsPlannedFrom s t.maps.items after objects n m) → entry_of planned n ≡ Some m → (f.changes.is_changed && list_any names_block m.records.items) ≡ false
+    none_below : (n : ℕ) (m : ObjectMap) (f : IsPlannedFrom s t.maps.items after objects n m) → entry_of planned n ≡ Some m → (f.changes.is_changed && list_any has_address m.records.items) ≡ false
         → (r : ℕ) → r < 84 → record_in m r ≡ no_pointer
     none_below n m f e none r low = elim (cases_Bool f.changes.is_changed) as (λ _. record_in m r ≡ no_pointer) [
       | inr untouched_is ↦
@@ -211,10 +211,10 @@ module _ (s : Progress) (t : Tree) (after : FinMap nat_cmp (List ℕ)) (objects 
             let done : IsRecordPlanned s n r (unwrap_or (finite.get after n) []) Hole (record_in f.old r) (record_in m r) = rw state at (f.planned.records r low) in
             done.none
 
-        no_names : f.changes.is_changed ≡ true → names_block (record_in m r) ≡ false
+        no_names : f.changes.is_changed ≡ true → has_address (record_in m r) ≡ false
         no_names changed_is =
-            let all : list_any names_block m.records.items ≡ false = sym (ap (λ (b : Bool). b && list_any names_block m.records.items) changed_is) ∙ none in
-            none_any names_block m.records.items r (record_in m r) all (slice_get-get_or m.records.items r no_pointer (let long = f.planned.count in omega (arith, low, long)))
+            let all : list_any has_address m.records.items ≡ false = sym (ap (λ (b : Bool). b && list_any has_address m.records.items) changed_is) ∙ none in
+            none_any has_address m.records.items r (record_in m r) all (slice_get-get_or m.records.items r no_pointer (let long = f.planned.count in omega (arith, low, long)))
 
         by_state : f.changes.is_changed ≡ true → (state : RecordState) → state_at f.changes r ≡ state → IsRecordPlanned s n r (unwrap_or (finite.get after n) []) state (record_in f.old r) (record_in m r) → record_in m r ≡ no_pointer
         by_state changed_is Unchanged is same =
@@ -230,9 +230,9 @@ module _ (s : Progress) (t : Tree) (after : FinMap nat_cmp (List ℕ)) (objects 
     indirect_planned n None e = inl (indirect_kept n e, λ r low. data_kept n r e)
     indirect_planned n (Some m) e =
         let f = w.objects_planned.each n m e in
-        by_choice n m f e (f.changes.is_changed && list_any names_block m.records.items) refl f.planned.indirect
+        by_choice n m f e (f.changes.is_changed && list_any has_address m.records.items) refl f.planned.indirect
       where
-        by_choice : (n : ℕ) (m : ObjectMap) (f : IsPlannedFrom s t.maps.items after objects n m) → entry_of planned n ≡ Some m → (b : Bool) → (f.changes.is_changed && list_any names_block m.records.items) ≡ b
+        by_choice : (n : ℕ) (m : ObjectMap) (f : IsPlannedFrom s t.maps.items after objects n m) → entry_of planned n ≡ Some m → (b : Bool) → (f.changes.is_changed && list_any has_address m.records.items) ≡ b
             → HasBecome s (Indirect n) (if b then Dirty else Hole) f.old.indirect m.indirect (λ payload. (r : ℕ) → r < 84 → pointer_in payload r ≡ slice_index_or m.records.items r no_pointer) → Planned (Indirect n)
         by_choice n m f e true is (payload, written, fits) = inr (inl (
           payload,
@@ -246,20 +246,20 @@ module _ (s : Progress) (t : Tree) (after : FinMap nat_cmp (List ℕ)) (objects 
     no_others n low none None e = indirect_kept n e ∙ whole.absent n low (not_touched n low e) none
     no_others n low none (Some m) e =
         let f = w.objects_planned.each n m e in
-        by_choice n m f e none (f.changes.is_changed && list_any names_block m.records.items) refl f.planned.indirect
+        by_choice n m f e none (f.changes.is_changed && list_any has_address m.records.items) refl f.planned.indirect
       where
-        no_names : (n : ℕ) (m : ObjectMap) (f : IsPlannedFrom s t.maps.items after objects n m) → finite.get after n ≡ None → (i : ℕ) (p : Pointer) → slice_get m.records.items i ≡ Some p → names_block p ≡ false
+        no_names : (n : ℕ) (m : ObjectMap) (f : IsPlannedFrom s t.maps.items after objects n m) → finite.get after n ≡ None → (i : ℕ) (p : Pointer) → slice_get m.records.items i ≡ Some p → has_address p ≡ false
         no_names n m f none i p at =
             let low : i < 84 = (let long = f.planned.count in let below = get_below m.records.items i p at in omega (arith, long, below)) in
             let hole : state_in objects n i ≡ Hole = changes.holes n i f.low low (ap is_some f.changes_are) (inr none) in
             let state : state_at f.changes i ≡ Hole = sym (entry-state objects (pointers_before t) after n f.changes f.changes_are i) ∙ hole in
             let done : IsRecordPlanned s n i (unwrap_or (finite.get after n) []) Hole (record_in f.old i) (record_in m i) = rw state at (f.planned.records i low) in
-            ap names_block (get_or-slice_get m.records.items i p no_pointer at) ∙ ap names_block done.none
+            ap has_address (get_or-slice_get m.records.items i p no_pointer at) ∙ ap has_address done.none
 
-        by_choice : (n : ℕ) (m : ObjectMap) (f : IsPlannedFrom s t.maps.items after objects n m) → entry_of planned n ≡ Some m → finite.get after n ≡ None → (b : Bool) → (f.changes.is_changed && list_any names_block m.records.items) ≡ b
+        by_choice : (n : ℕ) (m : ObjectMap) (f : IsPlannedFrom s t.maps.items after objects n m) → entry_of planned n ≡ Some m → finite.get after n ≡ None → (b : Bool) → (f.changes.is_changed && list_any has_address m.records.items) ≡ b
             → HasBecome s (Indirect n) (if b then Dirty else Hole) f.old.indirect m.indirect (λ payload. (r : ℕ) → r < 84 → pointer_in payload r ≡ slice_index_or m.records.items r no_pointer) → new (Indirect n) ≡ no_pointer
         by_choice n m f e none true is h =
-            let all : list_any names_block m.records.items ≡ false = any_none names_block m.records.items (no_names n m f none) in
+            let all : list_any has_address m.records.items ≡ false = any_none has_address m.records.items (no_names n m f none) in
             absurd (false≢true (sym (ap (λ (b : Bool). f.changes.is_changed && b) all ∙ and-false f.changes.is_changed) ∙ is))
         by_choice n m f e none false is gone = indirect_now n m e ∙ gone.none
 
@@ -404,7 +404,7 @@ module _ (s : Progress) (t : Tree) (after : FinMap nat_cmp (List ℕ)) (objects 
           in_range = o.low;
           is_of = subst (λ (p : Pointer). IsOf p address) (sym (indirect_was o.number o.old o.old_is)) of;
           is_new = subst IsNew (sym (indirect_now o.number m e))
-              (become_new (Indirect o.number) (indirect_state f.changes.is_changed m.records.items) f.old.indirect m.indirect _ (replaces_choice (f.changes.is_changed && list_any names_block m.records.items)) f.planned.indirect);
+              (become_new (Indirect o.number) (indirect_state f.changes.is_changed m.records.items) f.old.indirect m.indirect _ (replaces_choice (f.changes.is_changed && list_any has_address m.records.items)) f.planned.indirect);
         }
       ]
 

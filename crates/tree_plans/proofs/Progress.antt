@@ -15,7 +15,7 @@ use Rattle.tree_plans.specs.declared.planner.PlannedBlock.{PlannedBlock}
 use Rattle.std.proofs.lemmas.Bool.{cases_lt}
 use Rattle.object_maps.specs.declared.tree.ObjectMap.{ObjectMap}
 use Rattle.tree_plans.specs.Pointers.{record_in}
-use Rattle.tree_plans.specs.Plans.{Progress, Keeps, IsAmong, Goes, HasBecome, IsCleared, IsWritten, IsRecordPlanned, AreRecordsPlanned, IsIndirectPlanned, PlaceFrees, RecordsFree, FreesOnly, ObjectFrees, IsObjectPlanned, indirect_state, new_block}
+use Rattle.tree_plans.specs.Plans.{Progress, Keeps, IsAmong, Goes, HasBecome, LosesBlock, IsWritten, IsRecordPlanned, AreRecordsPlanned, IsIndirectPlanned, PlaceFrees, RecordsFree, FreesOnly, ObjectFrees, IsObjectPlanned, indirect_state, new_block}
 use Rattle.tree_plans.specs.Changes.{state_at}
 use Rattle.tree_plans.specs.declared.changes.ObjectChanges.{ObjectChanges}
 use Rattle.base.specs.declared.record_state.RecordState.{RecordState}
@@ -109,7 +109,7 @@ written_stays g w = record {
   freed = λ there. let f = w.freed there in (f.0, g.freed f.0 _ f.1);
 }
 
-pub cleared_stays : {free : FinSet nat_cmp} {s t : Progress} {old new : Pointer} → Goes free s t → IsCleared s old new → IsCleared t old new
+pub cleared_stays : {free : FinSet nat_cmp} {s t : Progress} {old new : Pointer} → Goes free s t → LosesBlock s old new → LosesBlock t old new
 cleared_stays g c = record { none = c.none; freed = λ there. let f = c.freed there in (f.0, g.freed f.0 _ f.1) }
 
 pub become_stays : {free : FinSet nat_cmp} {s t : Progress} (place : Place) (state : RecordState) (old new : Pointer) (Fits : List ℕ → Type 0) → Goes free s t → HasBecome s place state old new Fits → HasBecome t place state old new Fits

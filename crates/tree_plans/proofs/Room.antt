@@ -27,7 +27,7 @@ use Rattle.space.specs.FreeSets.{free_from}
 use Rattle.space.proofs.FreeLists.{free_from-0}
 use Rattle.tree_plans.specs.declared.changes.ObjectChanges.{ObjectChanges}
 use Rattle.tree_plans.specs.Pointers.{entry_of, planned_map, record_in}
-use Rattle.tree_plans.specs.Changes.{AreInRange, group_of}
+use Rattle.tree_plans.specs.Changes.{AreInRange, changes_of_group}
 use Rattle.tree_plans.specs.Plans.{Goes, Progress, is_dirty_in, is_indirect_written_in}
 use Rattle.tree_plans.specs.Walks.{is_directory_dirty, root_state}
 use Rattle.tree_plans.specs.Order.{Adds, address_if, addresses_of, addresses_where, all_addresses, object_addresses}
@@ -161,9 +161,9 @@ module _ (R : ObjectId → ObjectId → Ordering) (less : (a b : ObjectId) → R
       lacks_behind free s t (flat_map F done) (length (G e)) (all_blocks g count) goes adds (omega (arith, all, before, sum)) lacks
 
 -- an object that no operation is on has no place that is written
-pub no_places : (objects : List (ObjectId × ObjectChanges)) (pointers : Place → Pointer) (after : FinMap nat_cmp (List ℕ)) (n : ℕ) → entry_of objects n ≡ None → places_of_object (group_of objects pointers after) n ≡ []
+pub no_places : (objects : List (ObjectId × ObjectChanges)) (pointers : Place → Pointer) (after : FinMap nat_cmp (List ℕ)) (n : ℕ) → entry_of objects n ≡ None → places_of_object (changes_of_group objects pointers after) n ≡ []
 no_places objects pointers after n none =
-    (λ k. map (λ r. Data n r) (none_passes (is_record_written (group_of objects pointers after) n) (absent-written objects pointers after n none) (range_with_len 0 84) k)
+    (λ k. map (λ r. Data n r) (none_passes (is_record_written (changes_of_group objects pointers after) n) (absent-written objects pointers after n none) (range_with_len 0 84) k)
     ++ (if absent-indirect_written objects pointers after n none k then Indirect n ∷ [] else []))
 
 -- the places of a whole walk
@@ -187,7 +187,7 @@ parts g written count directory_count b =
 
 module _ (free : FinSet nat_cmp) (objects : List (ObjectId × ObjectChanges)) (pointers : Place → Pointer) (after : FinMap nat_cmp (List ℕ)) (within : AreInRange objects) where
   abbrev group : GroupChanges
-  group = group_of objects pointers after
+  group = changes_of_group objects pointers after
 
   abbrev all : ℕ
   all = tree_blocks group

@@ -18,7 +18,7 @@ use Rattle.object_maps.specs.declared.tree.ObjectMap.{ObjectMap}
 use Rattle.tree_plans.specs.declared.planner.PlannedBlock.{PlannedBlock}
 use Rattle.tree_plans.specs.Pointers.{IsPut, entry_of, planned_map, pointers_from, record_in}
 use Rattle.tree_plans.specs.Plans.{new_block}
-use Rattle.tree_plans.specs.Uses.{AreOf, IsBehind, IsInObject, IsInPlanned, IsTaken, ObjectUses, ObjectsUse, PointersUse, UsesOnly}
+use Rattle.tree_plans.specs.Uses.{AreOf, IsPointedAt, IsInObject, IsInPlanned, IsTaken, ObjectUses, ObjectsUse, PointersUse, UsesOnly}
 use Rattle.tree_plans.proofs.Progress.{front_of, last_of}
 use Rattle.tree_plans.proofs.Walks.{push_cases}
 
@@ -50,7 +50,7 @@ pointers_use_push first s t pointers i new long uses more address taken =
 
 -- the records of an object, and then its indirect block
 pub object_uses : (first s t : List NewBlock) (pointers : List Pointer) (at : ℕ) → PointersUse first s pointers 84 → UsesOnly s t at
-    → (address : ℕ) → IsTaken t address → IsTaken first address ⊎ (IsBehind pointers 84 address ⊎ (at ≡ address))
+    → (address : ℕ) → IsTaken t address → IsTaken first address ⊎ (IsPointedAt pointers 84 address ⊎ (at ≡ address))
 object_uses first s t pointers at records indirect address taken =
     elim (indirect address taken) [
       | inl before ↦ elim (records address before) [ inl at_first ↦ inl at_first | inr of ↦ inr (inl of) ]

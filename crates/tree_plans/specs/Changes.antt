@@ -33,14 +33,14 @@ abbrev pub is_changed_in : List (ObjectId × ObjectChanges) → ℕ → Bool
 is_changed_in objects n = option_map_or (λ (changes : ObjectChanges). changes.is_changed) (entry_of objects n) false
 
 -- whether a pointer names a block
-abbrev pub names_block : Pointer → Bool
-names_block pointer = not (pointer.address == 0)
+abbrev pub has_address : Pointer → Bool
+has_address pointer = not (pointer.address == 0)
 
 -- what a group makes of the objects of a tree: by their changes, the pointers before it, and the objects after it
-abbrev pub group_of : List (ObjectId × ObjectChanges) → (Place → Pointer) → FinMap nat_cmp (List ℕ) → GroupChanges
-group_of objects pointers after = record {
+abbrev pub changes_of_group : List (ObjectId × ObjectChanges) → (Place → Pointer) → FinMap nat_cmp (List ℕ) → GroupChanges
+changes_of_group objects pointers after = record {
   state = state_in objects;
-  had_block = λ n r. names_block (pointers (Data n r));
+  had_block = λ n r. has_address (pointers (Data n r));
   is_changed = is_changed_in objects;
   is_touched = λ n. is_some (entry_of objects n);
   is_present = λ n. finite.contains_key after n;

@@ -25,8 +25,8 @@ abbrev pub pending_ops : ℕ → List Committed → List Op
 pending_ops group pending = flat_map (λ (c : Committed). c.ops) (filter (λ (c : Committed). c.group.0 == group) pending)
 
 -- the length of an object by its changes so far, or as the tree before them has it
-abbrev pub length_in : List ObjectMap → List (ObjectId × ObjectChanges) → ℕ → ℕ
-length_in maps objects n = option_map_or (λ (changes : ObjectChanges). changes.length) (entry_of objects n) (unwrap_or (map_length maps n) 0)
+abbrev pub length_so_far : List ObjectMap → List (ObjectId × ObjectChanges) → ℕ → ℕ
+length_so_far maps objects n = option_map_or (λ (changes : ObjectChanges). changes.length) (entry_of objects n) (unwrap_or (map_length maps n) 0)
 
 -- the length of object n after an operation, from the one before it
 abbrev pub length_with : ℕ → Op → ℕ → ℕ
@@ -37,23 +37,23 @@ length_with n (SetLength m new) old = if m.0 == n then new else old
 length_with n (SetName bytes) old = old
 
 -- the state of record r of object n after an operation, where the object had this length before it
-abbrev pub state_with : ℕ → ℕ → Op → ℕ → RecordState → RecordState
-state_with n r (Create m) old state = if m.0 == n then Hole else state
-state_with n r (Remove m) old state = if m.0 == n then Hole else state
-state_with n r (Write m offset bytes) old state = if (m.0 == n) && is_record_touched r offset (length bytes) then Dirty else state
-state_with n r (SetLength m new) old state = if (m.0 == n) && nat_lt new old then state_after_cut r new state else state
-state_with n r (SetName bytes) old state = state
+abbrev pub marked_after : ℕ → ℕ → Op → ℕ → RecordState → RecordState
+marked_after n r (Create m) old state = if m.0 == n then Hole else state
+marked_after n r (Remove m) old state = if m.0 == n then Hole else state
+marked_after n r (Write m offset bytes) old state = if (m.0 == n) && is_record_touched r offset (length bytes) then Dirty else state
+marked_after n r (SetLength m new) old state = if (m.0 == n) && nat_lt new old then state_after_cut r new state else state
+marked_after n r (SetName bytes) old state = state
 
 -- entries after one operation more
 pub record NotesOp (op : Op) (maps : List ObjectMap) (old new : List (ObjectId × ObjectChanges)) : Type 0 where
   pub there : (n : ℕ) → is_some (entry_of new n) ≡ (is_on n op || is_some (entry_of old n))
   pub changed : (n : ℕ) → is_changed_in new n ≡ (is_change_of n op || is_changed_in old n)
-  pub states : (n r : ℕ) → r < pointer_count → state_in new n r ≡ state_with n r op (length_in maps old n) (state_in old n r)
-  pub sizes : IsRange (touched op) → (n : ℕ) → length_in maps new n ≡ length_with n op (length_in maps old n)
+  pub states : (n r : ℕ) → r < pointer_count → state_in new n r ≡ marked_after n r op (length_so_far maps old n) (state_in old n r)
+  pub sizes : IsRange (touched op) → (n : ℕ) → length_so_far maps new n ≡ length_with n op (length_so_far maps old n)
 
 -- the bytes of an object, and none where it is absent
-abbrev pub size_of : Contents → ℕ → ℕ
-size_of c n = length (unwrap_or (finite.get c.objects n) [])
+abbrev pub object_size : Contents → ℕ → ℕ
+object_size c n = length (unwrap_or (finite.get c.objects n) [])
 
 -- whether an operation sets the length of an object
 abbrev pub sets_length : ℕ → Op → Bool
@@ -79,4 +79,4 @@ pub record AreChangesOf (ops : List Op) (maps : List ObjectMap) (objects : List 
 pub record AreToldSoFar (ops : List Op) (maps : List ObjectMap) (objects : List (ObjectId × ObjectChanges)) : Type 0 where
   pub changes : AreChangesOf ops maps objects
   pub sizes : (before after : Contents) → apply_all ops before ≡ Ok after → All IsRange (ranges ops)
-      → (n : ℕ) → map_length maps n ≡ length_of before n → length_in maps objects n ≡ size_of after n
+      → (n : ℕ) → map_length maps n ≡ length_of before n → length_so_far maps objects n ≡ object_size after n

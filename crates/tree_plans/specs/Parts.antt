@@ -24,8 +24,8 @@ use Rattle.tree_plans.specs.declared.planner.Planner.{Planner}
 use Rattle.tree_plans.specs.declared.walk.NewTree.{NewTree}
 use Rattle.tree_plans.specs.declared.walk.PlanSource.{PlanSource}
 use Rattle.tree_plans.specs.Pointers.{entry_of, planned_map, pointers_before, pointers_from, record_in}
-use Rattle.tree_plans.specs.Changes.{AreInRange, group_of}
-use Rattle.tree_plans.specs.Plans.{AreRecordsPlanned, FreesOnly, Goes, IsCleared, IsIndirectPlanned, IsObjectPlanned, IsRecordPlanned, IsWritten, ObjectFrees, PlaceFrees, RecordsFree, indirect_state, is_dirty_in, is_indirect_written_in, new_block, place_of, progress_of, state_above}
+use Rattle.tree_plans.specs.Changes.{AreInRange, changes_of_group}
+use Rattle.tree_plans.specs.Plans.{AreRecordsPlanned, FreesOnly, Goes, LosesBlock, IsIndirectPlanned, IsObjectPlanned, IsRecordPlanned, IsWritten, ObjectFrees, PlaceFrees, RecordsFree, indirect_state, is_dirty_in, is_indirect_written_in, new_block, place_of, progress_of, state_above}
 use Rattle.tree_plans.specs.Walks.{AreDirectoriesPlanned, AreObjectsPlanned, DirectoriesFree, IsDirectoryPlanned, IsRootPlanned, IsWalked, ObjectsFree, is_directory_dirty, has_object, root_state}
 use Rattle.tree_plans.specs.Uses.{ObjectUses, ObjectsUse, PointersUse, UsesOnly}
 use Rattle.tree_plans.specs.Order.{Adds, AreInOrder, address_if, addresses_of, addresses_where, all_addresses, object_addresses}
@@ -52,7 +52,7 @@ directory_before source d = slice_index_or source.tree.now.directories.items d n
 
 -- what a group makes of the objects of a source, where these are the objects after it
 abbrev pub group_in : PlanSource → FinMap nat_cmp (List ℕ) → List (ObjectId × ObjectChanges) → GroupChanges
-group_in source after objects = group_of objects (pointers_before source.tree.now) after
+group_in source after objects = changes_of_group objects (pointers_before source.tree.now) after
 
 -- one block is taken: it stands at its place, and the one that it replaces comes back
 pub record TakesBlock (free : FreeSpace) (place : BlockPlace) (payload : List ℕ) (replaced : Pointer) (old new : Planner) (pointer : Pointer) : Type 0 where
@@ -65,7 +65,7 @@ pub record TakesBlock (free : FreeSpace) (place : BlockPlace) (payload : List �
 -- a place has no block any more: none is taken, and the one that it had comes back
 pub record ClearsPlace (replaced : Pointer) (old new : Planner) (pointer : Pointer) : Type 0 where
   pub goes : (free : FreeSpace) → ExtendsPlan free old new
-  pub cleared : IsCleared (progress_of new) replaced pointer
+  pub cleared : LosesBlock (progress_of new) replaced pointer
   pub frees : FreesOnly old.freed.items new.freed.items replaced
   pub none_taken : new.blocks ≡ old.blocks
 

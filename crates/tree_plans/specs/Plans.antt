@@ -27,7 +27,7 @@ use Rattle.tree_plans.specs.declared.planner.Planner.{Planner}
 use Rattle.tree_plans.specs.declared.place.BlockPlace.{BlockPlace}
 use Rattle.tree_plans.specs.declared.place.BlockPlace.TheVariants.{Root, Directory, Indirect, Data}
 use Rattle.tree_plans.specs.Pointers.{record_in}
-use Rattle.tree_plans.specs.Changes.{names_block, state_at}
+use Rattle.tree_plans.specs.Changes.{has_address, state_at}
 
 -- the address of a planned block, and the block as it is written
 abbrev pub address_of : PlannedBlock → ℕ
@@ -100,7 +100,7 @@ abbrev pub IsWantOr : (PoolError → Type 0) → PoolError → Type 0
 IsWantOr MayRefuse e = IsWant e ⊎ MayRefuse e
 
 -- a place has no block any more, and the block that it had comes back
-pub record IsCleared (s : Progress) (old new : Pointer) : Type 0 where
+pub record LosesBlock (s : Progress) (old new : Pointer) : Type 0 where
   pub none : new ≡ no_pointer
   pub freed : old ≢ no_pointer → IsAmong s.freed old.address
 
@@ -108,7 +108,7 @@ pub record IsCleared (s : Progress) (old new : Pointer) : Type 0 where
 abbrev pub HasBecome : Progress → Place → RecordState → Pointer → Pointer → (List ℕ → Type 0) → Type 0
 HasBecome s place Unchanged old new Fits = new ≡ old
 HasBecome s place Dirty old new Fits = (payload : List ℕ) × IsWritten s place old new payload × Fits payload
-HasBecome s place Hole old new Fits = IsCleared s old new
+HasBecome s place Hole old new Fits = LosesBlock s old new
 
 -- whether a place in this state loses the block that it had
 abbrev pub replaces : RecordState → Bool
@@ -145,7 +145,7 @@ state_above touched left = if touched then (if left then Dirty else Hole) else U
 
 -- that of an object's indirect block: it is written where an operation wrote the object or set its length, and a record has a block
 abbrev pub indirect_state : Bool → List Pointer → RecordState
-indirect_state is_changed records = if is_changed && list_any names_block records then Dirty else Hole
+indirect_state is_changed records = if is_changed && list_any has_address records then Dirty else Hole
 
 -- whether record r is dirty
 abbrev pub is_dirty_in : ObjectChanges → ℕ → Bool
@@ -153,7 +153,7 @@ is_dirty_in changes r = is_dirty (state_at changes r)
 
 -- whether an object's indirect block is written, by its changes and the pointers that it had
 abbrev pub is_indirect_written_in : ObjectChanges → ObjectMap → Bool
-is_indirect_written_in changes was = changes.is_changed && list_any (λ r. has_block_after (state_at changes r) (names_block (record_in was r))) record_numbers
+is_indirect_written_in changes was = changes.is_changed && list_any (λ r. has_block_after (state_at changes r) (has_address (record_in was r))) record_numbers
 
 -- what becomes of it
 abbrev pub IsIndirectPlanned : Progress → ℕ → Bool → List Pointer → Pointer → Pointer → Type 0

@@ -45,7 +45,7 @@ pub record TakesBlocks (source : PlanSource) (after : FinMap nat_cmp (List ℕ))
 
 -- The tree after a plan: what becomes of each of its places, whatever objects were there before of which the changes cover all that
 -- differs. Each pointer is to a block of the area, where that held before, and each block of the plan is behind a pointer.
-pub record MakesTree (source : PlanSource) (after : FinMap nat_cmp (List ℕ)) (objects : BTreeMap ObjectId ObjectChanges) (plan : TreePlan) : Type 0 where
+pub record GivesTree (source : PlanSource) (after : FinMap nat_cmp (List ℕ)) (objects : BTreeMap ObjectId ObjectChanges) (plan : TreePlan) : Type 0 where
   pub planned : (before : FinMap nat_cmp (List ℕ)) → IsCoveredBy objects.entries (pointers_before source.tree.now) before after → AreChanges objects.entries after
       → AreTreePointers objects.entries (pointers_before source.tree.now) after
       → IsTreePlan (map new_block plan.blocks.items) (written_frame source.guid source.geometry source.group.0) (pointers_before source.tree.now) (planned_pointers source.tree.now plan) before after

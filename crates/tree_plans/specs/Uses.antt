@@ -17,18 +17,18 @@ abbrev pub UsesOnly : List NewBlock → List NewBlock → ℕ → Type 0
 UsesOnly old new at = (address : ℕ) → IsTaken new address → IsTaken old address ⊎ (at ≡ address)
 
 -- the address is that of one of the first so many pointers
-pub record IsBehind (pointers : List Pointer) (count address : ℕ) : Type 0 where
+pub record IsPointedAt (pointers : List Pointer) (count address : ℕ) : Type 0 where
   pub index : ℕ
   pub low : index < count
   pub is : (slice_index_or pointers index no_pointer).address ≡ address
 
 -- those that are new are behind the first so many pointers alone: of records, or of directories
 abbrev pub PointersUse : List NewBlock → List NewBlock → List Pointer → ℕ → Type 0
-PointersUse old new pointers count = (address : ℕ) → IsTaken new address → IsTaken old address ⊎ IsBehind pointers count address
+PointersUse old new pointers count = (address : ℕ) → IsTaken new address → IsTaken old address ⊎ IsPointedAt pointers count address
 
 -- the address is that of a record of an object, or of its indirect block
 abbrev pub IsInObject : ObjectMap → ℕ → Type 0
-IsInObject m address = IsBehind m.records.items pointer_count address ⊎ (m.indirect.address ≡ address)
+IsInObject m address = IsPointedAt m.records.items pointer_count address ⊎ (m.indirect.address ≡ address)
 
 -- those that are new are of this object alone
 abbrev pub ObjectUses : List NewBlock → List NewBlock → ObjectMap → Type 0

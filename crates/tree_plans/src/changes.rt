@@ -13,7 +13,7 @@ ghost use Rattle.base.specs.declared.operation.Op.{Op};
 ghost use Rattle.base.specs.tree.Syncs.{is_record_touched, state_after_cut};
 ghost use Rattle.object_maps.specs.Lengths.{map_length};
 ghost use Rattle.tree_plans.specs.Changes.{is_changed_in, state_at, state_in};
-ghost use Rattle.tree_plans.specs.Marks.{AreChangesOf, AreToldSoFar, NotesOp, length_in, pending_ops};
+ghost use Rattle.tree_plans.specs.Marks.{AreChangesOf, AreToldSoFar, NotesOp, length_so_far, pending_ops};
 ghost use Rattle.tree_plans.specs.Pointers.{IsPut};
 
 use crate::planner::Committed;
@@ -223,7 +223,7 @@ fn changes_of(
 ) -> ObjectChanges
     ensures records { (r : ℕ) → state_at result r ≡ state_in objects.now.entries id.0 r }
     ensures changed { result.is_changed ≡ is_changed_in objects.now.entries id.0 }
-    ensures length { result.length ≡ length_in maps.now objects.now.entries id.0 }
+    ensures length { result.length ≡ length_so_far maps.now objects.now.entries id.0 }
 {
     match objects.get(&id) {
         Some(changes) => *changes,

@@ -4,7 +4,7 @@ ghost use Rattle.std.specs.Prelude.{◌≡◌, ◌≢◌, ◌&&◌, ◌<◌, ◌
 ghost use Rattle.std.specs.List.{list_any};
 ghost use Rattle.base.specs.formats.Fields.{entry_in, entry_length, entry_pointer, entry_present, no_pointer, pointer_in};
 ghost use Rattle.checked_blocks.specs.Sealing.{zeros};
-ghost use Rattle.tree_plans.specs.Changes.{names_block};
+ghost use Rattle.tree_plans.specs.Changes.{has_address};
 ghost use Rattle.tree_plans.specs.Walks.{AreEntriesWritten, IsEntryOfLength, indirect_after};
 
 use base::{ENTRY_COUNT, ENTRY_SIZE, ObjectId, POINTER_SIZE, Pointer, write_pointer, write_u64};
@@ -29,14 +29,14 @@ pub fn payload_of(pointers: &[Pointer]) -> [u8; 4032]
 /// Whether an indirect block over these pointers is written: an operation wrote its object or set its length, and one of
 /// them names a block.
 pub fn is_indirect_written(is_changed: bool, records: &[Pointer]) -> bool
-    ensures { result ≡ (is_changed && list_any names_block records.now) }
+    ensures { result ≡ (is_changed && list_any has_address records.now) }
 {
     is_changed && has_block(records)
 }
 
 // Whether one of these pointers names a block.
 fn has_block(pointers: &[Pointer]) -> bool
-    ensures { result ≡ list_any names_block pointers.now }
+    ensures { result ≡ list_any has_address pointers.now }
 {
     pointers.iter().any(|pointer| pointer.address != 0)
 }

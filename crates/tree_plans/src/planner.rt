@@ -67,7 +67,7 @@ impl Planner {
     ghost use Rattle.std.specs.Prelude.{◌≤◌, ◌<◌, ◌+◌, [], length, IfOk, IfErr};
     ghost use Rattle.base.specs.declared.error.PoolError.TheVariants as error;
     ghost use Rattle.base.specs.tree.Places.{IsPlace};
-    ghost use Rattle.object_maps.specs.Sources.{bytes_in, object_length};
+    ghost use Rattle.object_maps.specs.Sources.{object_bytes, object_length};
     ghost use Rattle.std.specs.FinMap as finite;
     ghost use Rattle.space.specs.FreeSets.{free_from};
     ghost use Rattle.base.specs.tree.Syncs.{is_dirty};
@@ -136,7 +136,7 @@ impl Planner {
         ensures geometry { self.new.geometry ≡ self.old.geometry }
         ensures same_objects { O.objects after.new ≡ O.objects after.old }
         ensures planned { IfOk result (PlansRecord free.now place
-            (bytes_in (O.objects after.old) place.id.0) old.now state self.old self.new) }
+            (object_bytes (O.objects after.old) place.id.0) old.now state self.old self.new) }
         ensures full { IfErr result (TellsLack free.now self.old (count_if (is_dirty state))) }
         ensures refused { IfErr result (IsWantOr O.may_refuse) }
     {
@@ -166,7 +166,7 @@ impl Planner {
         ensures count { IfOk result (λ records. vec_len records ≡ 84) }
         ensures same_objects { O.objects after.new ≡ O.objects after.old }
         ensures planned { IfOk result (λ records.
-            PlansRecords free.now id (bytes_in (O.objects after.old) id.0) old.now changes.now
+            PlansRecords free.now id (object_bytes (O.objects after.old) id.0) old.now changes.now
             self.old self.new records.items) }
         ensures full { IfErr result
             (TellsLack free.now self.old (count_where (is_dirty_in changes.now) 84)) }

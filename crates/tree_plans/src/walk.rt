@@ -25,7 +25,7 @@ ghost use Rattle.tree_plans.specs.Parts.{GoesOver, HasNothing, PlansDirectories,
 ghost use Rattle.tree_plans.specs.Plans.{IsWant, IsWantOr, state_above};
 ghost use Rattle.tree_plans.specs.Pointers.{entry_of};
 ghost use Rattle.tree_plans.specs.Room.{changed_blocks, count_if, directory_blocks, object_blocks, tree_blocks};
-ghost use Rattle.tree_plans.specs.TreePlans.{GivesBack, HasLengths, MakesTree, TakesBlocks, TellsFull};
+ghost use Rattle.tree_plans.specs.TreePlans.{GivesBack, HasLengths, GivesTree, TakesBlocks, TellsFull};
 ghost use Rattle.tree_plans.specs.Walks.{has_object, has_objects, is_directory_touched, is_emptied, root_state};
 
 use crate::changes::ObjectChanges;
@@ -128,7 +128,7 @@ pub fn plan<O: ObjectSource>(
 ) -> Result<TreePlan, PoolError>
     requires { source.now.free.now.blocks ≡ block_count source.now.geometry }
     ensures taken { IfOk result (TakesBlocks source.now (O.objects after.old) objects.now) }
-    ensures tree { IfOk result (MakesTree source.now (O.objects after.old) objects.now) }
+    ensures tree { IfOk result (GivesTree source.now (O.objects after.old) objects.now) }
     ensures lengths { IfOk result (HasLengths source.now (O.objects after.old) objects.now) }
     ensures freed { IfOk result (GivesBack source.now) }
     ensures full { IfErr result

@@ -1,7 +1,7 @@
 use Rattle.std.proofs.Common.{◌≡◌, ℕ, List, arith, length}
 use Rattle.base.specs.declared.pointer.Pointer.{Pointer}
 use Rattle.object_maps.specs.Pointers.{pointer_of_list}
-use Rattle.object_maps.specs.Sources.{bytes_in}
+use Rattle.object_maps.specs.Sources.{object_bytes}
 use Rattle.tree_plans.specs.Order.{addresses_where}
 use Rattle.tree_plans.specs.Plans.{is_dirty_in, is_indirect_written_in, progress_of}
 use Rattle.tree_plans.specs.Room.{count_if}
@@ -13,7 +13,7 @@ use Rattle.tree_plans.proofs.planner.Planner.place_object.Goals as goal
 
 pub returns-clause-planned : goal.returns-clause-planned
 returns-clause-planned g c =
-    let bytes : List ℕ = bytes_in (g.O.ObjectSource.objects c.args.after.now) c.args.id.0 in
+    let bytes : List ℕ = object_bytes (g.O.ObjectSource.objects c.args.after.now) c.args.id.0 in
     let records = c.in_ok-records.ensures.planned in
     let indirect = c.in_ok-indirect.ensures.planned in
     let made : List Pointer = c.in_ok-records.records.items in
@@ -29,7 +29,7 @@ returns-clause-planned g c =
 
 pub returns-in_err-indirect-clause-full : goal.returns-in_err-indirect-clause-full
 returns-in_err-indirect-clause-full g c =
-    let bytes : List ℕ = bytes_in (g.O.ObjectSource.objects c.args.after.now) c.args.id.0 in
+    let bytes : List ℕ = object_bytes (g.O.ObjectSource.objects c.args.after.now) c.args.id.0 in
     let made : List Pointer = c.in_ok-records.records.items in
     let long : length made ≡ 84 = omega (arith, c.in_ok-records.records.ok.0, c.in_ok-records.ensures.count) in
     let told = indirect-told _ c.args.id.0 bytes c.args.changes.now c.args.old.now made long c.in_ok-records.ensures.planned.planned in

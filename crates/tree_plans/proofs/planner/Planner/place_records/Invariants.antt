@@ -1,6 +1,6 @@
 use Rattle.std.proofs.Common.{◌≡◌, ◌≤◌, slice_index_or, vec_len, vec_capacity}
 use Rattle.base.specs.formats.Fields.{no_pointer}
-use Rattle.object_maps.specs.Sources.{bytes_in}
+use Rattle.object_maps.specs.Sources.{object_bytes}
 use Rattle.tree_plans.specs.Order.{Adds, addresses_where}
 use Rattle.tree_plans.specs.Plans.{AreRecordsPlanned, Goes, RecordsFree, is_dirty_in, progress_of}
 use Rattle.tree_plans.specs.Uses.{PointersUse}
@@ -13,7 +13,7 @@ invariant-loop-index g l = record {
   room : 84 ≤ vec_capacity l.records;
   same_objects : g.O.ObjectSource.objects l.after ≡ g.O.ObjectSource.objects l.fn.after;
   goes : Goes l.free.free (progress_of l.fn.self) (progress_of l.self);
-  planned : AreRecordsPlanned (progress_of l.self) l.id.0 (bytes_in (g.O.ObjectSource.objects l.fn.after) l.id.0) l.changes l.old l.index l.records.items;
+  planned : AreRecordsPlanned (progress_of l.self) l.id.0 (object_bytes (g.O.ObjectSource.objects l.fn.after) l.id.0) l.changes l.old l.index l.records.items;
   frees : RecordsFree l.fn.self.freed.items l.self.freed.items l.changes l.old l.index;
   uses : PointersUse (progress_of l.fn.self).blocks (progress_of l.self).blocks l.records.items l.index;
   adds : Adds (progress_of l.fn.self).blocks (progress_of l.self).blocks (addresses_where (is_dirty_in l.changes) (λ r. slice_index_or l.records.items r no_pointer) l.index);
