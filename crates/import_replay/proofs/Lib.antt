@@ -1,6 +1,9 @@
 pub mod LabelWrites
 pub mod NewLabels
 pub mod OutsideWrites
+pub mod Flushes
+pub mod FirstWrites
+pub mod OwnCreations
 pub mod FreeBlocks
 pub mod Rings
 pub mod Configs
@@ -8,11 +11,15 @@ pub mod Reasons
 pub mod LabelCalls
 pub mod LabelSyncs
 pub mod SyncedLabels
+pub mod LabelViews
+pub mod ReadViews
 pub mod ImportedLabels
 pub mod WrittenImports
 pub mod MountedPools
 pub mod ReadPools
 pub mod StoppedImports
+pub mod OwnImports
+pub mod OwnRefusals
 pub mod ShownMounts
 pub mod UsedBlocks
 pub mod Inspections

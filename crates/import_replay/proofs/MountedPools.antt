@@ -42,7 +42,7 @@ use Rattle.import_replay.specs.ImportRefusals.{HasAllBlocks, HasSoundPool}
 use Rattle.import_replay.specs.Labelled.{HoldLabels}
 use Rattle.import_replay.specs.LabelSyncs.{HasSameBlocks}
 use Rattle.import_replay.specs.Mounts.{IsImport, IsMountedFrom, frame_of_import, shown_of_import}
-use Rattle.import_replay.specs.ReadPools.{IsReadPool, frame_at}
+use Rattle.import_replay.specs.ReadPools.{IsReadPool, frame_of_size}
 use Rattle.import_replay.specs.declared.mounted.Mounted.{Mounted}
 
 pub not_zero : (blocks address : ℕ) → IsBlockAddress blocks address → address ≢ 0
@@ -59,21 +59,21 @@ module _ (image : List ℕ) (frame : Frame) (pointers : Place → Pointer) (obje
       (told-in_tree image frame pointers objects holds place in_range (λ none. some (sym is ∙ ap (λ (p : Pointer). p.address) none)))
 
 -- where each block of the area is named, the tree has each
-pub all_blocks : (size : ℕ) (u : Uberblock) (tree : Tree) (slots : List Slot) (image : List ℕ) → length image ≡ size → HoldsTree image (frame_at u size) (pointers_of tree) (objects_of slots)
+pub all_blocks : (size : ℕ) (u : Uberblock) (tree : Tree) (slots : List Slot) (image : List ℕ) → length image ≡ size → HoldsTree image (frame_of_size u size) (pointers_of tree) (objects_of slots)
     → tree.root ≡ u.root → AreAllNamed (pointers_of tree) (block_count size) → HasAllBlocks image u.root
 all_blocks size u tree slots image long held root named address is =
     let block : IsBlockAddress (block_count size) address = subst (λ n. IsBlockAddress (block_count n) address) long is in
     subst (λ (p : Pointer). IsInTree image p address) root
-    (tree-of_named image (frame_at u size) (pointers_of tree) (objects_of slots) held address (not_zero (block_count size) address block) (named address block))
+    (tree-of_named image (frame_of_size u size) (pointers_of tree) (objects_of slots) held address (not_zero (block_count size) address block) (named address block))
 
 -- the tree that was loaded is that of a pool without a fault
-pub sound_pool : (size : ℕ) (u : Uberblock) (name : List ℕ) (tree : Tree) (slots : List Slot) (image : List ℕ) → length image ≡ size → HoldsTree image (frame_at u size) (pointers_of tree) (objects_of slots)
+pub sound_pool : (size : ℕ) (u : Uberblock) (name : List ℕ) (tree : Tree) (slots : List Slot) (image : List ℕ) → length image ≡ size → HoldsTree image (frame_of_size u size) (pointers_of tree) (objects_of slots)
     → tree.root ≡ u.root → HasPool image u name → HasSoundPool image u name
 sound_pool size u name tree slots image long held root pool = record {
   pool = pool;
   objects = objects_of slots;
-  tree = subst (λ (n : ℕ). IsTree image (frame_at u n) u.root (objects_of slots)) (sym long)
-      (subst (λ (p : Pointer). IsTree image (frame_at u size) p (objects_of slots)) root (holds-tree image (frame_at u size) (pointers_of tree) (objects_of slots) held));
+  tree = subst (λ (n : ℕ). IsTree image (frame_of_size u n) u.root (objects_of slots)) (sym long)
+      (subst (λ (p : Pointer). IsTree image (frame_of_size u size) p (objects_of slots)) root (holds-tree image (frame_of_size u size) (pointers_of tree) (objects_of slots) held));
 }
 
 -- and where the active uberblock has no chain, the image mounts it
@@ -83,9 +83,9 @@ mounts_read image size u name tree slots read c named same chain = record {
   synced = contents_of c;
   found = record {
     pool = subst (λ (n : List ℕ). HasPool image u n) (sym named) read.pool;
-    tree = subst (λ (l : List Slot). IsTree image (frame_at u (length image)) u.root (objects_of l)) (sym same)
-        (subst (λ (n : ℕ). IsTree image (frame_at u n) u.root (objects_of slots)) (sym read.long)
-        (subst (λ (p : Pointer). IsTree image (frame_at u size) p (objects_of slots)) read.root (holds-tree image (frame_at u size) (pointers_of tree) (objects_of slots) read.held)));
+    tree = subst (λ (l : List Slot). IsTree image (frame_of_size u (length image)) u.root (objects_of l)) (sym same)
+        (subst (λ (n : ℕ). IsTree image (frame_of_size u n) u.root (objects_of slots)) (sym read.long)
+        (subst (λ (p : Pointer). IsTree image (frame_of_size u size) p (objects_of slots)) read.root (holds-tree image (frame_of_size u size) (pointers_of tree) (objects_of slots) read.held)));
     chain_is = chain;
   };
   applied = refl;
@@ -100,7 +100,7 @@ is_bounded c slots is named within = record {
 }
 
 -- the lowest block that its pointers do not name is the first log block
-pub log_block_found : (size : ℕ) (u : Uberblock) (tree : Tree) (slots : List Slot) (image : List ℕ) → length image ≡ size → HoldsTree image (frame_at u size) (pointers_of tree) (objects_of slots)
+pub log_block_found : (size : ℕ) (u : Uberblock) (tree : Tree) (slots : List Slot) (image : List ℕ) → length image ≡ size → HoldsTree image (frame_of_size u size) (pointers_of tree) (objects_of slots)
     → tree.root ≡ u.root → (address : ℕ) (free : FinSet nat_cmp) → HasTakenLowest (pointers_of tree) (block_count size) address free → IsFirstLogBlock image u [] image u.root address
 log_block_found size u tree slots image long held root address free taken = record {
   in_area = subst (λ (n : ℕ). IsBlockAddress (block_count n) address) (sym long) taken.is_block;
@@ -109,12 +109,12 @@ log_block_found size u tree slots image long held root address free taken = reco
   lowest = λ other below is.
       (let block : IsBlockAddress (block_count size) other = subst (λ (n : ℕ). IsBlockAddress (block_count n) other) long is in
       inr (subst (λ (p : Pointer). IsInTree image p other) root
-      (tree-of_named image (frame_at u size) (pointers_of tree) (objects_of slots) held other (not_zero (block_count size) other block) (taken.lowest other below block))));
+      (tree-of_named image (frame_of_size u size) (pointers_of tree) (objects_of slots) held other (not_zero (block_count size) other block) (taken.lowest other below block))));
 }
   where
     not_in_tree : IsInTree image u.root address → ⊥
     not_in_tree is =
-        taken.is_unnamed (named-of_tree image (frame_at u size) (pointers_of tree) (objects_of slots) held address (subst (λ (p : Pointer). IsInTree image p address) (sym root) is))
+        taken.is_unnamed (named-of_tree image (frame_of_size u size) (pointers_of tree) (objects_of slots) held address (subst (λ (p : Pointer). IsInTree image p address) (sym root) is))
 
     not_used : IsUsed image u.root [] address → ⊥
     not_used (inl is) = not_in_tree is
@@ -169,17 +169,17 @@ module _ (size : ℕ) (u : Uberblock) (name : List ℕ) (slots : List Slot) (tre
   is_explained bounded created = new_pools_are_explained u (block_count size) (contents_of m.contents) created dirty_max shown is_imported bounded within_last
 
   module _ (image now : List ℕ) (long : length image ≡ size) (pool : HasPool image u name) (root : tree.root ≡ u.root) (limit : is_dirty_max_allowed dirty_max ≡ true)
-      (loaded : HoldsTree image (frame_at u size) (pointers_of tree) (objects_of slots)) (same : HasSameBlocks size image now) where
+      (loaded : HoldsTree image (frame_of_size u size) (pointers_of tree) (objects_of slots)) (same : HasSameBlocks size image now) where
     abbrev pointers : Place → Pointer
     pointers = pointers_of m.tree
 
     abbrev objects : FinMap nat_cmp (List ℕ)
     objects = (contents_of m.contents).objects
 
-    held : HoldsTree image (frame_at u size) pointers objects
+    held : HoldsTree image (frame_of_size u size) pointers objects
     held =
-        subst (λ (t : Tree). HoldsTree image (frame_at u size) (pointers_of t) objects) (sym from.tree_is)
-        (subst (λ (l : List Slot). HoldsTree image (frame_at u size) (pointers_of tree) (objects_of l)) (sym from.slots_are) loaded)
+        subst (λ (t : Tree). HoldsTree image (frame_of_size u size) (pointers_of t) objects) (sym from.tree_is)
+        (subst (λ (l : List Slot). HoldsTree image (frame_of_size u size) (pointers_of tree) (objects_of l)) (sym from.slots_are) loaded)
 
     root_is : m.tree.root ≡ u.root
     root_is = ap (λ (t : Tree). t.root) from.tree_is ∙ root
@@ -190,8 +190,8 @@ module _ (size : ℕ) (u : Uberblock) (name : List ℕ) (slots : List Slot) (tre
 
     -- the tree stands in what the import leaves, for the group that it synced
     pub holds_now : HoldsTree now (frame_of_import m) pointers objects
-    holds_now = holds-elsewhere image now (frame_at u size) (frame_of_import m) from.guid (ap block_count sized) (omega (arith, from.group)) pointers objects held
-        (λ place in_range. block_stands (pointers place) (holds-placed image (frame_at u size) pointers objects held place in_range))
+    holds_now = holds-elsewhere image now (frame_of_size u size) (frame_of_import m) from.guid (ap block_count sized) (omega (arith, from.group)) pointers objects held
+        (λ place in_range. block_stands (pointers place) (holds-placed image (frame_of_size u size) pointers objects held place in_range))
 
     in_now : (address : ℕ) → address ≢ 0 → IsNamed pointers address → IsInTree now m.tree.root address
     in_now address = tree-of_named now (frame_of_import m) pointers objects holds_now address
@@ -200,7 +200,7 @@ module _ (size : ℕ) (u : Uberblock) (name : List ℕ) (slots : List Slot) (tre
     now_named address = named-of_tree now (frame_of_import m) pointers objects holds_now address
 
     old_named : (address : ℕ) → IsInTree image u.root address → IsNamed pointers address
-    old_named address is = named-of_tree image (frame_at u size) pointers objects held address (subst (λ (p : Pointer). IsInTree image p address) (sym root_is) is)
+    old_named address is = named-of_tree image (frame_of_size u size) pointers objects held address (subst (λ (p : Pointer). IsInTree image p address) (sym root_is) is)
 
     same_count : block_count m.geometry ≡ block_count (length image)
     same_count = ap block_count (sized ∙ sym long)

@@ -5,7 +5,7 @@ use Rattle.std.specs.FinMap as map
 use Rattle.std.specs.List.{IsDistinct}
 use Rattle.std.specs.Int.{from_le_bytes, w64}
 use Rattle.std.proofs.lemmas.Bool.{cases_order}
-use Rattle.std.proofs.lemmas.List.{ext_get_or, get_or-take, get_or-drop, get_or-replicate}
+use Rattle.std.proofs.lemmas.List.{ext_get_or, get_or-take, get_or-drop, get_or-replicate, length-replicate}
 use Rattle.base.specs.formats.Fields.{part, number_at, no_pointer}
 use Rattle.base.specs.formats.Limits.{first_group}
 use Rattle.base.specs.formats.Geometry.{IsGeometry, block_address, block_count, slot_place, slot_of}
@@ -64,16 +64,28 @@ none_used image = record {
     none address (inr is) = omega (arith, is.1)
 
 -- where eight bytes are zeros, so is the number there
-zero_number : (image : List ℕ) (place : ℕ) → place + 1024 ≤ length image → ((k : ℕ) → k < 8 → get_or image (place + k) 0 ≡ 0) → number_at (part image place 1024) 0 ≡ 0
+pub zero_number : (image : List ℕ) (place n : ℕ) → 8 ≤ n → place + n ≤ length image → ((k : ℕ) → k < 8 → get_or image (place + k) 0 ≡ 0) → number_at (part image place n) 0 ≡ 0
 unfolding number_at
-zero_number image place fits each =
-    ap (λ (l : List ℕ). from_le_bytes w64 l) (part-part image place 1024 0 8 (omega arith) ∙ ap (λ (k : ℕ). part image k 8) (omega arith) ∙ zeros_there)
+zero_number image place n whole fits each =
+    ap (λ (l : List ℕ). from_le_bytes w64 l) (part-part image place n 0 8 (omega (arith, whole)) ∙ ap (λ (k : ℕ). part image k 8) (omega arith) ∙ zeros_there)
   where
     zeros_there : part image place 8 ≡ replicate 8 0
     zeros_there =
-        let long = length-part place 8 image (omega (arith, fits)) in
+        let long = length-part place 8 image (omega (arith, whole, fits)) in
         ext_get_or 0 (part image place 8) (replicate 8 0) long
         (λ k below. get_or-take 8 (drop place image) k 0 (omega (arith, below, long)) ∙ get_or-drop place image k 0 ∙ each k (omega (arith, below, long)) ∙ sym (get_or-replicate 8 k 0 0 (omega (arith, below, long))))
+
+-- and so it is where all bytes are
+pub zeros_number : (n : ℕ) → 8 ≤ n → number_at (replicate n 0) 0 ≡ 0
+unfolding number_at
+zeros_number n whole = ap (λ (l : List ℕ). from_le_bytes w64 l) zeros_there
+  where
+    zeros_there : part (replicate n 0) 0 8 ≡ replicate 8 0
+    zeros_there =
+        let long : length (part (replicate n 0) 0 8) ≡ 8 = length-part 0 8 (replicate n 0) (omega (arith, whole, length-replicate {A = ℕ} n 0)) in
+        ext_get_or 0 (part (replicate n 0) 0 8) (replicate 8 0) long
+        (λ k below. get_or-take 8 (drop 0 (replicate n 0)) k 0 (omega (arith, below, long)) ∙ get_or-drop 0 (replicate n 0) k 0 ∙ ap (λ (j : ℕ). get_or (replicate n 0) j 0) (omega arith) ∙ get_or-replicate n k 0 0 (omega (arith, below, long, whole))
+        ∙ sym (get_or-replicate 8 k 0 0 (omega (arith, below, long))))
 
 module _ (image name : List ℕ) (guid moment : ℕ) (is : IsGeometry (length image)) (labels : IsLabelled (length image) name guid moment image) where
   abbrev u : Uberblock
@@ -84,7 +96,7 @@ module _ (image name : List ℕ) (guid moment : ℕ) (is : IsGeometry (length im
   none_elsewhere k other below not stands =
       let low = slot_below other.group in
       let fits = (slot-on_device (length image) k (slot_of other.group) is below low).within in
-      let zeros = zero_number image (slot_place (length image) k (slot_of other.group)) fits (λ i small.
+      let zeros = zero_number image (slot_place (length image) k (slot_of other.group)) 1024 (omega arith) fits (λ i small.
       labels.0.0 k (slot_place (length image) k (slot_of other.group) + i) below
       (omega arith, omega (arith, low, small)) (λ inside. omega (arith, inside.1)) (λ inside. apart (slot_of other.group) i not small inside.0 inside.1)) in
       let magic : 0 ≡ 0x00bab10c = sym zeros ∙ stands.magic in

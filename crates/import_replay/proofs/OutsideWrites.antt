@@ -1,11 +1,11 @@
 -- The writes of a create change only bytes that a pool has.
-use Rattle.std.proofs.Common.{◌≡◌, ◌⊎◌, inl, inr, ℕ, ◌+◌, ◌<◌, ◌≤◌, Bool, true, false, List, length, Result, sym, ◌∙◌, subst, arith}
+use Rattle.std.proofs.Common.{◌≡◌, ◌⊎◌, inl, inr, ℕ, ◌+◌, ◌<◌, ◌≤◌, Bool, true, false, List, length, Result, refl, sym, ◌∙◌, subst, arith}
 use Rattle.std.proofs.lemmas.Bool.{cases_lt}
 use Rattle.base.specs.declared.error.PoolError.{PoolError}
 use Rattle.base.specs.disk.Calls.{Flushes, Writes}
 use Rattle.base.specs.disk.Disk.{Disk, IsInRange, Moment, bytes_of, moments, settled, wrote}
 use Rattle.base.specs.formats.Geometry.{IsGeometry, IsWritable, block_address, block_count, label_place, slot_place}
-use Rattle.base.proofs.disk.Moments.{each_flush, each_write}
+use Rattle.base.proofs.disk.Moments.{each_flush, each_write, starts}
 use Rattle.base.proofs.disk.Put.{get_or-put_other, length-put}
 use Rattle.base.proofs.formats.Geometry.{blocks-end, label-on_device}
 use Rattle.import_replay.specs.Outside.{IsPoolByte, KeepsOutside, WritesPoolBytes}
@@ -48,6 +48,10 @@ byte_writable size at count i (inr (from, to)) here = inr (omega (arith, from, h
 writable_fits : (size at count : ℕ) → IsGeometry size → IsWritable size at count → at + count ≤ size
 writable_fits size at count is (inl (label, low, from, to)) = omega (arith, (label-on_device size label is low).within, to)
 writable_fits size at count is (inr (from, to)) = omega (arith, blocks-end size is, to)
+
+-- before the first call
+pub none_outside : (size : ℕ) (start : Disk) → WritesPoolBytes size start start
+none_outside size start = starts (KeepsOutside (IsPoolByte size) start.now) start (record { bytes = record { size = refl; others = λ i out. refl }; touched = λ i out touched. touched })
 
 -- one write more
 pub writes_on : (size : ℕ) (start disk new : Disk) (place other n : ℕ) (content : List ℕ) (r : Result (Unit {0}) PoolError) → IsGeometry size → length (bytes_of disk.now) ≡ size

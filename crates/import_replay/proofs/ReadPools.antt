@@ -1,28 +1,32 @@
 -- What is read of a device without a write or a flush is of its image: an active pool and the tree under its root, or the first fault of that tree. A flush before it leaves that image.
 use Rattle.std.proofs.Common.{◌≡◌, ℕ, List, length, Ok, sym, subst}
+use Rattle.std.specs.Prelude.{Bool, IsTrue}
+use Rattle.std.specs.Ordering.{nat_cmp}
+use Rattle.std.specs.FinMap.{FinMap}
 use Rattle.base.specs.crash.Mount.{HasPool, IsTreeDamaged}
 use Rattle.base.specs.disk.Calls.{Flushes}
 use Rattle.base.specs.disk.Disk.{Disk, bytes_of}
 use Rattle.base.specs.formats.Blocks.{Frame}
 use Rattle.base.specs.formats.Uberblocks.{Uberblock}
 use Rattle.base.specs.tree.Faults.{IsFirstFault}
-use Rattle.base.specs.tree.PlacedTrees.{HoldsTree}
+use Rattle.base.specs.tree.PlacedTrees.{ArePlaced, HoldsTree}
 use Rattle.base.proofs.disk.Regions.{flushed_clean}
 use Rattle.object_maps.specs.declared.contents.Slot.{Slot}
 use Rattle.object_maps.specs.declared.tree.Tree.{Tree}
-use Rattle.object_maps.specs.Pointers.{objects_of, pointers_of}
+use Rattle.object_maps.specs.Pointers.{pointers_of}
+use Rattle.object_maps.specs.Surveys.{HasObjects}
 use Rattle.import_replay.specs.ImportRefusals.{HasSoundPool}
-use Rattle.import_replay.specs.ReadPools.{IsReadPool, frame_at}
+use Rattle.import_replay.specs.ReadPools.{HasPoolTree, IsReadPool, IsSurveyedFor, frame_of_size}
 use Rattle.import_replay.proofs.MountedPools.{sound_pool}
 
 module _ (image : List ℕ) (found : Disk) (size : ℕ) (frame : Frame) (u : Uberblock) (name : List ℕ) (long : length image ≡ size) (same : bytes_of found.now ≡ image)
-    (pool : HasPool image u name) (framed : frame ≡ frame_at u size) where
-  pub is_read_pool : (tree : Tree) (slots : List Slot) → HoldsTree (bytes_of found.now) frame (pointers_of tree) (objects_of slots) → tree.root ≡ u.root → IsReadPool image size u name tree slots
-  is_read_pool tree slots held root = record {
+    (pool : HasPool image u name) (framed : frame ≡ frame_of_size u size) where
+  pub is_read_pool : (tree : Tree) (objects : FinMap nat_cmp (List ℕ)) → HoldsTree (bytes_of found.now) frame (pointers_of tree) objects → tree.root ≡ u.root → HasPoolTree image size u name tree objects
+  is_read_pool tree objects held root = record {
     long = long;
     pool = pool;
-    held = subst (λ (b : List ℕ). HoldsTree b (frame_at u size) (pointers_of tree) (objects_of slots)) same
-        (subst (λ (f : Frame). HoldsTree (bytes_of found.now) f (pointers_of tree) (objects_of slots)) framed held);
+    held = subst (λ (b : List ℕ). HoldsTree b (frame_of_size u size) (pointers_of tree) objects) same
+        (subst (λ (f : Frame). HoldsTree (bytes_of found.now) f (pointers_of tree) objects) framed held);
     root = root;
   }
 
@@ -31,10 +35,21 @@ module _ (image : List ℕ) (found : Disk) (size : ℕ) (frame : Frame) (u : Ube
     u = u;
     name = name;
     pool = pool;
-    fault = subst (λ (n : ℕ). IsFirstFault image (frame_at u n) u.root kind address) (sym long)
-        (subst (λ (b : List ℕ). IsFirstFault b (frame_at u size) u.root kind address) same
+    fault = subst (λ (n : ℕ). IsFirstFault image (frame_of_size u n) u.root kind address) (sym long)
+        (subst (λ (b : List ℕ). IsFirstFault b (frame_of_size u size) u.root kind address) same
         (subst (λ (f : Frame). IsFirstFault (bytes_of found.now) f u.root kind address) framed fault));
   }
+
+-- what was surveyed in a frame of this uberblock
+pub is_surveyed : (keeps : Bool) (image now : List ℕ) (size : ℕ) (frame : Frame) (u : Uberblock) (name : List ℕ) (tree : Tree) → frame ≡ frame_of_size u size → ArePlaced frame.blocks (pointers_of tree)
+    → (has : HasObjects keeps now frame tree) → (IsTrue keeps → HasPoolTree image size u name tree has.objects) → IsSurveyedFor keeps image size u name tree
+is_surveyed keeps image now size frame u name tree framed placed has read = record {
+  placed = subst (λ (f : Frame). ArePlaced f.blocks (pointers_of tree)) framed placed;
+  objects = has.objects;
+  bounded = has.bounded;
+  lengths = has.lengths;
+  read = read;
+}
 
 -- such a pool is sound
 pub sound_read : (image : List ℕ) (size : ℕ) (u : Uberblock) (name : List ℕ) (tree : Tree) (slots : List Slot) → IsReadPool image size u name tree slots → HasSoundPool image u name

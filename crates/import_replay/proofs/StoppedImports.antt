@@ -14,12 +14,12 @@ use Rattle.object_maps.specs.Pointers.{objects_of, pointers_of}
 use Rattle.import_replay.specs.Found.{HasFirstStage}
 use Rattle.import_replay.specs.ImportStops.{IsImportStopped, IsOpenStopped, next_config, next_uberblock}
 use Rattle.import_replay.specs.LabelSyncs.{IsStoppedSync}
-use Rattle.import_replay.specs.ReadPools.{frame_at}
+use Rattle.import_replay.specs.ReadPools.{frame_of_size}
 use Rattle.import_replay.proofs.MountedPools.{log_block_found, sound_pool}
 
 pub stopped_import : (size : ℕ) (old mid before new : Disk) (u : Uberblock) (name : List ℕ) (slots : List Slot) (tree : Tree) (moment : ℕ) (even_first : Bool) (e : PoolError)
     → length (bytes_of old.now) ≡ size → Flushes old (Ok tt) mid → before ≡ mid → HasPool (bytes_of old.now) u name → HasFirstStage (bytes_of old.now) u.guid u.group name even_first
-    → HoldsTree (bytes_of old.now) (frame_at u size) (pointers_of tree) (objects_of slots) → tree.root ≡ u.root → is_past_last u.group u.import_number ≡ false
+    → HoldsTree (bytes_of old.now) (frame_of_size u size) (pointers_of tree) (objects_of slots) → tree.root ≡ u.root → is_past_last u.group u.import_number ≡ false
     → IsOpenStopped size u name tree moment even_first e before new → IsImportStopped old new moment e
 stopped_import size old mid before new u name slots tree moment even_first e long flushed same pool first held root within stopped =
     let v : Uberblock = next_uberblock u moment stopped.log_address in

@@ -3,6 +3,7 @@ use Rattle.std.proofs.Common.{◌≡◌, ◌≢◌, ◌⊎◌, inl, inr, ℕ, ze
 use Rattle.std.specs.Prelude.{Contains}
 use Rattle.std.specs.List.{AllByRecursion, IsDistinct}
 use Rattle.std.specs.Ordering.{nat_cmp}
+use Rattle.std.specs.FinMap.{FinMap}
 use Rattle.std.specs.FinSet as set
 use Rattle.std.specs.FinSet.{FinSet, contains-empty, len-empty, len-remove, same_set, nat_cmp-IsAntisymmetric}
 use Rattle.std.proofs.lemmas.Bool.{cases_eq, eq-eqb, ne_eqb}
@@ -13,12 +14,11 @@ use Rattle.base.specs.formats.Geometry.{IsBlockAddress, block_address, block_cou
 use Rattle.base.specs.formats.Uberblocks.{Uberblock}
 use Rattle.base.specs.tree.PlacedTrees.{ArePlaced, IsPlaced}
 use Rattle.base.specs.tree.Places.{IsInTree, Place}
-use Rattle.object_maps.specs.declared.contents.Slot.{Slot}
 use Rattle.object_maps.specs.declared.tree.Tree.{Tree}
-use Rattle.object_maps.specs.Pointers.{objects_of, pointers_of}
+use Rattle.object_maps.specs.Pointers.{pointers_of}
 use Rattle.space.proofs.Counts.{one_there}
 use Rattle.import_replay.specs.FreeBlocks.{AreUnnamed, IsNamed}
-use Rattle.import_replay.specs.ReadPools.{IsReadPool, frame_at}
+use Rattle.import_replay.specs.ReadPools.{HasPoolTree, frame_of_size}
 use Rattle.import_replay.proofs.FreeBlocks.{contains-without}
 use Rattle.import_replay.proofs.MountedPools.{named-of_tree, not_zero, tree-of_named}
 
@@ -140,7 +140,7 @@ length-used (suc n) free within = by_flag (set.contains free (block_address n)) 
     by_flag false is all = let rest = all free (without is) in omega (arith, rest)
 
 -- the blocks of a tree that was read are those that are not free
-module _ (image : List ℕ) (size : ℕ) (u : Uberblock) (name : List ℕ) (tree : Tree) (slots : List Slot) (read : IsReadPool image size u name tree slots)
+module _ (image : List ℕ) (size : ℕ) (u : Uberblock) (name : List ℕ) (tree : Tree) (objects : FinMap nat_cmp (List ℕ)) (read : HasPoolTree image size u name tree objects)
     (placed : ArePlaced (block_count size) (pointers_of tree)) (free : FinSet nat_cmp) (were : AreUnnamed (pointers_of tree) (block_count size) free) where
   abbrev pointers : Place → Pointer
   pointers = pointers_of tree
@@ -148,7 +148,7 @@ module _ (image : List ℕ) (size : ℕ) (u : Uberblock) (name : List ℕ) (tree
   in_tree : (address : ℕ) → IsUsedBelow (block_count size) free address → IsInTree image u.root address
   in_tree address (is, not_free) =
       subst (λ (p : Pointer). IsInTree image p address) read.root
-      (tree-of_named image (frame_at u size) pointers (objects_of slots) read.held address (not_zero (block_count size) address is) (were.others address not_free is))
+      (tree-of_named image (frame_of_size u size) pointers objects read.held address (not_zero (block_count size) address is) (were.others address not_free is))
 
   not_none : (address : ℕ) (p : Pointer) → address ≢ 0 → p.address ≡ address → IsPlaced (block_count size) p → IsBlockAddress (block_count size) address
   not_none address p some at (inl none) = absurd (some (sym at ∙ ap (λ (q : Pointer). q.address) none))
@@ -156,7 +156,7 @@ module _ (image : List ℕ) (size : ℕ) (u : Uberblock) (name : List ℕ) (tree
 
   is_used : (address : ℕ) → IsInTree image u.root address → Contains (used_below (block_count size) free) address
   is_used address is =
-      let named : IsNamed pointers address = named-of_tree image (frame_at u size) pointers (objects_of slots) read.held address (subst (λ (p : Pointer). IsInTree image p address) (sym read.root) is) in
+      let named : IsNamed pointers address = named-of_tree image (frame_of_size u size) pointers objects read.held address (subst (λ (p : Pointer). IsInTree image p address) (sym read.root) is) in
       let (k, low, at) = not_none address (pointers named.0) is.there named.2 (placed named.0 named.1) in
       subst (λ (a : ℕ). Contains (used_below (block_count size) free) a) (sym at)
       (used-contained (block_count size) free k low (by_flag k (set.contains free (block_address k)) refl (λ free_too. were.unnamed address (subst (λ (a : ℕ). set.contains free a ≡ true) (sym at) free_too) named)))

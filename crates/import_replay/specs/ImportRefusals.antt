@@ -1,5 +1,5 @@
 -- When an import is refused.
-use Rattle.std.specs.Prelude.{ℕ, ⊤, ◌≡◌, ◌⊎◌, true, false, List, length}
+use Rattle.std.specs.Prelude.{ℕ, ⊤, ◌≡◌, ◌≢◌, ◌⊎◌, true, false, List, length}
 use Rattle.std.specs.Ordering.{nat_cmp}
 use Rattle.std.specs.FinMap.{FinMap}
 use Rattle.base.specs.declared.error.PoolError.{PoolError}
@@ -11,6 +11,9 @@ use Rattle.base.specs.formats.Uberblocks.{Uberblock}
 use Rattle.base.specs.tree.Tree.{IsTree}
 use Rattle.base.specs.crash.Mount.{HasNoPool, HasPool, IsTreeDamaged, frame_of}
 use Rattle.base.specs.crash.Imports.{is_dirty_max_allowed, is_past_last}
+use Rattle.base.specs.crash.CrashRule.{IsOwnOnceFlushed}
+use Rattle.base.specs.disk.Disk.{Disk}
+use Rattle.base.specs.history.Contents.{Contents}
 
 -- an import of a device of so many bytes with this limit may begin
 abbrev pub CanImport : ℕ → ℕ → Type 0
@@ -94,3 +97,12 @@ pub record IsReason (image : List ℕ) (e : PoolError) : Type 0 where
   pub damaged : (kind address : ℕ) → e ≡ Damaged kind address → IsTreeDamaged image kind address
   pub too_many : e ≡ TooMany → HasLastNumbers image
   pub no_space : e ≡ NoSpace → HasNoFreeBlock image
+
+-- the refusal says neither that there is no pool nor that a tree has a fault
+pub record IsOfSoundPool (e : PoolError) : Type 0 where
+  pub not_missing : e ≢ NoPool
+  pub not_damaged : (kind address : ℕ) → e ≢ Damaged kind address
+
+-- so it is where the disk is one that its pool alone wrote, once it is flushed
+abbrev pub FindsOwn : Disk → PoolError → Type 0
+FindsOwn disk e = (created guid : ℕ) (contents : Contents) → IsOwnOnceFlushed disk created guid contents → IsOfSoundPool e

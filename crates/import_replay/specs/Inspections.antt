@@ -6,15 +6,22 @@ use Rattle.std.specs.FinSet.{FinSet}
 use Rattle.base.specs.crash.Imports.{IsImportOf}
 use Rattle.base.specs.crash.Mount.{IsChainOf, IsMounted, Mount}
 use Rattle.base.specs.formats.Uberblocks.{Uberblock, IsActive}
+use Rattle.base.specs.declared.names.ObjectId.{ObjectId}
+use Rattle.base.specs.history.Contents.{Contents}
+use Rattle.base.specs.steps.Exact.{IsBounded}
 use Rattle.base.specs.steps.Shown.{Shown}
-use Rattle.object_maps.specs.declared.contents.Slot.{Slot}
-use Rattle.object_maps.specs.ContentsShown.{contents_of}
+use Rattle.object_maps.specs.Surveys.{listed}
 use Rattle.import_replay.specs.declared.inspection.Inspected.{Inspected}
 
--- what is told, as the definitions have what an image mounts
-abbrev pub mount_of : Inspected → Mount
-mount_of i = record {
-  contents = contents_of i.contents;
+-- it is told of these contents: their name, and the numbers of their objects, rising, each with the object's length
+pub record IsToldOf (i : Inspected) (contents : Contents) : Type 0 where
+  pub name_is : i.name ≡ contents.name
+  pub objects_are : i.lengths.items ≡ listed contents.objects
+
+-- what is told of these contents, as the definitions have what an image mounts
+abbrev pub mount_of : Inspected → Contents → Mount
+mount_of i contents = record {
+  contents = contents;
   guid = i.guid;
   group = i.group.0;
   import_number = i.import_number;
@@ -23,24 +30,29 @@ mount_of i = record {
   records = i.records;
 }
 
--- what is told is of this active uberblock and name, with these slots and these free blocks of so many
-pub record IsInspectedFrom (u : Uberblock) (name : List ℕ) (slots : List Slot) (blocks : ℕ) (free : FinSet nat_cmp) (i : Inspected) : Type 0 where
+-- it is told of contents within the limits of a pool
+abbrev pub IsToldOfBounded : Inspected → Type 0
+IsToldOfBounded i = (contents : Contents) × IsToldOf i contents × IsBounded contents
+
+-- what is told is of this active uberblock and name, with these objects and these free blocks of so many
+pub record IsInspectedFrom (u : Uberblock) (name : List ℕ) (lengths : List (ObjectId × ℕ)) (blocks : ℕ) (free : FinSet nat_cmp) (i : Inspected) : Type 0 where
   pub guid : i.guid ≡ u.guid
   pub group : i.group.0 ≡ u.group
   pub import_number : i.import_number ≡ u.import_number
   pub blocks_are : i.blocks ≡ blocks
   pub used : i.used ≡ blocks - set.len free
   pub records : i.records ≡ 0
-  pub name_is : i.contents.name ≡ name
-  pub slots_are : i.contents.slots.items ≡ slots
+  pub name_is : i.name ≡ name
+  pub lengths_are : i.lengths.items ≡ lengths
 
--- for the active uberblock, where it has no chain, it is what the image mounts, with all its numbers
+-- for the active uberblock, where it has no chain, it is told of the contents that the image mounts, with all their numbers
 abbrev pub IsInspectionOf : List ℕ → Inspected → Type 0
-IsInspectionOf image i = (u : Uberblock) → IsActive image u → IsChainOf image u [] → IsMounted image (mount_of i)
+IsInspectionOf image i = (u : Uberblock) → IsActive image u → IsChainOf image u [] → (contents : Contents) × IsToldOf i contents × IsMounted image (mount_of i contents)
 
--- a pool that an import gives has what an inspection told: these contents and blocks, four groups and an import later
+-- a pool that an import gives has what an inspection told: contents of this name and these objects, and these blocks, four groups and an
+-- import later
 pub record IsToldBefore (i : Inspected) (s : Shown) : Type 0 where
-  pub contents : s.contents ≡ contents_of i.contents
+  pub contents : IsToldOf i s.contents
   pub guid : s.guid ≡ i.guid
   pub group : s.line.synced ≡ i.group.0 + 4
   pub import_number : s.import_number ≡ i.import_number + 1

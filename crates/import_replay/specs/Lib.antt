@@ -1,6 +1,7 @@
 pub mod CreateRefusals
 pub mod Cleared
 pub mod Creations
+pub mod OwnCreations
 pub mod Labelled
 pub mod Outside
 pub mod Found
@@ -8,8 +9,10 @@ pub mod ReadPools
 pub mod FreeBlocks
 pub mod ImportRefusals
 pub mod LabelSyncs
+pub mod ImportViews
 pub mod ImportSyncs
 pub mod ImportStops
 pub mod Mounts
 pub mod ShownMounts
+pub mod RunStarts
 pub mod Inspections

@@ -1,13 +1,18 @@
 //! A new pool.
 
-ghost use Rattle.std.specs.Prelude.{◌≡◌, ◌⊎◌, IfErr, IfOk, IsTrue, List, MatchResult, OnOk, [], ℕ};
+ghost use Rattle.std.specs.Prelude.{◌≡◌, ◌≤◌, ◌⊎◌, IfErr, IfOk, IsTrue, List, MatchResult, OnOk, [], ℕ};
 ghost use Rattle.base.specs.disk.Calls.{with_refusal};
-ghost use Rattle.base.specs.disk.Disk.{CrashLeaves, Disk, bytes_of};
+ghost use Rattle.base.specs.crash.Own.{IsOwnWith};
+ghost use Rattle.base.specs.disk.Disk.{CrashLeaves, Disk, bytes_of, moments};
 ghost use Rattle.base.specs.formats.Geometry.{IsGeometry};
+ghost use Rattle.labels.specs.Configs.{config_block};
+ghost use Rattle.uberblocks.specs.Slots.{slot_bytes};
 ghost use Rattle.import_replay.specs.Cleared.{AreTailsCleared, IsCleared, zeros};
 ghost use Rattle.import_replay.specs.CreateRefusals.{CanCreate, IsCreateRefusal};
-ghost use Rattle.import_replay.specs.Creations.{IsCreatedOn, IsNewPool, first_config};
+ghost use Rattle.import_replay.specs.Creations.{IsCreatedOn, IsNewPool, first_config, first_uberblock};
 ghost use Rattle.import_replay.specs.Labelled.{HoldConfig, IsLabelled};
+ghost use Rattle.import_replay.specs.OwnCreations.{AddsConfig, AddsSlot, AddsZeros, AreConfigsHanded, AreSlotsHanded};
+ghost use Rattle.import_replay.specs.OwnCreations.{HasEarlierWrites, IsFirstDisk, first_contents, first_view};
 ghost use Rattle.import_replay.specs.Outside.{WritesAndFlushes, WritesPoolBytes};
 
 use base::{FIRST_GROUP, Group, Pointer, PoolError, PoolName, WRITTEN_VERSION};
@@ -52,6 +57,9 @@ pub fn create<D: SectorDevice>(
         → CrashLeaves (λ image. IsCreatedOn image name.now guid) (D.disk d).now) }
     ensures written { IfOk result (λ d. IsTrue D.keeps_model
         → CrashLeaves (λ image. IsNewPool image name.now guid moment) (D.disk d).now) }
+    // After any crash only this pool has written it, where all that was written before counts as earlier.
+    ensures own { IsTrue D.keeps_model → HasEarlierWrites (D.disk device) → IfOk result
+        (λ d. IsOwnWith (D.disk d) (moments (D.disk device)) guid (first_contents name.now)) }
     ensures outside { IsTrue D.keeps_model → MatchResult result
         (λ d. WritesPoolBytes (D.size device) (D.disk device) (D.disk d))
         (λ e. WritesPoolBytes (D.size device) (D.disk device) (D.disk e.1)) }
@@ -85,6 +93,9 @@ fn initialize<D: SectorDevice>(
     ensures labels { IsTrue D.keeps_model
         → OnOk result (IsLabelled geometry name guid moment (bytes_of (D.disk device.new).now)) }
     ensures settled { IsTrue D.keeps_model → OnOk result ((D.disk device.new).now.unflushed ≡ []) }
+    ensures handed { IsTrue D.keeps_model → HasEarlierWrites (D.disk device.old) → OnOk result
+        (IsFirstDisk geometry (moments (D.disk device.old)) (first_view name guid moment geometry)
+        (D.disk device.new)) }
 {
     clear_labels(device, geometry)?;
     clear_blocks(device, geometry)?;
@@ -104,6 +115,8 @@ fn clear_labels<D: SectorDevice>(device: &mut D, geometry: Geometry) -> Result<(
         → WritesPoolBytes geometry start (D.disk device.new) }
     ensures cleared { IsTrue D.keeps_model
         → OnOk result (AreTailsCleared geometry 4 (bytes_of (D.disk device.new).now)) }
+    ensures first { IsTrue D.keeps_model
+        → OnOk result (AddsZeros (D.disk device.old) (D.disk device.new)) }
 {
     let zeros = zero_tail();
     for label in 0..4 {
@@ -128,6 +141,8 @@ fn clear_blocks<D: SectorDevice>(device: &mut D, geometry: Geometry) -> Result<(
     ensures cleared { IsTrue D.keeps_model
         → AreTailsCleared geometry 4 (bytes_of (D.disk device.old).now)
         → OnOk result (IsCleared geometry (bytes_of (D.disk device.new).now)) }
+    ensures first { IsTrue D.keeps_model
+        → OnOk result (AddsZeros (D.disk device.old) (D.disk device.new)) }
 {
     let zeros = [0; 4096];
     for index in 0..geometry.blocks() {
@@ -153,6 +168,12 @@ fn write_configs<D: SectorDevice>(
     ensures configs { IsTrue D.keeps_model
         → OnOk result (HoldConfig geometry 4 (first_config name guid geometry)
         (bytes_of (D.disk device.new).now)) }
+    ensures first { IsTrue D.keeps_model
+        → OnOk result (AddsConfig (config_block (first_config name guid geometry))
+        (D.disk device.old) (D.disk device.new)) }
+    ensures handed { IsTrue D.keeps_model → (t : ℕ) → t ≤ moments (D.disk device.old)
+        → OnOk result (AreConfigsHanded geometry 4 t
+        (config_block (first_config name guid geometry)) (D.disk device.new)) }
 {
     let config = LabelConfig::new(guid, Group(FIRST_GROUP), geometry.size(), name);
     let block = config.encode();
@@ -178,6 +199,14 @@ fn write_uberblocks<D: SectorDevice>(
         → (name : List ℕ)
         → HoldConfig geometry 4 (first_config name guid geometry) (bytes_of (D.disk device.old).now)
         → OnOk result (IsLabelled geometry name guid moment (bytes_of (D.disk device.new).now)) }
+    ensures first { IsTrue D.keeps_model → OnOk result (AddsSlot
+        (slot_bytes (first_uberblock guid moment)) (D.disk device.old) (D.disk device.new)) }
+    ensures handed { IsTrue D.keeps_model → (t : ℕ) → t ≤ moments (D.disk device.old)
+        → OnOk result (AreSlotsHanded geometry 4 t
+        (slot_bytes (first_uberblock guid moment)) (D.disk device.new)) }
+    ensures configs { IsTrue D.keeps_model → (t : ℕ) → (config : List ℕ)
+        → AreConfigsHanded geometry 4 t config (D.disk device.old)
+        → OnOk result (AreConfigsHanded geometry 4 t config (D.disk device.new)) }
 {
     let uberblock = Uberblock {
         version: WRITTEN_VERSION,

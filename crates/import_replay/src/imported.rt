@@ -1,6 +1,6 @@
 //! The import of a pool: what its image mounts, and a sync that makes the image the run's own.
 
-ghost use Rattle.std.specs.Prelude.{◌≡◌, ◌<◌, ◌+◌, ◌≤◌, ◌^◌, ◌⊎◌, ℕ, [], true, false, IfErr, IfOk, IsTrue, OnOk};
+ghost use Rattle.std.specs.Prelude.{◌≡◌, ◌<◌, ◌+◌, ◌≤◌, ◌^◌, ◌⊎◌, ℕ, [], true, false, IfErr, IfOk, IsTrue, MatchResult, OnOk};
 ghost use Rattle.base.specs.disk.Calls.{counted, with_refusal};
 ghost use Rattle.base.specs.disk.Disk.{bytes_of, certain, disk_size};
 ghost use Rattle.base.specs.steps.Exact.{AreFree, IsBounded};
@@ -8,6 +8,7 @@ ghost use Rattle.base.specs.steps.ExactNow.{IsExplainedNow};
 ghost use Rattle.base.specs.formats.Geometry.{IsGeometry, block_count};
 ghost use Rattle.base.specs.crash.Imports as numbers;
 ghost use Rattle.base.specs.crash.Imports.{IsImportOf, is_dirty_max_allowed};
+ghost use Rattle.base.specs.crash.CrashRule.{KeepsOwn};
 ghost use Rattle.base.specs.crash.Mount.{IsChainOf};
 ghost use Rattle.base.specs.history.Past.{new_past};
 ghost use Rattle.base.specs.tree.PlacedTrees.{ArePlaced, HoldsTree};
@@ -18,13 +19,15 @@ ghost use Rattle.base.specs.formats.Uberblocks.{IsActive};
 ghost use Rattle.uberblocks.specs.Slots.{IsWithinLimits, fields_of};
 ghost use Rattle.object_maps.specs.ContentsShown.{contents_of};
 ghost use Rattle.object_maps.specs.Pointers.{pointers_of};
-ghost use Rattle.import_replay.specs.ImportRefusals.{CanImport, IsImportRefusal, IsMountRefusal, IsOpenRefusal, IsReadingRefusal, IsReason, IsSyncRefusal};
+ghost use Rattle.import_replay.specs.ImportRefusals.{CanImport, FindsOwn, IsImportRefusal, IsMountRefusal, IsOpenRefusal, IsReadingRefusal, IsReason, IsSyncRefusal};
 ghost use Rattle.import_replay.specs.FreeBlocks.{AreAllNamed};
 ghost use Rattle.import_replay.specs.ImportStops.{IsImportStopped, IsOpenStopped};
 ghost use Rattle.import_replay.specs.ImportSyncs.{IsImportLabelled, IsImportSynced, IsImportWritten, config_of_import, uberblock_of_import};
+ghost use Rattle.import_replay.specs.ImportViews.{EndsFound, KeepsFound};
 ghost use Rattle.import_replay.specs.Labelled.{HasOtherSlots};
 ghost use Rattle.import_replay.specs.LabelSyncs.{HasSameBlocks, after_calls, is_even};
 ghost use Rattle.import_replay.specs.Mounts.{IsImport, IsMountedFrom, frame_of_import, shown_of_import};
+ghost use Rattle.import_replay.specs.RunStarts.{StartsRun};
 
 use crate::finding::{Found, copy_name};
 use crate::free_blocks::free_set;
@@ -86,6 +89,15 @@ pub fn import<D: SectorDevice>(
         → IfOk result (λ i. IsActive (bytes_of (D.disk i.device).now)
         (uberblock_of_import moment i.mounted)) }
 
+    // A disk that its pool alone wrote, or that a run of it gave up, is the pool's own from the first good flush on, whatever is
+    // answered and wherever a crash stops it: each moment mounts what the disk mounted then. Where the answer is Ok, a run
+    // starts from just that.
+    ensures own { IsTrue D.keeps_model → MatchResult result
+        (λ i. KeepsOwn (D.disk device) (D.disk i.device))
+        (λ e. KeepsOwn (D.disk device) (D.disk e.1)) }
+    ensures starts { IsTrue D.keeps_model
+        → IfOk result (λ i. StartsRun (D.disk device) dirty_max (D.disk i.device) i.mounted) }
+
     // On each device what is shown of it is exact, with a past in which nothing happened.
     ensures explained { IfOk result (λ i. (created : ℕ) → IsExplainedNow (shown_of_import i.mounted)
         (new_past (contents_of i.mounted.contents) created dirty_max)) }
@@ -99,6 +111,7 @@ pub fn import<D: SectorDevice>(
     ensures counted { IfErr result (λ e. D.refused e.1 ≡ with_refusal e.0 (D.refused device)) }
     ensures reason { IsTrue D.keeps_model
         → IfErr result (λ e. IsReason (bytes_of (D.disk device).now) e.0) }
+    ensures found { IsTrue D.keeps_model → IfErr result (λ e. FindsOwn (D.disk device) e.0) }
     ensures given_back { IfErr result (λ e. D.size e.1 ≡ D.size device) }
 
     // A refusal by size or limit leaves the device as it was, and one before the first write the disk as it was and flushed.
@@ -143,6 +156,9 @@ fn mount<D: SectorDevice>(
         (IsImport (bytes_of (D.disk device.old).now) (bytes_of (D.disk device.new).now) dirty_max) }
     ensures written { IsTrue D.keeps_model
         → IfOk result (IsImportWritten (D.disk device.old) (D.disk device.new) moment) }
+    ensures own { IsTrue D.keeps_model → KeepsOwn (D.disk device.old) (D.disk device.new) }
+    ensures starts { IsTrue D.keeps_model
+        → IfOk result (StartsRun (D.disk device.old) dirty_max (D.disk device.new)) }
 {
     let geometry = Geometry::of(device.sectors())?;
     if dirty_max < LEAST_DIRTY_MAX || GREATEST_DIRTY_MAX < dirty_max {
@@ -180,6 +196,9 @@ fn mount_pool<D: SectorDevice>(
         (IsImport (bytes_of (D.disk device.old).now) (bytes_of (D.disk device.new).now) dirty_max) }
     ensures written { IsTrue D.keeps_model
         → IfOk result (IsImportWritten (D.disk device.old) (D.disk device.new) moment) }
+    ensures own { IsTrue D.keeps_model → KeepsOwn (D.disk device.old) (D.disk device.new) }
+    ensures starts { IsTrue D.keeps_model
+        → IfOk result (StartsRun (D.disk device.old) dirty_max (D.disk device.new)) }
 {
     device.flush()?;
     let (found, loaded) = read_pool(alloc, device, geometry)?;
@@ -240,6 +259,13 @@ fn open_pool<D: SectorDevice>(
         → OnOk result (HasOtherSlots geometry (found.uberblock.group.0 + 4)
         (bytes_of (D.disk device.old).now) (bytes_of (D.disk device.new).now)) }
     ensures settled { IsTrue D.keeps_model → OnOk result ((D.disk device.new).now.unflushed ≡ []) }
+    ensures views { IsTrue D.keeps_model
+        → KeepsFound geometry (fields_of found.uberblock) found.name found.first
+        (D.disk device.old) (D.disk device.new) }
+    ensures behind { IsTrue D.keeps_model
+        → IfOk result (λ m. EndsFound geometry (fields_of found.uberblock) found.name found.first
+        (config_of_import m) (uberblock_of_import moment m)
+        (D.disk device.old) (D.disk device.new)) }
 {
     let mut free = free_set(alloc, geometry, &loaded.tree)?;
     let log_block = free.take_lowest()?;

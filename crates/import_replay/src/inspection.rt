@@ -1,22 +1,19 @@
-//! What an import would mount, told by reads alone.
+//! What an import would mount, told by reads alone. No object's bytes stay in memory: what is told are the lengths.
 
 ghost use Rattle.std.specs.Prelude.{◌≡◌, IfErr, IfOk, IsTrue, OnOk};
 ghost use Rattle.base.specs.disk.Disk.{bytes_of};
 ghost use Rattle.base.specs.formats.Geometry.{IsGeometry, block_count};
-ghost use Rattle.base.specs.steps.Exact.{IsBounded};
 ghost use Rattle.device_model.specs.Reading.{OnlyReads};
 ghost use Rattle.uberblocks.specs.Slots.{fields_of};
-ghost use Rattle.object_maps.specs.ContentsShown.{contents_of};
-ghost use Rattle.import_replay.specs.ImportRefusals.{IsInspectionRefusal, IsReason};
-ghost use Rattle.import_replay.specs.Inspections.{AgreesWithImports, IsInspectedFrom, IsInspectionOf};
+ghost use Rattle.import_replay.specs.ImportRefusals.{FindsOwn, IsInspectionRefusal, IsReason};
+ghost use Rattle.import_replay.specs.Inspections.{AgreesWithImports, IsInspectedFrom, IsInspectionOf, IsToldOfBounded};
 
 use crate::finding::Found;
 use crate::free_blocks::free_set;
-use crate::reading::read_pool;
-use base::{Group, PoolError, PoolName};
+use crate::reading::survey_pool;
+use base::{Group, ObjectId, PoolError, PoolName};
 use device_model::SectorDevice;
 use labels::Geometry;
-use object_maps::{Contents, Loaded};
 use space::FreeSet;
 use std::alloc::Global;
 
@@ -34,16 +31,24 @@ pub struct Inspected {
     pub used: u64,
     /// How many log records an import would apply.
     pub records: u64,
-    /// The name and the objects.
-    pub contents: Contents,
+    pub name: PoolName,
+    /// The numbers of the objects, rising, each with the object's length in bytes.
+    pub lengths: Vec<(ObjectId, u64)>,
 }
 
 impl Inspected {
     /// The name of the pool.
     pub fn name(&self) -> &PoolName
-        ensures { result.now ≡ self.now.contents.name }
+        ensures { result.now ≡ self.now.name }
     {
-        &self.contents.name
+        &self.name
+    }
+
+    /// The objects by rising number, each with its length in bytes.
+    pub fn objects(&self) -> &[(ObjectId, u64)]
+        ensures { result.now ≡ self.now.lengths.items }
+    {
+        self.lengths.as_slice()
     }
 }
 
@@ -64,25 +69,32 @@ pub fn inspect<D: SectorDevice>(alloc: Global, device: &mut D) -> Result<Inspect
         → IfOk result (IsInspectionOf (bytes_of (D.disk device.old).now)) }
     ensures agrees { IsTrue D.keeps_model
         → IfOk result (AgreesWithImports (bytes_of (D.disk device.old).now)) }
-    ensures bounded { IfOk result (λ i. IsBounded (contents_of i.contents)) }
+    ensures bounded { IfOk result IsToldOfBounded }
     ensures made { OnOk result (IsGeometry (D.size device.old)) }
 
     ensures refused { IfErr result (IsInspectionRefusal (D.size device.old)) }
     ensures reason { IsTrue D.keeps_model
         → IfErr result (IsReason (bytes_of (D.disk device.old).now)) }
+    ensures found { IsTrue D.keeps_model → IfErr result (FindsOwn (D.disk device.old)) }
     ensures untouched { IfErr result
         (λ e. e ≡ PoolError.BadGeometry → device.new ≡ device.old) }
 {
     let geometry = Geometry::of(device.sectors())?;
-    let (found, loaded) = read_pool(alloc, device, geometry)?;
-    let free = free_set(alloc, geometry, &loaded.tree)?;
-    Ok(tell(geometry, found, loaded, &free))
+    let (found, tree) = survey_pool(alloc, device, geometry)?;
+    let free = free_set(alloc, geometry, &tree)?;
+    let lengths = tree.list_objects(alloc)?;
+    Ok(tell(geometry, found, lengths, &free))
 }
 
-// What is told of a pool that was read, with its free blocks.
-fn tell(geometry: Geometry, found: Found, loaded: Loaded, free: &FreeSet) -> Inspected
+// What is told of a pool that was read, with the lengths of its objects and its free blocks.
+fn tell(
+    geometry: Geometry,
+    found: Found,
+    lengths: Vec<(ObjectId, u64)>,
+    free: &FreeSet,
+) -> Inspected
     requires { free.now.blocks ≡ block_count geometry }
-    ensures { IsInspectedFrom (fields_of found.uberblock) found.name loaded.slots.items
+    ensures { IsInspectedFrom (fields_of found.uberblock) found.name lengths.items
         (block_count geometry) free.now.free result }
 {
     let blocks = geometry.blocks();
@@ -93,6 +105,7 @@ fn tell(geometry: Geometry, found: Found, loaded: Loaded, free: &FreeSet) -> Ins
         blocks,
         used: blocks - free.free(),
         records: 0,
-        contents: Contents::of(found.name, loaded.slots),
+        name: found.name,
+        lengths,
     }
 }

@@ -8,6 +8,7 @@ ghost use Rattle.base.specs.disk.SyncOrder.{import_calls};
 ghost use Rattle.sync.specs.Runs.{call_count};
 ghost use Rattle.uberblocks.specs.Slots.{IsWithinLimits, fields_of};
 ghost use Rattle.import_replay.specs.ImportRefusals.{IsSyncRefusal};
+ghost use Rattle.import_replay.specs.ImportViews.{EndsBehind, KeepsViews};
 ghost use Rattle.import_replay.specs.Labelled.{HasOtherSlots, HoldLabels};
 ghost use Rattle.import_replay.specs.LabelSyncs.{HasSameBlocks, IsLabelSync, IsStoppedSync, after_calls, is_even};
 
@@ -50,6 +51,11 @@ pub(crate) fn sync_labels<D: SectorDevice>(
         → OnOk result (HasOtherSlots geometry uberblock.now.group.0
         (bytes_of (D.disk device.old).now) (bytes_of (D.disk device.new).now)) }
     ensures settled { IsTrue D.keeps_model → OnOk result ((D.disk device.new).now.unflushed ≡ []) }
+    ensures views { IsTrue D.keeps_model → KeepsViews geometry config.now (fields_of uberblock.now)
+        first (D.disk device.old) (D.disk device.new) }
+    ensures behind { IsTrue D.keeps_model
+        → OnOk result (EndsBehind geometry config.now (fields_of uberblock.now) first
+        (D.disk device.old) (D.disk device.new)) }
 {
     let mut run = label_run(alloc, geometry, uberblock, config, first);
     while let SyncCall::More = run.next(device)? {}

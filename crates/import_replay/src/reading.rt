@@ -1,4 +1,5 @@
-//! What an import and an inspection read: the pool that a device has, and the tree under its root.
+//! What an import and an inspection read: the pool that a device has, and the tree under its root. An import takes the
+//! bytes of the objects with it, an inspection their lengths alone.
 
 ghost use Rattle.std.specs.Prelude.{◌≡◌, IfErr, IfOk, IsTrue};
 ghost use Rattle.base.specs.disk.Disk.{bytes_of};
@@ -8,17 +9,17 @@ ghost use Rattle.uberblocks.specs.Slots.{fields_of};
 ghost use Rattle.import_replay.specs.Found.{HasFirstStage};
 ghost use Rattle.import_replay.specs.ImportRefusals.{IsReason, IsWalkRefusal};
 ghost use Rattle.import_replay.specs.LabelSyncs.{is_even};
-ghost use Rattle.import_replay.specs.ReadPools.{IsLoadedFor, IsReadPool};
+ghost use Rattle.import_replay.specs.ReadPools.{IsLoadedFor, IsReadPool, IsSurveyedFor, frame_with};
 
 use crate::finding::{Found, find_pool};
 use base::PoolError;
 use checked_blocks::Frame;
 use device_model::SectorDevice;
 use labels::Geometry;
-use object_maps::{Loaded, load};
+use object_maps::{Loaded, Tree, load, survey};
 use std::alloc::Global;
 
-// The pool of a device, with its tree and objects. Nothing is written, and nothing is flushed.
+// The pool of a device, with its tree and the bytes of its objects. Nothing is written, and nothing is flushed.
 pub(crate) fn read_pool<D: SectorDevice>(
     alloc: Global,
     device: &mut D,
@@ -40,13 +41,40 @@ pub(crate) fn read_pool<D: SectorDevice>(
         → IfErr result (IsReason (bytes_of (D.disk device.old).now)) }
 {
     let found = find_pool(alloc, device, geometry)?;
-    let count = geometry.blocks();
-    let frame = Frame::new(
-        found.uberblock.version,
-        found.uberblock.guid,
-        count,
-        found.uberblock.group,
-    );
+    let frame = frame_of(&found, geometry);
     let loaded = load(alloc, device, &frame, found.uberblock.root)?;
     Ok((found, loaded))
+}
+
+// The pool of a device, with its tree, by the same reads; no object's bytes stay. Nothing is written, and nothing is flushed.
+pub(crate) fn survey_pool<D: SectorDevice>(
+    alloc: Global,
+    device: &mut D,
+    geometry: Geometry,
+) -> Result<(Found, Tree), PoolError>
+    requires sized { D.size device.old ≡ geometry }
+    requires geometry { IsGeometry geometry }
+    ensures reads { OnlyReads D.SectorDevice result device.old device.new }
+    ensures refused { IfErr result IsWalkRefusal }
+    ensures surveyed { IfOk result (λ r. IsSurveyedFor D.keeps_model
+        (bytes_of (D.disk device.old).now) geometry (fields_of r.0.uberblock) r.0.name r.1) }
+    ensures reason { IsTrue D.keeps_model
+        → IfErr result (IsReason (bytes_of (D.disk device.old).now)) }
+{
+    let found = find_pool(alloc, device, geometry)?;
+    let frame = frame_of(&found, geometry);
+    let tree = survey(alloc, device, &frame, found.uberblock.root)?;
+    Ok((found, tree))
+}
+
+// The frame of the blocks of a pool that was found.
+fn frame_of(found: &Found, geometry: Geometry) -> Frame
+    ensures { result ≡ frame_with (fields_of found.now.uberblock) (block_count geometry) }
+{
+    Frame::new(
+        found.uberblock.version,
+        found.uberblock.guid,
+        geometry.blocks(),
+        found.uberblock.group,
+    )
 }

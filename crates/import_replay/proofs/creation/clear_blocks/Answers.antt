@@ -3,6 +3,7 @@ use Rattle.std.proofs.lemmas.List.{length-replicate}
 use Rattle.base.specs.disk.Disk.{bytes_of}
 use Rattle.base.specs.formats.Geometry.{block_count}
 use Rattle.import_replay.specs.Cleared.{AreBlocksCleared, AreTailsCleared}
+use Rattle.import_replay.proofs.FirstWrites.{zeros_written}
 use Rattle.import_replay.proofs.LabelWrites.{after_write, block_beside, block_next}
 use Rattle.import_replay.proofs.OutsideWrites.{block_writable, writes_on}
 use Rattle.import_replay.proofs.creation.clear_blocks.Goals as goal
@@ -36,6 +37,9 @@ loop-index-preserved g c =
           (c.loop-index.invariant.outside keeps start so_far) (c.write.ensures.disk keeps) c.block_address.ensures.address
           (length-replicate {A = ℕ} 4096 0)
           (block_writable c.args.geometry c.loop-index.index (omega (arith, c.loop-index-test.true, c.blocks-index-end.ensures)));
+      first = λ keeps t v so_far.
+          zeros_written (g.D.SectorDevice.disk c.loop-index.device) (g.D.SectorDevice.disk c.write.new.self) c.block_address.result 4096 t v (omega arith) (c.in_ok-write.ensures.disk keeps)
+          (c.loop-index.invariant.first keeps t v so_far);
     }
 
 pub returns-clause-cleared : goal.returns-clause-cleared

@@ -3,6 +3,7 @@ use Rattle.std.specs.Prelude.{IsTrue}
 use Rattle.base.specs.disk.Disk.{Disk, bytes_of}
 use Rattle.import_replay.specs.Cleared.{AreTailsCleared, AreBlocksCleared}
 use Rattle.import_replay.specs.Outside.{WritesPoolBytes}
+use Rattle.import_replay.specs.OwnCreations.{AddsZeros}
 use Rattle.import_replay.proofs.creation.clear_blocks.Given as goal
 
 -- the device keeps its size, and refused no call; where it keeps the model, this is what its labels hold so far
@@ -14,4 +15,5 @@ invariant-loop-index g l = record {
   blocks : IsTrue g.D.SectorDevice.keeps_model → AreBlocksCleared l.index (bytes_of (g.D.SectorDevice.disk l.device).now);
   tails : IsTrue g.D.SectorDevice.keeps_model → AreTailsCleared l.geometry 4 (bytes_of (g.D.SectorDevice.disk l.fn.device).now) → AreTailsCleared l.geometry 4 (bytes_of (g.D.SectorDevice.disk l.device).now);
   outside : IsTrue g.D.SectorDevice.keeps_model → (start : Disk) → WritesPoolBytes l.geometry start (g.D.SectorDevice.disk l.fn.device) → WritesPoolBytes l.geometry start (g.D.SectorDevice.disk l.device);
+  first : IsTrue g.D.SectorDevice.keeps_model → AddsZeros (g.D.SectorDevice.disk l.fn.device) (g.D.SectorDevice.disk l.device);
 }

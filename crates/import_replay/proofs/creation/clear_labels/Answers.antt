@@ -1,5 +1,6 @@
 use Rattle.std.proofs.Common.{ℕ, ◌+◌, ◌∙◌, List, length, ap, arith}
 use Rattle.import_replay.specs.Cleared.{AreTailsCleared}
+use Rattle.import_replay.proofs.FirstWrites.{tail_written}
 use Rattle.import_replay.proofs.LabelWrites.{after_write, cleared_next, length-zeros}
 use Rattle.import_replay.proofs.OutsideWrites.{label_writable, writes_on}
 use Rattle.import_replay.proofs.creation.clear_labels.Goals as goal
@@ -27,4 +28,7 @@ loop-label-preserved g c = record {
       (c.loop-label.invariant.outside keeps start so_far) (c.write.ensures.disk keeps) (ap (λ (k : ℕ). k + 16384) c.label_place.ensures.place)
       (ap (λ (l : List ℕ). length l) c.zero_tail-zeros.ensures ∙ length-zeros 245760)
       (label_writable c.args.geometry c.loop-label.label 16384 245760 c.loop-label-test.true (omega arith) (omega arith));
+  first = λ keeps t v so_far.
+      tail_written (g.D.SectorDevice.disk c.loop-label.device) (g.D.SectorDevice.disk c.write.new.self) _ 245760 t _ v (omega arith) c.zero_tail-zeros.ensures (c.in_ok-write.ensures.disk keeps)
+      (c.loop-label.invariant.first keeps t v so_far);
 }

@@ -3,6 +3,7 @@ use Rattle.std.specs.Prelude.{IsTrue}
 use Rattle.base.specs.disk.Disk.{Disk, bytes_of}
 use Rattle.import_replay.specs.Cleared.{AreTailsCleared}
 use Rattle.import_replay.specs.Outside.{WritesPoolBytes}
+use Rattle.import_replay.specs.OwnCreations.{AddsZeros}
 use Rattle.import_replay.proofs.creation.clear_labels.Given as goal
 
 -- the device keeps its size, and refused no call; where it keeps the model, this is what its labels hold so far
@@ -13,4 +14,5 @@ invariant-loop-label g l = record {
   refused : g.D.SectorDevice.refused l.device ≡ g.D.SectorDevice.refused l.fn.device;
   cleared : IsTrue g.D.SectorDevice.keeps_model → AreTailsCleared l.geometry l.label (bytes_of (g.D.SectorDevice.disk l.device).now);
   outside : IsTrue g.D.SectorDevice.keeps_model → (start : Disk) → WritesPoolBytes l.geometry start (g.D.SectorDevice.disk l.fn.device) → WritesPoolBytes l.geometry start (g.D.SectorDevice.disk l.device);
+  first : IsTrue g.D.SectorDevice.keeps_model → AddsZeros (g.D.SectorDevice.disk l.fn.device) (g.D.SectorDevice.disk l.device);
 }

@@ -1,8 +1,12 @@
 use Rattle.std.proofs.Common.{◌∙◌, List, ℕ, refl, sym, subst}
-use Rattle.base.specs.disk.Disk.{bytes_of}
+use Rattle.base.specs.disk.Disk.{bytes_of, moments}
 use Rattle.base.specs.formats.Geometry.{IsGeometry}
 use Rattle.import_replay.specs.Creations.{IsNewPool, IsCreatedOn}
 use Rattle.import_replay.specs.Labelled.{IsLabelled}
+use Rattle.import_replay.specs.Outside.{WritesPoolBytes}
+use Rattle.import_replay.specs.OwnCreations.{IsFirstDisk, first_view}
+use Rattle.import_replay.proofs.OwnCreations.{own_from}
+use Rattle.import_replay.proofs.OutsideWrites.{none_outside}
 use Rattle.import_replay.proofs.NewLabels.{created_from, new_pool_from, settled_from}
 use Rattle.import_replay.proofs.creation.create.Goals as goal
 
@@ -22,3 +26,19 @@ returns-in-Ok-initialize-clause-written g c = λ keeps.
     (new_pool_from c.in-Ok.geometry _ c.args.name.now c.args.guid c.args.moment (subst IsGeometry (sym c.in-Ok.ensures.size) (c.in-Ok.ensures.ok.0 refl))
     (g.met.D.SectorDevice.sized keeps c.initialize.new.device ∙ c.initialize.ensures.calls.size ∙ sym c.sectors.ensures ∙ sym c.in-Ok.ensures.size)
     (subst (λ (l : List ℕ). IsLabelled c.in-Ok.geometry l c.args.guid c.args.moment (bytes_of (g.D.SectorDevice.disk c.initialize.new.device).now)) c.in-Some.ensures.name.0 (c.in-Ok-initialize.ensures.labels keeps)))
+
+pub returns-in-Ok-initialize-clause-own : goal.returns-in-Ok-initialize-clause-own
+returns-in-Ok-initialize-clause-own g c = λ keeps earlier.
+    let now = g.D.SectorDevice.disk c.initialize.new.device in
+    let size : ℕ = c.in-Ok.geometry in
+    let t : ℕ = moments (g.D.SectorDevice.disk c.args.device) in
+    own_from size t c.args.guid c.args.moment c.args.name.now now (subst IsGeometry (sym c.in-Ok.ensures.size) (c.in-Ok.ensures.ok.0 refl))
+    (g.met.D.SectorDevice.sized keeps c.initialize.new.device ∙ c.initialize.ensures.calls.size ∙ sym c.sectors.ensures ∙ sym c.in-Ok.ensures.size) (c.in-Ok-initialize.ensures.settled keeps)
+    (subst (λ (l : List ℕ). IsLabelled size l c.args.guid c.args.moment (bytes_of now.now)) c.in-Some.ensures.name.0 (c.in-Ok-initialize.ensures.labels keeps))
+    (subst (λ (l : List ℕ). IsFirstDisk size t (first_view l c.args.guid c.args.moment size) now) c.in-Some.ensures.name.0 (c.in-Ok-initialize.ensures.handed keeps earlier))
+
+pub returns-in-Ok-initialize-clause-outside : goal.returns-in-Ok-initialize-clause-outside
+returns-in-Ok-initialize-clause-outside g c = λ keeps.
+    let start = g.D.SectorDevice.disk c.args.device in
+    let now = g.D.SectorDevice.disk c.initialize.new.device in
+    subst (λ (n : ℕ). WritesPoolBytes n start now) (c.in-Ok.ensures.size ∙ c.sectors.ensures) (c.initialize.ensures.outside keeps start (none_outside c.in-Ok.geometry start))

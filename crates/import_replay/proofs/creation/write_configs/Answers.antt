@@ -1,7 +1,10 @@
-use Rattle.std.proofs.Common.{ℕ, ◌+◌, ◌∙◌, List, length, ap, arith}
+use Rattle.std.proofs.Common.{ℕ, ◌≡◌, ◌+◌, ◌∙◌, List, length, ap, arith, inl, inr, subst, sym}
+use Rattle.labels.specs.Configs.{config_block}
 use Rattle.import_replay.specs.Creations.{first_config}
 use Rattle.import_replay.specs.Cleared.{IsCleared}
 use Rattle.import_replay.specs.Labelled.{HoldConfig}
+use Rattle.import_replay.specs.OwnCreations.{AreConfigsHanded}
+use Rattle.import_replay.proofs.FirstWrites.{config_bytes_are, config_handed, first_written, written_later}
 use Rattle.import_replay.proofs.LabelWrites.{after_write, first_config_block, config_next, config_beside}
 use Rattle.import_replay.proofs.OutsideWrites.{label_writable, writes_on}
 use Rattle.import_replay.proofs.creation.write_configs.Goals as goal
@@ -34,4 +37,23 @@ loop-label-preserved g c = record {
       (c.loop-label.invariant.outside keeps start so_far) (c.write.ensures.disk keeps) c.config_place.ensures.place
       (ap (λ (l : List ℕ). length l) c.as_bytes.ensures.bytes ∙ c.as_bytes.ensures.length)
       (label_writable c.args.geometry c.loop-label.label 16384 4096 c.loop-label-test.true (omega arith) (omega arith));
+  first = λ keeps t v same so_far.
+      first_written (g.D.SectorDevice.disk c.loop-label.device) (g.D.SectorDevice.disk c.write.new.self) _ t _ v (c.in_ok-write.ensures.disk keeps)
+      (inr (inl (config_bytes_are _ _ c.args.name _ c.args.guid c.size.result c.args.geometry c.as_bytes.ensures.bytes c.encode-block.ensures.bytes c.new-config.ensures c.size.ensures.size ∙ sym same)))
+      (c.loop-label.invariant.first keeps t v same so_far);
+  handed = λ keeps t began.
+      let long = g.met.D.SectorDevice.sized keeps c.loop-label.device ∙ c.loop-label.invariant.sized in
+      let old = g.D.SectorDevice.disk c.loop-label.device in
+      let new = g.D.SectorDevice.disk c.write.new.self in
+      let so_far = c.loop-label.invariant.handed keeps t began in (
+        written_later old new _ t _ (c.in_ok-write.ensures.disk keeps) so_far.0,
+        config_handed c.args.geometry c.requires.geometry t c.loop-label.label old new long _ _ _ (c.in_ok-write.ensures.disk keeps)
+            (config_bytes_are _ _ c.args.name _ c.args.guid c.size.result c.args.geometry c.as_bytes.ensures.bytes c.encode-block.ensures.bytes c.new-config.ensures c.size.ensures.size) c.loop-label-test.true so_far.0
+            (ap (λ (l : List ℕ). length l) c.as_bytes.ensures.bytes ∙ c.as_bytes.ensures.length) c.config_place.ensures.place so_far.1,
+      );
 }
+
+pub returns-clause-handed : goal.returns-clause-handed
+returns-clause-handed g c = λ keeps t began.
+    let end : c.loop-label.label ≡ 4 = omega arith in
+    subst (λ (n : ℕ). AreConfigsHanded c.args.geometry n t (config_block (first_config c.args.name c.args.guid c.args.geometry)) (g.D.SectorDevice.disk c.loop-label.device)) end (c.loop-label.invariant.handed keeps t began).1

@@ -1,9 +1,12 @@
-use Rattle.std.proofs.Common.{ℕ, ◌≡◌, ◌+◌, ◌∙◌, ap, subst, arith}
+use Rattle.std.proofs.Common.{ℕ, ◌≡◌, ◌+◌, ◌∙◌, ap, subst, sym, inr, arith}
+use Rattle.uberblocks.specs.Slots.{slot_bytes}
 use Rattle.base.specs.disk.Disk.{bytes_of}
 use Rattle.base.specs.formats.Geometry.{slot_place}
 use Rattle.import_replay.specs.Creations.{first_config, first_uberblock}
 use Rattle.import_replay.specs.Cleared.{IsCleared}
 use Rattle.import_replay.specs.Labelled.{HoldConfig, HoldUberblock}
+use Rattle.import_replay.specs.OwnCreations.{AreSlotsHanded}
+use Rattle.import_replay.proofs.FirstWrites.{configs_behind, first_written, slot_handed, written_later}
 use Rattle.import_replay.proofs.LabelWrites.{after_write, uberblock_next, uberblock_behind, uberblock_beside}
 use Rattle.import_replay.proofs.OutsideWrites.{first_slot_writable, writes_on}
 use Rattle.import_replay.proofs.creation.write_uberblocks.Goals as goal
@@ -39,6 +42,22 @@ loop-label-preserved g c = record {
       (c.loop-label.invariant.outside keeps start so_far) (c.write.ensures.disk keeps) (c.slot_place.ensures.place ∙ ap (slot_place c.args.geometry c.loop-label.label) c.slot.ensures)
       c.encode-bytes.ensures.uberblock.size
       (first_slot_writable c.args.geometry c.loop-label.label c.loop-label-test.true);
+  first = λ keeps t v same so_far.
+      first_written (g.D.SectorDevice.disk c.loop-label.device) (g.D.SectorDevice.disk c.write.new.self) _ t _ v (c.in_ok-write.ensures.disk keeps) (inr (inr (c.encode-bytes.ensures.bytes ∙ sym same)))
+      (c.loop-label.invariant.first keeps t v same so_far);
+  handed = λ keeps t began.
+      let long = g.met.D.SectorDevice.sized keeps c.loop-label.device ∙ c.loop-label.invariant.sized in
+      let old = g.D.SectorDevice.disk c.loop-label.device in
+      let new = g.D.SectorDevice.disk c.write.new.self in
+      let so_far = c.loop-label.invariant.handed keeps t began in (
+        written_later old new _ t _ (c.in_ok-write.ensures.disk keeps) so_far.0,
+        slot_handed c.args.geometry c.requires.geometry t c.loop-label.label old new long _ _ _ (c.in_ok-write.ensures.disk keeps) c.encode-bytes.ensures.bytes c.loop-label-test.true so_far.0
+            c.encode-bytes.ensures.uberblock.size (c.slot_place.ensures.place ∙ ap (slot_place c.args.geometry c.loop-label.label) c.slot.ensures) so_far.1,
+      );
+  configs_handed = λ keeps t config held.
+      let long = g.met.D.SectorDevice.sized keeps c.loop-label.device ∙ c.loop-label.invariant.sized in
+      configs_behind c.args.geometry t c.loop-label.label (g.D.SectorDevice.disk c.loop-label.device) (g.D.SectorDevice.disk c.write.new.self) _ _ config c.requires.geometry long (c.in_ok-write.ensures.disk keeps)
+      c.encode-bytes.ensures.uberblock.size c.loop-label-test.true (c.slot_place.ensures.place ∙ ap (slot_place c.args.geometry c.loop-label.label) c.slot.ensures) (c.loop-label.invariant.configs_handed keeps t config held);
 }
 
 pub returns-clause-labels : goal.returns-clause-labels
@@ -50,3 +69,8 @@ returns-clause-labels g c = λ keeps cleared name held.
         subst (λ (n : ℕ). HoldUberblock c.args.geometry n (first_uberblock c.args.guid c.args.moment) (bytes_of (g.D.SectorDevice.disk c.loop-label.device).now)) end (c.loop-label.invariant.uberblocks keeps),
       ),
     )
+
+pub returns-clause-handed : goal.returns-clause-handed
+returns-clause-handed g c = λ keeps t began.
+    let end : c.loop-label.label ≡ 4 = omega arith in
+    subst (λ (n : ℕ). AreSlotsHanded c.args.geometry n t (slot_bytes (first_uberblock c.args.guid c.args.moment)) (g.D.SectorDevice.disk c.loop-label.device)) end (c.loop-label.invariant.handed keeps t began).1

@@ -1,10 +1,12 @@
-use Rattle.std.proofs.Common.{ℕ, ◌≡◌, List}
+use Rattle.std.proofs.Common.{ℕ, ◌≡◌, ◌≤◌, List}
 use Rattle.std.specs.Prelude.{IsTrue}
-use Rattle.base.specs.disk.Disk.{Disk, bytes_of}
+use Rattle.base.specs.disk.Disk.{Disk, bytes_of, moments}
 use Rattle.import_replay.specs.Creations.{first_config, first_uberblock}
 use Rattle.import_replay.specs.Cleared.{IsCleared}
 use Rattle.import_replay.specs.Labelled.{HoldConfig, HoldUberblock}
 use Rattle.import_replay.specs.Outside.{WritesPoolBytes}
+use Rattle.uberblocks.specs.Slots.{slot_bytes}
+use Rattle.import_replay.specs.OwnCreations.{AddsSlot, AreConfigsHanded, AreSlotsHanded}
 use Rattle.import_replay.proofs.creation.write_uberblocks.Given as goal
 
 -- the device keeps its size, and refused no call; where it keeps the model, this is what its labels hold so far
@@ -18,4 +20,9 @@ invariant-loop-label g l = record {
       → HoldConfig l.geometry 4 (first_config name l.guid l.geometry) (bytes_of (g.D.SectorDevice.disk l.device).now);
   uberblocks : IsTrue g.D.SectorDevice.keeps_model → HoldUberblock l.geometry l.label (first_uberblock l.guid l.moment) (bytes_of (g.D.SectorDevice.disk l.device).now);
   outside : IsTrue g.D.SectorDevice.keeps_model → (start : Disk) → WritesPoolBytes l.geometry start (g.D.SectorDevice.disk l.fn.device) → WritesPoolBytes l.geometry start (g.D.SectorDevice.disk l.device);
+  first : IsTrue g.D.SectorDevice.keeps_model → AddsSlot (slot_bytes (first_uberblock l.guid l.moment)) (g.D.SectorDevice.disk l.fn.device) (g.D.SectorDevice.disk l.device);
+  handed : IsTrue g.D.SectorDevice.keeps_model → (t : ℕ) → t ≤ moments (g.D.SectorDevice.disk l.fn.device)
+      → (t ≤ moments (g.D.SectorDevice.disk l.device)) × AreSlotsHanded l.geometry l.label t (slot_bytes (first_uberblock l.guid l.moment)) (g.D.SectorDevice.disk l.device);
+  configs_handed : IsTrue g.D.SectorDevice.keeps_model → (t : ℕ) (config : List ℕ) → AreConfigsHanded l.geometry 4 t config (g.D.SectorDevice.disk l.fn.device)
+      → AreConfigsHanded l.geometry 4 t config (g.D.SectorDevice.disk l.device);
 }

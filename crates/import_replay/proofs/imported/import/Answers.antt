@@ -5,6 +5,7 @@ use Rattle.base.specs.steps.ExactNow.{IsExplainedNow}
 use Rattle.base.specs.history.Past.{new_past}
 use Rattle.object_maps.specs.ContentsShown.{contents_of}
 use Rattle.import_replay.specs.Mounts.{shown_of_import}
+use Rattle.import_replay.proofs.OwnRefusals.{finds_own}
 use Rattle.import_replay.proofs.ShownMounts.{labels_show}
 use Rattle.import_replay.proofs.imported.import.Goals as goal
 
@@ -33,3 +34,6 @@ pub invariant_of-result-clause-explained : goal.invariant_of-result-clause-expla
 invariant_of-result-clause-explained g c =
     let m = c.in-Ok.mounted in
     ∣ subst (λ (limit : ℕ). (created : ℕ) → IsExplainedNow (shown_of_import m) (new_past (contents_of m.contents) created limit)) (sym c.in-Ok.ensures.limit) c.in-Ok.ensures.explained ∣₁
+
+pub returns-in-Err-clause-found : goal.returns-in-Err-clause-found
+returns-in-Err-clause-found g c = λ keeps. finds_own (g.D.SectorDevice.disk c.args.device) c.in-Err.error (c.in-Err.ensures.reason keeps)

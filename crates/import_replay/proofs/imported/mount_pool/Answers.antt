@@ -1,5 +1,5 @@
 use Rattle.std.proofs.Common.{ℕ, Bool, List, sym, subst, ◌∙◌}
-use Rattle.std.specs.Prelude.{OnOk}
+use Rattle.std.specs.Prelude.{IfOk, OnOk}
 use Rattle.base.specs.disk.Disk.{Disk, bytes_of}
 use Rattle.base.specs.formats.Names.{IsName}
 use Rattle.base.specs.formats.Uberblocks.{Uberblock}
@@ -10,10 +10,14 @@ use Rattle.object_maps.specs.declared.tree.Tree.{Tree}
 use Rattle.object_maps.specs.ContentsShown.{contents_of}
 use Rattle.import_replay.specs.declared.mounted.Mounted.{Mounted}
 use Rattle.import_replay.specs.LabelSyncs.{HasSameBlocks, is_even}
+use Rattle.labels.specs.declared.stage.Stage.{Stage}
 use Rattle.import_replay.specs.Found.{HasFirstStage}
+use Rattle.import_replay.specs.ImportSyncs.{config_of_import, uberblock_of_import}
+use Rattle.import_replay.specs.ImportViews.{EndsFound, KeepsFound}
 use Rattle.import_replay.specs.ImportRefusals.{IsReason}
 use Rattle.import_replay.proofs.Configs.{err_both, err_weaker, ok_weaker, ok_both, ok_on}
 use Rattle.import_replay.proofs.MountedPools.{all_blocks, is_bounded, is_explained, is_import}
+use Rattle.import_replay.proofs.OwnImports.{kept_before, kept_own, kept_unwritten, starts_run}
 use Rattle.import_replay.proofs.ReadPools.{flushed, read_behind_flush, sound_read}
 use Rattle.import_replay.proofs.Reasons.{reason-many, reason-open}
 use Rattle.import_replay.proofs.StoppedImports.{stopped_import}
@@ -114,3 +118,41 @@ returns-clause-written g c = λ keeps.
     ok_written old _ mid _ size u name slots tree c.args.dirty_max c.args.moment even c.open_pool.result (c.read_pool.ensures.reads.disk keeps) flushes read.long same_long
     read.pool.active first read.root c.open_pool.ensures.mounted c.open_pool.ensures.geometry (c.open_pool.ensures.synced keeps) (c.open_pool.ensures.labelled keeps) (c.open_pool.ensures.other_slots keeps)
     (c.open_pool.ensures.settled keeps)
+
+pub returns-in_err-flush-clause-own : goal.returns-in_err-flush-clause-own
+returns-in_err-flush-clause-own g c = λ keeps. kept_before (g.D.SectorDevice.disk c.args.device.now) (g.D.SectorDevice.disk c.flush.new.self) (c.in_err-flush.ensures.disk keeps)
+
+pub returns-in_err-found-clause-own : goal.returns-in_err-found-clause-own
+returns-in_err-found-clause-own g c = λ keeps.
+    kept_unwritten (g.D.SectorDevice.disk c.args.device.now) (g.D.SectorDevice.disk c.flush.new.self) (c.in_ok-flush.ensures.disk keeps) (g.D.SectorDevice.disk c.read_pool.new.device) (c.read_pool.ensures.reads.disk keeps)
+
+pub returns-then-is_past_last-clause-own : goal.returns-then-is_past_last-clause-own
+returns-then-is_past_last-clause-own g c = λ keeps.
+    kept_unwritten (g.D.SectorDevice.disk c.args.device.now) (g.D.SectorDevice.disk c.flush.new.self) (c.in_ok-flush.ensures.disk keeps) (g.D.SectorDevice.disk c.read_pool.new.device) (c.read_pool.ensures.reads.disk keeps)
+
+pub returns-clause-own : goal.returns-clause-own
+returns-clause-own g c = λ keeps.
+    let u : Uberblock = fields_of c.in_ok-found.found.uberblock in
+    let name : List ℕ = c.in_ok-found.found.name in
+    let first : Stage = c.in_ok-found.found.first in
+    let new = g.D.SectorDevice.disk c.open_pool.new.device in
+    kept_own (g.D.SectorDevice.disk c.args.device.now) (g.D.SectorDevice.disk c.flush.new.self) (c.in_ok-flush.ensures.disk keeps) c.args.geometry u name c.in_ok-found.loaded.tree c.in_ok-found.loaded.slots.items
+    first new (c.in_ok-found.ensures.pool keeps) (c.in_ok-found.ensures.first keeps)
+    (subst (λ (d : Disk). KeepsFound c.args.geometry u name first d new) (c.read_pool.ensures.reads.disk keeps) (c.open_pool.ensures.views keeps))
+
+pub returns-clause-starts : goal.returns-clause-starts
+returns-clause-starts g c = λ keeps.
+    let u : Uberblock = fields_of c.in_ok-found.found.uberblock in
+    let name : List ℕ = c.in_ok-found.found.name in
+    let first : Stage = c.in_ok-found.found.first in
+    let size : ℕ = c.args.geometry in
+    let new = g.D.SectorDevice.disk c.open_pool.new.device in
+    let views = subst (λ (d : Disk). KeepsFound size u name first d new) (c.read_pool.ensures.reads.disk keeps) (c.open_pool.ensures.views keeps) in
+    let ends =
+    subst (λ (d : Disk). IfOk c.open_pool.result (λ m. EndsFound size u name first (config_of_import m) (uberblock_of_import c.args.moment m) d new)) (c.read_pool.ensures.reads.disk keeps)
+    (c.open_pool.ensures.behind keeps) in
+    let sized = ok_both c.open_pool.result _ _ c.open_pool.ensures.mounted c.open_pool.ensures.geometry in
+    ok_weaker c.open_pool.result _ _
+    (λ m h. starts_run (g.D.SectorDevice.disk c.args.device.now) (g.D.SectorDevice.disk c.flush.new.self) (c.in_ok-flush.ensures.disk keeps) size u name c.in_ok-found.loaded.tree c.in_ok-found.loaded.slots.items
+    first new (c.in_ok-found.ensures.pool keeps) (c.in_ok-found.ensures.first keeps) views c.args.dirty_max c.args.moment m h.0.0 h.0.1 h.1)
+    (ok_both c.open_pool.result _ _ sized ends)

@@ -20,6 +20,7 @@ use Rattle.import_replay.specs.LabelSyncs.{is_even}
 use Rattle.import_replay.proofs.FreeBlocks.{all_named, lowest_taken}
 use Rattle.import_replay.proofs.LabelCalls.{stopped_same}
 use Rattle.import_replay.proofs.MountedPools.{group-within, import-within, labels_same}
+use Rattle.import_replay.proofs.OwnImports.{ends_found, keeps_found, nothing_found}
 use Rattle.import_replay.proofs.Reasons.{not_both, passed_on}
 use Rattle.import_replay.proofs.imported.open_pool.Goals as goal
 
@@ -109,3 +110,39 @@ returns-in_err-sync_labels-clause-stopped g c = λ keeps.
       stopped = stopped_same size _ config _ (next_uberblock u c.args.moment c.block_address.result) (import_calls 0 even) x old new
           (c.new-config.ensures ∙ (λ i. record config { size = c.size.ensures.size i; name = c.copy_name.ensures.copy i })) refl (c.in_err-sync_labels.ensures.stopped keeps);
     })
+
+pub returns-in_err-free-clause-views : goal.returns-in_err-free-clause-views
+returns-in_err-free-clause-views g c = λ keeps.
+    nothing_found c.args.geometry (fields_of c.args.found.uberblock) c.args.found.name c.args.found.first (g.D.SectorDevice.disk c.args.device.now)
+
+pub returns-in_err-log_block-clause-views : goal.returns-in_err-log_block-clause-views
+returns-in_err-log_block-clause-views g c = λ keeps.
+    nothing_found c.args.geometry (fields_of c.args.found.uberblock) c.args.found.name c.args.found.first (g.D.SectorDevice.disk c.args.device.now)
+
+pub returns-in_err-sync_labels-clause-views : goal.returns-in_err-sync_labels-clause-views
+returns-in_err-sync_labels-clause-views g c = λ keeps.
+    let u : Uberblock = fields_of c.args.found.uberblock in
+    let config : Config = next_config u c.args.found.name c.args.geometry in
+    keeps_found c.args.geometry _ (next_uberblock u c.args.moment c.block_address.result) u c.args.found.name c.args.moment c.block_address.result c.args.found.first
+    (g.D.SectorDevice.disk c.args.device.now) (g.D.SectorDevice.disk c.sync_labels.new.device)
+    (c.new-config.ensures ∙ (λ i. record config { size = c.size.ensures.size i; name = c.copy_name.ensures.copy i })) refl (c.sync_labels.ensures.views keeps)
+
+pub returns-clause-views : goal.returns-clause-views
+returns-clause-views g c = λ keeps.
+    let u : Uberblock = fields_of c.args.found.uberblock in
+    let config : Config = next_config u c.args.found.name c.args.geometry in
+    keeps_found c.args.geometry _ (next_uberblock u c.args.moment c.block_address.result) u c.args.found.name c.args.moment c.block_address.result c.args.found.first
+    (g.D.SectorDevice.disk c.args.device.now) (g.D.SectorDevice.disk c.sync_labels.new.device)
+    (c.new-config.ensures ∙ (λ i. record config { size = c.size.ensures.size i; name = c.copy_name.ensures.copy i })) refl (c.sync_labels.ensures.views keeps)
+
+pub returns-clause-behind : goal.returns-clause-behind
+returns-clause-behind g c = λ keeps.
+    let u : Uberblock = fields_of c.args.found.uberblock in
+    let config : Config = next_config u c.args.found.name c.args.geometry in
+    let told : Config = record { guid = u.guid; group = u.group + 4; size = c.args.geometry; name = c.of.result.name } in
+    let next : Uberblock = next_uberblock u c.args.moment c.block_address.result in
+    ends_found c.args.geometry _ next u c.args.found.name c.args.moment c.block_address.result c.args.found.first
+    (g.D.SectorDevice.disk c.args.device.now) (g.D.SectorDevice.disk c.sync_labels.new.device)
+    (c.new-config.ensures ∙ (λ i. record config { size = c.size.ensures.size i; name = c.copy_name.ensures.copy i })) refl
+    _ _ (c.new-config.ensures ∙ (λ i. record told { size = c.size.ensures.size i; name = (c.copy_name.ensures.copy ∙ sym c.of.ensures.name) i }))
+    (λ i. record next { root = sym c.requires.root i }) (c.in_ok-sync_labels.ensures.behind keeps)

@@ -4,10 +4,12 @@ use Rattle.base.specs.disk.SyncOrder.{import_calls}
 use Rattle.uberblocks.specs.Slots.{fields_of}
 use Rattle.sync.specs.Made.{HasMade}
 use Rattle.sync.specs.Runs.{call_count}
+use Rattle.import_replay.specs.ImportViews.{ForEachView}
 use Rattle.import_replay.specs.LabelSyncs.{HasSameBlocks, IsLabelSync, after_calls, is_even}
+use Rattle.import_replay.proofs.LabelViews.{HasImportSince}
 use Rattle.import_replay.proofs.label_sync.sync_labels.Given as goal
 
--- the sync is one of the labels and has calls left, the device keeps its size, its count of refused calls and its blocks, and its disk is what the calls so far made of it
+-- the sync is one of the labels and has calls left, the device keeps its size, its count of refused calls and its blocks, its disk is what the calls so far made of it, and each moment is one of an import
 abbrev pub invariant-loop-run : goal.invariant-loop-run
 invariant-loop-run g l = record {
   sized : g.D.SectorDevice.size l.device ≡ l.fn.geometry;
@@ -19,6 +21,9 @@ invariant-loop-run g l = record {
   called : IsTrue g.D.SectorDevice.keeps_model
       → g.D.SectorDevice.disk l.device
       ≡ after_calls l.fn.geometry l.fn.config (fields_of l.fn.uberblock) (take l.run.done (import_calls 0 (is_even l.fn.first))) (g.D.SectorDevice.disk l.fn.device);
+  views : IsTrue g.D.SectorDevice.keeps_model
+      → ForEachView l.fn.geometry l.fn.config (fields_of l.fn.uberblock) l.fn.first (g.D.SectorDevice.disk l.fn.device)
+      (λ created at v. HasImportSince l.fn.geometry l.fn.config (fields_of l.fn.uberblock) created at v l.run (g.D.SectorDevice.disk l.fn.device) (g.D.SectorDevice.disk l.device));
   made : IsTrue g.D.SectorDevice.keeps_model → HasMade (bytes_of (g.D.SectorDevice.disk l.fn.device).now) l.run (bytes_of (g.D.SectorDevice.disk l.device).now);
 }
 

@@ -2,7 +2,7 @@ use Rattle.std.proofs.Common.{ℕ, List, ap, ◌∙◌}
 use Rattle.base.specs.disk.Disk.{Disk, bytes_of}
 use Rattle.uberblocks.specs.Slots.{fields_of}
 use Rattle.import_replay.specs.ImportRefusals.{IsReason}
-use Rattle.import_replay.specs.ReadPools.{frame_with}
+use Rattle.object_maps.specs.Pointers.{objects_of}
 use Rattle.import_replay.proofs.ReadPools.{is_read_damaged, is_read_pool}
 use Rattle.import_replay.proofs.Reasons.{passed_on, reason-load}
 use Rattle.import_replay.proofs.reading.read_pool.Goals as goal
@@ -16,7 +16,7 @@ returns-in_err-loaded-clause-reason g c = λ keeps.
     (reason-load image x c.in_err-loaded.ensures.cause (λ kind address is.
     is_read_damaged image (g.D.SectorDevice.disk c.find_pool.new.device) c.args.geometry _ u c.in_ok-found.found.name
     (g.met.D.SectorDevice.sized keeps c.args.device.now ∙ c.requires.sized) (ap (λ (d : Disk). bytes_of d.now) (c.find_pool.ensures.reads.disk keeps))
-    (c.in_ok-found.ensures.pool keeps) (c.new-frame.ensures ∙ ap (frame_with u) c.blocks-count.ensures) kind address (c.in_err-loaded.ensures.fault keeps kind address is)))
+    (c.in_ok-found.ensures.pool keeps) c.frame_of-frame.ensures kind address (c.in_err-loaded.ensures.fault keeps kind address is)))
 
 pub returns-clause-pool : goal.returns-clause-pool
 returns-clause-pool g c = λ keeps.
@@ -24,5 +24,5 @@ returns-clause-pool g c = λ keeps.
     let u = fields_of c.in_ok-found.found.uberblock in
     is_read_pool image (g.D.SectorDevice.disk c.find_pool.new.device) c.args.geometry _ u c.in_ok-found.found.name
     (g.met.D.SectorDevice.sized keeps c.args.device.now ∙ c.requires.sized) (ap (λ (d : Disk). bytes_of d.now) (c.find_pool.ensures.reads.disk keeps))
-    (c.in_ok-found.ensures.pool keeps) (c.new-frame.ensures ∙ ap (frame_with u) c.blocks-count.ensures)
-    c.in_ok-loaded.loaded.tree c.in_ok-loaded.loaded.slots.items (c.in_ok-loaded.ensures.tree keeps) c.in_ok-loaded.ensures.root
+    (c.in_ok-found.ensures.pool keeps) c.frame_of-frame.ensures
+    c.in_ok-loaded.loaded.tree (objects_of c.in_ok-loaded.loaded.slots.items) (c.in_ok-loaded.ensures.tree keeps) c.in_ok-loaded.ensures.root

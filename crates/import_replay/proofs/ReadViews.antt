@@ -1,0 +1,212 @@
+-- Behind the first flush of an import, a disk that its pool alone wrote is at rest on one view; what the import reads is of that view, and the
+-- stage that comes first spares a config of it.
+use Rattle.std.proofs.Common.{◌≡◌, ◌⊎◌, inl, inr, ⊎_elim, ℕ, zero, suc, ◌<◌, ◌↔◌, IsTrue, List, [], ◌++◌, length, map, filter, Some, None, Ok, refl, sym, ◌∙◌, ap, subst, arith}
+use Rattle.base.specs.crash.CallStages.{FixedLabels, IsAtRestAt}
+use Rattle.base.specs.crash.CrashRule.{MountsAs}
+use Rattle.base.specs.crash.Mount.{IsChainOf, Mounts, apply_records, records_above}
+use Rattle.base.specs.crash.Own.{AreConfigsBelowImport, IsAtRest, IsOwnWith}
+use Rattle.base.specs.crash.Views.{View, Logged, IsFoundAs, IsFixed, IsView}
+use Rattle.base.specs.disk.Disk.{Disk, IsTouched, Moment, Write, bytes_after, bytes_of, disk_size, handed, holds, settled}
+use Rattle.base.specs.disk.Fairness.{HasFairBytes, passes_check}
+use Rattle.base.specs.formats.Blocks.{IsBlock}
+use Rattle.base.specs.formats.Chain.{LogBlock}
+use Rattle.base.specs.formats.Fields.{part}
+use Rattle.base.specs.formats.Geometry.{block_size, config_place}
+use Rattle.base.specs.formats.Labels.{IsChosen, IsConfig, IsKeptInOdd}
+use Rattle.base.specs.formats.Uberblocks.{Uberblock}
+use Rattle.base.specs.history.Contents.{Contents}
+use Rattle.base.specs.tree.Tree.{IsTree}
+use Rattle.base.specs.declared.pointer.Pointer.{Pointer}
+use Rattle.base.proofs.crash.CrashRule.{take_whole}
+use Rattle.base.proofs.crash.FoundViews.{chosen_at, rest_found}
+use Rattle.base.proofs.crash.OneMount.{mounts_agree, one-active}
+use Rattle.base.proofs.disk.CheckedPlaces.{fair_config, marked}
+use Rattle.base.proofs.disk.Fairness.{fair_settled}
+use Rattle.base.proofs.disk.Moments.{bytes_may_be_left}
+use Rattle.base.proofs.tree.PlacedTrees.{holds-tree}
+use Rattle.labels.specs.declared.stage.Stage.{Stage}
+use Rattle.labels.specs.declared.stage.Stage.TheVariants.{Even, Odd}
+use Rattle.object_maps.specs.declared.contents.Slot.{Slot}
+use Rattle.object_maps.specs.declared.tree.Tree.{Tree}
+use Rattle.object_maps.specs.Pointers.{objects_of, pointers_of}
+use Rattle.import_replay.specs.Found.{HasFirstStage}
+use Rattle.import_replay.specs.ImportViews.{IsReadyBehind, SparesConfig}
+use Rattle.import_replay.specs.LabelSyncs.{is_even}
+use Rattle.import_replay.specs.ReadPools.{IsReadPool, frame_of_size}
+
+-- a moment with nothing unflushed is the one that a flush of it leaves
+settled_now : (m : Moment) → m.unflushed ≡ [] → m ≡ settled (bytes_of m) m
+settled_now m none =
+    let bytes : m.flushed ≡ bytes_of m = sym (ap (λ (ws : List Write). bytes_after m.flushed ws) none) in
+    let kept : m.kept ≡ filter (holds (bytes_of m)) m.unflushed ++ m.kept = sym (ap (λ (ws : List Write). filter (holds (bytes_of m)) ws ++ m.kept) none) in
+    λ i. record { flushed = bytes i; unflushed = none i; kept = kept i }
+
+-- Nothing is unflushed of a disk that a pool alone wrote, and it is at rest on this view, which mounts these contents.
+pub record IsRestedOwn (size created guid : ℕ) (contents : Contents) (v : View) (m : Moment) : Type 0 where
+  pub guid_is : v.u.guid ≡ guid
+  pub no_log : v.logged ≡ []
+  pub synced_are : v.synced ≡ contents
+  pub mounts : MountsAs v contents
+  pub none : m.unflushed ≡ []
+  pub rest : IsAtRest size created (length v.logged) m v
+  pub bytes : HasFairBytes size created m
+  pub configs : AreConfigsBelowImport size created (handed m) v
+
+pub rested_own : (disk : Disk) (created guid : ℕ) (contents : Contents) → disk.now.unflushed ≡ [] → IsOwnWith disk created guid contents
+    → (v : View) × IsRestedOwn (disk_size disk) created guid contents v disk.now
+rested_own disk created guid contents none own =
+    let is = own.left.each (bytes_of disk.now) (bytes_may_be_left disk.now) own.left.bytes.fair in
+    let sure : disk.now ≡ settled (bytes_of disk.now) disk.now = settled_now disk.now none in
+    let applied : Ok is.v.synced ≡ Ok contents = ap (λ (ls : List Logged). apply_records (records_above is.v.u.group (map (λ (l : Logged). l.block) ls)) is.v.synced) (sym is.no_log) ∙ is.applied in (
+      is.v,
+      subst (λ (m : Moment). IsRestedOwn (disk_size disk) created guid contents is.v m) (sym sure)
+          (record {
+            guid_is = is.guid_is;
+            no_log = is.no_log;
+            synced_are = (let same : is.v.synced ≡ contents = cc in same);
+            mounts = is.applied;
+            none = refl;
+            rest = is.rest;
+            bytes = record { size_is = refl; fair = fair_settled (passes_check (disk_size disk)) created (bytes_of disk.now) disk.now own.left.bytes.fair };
+            configs = is.configs;
+          }),
+    )
+
+-- one group of a config is the chosen one's
+one_found : (image : List ℕ) (guid group f g : ℕ) (a b : List ℕ) → IsChosen image guid group f a → IsChosen image guid group g b → f ≡ g
+one_found image guid group f g a b x y =
+    let up = y.highest x.label f a x.in_range x.not_above x.stands in
+    let down = x.highest y.label g b y.in_range y.not_above y.stands in
+    omega (arith, up, down)
+
+-- the stage spares each label of the other pair
+even_spared : (at : FixedLabels) → (at.config ≡ 1) ⊎ (at.config ≡ 3) → SparesConfig Even at
+even_spared at odd zero label there same = let is : 0 ≡ label = cc in ⊎_elim (λ one. omega (arith, is, same, one)) (λ three. omega (arith, is, same, three)) odd
+even_spared at odd (suc zero) label there same = let is : 2 ≡ label = cc in ⊎_elim (λ one. omega (arith, is, same, one)) (λ three. omega (arith, is, same, three)) odd
+even_spared at odd (suc (suc k)) label there same = let none : None ≡ Some label = there in cc
+
+odd_spared : (at : FixedLabels) → (at.config ≡ 0) ⊎ (at.config ≡ 2) → SparesConfig Odd at
+odd_spared at even zero label there same = let is : 1 ≡ label = cc in ⊎_elim (λ first. omega (arith, is, same, first)) (λ third. omega (arith, is, same, third)) even
+odd_spared at even (suc zero) label there same = let is : 3 ≡ label = cc in ⊎_elim (λ first. omega (arith, is, same, first)) (λ third. omega (arith, is, same, third)) even
+odd_spared at even (suc (suc k)) label there same = let none : None ≡ Some label = there in cc
+
+-- What is read of the bytes is of the view.
+module _ (m : Moment) (created guid : ℕ) (contents : Contents) (v : View) (own : IsRestedOwn (length (bytes_of m)) created guid contents v m) where
+  abbrev image : List ℕ
+  image = bytes_of m
+
+  abbrev size : ℕ
+  size = length image
+
+  view : IsView size v
+  view = own.rest.laid.view
+
+  found : IsFoundAs image (length v.logged) v
+  found = rest_found created m image (bytes_may_be_left m) own.bytes.fair (length v.logged) v own.rest
+
+  chain : IsChainOf image v.u []
+  chain =
+      let none : length v.logged ≡ 0 = ap (λ (ls : List Logged). length ls) own.no_log in
+      let all = take_whole found.count v.logged (omega (arith, none)) ∙ own.no_log in
+      subst (λ (bs : List LogBlock). IsChainOf image v.u bs) (ap (λ (ls : List Logged). map (λ (l : Logged). l.block) ls) all) found.found.chain_is
+
+  module _ (u : Uberblock) (name : List ℕ) (tree : Tree) (slots : List Slot) (read : IsReadPool image size u name tree slots) where
+    pub found_uberblock : u ≡ v.u
+    found_uberblock = one-active image u v.u read.pool.active found.found.pool.active
+
+    abbrev read_contents : Contents
+    read_contents = record { name = name; objects = objects_of slots }
+
+    read_mounts : Mounts image u [] read_contents
+    read_mounts = record {
+      synced = read_contents;
+      found = record {
+        pool = read.pool;
+        tree = subst (λ (p : Pointer). IsTree image (frame_of_size u size) p (objects_of slots)) read.root (holds-tree image (frame_of_size u size) (pointers_of tree) (objects_of slots) read.held);
+        chain_is = subst (λ (w : Uberblock). IsChainOf image w []) (sym found_uberblock) chain;
+      };
+      applied = refl;
+    }
+
+    view_mounts : Mounts image v.u [] v.synced
+    view_mounts = record { synced = v.synced; found = record { pool = found.found.pool; tree = found.found.tree; chain_is = chain }; applied = refl }
+
+    pub found_contents : v.synced ≡ read_contents
+    found_contents = sym (mounts_agree image u v.u [] [] read_contents v.synced read_mounts view_mounts).2
+
+    pub found_name : v.name ≡ name
+    found_name = sym view.name ∙ ap (λ (c : Contents). c.name) found_contents
+
+  -- a label with the view's config has it fixed
+  abbrev HasConfig : ℕ → Type 0
+  HasConfig label = part image (config_place size label) block_size ≡ v.config
+
+  fixed_config : (label : ℕ) → HasConfig label → IsFixed m (config_place size label) v.config
+  fixed_config label there = record {
+    settled = λ i from to touched. subst (λ (ws : List Write). IsTouched ws i) own.none touched;
+    stands = ap (λ (n : ℕ). part image (config_place size label) n) view.config.block.size ∙ there;
+  }
+
+  rested_config : HasConfig own.rest.laid.firm.config.label
+  rested_config =
+      ap (λ (n : ℕ). part image (config_place size own.rest.laid.firm.config.label) n) (sym view.config.block.size) ∙ own.rest.laid.firm.config.fixed.stands
+
+  config_of_label : (label : ℕ) → HasConfig label → IsConfig image label v.u.guid v.config_group v.name
+  config_of_label label there = record {
+    payload = view.config.payload;
+    block = subst (λ (bytes : List ℕ). IsBlock bytes 1 v.u.guid v.config_group 0 view.config.payload) (sym there) view.config.block;
+    fields = view.config.fields;
+  }
+
+  -- a config of the chosen group is the view's
+  label_of_config : (label : ℕ) (name : List ℕ) → label < 4 → IsConfig image label v.u.guid v.config_group name → HasConfig label
+  label_of_config label name below is =
+      let bytes : List ℕ = part image (config_place size label) block_size in
+      let some = fair_config size created (handed m) image own.bytes.fair label below is.block.agrees (marked bytes 0 is.block.kind_is) in
+      ⊎_elim (λ lower. absurd (omega (arith, lower))) (λ same. same)
+      (own.rest.laid.configs label v.config_group name bytes below some (record { payload = is.payload; block = is.block; fields = is.fields }) view.not_above)
+
+  abbrev labels_at : (label : ℕ) → label < 4 → FixedLabels
+  labels_at label below = record { config = label; config_below = below; slot = own.rest.slot.label; slot_below = own.rest.slot.in_range }
+
+  rest_at : (label : ℕ) (below : label < 4) → HasConfig label → IsAtRestAt size created (length v.logged) (labels_at label below) v m
+  rest_at label below there = record { rest = own.rest; config = fixed_config label there; slot = own.rest.slot.fixed }
+
+  abbrev pub SparedAt : Stage → Type 0
+  SparedAt first = (at : FixedLabels) × SparesConfig first at × IsReadyBehind size created at v m
+
+  ready_at : (first : Stage) (label : ℕ) (below : label < 4) → SparesConfig first (labels_at label below) → HasConfig label → SparedAt first
+  ready_at first label below spares there =
+      (labels_at label below, spares, record { no_log = own.no_log; rest = rest_at label below there; bytes = own.bytes; configs = own.configs })
+
+  pub spared_at : (u : Uberblock) (name : List ℕ) (first : Stage) → u ≡ v.u → v.name ≡ name → HasFirstStage image u.guid u.group name (is_even first) → SparedAt first
+  spared_at u name first same named stage = by_stage first stage.even
+    where
+      chosen : IsChosen image v.u.guid v.u.group stage.found name
+      chosen = subst (λ (w : Uberblock). IsChosen image w.guid w.group stage.found name) same stage.chosen
+
+      group_is : stage.found ≡ v.config_group
+      group_is = one_found image v.u.guid v.u.group stage.found v.config_group name v.name chosen
+          (chosen_at created m image (bytes_may_be_left m) own.bytes.fair v view own.rest.laid.firm.config own.rest.laid.configs)
+
+      in_label : (label : ℕ) → IsConfig image label u.guid stage.found name → IsConfig image label v.u.guid v.config_group name
+      in_label label is = subst (λ (g : ℕ). IsConfig image label v.u.guid g name) group_is (subst (λ (w : Uberblock). IsConfig image label w.guid stage.found name) same is)
+
+      of_label : (label : ℕ) → HasConfig label → IsConfig image label u.guid stage.found name
+      of_label label there =
+          subst (λ (w : Uberblock). IsConfig image label w.guid stage.found name) (sym same)
+          (subst (λ (g : ℕ). IsConfig image label v.u.guid g name) (sym group_is) (subst (λ (n : List ℕ). IsConfig image label v.u.guid v.config_group n) named (config_of_label label there)))
+
+      by_label : (IsKeptInOdd image u.guid stage.found name → ⊥) → (label : ℕ) → label < 4 → HasConfig label → SparedAt Odd
+      by_label not_odd zero below there = ready_at Odd 0 below (odd_spared (labels_at 0 below) (inl refl)) there
+      by_label not_odd (suc zero) below there = absurd (not_odd (inl (of_label 1 there)))
+      by_label not_odd (suc (suc zero)) below there = ready_at Odd 2 below (odd_spared (labels_at 2 below) (inr refl)) there
+      by_label not_odd (suc (suc (suc zero))) below there = absurd (not_odd (inr (of_label 3 there)))
+      by_label not_odd (suc (suc (suc (suc k)))) below there = absurd (omega (arith, below))
+
+      by_stage : (s : Stage) → (IsTrue (is_even s) ↔ IsKeptInOdd image u.guid stage.found name) → SparedAt s
+      by_stage Even told = ⊎_elim
+          (λ is. ready_at Even 1 (omega arith) (even_spared (labels_at 1 (omega arith)) (inl refl)) (label_of_config 1 name (omega arith) (in_label 1 is)))
+          (λ is. ready_at Even 3 (omega arith) (even_spared (labels_at 3 (omega arith)) (inr refl)) (label_of_config 3 name (omega arith) (in_label 3 is)))
+          (told.0 refl)
+      by_stage Odd told = by_label (λ odd. let no_way : IsTrue (is_even Odd) = told.1 odd in cc) own.rest.laid.firm.config.label own.rest.laid.firm.config.in_range rested_config
