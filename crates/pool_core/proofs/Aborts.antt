@@ -3,7 +3,7 @@ use Rattle.std.proofs.Common.{ℕ, ◌≡◌, ◌+◌, ◌-◌, ◌<◌, ◌≤�
 use Rattle.std.specs.Prelude.{Some, None, Ok, Err}
 use Rattle.base.specs.declared.error.PoolError.TheVariants as error
 use Rattle.base.specs.history.Plans.{charge_of, estimate_of, is_plan_allowed}
-use Rattle.base.specs.steps.Groups.{Admission}
+use Rattle.base.specs.steps.Groups.{AreNamedApart, Admission}
 use Rattle.base.specs.steps.Refusals.{abort_refusal, transaction_of}
 use Rattle.base.specs.steps.Shown.{Shown}
 use Rattle.base.specs.steps.Steps.{Abort, State, state_after_abort, transactions_without}
@@ -12,7 +12,7 @@ use Rattle.throttle.specs.Blocks.{AreOpenOnesCharged, AreSumsOn, ShowsSums, bloc
 use Rattle.throttle.specs.DirtyBytes.{DirtyBytes, MayBeUnsynced, after_cancel, sum_of, total_of}
 use Rattle.throttle.proofs.OpenCharges.{stay_charged}
 use Rattle.throttle.proofs.ShownSums.{aborts_are_shown, holding_groups_are_charged}
-use Rattle.transactions.specs.Open.{AreNamedApart, Open, admission_of_name}
+use Rattle.transactions.specs.Open.{Open, admission_of_name}
 use Rattle.transactions.proofs.OpenChanges.{all_stay}
 use Rattle.pool_core.specs.declared.pool.Pool.{Pool}
 use Rattle.pool_core.specs.Meets.{Meets}

@@ -17,7 +17,7 @@ use Rattle.base.specs.steps.Steps.{State, next_admission, state_after_charged_ad
 use Rattle.throttle.specs.Blocks.{ShowsSums, blocks_of}
 use Rattle.throttle.specs.DirtyBytes.{DirtyBytes, after_admit}
 use Rattle.throttle.proofs.ShownSums.{admissions_are_shown}
-use Rattle.transactions.specs.Open.{admit_refusal, has_too_many}
+use Rattle.transactions.specs.Open.{admit_refusal, are_too_many}
 use Rattle.transactions.proofs.KeptRanges.{allowed_shapes, kept_same}
 use Rattle.pool_core.specs.BeginTests.{plan_tests, range_tests, room_tests}
 use Rattle.pool_core.specs.Meets.{Meets, Passes}
@@ -72,7 +72,7 @@ pub record MayBegin (plan : List Shape) (s : Shown) : Type 0 where
   pub small : log_record_size plan ≤ max_log_record
   pub free : is_plan_blocked plan s.transactions ≡ false
   pub few : length s.transactions < max_transactions
-  pub room : has_too_many (record { transactions = s.transactions; next = s.next_tx }) ≡ false
+  pub room : are_too_many (record { transactions = s.transactions; next = s.next_tx }) ≡ false
   pub charge : nat_lt s.dirty_max (dirty_total s + charge_of plan) ≡ false
   pub blocks : nat_lt (available s) (blocks_wanted s.contents plan) ≡ false
 

@@ -8,7 +8,7 @@ use Rattle.std.proofs.lemmas.List.Elements.{filter-append}
 use Rattle.base.specs.declared.error.PoolError.{PoolError}
 use Rattle.base.specs.declared.names.Group.{Group}
 use Rattle.base.specs.formats.Limits.{first_group, last_number, max_transactions}
-use Rattle.base.specs.steps.Groups.{Admission, Line, MayHold, hold_count}
+use Rattle.base.specs.steps.Groups.{AreNamedApart, Admission, Line, MayHold, hold_count}
 use Rattle.base.specs.steps.Refusals.{quiesced_group, quiescing_group}
 use Rattle.base.specs.steps.Steps.{transactions_without}
 use Rattle.base.proofs.common.KeptLists.{Some-injective}
@@ -17,7 +17,6 @@ use Rattle.groups.specs.CountedLines.{CountedLine, IsCounted, after_close, after
 use Rattle.groups.specs.Laws.{AreHoldsExact, BeginsAreHeld, MovesKeepHolds}
 use Rattle.groups.proofs.HoldCounts as holds
 use Rattle.groups.proofs.ExactHolds.{count_transactions, is_released}
-use Rattle.transactions.specs.Open.{AreNamedApart}
 use Rattle.pool_core.specs.Lines.{MayStart}
 use Rattle.pool_core.proofs.Flags.{from_not_false, same_test}
 use Rattle.pool_core.proofs.Opens.{found_index, found_name}

@@ -37,3 +37,11 @@ pub mod FreeBlocks
 pub mod PlannedPointers
 pub mod NewStates
 pub mod Aborts
+pub mod ViewsKept
+pub mod SafeMoments
+pub mod OwnMoments
+pub mod StartedViews
+pub mod SafeCalls
+pub mod SafeSteps
+pub mod SafeStates
+pub mod StoppedSteps

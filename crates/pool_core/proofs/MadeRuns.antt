@@ -13,8 +13,9 @@ use Rattle.pool_core.specs.declared.state.PoolState.{PoolState}
 use Rattle.pool_core.specs.Calls.{counted_in_turn}
 use Rattle.pool_core.specs.ExplainedRuns.{RunsOn}
 use Rattle.pool_core.specs.Holds.{HoldsOn, held_with, state_with}
+use Rattle.pool_core.specs.KeptSafe.{IsKeptSafe, SafeOn, on_disk}
 use Rattle.pool_core.specs.States.{refused_calls, shown, told}
-use Rattle.pool_core.specs.Turns.{MakesStep, state_after}
+use Rattle.pool_core.specs.Turns.{MakesStep, turned_state}
 
 module _ {Dev : Type 0} {G : Ghosts Dev} where
   abbrev pub IsMade : List Step → List Reply → PoolState Dev G → PoolState Dev G → Type 0
@@ -37,7 +38,7 @@ module _ {Dev : Type 0} {G : Ghosts Dev} where
       (past, ap (λ (p : PoolState Dev G). state_with (told p) past) same, subst (λ (p : PoolState Dev G). IsExplainedNow (shown p) past) (sym same) explained)
   runs_on (s ∷ ss) (r ∷ rs) old new (middle, one, rest) past explained =
       let turn = one.turns past in
-      let later = state_after s r (told old) (told middle) past in
+      let later = turned_state s r (told old) (told middle) past in
       let more = runs_on ss rs middle new rest later.past (turn.explained explained) in
       (more.0, (later, turn.step explained, more.1), more.2)
   runs_on [] (r ∷ rs) old new h past explained = absurd h
@@ -55,6 +56,18 @@ module _ {Dev : Type 0} {G : Ghosts Dev} where
       (more.0, (held_with (told middle) later, (turn.over x, kept), more.1), more.2)
   holds_on keep [] (r ∷ rs) old new h past x = absurd h
   holds_on keep (s ∷ ss) [] old new h past x = absurd h
+
+  -- and the crash rule
+  pub safe_on : IsTrue G.keeps_model → (ss : List Step) (rs : List Reply) (old new : PoolState Dev G) → IsMade ss rs old new → SafeOn ss rs old new
+  safe_on keep [] [] old new same past x =
+      (past, ap (λ (p : PoolState Dev G). on_disk p past) same, subst (λ (p : PoolState Dev G). IsKeptSafe (on_disk p past)) (sym same) x)
+  safe_on keep (s ∷ ss) (r ∷ rs) old new (middle, one, rest) past x =
+      let step = one.safe keep past x in
+      let later = past_after s r (state_with (told old) past) in
+      let more = safe_on keep ss rs middle new rest later step.kept in
+      (more.0, (on_disk middle later, step, more.1), more.2)
+  safe_on keep [] (r ∷ rs) old new h past x = absurd h
+  safe_on keep (s ∷ ss) [] old new h past x = absurd h
 
   -- and count what the device refused, reply by reply
   pub count_on : (ss : List Step) (rs : List Reply) (old new : PoolState Dev G) → IsMade ss rs old new → refused_calls new ≡ counted_in_turn rs (refused_calls old)

@@ -1,6 +1,6 @@
 -- A call of a pool on its device, with the reply that is made of its answer, is a step.
 use Rattle.std.proofs.Common.{◌≡◌, ℕ, true, false, List, [], refl, ap, sym, subst, ◌∙◌}
-use Rattle.std.specs.Prelude.{IsOkAnd, IsTrue, MatchResult, None, Result, Ok, Err}
+use Rattle.std.specs.Prelude.{IsOkAnd, IsTrue, MatchResult, None, OnErr, Option, Result, Ok, Err, length, option_map}
 use Rattle.base.specs.declared.error.PoolError.{PoolError}
 use Rattle.base.specs.declared.names.Group.{Group}
 use Rattle.base.specs.declared.names.Receipt.{Receipt}
@@ -13,6 +13,7 @@ use Rattle.base.specs.declared.step.Reply.TheVariants as reply
 use Rattle.base.specs.declared.refused.RefusedCalls.{RefusedCalls}
 use Rattle.base.specs.declared.status.Status.{Status}
 use Rattle.base.specs.disk.Calls.{counted}
+use Rattle.base.specs.disk.Disk.{bytes_of}
 use Rattle.base.specs.history.Past.{Past}
 use Rattle.base.specs.steps.ExactNow.{IsExplainedNow}
 use Rattle.base.specs.steps.Runs.{Replies, is_start, progress_reply, reply_of}
@@ -20,13 +21,16 @@ use Rattle.base.specs.steps.Shown.{status_of}
 use Rattle.base.specs.steps.Stage as stage
 use Rattle.base.specs.steps.Steps as steps
 use Rattle.base.specs.steps.Steps.{Answers, State}
+use Rattle.base.specs.stored.Stored.{is_turn}
 use Rattle.device_model.specs.declared.device.SectorDevice.{Ghosts}
 use Rattle.sync.specs.Calls.{plain_answer}
+use Rattle.pool_core.specs.declared.pool.RunningSync.{RunningSync}
 use Rattle.pool_core.specs.declared.state.PoolState.{PoolState}
 use Rattle.pool_core.specs.declared.state.Progress.{Progress}
 use Rattle.pool_core.specs.declared.state.Progress.TheVariants.{More, Synced}
 use Rattle.pool_core.specs.Calls.{CallsDevice, CallsNext, answer_in, reply_in}
 use Rattle.pool_core.specs.Holds.{Leads, start_reply, sync_step_reply}
+use Rattle.pool_core.specs.KeptSafe.{StepsPhases, disk_of, run_of}
 use Rattle.pool_core.specs.Meets.{Meets}
 use Rattle.pool_core.specs.Progresses.{plain_progress}
 use Rattle.pool_core.specs.States.{CountsRefused, MakesNoCall, MovesNothing, device_of, refused_calls, shown, told, told_over}
@@ -34,10 +38,11 @@ use Rattle.pool_core.specs.StepAnswers.{Commits, StartsSync, StepsSync, group_nu
 use Rattle.pool_core.specs.StepReplies.{IsStep, StepReplies, rests_on_past}
 use Rattle.pool_core.specs.SyncStarts.{StartLeads, StartsHeld}
 use Rattle.pool_core.specs.Tables.{result_map}
-use Rattle.pool_core.specs.Turns.{MakesStep}
+use Rattle.pool_core.specs.Turns.{MakesStep, Turns}
 use Rattle.pool_core.proofs.RepliedSteps.{result_map-same, reply_in-made, replied_with}
+use Rattle.pool_core.proofs.SafeStates.{start_keeps, still_keeps, sync_keeps}
 use Rattle.pool_core.proofs.StepsOver.{start_over}
-use Rattle.pool_core.proofs.StillSteps.{is_still, leads_as, answer_in-still, no_call_counts, start_told, still_replied}
+use Rattle.pool_core.proofs.StillSteps.{is_still, leads_as, answer_in-still, no_call_counts, start_told, still_replied, still_turn}
 use Rattle.pool_core.proofs.Turns.{any_turns, turns}
 
 answer_in-sync_step : (answer : Result Progress PoolError) → answer_in (sync_step_reply answer) ≡ plain_answer answer
@@ -63,8 +68,9 @@ module _ {Dev : Type 0} {G : Ghosts Dev} {old new : PoolState Dev G} where
       → MovesNothing answer old new → MatchResult answer (λ a. IsOkAnd made (λ r. r ≡ make (f a))) (λ e. made ≡ Err e) → MakesStep s (reply_in made) old new
   led_step {A} {B} {s} {Does} {make} {answer} f made same off quiet calls meets moves makes = record {
     replied = replies;
-    turns = any_turns (IsTrue G.keeps_model) s (reply_in made) (told old) (told new) off replies leads;
+    turns = turned;
     leads = leads;
+    safe = λ keeps. still_keeps keeps old new s (reply_in made) no_turn moves.no_call.device (ap (λ (o : Option RunningSync). option_map (λ (r : RunningSync). r.run) o) moves.kept.sync) turned;
     calls = calls (reply_in made) moves.no_call.device;
     count = no_call_counts old new (λ (a : A). make (f a)) answer (reply_in made) (λ a. answer_in-still (make (f a)) (quiet (f a))) is moves.no_call;
   }
@@ -80,6 +86,12 @@ module _ {Dev : Type 0} {G : Ghosts Dev} {old new : PoolState Dev G} where
 
       leads : IsTrue G.keeps_model → Leads (reply_in made) (told old) (told new)
       leads keeps = still_replied old new (λ (a : A). make (f a)) answer (reply_in made) (λ a. quiet (f a)) is moves
+
+      turned : Turns s (reply_in made) old new
+      turned = any_turns (IsTrue G.keeps_model) s (reply_in made) (told old) (told new) off replies leads
+
+      no_turn : is_turn (reply_in made) ≡ false
+      no_turn = still_turn (λ (a : A). make (f a)) answer (reply_in made) (λ a. quiet (f a)) is
 
   -- whatever the past
   pub still_step : {A B : Type 0} {s : declared_step.Step} {Does : Result B PoolError → State → State → Type 0} {make : B → Reply} {answer : Result A PoolError} (f : A → B) (made : Result Reply PoolError)
@@ -105,13 +117,15 @@ module _ {Dev : Type 0} {G : Ghosts Dev} {old new : PoolState Dev G} where
       still_step (λ a. a) made same off quiet calls (subst (λ (a : Result A PoolError). Meets Does a (shown old) (shown new)) (sym (result_map-same answer)) meets) moves makes
 
   -- the start of a sync
-  pub start_step : {moment : ℕ} {answer : Result Group PoolError} (made : Result Reply PoolError) → StartsSync moment answer (shown old) (shown new)
-      → StartsHeld moment answer (told_over old) (told_over new) → StartLeads answer (told_over old) (told_over new) → MakesNoCall answer old new
+  pub start_step : {moment : ℕ} {answer : Result Group PoolError} (made : Result Reply PoolError) → (IsTrue G.keeps_model → (d : Dev) → length (bytes_of (G.disk d).now) ≡ G.size d)
+      → StartsSync moment answer (shown old) (shown new) → StartsHeld moment answer (told_over old) (told_over new) → StartLeads answer (told_over old) (told_over new)
+      → OnErr answer (run_of new ≡ run_of old) → MakesNoCall answer old new
       → MatchResult answer (λ group. IsOkAnd made (λ r. r ≡ reply.Syncing group)) (λ e. made ≡ Err e) → MakesStep (step.StartSync moment) (reply_in made) old new
-  start_step {moment} {answer} made starts held leads_on no_call makes = record {
+  start_step {moment} {answer} made sized starts held leads_on unmoved no_call makes = record {
     replied = replies;
-    turns = turns (IsTrue G.keeps_model) (step.StartSync moment) (reply_in made) (told old) (told new) replies (start_over old new (reply_in made) moment answer held is) leads;
+    turns = turned;
     leads = leads;
+    safe = λ keeps. start_keeps keeps old new moment answer (reply_in made) is (sized keeps) no_call.device unmoved (leads keeps) turned;
     calls = no_call.device;
     count = no_call_counts old new (λ (g : Group). reply.Syncing g) answer (reply_in made) (λ g. refl) is no_call;
   }
@@ -127,14 +141,18 @@ module _ {Dev : Type 0} {G : Ghosts Dev} {old new : PoolState Dev G} where
       leads : IsTrue G.keeps_model → Leads (reply_in made) (told old) (told new)
       leads keeps = start_told old new answer (reply_in made) is no_call leads_on
 
+      turned : Turns (step.StartSync moment) (reply_in made) old new
+      turned = turns (IsTrue G.keeps_model) (step.StartSync moment) (reply_in made) (told old) (told new) replies (start_over old new (reply_in made) moment answer held is) leads
+
   -- a step of one
   pub sync_step : (answer : Result Progress PoolError) (made : Result Reply PoolError) → StepsSync answer (shown old) (shown new) → (IsTrue G.keeps_model → Leads (sync_step_reply answer) (told old) (told new))
-      → CallsNext (plain_answer answer) old new → CountsRefused answer old new
+      → (IsTrue G.keeps_model → StepsPhases answer (run_of old) (run_of new) (disk_of old) (disk_of new)) → CallsNext (plain_answer answer) old new → CountsRefused answer old new
       → MatchResult answer (λ p. IsOkAnd made (λ r. r ≡ progress_reply (plain_progress p))) (λ e. made ≡ Err e) → MakesStep step.SyncStep (reply_in made) old new
-  sync_step answer made steps_on leads_on called counts makes = record {
+  sync_step answer made steps_on leads_on phases called counts makes = record {
     replied = replies;
-    turns = any_turns (IsTrue G.keeps_model) step.SyncStep (reply_in made) (told old) (told new) refl replies leads;
+    turns = turned;
     leads = leads;
+    safe = λ keeps. sync_keeps keeps old new answer (reply_in made) is (phases keeps) turned;
     calls = subst (λ (a : Result (Unit {0}) PoolError). CallsNext a old new) (sym answers) called;
     count = counts ∙ sym (ap (λ (r : Reply). counted (answer_in r) (refused_calls old)) is ∙ counted-sync_step answer (refused_calls old));
   }
@@ -152,6 +170,9 @@ module _ {Dev : Type 0} {G : Ghosts Dev} {old new : PoolState Dev G} where
 
       leads : IsTrue G.keeps_model → Leads (reply_in made) (told old) (told new)
       leads keeps = leads_as (sync_step_reply answer) (reply_in made) (told old) (told new) (sym is) (leads_on keeps)
+
+      turned : Turns step.SyncStep (reply_in made) old new
+      turned = any_turns (IsTrue G.keeps_model) step.SyncStep (reply_in made) (told old) (told new) refl replies leads
 
 -- the name, which is never refused
 pub name_step : {Dev : Type 0} {G : Ghosts Dev} {state : PoolState Dev G} (name : List ℕ) → name ≡ (shown state).contents.name → MakesStep step.Name (reply.Name name) state state

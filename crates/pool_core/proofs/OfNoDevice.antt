@@ -118,7 +118,7 @@ module _ (old new : Shown) where
   pub length_own : (n : ℕ) (answer : Result ℕ PoolError) → Meets (steps.Length n) answer old new → is_own_answer answer ≡ true
   length_own n answer meets = own_answer (length_tests n old) _ answer _ _ _ _ refl refl (λ e own. absurd own) (meets (some_past old)).1
 
-  pub digest_own : (answer : Result (List ℕ) PoolError) → Meets stage.Digest answer old new → is_own_answer answer ≡ true
+  pub digest_own : (answer : Result (List ℕ) PoolError) → Meets stage.DigestInMemory answer old new → is_own_answer answer ≡ true
   digest_own answer meets = own_answer (digest_tests old) _ answer _ _ _ _ refl refl (λ e own. absurd own) (meets (some_past old)).1
 
   pub close_own : (answer : Result ℕ PoolError) → Meets steps.CloseGroup answer old new → is_own_answer answer ≡ true

@@ -27,7 +27,7 @@ use Rattle.object_maps.specs.declared.tree.ObjectMap.{ObjectMap}
 use Rattle.object_maps.specs.Lengths.{map_length}
 use Rattle.tree_plans.specs.declared.planner.Committed.{Committed}
 use Rattle.tree_plans.specs.declared.changes.ObjectChanges.{ObjectChanges}
-use Rattle.tree_plans.specs.Changes.{group_of, names_block}
+use Rattle.tree_plans.specs.Changes.{changes_of_group, has_address}
 use Rattle.tree_plans.specs.Marks.{AreChangesOf, pending_ops}
 use Rattle.pool_core.specs.GroupPlans.{IsPlannedGroup, IsShortOfBlocks}
 use Rattle.pool_core.specs.Shows.{record_of as shown_record}
@@ -38,11 +38,11 @@ module _ (s : Shown) (p : Past) (explained : IsExplainedNow s p) (group : ℕ) (
     (after : Contents) (leads : apply_all (pending_ops group pending) s.synced_contents ≡ Ok after) (maps : List ObjectMap) (told : (n : ℕ) → s.lengths n ≡ map_length maps n) (pointers : Place → Pointer) where
   -- the places that are written are those that the changes tell
   pub places_told : (objects : List (ObjectId × ObjectChanges)) → AreChangesOf (pending_ops group pending) maps objects
-      → (had : Place → Bool) → ((n r : ℕ) → n < object_count → r < pointer_count → names_block (pointers (Data n r)) ≡ had (Data n r))
-      → written_places (ops_of_group group p.entries) s.synced_contents had ≡ written_by (group_of objects pointers after.objects)
+      → (had : Place → Bool) → ((n r : ℕ) → n < object_count → r < pointer_count → has_address (pointers (Data n r)) ≡ had (Data n r))
+      → written_places (ops_of_group group p.entries) s.synced_contents had ≡ written_by (changes_of_group objects pointers after.objects)
   places_told objects changes had same =
       ap (λ (ops : List Op). written_places ops s.synced_contents had) (ops_are s p explained group above no_log pending log)
-      ∙ written-places (group_of objects pointers after.objects) (pending_ops group pending) s.synced_contents after had leads (record {
+      ∙ written-places (changes_of_group objects pointers after.objects) (pending_ops group pending) s.synced_contents after had leads (record {
         states = λ n r low below. states_are s p explained group above no_log pending log after leads maps told objects changes n r below;
         blocks = same;
         changed = λ n low. changes.changed n;
@@ -52,21 +52,21 @@ module _ (s : Shown) (p : Past) (explained : IsExplainedNow s p) (group : ℕ) (
 
   -- where the pointers name a block
   abbrev named : Place → Bool
-  named place = names_block (pointers place)
+  named place = has_address (pointers place)
 
   -- they are as many as some operations write
   count_told : (objects : List (ObjectId × ObjectChanges)) → AreChangesOf (pending_ops group pending) maps objects
-      → length (written_places (ops_of_group group p.entries) s.synced_contents named) ≡ length (written_by (group_of objects pointers after.objects))
+      → length (written_places (ops_of_group group p.entries) s.synced_contents named) ≡ length (written_by (changes_of_group objects pointers after.objects))
   count_told objects changes = ap (λ (l : List Place). length l) (places_told objects changes named (λ n r low below. refl))
 
   -- a plan takes no more blocks than the operations are estimated at
   pub taken_fit : (new : Place → Pointer) (bs : List NewBlock) → IsPlannedGroup group pending maps (frame_at s group) pointers new bs after.objects
       → length bs ≤ estimate_of (map shape_of (ops_of_group group p.entries))
   taken_fit new bs from =
-      let each : length bs ≡ length (written_by (group_of from.objects pointers after.objects)) =
+      let each : length bs ≡ length (written_by (changes_of_group from.objects pointers after.objects)) =
       sym (length-map bs (λ (b : NewBlock). b.address))
       ∙ ap (λ (l : List ℕ). length l) (from.order (in_range s p explained group above no_log pending log maps from.objects from.changes))
-      ∙ length-map (written_by (group_of from.objects pointers after.objects)) (λ (place : Place). (new place).address) in
+      ∙ length-map (written_by (changes_of_group from.objects pointers after.objects)) (λ (place : Place). (new place).address) in
       subst (λ (n : ℕ). n ≤ estimate_of (map shape_of (ops_of_group group p.entries))) (count_told from.objects from.changes ∙ sym each)
       (syncs_fit (ops_of_group group p.entries) s.synced_contents named)
 
@@ -86,7 +86,7 @@ module _ (now : List ℕ) (s : Shown) (p : Past) (pointers : Place → Pointer) 
   abbrev pub places : List Place
   places = written_places (ops_of_group group p.entries) s.synced_contents (has_block now s.root)
 
-  places_are : places ≡ written_by (group_of from.objects pointers after.objects)
+  places_are : places ≡ written_by (changes_of_group from.objects pointers after.objects)
   places_are = places_told s p explained group above x.no_log pending log after leads maps told pointers from.objects from.changes (has_block now s.root)
       (λ n r low below. ap (λ (q : Pointer). not (q.address == 0)) (sym (pointers-told now (frame_at s s.line.synced) pointers s.synced_contents.objects (synced_tree now s p pointers x explained) (Data n r) (low, below)))
       ∙ ap (λ (q : Pointer). has_block now q (Data n r)) x.root)

@@ -15,7 +15,7 @@ use Rattle.object_maps.specs.Ops.{AreOpsAllowed}
 use Rattle.transactions.proofs.KeptRanges.{each_passes}
 
 -- an operation of a shape that is built gives no new name
-renames_none : (o : Op) → is_shape_built (shape_of o) ≡ true → is_rename o ≡ false
+pub renames_none : (o : Op) → is_shape_built (shape_of o) ≡ true → is_rename o ≡ false
 renames_none (op.Create n) built = refl
 renames_none (op.Remove n) built = refl
 renames_none (op.Write n offset bytes) built = refl

@@ -9,6 +9,7 @@ use Rattle.base.specs.declared.step.Reply.TheVariants as reply
 use Rattle.base.specs.disk.Calls.{counted}
 use Rattle.base.specs.disk.Disk.{bytes_of}
 use Rattle.base.specs.steps.Runs.{reply_of}
+use Rattle.base.specs.stored.Stored.{is_turn}
 use Rattle.device_model.specs.declared.device.SectorDevice.{Ghosts}
 use Rattle.object_maps.specs.declared.tree.Tree.{Tree}
 use Rattle.object_maps.specs.Pointers.{pointers_of}
@@ -41,6 +42,17 @@ still_leads _ old new is same = λ past later. same
 pub answer_in-still : (r : declared_reply.Reply) → is_still r ≡ true → answer_in r ≡ Ok tt
 answer_in-still (reply.Refused e) is = absurd (false≢true is)
 answer_in-still _ is = refl
+
+-- no sync was started with it, nor is one done, nor with a refusal
+no_turn : (r : declared_reply.Reply) → is_still r ≡ true → is_turn r ≡ false
+no_turn (reply.Syncing group) is = absurd (false≢true is)
+no_turn (reply.Synced group) is = absurd (false≢true is)
+no_turn _ is = refl
+
+pub still_turn : {A : Type 0} (make : A → declared_reply.Reply) (answer : Result A PoolError) (given : declared_reply.Reply) → ((x : A) → is_still (make x) ≡ true)
+    → given ≡ reply_of make answer → is_turn given ≡ false
+still_turn make (Ok x) given quiet is = ap is_turn is ∙ no_turn (make x) (quiet x)
+still_turn make (Err e) given quiet is = ap is_turn is
 
 -- with another word for its reply
 pub leads_as : (r given : declared_reply.Reply) (old new : Told) → r ≡ given → Leads r old new → Leads given old new

@@ -10,7 +10,7 @@ use Rattle.base.proofs.steps.KeptTables.{steps_keep_tables}
 use Rattle.pool_core.specs.Holds.{IsStepOver, Leads, StepsOver, Told, held_with, state_with}
 use Rattle.base.specs.steps.Runs.{is_start}
 use Rattle.pool_core.specs.StepReplies.{IsStep, StepReplies}
-use Rattle.pool_core.specs.Turns.{TurnsTo, held_after, state_after}
+use Rattle.pool_core.specs.Turns.{TurnsTo, held_after, turned_state}
 use Rattle.pool_core.proofs.HeldSteps.{leads_keep}
 use Rattle.pool_core.proofs.StepsOver.{any_bytes}
 
@@ -19,12 +19,12 @@ module _ (keeps : Type 0) (s : declared_step.Step) (r : declared_reply.Reply) (o
   pub turns : StepReplies s r old.shown new.shown → StepsOver s r old new → (keeps → Leads r old new) → (past : Past) → TurnsTo keeps s r old new past
   turns replies over leads past = record {
     step = stepped;
-    explained = λ x. steps_keep_tables ⊥ [] s r (state_with old past) (state_after s r old new past) (stepped x) x;
+    explained = λ x. steps_keep_tables ⊥ [] s r (state_with old past) (turned_state s r old new past) (stepped x) x;
     over = stepped_over;
-    held = λ keep x. leads_keep s old new past (state_after s r old new past).past x r (stepped_over x) (leads keep);
+    held = λ keep x. leads_keep s old new past (turned_state s r old new past).past x r (stepped_over x) (leads keep);
   }
     where
-      stepped : IsExplainedNow old.shown past → IsStep s r (state_with old past) (state_after s r old new past)
+      stepped : IsExplainedNow old.shown past → IsStep s r (state_with old past) (turned_state s r old new past)
       stepped x =
           let one = replies past (λ starts. x) in
           let is = told_past ⊥ [] s r (state_with old past) (state_with new one.0) one.1 in

@@ -13,7 +13,7 @@ use Rattle.base.specs.common.Rising.{rising}
 use Rattle.object_maps.specs.declared.tree.ObjectMap.{ObjectMap}
 use Rattle.tree_plans.specs.declared.planner.Committed.{Committed}
 use Rattle.tree_plans.specs.declared.changes.ObjectChanges.{ObjectChanges}
-use Rattle.tree_plans.specs.Changes.{AreChanges, AreInRange, AreTreePointers, IsCoveredBy, group_of}
+use Rattle.tree_plans.specs.Changes.{AreChanges, AreInRange, AreTreePointers, IsCoveredBy, changes_of_group}
 use Rattle.tree_plans.specs.Marks.{AreChangesOf, pending_ops}
 use Rattle.tree_plans.specs.Pointers.{entry_of}
 use Rattle.base.specs.declared.error.PoolError.{PoolError}
@@ -46,14 +46,14 @@ pub record IsPlannedGroup (group : ℕ) (pending : List Committed) (maps : List 
   pub objects : List (ObjectId × ObjectChanges)
   pub changes : AreChangesOf (pending_ops group pending) maps objects
   pub planned : (before : FinMap nat_cmp (List ℕ)) → IsCoveredBy objects old before after → AreChanges objects after → AreTreePointers objects old after → IsTreePlan bs frame old new before after
-  pub order : AreInRange objects → map (λ (b : NewBlock). b.address) bs ≡ map (λ (place : Place). (new place).address) (written_by (group_of objects old after))
+  pub order : AreInRange objects → map (λ (b : NewBlock). b.address) bs ≡ map (λ (place : Place). (new place).address) (written_by (changes_of_group objects old after))
 
 -- Some changes are those of the group's pending operations on a tree with these maps. Where they are in range, fewer of these blocks are
 -- free than there are places that are written.
 pub record IsShortOfBlocks (group : ℕ) (pending : List Committed) (maps : List ObjectMap) (old : Place → Pointer) (after : FinMap nat_cmp (List ℕ)) (free : List ℕ) : Type 0 where
   pub objects : List (ObjectId × ObjectChanges)
   pub changes : AreChangesOf (pending_ops group pending) maps objects
-  pub fewer : AreInRange objects → length free < length (written_by (group_of objects old after))
+  pub fewer : AreInRange objects → length free < length (written_by (changes_of_group objects old after))
 
 -- Some changes are those of the group's pending operations on a tree with these maps. An object that an operation is on has the length that it
 -- has among these objects, and any other the one that the tree has.

@@ -23,3 +23,4 @@ pub mod Turns
 pub mod NewStates
 pub mod SyncStarts
 pub mod States
+pub mod KeptSafe

@@ -62,7 +62,7 @@ abbrev pub TellsLength : ObjectId → Result ℕ PoolError → Shown → Type 0
 TellsLength object answer shown = Meets (steps.Length object.0) answer shown shown
 
 abbrev pub TellsDigest : Result (List ℕ) PoolError → Shown → Type 0
-TellsDigest answer shown = Meets stage.Digest answer shown shown
+TellsDigest answer shown = Meets stage.DigestInMemory answer shown shown
 
 abbrev pub ClosesGroup : Result Group PoolError → Shown → Shown → Type 0
 ClosesGroup answer = Meets steps.CloseGroup (result_map group_number answer)

@@ -11,12 +11,13 @@ use Rattle.device_model.specs.declared.device.SectorDevice.{Ghosts}
 use Rattle.pool_core.specs.declared.state.PoolState.{PoolState}
 use Rattle.pool_core.specs.Calls.{CallsDevice, answer_in}
 use Rattle.pool_core.specs.Holds.{IsStepOver, Leads, Told, held_with, state_with}
+use Rattle.pool_core.specs.KeptSafe.{KeepsSafe}
 use Rattle.pool_core.specs.States.{CountsRefused, shown, told}
 use Rattle.pool_core.specs.StepReplies.{IsStep, StepReplies}
 
 -- the state after a step with this reply: what is shown then, with the past after the step
-abbrev pub state_after : declared_step.Step → declared_reply.Reply → Told → Told → Past → State
-state_after s r old new past = state_with new (past_after s r (state_with old past))
+abbrev pub turned_state : declared_step.Step → declared_reply.Reply → Told → Told → Past → State
+turned_state s r old new past = state_with new (past_after s r (state_with old past))
 
 -- the same of what the device holds
 abbrev pub held_after : declared_step.Step → declared_reply.Reply → Told → Told → Past → Held
@@ -26,7 +27,7 @@ held_after s r old new past = held_with new (past_after s r (state_with old past
 -- then. Where with this past the device also holds what it should, the step is one over these bytes; and over a device that keeps the
 -- disk model it holds what it should then.
 pub record TurnsTo (keeps : Type 0) (s : declared_step.Step) (r : declared_reply.Reply) (old new : Told) (past : Past) : Type 0 where
-  pub step : IsExplainedNow old.shown past → IsStep s r (state_with old past) (state_after s r old new past)
+  pub step : IsExplainedNow old.shown past → IsStep s r (state_with old past) (turned_state s r old new past)
   pub explained : IsExplainedNow old.shown past → IsExplainedNow new.shown (past_after s r (state_with old past))
   pub over : IsHeld (held_with old past) → IsStepOver s r (held_with old past) (held_after s r old new past)
   pub held : keeps → IsHeld (held_with old past) → IsHeld (held_after s r old new past)
@@ -41,5 +42,6 @@ module _ {Dev : Type 0} {G : Ghosts Dev} where
     pub replied : StepReplies s r (shown old) (shown new)
     pub turns : Turns s r old new
     pub leads : IsTrue G.keeps_model → Leads r (told old) (told new)
+    pub safe : IsTrue G.keeps_model → KeepsSafe s r old new
     pub calls : CallsDevice s r old new
     pub count : CountsRefused (answer_in r) old new

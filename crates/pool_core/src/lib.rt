@@ -2,10 +2,15 @@
 #![tactic(auto)]
 
 mod blocks;
+mod laws;
 mod plans;
 mod pool;
 mod runs;
 mod state;
 
+pub use laws::{
+    kept_pools_are_laid, kept_pools_are_safe, kept_pools_leave_their_own, stopped_steps_are_safe,
+    stopped_steps_leave_their_own,
+};
 pub use runs::run;
 pub use state::{PoolState, Progress};

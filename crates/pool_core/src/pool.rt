@@ -1,6 +1,6 @@
 //! A pool without its device, and each of its steps.
 
-ghost use Rattle.std.specs.Prelude.{◌≡◌, ◌<◌, ◌-◌, ◌+◌, ◌≤◌, ◌^◌, ◌⊎◌, All, IfErr, IfOk, IsTrue, None, OnOk, false, is_some, length, map, nat_lt, option_map, true, vec_capacity, vec_len};
+ghost use Rattle.std.specs.Prelude.{◌≡◌, ◌<◌, ◌-◌, ◌+◌, ◌≤◌, ◌^◌, ◌⊎◌, All, IfErr, IfOk, IsTrue, None, OnErr, OnOk, false, is_some, length, map, nat_lt, option_map, true, vec_capacity, vec_len};
 ghost use Rattle.std.proofs.Props.{props};
 ghost use Rattle.std.specs.List.{list_any};
 ghost use Rattle.std.specs.Option.{ForSome, option_map_or};
@@ -163,6 +163,7 @@ impl Pool {
     ghost use Rattle.pool_core.specs.GroupPlans.{BeginsPlan, FitsIn, IsRefusedShort, MakesGroupTree, TakesLowest, begun_plan, uberblock_for};
     ghost use Rattle.pool_core.specs.Holds.{Leads, SamePlaces, sync_step_reply, pool_told, tree_after};
     ghost use Rattle.pool_core.specs.Entries.{IsUnsynced, shown_after_entry};
+    ghost use Rattle.pool_core.specs.KeptSafe.{StepsPhases, run_in};
     ghost use Rattle.pool_core.specs.Lines.{ChecksStart};
     ghost use Rattle.pool_core.specs.BeginTests.{range_tests, room_tests};
     ghost use Rattle.pool_core.specs.Meets.{ChecksBegin, ChecksCommit, FindsLength, MayCommit, Passes, RefusesIf};
@@ -592,6 +593,7 @@ impl Pool {
         ensures held { StartsHeld moment result (pool_told self.old) (pool_told self.new) }
         ensures order { StartsInOrder result (pool_told self.old) (pool_told self.new) }
         ensures leads { StartLeads result (pool_told self.old) (pool_told self.new) }
+        ensures unmoved { OnErr result (run_in self.new ≡ run_in self.old) }
         ensures own { IsOfNoDevice result }
     {
         self.check_running()?;
@@ -612,6 +614,7 @@ impl Pool {
         requires { is_some self.old.groups.line.syncing ≡ false }
         ensures geometry { self.new.geometry ≡ self.old.geometry }
         ensures kept { pool_told self.new ≡ pool_told self.old }
+        ensures unmoved { run_in self.new ≡ run_in self.old }
         ensures room { OnOk result
             (HasRoomForPatches (changes_at self.new.changes 0) self.new.synced.slots.items) }
         ensures refused { IfErr result (λ e. e ≡ PoolError.NoMemory) }
@@ -704,6 +707,8 @@ impl Pool {
         ensures leads { IsTrue D.keeps_model → Leads (sync_step_reply result)
             (pool_told self.old (bytes_of (D.disk device.old).now))
             (pool_told self.new (bytes_of (D.disk device.new).now)) }
+        ensures phases { IsTrue D.keeps_model → StepsPhases result
+            (run_in self.old) (run_in self.new) (D.disk device.old) (D.disk device.new) }
     {
         self.check_running()?;
         let Some(running) = &mut self.sync else {

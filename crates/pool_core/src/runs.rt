@@ -6,6 +6,7 @@ ghost use Rattle.base.specs.steps.Runs.{Run};
 ghost use Rattle.pool_core.specs.Calls.{CallsDevice, answer_in, counted_in_turn, reply_in};
 ghost use Rattle.pool_core.specs.ExplainedRuns.{RunsOn};
 ghost use Rattle.pool_core.specs.Holds.{HoldsOn, Leads};
+ghost use Rattle.pool_core.specs.KeptSafe.{KeepsSafe, SafeOn};
 ghost use Rattle.pool_core.specs.Progresses.{plain_progress};
 ghost use Rattle.pool_core.specs.States.{CountsRefused, refused_calls, shown, told};
 ghost use Rattle.pool_core.specs.StepReplies.{StepReplies};
@@ -17,10 +18,14 @@ use device_model::SectorDevice;
 
 impl<D: SectorDevice> PoolState<D> {
     /// Makes one step. Of the steps only that of a sync calls the device: it makes the next call of its sync.
+    ///
+    /// Over a device that keeps the model it keeps the crash rule, whatever the device answers: from each past with which a
+    /// crash leaves a cut of the entries, at each moment of the step and after it a crash still does.
     pub fn step(&mut self, step: Step) -> Reply
         ensures replied { StepReplies step result (shown self.old) (shown self.new) }
         ensures turns { Turns step result self.old self.new }
         ensures leads { IsTrue D.keeps_model → Leads result (told self.old) (told self.new) }
+        ensures safe { IsTrue D.keeps_model → KeepsSafe step result self.old self.new }
         ensures calls { CallsDevice step result self.old self.new }
         ensures count { CountsRefused (answer_in result) self.old self.new }
     {
@@ -86,6 +91,8 @@ pub fn run<D: SectorDevice>(
         RunsOn steps.items replies.items (shown state.old) (shown state.new)) }
     ensures held { IsTrue D.keeps_model → IfOk result (λ replies.
         HoldsOn steps.items replies.items (told state.old) (told state.new)) }
+    ensures safe { IsTrue D.keeps_model → IfOk result (λ replies.
+        SafeOn steps.items replies.items state.old state.new) }
     ensures count { IfOk result (λ replies.
         refused_calls state.new ≡ counted_in_turn replies.items (refused_calls state.old)) }
     ensures refused { IfErr result (λ e. e ≡ PoolError.NoMemory) }

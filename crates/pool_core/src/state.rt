@@ -1,6 +1,6 @@
 //! A running pool on its device, and each of its steps.
 
-ghost use Rattle.std.specs.Prelude.{◌≡◌, ◌≤◌, IfErr, IfOk, IsTrue, length, map, option_map};
+ghost use Rattle.std.specs.Prelude.{◌≡◌, ◌≤◌, IfErr, IfOk, IsTrue, OnErr, length, map, option_map};
 ghost use Rattle.base.specs.steps.Groups.{Admission};
 ghost use Rattle.base.specs.steps.Refusals.{transaction_of};
 ghost use Rattle.base.specs.steps.Shown.{status_of};
@@ -45,6 +45,7 @@ impl<D: SectorDevice> PoolState<D> {
     ghost use Rattle.sync.specs.Calls.{plain_answer};
     ghost use Rattle.pool_core.specs.Calls.{CallsNext};
     ghost use Rattle.pool_core.specs.Holds.{Leads, sync_step_reply};
+    ghost use Rattle.pool_core.specs.KeptSafe.{BeginsSafe, StepsPhases, disk_of, run_of};
     ghost use Rattle.pool_core.specs.NewStates.{IsExplainedAtFirst, IsHeldAtFirst};
     ghost use Rattle.pool_core.specs.States.{CountsRefused, MakesNoCall, MovesNothing, device_of, shown, told, told_over};
     ghost use Rattle.pool_core.specs.StepAnswers.{Aborts, Begins, ClosesGroup, Commits, Locks, LocksAppend, MarksQuiesced, Reads, StartsSync, StepsSync, TellsDigest, TellsLength, Unlocks};
@@ -56,6 +57,7 @@ impl<D: SectorDevice> PoolState<D> {
         ensures device { device_of result ≡ imported.device }
         ensures explained { ∥ IsExplainedAtFirst (shown result) ∥₁ }
         ensures held { ∥ (IsTrue D.keeps_model → IsHeldAtFirst (told result)) ∥₁ }
+        ensures safe { BeginsSafe result }
     {
         let Imported { device, mounted } = imported;
         PoolState {
@@ -284,6 +286,7 @@ impl<D: SectorDevice> PoolState<D> {
         ensures held { StartsHeld moment result (told_over self.old) (told_over self.new) }
         ensures order { StartsInOrder result (told_over self.old) (told_over self.new) }
         ensures leads { StartLeads result (told_over self.old) (told_over self.new) }
+        ensures unmoved { OnErr result (run_of self.new ≡ run_of self.old) }
         ensures no_call { MakesNoCall result self.old self.new }
     {
         self.pool.start_sync(moment)
@@ -299,6 +302,8 @@ impl<D: SectorDevice> PoolState<D> {
         ensures step { StepsSync result (shown self.old) (shown self.new) }
         ensures leads { IsTrue D.keeps_model
             → Leads (sync_step_reply result) (told self.old) (told self.new) }
+        ensures phases { IsTrue D.keeps_model → StepsPhases result
+            (run_of self.old) (run_of self.new) (disk_of self.old) (disk_of self.new) }
         ensures called { CallsNext (plain_answer result) self.old self.new }
         ensures count { CountsRefused result self.old self.new }
     {
@@ -308,6 +313,7 @@ impl<D: SectorDevice> PoolState<D> {
 
 impl PoolState<MemDevice> {
     ghost use Rattle.device_model.specs.Plans.{with_plan};
+    ghost use Rattle.pool_core.specs.KeptSafe.{on_disk};
     ghost use Rattle.pool_core.specs.States.{device_of, told};
 
     /// Makes the n-th such call of its device from now fail, once, as `MemDevice::fail` does, and changes nothing else. It is
@@ -315,6 +321,7 @@ impl PoolState<MemDevice> {
     pub fn fail(&mut self, fault: Fault, n: u64)
         ensures device { device_of self.new ≡ with_plan fault n (device_of self.old) }
         ensures told { told self.new ≡ told self.old }
+        ensures disk { on_disk self.new ≡ on_disk self.old }
     {
         self.device.fail(fault, n);
     }

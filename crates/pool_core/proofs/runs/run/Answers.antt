@@ -1,7 +1,7 @@
 use Rattle.std.proofs.Common.{◌≡◌, ◌∙◌, [], length, sym, refl, rules}
 use Rattle.std.specs.Vec.Iter.{into_iter_items}
 use Rattle.std.proofs.lemmas.List.{append-nil, nil_from_length}
-use Rattle.pool_core.proofs.MadeRuns.{count_on, holds_on, one_more, runs_on}
+use Rattle.pool_core.proofs.MadeRuns.{count_on, holds_on, one_more, runs_on, safe_on}
 use Rattle.pool_core.proofs.runs.run.Goals as goal
 
 pub loop-step-preserved : goal.loop-step-preserved
@@ -13,7 +13,7 @@ loop-step-preserved g c =
       search rules,
       one_more (into_iter_items c.loop-step.step-iterator) c.in-Some.step (into_iter_items c.next.new.self) c.loop-step.replies.items c.push_reserved.new.self.items
           c.step-reply.result c.args.steps.items c.args.state.now c.loop-step.state c.step-reply.new.self c.in-Some.ensures.steps.0 c.push_reserved.ensures.items
-          (record { replied = made.replied; turns = made.turns; leads = made.leads; calls = made.calls; count = made.count }) c.loop-step.invariant.4,
+          (record { replied = made.replied; turns = made.turns; leads = made.leads; safe = made.safe; calls = made.calls; count = made.count }) c.loop-step.invariant.4,
     )
 
 pub returns-clause-ran : goal.returns-clause-ran
@@ -28,6 +28,9 @@ returns-clause-explained g c = runs_on c.args.steps.items c.loop-step.replies.it
 
 pub returns-clause-held : goal.returns-clause-held
 returns-clause-held g c = λ keeps. holds_on keeps c.args.steps.items c.loop-step.replies.items c.args.state.now c.loop-step.state (returns-clause-ran g c)
+
+pub returns-clause-safe : goal.returns-clause-safe
+returns-clause-safe g c = λ keeps. safe_on keeps c.args.steps.items c.loop-step.replies.items c.args.state.now c.loop-step.state (returns-clause-ran g c)
 
 pub returns-clause-count : goal.returns-clause-count
 returns-clause-count g c = count_on c.args.steps.items c.loop-step.replies.items c.args.state.now c.loop-step.state (returns-clause-ran g c)

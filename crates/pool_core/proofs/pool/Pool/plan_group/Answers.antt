@@ -11,7 +11,7 @@ use Rattle.object_maps.specs.Pointers.{pointers_of}
 use Rattle.base.specs.common.Rising.{rising}
 use Rattle.tree_plans.specs.declared.changes.ObjectChanges.{ObjectChanges}
 use Rattle.tree_plans.specs.declared.planner.TreePlan.{TreePlan}
-use Rattle.tree_plans.specs.Changes.{AreBornBefore, AreInRange, group_of}
+use Rattle.tree_plans.specs.Changes.{AreBornBefore, AreInRange, changes_of_group}
 use Rattle.tree_plans.specs.Marks.{AreChangesOf, pending_ops}
 use Rattle.tree_plans.specs.Plans.{new_block}
 use Rattle.tree_plans.specs.Pointers.{pointers_before}
@@ -67,5 +67,5 @@ returns-clause-no_space c =
     IfErr-weaker c.plan.result _ _ (λ e full no_space. record {
       objects = objects;
       changes = changes;
-      fewer = subst (λ (f : Place → Pointer). AreInRange objects → length (rising pool.free.free) < length (written_by (group_of objects f (contents_after_oldest pool).objects))) (sym old) (full.fewer no_space);
+      fewer = subst (λ (f : Place → Pointer). AreInRange objects → length (rising pool.free.free) < length (written_by (changes_of_group objects f (contents_after_oldest pool).objects))) (sym old) (full.fewer no_space);
     }) (rw (after) at c.plan.ensures.full)

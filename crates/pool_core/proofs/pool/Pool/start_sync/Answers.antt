@@ -113,6 +113,20 @@ returns-in_err-planned-clause-leads c =
     let p = err_from_is_err_and c.from_residual-in_err-planned.result c.from_residual-in_err-planned.ensures.1 in
     rw (p.1) (refused_leads c.args.self.now (pool_told c.reserve_synced.new.self) c.reserve_synced.ensures.kept p.0)
 
+pub returns-in_err-check_running-clause-unmoved : goal.returns-in_err-check_running-clause-unmoved
+returns-in_err-check_running-clause-unmoved c = let p = err_from_is_err_and c.from_residual.result c.from_residual.ensures.1 in rw (p.1) refl
+
+pub returns-in_err-group-clause-unmoved : goal.returns-in_err-group-clause-unmoved
+returns-in_err-group-clause-unmoved c = let p = err_from_is_err_and c.from_residual-in_err-group.result c.from_residual-in_err-group.ensures.1 in rw (p.1) refl
+
+pub returns-in_err-reserve_synced-clause-unmoved : goal.returns-in_err-reserve_synced-clause-unmoved
+returns-in_err-reserve_synced-clause-unmoved c =
+    let p = err_from_is_err_and c.from_residual-in_err-reserve_synced.result c.from_residual-in_err-reserve_synced.ensures.1 in rw (p.1) c.reserve_synced.ensures.unmoved
+
+pub returns-in_err-planned-clause-unmoved : goal.returns-in_err-planned-clause-unmoved
+returns-in_err-planned-clause-unmoved c =
+    let p = err_from_is_err_and c.from_residual-in_err-planned.result c.from_residual-in_err-planned.ensures.1 in rw (p.1) c.reserve_synced.ensures.unmoved
+
 pub returns-in_err-check_running-clause-own : goal.returns-in_err-check_running-clause-own
 returns-in_err-check_running-clause-own c =
     let p = err_from_is_err_and c.from_residual.result c.from_residual.ensures.1 in

@@ -1,4 +1,4 @@
-use Rattle.std.proofs.Common.{◌≡◌, ◌∙◌, ◌≤◌, ◌-◌, ap, filter, map, nat_lt, sym, subst, refl, true, false, Some, None}
+use Rattle.std.proofs.Common.{◌≡◌, ◌∙◌, ◌≤◌, ◌-◌, ap, filter, inl, inr, map, nat_lt, sym, subst, refl, true, false, Some, None}
 use Rattle.std.specs.Prelude.{Bool, Option, Result, option_map}
 use Rattle.std.proofs.lemmas.Result.{err_from_is_err_and}
 use Rattle.base.specs.formats.Geometry.{block_address, block_count}
@@ -265,6 +265,44 @@ returns-in-Err-clause-leads g c = λ keeps past later.
     let before = g.D.SectorDevice.disk c.args.device.now in
     let after = g.D.SectorDevice.disk c.next.new.device in
     (failed_call r.run told.called.call c.in-Err.error before after (told.called.made keeps), refl, failed_running pool r c.next.new.self is told.counts.same told.counts.done)
+
+pub returns-in_err-check_running-clause-phases : goal.returns-in_err-check_running-clause-phases
+returns-in_err-check_running-clause-phases g c = λ keeps. let p = err_from_is_err_and c.from_residual.result c.from_residual.ensures.1 in rw (p.1) (inl (refl, refl))
+
+pub returns-in_default-clause-phases : goal.returns-in_default-clause-phases
+returns-in_default-clause-phases g c = λ keeps. inl (refl, refl)
+
+pub returns-in-Ok-clause-phases : goal.returns-in-Ok-clause-phases
+returns-in-Ok-clause-phases g c = λ keeps.
+    let told = c.in-Ok-Last.ensures in (
+      c.in-Some.running.run,
+      c.next.new.self,
+      ap (λ (o : Option RunningSync). option_map (λ (r : RunningSync). r.run) o) c.in-Some.is,
+      ap (λ (o : Option RunningSync). option_map (λ (r : RunningSync). r.run) o) (c.finish_tree.ensures.sync ∙ c.take.ensures.after),
+      told.counts.last.0 c.in-Ok-Last.field-0-is,
+      record { same = told.counts.same; written = told.written keeps; phases = told.phases keeps },
+    )
+
+pub returns-in-Ok-More-clause-phases : goal.returns-in-Ok-More-clause-phases
+returns-in-Ok-More-clause-phases g c = λ keeps.
+    let told = c.in-Ok-More.ensures in (
+      c.in-Some.running.run,
+      c.next.new.self,
+      ap (λ (o : Option RunningSync). option_map (λ (r : RunningSync). r.run) o) c.in-Some.is,
+      refl,
+      record { same = told.counts.same; written = told.written keeps; phases = told.phases keeps },
+    )
+
+pub returns-in-Err-clause-phases : goal.returns-in-Err-clause-phases
+returns-in-Err-clause-phases g c = λ keeps.
+    let told = c.in-Err.ensures in
+    inr (
+      c.in-Some.running.run,
+      c.next.new.self,
+      ap (λ (o : Option RunningSync). option_map (λ (r : RunningSync). r.run) o) c.in-Some.is,
+      refl,
+      record { same = told.counts.same; written = told.written keeps; phases = told.phases keeps },
+    )
 
 pub returns-in_err-check_running-clause-called : goal.returns-in_err-check_running-clause-called
 returns-in_err-check_running-clause-called g c = rw c.in_err-check_running.ensures.1 refl

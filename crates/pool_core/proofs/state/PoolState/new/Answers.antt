@@ -1,9 +1,15 @@
-use Rattle.std.proofs.Common.{◌∙◌, ℕ, List, ap, sym}
+use Rattle.std.proofs.Common.{◌≡◌, ◌∙◌, ℕ, List, ap, sym}
 use Rattle.std.proofs.Math.Logic.{∥∥₁_elim, ∥∥₁_map, ∥∥₁_prop}
 use Rattle.base.specs.disk.Disk.{bytes_of}
 use Rattle.base.specs.formats.Geometry.{block_count}
 use Rattle.pool_core.specs.Shows.{pool_shown}
 use Rattle.pool_core.proofs.NewStates.{explained_as, held_as, mounted_within}
+use Rattle.std.specs.Prelude.{None, Option, option_map}
+use Rattle.pool_core.specs.declared.pool.RunningSync.{RunningSync}
+use Rattle.base.specs.steps.Shown.{Shown}
+use Rattle.pool_core.specs.KeptSafe.{run_in}
+use Rattle.pool_core.specs.NewStates.{first_past}
+use Rattle.pool_core.proofs.SafeMoments.{idle_kept}
 use Rattle.pool_core.proofs.state.PoolState.new.Goals as goal
 
 pub new-requires : goal.new-requires
@@ -19,3 +25,9 @@ returns-clause-held g c =
     ∥∥₁_elim c.args.imported.stands ∥∥₁_prop (λ stands. ∥∥₁_elim c.args.imported.labels ∥∥₁_prop (λ labels. ∥∥₁_map c.args.imported.explained (λ explained keeps.
     let sized = ap (λ (n : ℕ). block_count n) (sym (g.met.D.SectorDevice.sized keeps c.args.imported.device ∙ c.args.imported.sized)) in
     held_as m c.new.result now c.new.ensures.shown c.new.ensures.tree c.new.ensures.idle sized (stands keeps) (labels keeps) explained)))
+
+pub returns-clause-safe : goal.returns-clause-safe
+returns-clause-safe g c = λ created held began kept.
+    let shown : Shown = pool_shown c.new.result in
+    let none : run_in c.new.result ≡ None = ap (λ (o : Option RunningSync). option_map (λ (r : RunningSync). r.run) o) c.new.ensures.idle in
+    record { held = held created; began = began; kept = idle_kept (run_in c.new.result) (g.D.SectorDevice.disk c.args.imported.device) shown (first_past shown created) none kept }

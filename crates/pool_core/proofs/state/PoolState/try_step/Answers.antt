@@ -43,7 +43,7 @@ pub returns-in-Status : goal.returns-in-Status
 returns-in-Status g c = rw c.in-Status.is (status_step c.status.result c.status.ensures)
 
 pub returns-in-StartSync : goal.returns-in-StartSync
-returns-in-StartSync g c = rw c.in-StartSync.is (start_step _ c.start_sync.ensures.step c.start_sync.ensures.held c.start_sync.ensures.leads c.start_sync.ensures.no_call c.map-in-StartSync.ensures.cases)
+returns-in-StartSync g c = rw c.in-StartSync.is (start_step _ g.met.D.SectorDevice.sized c.start_sync.ensures.step c.start_sync.ensures.held c.start_sync.ensures.leads c.start_sync.ensures.unmoved c.start_sync.ensures.no_call c.map-in-StartSync.ensures.cases)
 
 pub returns-in-SyncStep : goal.returns-in-SyncStep
-returns-in-SyncStep g c = rw c.in-SyncStep.is (sync_step _ _ c.sync_step.ensures.step c.sync_step.ensures.leads c.sync_step.ensures.called c.sync_step.ensures.count c.map-in-SyncStep.ensures.cases)
+returns-in-SyncStep g c = rw c.in-SyncStep.is (sync_step _ _ c.sync_step.ensures.step c.sync_step.ensures.leads c.sync_step.ensures.phases c.sync_step.ensures.called c.sync_step.ensures.count c.map-in-SyncStep.ensures.cases)

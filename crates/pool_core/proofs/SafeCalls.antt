@@ -1,0 +1,126 @@
+-- Each device call of a running sync keeps its pool's disk, and with the last it is at rest on the view of the group that is synced then.
+use Rattle.std.proofs.Common.{◌≡◌, ◌∙◌, ◌⊎◌, inl, inr, ℕ, ◌+◌, ◌<◌, ◌≤◌, List, [], Option, Some, None, filter, nat_le, refl, ap, sym, subst, arith}
+use Rattle.std.specs.Prelude.{IfSome}
+use Rattle.base.specs.crash.Layout.{header_now}
+use Rattle.base.specs.crash.Own.{IsAtRest, IsPhase}
+use Rattle.base.specs.crash.PoolViews.{IsPoolDisk, IsSyncConfig, IsViewOf}
+use Rattle.base.specs.crash.Views.{AreConfigsUpTo}
+use Rattle.base.specs.disk.Disk.{Disk, EachMoment, Moment, bytes_of, disk_size, handed, moments}
+use Rattle.base.specs.disk.Fairness.{HandsOnly, HasFairBytes}
+use Rattle.base.specs.formats.Geometry.{config_place}
+use Rattle.base.specs.history.Past.{Past}
+use Rattle.base.specs.steps.ExactNow.{IsExplainedNow}
+use Rattle.base.specs.steps.Logs.{KeptBlock}
+use Rattle.base.specs.steps.Shown.{Shown, SyncPlan}
+use Rattle.base.specs.steps.Steps as steps
+use Rattle.base.specs.steps.Steps.{State}
+use Rattle.base.proofs.crash.OwnDisks.{configs_weaker}
+use Rattle.base.proofs.disk.Moments.{both, latest, weaker}
+use Rattle.sync.specs.declared.run.SyncRun.{SyncRun}
+use Rattle.sync.specs.Phases.{HasPhaseOf, HasPhasesSince, IsSyncPhase, IsWrittenNext}
+use Rattle.sync.specs.Runs.{call_count}
+use Rattle.sync.proofs.ConfigWrites.{configs_staged}
+use Rattle.sync.proofs.PhasesSince.{ends_at_rest, keeps_phases}
+use Rattle.pool_core.specs.KeptSafe.{IsSyncOnDisk, LeavesOwn, TriesNext}
+use Rattle.pool_core.proofs.OwnMoments.{moment_left}
+use Rattle.pool_core.proofs.SafeMoments.{IsSafeMoment, phases_safe}
+use Rattle.pool_core.proofs.ViewsKept.{SameSyncing, configs_as, header-none, synced_view, syncing_view, view_as}
+
+module _ (run next : SyncRun) (before after : Disk) (s : Shown) (p : Past) (began : p.created ≤ moments before) (x : IsSyncOnDisk run before s p) (tries : TriesNext run next before after) where
+  bytes_each : EachMoment (HasFairBytes run.geometry p.created) before after
+  bytes_each = tries.phases.fair p.created began x.bytes
+
+  bytes_now : HasFairBytes run.geometry p.created after.now
+  bytes_now = latest (HasFairBytes run.geometry p.created) before after bytes_each
+
+  call : EachMoment (IsSyncPhase run x.views) before after × HasPhaseOf next x.views after.now
+  call = tries.phases.phases (bytes_of x.start.now) x.views x.since.leads x.since.made x.since.phase
+
+  -- each moment of the call is safe
+  pub call_safe : IsExplainedNow s p → EachMoment (IsSafeMoment (disk_size before) p) before after
+  call_safe explained = phases_safe s p explained run.geometry x.views x.group x.plan x.created x.syncing x.running x.old_is x.new_is before after bytes_each call.0
+
+  since : HasPhasesSince x.start x.views next after
+  since = keeps_phases x.start before after x.views run next tries.same tries.written tries.phases x.since
+
+  -- no config is written
+  abbrev KnowsConfigs : Moment → Type 0
+  KnowsConfigs m = AreConfigsUpTo run.geometry p.created (handed m) s.guid s.line.synced (λ above content. ⊥)
+
+  configs_known : (m : Moment) → HandsOnly p.created (IsWrittenNext run) (handed before.now) m → KnowsConfigs m
+  configs_known m hands label group name content below some is = elim (hands (config_place run.geometry label) content some) as (λ _. (group ≤ s.line.synced) ⊎ ⊥) [
+    | inl written ↦ let staged = configs_staged run run.sized label content below written in let no_way : None ≡ Some staged.0 = sym x.no_stages ∙ staged.1 in cc
+    | inr was ↦ x.configs label group name content below was is
+  ]
+
+  configs_each : EachMoment KnowsConfigs before after
+  configs_each = weaker (HandsOnly p.created (IsWrittenNext run) (handed before.now)) KnowsConfigs before after configs_known (tries.phases.hands p.created)
+
+  configs : KnowsConfigs after.now
+  configs = latest KnowsConfigs before after configs_each
+
+  -- and what a crash leaves at each moment of the call is the pool's own
+  pub call_own : IsExplainedNow s p → s.log.kept ≡ [] → EachMoment (LeavesOwn (disk_size before) p s.guid) before after
+  call_own explained none = subst (λ (n : ℕ). EachMoment (LeavesOwn n p s.guid) before after) (sym x.bytes.size_is)
+      (weaker (λ m. (HasFairBytes run.geometry p.created m × KnowsConfigs m) × IsSyncPhase run x.views m) (LeavesOwn run.geometry p s.guid) before after
+      (λ m here. moment_left run.geometry m s p explained none here.0.0 here.0.1 x.group x.plan x.views.flushed x.views.new_flushed x.views.old x.views.new x.syncing x.running x.old_is x.new_is
+      (subst (λ (t : ℕ). IsPhase run.geometry t x.views.flushed x.views.new_flushed m x.views.old x.views.new) x.created here.1))
+      (both (λ m. HasFairBytes run.geometry p.created m × KnowsConfigs m) (IsSyncPhase run x.views) before after
+      (both (HasFairBytes run.geometry p.created) KnowsConfigs before after bytes_each configs_each) call.0))
+
+  -- After a call with more behind it, or a refused one, the disk is kept with what is shown then.
+  pub call_kept : (t : Shown) (q : Past) → s.log.kept ≡ [] → t.log.kept ≡ [] → SameSyncing s t p q → next.done < call_count next → IsSyncOnDisk next after t q
+  call_kept t q none still same left =
+      let later = same.plans x.plan x.running in
+      record {
+        no_stages = tries.same.stages ∙ x.no_stages;
+        left = left;
+        group = x.group;
+        plan = later.0;
+        syncing = same.line ∙ x.syncing;
+        running = later.1;
+        start = x.start;
+        views = x.views;
+        created = x.created ∙ sym same.synced.created;
+        since = since;
+        old_is = synced_view s t p q none still x.views.flushed x.views.old same.synced x.old_is;
+        new_is = syncing_view s t p q none still x.views.new_flushed x.views.new x.group x.plan later.0 same x.syncing later.2 later.3 x.new_is;
+        bytes = subst (λ (n : ℕ). HasFairBytes n q.created after.now) (sym tries.same.geometry) (subst (λ (c : ℕ). HasFairBytes run.geometry c after.now) (sym same.synced.created) bytes_now);
+        configs = configs_as (handed after.now) run.geometry next.geometry p.created q.created s.guid t.guid s.line.synced t.line.synced tries.same.geometry same.synced.created same.synced.guid same.synced.synced configs;
+      }
+
+  -- After the last one it is at rest on the view of the sync's group.
+  module _ (none : s.log.kept ≡ []) (header : x.plan.header ≡ s.log.next) (explained : IsExplainedNow s p) (all : next.done ≡ call_count next) where
+    abbrev then : State
+    then = steps.state_after_sync x.group x.plan (record { shown = s; past = p })
+
+    still : then.shown.log.kept ≡ []
+    still = ap (λ (ks : List KeptBlock). filter (λ (b : KeptBlock). nat_le x.plan.header.number b.number) ks) none
+
+    at_rest : IsAtRest run.geometry p.created x.views.new_flushed after.now x.views.new
+    at_rest = subst (λ (n : ℕ). IsAtRest n p.created x.views.new_flushed after.now x.views.new) tries.same.geometry
+        (subst (λ (c : ℕ). IsAtRest next.geometry c x.views.new_flushed after.now x.views.new) x.created (ends_at_rest x.start after x.views next all since).rest.rest)
+
+    last_view : IsViewOf x.views.new_flushed x.views.new then.shown then.past then.shown.line.synced then.shown.root (header_now then.shown.log)
+    last_view = view_as x.views.new_flushed x.views.new s then.shown p then.past x.group x.group x.plan.root x.plan.root x.plan.header (header_now then.shown.log) none still refl refl refl refl
+        (header-none then.shown.log still ∙ sym header) refl x.new_is
+
+    above : s.line.synced ≤ x.group
+    above = let next_one : x.group ≡ s.line.synced + 1 = subst (λ (o : Option ℕ). IfSome o (λ g. g ≡ s.line.synced + 1)) x.syncing explained.exact.groups.line.syncing in omega (arith, next_one)
+
+    last_kept : IsPoolDisk (disk_size after) after.now then.shown then.past
+    last_kept = subst (λ (n : ℕ). IsPoolDisk n after.now then.shown then.past) (sym bytes_now.size_is) (record {
+      bytes = bytes_now;
+      configs = configs_weaker run.geometry p.created (handed after.now) s.guid s.line.synced x.group (λ group content. ⊥) (IsSyncConfig run.geometry then.shown then.past) above (λ group content no_way. absurd no_way) configs;
+      laid = inl (record { v = x.views.new; flushed = x.views.new_flushed; rest = at_rest; is = last_view });
+    })
+
+  pub last_call_kept : (group : ℕ) (plan : SyncPlan) → s.line.syncing ≡ Some group → s.sync ≡ Some plan → s.log.kept ≡ [] → plan.header ≡ s.log.next → IsExplainedNow s p → next.done ≡ call_count next
+      → IsPoolDisk (disk_size after) after.now (steps.state_after_sync group plan (record { shown = s; past = p })).shown (steps.state_after_sync group plan (record { shown = s; past = p })).past
+  last_call_kept group plan syncing running none header explained all =
+      let st : State = record { shown = s; past = p } in
+      let of_group : x.group ≡ group = let same : Some x.group ≡ Some group = sym x.syncing ∙ syncing in cc in
+      let of_plan : x.plan ≡ plan = let same : Some x.plan ≡ Some plan = sym x.running ∙ running in cc in
+      subst (λ (g : ℕ). IsPoolDisk (disk_size after) after.now (steps.state_after_sync g plan st).shown (steps.state_after_sync g plan st).past) of_group
+      (subst (λ (q : SyncPlan). IsPoolDisk (disk_size after) after.now (steps.state_after_sync x.group q st).shown (steps.state_after_sync x.group q st).past) of_plan
+      (last_kept none (ap (λ (q : SyncPlan). q.header) of_plan ∙ header) explained all))

@@ -1,0 +1,105 @@
+-- Each step of a state keeps its crash rule: one that moves nothing, the start of a sync, and a step of it.
+use Rattle.std.proofs.Common.{◌≡◌, ◌∙◌, inl, inr, ℕ, ◌<◌, false, length, Option, Some, None, refl, ap, sym, subst}
+use Rattle.std.specs.Prelude.{Err, IsTrue, Ok, OnErr, Result, option_map}
+use Rattle.base.specs.declared.error.PoolError.{PoolError}
+use Rattle.base.specs.declared.names.Group.{Group}
+use Rattle.base.specs.declared.step.Step as declared_step
+use Rattle.base.specs.declared.step.Step.TheVariants as step
+use Rattle.base.specs.declared.step.Reply as declared_reply
+use Rattle.base.specs.declared.step.Reply.TheVariants as reply
+use Rattle.base.specs.disk.Disk.{bytes_of}
+use Rattle.base.specs.formats.Geometry.{slot_of}
+use Rattle.base.specs.stored.Stored.{Held, NewTree, is_turn}
+use Rattle.base.proofs.common.KeptLists.{Some-injective}
+use Rattle.base.proofs.steps.KeptGroups.{none_there}
+use Rattle.device_model.specs.declared.device.SectorDevice.{Ghosts}
+use Rattle.sync.specs.declared.run.SyncRun.{SyncRun}
+use Rattle.sync.specs.Runs.{call_count}
+use Rattle.pool_core.specs.declared.pool.Pool.{Pool}
+use Rattle.pool_core.specs.declared.pool.RunningSync.{RunningSync}
+use Rattle.pool_core.specs.declared.state.PoolState.{PoolState}
+use Rattle.pool_core.specs.declared.state.Progress.{Progress}
+use Rattle.pool_core.specs.declared.state.Progress.TheVariants.{More, Synced}
+use Rattle.pool_core.specs.Holds.{Leads, new_tree_of, start_reply, sync_step_reply, tree_after}
+use Rattle.pool_core.specs.KeptSafe.{IsSafeStep, KeepsSafe, OnDisk, StepsPhases, disk_of, on_disk, run_of}
+use Rattle.pool_core.specs.States.{device_of, told}
+use Rattle.pool_core.specs.Turns.{Turns, held_after}
+use Rattle.pool_core.proofs.SafeSteps.{last_safe, more_safe, start_safe, still_safe}
+use Rattle.pool_core.proofs.SyncLeads.{was_syncing}
+
+-- what is made of something that is there
+made_of : {A B : Type 0} (f : A → B) (o : Option A) (y : B) → option_map f o ≡ Some y → (x : A) × (o ≡ Some x) × (f x ≡ y)
+made_of f None y is = absurd (let no_way : None ≡ Some y = is in cc)
+made_of f (Some x) y is = (x, refl, Some-injective is)
+
+-- a running sync has calls left
+left_of : (pool : Pool) (run : SyncRun) → option_map (λ (r : RunningSync). r.run) pool.sync ≡ Some run → run.done < call_count run
+left_of pool run is =
+    let r = made_of (λ (r : RunningSync). r.run) pool.sync run is in
+    subst (λ (x : SyncRun). x.done < call_count x) r.2 (pool.running r.0 r.1).left
+
+module _ {Dev : Type 0} {G : Ghosts Dev} where
+  module _ (keeps : IsTrue G.keeps_model) (old new : PoolState Dev G) where
+    -- a step without a call that neither starts a sync nor ends one
+    pub still_keeps : (s : declared_step.Step) (r : declared_reply.Reply) → is_turn r ≡ false → device_of new ≡ device_of old → run_of new ≡ run_of old → Turns s r old new → KeepsSafe s r old new
+    still_keeps s r off device run turns past x =
+        let turn = turns past in
+        let h : Held = held_after s r (told old) (told new) past in
+        subst (λ (y : OnDisk). IsSafeStep s r (on_disk old past) y) (λ k. record { held = h; disk = G.disk (sym device k); run = sym run k })
+        (still_safe (on_disk old past) x s r h (turn.over x.held) off (turn.held keeps x.held))
+
+    -- the start of a sync
+    started_keeps : (moment : ℕ) (group : Group) → ((d : Dev) → length (bytes_of (G.disk d).now) ≡ G.size d) → device_of new ≡ device_of old → Leads (reply.Syncing group) (told old) (told new)
+        → Turns (step.StartSync moment) (reply.Syncing group) old new → KeepsSafe (step.StartSync moment) (reply.Syncing group) old new
+    started_keeps moment group sized device leads turns past x =
+        let turn = turns past in
+        let h : Held = held_after (step.StartSync moment) (reply.Syncing group) (told old) (told new) past in
+        let starts = leads past past in
+        let pool : Pool = new.pool in
+        let r = made_of (new_tree_of pool.tree) pool.sync _ starts.running in
+        let was = pool.running r.0 r.1 in
+        subst (λ (y : OnDisk). IsSafeStep (step.StartSync moment) (reply.Syncing group) (on_disk old past) y)
+        (λ k. record { held = h; disk = G.disk (sym device k); run = option_map (λ (q : RunningSync). q.run) (sym r.1 k) })
+        (start_safe (on_disk old past) x moment group h (r.0).run (tree_after r.0 pool.tree) (turn.over x.held) (turn.held keeps x.held)
+        (ap (λ (d : Dev). bytes_of (G.disk d).now) device) (ap (λ (o : Option RunningSync). option_map (new_tree_of pool.tree) o) r.1)
+        (was.geometry ∙ sym new.sized ∙ ap (λ (d : Dev). G.size d) device ∙ sym (sized old.device)) (none_there (r.0).run.stages (r.0).no_stages)
+        (λ g syncing. was.uberblock.slot ∙ ap (λ (n : ℕ). slot_of n) (Some-injective (sym (was_syncing pool r.0 r.1) ∙ syncing))) (ap (λ (t : NewTree). t.done) r.2) was.left)
+
+    -- started or refused
+    pub start_keeps : (moment : ℕ) (answer : Result Group PoolError) (r : declared_reply.Reply) → r ≡ start_reply answer → ((d : Dev) → length (bytes_of (G.disk d).now) ≡ G.size d)
+        → device_of new ≡ device_of old → OnErr answer (run_of new ≡ run_of old) → Leads r (told old) (told new) → Turns (step.StartSync moment) r old new → KeepsSafe (step.StartSync moment) r old new
+    start_keeps moment (Ok group) r is sized device unmoved leads turns =
+        subst (λ (q : declared_reply.Reply). KeepsSafe (step.StartSync moment) q old new) (sym is)
+        (started_keeps moment group sized device (subst (λ (q : declared_reply.Reply). Leads q (told old) (told new)) is leads)
+        (subst (λ (q : declared_reply.Reply). Turns (step.StartSync moment) q old new) is turns))
+    start_keeps moment (Err e) r is sized device unmoved leads turns = still_keeps (step.StartSync moment) r (ap is_turn is) device unmoved turns
+
+    -- a step of one, by what its call answered
+    stepped_keeps : (answer : Result Progress PoolError) → StepsPhases answer (run_of old) (run_of new) (disk_of old) (disk_of new) → Turns step.SyncStep (sync_step_reply answer) old new
+        → KeepsSafe step.SyncStep (sync_step_reply answer) old new
+    stepped_keeps (Ok More) (run, next, was, is, tries) turns past x =
+        let turn = turns past in
+        let h : Held = held_after step.SyncStep reply.More (told old) (told new) past in
+        subst (λ (y : OnDisk). IsSafeStep step.SyncStep reply.More (on_disk old past) y) (λ k. record { held = h; disk = disk_of new; run = sym is k })
+        (more_safe (on_disk old past) x h (disk_of new) run next was tries (turn.held keeps x.held) reply.More (turn.over x.held) refl refl (left_of new.pool next is))
+    stepped_keeps (Ok (Synced group)) (run, next, was, is, all, tries) turns past x =
+        let turn = turns past in
+        let h : Held = held_after step.SyncStep (reply.Synced group) (told old) (told new) past in
+        subst (λ (y : OnDisk). IsSafeStep step.SyncStep (reply.Synced group) (on_disk old past) y) (λ k. record { held = h; disk = disk_of new; run = sym is k })
+        (last_safe (on_disk old past) x h (disk_of new) run next was tries (turn.held keeps x.held) group (turn.over x.held) all)
+    stepped_keeps (Err e) (inl (run, disk)) turns past x =
+        let turn = turns past in
+        let h : Held = held_after step.SyncStep (reply.Refused e) (told old) (told new) past in
+        subst (λ (y : OnDisk). IsSafeStep step.SyncStep (reply.Refused e) (on_disk old past) y) (λ k. record { held = h; disk = sym disk k; run = sym run k })
+        (still_safe (on_disk old past) x step.SyncStep (reply.Refused e) h (turn.over x.held) refl (turn.held keeps x.held))
+    stepped_keeps (Err e) (inr (run, next, was, is, tries)) turns past x =
+        let turn = turns past in
+        let h : Held = held_after step.SyncStep (reply.Refused e) (told old) (told new) past in
+        subst (λ (y : OnDisk). IsSafeStep step.SyncStep (reply.Refused e) (on_disk old past) y) (λ k. record { held = h; disk = disk_of new; run = sym is k })
+        (more_safe (on_disk old past) x h (disk_of new) run next was tries (turn.held keeps x.held) (reply.Refused e) (turn.over x.held) refl refl (left_of new.pool next is))
+
+    pub sync_keeps : (answer : Result Progress PoolError) (r : declared_reply.Reply) → r ≡ sync_step_reply answer → StepsPhases answer (run_of old) (run_of new) (disk_of old) (disk_of new)
+        → Turns step.SyncStep r old new → KeepsSafe step.SyncStep r old new
+    sync_keeps answer r is phases turns =
+        subst (λ (q : declared_reply.Reply). KeepsSafe step.SyncStep q old new) (sym is)
+        (stepped_keeps answer phases (subst (λ (q : declared_reply.Reply). Turns step.SyncStep q old new) is turns))

@@ -1,0 +1,279 @@
+-- Each step of a pool keeps the crash rule, and each of its moments is safe.
+use Rattle.std.proofs.Common.{◌≡◌, ◌∙◌, inl, inr, ℕ, zero, suc, ◌<◌, ◌≤◌, ◌||◌, Bool, true, false, List, [], ◌∷◌, cond, map, Option, Some, None, refl, ap, sym, subst, arith}
+use Rattle.std.specs.Prelude.{Ok, Err, Result, slice_get, ◌==◌}
+use Rattle.std.specs.List.{flat_map, list_all, list_any}
+use Rattle.std.proofs.lemmas.Bool.{and_parts, false≢true}
+use Rattle.std.proofs.lemmas.List.Folds.{list_any-append}
+use Rattle.base.specs.declared.error.PoolError.{PoolError}
+use Rattle.base.specs.declared.names.Group.{Group}
+use Rattle.base.specs.declared.operation.Op.{Op}
+use Rattle.base.specs.declared.pointer.Pointer.{Pointer}
+use Rattle.base.specs.declared.step.Step as declared_step
+use Rattle.base.specs.declared.step.Step.TheVariants as step
+use Rattle.base.specs.declared.step.Reply as declared_reply
+use Rattle.base.specs.declared.step.Reply.TheVariants as reply
+use Rattle.base.specs.crash.Own.{IsAtRest, IsBetween}
+use Rattle.base.specs.crash.PoolViews.{IsPoolDisk, IsPoolLaid, IsSyncConfig}
+use Rattle.base.specs.crash.Views.{AreConfigsUpTo}
+use Rattle.base.specs.disk.Disk.{Disk, EachMoment, Moment, Write, bytes_of, disk_size, handed, moments}
+use Rattle.base.specs.disk.Fairness.{HasFairBytes}
+use Rattle.base.specs.formats.Geometry.{slot_of}
+use Rattle.base.specs.history.History.{Entry, entries_in}
+use Rattle.base.specs.history.Past.{Past}
+use Rattle.base.specs.history.Plans.{shape_of}
+use Rattle.base.specs.steps.ExactNow.{IsExplainedNow}
+use Rattle.base.specs.steps.Refusals as refusal
+use Rattle.base.specs.steps.Runs.{reply_of, progress_reply}
+use Rattle.base.specs.steps.Shown.{Shown, SyncPlan}
+use Rattle.base.specs.steps.Stage as stage
+use Rattle.base.specs.steps.Stage.{is_shape_built}
+use Rattle.base.specs.steps.Steps as steps
+use Rattle.base.specs.steps.Steps.{State, SyncProgress, ops_of_group}
+use Rattle.base.specs.steps.Steps.SyncProgress.{More, Synced}
+use Rattle.base.specs.stored.Stored.{Held, IsHeld, IsStored, IsSyncing, NewTree, RunsAs, is_turn}
+use Rattle.base.specs.tree.Places.{Place}
+use Rattle.base.specs.tree.Syncs.{is_rename}
+use Rattle.base.proofs.crash.OwnDisks.{configs_weaker}
+use Rattle.base.proofs.disk.Moments.{moments_grow}
+use Rattle.base.proofs.history.CommitOrder.{ok-none}
+use Rattle.base.proofs.steps.StepEffects.{none_syncs}
+use Rattle.sync.specs.declared.run.SyncRun.{SyncRun}
+use Rattle.sync.specs.Runs.{call_count}
+use Rattle.pool_core.specs.Holds.{IsStepOver, made_by}
+use Rattle.pool_core.specs.KeptSafe.{IsDiskKept, IsKeptSafe, IsSafeStep, IsSyncOnDisk, LeavesOwn, OnDisk, TriesNext}
+use Rattle.pool_core.proofs.OwnMoments.{were_left}
+use Rattle.pool_core.proofs.SafeCalls.{call_kept, call_own, call_safe, last_call_kept}
+use Rattle.pool_core.proofs.SafeMoments.{IsSafeMoment, kept_laid, kept_safe, stood_own, stood_safe, were_safe}
+use Rattle.pool_core.proofs.SamePlans.{renames_none}
+use Rattle.pool_core.proofs.StartedViews.{started_kept}
+use Rattle.pool_core.proofs.ViewsKept.{SameSynced, SameSyncing, configs_as, step_leaves, synced_view, syncing_view}
+
+-- no operation of a pool gives it a new name
+no_name : (ops : List Op) → list_all is_shape_built (map shape_of ops) ≡ true → list_any is_rename ops ≡ false
+no_name [] built = refl
+no_name (op ∷ ops) built =
+    let both = and_parts (is_shape_built (shape_of op)) (list_all is_shape_built (map shape_of ops)) built in
+    ap (λ (b : Bool). b || list_any is_rename ops) (renames_none op both.0) ∙ no_name ops both.1
+
+no_names : (group : ℕ) (entries : List Entry) → ((i : ℕ) (e : Entry) → slice_get entries i ≡ Some e → list_any is_rename e.ops ≡ false) → list_any is_rename (ops_of_group group entries) ≡ false
+no_names group [] each = refl
+no_names group (e ∷ entries) each = by_group (e.group == group) (no_names group entries (λ i f at. each (suc i) f at))
+  where
+    by_group : (b : Bool) → list_any is_rename (ops_of_group group entries) ≡ false
+        → list_any is_rename (flat_map (λ (x : Entry). x.ops) (cond b (e ∷ entries_in group entries) (entries_in group entries))) ≡ false
+    by_group true rest =
+        list_any-append is_rename e.ops (flat_map (λ (x : Entry). x.ops) (entries_in group entries)) ∙ ap (λ b. b || list_any is_rename (ops_of_group group entries)) (each zero e refl) ∙ rest
+    by_group false rest = rest
+
+module _ (s : Shown) (p : Past) (explained : IsExplainedNow s p) where
+  -- so no sync of one writes a config
+  no_sync_config : (size group : ℕ) (content : List ℕ) → IsSyncConfig size s p group content → ⊥
+  no_sync_config size group content config =
+      false≢true (sym (no_names group p.entries (λ i e at.
+      let a = explained.exact.groups.members.committed i e at in
+      no_name e.ops (ap (λ plan. list_all is_shape_built plan) a.3 ∙ explained.built e.tx a.0 a.1))) ∙ config.renamed)
+
+  pub plain_configs : (size t : ℕ) (ws : List Write) (guid top : ℕ) → AreConfigsUpTo size t ws guid top (IsSyncConfig size s p) → AreConfigsUpTo size t ws guid top (λ above content. ⊥)
+  plain_configs size t ws guid top known =
+      configs_weaker size t ws guid top top (IsSyncConfig size s p) (λ above content. ⊥) (omega arith) (λ group content config. absurd (no_sync_config size group content config)) known
+
+-- What a step leaves that makes no device call, and neither starts a sync nor ends one.
+module _ (s t : Shown) (p q : Past) (none : s.log.kept ≡ []) (still : t.log.kept ≡ []) (explained : IsExplainedNow s p) (same : SameSyncing s t p q) where
+  abbrev of_synced : SameSynced s t p q
+  of_synced = same.synced
+
+  -- the disk of a pool without a sync
+  pool_stays : (size : ℕ) (m : Moment) → IsPoolDisk size m s p → IsPoolDisk size m t q
+  pool_stays size m kept = record {
+    bytes = subst (λ (c : ℕ). HasFairBytes size c m) (sym of_synced.created) kept.bytes;
+    configs = configs_weaker size q.created (handed m) t.guid t.line.synced t.line.synced (λ above content. ⊥) (IsSyncConfig size t q) (omega arith) (λ group content no_way. absurd no_way)
+        (configs_as (handed m) size size p.created q.created s.guid t.guid s.line.synced t.line.synced refl of_synced.created of_synced.guid of_synced.synced
+        (plain_configs s p explained size p.created (handed m) s.guid s.line.synced kept.configs));
+    laid = by_phase kept.laid;
+  }
+    where
+      by_phase : IsPoolLaid size m s p → IsPoolLaid size m t q
+      by_phase (inl rest) = inl (record {
+        v = rest.v;
+        flushed = rest.flushed;
+        rest = subst (λ (c : ℕ). IsAtRest size c rest.flushed m rest.v) (sym of_synced.created) rest.rest;
+        is = synced_view s t p q none still rest.flushed rest.v of_synced rest.is;
+      })
+      by_phase (inr between) =
+          let later = same.plans between.plan between.running in
+          inr (record {
+            group = between.group;
+            plan = later.0;
+            syncing = same.line ∙ between.syncing;
+            running = later.1;
+            old = between.old;
+            new = between.new;
+            flushed = between.flushed;
+            new_flushed = between.new_flushed;
+            between = subst (λ (c : ℕ). IsBetween size c between.flushed between.new_flushed m between.old between.new) (sym of_synced.created) between.between;
+            old_is = synced_view s t p q none still between.flushed between.old of_synced between.old_is;
+            new_is = syncing_view s t p q none still between.new_flushed between.new between.group between.plan later.0 same between.syncing later.2 later.3 between.new_is;
+          })
+
+  -- and of one with a sync
+  sync_stays : (run : SyncRun) (disk : Disk) → IsSyncOnDisk run disk s p → IsSyncOnDisk run disk t q
+  sync_stays run disk x =
+      let later = same.plans x.plan x.running in
+      record {
+        no_stages = x.no_stages;
+        left = x.left;
+        group = x.group;
+        plan = later.0;
+        syncing = same.line ∙ x.syncing;
+        running = later.1;
+        start = x.start;
+        views = x.views;
+        created = x.created ∙ sym of_synced.created;
+        since = x.since;
+        old_is = synced_view s t p q none still x.views.flushed x.views.old of_synced x.old_is;
+        new_is = syncing_view s t p q none still x.views.new_flushed x.views.new x.group x.plan later.0 same x.syncing later.2 later.3 x.new_is;
+        bytes = subst (λ (c : ℕ). HasFairBytes run.geometry c disk.now) (sym of_synced.created) x.bytes;
+        configs = configs_as (handed disk.now) run.geometry run.geometry p.created q.created s.guid t.guid s.line.synced t.line.synced refl of_synced.created of_synced.guid of_synced.synced x.configs;
+      }
+
+  pub disk_stays : (o : Option SyncRun) (disk : Disk) → IsDiskKept o disk s p → IsDiskKept o disk t q
+  disk_stays None disk kept = pool_stays (disk_size disk) disk.now kept
+  disk_stays (Some run) disk kept = sync_stays run disk kept
+
+-- the next log block stands in the header of a running sync
+header_of_sync : (o : Option NewTree) (now : List ℕ) (s : Shown) (pointers : Place → Pointer) (p : Past) (plan : SyncPlan) → RunsAs now s pointers o p → s.sync ≡ Some plan → plan.header ≡ s.log.next
+header_of_sync None now s pointers p plan none is = absurd (let no_way : None ≡ Some plan = sym none ∙ is in cc)
+header_of_sync (Some new) now s pointers p plan y is =
+    let same : plan ≡ y.plan = let both : Some plan ≡ Some y.plan = sym is ∙ y.running in cc in
+    ap (λ (x : SyncPlan). x.header) same ∙ y.header
+
+-- what the start of a sync is, and its end
+start_of : (now : List ℕ) (moment : ℕ) (group : Group) (answer : Result ℕ PoolError) (old new : State) → reply.Syncing group ≡ reply_of (λ (g : ℕ). reply.Syncing (record { 0 = g })) answer
+    → stage.StartSync (Unit {0}) now moment answer old new → (old.shown.line.syncing ≡ None) × ((g : ℕ) × (plan : SyncPlan) × (new ≡ steps.state_after_start g plan old))
+start_of now moment group (Ok g) old new is h =
+    let d = ok-none (refusal.start_refusal old.shown) g old new _ _ h in
+    (none_syncs old.shown d.0, (g, d.1.0, d.1.4))
+start_of now moment group (Err e) old new is h = absurd (let no_way : reply.Syncing group ≡ reply.Refused e = is in cc)
+
+end_of : (group : Group) (answer : Result SyncProgress PoolError) (old new : State) → reply.Synced group ≡ reply_of progress_reply answer → steps.SyncStep answer old new
+    → (g : ℕ) × (plan : SyncPlan) × (old.shown.line.syncing ≡ Some g) × (old.shown.sync ≡ Some plan) × (new ≡ steps.state_after_sync g plan old)
+end_of group (Ok (Synced g)) old new is h =
+    let d = (ok-none (refusal.sync_step_refusal old.shown) (Synced g) old new _ _ h).1 in
+    (d.0, d.1, d.2, d.3, d.4.2)
+end_of group (Ok More) old new is h = absurd (let no_way : reply.Synced group ≡ reply.More = is in cc)
+end_of group (Err e) old new is h = absurd (let no_way : reply.Synced group ≡ reply.Refused e = is in cc)
+
+started_same : (g : ℕ) (plan : SyncPlan) (s : State) → SameSynced s.shown (steps.state_after_start g plan s).shown s.past (steps.state_after_start g plan s).past
+started_same g plan s = record { guid = refl; import_is = refl; synced = refl; root = refl; log = refl; base = refl; created = refl; acknowledged = refl; entries = refl }
+
+module _ (x : OnDisk) (safe : IsKeptSafe x) where
+  abbrev s : Shown
+  s = x.held.state.shown
+
+  abbrev p : Past
+  p = x.held.state.past
+
+  -- a step that makes no call, and neither starts a sync nor ends one
+  pub still_safe : (st : declared_step.Step) (r : declared_reply.Reply) (h : Held) → IsStepOver st r x.held h → is_turn r ≡ false → IsHeld h → IsSafeStep st r x (record x { held = h })
+  still_safe st r h step off held =
+      let same : SameSyncing s h.state.shown p h.state.past = step_leaves (Unit {0}) x.held.now st r x.held.state h.state step off safe.held.explained in
+      let kept : IsKeptSafe (record x { held = h }) = record {
+        held = held;
+        began = subst (λ (c : ℕ). c ≤ moments x.disk) (sym same.synced.created) safe.began;
+        kept = disk_stays s h.state.shown p h.state.past safe.held.kept.stored.no_log held.kept.stored.no_log safe.held.explained same x.run x.disk safe.kept;
+      } in
+      record { step = step; kept = kept; were = stood_safe x.disk p h.state.past same.synced.acknowledged (kept_safe (record x { held = h }) kept); own = stood_own (record x { held = h }) p same.synced.acknowledged kept }
+
+  -- the start of a sync
+  module _ (moment : ℕ) (group : Group) (h : Held) (run : SyncRun) (tree : Place → Pointer) (made : IsStepOver (step.StartSync moment) (reply.Syncing group) x.held h) (held : IsHeld h)
+      (same_bytes : h.now ≡ bytes_of x.disk.now) (running : h.running ≡ Some (made_by tree run)) (size : run.geometry ≡ disk_size x.disk) (stages : run.stages ≡ None)
+      (slot : (g : ℕ) → h.state.shown.line.syncing ≡ Some g → run.slot ≡ slot_of g) (none : run.done ≡ 0) (left : run.done < call_count run) where
+    abbrev t : Shown
+    t = h.state.shown
+
+    abbrev q : Past
+    q = h.state.past
+
+    begun : (s.line.syncing ≡ None) × ((g : ℕ) × (plan : SyncPlan) × (h.state ≡ steps.state_after_start g plan x.held.state))
+    begun = start_of x.held.now moment group made.0 x.held.state h.state made.1 made.2
+
+    same : SameSynced s t p q
+    same = subst (λ (u : State). SameSynced s u.shown p u.past) (sym begun.1.2) (started_same begun.1.0 begun.1.1 x.held.state)
+
+    stored : IsStored (bytes_of x.disk.now) t h.pointers q
+    stored = subst (λ (l : List ℕ). IsStored l t h.pointers q) same_bytes held.kept.stored
+
+    syncing : IsSyncing (bytes_of x.disk.now) t h.pointers (made_by tree run) q
+    syncing = subst (λ (l : List ℕ). IsSyncing l t h.pointers (made_by tree run) q) same_bytes (subst (λ (o : Option NewTree). RunsAs h.now t h.pointers o q) running held.kept.sync)
+
+    pool : IsPoolDisk run.geometry x.disk.now s p
+    pool = subst (λ (n : ℕ). IsPoolDisk n x.disk.now s p) (sym size) (kept_laid x safe)
+
+    sync_kept : IsPoolLaid run.geometry x.disk.now s p → IsSyncOnDisk run x.disk t q
+    sync_kept (inl rest) =
+        started_kept x.disk t q h.pointers tree run stored syncing held.explained run.sized (sym size) (slot syncing.group syncing.syncing) stages rest.flushed rest.v
+        (subst (λ (c : ℕ). IsAtRest run.geometry c rest.flushed x.disk.now rest.v) (sym same.created) rest.rest)
+        (synced_view s t p q safe.held.kept.stored.no_log held.kept.stored.no_log rest.flushed rest.v same rest.is)
+        (configs_as (handed x.disk.now) run.geometry run.geometry p.created q.created s.guid t.guid s.line.synced t.line.synced refl same.created same.guid same.synced
+        (plain_configs s p safe.held.explained run.geometry p.created (handed x.disk.now) s.guid s.line.synced pool.configs))
+        none left (subst (λ (c : ℕ). HasFairBytes run.geometry c x.disk.now) (sym same.created) pool.bytes)
+    sync_kept (inr between) = absurd (let no_way : None ≡ Some between.group = sym begun.0 ∙ between.syncing in cc)
+
+    pub start_safe : IsSafeStep (step.StartSync moment) (reply.Syncing group) x (record { held = h; disk = x.disk; run = Some run })
+    start_safe =
+        let kept : IsKeptSafe (record { held = h; disk = x.disk; run = Some run }) = record {
+          held = held;
+          began = subst (λ (c : ℕ). c ≤ moments x.disk) (sym same.created) safe.began;
+          kept = sync_kept pool.laid;
+        } in
+        record { step = made; kept = kept; were = stood_safe x.disk p q same.acknowledged (kept_safe (record { held = h; disk = x.disk; run = Some run }) kept); own = stood_own (record { held = h; disk = x.disk; run = Some run }) p same.acknowledged kept }
+
+  -- a call of a sync
+  module _ (h : Held) (after : Disk) (run next : SyncRun) (is : x.run ≡ Some run) (tries : TriesNext run next x.disk after) (held : IsHeld h) where
+    before : IsSyncOnDisk run x.disk s p
+    before = subst (λ (o : Option SyncRun). IsDiskKept o x.disk s p) is safe.kept
+
+    each : EachMoment (IsSafeMoment (disk_size x.disk) p) x.disk after
+    each = call_safe run next x.disk after s p safe.began before tries safe.held.explained
+
+    owns : EachMoment (LeavesOwn (disk_size x.disk) p s.guid) x.disk after
+    owns = call_own run next x.disk after s p safe.began before tries safe.held.explained safe.held.kept.stored.no_log
+
+    later : moments x.disk ≤ moments after
+    later = moments_grow (IsSafeMoment (disk_size x.disk) p) x.disk after each
+
+    -- with more behind it, or refused
+    pub more_safe : (r : declared_reply.Reply) → IsStepOver step.SyncStep r x.held h → is_turn r ≡ false → h.state.past ≡ p → next.done < call_count next
+        → IsSafeStep step.SyncStep r x (record { held = h; disk = after; run = Some next })
+    more_safe r made off same_past left =
+        let same : SameSyncing s h.state.shown p h.state.past = step_leaves (Unit {0}) x.held.now step.SyncStep r x.held.state h.state made off safe.held.explained in
+        let created : h.state.past.created ≡ p.created = same.synced.created in
+        record {
+          step = made;
+          kept = record {
+            held = held;
+            began = omega (arith, created, safe.began, later);
+            kept = call_kept run next x.disk after s p safe.began before tries h.state.shown h.state.past safe.held.kept.stored.no_log held.kept.stored.no_log same left;
+          };
+          were = were_safe x.disk after p h.state.past p (λ k. record (same_past k) { acknowledged = p.acknowledged }) each;
+          own = were_left x.disk after p h.state.past p s.guid h.state.shown.guid (λ k. record (same_past k) { acknowledged = p.acknowledged }) same.synced.guid owns;
+        }
+
+    -- the last one
+    pub last_safe : (group : Group) → IsStepOver step.SyncStep (reply.Synced group) x.held h → next.done ≡ call_count next
+        → IsSafeStep step.SyncStep (reply.Synced group) x (record { held = h; disk = after; run = None })
+    last_safe group made all =
+        let over = end_of group made.0 x.held.state h.state made.1 made.2 in
+        let header : over.1.header ≡ s.log.next = header_of_sync x.held.running x.held.now s x.held.pointers p over.1 safe.held.kept.sync over.3 in
+        let created : h.state.past.created ≡ p.created = ap (λ (u : State). u.past.created) over.4 in
+        record {
+          step = made;
+          kept = record {
+            held = held;
+            began = omega (arith, created, safe.began, later);
+            kept = subst (λ (u : State). IsPoolDisk (disk_size after) after.now u.shown u.past) (sym over.4)
+                (last_call_kept run next x.disk after s p safe.began before tries over.0 over.1 over.2 over.3 safe.held.kept.stored.no_log header safe.held.explained all);
+          };
+          were = were_safe x.disk after p h.state.past p (λ k. record (over.4 k).past { acknowledged = p.acknowledged }) each;
+          own = were_left x.disk after p h.state.past p s.guid h.state.shown.guid (λ k. record (over.4 k).past { acknowledged = p.acknowledged }) (ap (λ (u : State). u.shown.guid) over.4) owns;
+        }

@@ -1,0 +1,161 @@
+-- What a pool keeps of its disk for crashes, step by step.
+use Rattle.std.specs.Prelude.{ℕ, ◌≡◌, ◌≤◌, ◌<◌, ◌⊎◌, ◌++◌, ◌∷◌, List, Option, Some, None, Result, Ok, Err, option_map}
+use Rattle.base.specs.declared.error.PoolError.{PoolError}
+use Rattle.base.specs.declared.step.Step as declared_step
+use Rattle.base.specs.declared.step.Reply as declared_reply
+use Rattle.base.specs.crash.CrashRule.{IsRunLeft}
+use Rattle.base.specs.crash.Layout.{header_now}
+use Rattle.base.specs.crash.Own.{IsOwnImage}
+use Rattle.base.specs.crash.PoolViews.{IsPoolDisk, IsViewOf}
+use Rattle.base.specs.crash.Views.{AreConfigsUpTo}
+use Rattle.base.specs.disk.Disk.{Disk, EachMoment, Moment, disk_size, handed, moments}
+use Rattle.base.specs.disk.Fairness.{HasFairBytes, LeavesFair}
+use Rattle.base.specs.history.Contents.{Contents}
+use Rattle.base.specs.history.Past.{Past}
+use Rattle.base.specs.steps.Additions.{past_after}
+use Rattle.base.specs.steps.Explains.{AreSafe, IsLeftBy, WereSafe}
+use Rattle.base.specs.steps.Runs.{Run}
+use Rattle.base.specs.steps.Shown.{Shown, SyncPlan}
+use Rattle.base.specs.stored.Stored.{Held, IsHeld}
+use Rattle.device_model.specs.declared.device.SectorDevice.{Ghosts}
+use Rattle.sync.specs.declared.run.SyncRun.{SyncRun}
+use Rattle.sync.specs.Made.{KeepsWritten}
+use Rattle.sync.specs.Phases.{HasPhasesSince, KeepsPhases, SyncViews}
+use Rattle.sync.specs.Runs.{SameSync, call_count}
+use Rattle.pool_core.specs.declared.pool.Pool.{Pool}
+use Rattle.pool_core.specs.declared.pool.RunningSync.{RunningSync}
+use Rattle.pool_core.specs.declared.state.PoolState.{PoolState}
+use Rattle.pool_core.specs.declared.state.Progress.{Progress}
+use Rattle.pool_core.specs.declared.state.Progress.TheVariants.{More, Synced}
+use Rattle.pool_core.specs.Holds.{IsStepOver, held_with, state_with}
+use Rattle.pool_core.specs.NewStates.{IsHeldAtFirst, first_past}
+use Rattle.pool_core.specs.States.{shown, told}
+
+-- a pool over its disk: what is told of it with its past, the disk, and the calls of its running sync
+pub record OnDisk : Type 0 where
+  pub held : Held
+  pub disk : Disk
+  pub run : Option SyncRun
+
+-- While a sync runs: since it began it leads from the view of the synced group to that of its own, and each moment since then was of one of
+-- its phases. What a read gives is fair, and no config of the pool above the synced group counts. (None writes label stages so far.)
+pub record IsSyncOnDisk (run : SyncRun) (disk : Disk) (s : Shown) (past : Past) : Type 0 where
+  pub no_stages : run.stages ≡ None
+  pub left : run.done < call_count run
+  pub group : ℕ
+  pub plan : SyncPlan
+  pub syncing : s.line.syncing ≡ Some group
+  pub running : s.sync ≡ Some plan
+  pub start : Disk
+  pub views : SyncViews
+  pub created : views.created ≡ past.created
+  pub since : HasPhasesSince start views run disk
+  pub old_is : IsViewOf views.flushed views.old s past s.line.synced s.root (header_now s.log)
+  pub new_is : IsViewOf views.new_flushed views.new s past group plan.root plan.header
+  pub bytes : HasFairBytes run.geometry past.created disk.now
+  pub configs : AreConfigsUpTo run.geometry past.created (handed disk.now) s.guid s.line.synced (λ above content. ⊥)
+
+-- the disk is kept: at rest on the view of the synced group, or on the way of the sync that runs
+abbrev pub IsDiskKept : Option SyncRun → Disk → Shown → Past → Type 0
+IsDiskKept None disk s past = IsPoolDisk (disk_size disk) disk.now s past
+IsDiskKept (Some run) disk s past = IsSyncOnDisk run disk s past
+
+-- The crash rule of a pool with its past: the device holds what it should, and its disk, on which the create of the pool began at a moment of
+-- the past, is kept.
+pub record IsKeptSafe (x : OnDisk) : Type 0 where
+  pub held : IsHeld x.held
+  pub began : x.held.state.past.created ≤ moments x.disk
+  pub kept : IsDiskKept x.run x.disk x.held.state.shown x.held.state.past
+
+-- At this moment what a read gives is fair, and every fair image that a crash leaves is one that this pool alone wrote, and mounts the replay of
+-- a cut with every acknowledged entry.
+abbrev pub LeavesOwn : ℕ → Past → ℕ → Moment → Type 0
+LeavesOwn size past guid m = LeavesFair size past.created (λ image. (c : Contents) × IsLeftBy past c × IsOwnImage size past.created image m guid c) m
+
+-- the past as it is within a step: what it acknowledges is told from its end on
+abbrev pub past_within : OnDisk → OnDisk → Past
+past_within old new = record new.held.state.past { acknowledged = old.held.state.past.acknowledged }
+
+-- so it was at each moment of a step
+abbrev pub WereOwn : OnDisk → OnDisk → Type 0
+WereOwn old new = EachMoment (LeavesOwn (disk_size old.disk) (past_within old new) new.held.state.shown.guid) old.disk new.disk
+
+-- A step of the definitions, over the bytes before it, after which the crash rule stands. At each of its moments the disk was safe, and the
+-- pool's own.
+pub record IsSafeStep (s : declared_step.Step) (r : declared_reply.Reply) (old new : OnDisk) : Type 0 where
+  pub step : IsStepOver s r old.held new.held
+  pub kept : IsKeptSafe new
+  pub were : WereSafe old.disk new.disk old.held.state.past new.held.state.past
+  pub own : WereOwn old new
+
+-- The next device call of a sync was tried: what it has made then, and that each moment of the call is of one of its phases.
+pub record TriesNext (run next : SyncRun) (before after : Disk) : Type 0 where
+  pub same : SameSync run next
+  pub written : KeepsWritten run next before.now after.now
+  pub phases : KeepsPhases run next before after
+
+-- A step of a sync tries the next call of the running one: it has calls left then, or that was the last, or the device refused it. Refused
+-- before a call it leaves the sync and the disk.
+abbrev pub StepsPhases : Result Progress PoolError → Option SyncRun → Option SyncRun → Disk → Disk → Type 0
+StepsPhases (Ok More) old new before after = (run next : SyncRun) × (old ≡ Some run) × (new ≡ Some next) × TriesNext run next before after
+StepsPhases (Ok (Synced group)) old new before after =
+    (run next : SyncRun) × (old ≡ Some run) × (new ≡ None) × (next.done ≡ call_count next) × TriesNext run next before after
+StepsPhases (Err e) old new before after =
+    ((new ≡ old) × (after ≡ before)) ⊎ ((run next : SyncRun) × (old ≡ Some run) × (new ≡ Some next) × TriesNext run next before after)
+
+-- the calls of the sync that runs
+abbrev pub run_in : Pool → Option SyncRun
+run_in pool = option_map (λ (r : RunningSync). r.run) pool.sync
+
+module _ {Dev : Type 0} {G : Ghosts Dev} where
+  abbrev pub disk_of : PoolState Dev G → Disk
+  disk_of state = G.disk state.device
+
+  abbrev pub run_of : PoolState Dev G → Option SyncRun
+  run_of state = run_in state.pool
+
+  -- a state with a past, over the disk of its device
+  abbrev pub on_disk : PoolState Dev G → Past → OnDisk
+  on_disk state past = record { held = held_with (told state) past; disk = disk_of state; run = run_of state }
+
+  -- from each past with the crash rule the step leads with this reply to the past after it, safely
+  abbrev pub KeepsSafe : declared_step.Step → declared_reply.Reply → PoolState Dev G → PoolState Dev G → Type 0
+  KeepsSafe s r old new = (past : Past) → IsKeptSafe (on_disk old past) → IsSafeStep s r (on_disk old past) (on_disk new (past_after s r (state_with (told old) past)))
+
+  -- From each past with the crash rule the steps with these replies are safe ones, each over the bytes of the state before it, to a later past
+  -- with the crash rule.
+  abbrev pub SafeOn : List declared_step.Step → List declared_reply.Reply → PoolState Dev G → PoolState Dev G → Type 0
+  SafeOn ss rs old new = (past : Past) → IsKeptSafe (on_disk old past) → (later : Past) × Run IsSafeStep ss rs (on_disk old past) (on_disk new later) × IsKeptSafe (on_disk new later)
+
+  -- where the disk of a new state is at rest on the view of its group, the crash rule stands with the first past
+  abbrev pub BeginsSafe : PoolState Dev G → Type 0
+  BeginsSafe state = (created : ℕ) → IsHeldAtFirst (told state) → created ≤ moments (disk_of state)
+      → IsPoolDisk (disk_size (disk_of state)) (disk_of state).now (shown state) (first_past (shown state) created)
+      → IsKeptSafe (on_disk state (first_past (shown state) created))
+
+-- what the crash rule says of crashes: now every fair image mounts to a cut with every acknowledged entry
+abbrev pub KeptPoolsAreSafe : Type 0
+KeptPoolsAreSafe = (x : OnDisk) → IsKeptSafe x → AreSafe x.disk x.held.state.past
+
+-- and the pool alone wrote it, so that a later import finds the pool's own disk
+abbrev pub KeptPoolsLeaveTheirOwn : Type 0
+KeptPoolsLeaveTheirOwn = (x : OnDisk) → IsKeptSafe x → IsRunLeft x.disk x.held.state.past x.held.state.shown.guid
+
+-- while a sync runs, too, the disk is laid out as that of a pool
+abbrev pub KeptPoolsAreLaid : Type 0
+KeptPoolsAreLaid = (x : OnDisk) → IsKeptSafe x → IsPoolDisk (disk_size x.disk) x.disk.now x.held.state.shown x.held.state.past
+
+-- a disk between the two, as a crash finds it that stops the calls that lead from the one to the other
+pub record IsStoppedIn (old ended new : Disk) : Type 0 where
+  pub rest : List Moment
+  pub joined : new.now ∷ new.past ≡ rest ++ ended.now ∷ ended.past
+  pub since : moments old ≤ moments ended
+
+-- so is a disk on which a crash stops a step, with all that was acknowledged before it
+abbrev pub StoppedStepsAreSafe : Type 0
+StoppedStepsAreSafe = (s : declared_step.Step) (r : declared_reply.Reply) (old new : OnDisk) (ended : Disk) → IsSafeStep s r old new → IsStoppedIn old.disk ended new.disk
+    → AreSafe ended (past_within old new)
+
+abbrev pub StoppedStepsLeaveTheirOwn : Type 0
+StoppedStepsLeaveTheirOwn = (s : declared_step.Step) (r : declared_reply.Reply) (old new : OnDisk) (ended : Disk) → IsKeptSafe old → IsSafeStep s r old new → IsStoppedIn old.disk ended new.disk
+    → IsRunLeft ended (past_within old new) new.held.state.shown.guid

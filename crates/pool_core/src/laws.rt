@@ -1,0 +1,33 @@
+//! What the crash rule of a pool says: each function's contract is a law, and its body does nothing.
+
+ghost use Rattle.pool_core.specs.KeptSafe.{KeptPoolsAreLaid, KeptPoolsAreSafe};
+ghost use Rattle.pool_core.specs.KeptSafe.{KeptPoolsLeaveTheirOwn, StoppedStepsLeaveTheirOwn};
+ghost use Rattle.pool_core.specs.KeptSafe.{StoppedStepsAreSafe};
+
+/// Of a pool that keeps the crash rule every fair image that a crash now may leave mounts the replay of a conflict-closed
+/// cut of its entries with every acknowledged one.
+pub fn kept_pools_are_safe()
+    ensures { KeptPoolsAreSafe }
+{}
+
+/// What a crash leaves of it is a disk that this pool alone wrote, so that a later import and its run go on from there.
+pub fn kept_pools_leave_their_own()
+    ensures { KeptPoolsLeaveTheirOwn }
+{}
+
+/// Its disk is laid out as that of a pool: at rest on the view of the synced group, or between it and the view of the
+/// running sync's.
+pub fn kept_pools_are_laid()
+    ensures { KeptPoolsAreLaid }
+{}
+
+/// Where a crash stops a step between its device calls, or within one, it is safe with what was acknowledged before the
+/// step.
+pub fn stopped_steps_are_safe()
+    ensures { StoppedStepsAreSafe }
+{}
+
+/// And it leaves a disk that this pool alone wrote.
+pub fn stopped_steps_leave_their_own()
+    ensures { StoppedStepsLeaveTheirOwn }
+{}
