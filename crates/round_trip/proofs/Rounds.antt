@@ -22,7 +22,7 @@ use Rattle.device_model.specs.declared.device.SectorDevice.{Ghosts}
 use Rattle.pool_core.specs.declared.state.PoolState.{PoolState}
 use Rattle.pool_core.specs.Holds.{KeepsHeld, Leads, Told, held_with, state_with}
 use Rattle.pool_core.specs.States.{told}
-use Rattle.pool_core.specs.Turns.{MakesStep, state_after}
+use Rattle.pool_core.specs.Turns.{MakesStep, turned_state}
 use Rattle.round_trip.specs.Rounds.{AreLeft, HoldsContents, IsAllSynced, IsOpened, IsCleanRound}
 
 -- an image without log blocks has no chain
@@ -92,7 +92,7 @@ module _ {Dev : Type 0} {G : Ghosts Dev} (keep : IsTrue G.keeps_model) where
       let t = makes.turns past in
       let later : Past = past_after s r (state_with before past) in
       let held_then : IsHeld (held_with after later) = t.held keep held in
-      let grows = runs_grow (s ∷ []) (r ∷ []) (state_with before past) (state_after s r before after past) (state_after s r before after past, ([], t.step held.explained), refl) in
+      let grows = runs_grow (s ∷ []) (r ∷ []) (state_with before past) (turned_state s r before after past) (turned_state s r before after past, ([], t.step held.explained), refl) in
       let next = led ss rs middle new rest later held_then (still_none r before after past held (makes.leads keep) none) in
       record {
         later = next.later;

@@ -1,18 +1,27 @@
-//! A client of the pool without any crash: what one run leaves on its device is what the next import finds.
+//! A client of the pool: what one run leaves on its device is what the next import finds, without any crash and with crashes.
 //!
-//! It shows that the contracts of `create`, `import`, `PoolState::new`, `run` and `into_device` fit together: each
-//! function here is a few of these calls, and its clauses follow from theirs.
+//! It shows that the contracts of `create`, `import`, `PoolState::new`, `run`, `into_device` and `MemDevice::crash` fit
+//! together: each function here is a few of these calls, and its clauses follow from theirs. Those of this file go on without
+//! any crash.
 #![tactic(auto)]
 
 ghost use Rattle.std.specs.Prelude.{◌≡◌, IfErr, IfOk, IsTrue, OnOk};
-ghost use Rattle.base.specs.disk.Disk.{bytes_of};
+ghost use Rattle.base.specs.crash.CrashRule.{KeepsOwn};
+ghost use Rattle.base.specs.crash.Own.{IsOwnWith};
+ghost use Rattle.base.specs.disk.Disk.{bytes_of, moments};
 ghost use Rattle.import_replay.specs.CreateRefusals.{CanCreate, IsCreateRefusal};
 ghost use Rattle.import_replay.specs.Creations.{IsNewPool};
 ghost use Rattle.import_replay.specs.ImportRefusals.{CanImport, IsImportRefusal, IsReason};
+ghost use Rattle.import_replay.specs.OwnCreations.{HasEarlierWrites, first_contents};
+ghost use Rattle.import_replay.specs.RunStarts.{StartsRun};
 ghost use Rattle.object_maps.specs.ContentsShown.{contents_of};
+ghost use Rattle.round_trip.specs.Crashes.{GoesOnFrom};
 ghost use Rattle.round_trip.specs.Rounds.{GoesRound, HoldsNew, IsFoundAfter, IsOpened, IsPlayRefusal, KeepsNoLog, ShowsHeld};
 
+mod crashes;
+
 use base::{PoolError, Reply, Step};
+pub use crashes::{End, Round, go_round, go_rounds, import_and_run, play_rounds};
 use device_model::SectorDevice;
 use import_replay::{Imported, create, import};
 use pool_core::{PoolState, run};
@@ -32,6 +41,10 @@ pub fn make<D: SectorDevice + Drop>(
         → IfOk result (λ d. HoldsNew (bytes_of (D.disk d).now) name.now) }
     ensures written { IsTrue D.keeps_model
         → IfOk result (λ d. IsNewPool (bytes_of (D.disk d).now) name.now guid moment) }
+    ensures own { IsTrue D.keeps_model → HasEarlierWrites (D.disk device) → IfOk result
+        (λ d. IsOwnWith (D.disk d) (moments (D.disk device)) guid (first_contents name.now)) }
+    ensures goes_on { IsTrue D.keeps_model
+        → IfOk result (λ d. GoesOnFrom (D.disk device) (D.disk d)) }
     ensures size { IfOk result (λ d. D.size d ≡ D.size device) }
     ensures made { OnOk result (CanCreate (D.size device) name.now) }
     ensures refusal { IfErr result (λ e. IsCreateRefusal (D.size device) name.now e) }
@@ -58,6 +71,10 @@ pub fn open<D: SectorDevice + Drop>(
         (λ i. KeepsNoLog (bytes_of (D.disk device).now) (bytes_of (D.disk i.device).now)) }
     ensures opened { IsTrue D.keeps_model → IfOk result
         (λ i. IsOpened (bytes_of (D.disk device).now) (bytes_of (D.disk i.device).now) moment) }
+    ensures own { IsTrue D.keeps_model
+        → IfOk result (λ i. KeepsOwn (D.disk device) (D.disk i.device)) }
+    ensures starts { IsTrue D.keeps_model
+        → IfOk result (λ i. StartsRun (D.disk device) dirty_max (D.disk i.device) i.mounted) }
     ensures limit { IfOk result (λ i. i.mounted.dirty_max ≡ dirty_max) }
     ensures made { OnOk result (CanImport (D.size device) dirty_max) }
     ensures refusal { IfErr result (λ e. IsImportRefusal (D.size device) dirty_max e) }

@@ -1,5 +1,6 @@
 use Rattle.std.proofs.Common.{ℕ, List, refl}
 use Rattle.base.specs.disk.Disk.{bytes_of}
+use Rattle.base.proofs.disk.Moments.{weaker}
 use Rattle.base.proofs.stored.StoredImports.{zeros-no_log}
 use Rattle.round_trip.proofs.make.Goals as goal
 
@@ -15,3 +16,7 @@ returns-in-Ok-clause-held g c = λ keeps.
 
 pub returns-in-Ok-clause-written : goal.returns-in-Ok-clause-written
 returns-in-Ok-clause-written g c = λ keeps. c.in-Ok.ensures.written keeps _ (record { size = refl; others = λ i still. refl })
+
+pub returns-in-Ok-clause-goes_on : goal.returns-in-Ok-clause-goes_on
+returns-in-Ok-clause-goes_on g c = λ keeps.
+    weaker _ (λ m. Unit {0}) (g.D.SectorDevice.disk c.args.device) (g.D.SectorDevice.disk c.in-Ok.device) (λ m here. tt) (c.in-Ok.ensures.outside keeps)

@@ -1,0 +1,253 @@
+-- What is left of a pool goes on over imports, steps and crashes.
+use Rattle.std.proofs.Common.{arith, ◌≡◌, ◌∙◌, inl, inr, ℕ, ◌++◌, List, [], ◌∷◌, refl, sym, ap, subst, append_assoc}
+use Rattle.std.specs.Prelude.{Result, IfOk, IsTrue, OnErr, Ok, Err}
+use Rattle.std.specs.Global.{Vec}
+use Rattle.std.proofs.Math.Logic.{∥∥₁_map}
+use Rattle.std.specs.FinMap as finite
+use Rattle.std.specs.Ordering.{nat_cmp}
+use Rattle.base.specs.declared.step.Step as declared_step
+use Rattle.base.specs.declared.step.Reply as declared_reply
+use Rattle.base.specs.crash.CrashRule.{IsImportKept, IsImportMoment, IsOwnOnceFlushed, KeepsOwn}
+use Rattle.base.specs.crash.Own.{IsOwnWith}
+use Rattle.base.specs.declared.error.PoolError.{PoolError}
+use Rattle.base.specs.declared.piece.Piece.{Piece}
+use Rattle.base.specs.crash.PoolViews.{IsPoolDisk}
+use Rattle.base.specs.disk.Crashes.{crash_image}
+use Rattle.base.specs.disk.Disk.{Disk, MayLeave, Write, bytes_of, certain, certain_with, disk_size, moments, settled}
+use Rattle.base.specs.disk.Fairness.{IsFairOn}
+use Rattle.base.specs.history.Contents.{Contents}
+use Rattle.base.specs.history.Past.{Past, new_past}
+use Rattle.base.specs.steps.Shown.{Shown}
+use Rattle.base.specs.steps.Explains.{IsLeftBy}
+use Rattle.base.specs.steps.Runs.{Run}
+use Rattle.base.proofs.crash.CrashRule.{own_certain}
+use Rattle.base.proofs.disk.Moments.{bytes_may_be_left, goes_on, joins, starts, weaker}
+use Rattle.base.proofs.steps.Additions.{step_grows}
+use Rattle.device_model.specs.declared.device.SectorDevice.{Ghosts}
+use Rattle.object_maps.specs.ContentsShown.{contents_of}
+use Rattle.import_replay.specs.Mounts.{shown_of_import}
+use Rattle.import_replay.specs.OwnCreations.{first_contents}
+use Rattle.import_replay.specs.RunStarts.{IsRunStart, StartsRun}
+use Rattle.import_replay.specs.declared.mounted.Mounted.{Mounted}
+use Rattle.pool_core.specs.declared.state.PoolState.{PoolState}
+use Rattle.pool_core.specs.KeptSafe.{BeginsSafe, IsKeptSafe, IsSafeStep, OnDisk, SafeOn, disk_of, on_disk}
+use Rattle.pool_core.specs.NewStates.{IsHeldAtFirst, first_past}
+use Rattle.pool_core.specs.States.{shown, told}
+use Rattle.pool_core.proofs.SafeMoments.{kept_own}
+use Rattle.round_trip.specs.Crashes.{Answer, FindsCuts, FindsCutsFrom, FindsCutsOfNew, GoesAsRound, GoesOnAs, GoesOnFrom, IsEndOf, IsFairEnd, IsLeft, IsOverFor, IsRound, IsRoundOver}
+use Rattle.round_trip.specs.declared.crashes.End.{End}
+use Rattle.round_trip.specs.declared.crashes.End.TheVariants.{Crash, GivenUp}
+use Rattle.round_trip.specs.declared.crashes.Round.{Round}
+
+-- a disk that its pool alone wrote, with contents that a run left
+own_left : (disk : Disk) (past : Past) (guid : ℕ) (contents : Contents) → IsLeftBy past contents → IsOwnWith disk past.created guid contents → IsLeft past disk
+own_left disk past guid contents left own = (
+  guid,
+  record { began = own.began; left = record { bytes = own.left.bytes; each = λ image may fair. (contents, left, own.left.each image may fair) } },
+)
+
+-- what a run left is the pool's own once it is flushed, with contents that the run left
+pub record IsLeftOnceFlushed (past : Past) (disk : Disk) : Type 0 where
+  pub guid : ℕ
+  pub contents : Contents
+  pub left : IsLeftBy past contents
+  pub own : IsOwnOnceFlushed disk past.created guid contents
+
+pub left_flushed : (past : Past) (disk : Disk) → IsLeft past disk → IsLeftOnceFlushed past disk
+left_flushed past disk (guid, run) =
+    let may : MayLeave disk.now (bytes_of disk.now) = bytes_may_be_left disk.now in
+    let fair : IsFairOn disk past.created (bytes_of disk.now) = run.left.bytes.fair in
+    let here = run.left.each (bytes_of disk.now) may fair in
+    record { guid = guid; contents = here.0; left = here.1; own = own_certain disk past.created guid here.0 (bytes_of disk.now) run.began may fair here.2 }
+
+-- a fair crash leaves what the run left
+pub left_crashed : (past : Past) (disk : Disk) (image : List ℕ) → MayLeave disk.now image → IsFairOn disk past.created image → IsLeft past disk → IsLeft past (certain image disk)
+left_crashed past disk image may fair (guid, run) =
+    let here = run.left.each image may fair in
+    own_left (certain image disk) past guid here.0 here.1 (own_certain disk past.created guid here.0 image run.began may fair here.2)
+
+certain_goes_on : (disk : Disk) (image : List ℕ) → GoesOnFrom disk (certain image disk)
+certain_goes_on disk image = by_cases disk.now.unflushed
+  where
+    by_cases : (ws : List Write) → GoesOnFrom disk (certain_with image disk ws)
+    by_cases [] = starts (λ m. Unit {0}) disk tt
+    by_cases (w ∷ ws) = goes_on (λ m. Unit {0}) disk disk (settled image disk.now) (starts (λ m. Unit {0}) disk tt) tt
+
+-- the disk of an import goes on from the one that it was handed
+import_goes_on : (old new : Disk) (created guid : ℕ) (contents : Contents) → IsImportKept old new created guid contents → GoesOnFrom old new
+import_goes_on old new created guid contents (inl same) = subst (λ (d : Disk). GoesOnFrom old d) (sym same) (starts (λ m. Unit {0}) old tt)
+import_goes_on old new created guid contents (inr steady) =
+    let flushed : Disk = certain (bytes_of old.now) old in
+    joins (λ m. Unit {0}) old flushed new (certain_goes_on old (bytes_of old.now))
+    (weaker (IsImportMoment _ created steady.phases.old steady.phases.new) (λ m. Unit {0}) flushed new (λ m here. tt) steady.phases.each)
+
+kept_left : (past : Past) (old new : Disk) → IsLeft past old → (f : IsLeftOnceFlushed past old) → IsImportKept old new past.created f.guid f.contents → IsLeft past new
+kept_left past old new was f (inl same) = subst (λ (d : Disk). IsLeft past d) (sym same) was
+kept_left past old new was f (inr steady) = own_left new past f.guid f.contents f.left steady.own
+
+-- an import, whatever it answers, leaves what the run before it left
+pub record IsLeftByImport (past : Past) (old new : Disk) : Type 0 where
+  pub goes_on : GoesOnFrom old new
+  pub left : IsLeft past new
+
+pub import_left : (past : Past) (old new : Disk) → IsLeft past old → KeepsOwn old new → IsLeftByImport past old new
+import_left past old new was keeps =
+    let f = left_flushed past old was in
+    let kept = keeps past.created f.guid f.contents f.own in
+    record { goes_on = import_goes_on old new past.created f.guid f.contents kept; left = kept_left past old new was f kept }
+
+-- the disk goes on over safe steps, and the past is of the same create
+pub steps_go_on : (ss : List declared_step.Step) (rs : List declared_reply.Reply) (old new : OnDisk) → Run IsSafeStep ss rs old new → GoesOnFrom old.disk new.disk
+steps_go_on [] [] old new same = subst (λ (x : OnDisk). GoesOnFrom old.disk x.disk) (sym same) (starts (λ m. Unit {0}) old.disk tt)
+steps_go_on (s ∷ ss) (r ∷ rs) old new (middle, one, rest) =
+    joins (λ m. Unit {0}) old.disk middle.disk new.disk (weaker _ (λ m. Unit {0}) old.disk middle.disk (λ m here. tt) one.were) (steps_go_on ss rs middle new rest)
+steps_go_on [] (r ∷ rs) old new h = absurd h
+steps_go_on (s ∷ ss) [] old new h = absurd h
+
+pub steps_same_create : (ss : List declared_step.Step) (rs : List declared_reply.Reply) (old new : OnDisk) → Run IsSafeStep ss rs old new → new.held.state.past.created ≡ old.held.state.past.created
+steps_same_create [] [] old new same = ap (λ (x : OnDisk). x.held.state.past.created) same
+steps_same_create (s ∷ ss) (r ∷ rs) old new (middle, one, rest) =
+    steps_same_create ss rs middle new rest ∙ (step_grows (Unit {0}) old.held.now s r old.held.state middle.held.state one.step).created
+steps_same_create [] (r ∷ rs) old new h = absurd h
+steps_same_create (s ∷ ss) [] old new h = absurd h
+
+-- the later past is of the same create
+same_create : (dirty_max : ℕ) (ss : List declared_step.Step) (answer : Answer) (past later : Past) (disk ended : Disk) → IsRoundOver dirty_max ss answer past later disk ended → later.created ≡ past.created
+same_create dirty_max ss (Ok replies) past later disk ended over =
+    let s = over.steps in
+    ap (λ (p : Past). p.created) (sym s.past_is) ∙ steps_same_create ss replies.items s.start s.end s.made ∙ ap (λ (p : Past). p.created) s.begins
+same_create dirty_max ss (Err e) past later disk ended over = ap (λ (p : Past). p.created) over.steps
+
+-- An import that answered Ok and the steps behind it are those of a round.
+module _ {Dev : Type 0} {G : Ghosts Dev} (keep : IsTrue G.keeps_model) (dirty_max : ℕ) (ss : List declared_step.Step) (past : Past) (old : Disk) (m : Mounted) (state end : PoolState Dev G)
+    (was : IsLeft past old) (kept : KeepsOwn old (disk_of state)) (starts_run : StartsRun old dirty_max (disk_of state) m) (shows : shown state ≡ shown_of_import m)
+    (limit : (shown_of_import m).dirty_max ≡ dirty_max) (sized : disk_size (disk_of state) ≡ m.geometry) (held : IsHeldAtFirst (told state)) (begins : BeginsSafe state) where
+  found : IsLeftOnceFlushed past old
+  found = left_flushed past old was
+
+  left_then : IsLeftByImport past old (disk_of state)
+  left_then = import_left past old (disk_of state) was kept
+
+  run_start : IsRunStart past.created found.guid found.contents dirty_max m (disk_of state).now
+  run_start = starts_run past.created found.guid found.contents found.own
+
+  abbrev first : Past
+  first = new_past (contents_of m.contents) past.created dirty_max
+
+  first_is : first_past (shown state) past.created ≡ first
+  first_is =
+      ap (λ (s : Shown). first_past s past.created) shows ∙ ap (λ (k : ℕ). new_past (contents_of m.contents) past.created k) limit
+
+  safe_first : IsKeptSafe (on_disk state first)
+  safe_first =
+      let laid : IsPoolDisk (disk_size (disk_of state)) (disk_of state).now (shown state) (first_past (shown state) past.created) =
+      subst (λ (n : ℕ). IsPoolDisk n (disk_of state).now (shown state) (first_past (shown state) past.created)) (sym sized)
+      (subst (λ (s : Shown). IsPoolDisk m.geometry (disk_of state).now s (first_past (shown state) past.created)) (sym shows)
+      (subst (λ (p : Past). IsPoolDisk m.geometry (disk_of state).now (shown_of_import m) p) (sym first_is) run_start.disk)) in
+      subst (λ (p : Past). IsKeptSafe (on_disk state p)) first_is (begins past.created held left_then.left.1.began laid)
+
+  of_found : first ≡ new_past found.contents past.created dirty_max
+  of_found = ap (λ (c : Contents). new_past c past.created dirty_max) run_start.contents_are
+
+  -- the steps replied
+  replied : (replies : Vec declared_reply.Reply) → SafeOn ss replies.items state end → (later : Past) × IsRoundOver dirty_max ss (Ok replies) past later old (disk_of end) × IsLeft later (disk_of end)
+  replied replies safe =
+      let run = safe first safe_first in
+      let made = run.1 in (
+        run.0,
+        record {
+          goes_on = joins (λ m. Unit {0}) old (disk_of state) (disk_of end) left_then.goes_on (steps_go_on ss replies.items (on_disk state first) (on_disk end run.0) made);
+          steps = record {
+            base = found.contents;
+            left = found.left;
+            start = on_disk state first;
+            begins = of_found;
+            shows = ap (λ (s : Shown). s.contents) shows ∙ run_start.contents_are;
+            end = on_disk end run.0;
+            made = made;
+            past_is = refl;
+            disk_is = refl;
+          };
+        },
+        ((shown end).guid, kept_own (on_disk end run.0) run.2),
+      )
+
+  -- there was no memory for the replies
+  not_made : (e : PoolError) → end ≡ state → (later : Past) × IsRoundOver dirty_max ss (Err e) past later old (disk_of end) × IsLeft later (disk_of end)
+  not_made e same =
+      subst (λ (x : PoolState Dev G). (later : Past) × IsRoundOver dirty_max ss (Err e) past later old (disk_of x) × IsLeft later (disk_of x)) (sym same)
+      (past, record { goes_on = left_then.goes_on; steps = refl }, left_then.left)
+
+  pub over : (answer : Answer) → IfOk answer (λ replies. SafeOn ss replies.items state end) → OnErr answer (end ≡ state)
+      → (later : Past) × IsRoundOver dirty_max ss answer past later old (disk_of end) × IsLeft later (disk_of end)
+  over (Ok replies) safe same = replied replies safe
+  over (Err e) safe same = not_made e same
+
+-- an import that was refused is a round without steps
+pub refused_over : (dirty_max : ℕ) (ss : List declared_step.Step) (e : PoolError) (past : Past) (old new : Disk) → IsLeft past old → KeepsOwn old new → IsOverFor dirty_max ss (Err e) past old new
+refused_over dirty_max ss e past old new was kept = let l = import_left past old new was kept in ∣ (past, record { goes_on = l.goes_on; steps = refl }, l.left) ∣₁
+
+-- a round with its end
+pub crashed_round : (round : Round) (answer : Answer) (past : Past) (old ended next : Disk) (pieces : Vec Piece) → round.end ≡ Crash pieces → MayLeave ended.now (crash_image pieces.items ended.now)
+    → next ≡ certain (crash_image pieces.items ended.now) ended → IsOverFor round.dirty_max round.steps.items answer past old ended → IsRound round answer past old next
+crashed_round round answer past old ended next pieces is may next_is over = ∥∥₁_map over (λ o. record {
+  later = o.0;
+  ended = ended;
+  over = o.1;
+  end = subst (λ (e : End). IsEndOf e ended next) (sym is) next_is;
+  goes_on = λ fair.
+      let fair_crash : IsFairOn ended past.created (crash_image pieces.items ended.now) = subst (λ (e : End). IsFairEnd e past.created ended) is fair in
+      subst (λ (d : Disk). IsLeft o.0 d) (sym next_is)
+      (left_crashed o.0 ended (crash_image pieces.items ended.now) may (subst (λ (t : ℕ). IsFairOn ended t (crash_image pieces.items ended.now)) (sym (same_create round.dirty_max round.steps.items answer past o.0 old ended o.1)) fair_crash) o.2);
+})
+
+pub given_round : (round : Round) (answer : Answer) (past : Past) (old ended : Disk) → round.end ≡ GivenUp → IsOverFor round.dirty_max round.steps.items answer past old ended → IsRound round answer past old ended
+given_round round answer past old ended is over = ∥∥₁_map over (λ o. record {
+  later = o.0;
+  ended = ended;
+  over = o.1;
+  end = subst (λ (e : End). IsEndOf e ended ended) (sym is) refl;
+  goes_on = λ fair. o.2;
+})
+
+-- the import behind the last round finds what is left
+pub last_import : (dirty_max : ℕ) (past : Past) (old new : Disk) (m : Mounted) → IsLeft past old → KeepsOwn old new → StartsRun old dirty_max new m → FindsCuts [] [] past old (contents_of m.contents) new
+last_import dirty_max past old new m was kept starts_run =
+    let f = left_flushed past old was in
+    let start = starts_run past.created f.guid f.contents f.own in
+    ∣ (subst (λ (c : Contents). IsLeftBy past c) (sym start.contents_are) f.left, (import_left past old new was kept).goes_on) ∣₁
+
+-- by one round the answers go on
+pub one_more : (items : List Round) (round : Round) (left : List Round) (answers more : List Answer) (answer : Answer) (all : List Round) (first old next : Disk)
+    → items ≡ round ∷ left → more ≡ answers ++ answer ∷ [] → ((past : Past) → IsLeft past old → IsRound round answer past old next)
+    → GoesOnAs all items answers first old → GoesOnAs all left more first next
+one_more items round left answers more answer all first old next these now gone onward rest found last after =
+    let whole : FindsCutsFrom items (answer ∷ rest) old found last =
+    rw these (λ past was. ∥∥₁_map (gone past was) (λ (g : GoesAsRound round answer past old next (λ later. IsLeft later next)). (
+      next,
+      record { later = g.later; ended = g.ended; over = g.over; end = g.end; goes_on = λ fair. after g.later (g.goes_on fair) },
+    ))) in
+    rw (now, append_assoc) (onward (answer ∷ rest) found last whole)
+
+-- nothing happened in the past of a new pool, so its contents are what is left
+nothing_left : (contents : Contents) (created dirty_max : ℕ) → IsLeftBy (new_past contents created dirty_max) contents
+nothing_left contents created dirty_max = record {
+  marks = [];
+  cut = record { each = refl; closed = λ i j d earlier below. absurd (omega (arith, below)) };
+  acknowledged = λ k d below. absurd (omega (arith, below));
+  replayed = refl;
+}
+
+-- a new pool, and the rounds behind its create
+found_behind : (name : List ℕ) (guid : ℕ) (rounds : List Round) (answers : List Answer) (start made : Disk) (found : Contents) (last : Disk) → GoesOnFrom start made
+    → IsOwnWith made (moments start) guid (first_contents name) → FindsCutsFrom rounds answers made found last → FindsCutsOfNew name rounds answers start found last
+found_behind name guid rounds answers start made found last on own finds =
+    let new : Contents = first_contents name in
+    let past : Past = new_past new (moments start) 0 in
+    record { new = new; is_new = record { name_is = refl; empty = λ n. finite.get-empty {X = List ℕ} nat_cmp n }; made = made; goes_on = on; finds = finds past (own_left made past guid new (nothing_left new (moments start) 0) own) }
+
+pub found_after : {A : Type 0} (name : List ℕ) (guid : ℕ) (rounds : List Round) (start made : Disk) (r : Result A PoolError) (answers : A → List Answer) (found : A → Contents) (last : A → Disk)
+    → GoesOnFrom start made → IsOwnWith made (moments start) guid (first_contents name) → IfOk r (λ a. FindsCutsFrom rounds (answers a) made (found a) (last a))
+    → IfOk r (λ a. FindsCutsOfNew name rounds (answers a) start (found a) (last a))
+found_after name guid rounds start made (Ok a) answers found last on own finds = found_behind name guid rounds (answers a) start made (found a) (last a) on own finds
+found_after name guid rounds start made (Err e) answers found last on own finds = tt

@@ -1,0 +1,102 @@
+-- Rounds of a pool with crashes between them, and what the import behind the last one finds.
+use Rattle.std.specs.Prelude.{ℕ, ◌≡◌, ◌++◌, List, [], ◌∷◌, Result, MatchResult}
+use Rattle.std.specs.Global.{Vec}
+use Rattle.base.specs.declared.error.PoolError.{PoolError}
+use Rattle.base.specs.declared.step.Step as declared_step
+use Rattle.base.specs.declared.step.Reply as declared_reply
+use Rattle.base.specs.crash.CrashRule.{IsRunLeft}
+use Rattle.base.specs.disk.Crashes.{crash_image}
+use Rattle.base.specs.disk.Disk.{Disk, EachMoment, certain, moments}
+use Rattle.base.specs.disk.Fairness.{IsFairOn}
+use Rattle.base.specs.history.Contents.{Contents}
+use Rattle.base.specs.history.Past.{Past, new_past}
+use Rattle.base.specs.steps.Explains.{IsLeftBy}
+use Rattle.base.specs.steps.Runs.{Run}
+use Rattle.pool_core.specs.KeptSafe.{IsSafeStep, OnDisk}
+use Rattle.round_trip.specs.declared.crashes.End.{End}
+use Rattle.round_trip.specs.declared.crashes.End.TheVariants.{Crash, GivenUp}
+use Rattle.round_trip.specs.declared.crashes.Round.{Round}
+use Rattle.round_trip.specs.Rounds.{AreNew}
+
+-- what the steps of a round replied, or why none was made
+abbrev pub Answer : Type 0
+Answer = Result (Vec declared_reply.Reply) PoolError
+
+-- the later disk goes on from the earlier one: its moments are those of the earlier one, and others behind them
+abbrev pub GoesOnFrom : Disk → Disk → Type 0
+GoesOnFrom old new = EachMoment (λ m. Unit {0}) old new
+
+-- a run with this past left the disk
+abbrev pub IsLeft : Past → Disk → Type 0
+IsLeft past disk = (guid : ℕ) × IsRunLeft disk past guid
+
+-- Steps with these replies, of a pool that was imported with contents that the earlier run left: the replay of a cut of its entries with every
+-- acknowledged one. They begin with a past in which nothing happened and lead to the later one; each is a step of the definitions, at each
+-- of whose moments the disk was safe; and they end on this disk.
+pub record AreStepsFrom (dirty_max : ℕ) (ss : List declared_step.Step) (rs : List declared_reply.Reply) (earlier later : Past) (ended : Disk) : Type 0 where
+  pub base : Contents
+  pub left : IsLeftBy earlier base
+  pub start : OnDisk
+  pub begins : start.held.state.past ≡ new_past base earlier.created dirty_max
+  pub shows : start.held.state.shown.contents ≡ base
+  pub end : OnDisk
+  pub made : Run IsSafeStep ss rs start end
+  pub past_is : end.held.state.past ≡ later
+  pub disk_is : end.disk ≡ ended
+
+-- The import and the steps of a round: the steps replied, or none was made, and then what the earlier run left is left still.
+pub record IsRoundOver (dirty_max : ℕ) (ss : List declared_step.Step) (answer : Answer) (earlier later : Past) (disk ended : Disk) : Type 0 where
+  pub goes_on : GoesOnFrom disk ended
+  pub steps : MatchResult answer (λ replies. AreStepsFrom dirty_max ss replies.items earlier later ended) (λ e. later ≡ earlier)
+
+-- so a round is over, and a run with the past that is left then left the disk that it ended on
+abbrev pub IsOverFor : ℕ → List declared_step.Step → Answer → Past → Disk → Disk → Type 0
+IsOverFor dirty_max ss answer past disk ended = ∥ ((later : Past) × IsRoundOver dirty_max ss answer past later disk ended × IsLeft later ended) ∥₁
+
+-- what the end of a round makes of the disk
+abbrev pub IsEndOf : End → Disk → Disk → Type 0
+IsEndOf (Crash pieces) ended next = next ≡ certain (crash_image pieces.items ended.now) ended
+IsEndOf GivenUp ended next = next ≡ ended
+
+-- No place that a crash left passes its check by chance: that is what is asked of a crash.
+abbrev pub IsFairEnd : End → (created : ℕ) → Disk → Type 0
+IsFairEnd (Crash pieces) created ended = IsFairOn ended created (crash_image pieces.items ended.now)
+IsFairEnd GivenUp created ended = Unit {0}
+
+-- A round, from what an earlier run left on a disk: its import and its steps, its end with the next disk, and, where that was fair, what holds of
+-- the past that is left then.
+pub record GoesAsRound (round : Round) (answer : Answer) (past : Past) (disk next : Disk) (Then : Past → Type 0) : Type 0 where
+  pub later : Past
+  pub ended : Disk
+  pub over : IsRoundOver round.dirty_max round.steps.items answer past later disk ended
+  pub end : IsEndOf round.end ended next
+  pub goes_on : IsFairEnd round.end past.created ended → Then later
+
+-- so a round goes, and a run with the past that is left then left the next disk
+abbrev pub IsRound : Round → Answer → Past → Disk → Disk → Type 0
+IsRound round answer past disk next = ∥ GoesAsRound round answer past disk next (λ later. IsLeft later next) ∥₁
+
+-- Rounds with these answers, from what an earlier run left on a disk: where each crash was fair, the contents that are found behind them are the
+-- replay of a cut of the last run's entries with every acknowledged one, over contents that the run before it left so, and so on to the first.
+abbrev pub FindsCuts : List Round → List Answer → Past → Disk → Contents → Disk → Type 0
+FindsCuts [] [] past disk found last = ∥ IsLeftBy past found × GoesOnFrom disk last ∥₁
+FindsCuts (round ∷ rounds) (answer ∷ answers) past disk found last =
+    ∥ ((next : Disk) × GoesAsRound round answer past disk next (λ later. FindsCuts rounds answers later next found last)) ∥₁
+FindsCuts [] (answer ∷ answers) past disk found last = ⊥
+FindsCuts (round ∷ rounds) [] past disk found last = ⊥
+
+-- so it is of each past of an earlier run that left the disk
+abbrev pub FindsCutsFrom : List Round → List Answer → Disk → Contents → Disk → Type 0
+FindsCutsFrom rounds answers disk found last = (past : Past) → IsLeft past disk → FindsCuts rounds answers past disk found last
+
+-- and behind the create of a pool of this name, which began on this disk: nothing happened before, and the pool had no object
+pub record FindsCutsOfNew (name : List ℕ) (rounds : List Round) (answers : List Answer) (start : Disk) (found : Contents) (last : Disk) : Type 0 where
+  pub new : Contents
+  pub is_new : AreNew name new
+  pub made : Disk
+  pub goes_on : GoesOnFrom start made
+  pub finds : FindsCuts rounds answers (new_past new (moments start) 0) made found last
+
+-- rounds that are left go on from the answers so far
+abbrev pub GoesOnAs : List Round → List Round → List Answer → Disk → Disk → Type 0
+GoesOnAs all left answers first now = (rest : List Answer) (found : Contents) (last : Disk) → FindsCutsFrom left rest now found last → FindsCutsFrom all (answers ++ rest) first found last

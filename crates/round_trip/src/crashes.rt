@@ -1,0 +1,144 @@
+//! A client of the pool with crashes: rounds of an import and steps, each ended by a crash or by giving the device up.
+//!
+//! In a round the device may refuse one call, of the import or of a step, and the round goes on as its caller finds it: a
+//! refused import is a round without steps, and a pool that is suspended refuses the steps that are left. Then the power
+//! goes, or the device is handed to the next import with what is unflushed on it. Whatever comes, what the last import
+//! mounts is told by what each round acknowledged, round upon round.
+
+ghost use Rattle.std.specs.Prelude.{◌≡◌, IfOk, IsTrue};
+ghost use Rattle.base.specs.history.Past.{Past};
+ghost use Rattle.object_maps.specs.ContentsShown.{contents_of};
+ghost use Rattle.import_replay.specs.OwnCreations.{HasEarlierWrites};
+ghost use Rattle.round_trip.specs.Crashes.{FindsCutsFrom, FindsCutsOfNew, IsLeft, IsOverFor, IsRound};
+
+use crate::{make, open};
+use base::{Piece, PoolError, Reply, Step};
+use device_model::{Fault, MemDevice, SectorDevice};
+use import_replay::{Imported, import};
+use pool_core::{PoolState, run};
+use std::alloc::Global;
+
+/// What the steps of a round replied, or why its import was refused.
+pub type Answer = Result<Vec<Reply>, PoolError>;
+
+/// How a round ends.
+#[derive(Debug, Drop, PartialEq, Eq)]
+pub enum End {
+    /// A crash, which leaves these pieces of the unflushed writes.
+    Crash(Vec<Piece>),
+    /// The device is given up as it is, with what is unflushed.
+    GivenUp,
+}
+
+/// One round of a pool.
+#[derive(Debug, Drop, PartialEq, Eq)]
+pub struct Round {
+    /// The n-th such call of the device in this round fails, where there is a fault.
+    pub fault: Option<(Fault, u64)>,
+    /// The limit of the bytes that may be dirty.
+    pub dirty_max: u64,
+    /// The moment that the import stores in its uberblocks.
+    pub moment: u64,
+    pub steps: Vec<Step>,
+    pub end: End,
+}
+
+/// Imports the pool on a device, makes steps, and gives the device up: the import and the steps of a round. Its answer is a
+/// refusal where the import was refused, or there was no memory for the replies; no step was made then.
+pub fn import_and_run<D: SectorDevice>(
+    alloc: Global,
+    device: D,
+    dirty_max: u64,
+    moment: u64,
+    steps: Vec<Step>,
+) -> (Result<Vec<Reply>, PoolError>, D)
+    ensures went { IsTrue D.keeps_model → (past : Past) → IsLeft past (D.disk device)
+        → IsOverFor dirty_max steps.items result.0 past (D.disk device) (D.disk result.1) }
+{
+    match import(alloc, device, dirty_max, moment) {
+        Ok(imported) => {
+            let mut state = PoolState::new(imported);
+            let answer = run(&mut state, steps);
+            (answer, state.into_device())
+        }
+        Err((error, device)) => (Err(error), device),
+    }
+}
+
+/// Goes one round, and gives the device for the next one.
+pub fn go_round(
+    alloc: Global,
+    mut device: MemDevice,
+    round: Round,
+) -> (Result<Vec<Reply>, PoolError>, MemDevice)
+    ensures went { (past : Past) → IsLeft past device.disk
+        → IsRound round result.0 past device.disk result.1.disk }
+{
+    let Round {
+        fault,
+        dirty_max,
+        moment,
+        steps,
+        end,
+    } = round;
+    plan_fault(&mut device, fault);
+    let (answer, device) = import_and_run(alloc, device, dirty_max, moment, steps);
+    match end {
+        End::Crash(pieces) => (answer, device.crash(&pieces)),
+        End::GivenUp => (answer, device),
+    }
+}
+
+fn plan_fault(device: &mut MemDevice, fault: Option<(Fault, u64)>)
+    ensures { device.new.disk ≡ device.old.disk }
+{
+    if let Some((fault, n)) = fault {
+        device.fail(fault, n);
+    }
+}
+
+/// Goes rounds, one upon the other, and imports the pool behind the last one.
+///
+/// # Errors
+/// `NoMemory` where there is none for the answers; else those of the last import. The device is let go.
+pub fn go_rounds(
+    alloc: Global,
+    device: MemDevice,
+    dirty_max: u64,
+    moment: u64,
+    rounds: Vec<Round>,
+) -> Result<(Vec<Result<Vec<Reply>, PoolError>>, Imported<MemDevice>), PoolError>
+    ensures found { IfOk result (λ r. FindsCutsFrom rounds.items r.0.items device.disk
+        (contents_of r.1.mounted.contents) r.1.device.disk) }
+{
+    let mut device = device;
+    let mut answers = Vec::with_capacity(alloc, rounds.len())?;
+    for round in rounds {
+        let (answer, next) = go_round(alloc, device, round);
+        answers.push_reserved(answer);
+        device = next;
+    }
+    let imported = open(alloc, device, dirty_max, moment)?;
+    Ok((answers, imported))
+}
+
+/// Makes a pool, goes these rounds, and imports the pool behind the last one.
+///
+/// # Errors
+/// Those of `create`, and those of `go_rounds`. The device is let go.
+pub fn play_rounds(
+    alloc: Global,
+    device: MemDevice,
+    name: &[u8],
+    guid: u64,
+    dirty_max: u64,
+    moment: u64,
+    rounds: Vec<Round>,
+) -> Result<(Vec<Result<Vec<Reply>, PoolError>>, Imported<MemDevice>), PoolError>
+    ensures found { HasEarlierWrites device.disk → IfOk result (λ r.
+        FindsCutsOfNew name.now rounds.items r.0.items device.disk
+        (contents_of r.1.mounted.contents) r.1.device.disk) }
+{
+    let made = make(device, name, guid, moment)?;
+    go_rounds(alloc, made, dirty_max, moment, rounds)
+}
