@@ -162,8 +162,7 @@ fn an_inspection_tells_what_a_sync_wrote(rt: HostRuntime) -> Result<(), Fail> {
     assert_eq!(rt; told.import_number, 1);
     assert_eq!(rt; told.blocks, 896);
     assert_eq!(rt; told.used, 4);
-    assert_eq!(rt; told.contents.object(OBJECT), Some(b"abcd".as_slice()));
-    assert!(rt; told.contents.object(ObjectId(0)).is_none());
+    assert_eq!(rt; told.objects(), [(OBJECT, 4)].as_slice());
     // the root is damaged
     let root = 8224;
     if root < device.sectors() {

@@ -45,8 +45,8 @@ Crashes (Some device) pieces (Ok answer) new =
 Crashes (Some device) pieces (Err e) new = (length device.disk.now.unflushed < length pieces) × (new ≡ Device device)
 
 -- the n-th such call of the device is planned to fail, and nothing else is changed: a pool on it is told as before
-abbrev pub Fails : Fault → ℕ → Place → Result Answer BadCommand → Place → Type 0
-Fails fault n (Device old) (Ok answer) (Device new) = (answer ≡ Reply Done) × (new ≡ with_plan fault n old)
-Fails fault n (Pool old) (Ok answer) (Pool new) = (answer ≡ Reply Done) × (device_of new ≡ with_plan fault n (device_of old)) × (told new ≡ told old)
-Fails fault n Nothing (Err e) Nothing = Unit {0}
-Fails fault n old answer new = ⊥
+abbrev pub PlansFault : Fault → ℕ → Place → Result Answer BadCommand → Place → Type 0
+PlansFault fault n (Device old) (Ok answer) (Device new) = (answer ≡ Reply Done) × (new ≡ with_plan fault n old)
+PlansFault fault n (Pool old) (Ok answer) (Pool new) = (answer ≡ Reply Done) × (device_of new ≡ with_plan fault n (device_of old)) × (told new ≡ told old)
+PlansFault fault n Nothing (Err e) Nothing = Unit {0}
+PlansFault fault n old answer new = ⊥

@@ -13,7 +13,7 @@ use Rattle.scripts.specs.declared.session.Place.TheVariants.{Nothing, Pool}
 use Rattle.scripts.specs.declared.session.Session.{Session}
 use Rattle.scripts.specs.Commands.{ReadsLine}
 use Rattle.scripts.specs.Devices.{Creates, Imports}
-use Rattle.scripts.specs.Places.{Crashes, Fails, device_in, has_device, has_pool}
+use Rattle.scripts.specs.Places.{Crashes, PlansFault, device_in, has_device, has_pool}
 use Rattle.scripts.specs.PoolSteps.{Asks}
 
 -- a session with no device yet, whose new devices have this size, and whose uberblocks this moment
@@ -52,7 +52,7 @@ abbrev pub Does : Command → Session → Result Answer BadCommand → Session �
 Does (command.Create name guid) s (Ok told) new = Creates name guid s told new.place
 Does (command.Import dirty_max) s (Ok told) new = IfSome (device_in s.place) (λ device. Imports dirty_max s.moment device told new.place)
 Does (command.Crash pieces) s told new = Crashes (device_in s.place) pieces.items told new.place
-Does (command.Fail fault n) s told new = Fails fault n s.place told new.place
+Does (command.Fail fault n) s told new = PlansFault fault n s.place told new.place
 Does (command.Pool asked) s (Ok told) new = AsksIn asked s.moment s.place told new.place
 Does asked s (Err e) new = Unit {0}
 

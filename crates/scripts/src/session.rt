@@ -43,7 +43,7 @@ pub struct Session {
 
 impl Session {
     ghost use Rattle.scripts.specs.Devices.{Creates, IfPool, Imports, IsImportedPool, device_for, imported_answer};
-    ghost use Rattle.scripts.specs.Places.{Crashes, Fails, device_in, has_device, has_pool, is_crash};
+    ghost use Rattle.scripts.specs.Places.{Crashes, PlansFault, device_in, has_device, has_pool, is_crash};
     ghost use Rattle.scripts.specs.Sessions.{AsksIn, Does, IsNewSession, IsSameRun, Leaves, has_what_it_needs};
 
     /// A session with no device yet. A new device has `size` div 512 sectors, and each uberblock this moment.
@@ -203,7 +203,7 @@ impl Session {
         ensures needs { is_ok result ≡ has_device self.old.place }
         ensures left { has_device self.new.place ≡ has_device self.old.place }
         ensures no_other { has_pool self.new.place ≡ has_pool self.old.place }
-        ensures fails { Fails fault n self.old.place result self.new.place }
+        ensures fails { PlansFault fault n self.old.place result self.new.place }
         ensures same_run { IsSameRun self.old self.new }
     {
         match &mut self.place {

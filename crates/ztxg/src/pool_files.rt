@@ -11,7 +11,7 @@ ghost use Rattle.ztxg.specs.Faults.{IsNewPoolRefusal, sector_bytes};
 
 use crate::arguments::CreateArguments;
 use crate::fault::{Fault, tell_fault};
-use base::{OBJECT_COUNT, ObjectId, PoolError, PoolName, Reply};
+use base::{PoolError, PoolName, Reply};
 use device_model::FileDevice;
 use import_replay::{Inspected, create, inspect};
 use labels::{Geometry, SECTOR_SIZE};
@@ -187,18 +187,10 @@ fn write_inspected<W: Write>(inspected: &Inspected, out: &mut W) -> io::Result<(
 }
 
 fn write_objects<W: Write>(inspected: &Inspected, out: &mut W) -> io::Result<()> {
-    let contents = &inspected.contents;
-    let mut count: u64 = 0;
-    for number in 0..OBJECT_COUNT {
-        if contents.object(ObjectId(number)).is_some() {
-            count = count.wrapping_add(1);
-        }
-    }
-    writeln!(out, "objects {count}")?;
-    for number in 0..OBJECT_COUNT {
-        if let Some(bytes) = contents.object(ObjectId(number)) {
-            writeln!(out, "{number} {}", bytes.len())?;
-        }
+    let objects = inspected.objects();
+    writeln!(out, "objects {}", objects.len())?;
+    for (id, length) in objects {
+        writeln!(out, "{} {length}", id.0)?;
     }
     Ok(())
 }
