@@ -10,6 +10,8 @@ mod blocks;
 #[cfg(test)]
 mod codec;
 #[cfg(test)]
+mod crashes;
+#[cfg(test)]
 mod devices;
 #[cfg(test)]
 mod dirty_bytes;

@@ -120,6 +120,23 @@ const ELEVEN_STEPS: Row = Row {
     answers: "ok\nsynced 8 open 9 records 0\nlock 0\ntx 0 group 9\nentry 0 group 9\nopen 10\nquiesced 9\nsyncing 9\nmore\nsynced 9\ntx 1 group 10\nentry 1 group 10\nopen 11\nquiesced 10\nsyncing 10\nmore\nmore\nmore\nmore\nmore\nmore\nmore\nmore\nmore\nmore\nsynced 10\ntx 2 group 11\nentry 2 group 11\nopen 12\nquiesced 11\nsyncing 11\nsynced 11\ntx 3 group 12\nentry 3 group 12\nsynced 12\n",
 };
 
+/// Four blocks, a flush, four uberblocks and a flush are ten steps. A plan with no shape is no plan, and a group syncs once. The next
+/// import shows what was synced.
+const TEN_STEPS: Row = Row {
+    size: SIZE,
+    script: "create tank 77\nimport 1048576\nlock 1 1 w 0 338688\nbegin 1 c:1 w:1:0:4\ncommit 0 abcd\nunlock 1 0\nclose\nquiesce\nbegin 1\nstart\nstart\nstep\nstep\nstep\nstep\nstep\nstep\nstep\nstep\nstep\nstep\nstep\nimport 1048576\nlock 1 1 r 0 338688\nread 1 1 0 338688\n",
+    status: 0,
+    answers: "ok\nsynced 8 open 9 records 0\nlock 0\ntx 0 group 9\nentry 0 group 9\nok\nopen 10\nquiesced 9\nrefused 11 BadRange\nsyncing 9\nrefused 20 NotReady\nmore\nmore\nmore\nmore\nmore\nmore\nmore\nmore\nmore\nsynced 9\nrefused 20 NotReady\nsynced 13 open 14 records 0\nlock 0\nbytes 4 61626364\n",
+};
+
+/// A range is read below the length, here of an object whose group is quiesced.
+const SHORT_READS: Row = Row {
+    size: SIZE,
+    script: "create tank 77\nimport 1048576\nlock 1 1 w 0 338688\nbegin 1 c:1 w:1:0:4\ncommit 0 abcd\nunlock 1 0\nclose\nquiesce\nlock 1 1 r 0 338688\nread 1 1 1 9\nread 1 1 0 338688\n",
+    status: 0,
+    answers: "ok\nsynced 8 open 9 records 0\nlock 0\ntx 0 group 9\nentry 0 group 9\nok\nopen 10\nquiesced 9\nlock 1\nbytes 3 626364\nbytes 4 61626364\n",
+};
+
 /// The owner stands before the object. A gap before a write is zeros, two digits each, and behind it there are no bytes.
 const NUMBERS: Row = Row {
     size: SIZE,
@@ -169,6 +186,23 @@ const SUSPENDED: Row = Row {
     answers: "ok\nsynced 8 open 9 records 0\nlock 0\ntx 0 group 9\nentry 0 group 9\nopen 10\nquiesced 9\nsyncing 9\nok\nrefused 4 Flush\nrefused 5 Suspended\nrefused 5 Suspended\nrefused 5 Suspended\nrefused 5 Suspended\nrefused 5 Suspended\nname tank\nsynced 8 syncing 9 middle - open 10 dirty 8192 free 893 available 893\n",
 };
 
+/// The second flush of a sync is refused, behind seven calls, whose uberblocks stay unflushed: three flushes of the create and five
+/// of the import come before it.
+const REFUSED_FLUSH: Row = Row {
+    size: SIZE,
+    script: "create tank 77\nfail flush 10\ncreate tank 77\nimport 1048576\nlock 1 1 w 0 338688\nbegin 1 c:1\ncommit 0\nunlock 1 0\nclose\nquiesce\nstart\nstep\nstep\nstep\nstep\nstep\nstep\nstep\nstep\nstep\nclose\ncrash\n",
+    status: 0,
+    answers: "ok\nok\nok\nsynced 8 open 9 records 0\nlock 0\ntx 0 group 9\nentry 0 group 9\nok\nopen 10\nquiesced 9\nsyncing 9\nmore\nmore\nmore\nmore\nmore\nmore\nmore\nrefused 4 Flush\nrefused 5 Suspended\nrefused 5 Suspended\ncrashed 4\n",
+};
+
+/// The second block of a sync is refused, behind four configs and four uberblocks of an import. Then each step is refused.
+const REFUSED_WRITE: Row = Row {
+    size: SIZE,
+    script: "create tank 77\nimport 1048576\nfail write 10\nimport 1048576\nlock 1 1 w 0 338688\nbegin 1 c:1 w:1:0:4\ncommit 0 abcd\nunlock 1 0\nclose\nquiesce\nstart\nstep\nstep\nlock 1 1 r 0 338688\nunlock 1 0\nbegin 1\ncommit 0\nabort 0\nread 1 1 0 338688\nclose\nquiesce\nstart\nstep\n",
+    status: 0,
+    answers: "ok\nsynced 8 open 9 records 0\nok\nsynced 12 open 13 records 0\nlock 0\ntx 0 group 13\nentry 0 group 13\nok\nopen 14\nquiesced 13\nsyncing 13\nmore\nrefused 3 Write\nrefused 5 Suspended\nrefused 5 Suspended\nrefused 5 Suspended\nrefused 5 Suspended\nrefused 5 Suspended\nrefused 5 Suspended\nrefused 5 Suspended\nrefused 5 Suspended\nrefused 5 Suspended\nrefused 5 Suspended\n",
+};
+
 /// With a limit of 40,960 bytes two writes of one record are charged 16,384 each, a third is refused, and a create of 8,192
 /// reaches the limit.
 const CHARGES: Row = Row {
@@ -213,6 +247,24 @@ const RECREATED: Row = Row {
     answers: "ok\nsynced 8 open 9 records 0\nlock 0\ntx 0 group 9\nentry 0 group 9\nsynced 9\ntx 1 group 10\nentry 1 group 10\nlength 0\nbytes 0\ntx 2 group 10\nentry 2 group 10\nbytes 4 00000000\nopen 11\nquiesced 10\nsyncing 10\nmore\nmore\nmore\nmore\nmore\nmore\nmore\ncrashed 4\nsynced 14 open 15 records 0\nsynced 14 syncing - middle - open 15 dirty 0 free 893 available 893\nlock 0\nbytes 4 00000000\n",
 };
 
+/// A stored object that is cut grows by zeros. The sync of its group is stopped behind the record, its map, the directory and the root,
+/// a flush, and four uberblocks that nothing flushes.
+const STORED_CUT: Row = Row {
+    size: SIZE,
+    script: "create tank 77\nimport 1048576\nlock 1 1 w 0 338688\nbegin 1 c:1 w:1:0:4\ncommit 0 abcd\nunlock 1 0\nclose\nquiesce\nstart\nstep\nstep\nstep\nstep\nstep\nstep\nstep\nstep\nstep\nstep\nlock 1 1 w 0 338688\nbegin 1 l:1:1 l:1:3\ncommit 1\nunlock 1 1\nclose\nquiesce\nstart\nstep\nstep\nstep\nstep\nstep\nstep\nstep\nstep\nstep\ncrash\nimport 1048576\nlock 1 1 r 0 338688\nread 1 1 0 338688\n",
+    status: 0,
+    answers: "ok\nsynced 8 open 9 records 0\nlock 0\ntx 0 group 9\nentry 0 group 9\nok\nopen 10\nquiesced 9\nsyncing 9\nmore\nmore\nmore\nmore\nmore\nmore\nmore\nmore\nmore\nsynced 9\nlock 1\ntx 1 group 10\nentry 1 group 10\nok\nopen 11\nquiesced 10\nsyncing 10\nmore\nmore\nmore\nmore\nmore\nmore\nmore\nmore\nmore\ncrashed 4\nsynced 14 open 15 records 0\nlock 0\nbytes 3 610000\n",
+};
+
+/// A stored object that is created again has no old byte: the directory and the root, a flush, and four uberblocks that nothing
+/// flushes.
+const STORED_RECREATED: Row = Row {
+    size: SIZE,
+    script: "create tank 77\nimport 1048576\nlock 1 1 w 0 338688\nbegin 1 c:1 w:1:0:4\ncommit 0 abcd\nunlock 1 0\nclose\nquiesce\nstart\nstep\nstep\nstep\nstep\nstep\nstep\nstep\nstep\nstep\nstep\nlock 1 1 w 0 338688\nbegin 1 d:1 c:1 l:1:3\ncommit 1\nunlock 1 1\nclose\nquiesce\nstart\nstep\nstep\nstep\nstep\nstep\nstep\nstep\ncrash\nimport 1048576\nlock 1 1 r 0 338688\nread 1 1 0 338688\n",
+    status: 0,
+    answers: "ok\nsynced 8 open 9 records 0\nlock 0\ntx 0 group 9\nentry 0 group 9\nok\nopen 10\nquiesced 9\nsyncing 9\nmore\nmore\nmore\nmore\nmore\nmore\nmore\nmore\nmore\nsynced 9\nlock 1\ntx 1 group 10\nentry 1 group 10\nok\nopen 11\nquiesced 10\nsyncing 10\nmore\nmore\nmore\nmore\nmore\nmore\nmore\ncrashed 4\nsynced 14 open 15 records 0\nlock 0\nbytes 3 000000\n",
+};
+
 /// An object has the greatest length at most, and one that is absent has none.
 const LENGTH_LIMITS: Row = Row {
     size: SIZE,
@@ -228,6 +280,14 @@ const ABORTS: Row = Row {
     script: "create tank 77\nimport 1048576\nlock 1 1 w 0 338688\nstatus\nbegin 1 c:1 w:1:0:4\nstatus\nabort 0\nstatus\nabort 0\ncommit 0 abcd\nunlock 1 0\nlock 1 1 w 0 338688\nbegin 1 c:1\nclose\nquiesce\nabort 1\nquiesce\nstart\nfinish\nstatus\nabort 7\n",
     status: 0,
     answers: "ok\nsynced 8 open 9 records 0\nlock 0\nsynced 8 syncing - middle - open 9 dirty 0 free 895 available 895\ntx 0 group 9\nsynced 8 syncing - middle - open 9 dirty 24576 free 895 available 889\nok\nsynced 8 syncing - middle - open 9 dirty 0 free 895 available 895\nrefused 19 NoSuchTransaction\nrefused 19 NoSuchTransaction\nok\nlock 1\ntx 1 group 9\nopen 10\nrefused 20 NotReady\nok\nquiesced 9\nsyncing 9\nsynced 9\nsynced 9 syncing - middle - open 10 dirty 0 free 895 available 895\nrefused 19 NoSuchTransaction\n",
+};
+
+/// An abort ends a charge of two blocks and a hold, and the next transaction has the next name.
+const ENDED_CHARGE: Row = Row {
+    size: SIZE,
+    script: "create tank 77\nimport 1048576\nlock 1 1 w 0 338688\nstatus\nbegin 1 c:1\nstatus\nabort 0\nstatus\nabort 0\nbegin 1 c:1\nclose\nquiesce\nabort 1\nquiesce\n",
+    status: 0,
+    answers: "ok\nsynced 8 open 9 records 0\nlock 0\nsynced 8 syncing - middle - open 9 dirty 0 free 895 available 895\ntx 0 group 9\nsynced 8 syncing - middle - open 9 dirty 8192 free 895 available 893\nok\nsynced 8 syncing - middle - open 9 dirty 0 free 895 available 895\nrefused 19 NoSuchTransaction\ntx 1 group 9\nopen 10\nrefused 20 NotReady\nok\nquiesced 9\n",
 };
 
 /// One group is synced while the next waits and a third takes transactions: a read shows the bytes of all three, and the charges
@@ -316,7 +376,7 @@ fn prints_the_answers_of_whole_scripts(rt: HostRuntime) -> Result<(), Fail> {
 
 #[test]
 fn tells_lengths_digests_and_the_name(rt: HostRuntime) -> Result<(), Fail> {
-    for row in [APPENDS, DIGESTS, FULL_OBJECT, SUSPENDED] {
+    for row in [APPENDS, DIGESTS, FULL_OBJECT] {
         let (status, text) = run(rt.alloc(), &row)?;
         assert_eq!(rt; text.as_str(), row.answers);
         assert_eq!(rt; status, row.status);
@@ -326,7 +386,7 @@ fn tells_lengths_digests_and_the_name(rt: HostRuntime) -> Result<(), Fail> {
 
 #[test]
 fn charges_reserves_removes_and_gives_up(rt: HostRuntime) -> Result<(), Fail> {
-    for row in [CHARGES, REMOVES, ABORTS] {
+    for row in [CHARGES, REMOVES, ABORTS, ENDED_CHARGE] {
         let (status, text) = run(rt.alloc(), &row)?;
         assert_eq!(rt; text.as_str(), row.answers);
         assert_eq!(rt; status, row.status);
@@ -352,8 +412,25 @@ fn keeps_three_groups_at_once(rt: HostRuntime) -> Result<(), Fail> {
 }
 
 #[test]
+fn a_refused_write_or_flush_suspends(rt: HostRuntime) -> Result<(), Fail> {
+    for row in [SUSPENDED, REFUSED_FLUSH, REFUSED_WRITE] {
+        let (status, text) = run(rt.alloc(), &row)?;
+        assert_eq!(rt; text.as_str(), row.answers);
+        assert_eq!(rt; status, row.status);
+    }
+    Ok(())
+}
+
+#[test]
 fn sets_lengths(rt: HostRuntime) -> Result<(), Fail> {
-    for row in [LENGTHS, CUTS, RECREATED, LENGTH_LIMITS] {
+    for row in [
+        LENGTHS,
+        CUTS,
+        STORED_CUT,
+        RECREATED,
+        STORED_RECREATED,
+        LENGTH_LIMITS,
+    ] {
         let (status, text) = run(rt.alloc(), &row)?;
         assert_eq!(rt; text.as_str(), row.answers);
         assert_eq!(rt; status, row.status);
@@ -363,7 +440,7 @@ fn sets_lengths(rt: HostRuntime) -> Result<(), Fail> {
 
 #[test]
 fn leaves_devices_steps_syncs_and_tells_numbers(rt: HostRuntime) -> Result<(), Fail> {
-    for row in [DEVICES, ELEVEN_STEPS, NUMBERS] {
+    for row in [DEVICES, ELEVEN_STEPS, TEN_STEPS, NUMBERS, SHORT_READS] {
         let (status, text) = run(rt.alloc(), &row)?;
         assert_eq!(rt; text.as_str(), row.answers);
         assert_eq!(rt; status, row.status);
