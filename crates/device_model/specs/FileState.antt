@@ -1,18 +1,24 @@
 -- What callers see of a device on a file.
-use Rattle.std.specs.Prelude.{ℕ}
-use Rattle.base.specs.disk.Disk.{Disk}
+use Rattle.std.specs.Prelude.{ℕ, Bool, true, false}
+use Rattle.base.specs.disk.Disk.{Disk, disk_size}
 use Rattle.base.specs.declared.refused.RefusedCalls.{RefusedCalls}
 use Rattle.device_model.specs.MemState.{blank}
 
--- its size in bytes, and how many calls of each kind it refused
+-- its size in bytes, how many calls of each kind it refused, and the disk that the file shows
 pub record FileState : Type 0 where
   pub size : ℕ
   pub refused : RefusedCalls
+  pub disk : Disk
 
 -- no call was refused
 abbrev pub none_refused : RefusedCalls
 none_refused = record { reads = 0; writes = 0; flushes = 0 }
 
--- the disk of a device that keeps no model: nothing is said of it
+-- the disk of a file that keeps no model: nothing is said of it
 abbrev pub no_disk : Disk
 no_disk = blank 0
+
+-- the size of a device: that of the disk, where the file keeps the model
+abbrev pub size_of : Bool → FileState → ℕ
+size_of true s = disk_size s.disk
+size_of false s = s.size

@@ -1,7 +1,8 @@
 //! A disk that is read and written in whole sectors, and what a crash may leave of it.
 //!
 //! `SectorDevice` says what each call does to the disk over time. `MemDevice` is such a disk in memory: it fails where
-//! a plan says so, and crashes on demand. `FileDevice` is a device on a file, of whose bytes nothing is claimed.
+//! a plan says so, and crashes on demand. `FileDevice` is a device on a `SectorFile`, and keeps the model where that does;
+//! of the bytes of a file of the system nothing is claimed.
 #![tactic(auto)]
 
 mod device;
@@ -10,8 +11,10 @@ mod file;
 mod memory;
 mod noted_bytes;
 mod notes;
+mod sector_file;
 
 pub use device::SectorDevice;
 pub use fault::Fault;
 pub use file::FileDevice;
 pub use memory::MemDevice;
+pub use sector_file::SectorFile;

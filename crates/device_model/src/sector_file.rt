@@ -1,0 +1,93 @@
+//! What a device on a file asks of the file: whole sectors read and written at byte places, and a sync.
+//!
+//! The calls are those of a device, without the counts. A file that keeps the model of a disk shows one, as a device does.
+//! A file of the system keeps none, since nothing can be claimed of what it holds: another process may write to it, and a
+//! system may lose what it said was synced. So of the four methods for such a file no proof says which call of the system
+//! they make, and each of them is one such call.
+
+ghost use Rattle.std.specs.Prelude.{◌≡◌, ◌+◌, ◌*◌, ◌<◌, ◌≤◌, Bool, IsTrue, IfErr, IfSome, OnOk, false, length};
+ghost use Rattle.base.specs.formats.Fields.{part};
+ghost use Rattle.base.specs.disk.Disk.{Disk, bytes_of, disk_size};
+ghost use Rattle.base.specs.disk.Calls.{Flushes, IsOnDevice, Writes};
+ghost use Rattle.device_model.specs.FileState.{no_disk};
+
+use base::PoolError;
+use std::fs::OpenFile;
+use std::os::unix::fs::FileExt;
+
+/// The bytes of a sector.
+const SECTOR_SIZE: u64 = 512;
+
+/// A file of sectors of 512 bytes, read and written in whole sectors at byte places.
+///
+/// The clauses stand for a file that keeps the model of a disk. `SectorDevice` explains it.
+pub trait SectorFile {
+    /// Whether the file keeps the model of a disk.
+    ghost keeps_model: { Bool };
+
+    /// The disk: what a read gives, and what a crash may leave, at each moment so far.
+    ghost disk: { Self → Disk };
+
+    /// How many whole sectors of 512 bytes the file has now. None where it doesn't tell its length, or is a directory.
+    fn sectors(&self) -> Option<u64>
+        ensures size { IsTrue keeps_model
+            → IfSome result (λ count. disk_size (disk self.now) ≡ 512 * count) };
+
+    /// Reads whole sectors from byte place `at`. Refused with `Read` where the file can't be read there, or ends before
+    /// the last of these bytes; `into` may then hold anything.
+    fn read_sectors(&mut self, at: u64, into: &mut [u8]) -> Result<(), PoolError>
+        requires { IsTrue keeps_model
+            → IsOnDevice (disk_size (disk self.old)) at (length into.old) }
+        ensures refusal { IfErr result (λ e. e ≡ PoolError.Read) }
+        ensures bytes { IsTrue keeps_model
+            → OnOk result (into.new ≡ part (bytes_of (disk self.old).now) at (length into.old)) }
+        ensures disk { IsTrue keeps_model → disk self.new ≡ disk self.old };
+
+    /// Writes whole sectors at byte place `at`. Refused with `Write` where not all of these bytes could be written; a part
+    /// of them may then stand there.
+    fn write_sectors(&mut self, at: u64, bytes: &[u8]) -> Result<(), PoolError>
+        requires { IsTrue keeps_model
+            → IsOnDevice (disk_size (disk self.old)) at (length bytes.now) }
+        ensures refusal { IfErr result (λ e. e ≡ PoolError.Write) }
+        ensures disk { IsTrue keeps_model
+            → Writes (disk self.old) at bytes.now result (disk self.new) };
+
+    /// Syncs what was written. Refused with `Flush` where that fails.
+    fn sync(&mut self) -> Result<(), PoolError>
+        ensures refusal { IfErr result (λ e. e ≡ PoolError.Flush) }
+        ensures disk { IsTrue keeps_model → Flushes (disk self.old) result (disk self.new) };
+}
+
+impl<F: FileExt + OpenFile> SectorFile for F {
+    ghost keeps_model = { false };
+
+    ghost disk = { λ _. no_disk };
+
+    fn sectors(&self) -> Option<u64> {
+        let metadata = self.metadata().ok()?;
+        if metadata.is_dir() {
+            return None;
+        }
+        Some(whole_sectors(metadata.len()))
+    }
+
+    fn read_sectors(&mut self, at: u64, into: &mut [u8]) -> Result<(), PoolError> {
+        self.read_exact_at(into, at).map_err(|_| PoolError::Read)
+    }
+
+    fn write_sectors(&mut self, at: u64, bytes: &[u8]) -> Result<(), PoolError> {
+        self.write_all_at(bytes, at).map_err(|_| PoolError::Write)
+    }
+
+    fn sync(&mut self) -> Result<(), PoolError> {
+        self.sync_all().map_err(|_| PoolError::Flush)
+    }
+}
+
+// How many whole sectors so many bytes have.
+fn whole_sectors(length: u64) -> u64
+    ensures within { 512 * result ≤ length }
+    ensures all { length < 512 * result + 512 }
+{
+    length / SECTOR_SIZE
+}
