@@ -2,7 +2,7 @@
 use Rattle.std.specs.Prelude.{ℕ, ◌≡◌, ◌+◌, ◌-◌, ◌==◌, ◌||◌, Bool, false, not, Option, Some, None, is_some, is_none, nat_le, option_map, if◌then◌else◌}
 use Rattle.std.specs.Option.{option_map_or}
 use Rattle.base.specs.declared.names.Group.{Group}
-use Rattle.base.specs.formats.Limits.{last_number}
+use Rattle.base.specs.formats.Limits.{last_number, max_transactions}
 use Rattle.base.specs.steps.Groups.{Line, Middle, IsLine}
 use Rattle.base.specs.steps.Refusals.{quiescing_group, quiesced_group}
 use Rattle.base.specs.steps.Steps.{line_after_close, line_after_quiesce}
@@ -70,6 +70,14 @@ line_after_sync group l = record l { synced = group; syncing = None }
 
 abbrev pub after_sync : ℕ → CountedLine → CountedLine
 after_sync group l = record l { line = line_after_sync group l.line }
+
+-- as many transactions are open as may be
+abbrev pub is_hold_refused : CountedLine → Bool
+is_hold_refused l = nat_le max_transactions (hold_total l)
+
+-- the group has no hold
+abbrev pub is_release_refused : CountedLine → ℕ → Bool
+is_release_refused l group = holds_of l group == 0
 
 -- a middle is there, or the open group has the last number
 abbrev pub is_close_refused : Line → Bool

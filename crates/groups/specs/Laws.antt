@@ -1,5 +1,5 @@
 -- What holds of the counts of holds, beside the transactions that are open.
-use Rattle.std.specs.Prelude.{ℕ, ◌≡◌, ◌≢◌, ◌<◌, ◌==◌, ◌++◌, false, not, List, [], ◌∷◌, length, slice_get, Some}
+use Rattle.std.specs.Prelude.{ℕ, ◌≡◌, ◌<◌, ◌==◌, ◌++◌, false, not, List, [], ◌∷◌, length, slice_get, Some}
 use Rattle.std.specs.Option.{option_map_or}
 use Rattle.base.specs.history.History.{Entry}
 use Rattle.base.specs.steps.Groups.{AreNamedApart, Line, Admission, AreMembers, open_transactions, hold_count}

@@ -5,7 +5,7 @@
 //! open, quiescing, quiesced, syncing, synced.
 
 ghost use Rattle.std.specs.Prelude.{◌≡◌, ◌<◌, ◌≤◌, ◌↔◌, IsErr, IsTrue, IfErr, IfOk, OnErr, OnOk, Some, option_map};
-ghost use Rattle.base.specs.formats.Limits.{first_group, last_number, max_transactions};
+ghost use Rattle.base.specs.formats.Limits.{first_group, last_number};
 ghost use Rattle.base.specs.steps.Refusals.{quiesced_group, quiescing_group};
 ghost use Rattle.groups.specs.CountedLines.{
   IsCounted,
@@ -16,17 +16,17 @@ ghost use Rattle.groups.specs.CountedLines.{
   after_start,
   after_sync,
   counted_behind,
-  hold_total,
-  holds_of,
   is_close_refused,
   is_finish_refused,
+  is_hold_refused,
   is_quiesce_refused,
+  is_release_refused,
   is_start_refused,
   middle_group,
   number_of,
 };
 
-use base::{Group, LAST_NUMBER, PoolError};
+use base::{Group, LAST_NUMBER, MAX_TRANSACTIONS, PoolError};
 use std::marker::Model;
 
 /// The group between the open one and the syncing one.
@@ -114,26 +114,56 @@ impl Groups {
         self.open_group
     }
 
-    /// One more transaction of the open group is open: its group. Fewer than 64 transactions are open before.
-    pub fn hold(&mut self) -> Group
-        requires { hold_total self.old < max_transactions }
-        ensures counted { self.new ≡ after_hold self.old }
-        ensures group { result.0 ≡ self.old.line.open_group }
+    /// One more transaction of the open group is open: its group.
+    ///
+    /// # Errors
+    /// `NotReady` exactly where 64 transactions are open, those of the open group and of the middle together.
+    pub fn hold(&mut self) -> Result<Group, PoolError>
+        ensures refused { IsErr result ↔ IsTrue (is_hold_refused self.old) }
+        ensures error { IfErr result (λ e. e ≡ PoolError.NotReady) }
+        ensures unchanged { OnErr result (self.new ≡ self.old) }
+        ensures held { OnOk result (self.new ≡ after_hold self.old) }
+        ensures group { IfOk result (λ group. group.0 ≡ self.old.line.open_group) }
     {
+        if self.open_holds.saturating_add(self.middle_holds()) >= MAX_TRANSACTIONS as u64 {
+            return Err(PoolError::NotReady);
+        }
         self.open_holds += 1;
-        self.open_group
+        Ok(self.open_group)
     }
 
-    /// A transaction of the group, the open or the quiescing one, has ended.
-    pub fn release(&mut self, group: Group)
-        requires { 0 < holds_of self.old group.0 }
-        ensures { self.new ≡ after_release group.0 self.old }
+    // How many transactions of the middle are open.
+    fn middle_holds(&self) -> u64
+        ensures { result ≡ self.now.middle_holds }
     {
-        if group == self.open_group {
-            self.open_holds -= 1;
-        } else if let Some(Middle::Quiescing(middle, holds)) = self.middle {
-            self.middle = Some(Middle::Quiescing(middle, holds - 1));
+        match self.middle {
+            Some(Middle::Quiescing(_, holds)) => holds,
+            Some(Middle::Quiesced(_)) | None => 0,
         }
+    }
+
+    /// A transaction of the group has ended.
+    ///
+    /// # Errors
+    /// `NotReady` exactly where no transaction of the group is open.
+    pub fn release(&mut self, group: Group) -> Result<(), PoolError>
+        ensures refused { IsErr result ↔ IsTrue (is_release_refused self.old group.0) }
+        ensures error { IfErr result (λ e. e ≡ PoolError.NotReady) }
+        ensures unchanged { OnErr result (self.new ≡ self.old) }
+        ensures released { OnOk result (self.new ≡ after_release group.0 self.old) }
+    {
+        if group == self.open_group && self.open_holds > 0 {
+            self.open_holds -= 1;
+            return Ok(());
+        }
+        let Some(Middle::Quiescing(middle, holds)) = self.middle else {
+            return Err(PoolError::NotReady);
+        };
+        if middle != group || holds == 0 {
+            return Err(PoolError::NotReady);
+        }
+        self.middle = Some(Middle::Quiescing(middle, holds - 1));
+        Ok(())
     }
 
     /// The open group quiesces, and the next one is open, which is answered.
