@@ -13,7 +13,7 @@ mod walk;
 pub use contents::{Contents, Slot, empty_slots};
 pub use digests::digest;
 pub use judging::judge;
-pub use reading::read_range;
+pub use reading::{read_range, read_range_below};
 pub use source::ObjectSource;
 pub use tree::{ObjectMap, Tree, empty_maps};
 pub use walk::{Loaded, load, survey};

@@ -1,10 +1,10 @@
 //! A range of an object's bytes, read from a source by the parts of records that it touches.
 
-ghost use Rattle.std.specs.Prelude.{◌≡◌, ◌+◌, ◌≤◌, ◌⊎◌, length, OnOk, IfOk, IfErr};
+ghost use Rattle.std.specs.Prelude.{◌≡◌, ◌+◌, ◌≤◌, ◌⊎◌, length, unwrap_or, OnOk, IfOk, IfErr};
 ghost use Rattle.base.specs.declared.error.PoolError.TheVariants as error;
 ghost use Rattle.base.specs.formats.Fields.{part};
 ghost use Rattle.base.specs.formats.Limits.{max_length};
-ghost use Rattle.object_maps.specs.Sources.{object_bytes, range_in};
+ghost use Rattle.object_maps.specs.Sources.{object_bytes, object_length, range_in};
 
 use crate::source::ObjectSource;
 use base::{Bytes, ObjectId, PoolError, RECORD_SIZE, Range};
@@ -25,6 +25,24 @@ pub fn read_range<O: ObjectSource>(
     ensures refused { IfErr result (λ e. (e ≡ error.NoMemory) ⊎ O.may_refuse e) }
 {
     let length = objects.length(id).unwrap_or(0);
+    read_range_below(objects, alloc, id, range, length)
+}
+
+/// As `read_range`, where the length of the object in bytes is known: 0 where it is not there.
+pub fn read_range_below<O: ObjectSource>(
+    objects: &mut O,
+    alloc: Global,
+    id: ObjectId,
+    range: Range,
+    length: u64,
+) -> Result<Bytes, PoolError>
+    requires ordered { range.low ≤ range.high }
+    requires within { range.high ≤ max_length }
+    requires length { length ≡ unwrap_or (object_length (O.objects objects.old) id.0) 0 }
+    ensures kept { O.objects objects.new ≡ O.objects objects.old }
+    ensures bytes { IfOk result (λ bytes. bytes ≡ range_in (O.objects objects.old) id range) }
+    ensures refused { IfErr result (λ e. (e ≡ error.NoMemory) ⊎ O.may_refuse e) }
+{
     let low = range.low.min(length) as usize;
     let high = range.high.min(length) as usize;
     let mut bytes = Vec::new(alloc);
@@ -53,7 +71,7 @@ fn read_bytes<O: ObjectSource>(
         let start = (low + done) % RECORD_SIZE;
         let count = (RECORD_SIZE - start).min(into.len() - done);
         let index = (low + done) / RECORD_SIZE;
-        objects.read_part(id, index, start, &mut into[done..done + count])?;
+        objects.read_present(id, index, start, &mut into[done..done + count])?;
         done += count;
     }
     Ok(())

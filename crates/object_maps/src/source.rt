@@ -3,7 +3,7 @@
 //! Whoever plans a tree or judges operations asks for objects by this interface, so that it doesn't matter whether they
 //! stand in memory or are read from a device.
 
-ghost use Rattle.std.specs.Prelude.{◌≡◌, ◌<◌, ◌≤◌, ◌+◌, ◌*◌, ℕ, List, IfErr, OnOk, is_some, length};
+ghost use Rattle.std.specs.Prelude.{◌≡◌, ◌<◌, ◌≤◌, ◌+◌, ◌*◌, ℕ, true, List, IfErr, OnOk, is_some, length};
 ghost use Rattle.std.specs.Ordering.{nat_cmp};
 ghost use Rattle.std.specs.FinMap as finite;
 ghost use Rattle.std.specs.FinMap.{FinMap};
@@ -34,6 +34,24 @@ pub trait ObjectSource {
         self.length(id).is_some()
     }
 
+    /// Reads bytes of a record of an object that is there, from the offset `start` in it on, as many as `into` has, with
+    /// zeros behind the object's end. Where it is refused `into` may hold anything.
+    fn read_present(
+        &mut self,
+        id: ObjectId,
+        index: usize,
+        start: usize,
+        into: &mut [u8],
+    ) -> Result<(), PoolError>
+        requires there { is_some (finite.get (objects self.old) id.0) ≡ true }
+        requires index { index < 84 }
+        requires within { start + length into.old ≤ 4032 }
+        ensures kept { objects self.new ≡ objects self.old }
+        ensures size { length into.new ≡ length into.old }
+        ensures part { OnOk result (AreBytesFrom (4032 * index + start)
+            (object_bytes (objects self.old) id.0) into.new) }
+        ensures refused { IfErr result may_refuse };
+
     /// Reads bytes of a record of an object, from the offset `start` in it on, as many as `into` has, with zeros behind the
     /// object's end. An object that is not there has zeros. Where it is refused `into` may hold anything.
     fn read_part(
@@ -49,7 +67,14 @@ pub trait ObjectSource {
         ensures size { length into.new ≡ length into.old }
         ensures part { OnOk result (AreBytesFrom (4032 * index + start)
             (object_bytes (objects self.old) id.0) into.new) }
-        ensures refused { IfErr result may_refuse };
+        ensures refused { IfErr result may_refuse }
+    {
+        if !self.has(id) {
+            into.fill(0);
+            return Ok(());
+        }
+        self.read_present(id, index, start, into)
+    }
 
     /// Reads a record of an object, 4,032 bytes, with zeros behind the object's end. The record of an object that is not
     /// there is zeros. Where it is refused `into` may hold anything.
@@ -80,7 +105,7 @@ impl ObjectSource for &Contents {
         self.object(id).map(|bytes| bytes.len() as u64)
     }
 
-    fn read_part(
+    fn read_present(
         &mut self,
         id: ObjectId,
         index: usize,
