@@ -1,15 +1,32 @@
 -- What reads of objects give where patches are laid over them: lengths and bytes, from those below.
-use Rattle.std.proofs.Common.{◌≡◌, ℕ, ◌<◌, ◌≤◌, ap, subst, sym, ◌∙◌, List, [], length, Option, None}
-use Rattle.std.specs.Prelude.{get_or, option_map, unwrap_or}
+use Rattle.std.proofs.Common.{◌≡◌, ℕ, ◌<◌, ◌≤◌, ◌⊎◌, inl, inr, true, refl, ap, subst, sym, ◌∙◌, List, [], length, Option, Some, None}
+use Rattle.std.specs.Prelude.{is_some, option_map, unwrap_or}
+use Rattle.std.proofs.lemmas.Bool.{cases_lt, false≢true}
 use Rattle.std.specs.Ordering.{nat_cmp}
 use Rattle.std.specs.FinMap as finite
 use Rattle.std.specs.FinMap.{FinMap}
 use Rattle.base.specs.formats.Limits.{object_count}
 use Rattle.object_maps.specs.Sources.{AreBytesFrom, object_bytes, object_length}
-use Rattle.extents.specs.Patches.{Patches, laid_over, length_over}
-use Rattle.extents.specs.Objects.{LaysOver}
+use Rattle.extents.specs.declared.basis.Basis.{Basis}
+use Rattle.extents.specs.declared.basis.Basis.TheVariants.{Grown, Cut, Made, Gone}
+use Rattle.extents.specs.Patches.{IsSized, Patch, Patches, is_shown, laid_over, length_over, no_patch, patched}
+use Rattle.extents.specs.Objects.{HidesBelow, LaysOn}
 use Rattle.extents.proofs.LaidObjects.{get-laid_over, get-laid_past}
-use Rattle.extents.proofs.PatchedObjects.{patched_length}
+use Rattle.extents.proofs.PatchedObjects.{patched_length, patched_nothing}
+use Rattle.extents.proofs.ReadRecords.{bytes_alone, bytes_over, some_at}
+
+-- a patched object of which some shows has one below
+has_below : (basis : Basis) (written : ℕ → Option ℕ) (object : Option (List ℕ)) (i : ℕ) → is_some (patched (record { basis = basis; written = written }) object) ≡ true
+    → is_shown basis i ≡ true → is_some object ≡ true
+has_below basis written (Some bytes) i there shown = refl
+has_below (Grown end) written None i there shown = there
+has_below (Cut kept size) written None i there shown = there
+has_below (Made size) written None i there shown = absurd (false≢true shown)
+has_below Gone written None i there shown = there
+
+is_some-map : (o : Option (List ℕ)) → is_some o ≡ true → is_some (option_map length o) ≡ true
+is_some-map None is = is
+is_some-map (Some bytes) is = refl
 
 module _ (patches : Patches) (below : FinMap nat_cmp (List ℕ)) (n : ℕ) where
   pub laid_length : (size result : Option ℕ) → n < object_count → size ≡ object_length below n → result ≡ length_over (patches n).basis size
@@ -20,12 +37,42 @@ module _ (patches : Patches) (below : FinMap nat_cmp (List ℕ)) (n : ℕ) where
   pub laid_length_past : object_count ≤ n → None ≡ object_length (laid_over patches below) n
   laid_length_past past = ap (option_map length) (sym (get-laid_past patches below n past))
 
-  pub laid_part : (offset : ℕ) (size : Option ℕ) (old new : List ℕ) → n < object_count → size ≡ object_length below n → AreBytesFrom offset (object_bytes below n) old
-      → LaysOver (patches n) offset size old new → AreBytesFrom offset (object_bytes (laid_over patches below) n) new
-  laid_part offset size old new low is was lays =
-      subst (λ (o : Option (List ℕ)). AreBytesFrom offset (unwrap_or o []) new) (sym (get-laid_over patches below n low)) (lays (finite.get below n) (sym is) was)
+  -- an object with the patches laid over it has one of the numbers
+  numbered : is_some (finite.get (laid_over patches below) n) ≡ true → n < object_count
+  numbered there = go (cases_lt n object_count)
+    where
+      go : (n < object_count) ⊎ (object_count ≤ n) → n < object_count
+      go (inl l) = l
+      go (inr past) = absurd (false≢true (ap is_some (sym (get-laid_past patches below n past)) ∙ there))
 
-  pub laid_part_past : (offset : ℕ) (bytes : List ℕ) → object_count ≤ n → ((k : ℕ) → k < length bytes → get_or bytes k 0 ≡ 0)
-      → AreBytesFrom offset (object_bytes (laid_over patches below) n) bytes
-  laid_part_past offset bytes past zeros =
-      subst (λ (o : Option (List ℕ)). AreBytesFrom offset (unwrap_or o []) bytes) (sym (get-laid_past patches below n past)) zeros
+  -- an object that is there, with its patch
+  module _ (p : Patch) (is : patches n ≡ p) (there : is_some (finite.get (laid_over patches below) n) ≡ true) where
+    pub laid_object : finite.get (laid_over patches below) n ≡ patched p (finite.get below n)
+    laid_object = get-laid_over patches below n (numbered there) ∙ ap (λ (q : Patch). patched q (finite.get below n)) is
+
+    made : is_some (patched p (finite.get below n)) ≡ true
+    made = ap is_some (sym laid_object) ∙ there
+
+    -- where the patch shows some of the object below, that one is there
+    pub shown_is_there : (i : ℕ) → is_shown p.basis i ≡ true → is_some (finite.get below n) ≡ true
+    shown_is_there i shown = has_below p.basis p.written (finite.get below n) i made shown
+
+    -- its bytes, from those of the object below, or from any where these are hidden
+    module _ (offset : ℕ) (old new : List ℕ) (sized : IsSized p) (long : length new ≡ length old) (lays : LaysOn p offset old new) where
+      size : (s : ℕ) × (length_over p.basis (option_map length (finite.get below n)) ≡ Some s)
+      size =
+          some_at (length_over p.basis (option_map length (finite.get below n)))
+          (ap is_some (sym (patched_length p (finite.get below n))) ∙ is_some-map (patched p (finite.get below n)) made)
+
+      back : AreBytesFrom offset (unwrap_or (patched p (finite.get below n)) []) new → AreBytesFrom offset (object_bytes (laid_over patches below) n) new
+      back = subst (λ (o : Option (List ℕ)). AreBytesFrom offset (unwrap_or o []) new) (sym laid_object)
+
+      pub laid_part : AreBytesFrom offset (object_bytes below n) old → AreBytesFrom offset (object_bytes (laid_over patches below) n) new
+      laid_part was = back (bytes_over p (finite.get below n) offset size.0 old new sized size.1 long lays was)
+
+      pub hidden_part : HidesBelow p offset (length old) → AreBytesFrom offset (object_bytes (laid_over patches below) n) new
+      hidden_part hides = back (bytes_alone p (finite.get below n) offset size.0 old new sized size.1 long lays hides)
+
+  -- an object without a patch is the one below
+  pub same_object : patches n ≡ no_patch → is_some (finite.get (laid_over patches below) n) ≡ true → finite.get (laid_over patches below) n ≡ finite.get below n
+  same_object none there = laid_object no_patch none there ∙ patched_nothing (finite.get below n)

@@ -1,12 +1,13 @@
 -- Bytes of a patched object, from those of the object below.
-use Rattle.std.proofs.Common.{◌≡◌, ℕ, ◌+◌, ◌-◌, ◌*◌, ◌<◌, ◌≤◌, max, min, true, false, cond, refl, ap, sym, ◌∙◌, arith, ◌⊎◌, inl, inr, List, [], length, get_or, take, Option, Some, None, length-take, get_or-take}
-use Rattle.std.specs.Prelude.{is_some, nat_lt, option_map, unwrap_or}
+use Rattle.std.proofs.Common.{◌≡◌, ℕ, ◌+◌, ◌-◌, ◌*◌, ◌<◌, ◌≤◌, max, min, true, false, cond, refl, ap, sym, subst, ◌∙◌, arith, ◌⊎◌, inl, inr, List, [], length, get_or, take, Option, Some, None, length-take, get_or-take}
+use Rattle.std.specs.Prelude.{Bool, not, ◌||◌, is_some, nat_lt, option_map, unwrap_or}
 use Rattle.std.proofs.lemmas.List.{get_or_past}
 use Rattle.std.proofs.lemmas.Bool.{cases_lt, lt-ltb, le-ltb}
 use Rattle.object_maps.specs.Sources.{AreBytesFrom}
 use Rattle.extents.specs.declared.basis.Basis.{Basis}
 use Rattle.extents.specs.declared.basis.Basis.TheVariants.{Grown, Cut, Made, Gone}
-use Rattle.extents.specs.Patches.{IsSized, is_shown, length_over, patched}
+use Rattle.extents.specs.Objects.{HidesBelow, LaysOn}
+use Rattle.extents.specs.Patches.{IsSized, Patch, is_shown, length_over, patched}
 use Rattle.extents.proofs.PatchedBytes.{filled-at}
 
 -- how many bytes of a record are kept
@@ -44,24 +45,61 @@ count_shown shown start size count k is inside = go (cases_lt (start + k) shown)
     go (inl l) = rw (lt-ltb k count (omega arith), lt-ltb (start + k) shown l) refl
     go (inr g) = rw (le-ltb k count (omega arith), le-ltb (start + k) shown g) refl
 
--- The bytes of a patched object in a part of a record: those of the one below as far as they show, and over them those that were written.
-module _ (basis : Basis) (written : ℕ → Option ℕ) (object : Option (List ℕ)) (index start size shown count : ℕ) (old cleared new : List ℕ)
-    (sized : IsSized (record { basis = basis; written = written })) (is : length_over basis (option_map length object) ≡ Some size)
+-- Bytes below are cleared as far as they don't show, and those that were written are laid over them.
+module _ (basis : Basis) (written : ℕ → Option ℕ) (index start shown count : ℕ) (old cleared new : List ℕ)
     (tells : (k : ℕ) → k < 4032 → nat_lt k shown ≡ is_shown basis (4032 * index + k)) (is_count : count ≡ min (shown - start) (length old)) (within : start + length old ≤ 4032)
-    (reads : AreBytesFrom (4032 * index + start) (unwrap_or object []) old)
-    (clears : (k : ℕ) → k < length old → get_or cleared k 0 ≡ cond (nat_lt k count) (get_or old k 0) 0) (long : length new ≡ length old)
+    (clears : (k : ℕ) → k < length old → get_or cleared k 0 ≡ cond (nat_lt k count) (get_or old k 0) 0)
     (lays : (k : ℕ) → k < length old → get_or new k 0 ≡ unwrap_or (written (4032 * index + (start + k))) (get_or cleared k 0)) where
-  pub bytes_over : AreBytesFrom (4032 * index + start) (unwrap_or (patched (record { basis = basis; written = written }) object) []) new
-  bytes_over k low =
-      let inside : k < length old = rw long at low in
-      let same : 4032 * index + start + k ≡ 4032 * index + (start + k) = omega arith in
+  pub laid_on : LaysOn (record { basis = basis; written = written }) (4032 * index + start) old new
+  laid_on k inside =
+      let same : 4032 * index + (start + k) ≡ 4032 * index + start + k = omega arith in
       let shows : nat_lt k count ≡ is_shown basis (4032 * index + (start + k)) = count_shown shown start (length old) count k is_count inside ∙ tells (start + k) (omega (arith, within, inside)) in
-      let below : get_or old k 0 ≡ get_or (unwrap_or object []) (4032 * index + (start + k)) 0 = reads k inside ∙ ap (λ (j : ℕ). get_or (unwrap_or object []) j 0) same in
       lays k inside
-      ∙ ap (unwrap_or (written (4032 * index + (start + k)))) (clears k inside ∙ ap (λ b. cond b (get_or old k 0) 0) shows
-      ∙ ap (λ v. cond (is_shown basis (4032 * index + (start + k))) v 0) below)
-      ∙ sym (ap (λ (j : ℕ). get_or (unwrap_or (patched (record { basis = basis; written = written }) object) []) j 0) same
-      ∙ patched-byte basis written object size sized is (4032 * index + (start + k)))
+      ∙ ap (unwrap_or (written (4032 * index + (start + k)))) (clears k inside ∙ ap (λ b. cond b (get_or old k 0) 0) shows)
+      ∙ ap (λ (j : ℕ). unwrap_or (written j) (cond (is_shown basis j) (get_or old k 0) 0)) same
+
+or_true : (b : Bool) → (b || true) ≡ true
+or_true true = refl
+or_true false = refl
+
+-- Bytes of the record that were written, or that don't show, hide those below.
+module _ (basis : Basis) (written : ℕ → Option ℕ) (index start shown count size : ℕ)
+    (tells : (k : ℕ) → k < 4032 → nat_lt k shown ≡ is_shown basis (4032 * index + k)) (is_count : count ≡ min (shown - start) size) (within : start + size ≤ 4032) where
+  pub hides_below : ((k : ℕ) → k < count → is_some (written (4032 * index + (start + k))) ≡ true) → HidesBelow (record { basis = basis; written = written }) (4032 * index + start) size
+  hides_below covers k inside =
+      let same : 4032 * index + (start + k) ≡ 4032 * index + start + k = omega arith in
+      let shows : nat_lt k count ≡ is_shown basis (4032 * index + (start + k)) = count_shown shown start size count k is_count inside ∙ tells (start + k) (omega (arith, within, inside)) in
+      subst (λ (j : ℕ). (is_some (written j) || not (is_shown basis j)) ≡ true) same (go (cases_lt k count) shows)
+    where
+      go : (k < count) ⊎ (count ≤ k) → nat_lt k count ≡ is_shown basis (4032 * index + (start + k))
+          → (is_some (written (4032 * index + (start + k))) || not (is_shown basis (4032 * index + (start + k)))) ≡ true
+      go (inl l) shows = rw (covers k l) refl
+      go (inr g) shows = rw (sym shows, le-ltb k count g) (or_true (is_some (written (4032 * index + (start + k)))))
+
+  pub shows_first : 0 < count → is_shown basis (4032 * index + start) ≡ true
+  shows_first some = sym (tells start (omega arith)) ∙ lt-ltb start shown (omega arith)
+
+-- what is hidden may be anything
+unseen : (o : Option ℕ) (b : Bool) (x y : ℕ) → (is_some o || not b) ≡ true → unwrap_or o (cond b x 0) ≡ unwrap_or o (cond b y 0)
+unseen (Some v) b x y is = refl
+unseen None false x y is = refl
+unseen None true x y is = absurd (let no_way : false ≡ true = is in cc)
+
+-- The bytes of a patched object that is there, from bytes of the one below, or from any where these are hidden.
+module _ (p : Patch) (object : Option (List ℕ)) (offset size : ℕ) (old new : List ℕ) (sized : IsSized p) (is : length_over p.basis (option_map length object) ≡ Some size)
+    (long : length new ≡ length old) (lays : LaysOn p offset old new) where
+  pub bytes_over : AreBytesFrom offset (unwrap_or object []) old → AreBytesFrom offset (unwrap_or (patched p object) []) new
+  bytes_over reads k low =
+      let inside : k < length old = rw long at low in
+      lays k inside ∙ ap (λ v. unwrap_or (p.written (offset + k)) (cond (is_shown p.basis (offset + k)) v 0)) (reads k inside)
+      ∙ sym (patched-byte p.basis p.written object size sized is (offset + k))
+
+  pub bytes_alone : HidesBelow p offset (length old) → AreBytesFrom offset (unwrap_or (patched p object) []) new
+  bytes_alone hides k low =
+      let inside : k < length old = rw long at low in
+      lays k inside
+      ∙ unseen (p.written (offset + k)) (is_shown p.basis (offset + k)) (get_or old k 0) (get_or (unwrap_or object []) (offset + k) 0) (hides k inside)
+      ∙ sym (patched-byte p.basis p.written object size sized is (offset + k))
 
 pub some_at : (o : Option ℕ) → is_some o ≡ true → (n : ℕ) × (o ≡ Some n)
 some_at None is = absurd (let no_way : false ≡ true = is in cc)

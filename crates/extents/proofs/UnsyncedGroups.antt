@@ -6,8 +6,8 @@ use Rattle.base.specs.steps.Steps.{ops_of_group}
 use Rattle.extents.specs.declared.unsynced.UnsyncedExtents.{UnsyncedExtents}
 use Rattle.extents.specs.Laws.{OldestIsLaid, UnsyncedAreRead}
 use Rattle.extents.specs.Patches.{ArePatchesOf, Patches, laid_groups, laid_over, no_patch}
-use Rattle.extents.specs.Tables.{patches_of}
-use Rattle.extents.specs.Unsynced.{MovesUp, changes_at, laid_all}
+use Rattle.extents.specs.Tables.{CanApplyAll, patches_of}
+use Rattle.extents.specs.Unsynced.{CanApplyAt, MovesUp, RoomMovesUp, changes_at, laid_all}
 use Rattle.extents.proofs.LaidObjects.{get-laid_past, groups_are_read, laid_nothing, laid_same}
 
 -- the second group is the oldest, the third the second, and the third has no changes
@@ -17,6 +17,14 @@ moves_up old new first second none (suc zero) n = ap (λ e. patches_of e n) seco
 moves_up old new first second none (suc (suc zero)) n = none n
 moves_up old new first second none (suc (suc (suc k))) n =
     let next : suc (suc (suc k)) + 1 ≡ suc (suc (suc (suc k))) = omega arith in rw next refl
+
+-- so does their room
+pub room_moves_up : (old new : UnsyncedExtents) → new.oldest ≡ old.second → new.second ≡ old.third → RoomMovesUp old new
+room_moves_up old new first second zero ops can = subst (λ e. CanApplyAll e ops) (sym first) can
+room_moves_up old new first second (suc zero) ops can = subst (λ e. CanApplyAll e ops) (sym second) can
+room_moves_up old new first second (suc (suc n)) ops can =
+    absurd (let next : suc (suc n) + 1 ≡ suc (suc (suc n)) = omega arith in
+    let no_way : CanApplyAt (suc (suc (suc n))) old ops = rw next at can in no_way)
 
 -- what all groups made over the tree, once the oldest group's changes are in it
 pub oldest_is_laid : OldestIsLaid

@@ -1,10 +1,10 @@
 -- The bytes that a group wrote into an object, by records.
-use Rattle.std.specs.Prelude.{cond, ℕ, ◌==◌, nat_lt, ◌≡◌, ◌<◌, ◌+◌, ◌*◌, ◌/◌, List, [], length, Option, option_map, unwrap_or, slice_get, vec_len}
+use Rattle.std.specs.Prelude.{cond, not, true, ℕ, ◌==◌, ◌||◌, nat_lt, ◌≡◌, ◌<◌, ◌+◌, ◌*◌, ◌/◌, List, [], get_or, is_some, length, Option, option_map, unwrap_or, slice_get, vec_len}
 use Rattle.std.specs.Option.{option_map_or}
 use Rattle.extents.specs.declared.record.RecordPatch.{RecordPatch}
 use Rattle.extents.specs.declared.object.ObjectPatch.{ObjectPatch}
 use Rattle.extents.specs.Records.{patch_with, written_by}
-use Rattle.extents.specs.Patches.{Patch, patched, written_after, written_below}
+use Rattle.extents.specs.Patches.{Patch, is_shown, patched, written_after, written_below}
 use Rattle.object_maps.specs.Sources.{AreBytesFrom}
 
 -- the byte that was written at an offset of an object
@@ -43,6 +43,15 @@ left_before_record index offset written i = cond (nat_lt (i / 4032) index) (writ
 -- what the group made of the object
 abbrev pub patch_of : ObjectPatch → Patch
 patch_of o = patch_with o.basis o.records.items
+
+-- from bytes below to those of a patched object that is there: those that were written, and else those below as far as they show
+abbrev pub LaysOn : Patch → ℕ → List ℕ → List ℕ → Type 0
+LaysOn p offset old new = (k : ℕ) → k < length old
+    → get_or new k 0 ≡ unwrap_or (p.written (offset + k)) (cond (is_shown p.basis (offset + k)) (get_or old k 0) 0)
+
+-- of so many bytes from an offset on each was written, or does not show
+abbrev pub HidesBelow : Patch → ℕ → ℕ → Type 0
+HidesBelow p offset count = (k : ℕ) → k < count → (is_some (p.written (offset + k)) || not (is_shown p.basis (offset + k))) ≡ true
 
 -- from bytes of the object below, which has this length, to those of the patched one, from the same offset on
 abbrev pub LaysOver : Patch → ℕ → Option ℕ → List ℕ → List ℕ → Type 0

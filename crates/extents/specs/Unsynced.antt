@@ -43,6 +43,10 @@ AppliesAt place ops old new = (n : ℕ) → IsSame (changes_at new place n) (wit
 abbrev pub MovesUp : UnsyncedExtents → UnsyncedExtents → Type 0
 MovesUp old new = (place n : ℕ) → changes_at new place n ≡ changes_at old (place + 1) n
 
+-- operations that had their room at a place have it at the place before
+abbrev pub RoomMovesUp : UnsyncedExtents → UnsyncedExtents → Type 0
+RoomMovesUp old new = (place : ℕ) (ops : List Op) → CanApplyAt (place + 1) old ops → CanApplyAt place new ops
+
 -- all changes laid one over the other, the oldest first
 abbrev pub laid_all : UnsyncedExtents → FinMap nat_cmp (List ℕ) → FinMap nat_cmp (List ℕ)
 laid_all e below = laid_over (changes_at e 2) (laid_over (changes_at e 1) (laid_over (changes_at e 0) below))

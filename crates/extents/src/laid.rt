@@ -1,7 +1,8 @@
 //! The objects of a source with the changes of a group laid over them.
 //!
-//! A read goes to the source below, and what the group made of the object is laid over what was read there. Groups that
-//! follow one another are laid one over the other, the oldest first.
+//! What the group made of the object is laid over what the source below gives, and that is read only where some of it is
+//! seen: so a read of bytes that the group wrote asks nothing below. Groups that follow one another are laid one over the
+//! other, the oldest first, and a read comes to the newest first.
 
 ghost use Rattle.extents.specs.Patches.{laid_over};
 ghost use Rattle.extents.specs.Tables.{patches_of};
@@ -44,20 +45,21 @@ impl<'a, O: ObjectSource> ObjectSource for Laid<'a, O> {
         self.extents.length_over(id, self.below.length(id))
     }
 
-    fn read_part(
+    // The newest group comes first: where no byte of the object below is seen, none is read.
+    fn read_present(
         &mut self,
         id: ObjectId,
         index: usize,
         start: usize,
         into: &mut [u8],
     ) -> Result<(), PoolError> {
-        if id.0 >= OBJECT_COUNT {
-            into.fill(0);
-            return Ok(());
+        let Some(patch) = self.extents.patches.get(&id.0) else {
+            return self.below.read_present(id, index, start, into);
+        };
+        if !patch.hides(index, start, into.len()) {
+            self.below.read_present(id, index, start, into)?;
         }
-        let length = self.below.length(id);
-        self.below.read_part(id, index, start, into)?;
-        self.extents.lay_over(id, index, start, length, into);
+        patch.lay_on(index, start, into);
         Ok(())
     }
 }

@@ -1,6 +1,6 @@
 //! What a group made of one object.
 
-ghost use Rattle.std.specs.Prelude.{ℕ, ◌≡◌, ◌<◌, ◌≤◌, ◌+◌, ◌*◌, None, cond, get_or, nat_lt, IfOk, OnOk, length, vec_len};
+ghost use Rattle.std.specs.Prelude.{ℕ, ◌≡◌, ◌<◌, ◌≤◌, ◌+◌, ◌*◌, None, false, true, cond, get_or, nat_lt, IfOk, OnOk, length, vec_len};
 ghost use Rattle.extents.specs.Patches.{IsSized, IsSized-prop, least_length};
 ghost use Rattle.extents.specs.Records.{patch_with};
 
@@ -21,9 +21,9 @@ pub struct ObjectPatch {
 }
 
 impl ObjectPatch {
-    ghost use Rattle.extents.specs.Patches.{basis_after_cut, basis_after_write, written_after, written_below};
+    ghost use Rattle.extents.specs.Patches.{basis_after_cut, basis_after_write, is_shown, written_after, written_below};
     ghost use Rattle.extents.specs.declared.basis.Basis.TheVariants.{Gone, Grown, Made};
-    ghost use Rattle.extents.specs.Objects.{HasRoomAt, HasRoomFrom, KeepsRoom, LaysOver, left_at_record, patch_of, written_at_record, written_in};
+    ghost use Rattle.extents.specs.Objects.{HasRoomAt, HasRoomFrom, HidesBelow, KeepsRoom, LaysOn, LaysOver, left_at_record, patch_of, written_at_record, written_in};
 
     /// An object that the group has not changed. It is refused where there is no memory.
     pub fn new(alloc: Global) -> Result<Self, AllocError>
@@ -191,9 +191,32 @@ impl ObjectPatch {
             into.fill(0);
             return;
         }
+        self.lay_on(index, start, into);
+    }
+
+    /// As `lay_over`, of an object that is there. Of bytes that the group hides anything may be in `into`.
+    pub(crate) fn lay_on(&self, index: usize, start: usize, into: &mut [u8])
+        requires index { index < 84 }
+        requires within { start + length into.old ≤ 4032 }
+        ensures size { length into.new ≡ length into.old }
+        ensures bytes { LaysOn (patch_of self.now) (4032 * index + start) into.old into.new }
+    {
         let shown = self.basis.shown_in(index).saturating_sub(start);
         clear_from(into, shown.min(into.len()));
         self.records[index].lay_over(start, into);
+    }
+
+    /// Whether none of so many bytes of a record of the object below is seen, from the offset `start` in it on: each was
+    /// written by the group, or is not left by it.
+    pub(crate) fn hides(&self, index: usize, start: usize, count: usize) -> bool
+        requires index { index < 84 }
+        requires within { start + count ≤ 4032 }
+        ensures hidden { result ≡ true
+            → HidesBelow (patch_of self.now) (4032 * index + start) count }
+        ensures shown { result ≡ false → is_shown self.now.basis (4032 * index + start) ≡ true }
+    {
+        let shown = self.basis.shown_in(index).saturating_sub(start);
+        self.records[index].covers(start, shown.min(count))
     }
 }
 

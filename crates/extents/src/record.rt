@@ -1,6 +1,6 @@
 //! What a group wrote into one record of an object.
 
-ghost use Rattle.std.specs.Prelude.{ℕ, ◌≡◌, ◌<◌, ◌≤◌, ◌+◌, true, All, None, IfOk, OnOk, get_or, length, replicate, unwrap_or, vec_len};
+ghost use Rattle.std.specs.Prelude.{ℕ, ◌≡◌, ◌<◌, ◌≤◌, ◌+◌, true, false, All, None, IfOk, OnOk, get_or, is_some, length, replicate, unwrap_or, vec_len};
 ghost use Rattle.base.specs.disk.Disk.{put};
 ghost use Rattle.extents.specs.Marks.{is_mark, is_room, laid_byte};
 
@@ -76,15 +76,32 @@ impl RecordPatch {
         }
     }
 
+    /// Whether each of so many bytes from the offset `start` of the record on was written.
+    pub fn covers(&self, start: usize, count: usize) -> bool
+        requires { start + count ≤ 4032 }
+        ensures written { result ≡ true → (k : ℕ) → k < count
+            → is_some (bytes_written self.now (start + k)) ≡ true }
+        ensures some { result ≡ false → 0 < count }
+    {
+        if self.mask.is_empty() {
+            return count == 0;
+        }
+        self.mask[start..start + count]
+            .iter()
+            .all(|mark| *mark == WRITTEN)
+    }
+
     /// Lays the bytes that were written from the offset `start` of the record on over others.
     pub fn lay_over(&self, start: usize, into: &mut [u8])
         ensures size { length into.new ≡ length into.old }
         ensures bytes { (k : ℕ) → k < length into.old → get_or into.new k 0
             ≡ unwrap_or (bytes_written self.now (start + k)) (get_or into.old k 0) }
     {
-        let count = self.mask.len().saturating_sub(start).min(into.len());
+        let bytes = self.bytes.as_slice();
+        let mask = self.mask.as_slice();
+        let count = mask.len().saturating_sub(start).min(into.len());
         for i in 0..count {
-            into[i] = laid_byte(into[i], self.bytes[start + i], self.mask[start + i]);
+            into[i] = laid_byte(into[i], bytes[start + i], mask[start + i]);
         }
     }
 }

@@ -28,7 +28,7 @@ impl UnsyncedExtents {
     ghost use Rattle.base.specs.formats.Records.{is_content_allowed};
     ghost use Rattle.object_maps.specs.Ops.{AreOpsAllowed};
     ghost use Rattle.extents.specs.Patches.{no_patch};
-    ghost use Rattle.extents.specs.Unsynced.{AppliesAt, CanApplyAt, CanStillApplyAt, KeepsOtherPlaces, LeavesChanges, MovesUp, changes_at, extents_at, laid_all};
+    ghost use Rattle.extents.specs.Unsynced.{AppliesAt, CanApplyAt, CanStillApplyAt, KeepsOtherPlaces, LeavesChanges, MovesUp, RoomMovesUp, changes_at, extents_at, laid_all};
 
     /// No changes of any group. It takes no memory.
     pub fn new(alloc: Global) -> Self
@@ -97,10 +97,11 @@ impl UnsyncedExtents {
         Laid::new(&self.third, second)
     }
 
-    /// The oldest group is synced: its changes go, the other groups move up by one place, and the group at the last place has
-    /// no changes. It takes no memory.
+    /// The oldest group is synced: its changes go, the other groups move up by one place with their room, and the group at
+    /// the last place has no changes. It takes no memory.
     pub fn drop_oldest(&mut self)
-        ensures { MovesUp self.old self.new }
+        ensures changes { MovesUp self.old self.new }
+        ensures room { RoomMovesUp self.old self.new }
     {
         let third = mem::replace(&mut self.third, Extents::new(self.alloc));
         self.oldest = mem::replace(&mut self.second, third);
