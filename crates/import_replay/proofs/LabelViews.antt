@@ -81,6 +81,7 @@ module _ (size : ℕ) (config : Config) (u : Uberblock) (first : Stage) (run : S
     name = view.name ∙ sym config_name;
     root = view.root ∙ sym behind.root;
     linked = tt;
+    spare = view.spare;
   }
 
   -- the tree stays where it is

@@ -17,7 +17,7 @@ use Rattle.base.specs.tree.Places.Place.{Root, Directory, Indirect, Data}
 use Rattle.base.specs.tree.PlacedTrees.{HoldsTree, StandsAt}
 use Rattle.base.specs.tree.Tree.{IsRecord}
 use Rattle.base.proofs.crash.NewDisks.{created_own}
-use Rattle.base.proofs.formats.Geometry.{blocks-end, slot-on_device}
+use Rattle.base.proofs.formats.Geometry.{IsGeometry-IsSize, blocks-end, slot-on_device}
 use Rattle.labels.specs.Configs.{IsConfigBlock, config_block}
 use Rattle.uberblocks.specs.Slots.{slot_bytes}
 use Rattle.import_replay.specs.Creations.{first_config, first_uberblock}
@@ -68,6 +68,7 @@ module _ (size t guid moment : ℕ) (name : List ℕ) (disk : Disk) (g : IsGeome
     name = refl;
     root = refl;
     linked = tt;
+    spare = (block_address 0, (0, omega (arith, (IsGeometry-IsSize size g).least), refl), λ place in_range same. omega (arith, same));
   }
 
   fixed : (place n : ℕ) (content : List ℕ) → length content ≡ n → part image place n ≡ content → IsFixed disk.now place content

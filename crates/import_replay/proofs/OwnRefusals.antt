@@ -1,19 +1,29 @@
 -- Of a disk that its pool alone wrote the pool is found, and its tree has no fault.
-use Rattle.std.proofs.Common.{◌≡◌, inl, inr, ℕ, List, refl, sym, ◌∙◌, subst}
+use Rattle.std.proofs.Common.{◌≡◌, inl, inr, ℕ, List, length, refl, sym, ◌∙◌, ap, subst}
 use Rattle.base.specs.declared.error.PoolError.{PoolError}
-use Rattle.base.specs.declared.error.PoolError.TheVariants.{BadGeometry, Damaged, NoMemory, NoPool}
+use Rattle.base.specs.declared.error.PoolError.TheVariants.{BadGeometry, Damaged, NoMemory, NoPool, NoSpace}
 use Rattle.base.specs.crash.Mount.{HasNoPool, IsTreeDamaged, Mounts, MountsTo, frame_of}
-use Rattle.base.specs.disk.Disk.{Disk, bytes_of, certain}
+use Rattle.base.specs.crash.Own.{IsOwnImage, IsOwnWith}
+use Rattle.base.specs.crash.Views.{IsFoundAs, view_frame}
+use Rattle.base.specs.declared.pointer.Pointer.{Pointer}
+use Rattle.base.specs.disk.Fairness.{passes_check}
+use Rattle.base.specs.disk.Disk.{Disk, Moment, bytes_of, certain, disk_size, settled}
 use Rattle.base.specs.formats.Chain.{LogBlock}
 use Rattle.base.specs.formats.Labels.{HasNoConfig}
 use Rattle.base.specs.formats.Uberblocks.{Uberblock}
 use Rattle.base.specs.history.Contents.{Contents}
 use Rattle.base.specs.tree.Faults.{IsFirstFault}
+use Rattle.base.specs.tree.Places.{IsInTree}
+use Rattle.base.specs.tree.Places.Place.{Root}
 use Rattle.base.proofs.crash.CrashRule.{own_mounts}
+use Rattle.base.proofs.crash.FoundViews.{rest_found}
 use Rattle.base.proofs.crash.OneMount.{one-active}
+use Rattle.base.proofs.disk.Fairness.{fair_settled}
+use Rattle.base.proofs.disk.Moments.{bytes_may_be_left}
 use Rattle.base.proofs.disk.Regions.{flushed_clean}
+use Rattle.base.proofs.tree.PlacedTrees.{in-tree}
 use Rattle.base.proofs.tree.SoundTrees.{no_fault}
-use Rattle.import_replay.specs.ImportRefusals.{FindsOwn, IsReason}
+use Rattle.import_replay.specs.ImportRefusals.{FindsOwn, HasNoFreeBlock, IsReason}
 
 module _ (image : List ℕ) (u : Uberblock) (chain : List LogBlock) (contents : Contents) (mounts : Mounts image u chain contents) where
   has_pool : HasNoPool image → ⊥
@@ -29,6 +39,30 @@ module _ (image : List ℕ) (u : Uberblock) (chain : List LogBlock) (contents : 
       no_fault image (frame_of image u) u.root mounts.synced.objects mounts.found.tree kind address
       (subst (λ (w : Uberblock). IsFirstFault image (frame_of image w) w.root kind address) same damaged.fault)
 
+-- a disk that its pool alone wrote has a block that its tree hasn't
+module _ (disk : Disk) (created guid : ℕ) (contents : Contents) (own : IsOwnWith disk created guid contents) where
+  abbrev image : List ℕ
+  image = bytes_of disk.now
+
+  abbrev still : Moment
+  still = settled image disk.now
+
+  here : IsOwnImage (disk_size disk) created image disk.now guid contents
+  here = own.left.each image (bytes_may_be_left disk.now) own.left.bytes.fair
+
+  found : IsFoundAs image (length here.v.logged) here.v
+  found = rest_found created still image (bytes_may_be_left still) (fair_settled (passes_check (disk_size disk)) created image disk.now own.left.bytes.fair) (length here.v.logged) here.v here.rest
+
+  has_spare : HasNoFreeBlock image → ⊥
+  has_spare (u, name, sound, fits, all) =
+      let laid = here.rest.laid in
+      let spare = laid.view.spare in
+      let same : u ≡ here.v.u = one-active image u here.v.u sound.pool.active found.found.pool.active in
+      let root : u.root ≡ here.v.pointers Root = ap (λ (w : Uberblock). w.root) same ∙ sym laid.view.root in
+      let there : IsInTree image (here.v.pointers Root) spare.0 = subst (λ (r : Pointer). IsInTree image r spare.0) root (all spare.0 spare.1) in
+      let place = in-tree image (view_frame (disk_size disk) here.v) here.v.pointers here.v.synced.objects laid.firm.tree.holds spare.0 there in
+      spare.2 place.0 place.1 place.2
+
 pub finds_own : (disk : Disk) (e : PoolError) → IsReason (bytes_of disk.now) e → FindsOwn disk e
 finds_own disk e reason created guid contents own =
     let flushed : Disk = certain (bytes_of disk.now) disk in
@@ -36,6 +70,7 @@ finds_own disk e reason created guid contents own =
     let (u, chain, mounts) = subst (λ (image : List ℕ). MountsTo image contents) same (own_mounts flushed created guid contents own) in
     record {
       not_missing = λ is. has_pool (bytes_of disk.now) u chain contents mounts (reason.no_pool is);
+      not_full = λ is. has_spare flushed created guid contents own (subst (λ (image : List ℕ). HasNoFreeBlock image) (sym same) (reason.no_space is));
       not_damaged = λ kind address is. is_sound (bytes_of disk.now) u chain contents mounts kind address (reason.damaged kind address is);
     }
 
@@ -43,11 +78,13 @@ finds_own disk e reason created guid contents own =
 pub bad_geometry : (disk : Disk) (e : PoolError) → e ≡ BadGeometry → FindsOwn disk e
 bad_geometry disk e is created guid contents own = record {
   not_missing = λ missing. let f : BadGeometry ≡ NoPool = sym is ∙ missing in cc;
+  not_full = λ full. let f : BadGeometry ≡ NoSpace = sym is ∙ full in cc;
   not_damaged = λ kind address damaged. let f : BadGeometry ≡ Damaged kind address = sym is ∙ damaged in cc;
 }
 
 pub no_memory : (disk : Disk) (e : PoolError) → e ≡ NoMemory → FindsOwn disk e
 no_memory disk e is created guid contents own = record {
   not_missing = λ missing. let f : NoMemory ≡ NoPool = sym is ∙ missing in cc;
+  not_full = λ full. let f : NoMemory ≡ NoSpace = sym is ∙ full in cc;
   not_damaged = λ kind address damaged. let f : NoMemory ≡ Damaged kind address = sym is ∙ damaged in cc;
 }

@@ -98,9 +98,10 @@ pub record IsReason (image : List ℕ) (e : PoolError) : Type 0 where
   pub too_many : e ≡ TooMany → HasLastNumbers image
   pub no_space : e ≡ NoSpace → HasNoFreeBlock image
 
--- the refusal says neither that there is no pool nor that a tree has a fault
+-- the refusal says neither that there is no pool, nor that a tree has a fault, nor that no block is free
 pub record IsOfSoundPool (e : PoolError) : Type 0 where
   pub not_missing : e ≢ NoPool
+  pub not_full : e ≢ NoSpace
   pub not_damaged : (kind address : ℕ) → e ≢ Damaged kind address
 
 -- so it is where the disk is one that its pool alone wrote, once it is flushed
