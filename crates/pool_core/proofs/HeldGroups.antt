@@ -2,7 +2,7 @@
 use Rattle.std.proofs.Common.{rules, ◌≡◌, ◌≢◌, ℕ, ◌+◌, ◌<◌, ◌≤◌, Bool, true, false, cond, not, ◌↔◌, List, [], ◌∷◌, ◌++◌, length, refl, sym, subst, ap, ◌∙◌, arith}
 use Rattle.std.specs.Prelude.{Option, Some, ◌==◌, ◌||◌, filter, is_none, is_some, slice_get, Result, Ok, Err, IfOk, IsErr, IsTrue, OnErr, OnOk}
 use Rattle.std.specs.List.{find}
-use Rattle.std.proofs.lemmas.Bool.{eqb-true, false≢true}
+use Rattle.std.proofs.lemmas.Bool.{eqb-true, false≢true, lt-leb, ne_eqb}
 use Rattle.std.proofs.lemmas.List.{length-append}
 use Rattle.std.proofs.lemmas.List.Elements.{filter-append}
 use Rattle.base.specs.declared.error.PoolError.{PoolError}
@@ -13,7 +13,7 @@ use Rattle.base.specs.steps.Refusals.{quiesced_group, quiescing_group}
 use Rattle.base.specs.steps.Steps.{transactions_without}
 use Rattle.base.proofs.common.KeptLists.{Some-injective}
 use Rattle.base.proofs.steps.KeptGroups.{held_above, line_quiesce, line_start, line_sync, none_there, quiesced_is, quiescing_is}
-use Rattle.groups.specs.CountedLines.{CountedLine, IsCounted, after_close, after_hold, after_quiesce, after_release, after_start, after_sync, counted_behind, hold_total, holds_of, is_close_refused, is_quiesce_refused, is_start_refused, line_after_sync}
+use Rattle.groups.specs.CountedLines.{CountedLine, IsCounted, after_close, after_hold, after_quiesce, after_release, after_start, after_sync, counted_behind, hold_total, holds_of, is_close_refused, is_hold_refused, is_quiesce_refused, is_release_refused, is_start_refused, line_after_sync}
 use Rattle.groups.specs.Laws.{AreHoldsExact, BeginsAreHeld, MovesKeepHolds}
 use Rattle.groups.proofs.HoldCounts as holds
 use Rattle.groups.proofs.ExactHolds.{count_transactions, is_released}
@@ -89,9 +89,18 @@ module _ (l : CountedLine) (counted : IsCounted l) where
       let above : (group < a.group) × (a.group ≤ l.line.open_group) = held_above (line_after_sync group l.line) a.group (line_sync l.line group counted.line is) (may_hold a.group held) in
       omega (arith, same, above.0)
 
-  -- where fewer than 64 transactions are open, so many holds are there
-  pub few_holds : (ts : List Admission) → AreHoldsExact ts l → length ts < max_transactions → hold_total l < max_transactions
-  few_holds ts exact few = let total = (count_transactions ts l counted exact).total in omega (arith, total, few)
+  -- where fewer than 64 transactions are open, one more may hold
+  pub may_begin_hold : (ts : List Admission) → AreHoldsExact ts l → length ts < max_transactions → is_hold_refused l ≡ false
+  may_begin_hold ts exact few = let total = (count_transactions ts l counted exact).total in lt-leb max_transactions (hold_total l) (omega (arith, total, few))
+
+-- what holds where a call is not refused, which it is not where its test passes
+pub where_passed : {A : Type 0} (answer : Result A PoolError) (test : Bool) (P : Type 0) → (IsErr answer ↔ IsTrue test) → test ≡ false → OnOk answer P → P
+where_passed (Ok x) test P refused passes is = is
+where_passed (Err e) test P refused passes is = absurd (false≢true (sym passes ∙ refused.0 refl))
+
+-- a group with a hold may release it
+pub may_release : (l : CountedLine) (group : ℕ) → 0 < holds_of l group → is_release_refused l group ≡ false
+may_release l group held = ne_eqb (holds_of l group) 0 (λ none. omega (arith, held, none))
 
 -- the transaction of a name has a hold, and without both the counts are those of the others
 module _ (ts : List Admission) (l : CountedLine) (tx : ℕ) (a : Admission) (group : ℕ) (exact : AreHoldsExact ts l) (apart : AreNamedApart ts)

@@ -1,7 +1,7 @@
 -- A read, step by step.
-use Rattle.std.proofs.Common.{ℕ, ◌≡◌, ◌∙◌, Bool, true, false, ◌||◌, List, [], not, nat_le, ap, refl, ◌⊎◌, inl, inr}
+use Rattle.std.proofs.Common.{ℕ, ◌≡◌, ◌∙◌, Bool, true, false, ◌||◌, List, [], not, nat_le, ap, refl, sym, ◌⊎◌, inl, inr}
 use Rattle.std.proofs.lemmas.Bool.{false≢true, true≢false}
-use Rattle.std.specs.Prelude.{Option, Some, None, Result, Ok, Err, IfErr, IfOk, is_some, unwrap_or}
+use Rattle.std.specs.Prelude.{Option, Some, None, Result, Ok, Err, IfErr, IfOk, is_some, length, option_map, unwrap_or}
 use Rattle.std.specs.FinMap as finite
 use Rattle.base.specs.declared.error.PoolError.{PoolError}
 use Rattle.base.specs.declared.error.PoolError.TheVariants as error
@@ -37,6 +37,11 @@ absent (Some bytes) is = absurd (true≢false is)
 present : (o : Option (List ℕ)) → is_some o ≡ true → (bytes : List ℕ) × (o ≡ Some bytes)
 present None is = absurd (false≢true is)
 present (Some bytes) is = (bytes, refl)
+
+-- whether an object is there is told by its length
+pub has_length : (o : Option (List ℕ)) (size told : Option ℕ) → size ≡ option_map length o → size ≡ told → is_some o ≡ is_some told
+has_length None size told is at = ap is_some (sym is ∙ at)
+has_length (Some bytes) size told is at = ap is_some (sym is ∙ at)
 
 pub read_none : (owner : ℕ) (t : NumberRange) (s : Shown) → s.suspended ≡ false → is_unreadable t ≡ false → is_covered owner t s.locks ≡ true → is_some (object_at t s) ≡ false
     → Meets (Read owner t) (Err error.NoObject) s s

@@ -39,7 +39,7 @@ use Rattle.base.proofs.history.BuiltNames.{name-up_to}
 use Rattle.base.proofs.history.KeptContents.{bounded-no_others}
 use Rattle.base.proofs.stored.StoredSets.{at-map, map-at}
 use Rattle.base.proofs.stored.StoredTrees.{stored-placed}
-use Rattle.base.proofs.tree.FreedBlocks.{new-in_tree}
+use Rattle.base.proofs.tree.FreedBlocks.{in-new_tree, new-in_tree}
 use Rattle.base.proofs.tree.PlacedTrees.{in-tree, opens-at, told-in_tree}
 use Rattle.base.proofs.tree.PlannedTrees.{planned-holds}
 use Rattle.sync.specs.declared.run.LabelStages.{LabelStages}
@@ -120,14 +120,32 @@ module _ (now : List ℕ) (s : Shown) (p : Past) (pointers : Place → Pointer) 
       let count : s.blocks ≡ (length now - 524288 - 4194304) / 4096 = x.blocks in
       omega (arith, large, count)
 
+  abbrev after : List ℕ
+  after = put_blocks new.blocks now
+
+  news : HoldsTree after (frame_at s y.group) new.pointers y.plan.contents.objects
+  news =
+      planned-written now (frame_at s s.line.synced) (frame_at s y.group) new.blocks pointers new.pointers y.synced.objects y.plan.contents.objects refl refl later olds y.planned.planned no_others y.are y.leaves room
+
+  -- its tree has no block where the next log block goes
+  pub next_spared : (place : Place) → IsPlace place → (new.pointers place).address ≢ s.log.next.address
+  next_spared place in_range same =
+      let block = x.log_block in
+      let at : s.log.next.address ≡ block_address block.0 = block.2 in
+      let some : new.pointers place ≢ no_pointer = λ none. let zero_is : 0 ≡ s.log.next.address = ap (λ (q : Pointer). q.address) (sym none) ∙ same in omega (arith, zero_is, at) in
+      let there : IsInTree after (new.pointers Root) s.log.next.address =
+      subst (λ (a : ℕ). IsInTree after (new.pointers Root) a) same (told-in_tree after (frame_at s y.group) new.pointers y.plan.contents.objects news place in_range some) in
+      elim (in-new_tree now after (frame_at s s.line.synced) (frame_at s y.group) new.blocks pointers new.pointers y.synced.objects y.plan.contents.objects olds news y.planned.planned y.leaves s.log.next.address there) as (λ _. ⊥) [
+        | inl old ↦ x.log_apart (subst (λ (r : Pointer). IsInTree now r s.log.next.address) x.root old)
+        | inr h ↦ y.log_apart h.0 h.1 h.2 h.3
+      ]
+
   -- no block that it writes is a config
   pub not_config : (i : ℕ) (b : NewBlock) → slice_get new.blocks i ≡ Some b → number_at b.content 0 ≢ 1
   not_config i b at =
-      let image : List ℕ = put_blocks new.blocks now in
+      let image : List ℕ = after in
       let old_frame : Frame = frame_at s s.line.synced in
       let frame : Frame = frame_at s y.group in
-      let news : HoldsTree image frame new.pointers y.plan.contents.objects =
-      planned-written now old_frame frame new.blocks pointers new.pointers y.synced.objects y.plan.contents.objects refl refl later olds y.planned.planned no_others y.are y.leaves room in
       let t = in-tree image frame new.pointers y.plan.contents.objects news b.address
       (new-in_tree now image old_frame frame new.blocks pointers new.pointers y.synced.objects y.plan.contents.objects olds news y.planned.planned y.leaves s.blocks y.are y.planned.used b.address (i, b, at, refl)) in
       let o = opens-at image frame new.pointers y.plan.contents.objects news t.0 t.1 t.3 in
@@ -203,6 +221,11 @@ module _ (disk : Disk) (s : Shown) (p : Past) (pointers tree : Place → Pointer
     name = name-up_to s p explained y.group y.plan.contents replayed ∙ sym (name-up_to s p explained s.line.synced old.synced is.replayed) ∙ rest.laid.view.name;
     root = y.planned.root;
     linked = tt;
+    spare = (
+      s.log.next.address,
+      subst (λ (n : ℕ). IsBlockAddress n s.log.next.address) (x.blocks ∙ ap (λ (n : ℕ). block_count n) long) x.log_block,
+      next_spared now s p pointers (made_by tree run) x y explained geometry,
+    );
   }
 
   no_logged : old.logged ≡ []

@@ -51,7 +51,7 @@ use extents::{Laid, UnsyncedExtents};
 use groups::Groups;
 use import_replay::Mounted;
 use labels::Geometry;
-use object_maps::{Contents, ObjectMap, ObjectSource, Tree, digest, judge, read_range};
+use object_maps::{Contents, ObjectMap, ObjectSource, Tree, digest, judge, read_range_below};
 use range_locks::{HeldLock, HeldLocks, HeldPiece, RangeLocks};
 use space::FreeSet;
 use std::alloc::Global;
@@ -307,7 +307,9 @@ impl Pool {
         let Ok(()) = self.free.reserve(estimate(shapes), 0) else {
             unreachable!();
         };
-        self.groups.hold();
+        let Ok(_) = self.groups.hold() else {
+            unreachable!();
+        };
         Ok((tx, group))
     }
 
@@ -472,7 +474,9 @@ impl Pool {
     {
         self.changes.apply(place, ops.as_slice());
         self.transactions.end(tx);
-        self.groups.release(group);
+        let Ok(()) = self.groups.release(group) else {
+            unreachable!();
+        };
         let ordinal = self.next_ordinal;
         self.next_ordinal += 1;
         self.pending.push_reserved(Committed {
@@ -494,7 +498,9 @@ impl Pool {
         let shapes = transaction.plan.as_slice();
         self.dirty.cancel(transaction.group, charge(shapes));
         self.free.unreserve(estimate(shapes));
-        self.groups.release(transaction.group);
+        let Ok(()) = self.groups.release(transaction.group) else {
+            unreachable!();
+        };
         Ok(())
     }
 
@@ -514,10 +520,10 @@ impl Pool {
             return Err(PoolError::NotLocked);
         }
         let mut objects = self.objects();
-        if !objects.has(object) {
+        let Some(length) = objects.length(object) else {
             return Err(PoolError::NoObject);
-        }
-        read_range(&mut objects, self.alloc, object, range)
+        };
+        read_range_below(&mut objects, self.alloc, object, range, length)
     }
 
     pub(crate) fn length(&self, object: ObjectId) -> Result<u64, PoolError>

@@ -1,4 +1,5 @@
-use Rattle.std.proofs.Common.{◌∙◌, ◌==◌, Bool, not, List, ap, sym, subst, refl}
+use Rattle.std.proofs.Common.{◌≡◌, ◌∙◌, ◌==◌, Bool, not, List, ap, sym, subst, refl}
+use Rattle.std.proofs.lemmas.Bool.{false≢true}
 use Rattle.std.proofs.lemmas.Result.{err_from_is_err_and}
 use Rattle.std.proofs.lemmas.List.Elements.{All-filter}
 use Rattle.base.specs.steps.Groups.{Admission}
@@ -10,7 +11,7 @@ use Rattle.transactions.specs.Open.{admission_of}
 use Rattle.pool_core.specs.Shows.{pool_shown}
 use Rattle.pool_core.proofs.Aborts.{abort_done, abort_none, abort_suspended, ended_allowed, ended_charged, ended_held, ended_reserved, ended_small, ended_unsynced, none_ended, others_charged, others_reserved}
 use Rattle.pool_core.proofs.Charges.{shows_sums}
-use Rattle.pool_core.proofs.HeldGroups.{counted_release, exact_end, line-after_release}
+use Rattle.pool_core.proofs.HeldGroups.{counted_release, exact_end, line-after_release, may_release, where_passed}
 use Rattle.pool_core.proofs.Opens.{IsBuilt, IsSmall}
 use Rattle.pool_core.proofs.pool.Pool.abort.Goals as goal
 
@@ -55,8 +56,10 @@ unreserve-requires c =
     rw (c.estimate.ensures, c.as_slice-shapes.ensures)
     (ended_reserved c.args.self.now c.args.tx.0 (admission_of c.in-Some.transaction) (sym c.in-Some.ensures.ended) _ (rw (c.charge.ensures, c.as_slice-shapes.ensures) at c.cancel.ensures.total))
 
-pub release-requires : goal.release-requires
-release-requires c = ended_held c.args.self.now c.args.tx.0 (admission_of c.in-Some.transaction) (sym c.in-Some.ensures.ended) c.in-Some.ensures.apart
+pub unreachable-requires : goal.unreachable-requires
+unreachable-requires c =
+    let held = ended_held c.args.self.now c.args.tx.0 (admission_of c.in-Some.transaction) (sym c.in-Some.ensures.ended) c.in-Some.ensures.apart in
+    false≢true (sym (may_release c.args.self.now.groups c.in-Some.transaction.group.0 held) ∙ c.in_default-release.ensures.refused.0 refl)
 
 pub invariant_of-self-2-clause-accounted : goal.invariant_of-self-2-clause-accounted
 invariant_of-self-2-clause-accounted c =
@@ -64,12 +67,15 @@ invariant_of-self-2-clause-accounted c =
     let all = pool.transactions.transactions in
     let a = admission_of c.in-Some.transaction in
     let others : Admission → Bool = λ (x : Admission). not (x.tx == c.args.tx.0) in
+    let held = ended_held pool c.args.tx.0 (admission_of c.in-Some.transaction) (sym c.in-Some.ensures.ended) c.in-Some.ensures.apart in
+    let released : c.release.new.self ≡ after_release c.in-Some.transaction.group.0 pool.groups = where_passed c.release.result _ _ c.release.ensures.refused
+    (may_release pool.groups c.in-Some.transaction.group.0 held) c.release.ensures.released in
     record {
-      counted = rw c.release.ensures (counted_release pool.groups pool.accounted.counted a.group);
-      holds_exact = subst (AreHoldsExact c.end.new.self.transactions) (sym c.release.ensures)
+      counted = rw released (counted_release pool.groups pool.accounted.counted a.group);
+      holds_exact = subst (AreHoldsExact c.end.new.self.transactions) (sym released)
           (subst (λ (ts : List Admission). AreHoldsExact ts (after_release a.group pool.groups)) (sym c.in-Some.ensures.others)
           (exact_end all pool.groups c.args.tx.0 a a.group pool.accounted.holds_exact c.in-Some.ensures.apart (sym c.in-Some.ensures.ended) refl));
-      charged = rw (c.release.ensures, line-after_release pool.groups pool.accounted.counted a.group, c.cancel.ensures.canceled, c.charge.ensures)
+      charged = rw (released, line-after_release pool.groups pool.accounted.counted a.group, c.cancel.ensures.canceled, c.charge.ensures)
           ((sums_stay_on_lines pool.groups.line pool.dirty pool.accounted.charged).cancel a.group c.as_slice-shapes.result.now);
       open_charged = rw (c.in-Some.ensures.others, c.cancel.ensures.canceled, c.charge.ensures, c.as_slice-shapes.ensures)
           (others_charged pool c.args.tx.0 a (sym c.in-Some.ensures.ended));
@@ -91,11 +97,14 @@ invariant_of-self-2-clause-free_counted c =
 pub invariant_of-self-2-clause-unsynced : goal.invariant_of-self-2-clause-unsynced
 invariant_of-self-2-clause-unsynced c =
     let pool = c.args.self.now in
-    rw (c.release.ensures, line-after_release pool.groups pool.accounted.counted c.in-Some.transaction.group.0) pool.unsynced
+    let held = ended_held pool c.args.tx.0 (admission_of c.in-Some.transaction) (sym c.in-Some.ensures.ended) c.in-Some.ensures.apart in
+    let released : c.release.new.self ≡ after_release c.in-Some.transaction.group.0 pool.groups = where_passed c.release.result _ _ c.release.ensures.refused
+    (may_release pool.groups c.in-Some.transaction.group.0 held) c.release.ensures.released in
+    rw (released, line-after_release pool.groups pool.accounted.counted c.in-Some.transaction.group.0) pool.unsynced
 
 pub returns-clause-step : goal.returns-clause-step
 returns-clause-step c =
     let pool = c.args.self.now in
     let a = admission_of c.in-Some.transaction in
     abort_done c.args.tx.0 a (pool_shown pool) _ pool.dirty c.in_ok-check_running.ensures (sym c.in-Some.ensures.ended) pool.accounted.charged (shows_sums pool)
-    (rw (c.in-Some.ensures.others, c.in-Some.ensures.next, c.release.ensures, line-after_release pool.groups pool.accounted.counted a.group, c.cancel.ensures.canceled, c.charge.ensures, c.as_slice-shapes.ensures, c.unreserve.ensures) refl)
+    (rw (c.in-Some.ensures.others, c.in-Some.ensures.next, c.in-Ok.ensures.released, line-after_release pool.groups pool.accounted.counted a.group, c.cancel.ensures.canceled, c.charge.ensures, c.as_slice-shapes.ensures, c.unreserve.ensures) refl)

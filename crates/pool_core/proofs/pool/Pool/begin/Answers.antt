@@ -15,7 +15,7 @@ use Rattle.throttle.proofs.ShownSums.{sums_stay_on_lines}
 use Rattle.pool_core.specs.Shows.{pool_shown}
 use Rattle.pool_core.proofs.BeginTests.{begin_admits, begin_done, begin_refused, begin_wants, built_allowed, may_begin}
 use Rattle.pool_core.proofs.Charges.{charge_throttled, enough_free, open_charged, shows_sums}
-use Rattle.pool_core.proofs.HeldGroups.{counted_hold, exact_begin, few_holds}
+use Rattle.pool_core.proofs.HeldGroups.{counted_hold, exact_begin, may_begin_hold, where_passed}
 use Rattle.pool_core.proofs.Opens.{IsBuilt, IsSmall}
 use Rattle.pool_core.proofs.pool.Pool.begin.Goals as goal
 
@@ -80,11 +80,12 @@ unreachable-requires-in_default-reserve c =
     let may = may_begin c.args.owner.0 shapes (pool_shown c.args.self.now) c.in_ok-check_begin.ensures in
     enough_free c.args.self.now shapes c.estimate.result c.estimate.ensures may.blocks (c.in_default-reserve.ensures.refused.0 refl)
 
-pub hold-requires : goal.hold-requires
-hold-requires c =
+pub unreachable-requires-in_default-hold : goal.unreachable-requires-in_default-hold
+unreachable-requires-in_default-hold c =
     let pool = c.args.self.now in
     let may = may_begin c.args.owner.0 c.as_slice-shapes.result.now (pool_shown pool) c.in_ok-check_begin.ensures in
-    few_holds pool.groups pool.accounted.counted pool.transactions.transactions pool.accounted.holds_exact may.few
+    let passes = may_begin_hold pool.groups pool.accounted.counted pool.transactions.transactions pool.accounted.holds_exact may.few in
+    false≢true (sym passes ∙ c.in_default-hold.ensures.refused.0 refl)
 
 pub invariant_of-self-2-clause-accounted : goal.invariant_of-self-2-clause-accounted
 invariant_of-self-2-clause-accounted c =
@@ -94,11 +95,13 @@ invariant_of-self-2-clause-accounted c =
     let opened = c.open_group-group.ensures.open_group in
     let same = c.as_slice-shapes.ensures ∙ sym c.in_ok-plan.ensures in
     let admitted = sym c.in_ok-tx.ensures.admitted in
+    let held : c.hold.new.self ≡ after_hold pool.groups = where_passed c.hold.result _ _ c.hold.ensures.refused
+    (may_begin_hold pool.groups pool.accounted.counted pool.transactions.transactions pool.accounted.holds_exact may.few) c.hold.ensures.held in
     record {
-      counted = rw c.hold.ensures.counted (counted_hold pool.groups pool.accounted.counted);
-      holds_exact = subst (AreHoldsExact c.admit.new.self.transactions) (sym c.hold.ensures.counted)
+      counted = rw held (counted_hold pool.groups pool.accounted.counted);
+      holds_exact = subst (AreHoldsExact c.admit.new.self.transactions) (sym held)
           (subst (λ (o : Open). AreHoldsExact o.transactions (after_hold pool.groups)) admitted (exact_begin all pool.groups _ pool.accounted.holds_exact opened));
-      charged = rw (c.hold.ensures.counted, c.in-Ok.ensures.admitted, c.charge.ensures, opened)
+      charged = rw (held, c.in-Ok.ensures.admitted, c.charge.ensures, opened)
           ((sums_stay_on_lines pool.groups.line pool.dirty pool.accounted.charged).admit pool.groups.line.open_group c.as_slice-shapes.result.now (omega arith));
       open_charged = rw (c.in_ok-tx.ensures.admitted, c.in-Ok.ensures.admitted, c.charge.ensures, c.as_slice-shapes.ensures, ← c.in_ok-plan.ensures)
           ((stay_charged all pool.dirty pool.accounted.open_charged).admitted _);
@@ -109,7 +112,12 @@ invariant_of-self-2-clause-accounted c =
     }
 
 pub invariant_of-self-2-clause-unsynced : goal.invariant_of-self-2-clause-unsynced
-invariant_of-self-2-clause-unsynced c = rw c.hold.ensures.counted c.args.self.now.unsynced
+invariant_of-self-2-clause-unsynced c =
+    let pool = c.args.self.now in
+    let may = may_begin c.args.owner.0 c.as_slice-shapes.result.now (pool_shown pool) c.in_ok-check_begin.ensures in
+    let held : c.hold.new.self ≡ after_hold pool.groups = where_passed c.hold.result _ _ c.hold.ensures.refused
+    (may_begin_hold pool.groups pool.accounted.counted pool.transactions.transactions pool.accounted.holds_exact may.few) c.hold.ensures.held in
+    rw held pool.unsynced
 
 pub returns-clause-step : goal.returns-clause-step
 returns-clause-step c =
@@ -118,4 +126,4 @@ returns-clause-step c =
     let none = subst (λ (l : List Shape). begin_refusal c.args.owner.0 l s ≡ None) c.as_slice-shapes.ensures c.in_ok-check_begin.ensures in
     let opened = c.open_group-group.ensures.open_group in
     rw (c.in_ok-tx.ensures.name, opened)
-    (begin_done c.args.owner.0 c.args.plan.now s pool.dirty _ none (shows_sums pool) (rw (c.hold.ensures.counted, c.in_ok-tx.ensures.admitted, c.in_ok-plan.ensures, c.in-Ok.ensures.admitted, c.charge.ensures, c.as_slice-shapes.ensures, c.in-Ok-reserve.ensures.reserved, opened) refl))
+    (begin_done c.args.owner.0 c.args.plan.now s pool.dirty _ none (shows_sums pool) (rw (c.in-Ok-hold.ensures.held, c.in_ok-tx.ensures.admitted, c.in_ok-plan.ensures, c.in-Ok.ensures.admitted, c.charge.ensures, c.as_slice-shapes.ensures, c.in-Ok-reserve.ensures.reserved, opened) refl))

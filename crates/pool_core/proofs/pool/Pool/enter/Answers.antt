@@ -1,6 +1,7 @@
-use Rattle.std.proofs.Common.{◌≡◌, ◌∙◌, ◌==◌, Bool, false, not, List, ap, sym, subst, arith}
+use Rattle.std.proofs.Common.{◌≡◌, ◌∙◌, ◌==◌, Bool, false, not, List, ap, refl, sym, subst, arith}
 use Rattle.std.specs.Prelude.{◌≤◌}
 use Rattle.std.specs.List.{list_any}
+use Rattle.std.proofs.lemmas.Bool.{false≢true}
 use Rattle.std.proofs.lemmas.List.{map-append}
 use Rattle.std.proofs.lemmas.List.Elements.{All-filter, All-push}
 use Rattle.base.specs.steps.Groups.{Admission}
@@ -15,17 +16,18 @@ use Rattle.throttle.specs.Blocks.{AreSumsOn}
 use Rattle.tree_plans.specs.declared.planner.Committed.{Committed}
 use Rattle.pool_core.specs.Entries.{shown_after_entry}
 use Rattle.pool_core.specs.Shows.{pool_shown, synced_of}
-use Rattle.pool_core.proofs.HeldGroups.{counted_release, exact_end, has_hold, line-after_release}
+use Rattle.pool_core.proofs.HeldGroups.{counted_release, exact_end, has_hold, line-after_release, may_release}
 use Rattle.pool_core.proofs.Opens.{IsBuilt, IsSmall}
 use Rattle.pool_core.proofs.PendingChanges.{changes_entered, entered_behind, kept_oldest, same_plan}
 use Rattle.pool_core.proofs.SamePlans.{built_names}
 use Rattle.pool_core.proofs.pool.Pool.enter.Goals as goal
 
-pub release-requires : goal.release-requires
-release-requires c =
+pub unreachable-requires : goal.unreachable-requires
+unreachable-requires c =
     let pool = c.args.self.now in
     let may = c.requires.may in
-    has_hold pool.transactions.transactions pool.groups c.args.tx.0 may.admission c.args.group.0 pool.accounted.holds_exact c.end.ensures.apart may.found may.group_is
+    let held = has_hold pool.transactions.transactions pool.groups c.args.tx.0 may.admission c.args.group.0 pool.accounted.holds_exact c.end.ensures.apart may.found may.group_is in
+    false≢true (sym (may_release pool.groups c.args.group.0 held) ∙ c.in_default.ensures.refused.0 refl)
 
 pub invariant_of-self : goal.invariant_of-self
 invariant_of-self c =
@@ -35,15 +37,15 @@ invariant_of-self c =
     let ops : List _ = c.args.ops in
     let hold = has_hold pool.transactions.transactions pool.groups c.args.tx.0 may.admission group pool.accounted.holds_exact c.end.ensures.apart may.found may.group_is in
     let behind = entered_behind pool group hold in
-    let line : c.release.new.self.line ≡ pool.groups.line = ap (λ (l : CountedLine). l.line) c.release.ensures ∙ line-after_release pool.groups pool.accounted.counted group in
+    let line : c.release.new.self.line ≡ pool.groups.line = ap (λ (l : CountedLine). l.line) c.in-Ok.ensures.released ∙ line-after_release pool.groups pool.accounted.counted group in
     let p : Admission → Bool = λ (a : Admission). not (a.tx == c.args.tx.0) in
     record {
       free_counted = pool.free_counted;
       import_fits = pool.import_fits;
       next_ordinal_fits = omega (arith, c.requires.named);
       accounted = record {
-        counted = rw c.release.ensures (counted_release pool.groups pool.accounted.counted group);
-        holds_exact = subst (AreHoldsExact c.end.new.self.transactions) (sym c.release.ensures)
+        counted = rw c.in-Ok.ensures.released (counted_release pool.groups pool.accounted.counted group);
+        holds_exact = subst (AreHoldsExact c.end.new.self.transactions) (sym c.in-Ok.ensures.released)
             (subst (λ (ts : List Admission). AreHoldsExact ts (after_release group pool.groups)) (sym c.end.ensures.others)
             (exact_end pool.transactions.transactions pool.groups c.args.tx.0 may.admission group pool.accounted.holds_exact c.end.ensures.apart may.found may.group_is));
         charged = subst (λ l. AreSumsOn l pool.dirty) (sym line) pool.accounted.charged;
@@ -79,5 +81,5 @@ returns-clause-shown c =
     let group = c.args.group.0 in
     let hold = has_hold pool.transactions.transactions pool.groups c.args.tx.0 may.admission group pool.accounted.holds_exact c.end.ensures.apart may.found may.group_is in
     let same = same_plan pool c.apply.new.self (λ r is. kept_oldest pool group hold c.args.place c.apply.new.self c.requires.place r is c.apply.ensures.others) in
-    rw (c.end.ensures.others, c.end.ensures.next, c.release.ensures, line-after_release pool.groups pool.accounted.counted group, c.push_reserved.ensures.items, map-append)
+    rw (c.end.ensures.others, c.end.ensures.next, c.in-Ok.ensures.released, line-after_release pool.groups pool.accounted.counted group, c.push_reserved.ensures.items, map-append)
     (λ k. record (shown_after_entry c.args.tx.0 group c.args.ops (laid_all c.apply.new.self (synced_of pool).objects) s) { sync = same k })

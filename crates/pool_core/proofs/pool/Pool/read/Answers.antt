@@ -3,7 +3,7 @@ use Rattle.std.proofs.lemmas.Result.{err_from_is_err_and}
 use Rattle.base.specs.steps.Refusals.{object_range}
 use Rattle.pool_core.specs.Shows.{pool_shown}
 use Rattle.pool_core.proofs.Flags.{from_not_false, from_not_true}
-use Rattle.pool_core.proofs.ReadSteps.{read_suspended, read_bad, read_open, read_none, read_passes, read_ends}
+use Rattle.pool_core.proofs.ReadSteps.{has_length, read_suspended, read_bad, read_open, read_none, read_passes, read_ends}
 use Rattle.pool_core.proofs.pool.Pool.read.Goals as goal
 
 pub returns-in_err-check_running : goal.returns-in_err-check_running
@@ -30,14 +30,14 @@ returns-then-not-covers c =
     let readable = from_not_true _ _ c.is_readable.ensures.allowed c.if-not-is_readable.false in
     read_open owner t s c.in_ok-check_running.ensures readable (sym c.covers.ensures ∙ c.if-not-covers.true)
 
-pub returns-then-not-has : goal.returns-then-not-has
-returns-then-not-has c =
+pub returns-in_default : goal.returns-in_default
+returns-in_default c =
     let owner = c.args.owner.0 in
     let t = object_range c.args.object.0 c.args.range.low c.args.range.high in
     let s = pool_shown c.args.self.now in
     let readable = from_not_true _ _ c.is_readable.ensures.allowed c.if-not-is_readable.false in
     let covered = sym c.covers.ensures ∙ c.if-not-covers.false in
-    read_none owner t s c.in_ok-check_running.ensures readable covered (rw c.objects-objects.ensures at (sym c.has.ensures ∙ c.if-not-has.true))
+    read_none owner t s c.in_ok-check_running.ensures readable covered (rw c.objects-objects.ensures at (has_length _ _ _ c.length.ensures c.in_default.is))
 
 pub returns : goal.returns
 returns c =
@@ -46,5 +46,6 @@ returns c =
     let s = pool_shown c.args.self.now in
     let readable = from_not_true _ _ c.is_readable.ensures.allowed c.if-not-is_readable.false in
     let covered = sym c.covers.ensures ∙ c.if-not-covers.false in
-    let there = rw c.objects-objects.ensures at (sym c.has.ensures ∙ c.if-not-has.false) in
-    read_ends owner t c.read_range.result s (read_passes owner t s c.in_ok-check_running.ensures readable covered there) there (rw c.objects-objects.ensures at c.read_range.ensures.bytes) c.read_range.ensures.refused
+    let there = rw c.objects-objects.ensures at (has_length _ _ _ c.length.ensures c.in-Some.is) in
+    read_ends owner t c.read_range_below.result s (read_passes owner t s c.in_ok-check_running.ensures readable covered there) there
+    (rw c.objects-objects.ensures at c.read_range_below.ensures.bytes) c.read_range_below.ensures.refused
