@@ -118,17 +118,17 @@ same_create dirty_max ss (Ok replies) past later disk ended over =
     ap (λ (p : Past). p.created) (sym s.past_is) ∙ steps_same_create ss replies.items s.start s.end s.made ∙ ap (λ (p : Past). p.created) s.begins
 same_create dirty_max ss (Err e) past later disk ended over = ap (λ (p : Past). p.created) over.steps
 
--- An import that answered Ok and the steps behind it are those of a round.
-module _ {Dev : Type 0} {G : Ghosts Dev} (keep : IsTrue G.keeps_model) (dirty_max : ℕ) (ss : List declared_step.Step) (past : Past) (old : Disk) (m : Mounted) (state end : PoolState Dev G)
+-- An import that answered Ok begins a run, and the steps behind it are those of a round.
+module _ {Dev : Type 0} {G : Ghosts Dev} (keep : IsTrue G.keeps_model) (dirty_max : ℕ) (past : Past) (old : Disk) (m : Mounted) (state : PoolState Dev G)
     (was : IsLeft past old) (kept : KeepsOwn old (disk_of state)) (starts_run : StartsRun old dirty_max (disk_of state) m) (shows : shown state ≡ shown_of_import m)
     (limit : (shown_of_import m).dirty_max ≡ dirty_max) (sized : disk_size (disk_of state) ≡ m.geometry) (held : IsHeldAtFirst (told state)) (begins : BeginsSafe state) where
-  found : IsLeftOnceFlushed past old
+  pub found : IsLeftOnceFlushed past old
   found = left_flushed past old was
 
   left_then : IsLeftByImport past old (disk_of state)
   left_then = import_left past old (disk_of state) was kept
 
-  run_start : IsRunStart past.created found.guid found.contents dirty_max m (disk_of state).now
+  pub run_start : IsRunStart past.created found.guid found.contents dirty_max m (disk_of state).now
   run_start = starts_run past.created found.guid found.contents found.own
 
   abbrev first : Past
@@ -149,9 +149,12 @@ module _ {Dev : Type 0} {G : Ghosts Dev} (keep : IsTrue G.keeps_model) (dirty_ma
   of_found : first ≡ new_past found.contents past.created dirty_max
   of_found = ap (λ (c : Contents). new_past c past.created dirty_max) run_start.contents_are
 
+  pub safe_found : IsKeptSafe (on_disk state (new_past found.contents past.created dirty_max))
+  safe_found = subst (λ (p : Past). IsKeptSafe (on_disk state p)) of_found safe_first
+
   -- the steps replied
-  replied : (replies : Vec declared_reply.Reply) → SafeOn ss replies.items state end → (later : Past) × IsRoundOver dirty_max ss (Ok replies) past later old (disk_of end) × IsLeft later (disk_of end)
-  replied replies safe =
+  replied : (ss : List declared_step.Step) (end : PoolState Dev G) (replies : Vec declared_reply.Reply) → SafeOn ss replies.items state end → (later : Past) × IsRoundOver dirty_max ss (Ok replies) past later old (disk_of end) × IsLeft later (disk_of end)
+  replied ss end replies safe =
       let run = safe first safe_first in
       let made = run.1 in (
         run.0,
@@ -173,15 +176,15 @@ module _ {Dev : Type 0} {G : Ghosts Dev} (keep : IsTrue G.keeps_model) (dirty_ma
       )
 
   -- there was no memory for the replies
-  not_made : (e : PoolError) → end ≡ state → (later : Past) × IsRoundOver dirty_max ss (Err e) past later old (disk_of end) × IsLeft later (disk_of end)
-  not_made e same =
+  not_made : (ss : List declared_step.Step) (end : PoolState Dev G) (e : PoolError) → end ≡ state → (later : Past) × IsRoundOver dirty_max ss (Err e) past later old (disk_of end) × IsLeft later (disk_of end)
+  not_made ss end e same =
       subst (λ (x : PoolState Dev G). (later : Past) × IsRoundOver dirty_max ss (Err e) past later old (disk_of x) × IsLeft later (disk_of x)) (sym same)
       (past, record { goes_on = left_then.goes_on; steps = refl }, left_then.left)
 
-  pub over : (answer : Answer) → IfOk answer (λ replies. SafeOn ss replies.items state end) → OnErr answer (end ≡ state)
+  pub over : (ss : List declared_step.Step) (end : PoolState Dev G) (answer : Answer) → IfOk answer (λ replies. SafeOn ss replies.items state end) → OnErr answer (end ≡ state)
       → (later : Past) × IsRoundOver dirty_max ss answer past later old (disk_of end) × IsLeft later (disk_of end)
-  over (Ok replies) safe same = replied replies safe
-  over (Err e) safe same = not_made e same
+  over ss end (Ok replies) safe same = replied ss end replies safe
+  over ss end (Err e) safe same = not_made ss end e same
 
 -- an import that was refused is a round without steps
 pub refused_over : (dirty_max : ℕ) (ss : List declared_step.Step) (e : PoolError) (past : Past) (old new : Disk) → IsLeft past old → KeepsOwn old new → IsOverFor dirty_max ss (Err e) past old new
@@ -238,13 +241,19 @@ nothing_left contents created dirty_max = record {
   replayed = refl;
 }
 
+-- so behind a create that began on the one disk and left the other
+pub new_left : (name : List ℕ) (guid : ℕ) (start made : Disk) → IsOwnWith made (moments start) guid (first_contents name) → IsLeft (new_past (first_contents name) (moments start) 0) made
+new_left name guid start made own =
+    let new : Contents = first_contents name in
+    own_left made (new_past new (moments start) 0) guid new (nothing_left new (moments start) 0) own
+
 -- a new pool, and the rounds behind its create
 found_behind : (name : List ℕ) (guid : ℕ) (rounds : List Round) (answers : List Answer) (start made : Disk) (found : Contents) (last : Disk) → GoesOnFrom start made
     → IsOwnWith made (moments start) guid (first_contents name) → FindsCutsFrom rounds answers made found last → FindsCutsOfNew name rounds answers start found last
 found_behind name guid rounds answers start made found last on own finds =
     let new : Contents = first_contents name in
     let past : Past = new_past new (moments start) 0 in
-    record { new = new; is_new = record { name_is = refl; empty = λ n. finite.get-empty {X = List ℕ} nat_cmp n }; made = made; goes_on = on; finds = finds past (own_left made past guid new (nothing_left new (moments start) 0) own) }
+    record { new = new; is_new = record { name_is = refl; empty = λ n. finite.get-empty {X = List ℕ} nat_cmp n }; made = made; goes_on = on; finds = finds past (new_left name guid start made own) }
 
 pub found_after : {A : Type 0} (name : List ℕ) (guid : ℕ) (rounds : List Round) (start made : Disk) (r : Result A PoolError) (answers : A → List Answer) (found : A → Contents) (last : A → Disk)
     → GoesOnFrom start made → IsOwnWith made (moments start) guid (first_contents name) → IfOk r (λ a. FindsCutsFrom rounds (answers a) made (found a) (last a))
