@@ -116,34 +116,67 @@ fn a_synced_group_becomes_part_of_contents(rt: HostRuntime) -> Result<(), Fail> 
     Ok(())
 }
 
-#[test]
-fn a_source_is_read_through_a_group(rt: HostRuntime) -> Result<(), Fail> {
-    let alloc = rt.alloc();
-    let contents = contents(alloc)?;
+// A group that makes the object, with bytes across its first two records.
+fn written_group(alloc: Global) -> Result<Extents, PoolError> {
     let mut group = Extents::new(alloc);
     let write = Op::Write(OBJECT, 4_030, Bytes::from_slice(alloc, b"abcd")?);
     group.add(&vec![in alloc; Op::Create(OBJECT), write]?)?;
-    let mut objects = Laid::new(&group, &contents);
-    assert_eq!(rt; objects.length(OBJECT), Some(4_034));
-    assert_eq!(rt; objects.length(OTHER), None);
+    Ok(group)
+}
+
+// The first three bytes of the object's second record, through a group.
+fn second_record(group: &Extents, contents: &Contents) -> Result<[u8; 3], PoolError> {
     let mut record = [7; RECORD_SIZE];
-    objects.read_record(OBJECT, 1, &mut record)?;
-    assert_eq!(rt; record[..3], b"cd\0"[..]);
+    Laid::new(group, contents).read_record(OBJECT, 1, &mut record)?;
+    Ok([record[0], record[1], record[2]])
+}
+
+// Three bytes of the object's first record, through a group.
+fn part_of_first(group: &Extents, contents: &Contents) -> Result<[u8; 3], PoolError> {
     let mut part = [7; 3];
-    objects.read_part(OBJECT, 0, 4_029, &mut part)?;
-    assert_eq!(rt; part, *b"\0ab");
+    Laid::new(group, contents).read_part(OBJECT, 0, 4_029, &mut part)?;
+    Ok(part)
+}
+
+// Whether a range that ends behind the object has these bytes, through a group.
+fn range_has(
+    alloc: Global,
+    group: &Extents,
+    contents: &Contents,
+    wanted: &[u8],
+) -> Result<bool, PoolError> {
     let across = Range {
         low: 4_029,
         high: 4_040,
     };
-    let bytes = read_range(&mut objects, alloc, OBJECT, across)?;
-    assert_eq!(rt; bytes.as_slice(), b"\0abcd".as_slice());
+    let bytes = read_range(&mut Laid::new(group, contents), alloc, OBJECT, across)?;
+    Ok(bytes.as_slice() == wanted)
+}
+
+#[test]
+fn a_source_is_read_through_a_group(rt: HostRuntime) -> Result<(), Fail> {
+    let contents = contents(rt.alloc())?;
+    let group = written_group(rt.alloc())?;
+    assert_eq!(rt; Laid::new(&group, &contents).length(OBJECT), Some(4_034));
+    assert_eq!(rt; Laid::new(&group, &contents).length(OTHER), None);
+    assert_eq!(rt; second_record(&group, &contents), Ok(*b"cd\0"));
+    assert_eq!(rt; part_of_first(&group, &contents), Ok(*b"\0ab"));
+    assert_eq!(rt;
+        range_has(rt.alloc(), &group, &contents, b"\0abcd"),
+        Ok(true)
+    );
     Ok(())
 }
 
-// The front of the object, with the changes of all groups.
-fn front(alloc: Global, groups: &UnsyncedExtents, contents: &Contents) -> Result<Bytes, PoolError> {
-    read_range(&mut groups.over(contents), alloc, OBJECT, FRONT)
+// Whether the front of the object, with the changes of all groups, has these bytes.
+fn front_has(
+    alloc: Global,
+    groups: &UnsyncedExtents,
+    contents: &Contents,
+    wanted: &[u8],
+) -> Result<bool, PoolError> {
+    let front = read_range(&mut groups.over(contents), alloc, OBJECT, FRONT)?;
+    Ok(front.as_slice() == wanted)
 }
 
 // The oldest group makes the object, with bytes.
@@ -172,6 +205,15 @@ fn change_third(alloc: Global, groups: &mut UnsyncedExtents) -> Result<(), PoolE
     Ok(())
 }
 
+// Three groups, of which the one between the others is the last to change the object.
+fn three_groups(alloc: Global) -> Result<UnsyncedExtents, PoolError> {
+    let mut groups = UnsyncedExtents::new(alloc);
+    change_first(alloc, &mut groups)?;
+    change_third(alloc, &mut groups)?;
+    change_second(alloc, &mut groups)?;
+    Ok(groups)
+}
+
 // The oldest group is synced.
 fn sync_oldest(groups: &mut UnsyncedExtents, contents: &mut Contents) -> Result<(), PoolError> {
     groups.oldest().reserve_in(contents)?;
@@ -182,18 +224,17 @@ fn sync_oldest(groups: &mut UnsyncedExtents, contents: &mut Contents) -> Result<
 
 #[test]
 fn three_groups_are_laid_over_one_another(rt: HostRuntime) -> Result<(), Fail> {
-    let alloc = rt.alloc();
-    let mut contents = contents(alloc)?;
-    let mut groups = UnsyncedExtents::new(alloc);
-    // the group between the others is the last to change the object
-    change_first(alloc, &mut groups)?;
-    change_third(alloc, &mut groups)?;
-    change_second(alloc, &mut groups)?;
-    let shown = front(alloc, &groups, &contents)?;
-    assert_eq!(rt; shown.as_slice(), b"aabbb".as_slice());
-    sync_oldest(&mut groups, &mut contents)?;
+    let mut contents = contents(rt.alloc())?;
+    let mut groups = three_groups(rt.alloc())?;
+    assert_eq!(rt;
+        front_has(rt.alloc(), &groups, &contents, b"aabbb"),
+        Ok(true)
+    );
+    assert_eq!(rt; sync_oldest(&mut groups, &mut contents), Ok(()));
     assert_eq!(rt; contents.object(OBJECT).map(|bytes| bytes.len()), Some(4));
-    let shown = front(alloc, &groups, &contents)?;
-    assert_eq!(rt; shown.as_slice(), b"aabbb".as_slice());
+    assert_eq!(rt;
+        front_has(rt.alloc(), &groups, &contents, b"aabbb"),
+        Ok(true)
+    );
     Ok(())
 }

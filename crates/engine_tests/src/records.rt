@@ -156,26 +156,52 @@ fn a_record_has_4_008_bytes_at_most(rt: HostRuntime) -> Result<(), Fail> {
     Ok(())
 }
 
+/// What encoding a write of these bytes is refused for.
+fn write_refusal(
+    alloc: Global,
+    offset: u64,
+    bytes: &[u8],
+) -> Result<Option<PoolError>, AllocError> {
+    Ok(refusal(alloc, &write(alloc, offset, bytes)?))
+}
+
+#[test]
+fn a_write_outside_its_limits_is_not_encoded(rt: HostRuntime) -> Result<(), Fail> {
+    let alloc = rt.alloc();
+    let bad = Some(PoolError::BadRange);
+    assert_eq!(rt; write_refusal(alloc, 0, &[])?, bad);
+    assert_eq!(rt; write_refusal(alloc, 338_685, b"wxyz")?, bad);
+    assert_eq!(rt; write_refusal(alloc, 338_684, b"wxyz")?, None);
+    assert_eq!(rt; write_refusal(alloc, 335_000, &[7; 3970])?, bad);
+    Ok(())
+}
+
+/// A record that gives the pool a name that is none.
+fn badly_named(alloc: Global) -> Result<Record, AllocError> {
+    let name = Op::SetName(Bytes::from_slice(alloc, b"4")?);
+    Ok(record(9, 0, vec![in alloc; name]?))
+}
+
+/// A create in a group above the greatest one.
+fn too_late(alloc: Global) -> Result<Record, AllocError> {
+    let create = vec![in alloc; Op::Create(ObjectId(1))]?;
+    Ok(record((1 << 60) + 1, 0, create))
+}
+
 #[test]
 fn what_is_outside_its_limits_is_not_encoded(rt: HostRuntime) -> Result<(), Fail> {
     let alloc = rt.alloc();
     let bad = Some(PoolError::BadRange);
     assert_eq!(rt; refusal(alloc, &record(9, 0, Vec::new(alloc))), bad);
-    assert_eq!(rt; refusal(alloc, &write(alloc, 0, &[])?), bad);
-    assert_eq!(rt; refusal(alloc, &write(alloc, 338_685, b"wxyz")?), bad);
-    assert_eq!(rt; refusal(alloc, &write(alloc, 338_684, b"wxyz")?), None);
-    let content = vec![in alloc; 7; 3970]?;
-    assert_eq!(rt;
-        refusal(alloc, &write(alloc, 335_000, content.as_slice())?),
-        bad
-    );
-    let mut late = create(alloc)?;
-    late.group = Group((1 << 60) + 1);
-    assert_eq!(rt; refusal(alloc, &late), bad);
-    let mut named = three(alloc)?;
-    named.ops = Ops::new(vec![in alloc; Op::SetName(Bytes::from_slice(alloc, b"4")?)]?);
-    assert_eq!(rt; refusal(alloc, &named), bad);
-    let mut out = Vec::from_slice(alloc, b"before")?;
+    assert_eq!(rt; refusal(alloc, &too_late(alloc)?), bad);
+    assert_eq!(rt; refusal(alloc, &badly_named(alloc)?), bad);
+    Ok(())
+}
+
+#[test]
+fn a_refused_record_leaves_what_was_before(rt: HostRuntime) -> Result<(), Fail> {
+    let named = badly_named(rt.alloc())?;
+    let mut out = Vec::from_slice(rt.alloc(), b"before")?;
     assert!(rt; encode_into(&mut out, &named).is_err());
     assert_eq!(rt; out.as_slice(), &b"before"[..]);
     Ok(())

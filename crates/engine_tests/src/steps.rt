@@ -89,6 +89,35 @@ fn a_sync_takes_the_lowest_blocks_in_order(rt: HostRuntime) -> Result<(), Fail> 
     Ok(())
 }
 
+// The steps of so many syncs of empty groups, each with a flush, four uberblocks and a flush.
+fn empty_syncs(alloc: Global, count: usize) -> Result<Vec<Step>, PoolError> {
+    let mut steps = Vec::new(alloc);
+    for _ in 0..count {
+        steps.push(Step::CloseGroup)?;
+        steps.push(Step::MarkQuiesced)?;
+        steps.push(Step::StartSync(7))?;
+        for _ in 0..6 {
+            steps.push(Step::SyncStep)?;
+        }
+    }
+    Ok(steps)
+}
+
+#[test]
+fn the_slots_go_round(rt: HostRuntime) -> Result<(), Fail> {
+    let mut device = device_behind(rt.alloc(), empty_syncs(rt.alloc(), 200)?)?;
+    for (place, value) in [
+        // from group 8 on 200 groups: uberblock 208 lies in slot 80 of label 0, 207 before it, and 81 still behind it
+        (212_992, 0x00ba_b10c),
+        (212_992 + 16, 208),
+        (211_968 + 16, 207),
+        (214_016 + 16, 81),
+    ] {
+        assert_eq!(rt; number_at(&mut device, place)?, value, "at {place}");
+    }
+    Ok(())
+}
+
 #[test]
 fn an_inspection_tells_what_a_sync_wrote(rt: HostRuntime) -> Result<(), Fail> {
     // four blocks, a flush, and four uberblocks that nothing flushes
