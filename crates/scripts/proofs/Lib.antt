@@ -1,3 +1,4 @@
 pub mod Copies
 mod PoolSteps
 mod Zips
+mod Kept

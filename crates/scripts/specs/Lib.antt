@@ -3,6 +3,7 @@ pub mod Copies
 pub mod Devices
 pub mod Endings
 pub mod Fillings
+pub mod Kept
 pub mod Letters
 pub mod Numbers
 pub mod Places

@@ -13,6 +13,7 @@ use Rattle.scripts.specs.declared.session.Place.TheVariants.{Nothing, Pool}
 use Rattle.scripts.specs.declared.session.Session.{Session}
 use Rattle.scripts.specs.Commands.{ReadsLine}
 use Rattle.scripts.specs.Devices.{Creates, Imports}
+use Rattle.scripts.specs.Kept.{KeepsCuts}
 use Rattle.scripts.specs.Places.{Crashes, PlansFault, device_in, has_device, has_pool}
 use Rattle.scripts.specs.PoolSteps.{Asks}
 
@@ -56,7 +57,7 @@ Does (command.Fail fault n) s told new = PlansFault fault n s.place told new.pla
 Does (command.Pool asked) s (Ok told) new = AsksIn asked s.moment s.place told new.place
 Does asked s (Err e) new = Unit {0}
 
--- What a line asks for is done and answered. For want of memory it is refused, and the session is as it was.
+-- What a line asks for is done and answered, and what is kept of the pool is kept. For want of memory it is refused, and the session is as it was.
 abbrev pub RunsLine : List ℕ → Session → Answer → Session → Type 0
 RunsLine line old told new = ((told ≡ answer.Reply (Refused NoMemory)) × (new ≡ old))
-    ⊎ ((asked : Command) × ReadsLine line (Ok asked) × Does asked old (Ok told) new)
+    ⊎ ((asked : Command) × ReadsLine line (Ok asked) × Does asked old (Ok told) new × KeepsCuts asked old (Ok told) new)

@@ -3,6 +3,7 @@
 ghost use Rattle.std.specs.Prelude.{◌≡◌, ◌↔◌, ◌*◌, ◌/◌, true, false, is_ok, is_some, IsTrue, IsOk, IsErr, IfOk, IsErrOf, unwrap_or, IfSome, IsSomeAnd};
 ghost use Rattle.base.specs.disk.Disk.{bytes_of};
 ghost use Rattle.base.specs.formats.Geometry.{is_geometry};
+ghost use Rattle.base.specs.history.Past.{Past};
 ghost use Rattle.device_model.specs.MemState.{new_state};
 ghost use Rattle.import_replay.specs.Creations.{IsCreatedOn};
 
@@ -43,6 +44,7 @@ pub struct Session {
 
 impl Session {
     ghost use Rattle.scripts.specs.Devices.{Creates, IfPool, Imports, IsImportedPool, device_for, imported_answer};
+    ghost use Rattle.scripts.specs.Kept.{BeginsKept, FindsLeft, IsFairCrash, IsKeptIn, KeepsCuts, StartsKept};
     ghost use Rattle.scripts.specs.Places.{Crashes, PlansFault, device_in, has_device, has_pool, is_crash};
     ghost use Rattle.scripts.specs.Sessions.{AsksIn, Does, IsNewSession, IsSameRun, Leaves, has_what_it_needs};
 
@@ -69,6 +71,7 @@ impl Session {
             → is_ok result ≡ has_what_it_needs command self.old }
         ensures left { Leaves command self.old result self.new }
         ensures done { Does command self.old result self.new }
+        ensures kept { KeepsCuts command self.old result self.new }
         ensures same_run { IsSameRun self.old self.new }
     {
         match command {
@@ -123,6 +126,7 @@ impl Session {
         ensures created { result ≡ Answer.Reply Reply.Done → IsSomeAnd (device_in self.new.place)
             (λ device. IsCreatedOn (bytes_of device.disk.now) name.now guid) }
         ensures creates { Creates name.now guid self.old result self.new.place }
+        ensures kept { StartsKept name.now (device_for self.old) result self.new.place }
         ensures same_run { IsSameRun self.old self.new }
     {
         let device = match self.take_or_make_device() {
@@ -153,6 +157,8 @@ impl Session {
         ensures left { has_device self.new.place ≡ has_device self.old.place }
         ensures imports { IfOk result (λ told. IfSome (device_in self.old.place)
             (λ device. Imports dirty_max self.old.moment device told self.new.place)) }
+        ensures kept { IfOk result (λ told. (past : Past) → IsKeptIn past self.old.place
+            → FindsLeft past dirty_max self.new.place) }
         ensures same_run { IsSameRun self.old self.new }
     {
         let Some(device) = self.take_device() else {
@@ -167,6 +173,7 @@ impl Session {
     // Keeps an imported pool, and tells what it is.
     fn keep_pool(&mut self, imported: Imported<MemDevice>) -> Answer
         ensures pool { IfPool self.new.place (IsImportedPool imported.device imported.mounted) }
+        ensures begins { IfPool self.new.place BeginsKept }
         ensures told { result ≡ imported_answer imported.mounted }
         ensures same_run { IsSameRun self.old self.new }
     {
@@ -182,6 +189,9 @@ impl Session {
 
     fn crash(&mut self, pieces: &[Piece]) -> Result<Answer, BadCommand>
         ensures crash { Crashes (device_in self.old.place) pieces.now result self.new.place }
+        ensures kept { (past : Past) → IsKeptIn past self.old.place
+            → IfSome (device_in self.old.place) (IsFairCrash pieces.now past)
+            → IsKeptIn past self.new.place }
         ensures needs { IsOk result → IsTrue (has_device self.old.place) }
         ensures left { has_device self.new.place ≡ has_device self.old.place }
         ensures same_run { IsSameRun self.old self.new }
@@ -204,6 +214,7 @@ impl Session {
         ensures left { has_device self.new.place ≡ has_device self.old.place }
         ensures no_other { has_pool self.new.place ≡ has_pool self.old.place }
         ensures fails { PlansFault fault n self.old.place result self.new.place }
+        ensures kept { (past : Past) → IsKeptIn past self.old.place → IsKeptIn past self.new.place }
         ensures same_run { IsSameRun self.old self.new }
     {
         match &mut self.place {
