@@ -1,0 +1,76 @@
+-- Tries that are refused, and then a step, are turns of the seat.
+use Rattle.std.proofs.Common.{◌≡◌, ◌++◌, ◌∷◌, [], Bool, List, append_assoc, refl, sym, ap, subst, ◌∙◌}
+use Rattle.std.proofs.lemmas.List.{append-nil}
+use Rattle.std.proofs.lemmas.List.Elements.{All-nil, All-push}
+use Rattle.std.specs.Prelude.{IsTrue, MatchResult, false, true, IfErr, IfOk, Result, Ok, Err}
+use Rattle.std.proofs.Math.Logic.{∥∥₁_map}
+use Rattle.base.specs.declared.error.PoolError.{PoolError}
+use Rattle.base.specs.declared.step.Step as declared_step
+use Rattle.base.specs.declared.step.Reply as declared_reply
+use Rattle.base.specs.declared.step.Reply.TheVariants as reply
+use Rattle.base.specs.steps.Runs.{reply_of}
+use Rattle.base.specs.steps.Seen.{IsMadeBetween}
+use Rattle.base.specs.steps.Steps.{State}
+use Rattle.device_model.specs.declared.device.SectorDevice.{Ghosts}
+use Rattle.pool_threads.specs.declared.handle.Handle.{Handle}
+use Rattle.pool_threads.specs.Answers.{IsRefusal, Makes, MakesAtLast, Sees, Tries, state_seen}
+use Rattle.pool_threads.specs.Views.{IsPoolStep, View, grows_onward, grows_same}
+use Rattle.pool_threads.proofs.Answered.{between, refused_between}
+use Rattle.pool_threads.proofs.Made.{grows_by_made}
+use Rattle.word_lock.specs.declared.rule.Turn.{Turn}
+use Rattle.word_lock.specs.Seats.{seen, turns}
+use Rattle.word_lock.specs.Turns.{turn}
+use mathlib.Core.Logic.{◌↔◌}
+
+module _ {Dev : Type 0} {G : Ghosts Dev} (s : declared_step.Step) (e : PoolError) where
+  pub no_tries : (h : Handle Dev G) → Tries s e h h
+  no_tries h = record { same_pool = refl; tried = record { tries = []; refused = All-nil (λ (t : Turn View). IsPoolStep (IsTrue G.keeps_model) s (reply.Refused e) t.took t.left); onward = grows_same (seen h.seat); turns = sym (append-nil (turns h.seat)) } }
+
+  pub one_more_try : {old now next : Handle Dev G} → Tries s e old now → Makes s (reply.Refused e) now next → Tries s e old next
+  one_more_try {old} {now} {next} t m = record {
+    same_pool = m.same_pool ∙ t.same_pool;
+    tried = record {
+      tries = t.tried.tries ++ turn m.made.took (seen next.seat) ∷ [];
+      refused = All-push (λ (t : Turn View). IsPoolStep (IsTrue G.keeps_model) s (reply.Refused e) t.took t.left) t.tried.tries (turn m.made.took (seen next.seat)) t.tried.refused m.made.made;
+      onward = grows_onward _ _ _ t.tried.onward (grows_by_made m.made);
+      turns = m.made.turn ∙ ap (λ (ts : List (Turn View)). ts ++ turn m.made.took (seen next.seat) ∷ []) t.tried.turns ∙ append_assoc (turns old.seat) t.tried.tries (turn m.made.took (seen next.seat) ∷ []);
+    };
+  }
+
+  pub at_last : {old now new : Handle Dev G} {r : declared_reply.Reply} → Tries s e old now → Makes s r now new → MakesAtLast s e r old new
+  at_last {old} {now} {new} t m = record {
+    same_pool = m.same_pool ∙ t.same_pool;
+    made = record {
+      tries = t.tried.tries;
+      refused = t.tried.refused;
+      took = m.made.took;
+      onward = grows_onward _ _ _ t.tried.onward m.made.onward;
+      made = m.made.made;
+      turn = m.made.turn ∙ ap (λ (ts : List (Turn View)). ts ++ turn m.made.took (seen new.seat) ∷ []) t.tried.turns;
+    };
+  }
+
+  -- a call that was refused so is one more try
+  pub tried_again : {A : Type 0} (make : A → declared_reply.Reply) {old now next : Handle Dev G} (x : Result A PoolError) {b : Bool} → MatchResult x (λ a. b ≡ false) (λ f. IsTrue b ↔ (f ≡ e)) → b ≡ true
+      → Tries s e old now → Makes s (reply_of make x) now next → Tries s e old next
+  tried_again make (Ok a) tells when t m = absurd (let no_way : true ≡ false = sym when ∙ tells in cc)
+  tried_again make {old} {now} {next} (Err f) tells when t m = one_more_try t (subst (λ (x : PoolError). Makes s (reply.Refused x) now next) (tells.0 when) m)
+
+  module _ {old now new : Handle Dev G} where
+    last_between : {r : declared_reply.Reply} → Tries s e old now → Makes s r now new → Sees (IsMadeBetween ⊥ s r) old new
+    last_between t m = between _ _ _ _ _ _ (grows_onward _ _ _ t.tried.onward m.made.onward) m.made.made
+
+    module _ {A : Type 0} (make : A → declared_reply.Reply) (result : Result A PoolError) (t : Tries s e old now) (m : Makes s (reply_of make result) now new) where
+      pub sees_last : (P : A → State → State → Type 0) → ((a : A) (before after : State) → IsMadeBetween ⊥ s (make a) before after → P a before after) → IfOk result (λ a. Sees (P a) old new)
+      sees_last P law = by result m
+        where
+          by : (x : Result A PoolError) → Makes s (reply_of make x) now new → IfOk x (λ a. Sees (P a) old new)
+          by (Ok a) made = ∥∥₁_map (last_between t made) (law a (state_seen old) (state_seen new))
+          by (Err f) made = tt
+
+      pub sees_last_refusal : IfErr result (λ f. Sees (IsRefusal s f) old new)
+      sees_last_refusal = by result m
+        where
+          by : (x : Result A PoolError) → Makes s (reply_of make x) now new → IfErr x (λ f. Sees (IsRefusal s f) old new)
+          by (Ok a) made = tt
+          by (Err f) made = ∥∥₁_map (last_between t made) (refused_between s f (state_seen old) (state_seen new))

@@ -1,0 +1,86 @@
+-- A step of the pool under the lock leads from a view that explains it to one that does.
+use Rattle.std.proofs.Common.{◌≡◌, refl, ap, sym, ◌∙◌, subst, [], ◌∷◌}
+use Rattle.std.specs.Prelude.{IsTrue}
+use Rattle.std.proofs.Math.Logic.{∥∥₁_map}
+use Rattle.base.specs.declared.step.Step as declared_step
+use Rattle.base.specs.declared.step.Reply as declared_reply
+use Rattle.base.specs.history.Past.{Past}
+use Rattle.base.specs.steps.Additions.{past_after}
+use Rattle.base.specs.steps.ExactNow.{IsExplainedNow}
+use Rattle.base.specs.steps.Steps.{State}
+use Rattle.device_model.specs.declared.device.SectorDevice.{Ghosts}
+use Rattle.pool_core.specs.declared.state.PoolState.{PoolState}
+use Rattle.pool_core.specs.Holds.{state_with}
+use Rattle.pool_core.specs.KeptSafe.{IsKeptSafe, KeepsSafe, on_disk}
+use Rattle.pool_core.specs.States.{told}
+use Rattle.pool_core.specs.StepReplies.{IsStep}
+use Rattle.pool_core.specs.Turns.{Turns}
+use Rattle.pool_threads.proofs.Notes.{state_of-view_of}
+use Rattle.pool_threads.specs.Views.{Explains, GrowsTo, IsPoolStep, IsSafeOverSome, IsStepOverSome, View, state_of, view_after, view_of}
+
+module _ {Dev : Type 0} {G : Ghosts Dev} (s : declared_step.Step) (r : declared_reply.Reply) (old new : PoolState Dev G) (turns : Turns s r old new)
+    (safe : IsTrue G.keeps_model → KeepsSafe s r old new) where
+  -- the state before the step with a past, and the one after it
+  abbrev before : Past → State
+  before past = state_with (told old) past
+
+  abbrev later : Past → Past
+  later past = past_after s r (before past)
+
+  abbrev after : Past → State
+  after past = state_with (told new) (later past)
+
+  safely : (past : Past) → IsTrue G.keeps_model → IsKeptSafe (on_disk old past) → IsSafeOverSome s r (before past) (after past)
+  safely past keeps kept = (on_disk old past, on_disk new (later past), refl, refl, kept, safe keeps past kept)
+
+  module _ (v : View) (x : Explains old v) where
+    past_is : past_after s r (state_of v) ≡ later v.past
+    past_is = ap (past_after s r) x.state
+
+    next : View
+    next = view_of new (later v.past) v.crash_rule
+
+    next_explained : Explains new next
+    unfolding next
+    next_explained = record {
+      state = state_of-view_of new (later v.past) v.crash_rule;
+      explained = ∥∥₁_map x.explained (turns v.past).explained;
+      held = λ keeps. ∥∥₁_map (x.held keeps) ((turns v.past).held keeps);
+      safe = λ keeps rule. ∥∥₁_map (x.safe keeps rule) (λ k. (safe keeps v.past k).kept);
+    }
+
+    next_stepped : IsPoolStep (IsTrue G.keeps_model) s r v next
+    unfolding next
+    next_stepped =
+        let was : before v.past ≡ state_of v = sym x.state in
+        let is : after v.past ≡ state_of (view_of new (later v.past) v.crash_rule) = sym (state_of-view_of new (later v.past) v.crash_rule) in
+        let both : (P : State → State → Type 0) → P (before v.past) (after v.past) → P (state_of v) (state_of (view_of new (later v.past) v.crash_rule)) =
+        λ P h. subst (λ a. P a (state_of (view_of new (later v.past) v.crash_rule))) was (subst (P (before v.past)) is h) in
+        record {
+          explained = subst (λ (a : State). ∥ IsExplainedNow a.shown a.past ∥₁) was x.explained;
+          step = both (λ a b. ∥ IsStep s r a b ∥₁) (∥∥₁_map x.explained (turns v.past).step);
+          over = λ keeps. both (λ a b. ∥ IsStepOverSome s r a b ∥₁) (∥∥₁_map (x.held keeps) (λ h. (_, (turns v.past).over h)));
+          safe = λ keeps rule. both (λ a b. ∥ IsSafeOverSome s r a b ∥₁) (∥∥₁_map (x.safe keeps rule) (safely v.past keeps));
+          rule = refl;
+        }
+
+    next_is : (w : View) → w ≡ view_after s r v new → w ≡ next
+    unfolding next
+    next_is w is = is ∙ ap (λ (p : Past). view_of new p v.crash_rule) past_is
+
+    pub explained_after : (w : View) → w ≡ view_after s r v new → Explains new w
+    explained_after w is = subst (Explains new) (sym (next_is w is)) next_explained
+
+    pub stepped_after : (w : View) → w ≡ view_after s r v new → IsPoolStep (IsTrue G.keeps_model) s r v w
+    stepped_after w is = subst (IsPoolStep (IsTrue G.keeps_model) s r v) (sym (next_is w is)) next_stepped
+
+-- one step goes on
+pub grows_by_one : (keeps : Type 0) (s : declared_step.Step) (r : declared_reply.Reply) (u v w : View) → v ≡ u → IsPoolStep keeps s r v w → GrowsTo u w
+grows_by_one keeps s r u v w is one = subst (λ (h : View). GrowsTo h w) is (record {
+  goes_on = ∥∥₁_map one.step (λ x. (s ∷ [], r ∷ [], (state_of w, ([], x), refl)));
+  rule = one.rule;
+})
+
+-- the same step, of views that are named otherwise
+pub led_by : (keeps : Type 0) (s : declared_step.Step) (r : declared_reply.Reply) (u v w x : View) → v ≡ u → w ≡ x → IsPoolStep keeps s r v w → IsPoolStep keeps s r u x
+led_by keeps s r u v w x first last one = subst (λ (h : View). IsPoolStep keeps s r u h) last (subst (λ (h : View). IsPoolStep keeps s r h w) first one)

@@ -1,0 +1,22 @@
+use Rattle.std.proofs.Common.{sym, subst, ◌∙◌}
+use Rattle.pool_threads.proofs.Fits.{fitting}
+use Rattle.pool_threads.proofs.Made.{made_by}
+use Rattle.pool_threads.specs.Views.{Explains}
+use Rattle.pool_threads.proofs.handle.Handle.ask.Goals as goal
+
+pub step_guarded-reply-requires-clause-explains : goal.step_guarded-reply-requires-clause-explains
+step_guarded-reply-requires-clause-explains g c =
+    let held = c.acquire-guard.ensures.held in
+    subst (λ v. Explains c.acquire-guard.result.held.value.value v) (sym c.acquire-guard.ensures.view) held.3
+
+pub returns-clause-made : goal.returns-clause-made
+returns-clause-made g c =
+    let held = c.acquire-guard.ensures.held in
+    let done = c.step_guarded-reply.ensures in
+    record {
+      same_pool = done.same.0.0 ∙ c.acquire-guard.ensures.same.0;
+      made = made_by _ _ _ c.args.self.now.seat c.acquire-guard.result.seat.now c.step_guarded-reply.new.guard.0 held.1 held.2 done.stepped done.turn;
+    }
+
+pub returns-clause-fits : goal.returns-clause-fits
+returns-clause-fits g c = fitting _ _ _ _ _ c.step_guarded-reply.ensures.stepped

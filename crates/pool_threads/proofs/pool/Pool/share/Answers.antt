@@ -1,0 +1,8 @@
+use Rattle.pool_threads.proofs.Firsts.{explained_at_first, opens_with}
+use Rattle.pool_threads.proofs.pool.Pool.share.Goals as goal
+
+pub new-requires : goal.new-requires
+new-requires g c κs t = (t, explained_at_first c.new-state.result c.new-state.ensures.explained c.new-state.ensures.held)
+
+pub returns-clause-shown : goal.returns-clause-shown
+returns-clause-shown g c = opens_with c.new-state.result c.new.result c.new.ensures.opening c.new-state.ensures.shown

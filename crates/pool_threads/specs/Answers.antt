@@ -1,0 +1,44 @@
+-- What the answer of a call says of the pool, by what its handle had seen before the call and has seen after it.
+use Rattle.std.specs.Prelude.{◌≡◌, true, false, IsTrue}
+use Rattle.base.specs.declared.error.PoolError.{PoolError}
+use Rattle.base.specs.declared.step.Step as declared_step
+use Rattle.base.specs.declared.step.Reply as declared_reply
+use Rattle.base.specs.steps.Runs.{refusal_of_step}
+use Rattle.base.specs.steps.Seen.{IsRefusedBetween}
+use Rattle.base.specs.steps.SeenLaws.{is_suspending, is_untested}
+use Rattle.base.specs.steps.Steps.{State}
+use Rattle.device_model.specs.declared.device.SectorDevice.{Ghosts}
+use Rattle.pool_threads.specs.declared.handle.Handle.{Handle}
+use Rattle.pool_threads.specs.Turns.{HasMade, HasMadeAtLast, HasTried}
+use Rattle.pool_threads.specs.Views.{state_of}
+use Rattle.word_lock.specs.Seats.{seat_table, seen}
+
+-- What is so of a refusal, by the states before and after the call: each but those of memory and of the device is the one that the rules give
+-- in some state between, and after those of the device and after `Suspended` the pool is suspended from then on.
+pub record IsRefusal (s : declared_step.Step) (e : PoolError) (before after : State) : Type 0 where
+  pub ruled : is_untested e ≡ false → IsRefusedBetween (refusal_of_step s) e before after
+  pub suspended : is_suspending e ≡ true → after.shown.suspended ≡ true
+
+module _ {Dev : Type 0} {G : Ghosts Dev} where
+  -- what the handle has seen
+  abbrev pub state_seen : Handle Dev G → State
+  state_seen h = state_of (seen h.seat)
+
+  -- of the states that a handle had seen before a call and has seen after it
+  abbrev pub Sees : (State → State → Type 0) → Handle Dev G → Handle Dev G → Type 0
+  Sees P old new = ∥ P (state_seen old) (state_seen new) ∥₁
+
+  -- the handle is of the same pool, and made this step with this reply in one turn and no other
+  pub record Makes (s : declared_step.Step) (r : declared_reply.Reply) (old new : Handle Dev G) : Type 0 where
+    pub same_pool : seat_table new.seat ≡ seat_table old.seat
+    pub made : HasMade (IsTrue G.keeps_model) s r old.seat new.seat
+
+  -- so far the handle only tried this step, and was refused so each time
+  pub record Tries (s : declared_step.Step) (e : PoolError) (old now : Handle Dev G) : Type 0 where
+    pub same_pool : seat_table now.seat ≡ seat_table old.seat
+    pub tried : HasTried (IsTrue G.keeps_model) s e old.seat now.seat
+
+  -- the handle made this step with this reply, behind turns in which it was refused so, and in no other turn
+  pub record MakesAtLast (s : declared_step.Step) (e : PoolError) (r : declared_reply.Reply) (old new : Handle Dev G) : Type 0 where
+    pub same_pool : seat_table new.seat ≡ seat_table old.seat
+    pub made : HasMadeAtLast (IsTrue G.keeps_model) s e r old.seat new.seat

@@ -1,0 +1,5 @@
+pub mod Noted
+pub mod Views
+pub mod Turns
+pub mod Kinds
+pub mod Answers

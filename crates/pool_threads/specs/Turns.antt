@@ -1,0 +1,42 @@
+-- What a handle did in its turns.
+use Rattle.std.specs.Prelude.{ℕ, ◌≡◌, ◌++◌, All, List, [], ◌∷◌}
+use Rattle.base.specs.declared.step.Step as declared_step
+use Rattle.base.specs.declared.step.Step.TheVariants as step
+use Rattle.base.specs.declared.error.PoolError.{PoolError}
+use Rattle.base.specs.declared.step.Reply as declared_reply
+use Rattle.base.specs.declared.step.Reply.TheVariants as reply
+use Rattle.word_lock.specs.declared.rule.Turn.{Turn}
+use Rattle.word_lock.specs.declared.seat.Seat.{Seat}
+use Rattle.word_lock.specs.Seats.{seen, turns}
+use Rattle.word_lock.specs.Turns.{turn}
+use Rattle.pool_threads.specs.Views.{GrowsTo, IsPoolStep, View}
+
+-- a step, with this moment where it starts a sync
+abbrev pub dated : ℕ → declared_step.Step → declared_step.Step
+dated moment (step.StartSync other) = step.StartSync moment
+dated moment s = s
+
+module _ {T R : Type 0} where
+  -- In one turn and no other the seat made a step with this reply: from a view that goes on from what it had seen, to the one that it has
+  -- seen then.
+  pub record HasMade (keeps : Type 0) (s : declared_step.Step) (r : declared_reply.Reply) (old new : Seat T R View) : Type 0 where
+    pub took : View
+    pub onward : GrowsTo (seen old) took
+    pub made : IsPoolStep keeps s r took (seen new)
+    pub turn : turns new ≡ turns old ++ turn took (seen new) ∷ []
+
+  -- In these turns and no others the seat made a step that was refused each time, with the same refusal.
+  pub record HasTried (keeps : Type 0) (s : declared_step.Step) (e : PoolError) (old now : Seat T R View) : Type 0 where
+    pub tries : List (Turn View)
+    pub refused : All (λ t. IsPoolStep keeps s (reply.Refused e) t.took t.left) tries
+    pub onward : GrowsTo (seen old) (seen now)
+    pub turns : turns now ≡ turns old ++ tries
+
+  -- Behind such tries the seat made the step with this reply.
+  pub record HasMadeAtLast (keeps : Type 0) (s : declared_step.Step) (e : PoolError) (r : declared_reply.Reply) (old new : Seat T R View) : Type 0 where
+    pub tries : List (Turn View)
+    pub refused : All (λ t. IsPoolStep keeps s (reply.Refused e) t.took t.left) tries
+    pub took : View
+    pub onward : GrowsTo (seen old) took
+    pub made : IsPoolStep keeps s r took (seen new)
+    pub turn : turns new ≡ (turns old ++ tries) ++ turn took (seen new) ∷ []

@@ -1,0 +1,90 @@
+-- What a thread sees of a pool that runs, and how it goes on by steps.
+use Rattle.std.specs.Prelude.{ℕ, ◌≡◌, ◌++◌, Bool, true, false, IsTrue, List, [], ◌∷◌}
+use Rattle.std.proofs.Common.{refl, ◌∙◌}
+use Rattle.std.proofs.Math.Logic.{∥∥₁_map, ∥∥₁_elim, ∥∥₁_prop}
+use Rattle.base.specs.declared.step.Step as declared_step
+use Rattle.base.specs.declared.step.Reply as declared_reply
+use Rattle.base.specs.history.Past.{Past, new_past}
+use Rattle.base.specs.steps.Additions.{past_after}
+use Rattle.base.specs.steps.ExactNow.{GoesOn, IsExplainedNow}
+use Rattle.base.specs.steps.Runs.{Step, Run}
+use Rattle.base.specs.steps.Steps.{State}
+use Rattle.base.specs.stored.Stored.{IsHeld}
+use Rattle.device_model.specs.declared.device.SectorDevice.{Ghosts}
+use Rattle.pool_core.specs.declared.state.PoolState.{PoolState}
+use Rattle.pool_core.specs.Holds.{held_with, state_with}
+use Rattle.pool_core.specs.KeptSafe.{IsKeptSafe, IsSafeStep, OnDisk, on_disk}
+use Rattle.pool_core.specs.States.{shown, told}
+use Rattle.pool_core.specs.StepReplies.{IsStep}
+use Rattle.pool_threads.specs.Noted.{NotedPool, blank_note, no_contents, note, shown_in}
+
+-- What is seen of a pool: what it shows, with the past of its run, and whether its disk kept the crash rule as the pool was opened.
+pub record View : Type 0 where
+  pub pool : NotedPool
+  pub past : Past
+  pub crash_rule : Bool
+
+-- the state that is seen
+abbrev pub state_of : View → State
+state_of v = record { shown = shown_in v.pool; past = v.past }
+
+module _ {Dev : Type 0} {G : Ghosts Dev} where
+  -- the view of a pool with this past
+  abbrev pub view_of : PoolState Dev G → Past → Bool → View
+  view_of p past rule = record { pool = note (shown p); past = past; crash_rule = rule }
+
+  -- The view is of this pool, and its past explains it. Where the device keeps the disk model it holds what it should, and where the crash
+  -- rule stood as the pool was opened, it stands.
+  pub record Explains (p : PoolState Dev G) (v : View) : Type 0 where
+    pub state : state_of v ≡ state_with (told p) v.past
+    pub explained : ∥ IsExplainedNow (shown p) v.past ∥₁
+    pub held : IsTrue G.keeps_model → ∥ IsHeld (held_with (told p) v.past) ∥₁
+    pub safe : IsTrue G.keeps_model → v.crash_rule ≡ true → ∥ IsKeptSafe (on_disk p v.past) ∥₁
+
+  -- the view after a step that left this pool
+  abbrev pub view_after : declared_step.Step → declared_reply.Reply → View → PoolState Dev G → View
+  view_after s r v p = view_of p (past_after s r (state_of v)) v.crash_rule
+
+-- the step is one over the bytes of some device
+abbrev pub IsStepOverSome : declared_step.Step → declared_reply.Reply → State → State → Type 0
+IsStepOverSome s r old new = (now : List ℕ) × Step (Unit {0}) now s r old new
+
+-- the step keeps the crash rule of a pool that is so, at each of its moments
+abbrev pub IsSafeOverSome : declared_step.Step → declared_reply.Reply → State → State → Type 0
+IsSafeOverSome s r old new = (x y : OnDisk) × (x.held.state ≡ old) × (y.held.state ≡ new) × IsKeptSafe x × IsSafeStep s r x y
+
+-- A step with its reply, from a view that is explained. Where the device keeps the disk model it is one over the device's bytes, and where
+-- the crash rule stands, it is a safe one.
+pub record IsPoolStep (keeps : Type 0) (s : declared_step.Step) (r : declared_reply.Reply) (v w : View) : Type 0 where
+  pub explained : ∥ IsExplainedNow (state_of v).shown v.past ∥₁
+  pub step : ∥ IsStep s r (state_of v) (state_of w) ∥₁
+  pub over : keeps → ∥ IsStepOverSome s r (state_of v) (state_of w) ∥₁
+  pub safe : keeps → v.crash_rule ≡ true → ∥ IsSafeOverSome s r (state_of v) (state_of w) ∥₁
+  pub rule : w.crash_rule ≡ v.crash_rule
+
+-- steps lead from one view to another
+pub record GrowsTo (v w : View) : Type 0 where
+  pub goes_on : ∥ GoesOn (state_of v) (state_of w) ∥₁
+  pub rule : w.crash_rule ≡ v.crash_rule
+
+abbrev pub blank : View
+blank = record { pool = blank_note; past = new_past no_contents 0 0; crash_rule = false }
+
+pub grows_same : (v : View) → GrowsTo v v
+grows_same v = record { goes_on = ∣ ([], [], refl) ∣₁; rule = refl }
+
+abbrev One : declared_step.Step → declared_reply.Reply → State → State → Type 0
+One s r old new = (now : List ℕ) × Step ⊥ now s r old new
+
+many_more : (ss tt : List declared_step.Step) (rs us : List declared_reply.Reply) (a b c : State) → Run One ss rs a b → Run One tt us b c
+    → Run One (ss ++ tt) (rs ++ us) a c
+many_more [] ts [] us a b c same rest = rw same at rest
+many_more (s ∷ ss) ts (r ∷ rs) us a b c (middle, one, more) rest = (middle, one, many_more ss ts rs us middle b c more rest)
+many_more [] ts (r ∷ rs) us a b c h rest = absurd h
+many_more (s ∷ ss) ts [] us a b c h rest = absurd h
+
+pub grows_onward : (a b c : View) → GrowsTo a b → GrowsTo b c → GrowsTo a c
+grows_onward a b c x y = record {
+  goes_on = ∥∥₁_elim x.goes_on ∥∥₁_prop (λ p. ∥∥₁_map y.goes_on (λ q. (p.0 ++ q.0, p.1 ++ q.1, many_more p.0 q.0 p.1 q.1 (state_of a) (state_of b) (state_of c) p.2 q.2)));
+  rule = y.rule ∙ x.rule;
+}

@@ -1,0 +1,15 @@
+//! A pool that threads share: each takes it whole, makes one step, and lets it go.
+#![tactic(auto)]
+
+mod calls;
+mod handle;
+mod pool;
+mod replies;
+mod retries;
+mod rule;
+mod turn;
+mod waiters;
+
+pub use handle::Handle;
+pub use pool::Pool;
+pub use rule::{PoolRule, PoolView};
