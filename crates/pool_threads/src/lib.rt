@@ -7,6 +7,8 @@ mod pool;
 mod replies;
 mod retries;
 mod rule;
+#[cfg(test)]
+mod tests;
 mod turn;
 mod waiters;
 
