@@ -58,6 +58,13 @@ impl Dirty {
         }
     }
 
+    /// How many bytes may be charged to all groups together.
+    pub fn limit(&self) -> u64
+        ensures { result ≡ self.now.limit }
+    {
+        self.limit
+    }
+
     /// The bytes that are charged to all groups together.
     pub fn total(&self) -> u64
         ensures total { result ≡ total_of self.now }
