@@ -35,7 +35,8 @@ pub struct Record {
 /// `BadRange` where there is no operation, or one of them, the group or the ordinal is outside its limits; then `TooLarge`
 /// where it would be longer than 4,008 bytes; then `NoMemory` where there is no memory for the bytes.
 pub fn encode_record(alloc: Global, committed: &Record) -> Result<Vec<u8>, PoolError>
-    ensures bytes { IfOk result (λ bytes. bytes.items ≡ bytes_of_record (record_fields committed.now)) }
+    ensures bytes { IfOk result
+        (λ bytes. bytes.items ≡ bytes_of_record (record_fields committed.now)) }
     ensures allowed { OnOk result (IsAllowed (record_fields committed.now)) }
     ensures refused { IfErr result (λ e. Refuses (encode_refusal (record_fields committed.now)) e) }
 {
