@@ -165,7 +165,7 @@ impl Pool {
     ghost use Rattle.pool_core.specs.Entries.{IsUnsynced, shown_after_entry};
     ghost use Rattle.pool_core.specs.KeptSafe.{StepsPhases, run_in};
     ghost use Rattle.pool_core.specs.Lines.{ChecksStart};
-    ghost use Rattle.pool_core.specs.BeginTests.{range_tests, room_tests};
+    ghost use Rattle.pool_core.specs.BeginTests.{is_above_limit, range_tests, room_tests};
     ghost use Rattle.pool_core.specs.Meets.{ChecksBegin, ChecksCommit, FindsLength, MayCommit, Passes, RefusesIf};
     ghost use Rattle.pool_core.specs.Shows.{contents_after_oldest, plan_of, shown_after_tree, shown_objects, pool_shown};
     ghost use Rattle.pool_core.specs.States.{IsOfNoDevice, KeepsTree};
@@ -311,6 +311,15 @@ impl Pool {
             unreachable!();
         };
         Ok((tx, group))
+    }
+
+    pub(crate) fn is_above_limit(&self, plan: &[Shape]) -> bool
+        ensures { result ≡ is_above_limit plan.now (pool_shown self.now) }
+    {
+        if check_plan(plan).is_err() {
+            return false;
+        }
+        charge(plan) > self.dirty.limit()
     }
 
     // Refused where a begin is, but for want of memory.

@@ -43,6 +43,7 @@ impl<D: SectorDevice> PoolState<D> {
     ghost use Rattle.range_locks.specs.Pieces.{pieces_of};
     ghost use Rattle.import_replay.specs.Mounts.{shown_of_import};
     ghost use Rattle.sync.specs.Calls.{plain_answer};
+    ghost use Rattle.pool_core.specs.BeginTests.{is_above_limit};
     ghost use Rattle.pool_core.specs.Calls.{CallsNext};
     ghost use Rattle.pool_core.specs.Holds.{Leads, sync_step_reply};
     ghost use Rattle.pool_core.specs.KeptSafe.{BeginsSafe, StepsPhases, disk_of, run_of};
@@ -167,6 +168,14 @@ impl<D: SectorDevice> PoolState<D> {
         ensures unmoved { MovesNothing result self.old self.new }
     {
         self.pool.begin(owner, plan)
+    }
+
+    /// Whether a transaction may have this plan, but its charge alone is above the import's limit, so that each `begin` of it
+    /// is refused, `Throttled` at the latest. It takes no memory, and is no step.
+    pub fn is_above_limit(&self, plan: &Plan) -> bool
+        ensures { result ≡ is_above_limit plan.now (shown self.now) }
+    {
+        self.pool.is_above_limit(plan.as_slice())
     }
 
     /// The plan of an open transaction. It takes no memory.
