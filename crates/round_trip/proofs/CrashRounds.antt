@@ -138,13 +138,16 @@ module _ {Dev : Type 0} {G : Ghosts Dev} (keep : IsTrue G.keeps_model) (dirty_ma
   first_is =
       ap (λ (s : Shown). first_past s past.created) shows ∙ ap (λ (k : ℕ). new_past (contents_of m.contents) past.created k) limit
 
-  safe_first : IsKeptSafe (on_disk state first)
-  safe_first =
+  pub safe_at_first : IsKeptSafe (on_disk state (first_past (shown state) past.created))
+  safe_at_first =
       let laid : IsPoolDisk (disk_size (disk_of state)) (disk_of state).now (shown state) (first_past (shown state) past.created) =
       subst (λ (n : ℕ). IsPoolDisk n (disk_of state).now (shown state) (first_past (shown state) past.created)) (sym sized)
       (subst (λ (s : Shown). IsPoolDisk m.geometry (disk_of state).now s (first_past (shown state) past.created)) (sym shows)
       (subst (λ (p : Past). IsPoolDisk m.geometry (disk_of state).now (shown_of_import m) p) (sym first_is) run_start.disk)) in
-      subst (λ (p : Past). IsKeptSafe (on_disk state p)) first_is (begins past.created held left_then.left.1.began laid)
+      begins past.created held left_then.left.1.began laid
+
+  safe_first : IsKeptSafe (on_disk state first)
+  safe_first = subst (λ (p : Past). IsKeptSafe (on_disk state p)) first_is safe_at_first
 
   of_found : first ≡ new_past found.contents past.created dirty_max
   of_found = ap (λ (c : Contents). new_past c past.created dirty_max) run_start.contents_are
