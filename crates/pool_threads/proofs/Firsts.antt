@@ -1,7 +1,18 @@
 -- A pool that an import gave is explained by a past in which nothing happened.
-use Rattle.std.proofs.Common.{◌≡◌, ◌∙◌, ap, false, true}
+use Rattle.std.proofs.Common.{◌≡◌, ◌∙◌, ℕ, Bool, ap, refl, sym, subst, false, true}
 use Rattle.std.specs.Prelude.{IfOk, IsTrue, Result, Ok, Err}
 use Rattle.std.proofs.Math.Logic.{∥∥₁_map}
+use Rattle.base.specs.crash.CrashRule.{KeepsOwn}
+use Rattle.base.specs.disk.Disk.{Disk, disk_size}
+use Rattle.base.specs.history.Contents.{Contents}
+use Rattle.base.specs.history.Past.{new_past}
+use Rattle.base.specs.steps.Explains.{IsLeftBy}
+use Rattle.import_replay.specs.Mounts.{shown_of_import}
+use Rattle.import_replay.specs.RunStarts.{StartsRun}
+use Rattle.import_replay.specs.declared.mounted.Mounted.{Mounted}
+use Rattle.object_maps.specs.ContentsShown.{contents_of}
+use Rattle.pool_core.specs.KeptSafe.{BeginsSafe, IsKeptSafe, disk_of, on_disk}
+use Rattle.round_trip.proofs.CrashRounds.{left_flushed, safe_at_first}
 use Rattle.base.specs.steps.Shown.{Shown}
 use Rattle.base.specs.steps.Steps.{State}
 use Rattle.device_model.specs.declared.device.SectorDevice.{Ghosts}
@@ -9,6 +20,7 @@ use Rattle.pool_core.specs.declared.state.PoolState.{PoolState}
 use Rattle.pool_core.specs.NewStates.{IsExplainedAtFirst, IsHeldAtFirst, first_past}
 use Rattle.pool_core.specs.States.{shown, told}
 use Rattle.pool_threads.proofs.Notes.{state_of-view_of}
+use Rattle.pool_threads.specs.Handles.{EarlierRun, HasLeft, OpensBehind, opening_view}
 use Rattle.pool_threads.specs.Views.{Explains, View, state_of, view_of}
 use Rattle.pool_threads.specs.declared.pool.Pool.{Pool}
 use Rattle.word_lock.specs.Seats.{opening}
@@ -28,3 +40,35 @@ module _ {Dev : Type 0} {G : Ghosts Dev} (p : PoolState Dev G) where
   pub opens_with : {E : Type 0} {s : Shown} (r : Result (Pool Dev G) E) → IfOk r (λ q. opening q.lock ≡ view_of p (first_past (shown p) 0) false) → shown p ≡ s → IfOk r (λ q. (state_of (opening q.lock)).shown ≡ s)
   opens_with (Ok q) is same = ap (λ (v : View). (state_of v).shown) is ∙ shown_at_first ∙ same
   opens_with (Err e) is same = tt
+
+-- A pool that was imported behind an earlier run, where that left the disk.
+module _ {Dev : Type 0} {G : Ghosts Dev} (dirty_max : ℕ) (run : EarlierRun) (old : Disk) (m : Mounted) (p : PoolState Dev G)
+    (was : HasLeft run (IsTrue G.keeps_model) old) (starts : IsTrue G.keeps_model → StartsRun old dirty_max (disk_of p) m) (shows : shown p ≡ shown_of_import m)
+    (limit : (shown_of_import m).dirty_max ≡ dirty_max) where
+  abbrev behind : View
+  behind = view_of p (first_past (shown p) run.past.created) run.crash_rule
+
+  pub explained_behind : (IsTrue G.keeps_model → KeepsOwn old (disk_of p)) → (IsTrue G.keeps_model → disk_size (disk_of p) ≡ m.geometry) → BeginsSafe p
+      → ∥ IsExplainedAtFirst (shown p) ∥₁ → ∥ (IsTrue G.keeps_model → IsHeldAtFirst (told p)) ∥₁ → Explains p behind
+  explained_behind kept sized begins explained held = record {
+    state = state_of-view_of p (first_past (shown p) run.past.created) run.crash_rule;
+    explained = ∥∥₁_map explained (λ x. x run.past.created);
+    held = λ keeps. ∥∥₁_map held (λ x. x keeps run.past.created);
+    safe = λ keeps yes. ∥∥₁_map held (λ x. safe_at_first keeps dirty_max run.past old m p (was yes keeps) (kept keeps) (starts keeps) shows limit (sized keeps) (x keeps) begins);
+  }
+
+  first_contents : (shown p).contents ≡ contents_of m.contents
+  first_contents = ap (λ (s : Shown). s.contents) shows
+
+  opens : OpensBehind run (IsTrue G.keeps_model) dirty_max behind
+  opens = record {
+    rule = refl;
+    anew = ap (λ (n : ℕ). new_past (shown p).contents run.past.created n) (ap (λ (s : Shown). s.dirty_max) shows ∙ limit);
+    left = λ keeps yes.
+        let f = left_flushed run.past old (was yes keeps) in
+        let start = starts keeps run.past.created f.guid f.contents f.own in
+        subst (λ (c : Contents). IsLeftBy run.past c) (sym (first_contents ∙ start.contents_are)) f.left;
+  }
+
+  pub opens_behind : (q : Pool Dev G) → opening_view q ≡ behind → OpensBehind run (IsTrue G.keeps_model) dirty_max (opening_view q)
+  opens_behind q is = subst (λ (v : View). OpensBehind run (IsTrue G.keeps_model) dirty_max v) (sym is) opens

@@ -6,3 +6,7 @@ pub mod Answered
 pub mod Seen
 pub mod Tried
 pub mod Firsts
+pub mod Begun
+pub mod Limits
+pub mod Looked
+pub mod Ends

@@ -1,5 +1,5 @@
 -- A step between a taken lock and its release is one turn of the seat.
-use Rattle.std.proofs.Common.{◌≡◌, ◌++◌, ◌∷◌, [], List, ap, ◌∙◌}
+use Rattle.std.proofs.Common.{◌≡◌, ◌++◌, ◌∷◌, [], List, ap, subst, ◌∙◌}
 use Rattle.base.specs.declared.step.Step as declared_step
 use Rattle.base.specs.declared.step.Reply as declared_reply
 use Rattle.word_lock.specs.declared.rule.Turn.{Turn}
@@ -24,3 +24,7 @@ module _ {T R : Type 0} (keeps : Type 0) (s : declared_step.Step) (r : declared_
 -- what a seat has seen after a turn goes on from what it had seen
 pub grows_by_made : {T R : Type 0} {keeps : Type 0} {s : declared_step.Step} {r : declared_reply.Reply} {old new : Seat T R View} → HasMade keeps s r old new → GrowsTo (seen old) (seen new)
 grows_by_made {old} {new} m = grows_onward _ _ _ m.onward (grows_by_one _ _ _ _ _ _ (λ i. m.took) m.made)
+
+-- so it is of a seat that is the same one
+pub made_there : {T R : Type 0} (keeps : Type 0) (s : declared_step.Step) (r : declared_reply.Reply) (old : Seat T R View) {new there : Seat T R View} → new ≡ there → HasMade keeps s r old new → HasMade keeps s r old there
+made_there keeps s r old is m = subst (HasMade keeps s r old) is m

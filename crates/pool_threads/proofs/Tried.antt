@@ -56,6 +56,11 @@ module _ {Dev : Type 0} {G : Ghosts Dev} (s : declared_step.Step) (e : PoolError
   tried_again make (Ok a) tells when t m = absurd (let no_way : true ≡ false = sym when ∙ tells in cc)
   tried_again make {old} {now} {next} (Err f) tells when t m = one_more_try t (subst (λ (x : PoolError). Makes s (reply.Refused x) now next) (tells.0 when) m)
 
+  -- and so is one whose answer is that refusal
+  pub refused_again : {A : Type 0} (make : A → declared_reply.Reply) {old now next : Handle Dev G} (x : Result A PoolError) → x ≡ Err e → Tries s e old now → Makes s (reply_of make x) now next
+      → Tries s e old next
+  refused_again {A} make {old} {now} {next} x is t m = one_more_try t (subst (λ (y : Result A PoolError). Makes s (reply_of make y) now next) is m)
+
   module _ {old now new : Handle Dev G} where
     last_between : {r : declared_reply.Reply} → Tries s e old now → Makes s r now new → Sees (IsMadeBetween ⊥ s r) old new
     last_between t m = between _ _ _ _ _ _ (grows_onward _ _ _ t.tried.onward m.made.onward) m.made.made

@@ -3,3 +3,4 @@ pub mod Views
 pub mod Turns
 pub mod Kinds
 pub mod Answers
+pub mod Handles

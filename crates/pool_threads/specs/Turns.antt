@@ -1,8 +1,11 @@
 -- What a handle did in its turns.
-use Rattle.std.specs.Prelude.{ℕ, ◌≡◌, ◌++◌, All, List, [], ◌∷◌}
+use Rattle.std.specs.Prelude.{ℕ, ◌≡◌, ◌++◌, All, List, [], ◌∷◌, Result}
 use Rattle.base.specs.declared.step.Step as declared_step
 use Rattle.base.specs.declared.step.Step.TheVariants as step
 use Rattle.base.specs.declared.error.PoolError.{PoolError}
+use Rattle.base.specs.declared.names.Group.{Group}
+use Rattle.base.specs.declared.names.TxId.{TxId}
+use Rattle.base.specs.steps.Runs.{reply_of}
 use Rattle.base.specs.declared.step.Reply as declared_reply
 use Rattle.base.specs.declared.step.Reply.TheVariants as reply
 use Rattle.word_lock.specs.declared.rule.Turn.{Turn}
@@ -15,6 +18,10 @@ use Rattle.pool_threads.specs.Views.{GrowsTo, IsPoolStep, View}
 abbrev pub dated : ℕ → declared_step.Step → declared_step.Step
 dated moment (step.StartSync other) = step.StartSync moment
 dated moment s = s
+
+-- the reply to a begin, by its answer
+abbrev pub begin_reply : Result (TxId × Group) PoolError → declared_reply.Reply
+begin_reply = reply_of (λ a. reply.Began a.0 a.1)
 
 module _ {T R : Type 0} where
   -- In one turn and no other the seat made a step with this reply: from a view that goes on from what it had seen, to the one that it has

@@ -1,31 +1,43 @@
 //! The calls of a handle. Each is one step of the pool, in one turn.
-ghost use Rattle.std.specs.Prelude.{◌≡◌, IfErr, IfOk, false, true};
+ghost use Rattle.std.specs.Prelude.{◌≡◌, IfErr, IfNone, IfOk, IfSome, false, true};
 ghost use Rattle.base.specs.declared.step.Reply.TheVariants as reply;
 ghost use Rattle.base.specs.declared.step.Step.TheVariants as step;
 ghost use Rattle.base.specs.steps.Refusals.{object_range};
 ghost use Rattle.base.specs.steps.Runs.{reply_of};
-ghost use Rattle.base.specs.steps.Seen.{IsAborted, IsAdmitted, IsCommitted, IsLengthBetween, IsLetGo, IsReadBetween};
+ghost use Rattle.base.specs.steps.Seen.{IsAborted, IsCommitted, IsLengthBetween, IsLetGo, IsReadBetween};
 ghost use Rattle.base.specs.steps.SeenLaws.{is_untested};
 ghost use Rattle.pool_threads.specs.Answers.{IsRefusal, Makes, Sees};
+ghost use Rattle.pool_threads.specs.Handles.{IsUnchanged, moment_of};
 ghost use Rattle.pool_threads.specs.Kinds.{fits};
 ghost use Rattle.pool_threads.specs.Turns.{dated};
 
 use crate::handle::Handle;
-use crate::replies::{begun, bytes, done, length, receipt};
-use crate::turn::step_guarded;
-use base::{
-    Bytes, Group, LockId, ObjectId, Ops, Owner, Plan, PoolError, Range, Receipt, Reply, Step, TxId,
-};
-use device_model::SectorDevice;
+use crate::replies::{bytes, done, length, receipt};
+use crate::turn::{fail_guarded, step_guarded, try_turn};
+use base::{Bytes, LockId, ObjectId, Ops, Owner, PoolError, Range, Receipt, Reply, Step, TxId};
+use device_model::{Fault, MemDevice, SectorDevice};
 use std::sync::Wait;
 
 impl<'p, D: SectorDevice> Handle<'p, D> {
     /// Makes one step of the pool, in one turn of the handle. A start of a sync gets the pool's moment.
     pub fn step<'a, 'b, W: Wait>(&'a mut self, rt: &'b W, step: Step) -> Reply
-        ensures made { Makes (dated self.old.pool.now.moment step) result self.old self.new }
+        ensures made { Makes (dated (moment_of self.old) step) result self.old self.new }
     {
         let step = dated(self.pool.moment, step);
         self.ask(rt, step)
+    }
+
+    /// Makes one step of the pool as `step` does, where no other handle has the pool. It never waits. `None` where another has it, and then
+    /// nothing has changed.
+    pub fn try_step<'a>(&'a mut self, step: Step) -> Option<Reply>
+        ensures made { IfSome result
+            (λ r. Makes (dated (moment_of self.old) step) r self.old self.new) }
+        ensures unchanged { IfNone result (IsUnchanged self.old self.new) }
+    {
+        let step = dated(self.pool.moment, step);
+        let reply = try_turn(&mut self.seat, &self.pool.lock, step)?;
+        self.pool.waiters.tell_of(&reply);
+        Some(reply)
     }
 
     // Makes one step of the pool, in one turn of the handle.
@@ -57,26 +69,6 @@ impl<'p, D: SectorDevice> Handle<'p, D> {
         ensures no_memory { IfErr result (λ e. is_untested e ≡ false) }
     {
         done(self.ask(rt, Step::Unlock(owner, id)))
-    }
-
-    /// Opens a transaction of the open group that keeps to a plan. It does not try again.
-    ///
-    /// # Errors
-    /// Those of `PoolState::begin`, `Throttled` too.
-    pub fn begin<'a, 'b, W: Wait>(
-        &'a mut self,
-        rt: &'b W,
-        owner: Owner,
-        plan: Plan,
-    ) -> Result<(TxId, Group), PoolError>
-        ensures made { Makes (step.Begin owner plan) (reply_of (λ a. reply.Began a.0 a.1) result)
-            self.old self.new }
-        ensures admitted { IfOk result (λ a. Sees (IsAdmitted owner.0 plan a.0.0 a.1.0)
-            self.old self.new) }
-        ensures refused { IfErr result (λ e. Sees (IsRefusal (step.Begin owner plan) e)
-            self.old self.new) }
-    {
-        begun(self.ask(rt, Step::Begin(owner, plan)))
     }
 
     /// Commits a transaction whole.
@@ -153,6 +145,19 @@ impl<'p, D: SectorDevice> Handle<'p, D> {
         ensures no_memory { IfErr result (λ e. is_untested e ≡ false) }
     {
         length(self.ask(rt, Step::Length(object)))
+    }
+}
+
+impl<'p> Handle<'p, MemDevice> {
+    ghost use Rattle.pool_threads.specs.Handles.{HasLooked};
+
+    /// Makes the n-th such call of the pool's device from now fail, once, as `MemDevice::fail` does, in one turn of the handle. It is
+    /// no step, and no view shows it.
+    pub fn fail<'a, 'b, W: Wait>(&'a mut self, rt: &'b W, fault: Fault, n: u64)
+        ensures { HasLooked self.old self.new }
+    {
+        let guard = self.seat.acquire(rt, &self.pool.lock);
+        fail_guarded(guard, fault, n);
     }
 }
 

@@ -12,6 +12,6 @@ mod tests;
 mod turn;
 mod waiters;
 
-pub use handle::Handle;
+pub use handle::{Handle, LastSeen};
 pub use pool::Pool;
 pub use rule::{PoolRule, PoolView};

@@ -1,16 +1,18 @@
 //! A pool under a lock.
-ghost use Rattle.std.specs.Prelude.{◌≡◌, [], IfErr, IfOk, IfSome};
-ghost use Rattle.pool_threads.specs.Views.{Explains, GrowsTo, View, state_of};
+ghost use Rattle.std.specs.Prelude.{◌≡◌, IfErr, IfOk, IfSome, IsTrue};
+ghost use Rattle.import_replay.specs.ImportRefusals.{IsImportRefusal};
 ghost use Rattle.import_replay.specs.Mounts.{shown_of_import};
-ghost use Rattle.word_lock.specs.Seats.{lock_table, opening, seat_table, seen, turns};
+ghost use Rattle.pool_threads.specs.Handles.{EarlierRun, HasLeft, IsLastState, IsLaterState, IsNewHandle, OpensBehind, WasOf, opening_view};
+ghost use Rattle.pool_threads.specs.Views.{Explains, View, state_of};
 
-use crate::handle::Handle;
+use crate::handle::{Handle, LastSeen};
 use crate::rule::{PoolRule, PoolView};
 use crate::waiters::Waiters;
 use base::PoolError;
 use device_model::SectorDevice;
-use import_replay::Imported;
+use import_replay::{Imported, import};
 use pool_core::PoolState;
+use std::alloc::Global;
 use word_lock::{Told, WordLock};
 
 /// A pool that threads share by reference, each with a handle of its own.
@@ -37,7 +39,7 @@ impl<D: SectorDevice> Pool<D> {
     pub fn new(state: PoolState<D>, moment: u64) -> Result<Pool<D>, (PoolError, PoolState<D>)>
         ghost first: { View }
         requires explained { Explains state first }
-        ensures opening { IfOk result (λ p. opening p.lock ≡ first) }
+        ensures opening { IfOk result (λ p. opening_view p ≡ first) }
         ensures moment { IfOk result (λ p. p.moment ≡ moment) }
         ensures refused { IfErr result (λ e. (e.0 ≡ PoolError.NoMemory) × (e.1 ≡ state)) }
     {
@@ -62,7 +64,7 @@ impl<D: SectorDevice> Pool<D> {
     /// # Errors
     /// `NoMemory` where there is none for the lock. The state then comes back.
     pub fn share(imported: Imported<D>, moment: u64) -> Result<Pool<D>, (PoolError, PoolState<D>)>
-        ensures shown { IfOk result (λ p. (state_of (opening p.lock)).shown
+        ensures shown { IfOk result (λ p. (state_of (opening_view p)).shown
             ≡ shown_of_import imported.mounted) }
         ensures moment { IfOk result (λ p. p.moment ≡ moment) }
         ensures refused { IfErr result (λ e. e.0 ≡ PoolError.NoMemory) }
@@ -71,11 +73,43 @@ impl<D: SectorDevice> Pool<D> {
         Pool::new(state, moment)
     }
 
+    /// Imports the pool on a device, and shares it. The moment is stored in the uberblocks of the import, and in those of the
+    /// syncs that its handles start.
+    ///
+    /// Over a device that keeps the model, where an earlier run left it (`run`), the contents are what that run left, and the
+    /// crash rule stands from then on. A caller who doesn't know so has it not followed.
+    ///
+    /// # Errors
+    /// Those of `import`, and `NoMemory` where there is none for the lock. The device comes back, as the import left it.
+    pub fn open(
+        alloc: Global,
+        device: D,
+        dirty_max: u64,
+        moment: u64,
+    ) -> Result<Pool<D>, (PoolError, D)>
+        ghost run: { EarlierRun }
+        requires left { HasLeft run (IsTrue D.keeps_model) (D.disk device) }
+        ensures opened { IfOk result
+            (λ p. OpensBehind run (IsTrue D.keeps_model) dirty_max (opening_view p)) }
+        ensures moment { IfOk result (λ p. p.moment ≡ moment) }
+        ensures refused { IfErr result (λ e. IsImportRefusal (D.size device) dirty_max e.0) }
+        ensures still_left { IfErr result
+            (λ e. HasLeft run (IsTrue D.keeps_model) (D.disk e.1)) }
+    {
+        let imported = match import(alloc, device, dirty_max, moment) {
+            Ok(imported) => imported,
+            Err(refused) => return Err(refused),
+        };
+        let state = PoolState::new(imported);
+        match Pool::new(state, moment) {
+            Ok(pool) => Ok(pool),
+            Err((error, state)) => Err((error, state.into_device())),
+        }
+    }
+
     /// A handle, at any time. It has seen a view that goes on from the first one, and has had no turn.
     pub fn handle(&self) -> Handle<'_, D>
-        ensures own { seat_table result.seat ≡ lock_table self.entry.now.lock }
-        ensures seen { GrowsTo (opening self.entry.now.lock) (seen result.seat) }
-        ensures turns { turns result.seat ≡ [] }
+        ensures { IsNewHandle self.entry.now result }
     {
         Handle {
             pool: self,
@@ -83,11 +117,12 @@ impl<D: SectorDevice> Pool<D> {
         }
     }
 
-    /// The state, by steps from the first one. `None` only where a thread was stopped while it had the pool.
+    /// The state, by steps from the first one. Where the crash rule was followed, each crash of its device leaves a cut of its history
+    /// with every acknowledged entry. `None` only where a thread was stopped while it had the pool.
     pub fn close(self) -> Option<PoolState<D>>
     where
         D: Drop,
-        ensures { IfSome result (λ s. (v : View) × Explains s v × GrowsTo (opening self.lock) v) }
+        ensures { IfSome result (λ s. IsLaterState self s) }
     {
         let Pool {
             lock,
@@ -95,6 +130,26 @@ impl<D: SectorDevice> Pool<D> {
             waiters: _,
         } = self;
         match lock.close() {
+            Some(held) => Some(Box::into_inner(held)),
+            None => None,
+        }
+    }
+
+    /// The state, by steps that go on from what a handle had seen as it left. `None` only where a thread was stopped while it had
+    /// the pool.
+    pub fn close_behind(self, last: LastSeen<D>) -> Option<PoolState<D>>
+    where
+        D: Drop,
+        requires { WasOf self last }
+        ensures { IfSome result (λ s. IsLastState self last s) }
+    {
+        let Pool {
+            lock,
+            moment: _,
+            waiters: _,
+        } = self;
+        let LastSeen { seat } = last;
+        match lock.close_with(seat) {
             Some(held) => Some(Box::into_inner(held)),
             None => None,
         }

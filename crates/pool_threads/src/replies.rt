@@ -2,9 +2,9 @@
 ghost use Rattle.std.specs.Prelude.{◌≡◌, true};
 ghost use Rattle.base.specs.declared.step.Reply.TheVariants as reply;
 ghost use Rattle.base.specs.steps.Runs.{reply_of};
-ghost use Rattle.pool_threads.specs.Kinds.{is_append_reply, is_begin_reply, is_commit_reply, is_done_reply, is_length_reply, is_lock_reply, is_read_reply};
+ghost use Rattle.pool_threads.specs.Kinds.{is_append_reply, is_commit_reply, is_done_reply, is_length_reply, is_lock_reply, is_read_reply};
 
-use base::{Bytes, Group, LockId, PoolError, Range, Receipt, Reply, TxId};
+use base::{Bytes, LockId, PoolError, Range, Receipt, Reply};
 
 pub(crate) fn done(given: Reply) -> Result<(), PoolError>
     requires { is_done_reply given ≡ true }
@@ -67,17 +67,6 @@ pub(crate) fn appended(given: Reply) -> Result<(LockId, Range), PoolError>
 {
     match given {
         Reply::Appended(id, range) => Ok((id, range)),
-        Reply::Refused(error) => Err(error),
-        _ => unreachable!(),
-    }
-}
-
-pub(crate) fn begun(given: Reply) -> Result<(TxId, Group), PoolError>
-    requires { is_begin_reply given ≡ true }
-    ensures { given ≡ reply_of (λ a. reply.Began a.0 a.1) result }
-{
-    match given {
-        Reply::Began(tx, group) => Ok((tx, group)),
         Reply::Refused(error) => Err(error),
         _ => unreachable!(),
     }

@@ -1,5 +1,5 @@
 //! The calls of a handle that try again.
-ghost use Rattle.std.specs.Prelude.{◌≡◌, ◌≢◌, IfErr, IfOk, IsTrue, MatchResult, false};
+ghost use Rattle.std.specs.Prelude.{◌≡◌, ◌≢◌, Err, IfErr, IfOk, IsTrue, MatchResult, false, true};
 ghost use mathlib.Core.Logic.{◌↔◌};
 ghost use Rattle.base.specs.declared.error.PoolError.TheVariants as error;
 ghost use Rattle.base.specs.declared.range.Mode.TheVariants.{Writer};
@@ -7,12 +7,14 @@ ghost use Rattle.base.specs.declared.step.Reply.TheVariants as reply;
 ghost use Rattle.base.specs.declared.step.Step.TheVariants as step;
 ghost use Rattle.base.specs.steps.Refusals.{object_range};
 ghost use Rattle.base.specs.steps.Runs.{reply_of};
-ghost use Rattle.base.specs.steps.Seen.{IsGranted};
-ghost use Rattle.pool_threads.specs.Answers.{IsRefusal, Makes, MakesAtLast, Sees};
+ghost use Rattle.base.specs.steps.Seen.{IsAdmitted, IsGranted, IsThrottledForGood};
+ghost use Rattle.pool_threads.specs.Answers.{IsRefusal, Makes, MakesAtLast, Sees, state_seen};
+ghost use Rattle.pool_threads.specs.Turns.{begin_reply};
 
 use crate::handle::Handle;
 use crate::replies::{appended, lock};
-use base::{LockId, Mode, ObjectId, Owner, PoolError, Range, Step};
+use crate::turn::{Admitted, begin_guarded};
+use base::{Group, LockId, Mode, ObjectId, Owner, Plan, PoolError, Range, Step, TxId};
 use crossbeam_utils::Backoff;
 use device_model::SectorDevice;
 use std::sync::Wait;
@@ -81,6 +83,56 @@ impl<'p, D: SectorDevice> Handle<'p, D> {
         unreachable!()
     }
 
+    /// Opens a transaction of the open group that keeps to a plan. It tries again while it is refused `Throttled`, unless the
+    /// plan's charge alone is above the import's limit.
+    ///
+    /// # Errors
+    /// Those of `PoolState::begin`; `Throttled` only where the plan's charge alone is above the limit.
+    pub fn begin<'a, 'b, W: Wait>(
+        &'a mut self,
+        rt: &'b W,
+        owner: Owner,
+        plan: Plan,
+    ) -> Result<(TxId, Group), PoolError>
+        ensures made { MakesAtLast (step.Begin owner plan) error.Throttled
+            (begin_reply result) self.old self.new }
+        ensures admitted { IfOk result (λ a. Sees (IsAdmitted owner.0 plan a.0.0 a.1.0)
+            self.old self.new) }
+        ensures refused { IfErr result (λ e. Sees (IsRefusal (step.Begin owner plan) e)
+            self.old self.new) }
+        ensures for_good { IfErr result (λ e. e ≡ PoolError.Throttled
+            → IsThrottledForGood plan (state_seen self.new)) }
+    {
+        let backoff = Backoff::new();
+        for _ in rt.forever() {
+            let changes = self.pool.waiters.changes();
+            let (answer, may_pass) = self.begin_once(rt, owner, &plan);
+            if !may_pass {
+                return answer;
+            }
+            self.pool.waiters.rest(rt, &backoff, changes);
+        }
+        unreachable!()
+    }
+
+    // Begins a transaction where it is not throttled, and answers too whether a later try may pass.
+    fn begin_once<'a, 'b, W: Wait>(
+        &'a mut self,
+        rt: &'b W,
+        owner: Owner,
+        plan: &Plan,
+    ) -> (Admitted, bool)
+        ensures made { Makes (step.Begin owner plan.now) (begin_reply result.0) self.old self.new }
+        ensures again { result.1 ≡ true → result.0 ≡ Err error.Throttled }
+        ensures for_good { result.1 ≡ false → IfErr result.0 (λ e. e ≡ PoolError.Throttled
+            → IsThrottledForGood plan.now (state_seen self.new)) }
+    {
+        let guard = self.seat.acquire(rt, &self.pool.lock);
+        let (answer, is_above_limit) = begin_guarded(guard, owner, plan);
+        let may_pass = may_pass(&answer, is_above_limit);
+        (answer, may_pass)
+    }
+
     // Locks a range of an object where it is not busy.
     fn lock_once<'a, 'b, W: Wait>(
         &'a mut self,
@@ -118,5 +170,16 @@ fn is_busy<T>(answer: &Result<T, PoolError>) -> bool
     match answer {
         Ok(_) => false,
         Err(error) => *error == PoolError::Busy,
+    }
+}
+
+// Whether a begin with this answer may pass later: it was throttled, and its charge alone is not above the limit.
+fn may_pass(answer: &Admitted, is_above_limit: bool) -> bool
+    ensures again { result ≡ true → answer.now ≡ Err error.Throttled }
+    ensures done { result ≡ false → answer.now ≡ Err error.Throttled → is_above_limit ≡ true }
+{
+    match answer {
+        Err(PoolError::Throttled) => !is_above_limit,
+        _ => false,
     }
 }

@@ -1,0 +1,30 @@
+-- How a pool ends.
+use Rattle.std.proofs.Common.{◌≡◌, ◌∙◌, ◌∷◌, [], ℕ, List, sym, subst, true}
+use Rattle.std.specs.Prelude.{IsTrue}
+use Rattle.std.proofs.Math.Logic.{∥∥₁_map}
+use Rattle.device_model.specs.declared.device.SectorDevice.{Ghosts}
+use Rattle.pool_core.specs.declared.state.PoolState.{PoolState}
+use Rattle.pool_core.specs.KeptSafe.{on_disk}
+use Rattle.pool_core.specs.States.{shown}
+use Rattle.pool_core.proofs.SafeMoments.{kept_own, kept_safe}
+use Rattle.pool_threads.specs.declared.pool.Pool.{Pool}
+use Rattle.pool_threads.specs.Handles.{EndsIn, opening_view}
+use Rattle.pool_threads.specs.Views.{Explains, GrowsTo, View, grows_onward, grows_same}
+use Rattle.word_lock.specs.declared.rule.Turn.{Turn}
+use Rattle.word_lock.specs.Turns.{IsTurnLine}
+
+module _ {Dev : Type 0} {G : Ghosts Dev} (p : Pool Dev G) (s : PoolState Dev G) where
+  pub ends_in : (v : View) → Explains s v → GrowsTo (opening_view p) v → EndsIn p s v
+  ends_in v x onward = record {
+    explains = x;
+    onward = onward;
+    cuts = λ keeps followed. ∥∥₁_map (x.safe keeps (onward.rule ∙ followed)) (λ k. record {
+      safe = kept_safe (on_disk s v.past) k;
+      left = ((shown s).guid, kept_own (on_disk s v.past) k);
+    });
+  }
+
+-- turns that lead from one view to another go on from it
+pub line_grows : (v : View) (ts : List (ℕ × Turn View)) (w : View) → IsTurnLine GrowsTo v ts w → GrowsTo v w
+line_grows v [] w same = subst (GrowsTo v) (sym same) (grows_same v)
+line_grows v (t ∷ ts) w (took, onward, rest) = grows_onward _ _ _ onward (line_grows t.1.left ts w rest)

@@ -1,0 +1,34 @@
+-- A plan of a fault, which no view shows.
+use Rattle.std.proofs.Common.{◌≡◌, ◌∙◌, ◌++◌, ◌∷◌, [], List, ap, sym, subst}
+use Rattle.std.proofs.Math.Logic.{∥∥₁_map}
+use Rattle.base.specs.history.Past.{Past}
+use Rattle.base.specs.steps.ExactNow.{IsExplainedNow}
+use Rattle.base.specs.stored.Stored.{IsHeld}
+use Rattle.device_model.specs.declared.device.SectorDevice.{Ghosts}
+use Rattle.pool_core.specs.declared.state.PoolState.{PoolState}
+use Rattle.pool_core.specs.Holds.{Told, held_with, state_with}
+use Rattle.pool_core.specs.KeptSafe.{IsKeptSafe, OnDisk, on_disk}
+use Rattle.pool_core.specs.States.{told}
+use Rattle.pool_threads.specs.declared.handle.Handle.{Handle}
+use Rattle.pool_threads.specs.Handles.{HasLooked, IsOfSamePool, turns_of, view_seen}
+use Rattle.pool_threads.specs.Views.{Explains, GrowsTo, View}
+use Rattle.word_lock.specs.declared.rule.Turn.{Turn}
+use Rattle.word_lock.specs.Turns.{turn}
+
+module _ {Dev : Type 0} {G : Ghosts Dev} (old new : PoolState Dev G) (same : told new ≡ told old) (disk : on_disk new ≡ on_disk old) (v : View) where
+  pub explained_still : Explains old v → Explains new v
+  explained_still x = record {
+    state = x.state ∙ ap (λ (t : Told). state_with t v.past) (sym same);
+    explained = subst (λ (t : Told). ∥ IsExplainedNow t.shown v.past ∥₁) (sym same) x.explained;
+    held = λ keeps. subst (λ (t : Told). ∥ IsHeld (held_with t v.past) ∥₁) (sym same) (x.held keeps);
+    safe = λ keeps rule. subst (λ (d : Past → OnDisk). ∥ IsKeptSafe (d v.past) ∥₁) (sym disk) (x.safe keeps rule);
+  }
+
+-- from the handle before it has the lock, over the turns and the view of its seat that has it, to the handle after
+module _ {Dev : Type 0} {G : Ghosts Dev} (old new : Handle Dev G) (ts : List (Turn View)) (v : View) where
+  pub looked_by : IsOfSamePool old new → ts ≡ turns_of old → GrowsTo (view_seen old) v → view_seen new ≡ v → turns_of new ≡ ts ++ turn v (view_seen new) ∷ [] → HasLooked old new
+  looked_by pool same onward still turned = record {
+    same_pool = pool;
+    onward = subst (GrowsTo (view_seen old)) (sym still) onward;
+    turn = turned ∙ ap (λ (us : List (Turn View)). us ++ turn v (view_seen new) ∷ []) same ∙ ap (λ (w : View). turns_of old ++ turn w (view_seen new) ∷ []) (sym still);
+  }

@@ -1,0 +1,10 @@
+use Rattle.std.proofs.Common.{◌∙◌, sym, subst}
+use Rattle.pool_threads.specs.Views.{Explains}
+use Rattle.pool_threads.proofs.Looked.{looked_by}
+use Rattle.pool_threads.proofs.calls.Handle+MemDevice.fail.Goals as goal
+
+pub returns : goal.returns
+returns g c =
+    let held = c.acquire-guard.ensures.held in
+    let done = c.fail_guarded.ensures in
+    looked_by _ _ _ _ (done.same.0.0 ∙ c.acquire-guard.ensures.same.0) held.1 held.2 done.seen done.turn

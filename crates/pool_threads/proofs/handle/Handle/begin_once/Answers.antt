@@ -1,0 +1,23 @@
+use Rattle.std.proofs.Common.{sym, subst, ◌∙◌}
+use Rattle.pool_threads.proofs.Limits.{ends_for_good}
+use Rattle.pool_threads.proofs.Made.{made_by}
+use Rattle.pool_threads.specs.Views.{Explains, state_of}
+use Rattle.word_lock.specs.Seats.{seen}
+use Rattle.pool_threads.proofs.handle.Handle.begin_once.Goals as goal
+
+pub begin_guarded-answer-requires-clause-explains : goal.begin_guarded-answer-requires-clause-explains
+begin_guarded-answer-requires-clause-explains g c =
+    let held = c.acquire-guard.ensures.held in
+    subst (λ v. Explains c.acquire-guard.result.held.value.value v) (sym c.acquire-guard.ensures.view) held.3
+
+pub returns-clause-made : goal.returns-clause-made
+returns-clause-made g c =
+    let held = c.acquire-guard.ensures.held in
+    let done = c.begin_guarded-answer.ensures in
+    record {
+      same_pool = done.same.0.0 ∙ c.acquire-guard.ensures.same.0;
+      made = made_by _ _ _ c.args.self.now.seat c.acquire-guard.result.seat.now c.begin_guarded-answer.new.guard.0 held.1 held.2 done.stepped done.turn;
+    }
+
+pub returns-clause-for_good : goal.returns-clause-for_good
+returns-clause-for_good g c = λ ends. ends_for_good _ c.args.plan.now (state_of (seen c.begin_guarded-answer.new.guard.0)) c.begin_guarded-answer.result.0 c.begin_guarded-answer.ensures.above (c.may_pass-may_pass.ensures.done ends)

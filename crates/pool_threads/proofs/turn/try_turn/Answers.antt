@@ -1,0 +1,10 @@
+use Rattle.std.proofs.Common.{rules, sym, subst}
+use Rattle.pool_threads.proofs.Made.{made_by, made_there}
+use Rattle.pool_threads.specs.Views.{Explains}
+use Rattle.pool_threads.proofs.turn.try_turn.Goals as goal
+
+pub returns-clause-made : goal.returns-clause-made
+returns-clause-made g c =
+    let held = c.in-Some.ensures.held in
+    let done = c.step_guarded.ensures in
+    made_there _ _ _ _ (search rules) (made_by _ _ _ c.args.seat.now c.in-Some.guard.seat.now c.step_guarded.new.guard.0 held.1 held.2 done.stepped done.turn)

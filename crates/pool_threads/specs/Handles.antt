@@ -1,0 +1,125 @@
+-- What contracts say of a pool under its lock, and of its handles.
+use Rattle.std.specs.Prelude.{ℕ, ◌≡◌, ◌++◌, Bool, true, IsTrue, List, [], ◌∷◌}
+use Rattle.base.specs.disk.Disk.{Disk}
+use Rattle.base.specs.history.Past.{Past, new_past}
+use Rattle.base.specs.steps.Explains.{AreSafe, IsLeftBy}
+use Rattle.device_model.specs.declared.device.SectorDevice.{Ghosts}
+use Rattle.pool_core.specs.declared.state.PoolState.{PoolState}
+use Rattle.pool_core.specs.KeptSafe.{disk_of}
+use Rattle.pool_threads.specs.declared.handle.Handle.{Handle}
+use Rattle.pool_threads.specs.declared.handle.LastSeen.{LastSeen}
+use Rattle.pool_threads.specs.declared.pool.Pool.{Pool}
+use Rattle.pool_threads.specs.Views.{Explains, GrowsTo, View}
+use Rattle.round_trip.specs.Crashes.{IsLeft}
+use Rattle.word_lock.specs.declared.rule.Turn.{Turn}
+use Rattle.word_lock.specs.Seats.{IsAsBefore, lock_table, opening, seat_number, seat_table, seen, turns}
+use Rattle.word_lock.specs.Turns.{IsTurnHistory, turn}
+
+module _ {Dev : Type 0} {G : Ghosts Dev} where
+  -- the view with which the pool was shared
+  abbrev pub opening_view : Pool Dev G → View
+  opening_view p = opening p.lock
+
+  -- what the handle has seen
+  abbrev pub view_seen : Handle Dev G → View
+  view_seen h = seen h.seat
+
+  -- the turns that the handle has had, the latest last
+  abbrev pub turns_of : Handle Dev G → List (Turn View)
+  turns_of h = turns h.seat
+
+  -- the moment of the syncs that the handle starts
+  abbrev pub moment_of : Handle Dev G → ℕ
+  moment_of h = h.pool.now.moment
+
+  -- the handle is one of this pool
+  abbrev pub IsOf : Pool Dev G → Handle Dev G → Type 0
+  IsOf p h = seat_table h.seat ≡ lock_table p.lock
+
+  -- both handles are of one pool
+  abbrev pub IsOfSamePool : Handle Dev G → Handle Dev G → Type 0
+  IsOfSamePool h g = seat_table g.seat ≡ seat_table h.seat
+
+  -- nothing of the handle has changed
+  abbrev pub IsUnchanged : Handle Dev G → Handle Dev G → Type 0
+  IsUnchanged h g = IsAsBefore h.seat g.seat
+
+  -- a handle of this pool that has had no turn, and has seen at least what the pool was shared with
+  pub record IsNewHandle (p : Pool Dev G) (h : Handle Dev G) : Type 0 where
+    pub of : IsOf p h
+    pub onward : GrowsTo (opening_view p) (view_seen h)
+    pub no_turn : turns_of h ≡ []
+
+  -- the handle is of the same pool, has seen the same and had the same turns
+  pub record IsStill (old new : Handle Dev G) : Type 0 where
+    pub same_pool : IsOfSamePool old new
+    pub seen : view_seen new ≡ view_seen old
+    pub turns : turns_of new ≡ turns_of old
+
+  -- another handle of the same pool, which has seen the same and had no turn
+  pub record IsSplitOff (old other : Handle Dev G) : Type 0 where
+    pub same_pool : IsOfSamePool old other
+    pub seen : view_seen other ≡ view_seen old
+    pub no_turn : turns_of other ≡ []
+
+  -- the handle has seen what both had seen, and had no other turn
+  pub record HasJoined (old added new : Handle Dev G) : Type 0 where
+    pub same_pool : IsOfSamePool old new
+    pub own : GrowsTo (view_seen old) (view_seen new)
+    pub other : GrowsTo (view_seen added) (view_seen new)
+    pub turns : turns_of new ≡ turns_of old
+
+  -- In one turn and no other the handle left what it saw as it was.
+  pub record HasLooked (old new : Handle Dev G) : Type 0 where
+    pub same_pool : IsOfSamePool old new
+    pub onward : GrowsTo (view_seen old) (view_seen new)
+    pub turn : turns_of new ≡ turns_of old ++ turn (view_seen new) (view_seen new) ∷ []
+
+  -- what a handle had seen as it left its pool, and the turns that it had had
+  abbrev pub IsLeftBehind : Handle Dev G → LastSeen Dev G → Type 0
+  IsLeftBehind h l = l.seat ≡ h.seat
+
+  -- that handle was one of this pool
+  abbrev pub WasOf : Pool Dev G → LastSeen Dev G → Type 0
+  WasOf p l = seat_table l.seat ≡ lock_table p.lock
+
+  -- every fair image that a crash now may leave of the state's disk mounts the replay of a conflict-closed cut of the entries of this past with every
+  -- acknowledged one; and a run with this past left the disk, so a later run goes on from there
+  pub record LeavesCuts (s : PoolState Dev G) (past : Past) : Type 0 where
+    pub safe : AreSafe (disk_of s) past
+    pub left : IsLeft past (disk_of s)
+
+  -- The view explains the state, and goes on from the one with which the pool was shared. Where the crash rule was followed, over a device that keeps
+  -- the model, the state leaves cuts of its past.
+  pub record EndsIn (p : Pool Dev G) (s : PoolState Dev G) (v : View) : Type 0 where
+    pub explains : Explains s v
+    pub onward : GrowsTo (opening_view p) v
+    pub cuts : IsTrue G.keeps_model → (opening_view p).crash_rule ≡ true → ∥ LeavesCuts s v.past ∥₁
+
+  -- a pool ended in this state
+  abbrev pub IsLaterState : Pool Dev G → PoolState Dev G → Type 0
+  IsLaterState p s = (v : View) × EndsIn p s v
+
+  -- A pool ended in this state, behind what a handle had seen: the turns of all handles lead to the last view, and those of this handle among
+  -- them are just the ones that it knows of.
+  pub record IsLastState (p : Pool Dev G) (l : LastSeen Dev G) (s : PoolState Dev G) : Type 0 where
+    pub last : View
+    pub ends : EndsIn p s last
+    pub onward : GrowsTo (seen l.seat) last
+    pub history : IsTurnHistory GrowsTo (opening_view p) (seat_number l.seat) (turns l.seat) last
+
+-- the past of the run that left a disk, and whether the crash rule is to be followed from there on
+pub record EarlierRun : Type 0 where
+  pub past : Past
+  pub crash_rule : Bool
+
+-- where it is to be followed, over a device that keeps the model, the run with this past left the disk
+abbrev pub HasLeft : EarlierRun → (keeps : Type 0) → Disk → Type 0
+HasLeft run keeps disk = run.crash_rule ≡ true → keeps → IsLeft run.past disk
+
+-- The view of a pool as it is imported behind an earlier run: nothing happened since, and where the crash rule is followed its contents are what
+-- the earlier run left: the replay of a cut of its entries with every acknowledged one.
+pub record OpensBehind (run : EarlierRun) (keeps : Type 0) (dirty_max : ℕ) (v : View) : Type 0 where
+  pub rule : v.crash_rule ≡ run.crash_rule
+  pub anew : v.past ≡ new_past v.past.base run.past.created dirty_max
+  pub left : keeps → run.crash_rule ≡ true → IsLeftBy run.past v.past.base
