@@ -9,6 +9,7 @@ use Rattle.base.specs.declared.step.Reply as declared_reply
 use Rattle.base.specs.declared.step.Reply.TheVariants.{More}
 use Rattle.base.specs.crash.CrashRule.{KeepsOwn}
 use Rattle.base.specs.declared.names.TxId.{TxId}
+use Rattle.base.specs.declared.operation.Op.{Op}
 use Rattle.base.specs.declared.piece.Piece.{Piece}
 use Rattle.base.specs.disk.Crashes.{crash_image}
 use Rattle.base.specs.disk.Disk.{Disk, MayLeave, disk_size}
@@ -37,9 +38,9 @@ use Rattle.scripts.specs.declared.session.Session.{Session}
 use Rattle.base.specs.history.Past.{Past}
 use Rattle.pool_core.specs.KeptSafe.{IsKeptSafe, IsSafeStep, OnDisk, on_disk}
 use Rattle.scripts.specs.Kept.{BeginsKept, BeginsRun, FindsLeft, GoesOnSafely, IsFairCrash, IsKeptIn, IsMadeSafely, KeepsCuts}
-use Rattle.scripts.specs.Pools.{IsStepOf, MemPool}
+use Rattle.scripts.specs.Pools.{IsStepOf, MemPool, plan_of}
 use Rattle.scripts.specs.Sessions.{AsksIn}
-use Rattle.scripts.specs.PoolSteps.{Asks, CommitsWords, Finishes, MakesSteps, Syncs, Then}
+use Rattle.scripts.specs.PoolSteps.{Asks, CommitsOps, Finishes, MakesSteps, Syncs, Then}
 use Rattle.scripts.specs.declared.command.PoolCommand.{PoolCommand}
 use Rattle.scripts.specs.declared.command.PoolCommand.TheVariants as command
 
@@ -75,7 +76,7 @@ both_made old middle new past made more =
       kept = rest.kept;
     }
 
-steps_made : (count : ℕ) (old new : MemPool) (past : Past) → MakesSteps count old new → IsKeptSafe (on_disk old past) → IsMadeSafely old new past
+steps_made : (count : ℕ) (old new : MemPool) (past : Past) → MakesSteps IsStepOf count old new → IsKeptSafe (on_disk old past) → IsMadeSafely old new past
 steps_made zero old new past same kept = none_made old new past same kept
 steps_made (suc count) old new past (middle, so, next) kept =
     both_made old middle new past (steps_made count old middle past so kept) (λ later then_kept. one_made step.SyncStep More middle new later next then_kept)
@@ -85,30 +86,30 @@ last_made : (reply : declared_reply.Reply) (count : ℕ) (old new : MemPool) (pa
 last_made reply count old new past (inl (made, other)) kept = one_made step.SyncStep reply old new past made kept
 last_made reply count old new past (inr (all, same)) kept = none_made old new past same kept
 
-finish_made : (reply : declared_reply.Reply) (old new : MemPool) (past : Past) → Finishes reply old new → IsKeptSafe (on_disk old past) → IsMadeSafely old new past
+finish_made : (reply : declared_reply.Reply) (old new : MemPool) (past : Past) → Finishes IsStepOf reply old new → IsKeptSafe (on_disk old past) → IsMadeSafely old new past
 finish_made reply old new past f kept = both_made old f.middle new past (steps_made f.count old f.middle past f.steps kept) (λ later then_kept. last_made reply f.count f.middle new later f.last then_kept)
 
 -- what is made safely of each pool behind the step is so behind it
 abbrev MadeBy : (declared_reply.Reply → MemPool → MemPool → Type 0) → Type 0
 MadeBy Next = (reply : declared_reply.Reply) (old new : MemPool) (past : Past) → Next reply old new → IsKeptSafe (on_disk old past) → IsMadeSafely old new past
 
-then_made : (first : declared_step.Step) (Next : declared_reply.Reply → MemPool → MemPool → Type 0) → MadeBy Next → MadeBy (Then first Next)
+then_made : (first : declared_step.Step) (Next : declared_reply.Reply → MemPool → MemPool → Type 0) → MadeBy Next → MadeBy (Then IsStepOf first Next)
 then_made first Next next reply old new past (inl (made, refused)) kept = one_made first reply old new past made kept
 then_made first Next next reply old new past (inr (given, middle, made, passed, rest)) kept =
     both_made old middle new past (one_made first given old middle past made kept) (λ later then_kept. next reply middle new later rest then_kept)
 
-commit_made : (tx : TxId) (contents : List (List ℕ)) (reply : declared_reply.Reply) (old new : MemPool) (past : Past) → CommitsWords tx contents reply old new → IsKeptSafe (on_disk old past)
+commit_made : (tx : TxId) (ops : List Op) (reply : declared_reply.Reply) (old new : MemPool) (past : Past) → CommitsOps IsStepOf tx ops reply old new → IsKeptSafe (on_disk old past)
     → IsMadeSafely old new past
-commit_made tx contents reply old new past (inl made) kept = one_made _ reply old new past made kept
-commit_made tx contents reply old new past (inr none) kept = none_made old new past none.1 kept
+commit_made tx ops reply old new past (inl made) kept = one_made _ reply old new past made kept
+commit_made tx ops reply old new past (inr none) kept = none_made old new past none.1 kept
 
-pub asked_safely : (asked : PoolCommand) (moment : ℕ) (reply : declared_reply.Reply) (old new : MemPool) (past : Past) → Asks asked moment reply old new → IsKeptSafe (on_disk old past)
+pub asked_safely : (asked : PoolCommand) (moment : ℕ) (reply : declared_reply.Reply) (old new : MemPool) (past : Past) → Asks IsStepOf plan_of asked moment reply old new → IsKeptSafe (on_disk old past)
     → IsMadeSafely old new past
-asked_safely (command.Commit tx contents) moment reply old new past made kept = commit_made tx contents.items reply old new past made kept
+asked_safely (command.Commit tx contents) moment reply old new past made kept = commit_made tx _ reply old new past made kept
 asked_safely command.Start moment reply old new past made kept = one_made _ reply old new past made kept
 asked_safely command.Finish moment reply old new past made kept = finish_made reply old new past made kept
 asked_safely command.Sync moment reply old new past made kept =
-    then_made step.CloseGroup _ (then_made step.MarkQuiesced _ (then_made (step.StartSync moment) Finishes finish_made)) reply old new past made kept
+    then_made step.CloseGroup _ (then_made step.MarkQuiesced _ (then_made (step.StartSync moment) (Finishes IsStepOf) finish_made)) reply old new past made kept
 asked_safely (command.Step s) moment reply old new past made kept = one_made s reply old new past made kept
 
 pub asked_in : (asked : PoolCommand) (moment : ℕ) (told : Answer) (old new : Place) (past : Past) → AsksIn asked moment old told new → IsKeptIn past old → GoesOnSafely old new past

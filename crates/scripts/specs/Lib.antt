@@ -5,6 +5,7 @@ pub mod Endings
 pub mod Fillings
 pub mod Kept
 pub mod Letters
+pub mod Lines
 pub mod Numbers
 pub mod Places
 pub mod PoolSteps

@@ -1,7 +1,5 @@
--- What a command needs of a session, does in it and leaves of it, and so a line.
-use Rattle.std.specs.Prelude.{ℕ, ◌≡◌, ◌⊎◌, Bool, true, false, List, Result, Ok, Err, IfSome, IsTrue}
-use Rattle.base.specs.declared.error.PoolError.TheVariants.{NoMemory}
-use Rattle.base.specs.declared.step.Reply.TheVariants.{Refused}
+-- What a command needs of a session, does in it and leaves of it.
+use Rattle.std.specs.Prelude.{ℕ, ◌≡◌, Bool, true, false, List, Result, Ok, Err, IfSome, IsOk, IsTrue, is_ok}
 use Rattle.scripts.specs.declared.answer.Answer.{Answer}
 use Rattle.scripts.specs.declared.answer.Answer.TheVariants as answer
 use Rattle.scripts.specs.declared.command.Command.{Command}
@@ -11,11 +9,11 @@ use Rattle.scripts.specs.declared.session.BadCommand.{BadCommand}
 use Rattle.scripts.specs.declared.session.Place.{Place}
 use Rattle.scripts.specs.declared.session.Place.TheVariants.{Nothing, Pool}
 use Rattle.scripts.specs.declared.session.Session.{Session}
-use Rattle.scripts.specs.Commands.{ReadsLine}
 use Rattle.scripts.specs.Devices.{Creates, Imports}
 use Rattle.scripts.specs.Kept.{KeepsCuts}
-use Rattle.scripts.specs.Places.{Crashes, PlansFault, device_in, has_device, has_pool}
+use Rattle.scripts.specs.Places.{Crashes, PlansFault, device_in, has_device, has_pool, is_crash}
 use Rattle.scripts.specs.PoolSteps.{Asks}
+use Rattle.scripts.specs.Pools.{IsStepOf, plan_of}
 
 -- a session with no device yet, whose new devices have this size, and whose uberblocks this moment
 pub record IsNewSession (size moment : ℕ) (s : Session) : Type 0 where
@@ -45,7 +43,7 @@ Leaves (command.Pool asked) old told new = has_pool new.place ≡ has_pool old.p
 
 -- the pool that is there is asked, with the moment of its syncs, and replies
 abbrev pub AsksIn : PoolCommand → ℕ → Place → Answer → Place → Type 0
-AsksIn asked moment (Pool old) (answer.Reply reply) (Pool new) = Asks asked moment reply old new
+AsksIn asked moment (Pool old) (answer.Reply reply) (Pool new) = Asks IsStepOf plan_of asked moment reply old new
 AsksIn asked moment old told new = ⊥
 
 -- what a command does that is answered, and a crash and a plan to fail also where they are none
@@ -57,7 +55,11 @@ Does (command.Fail fault n) s told new = PlansFault fault n s.place told new.pla
 Does (command.Pool asked) s (Ok told) new = AsksIn asked s.moment s.place told new.place
 Does asked s (Err e) new = Unit {0}
 
--- What a line asks for is done and answered, and what is kept of the pool is kept. For want of memory it is refused, and the session is as it was.
-abbrev pub RunsLine : List ℕ → Session → Answer → Session → Type 0
-RunsLine line old told new = ((told ≡ answer.Reply (Refused NoMemory)) × (new ≡ old))
-    ⊎ ((asked : Command) × ReadsLine line (Ok asked) × Does asked old (Ok told) new × KeepsCuts asked old (Ok told) new)
+-- A command is answered where the session has what it needs. It does what it asks for, and what is kept of the pool is kept.
+pub record Runs (asked : Command) (old : Session) (told : Result Answer BadCommand) (new : Session) : Type 0 where
+  pub needs : IsOk told → IsTrue (has_what_it_needs asked old)
+  pub answered : is_crash asked ≡ false → is_ok told ≡ has_what_it_needs asked old
+  pub left : Leaves asked old told new
+  pub done : Does asked old told new
+  pub kept : KeepsCuts asked old told new
+  pub same_run : IsSameRun old new

@@ -3,6 +3,8 @@
 ghost use Rattle.std.specs.Prelude.{◌≡◌};
 
 use base::{Bytes, Group, PoolError, PoolName, Reply, Status};
+use device_model::MemDevice;
+use import_replay::Imported;
 use std::fmt;
 
 /// The answer to a command, one line of text.
@@ -21,6 +23,20 @@ pub enum Answer {
 }
 
 impl Answer {
+    ghost use Rattle.scripts.specs.Devices.{imported_answer};
+
+    /// What is told of an imported pool: the group that its import synced, the open one behind it, and its log records.
+    pub fn imported(imported: &Imported<MemDevice>) -> Answer
+        ensures { result ≡ imported_answer imported.now.mounted }
+    {
+        let synced = imported.group();
+        Answer::Imported {
+            synced,
+            open: Group(synced.0.saturating_add(1)),
+            records: imported.records(),
+        }
+    }
+
     /// The answer that a command is refused.
     pub fn refused(error: PoolError) -> Answer
         ensures { result ≡ Answer.Reply (Reply.Refused error) }

@@ -1,61 +1,53 @@
-//! What a command makes a pool do. Each goes through `PoolState::step`.
+//! What a command makes a pool do. Whatever changes the pool goes through `SteppedPool::step`.
 
 ghost use Rattle.std.specs.Prelude.{◌≡◌, [], drop, unwrap_or, IfOk};
 ghost use Rattle.std.specs.Vec.Iter.{into_iter_items};
 ghost use Rattle.scripts.specs.Fillings.{op_of, ops_of, taken_by};
-ghost use Rattle.scripts.specs.Pools.{IsStepOf};
 ghost use Rattle.scripts.specs.PoolSteps as asked;
-ghost use Rattle.scripts.specs.PoolSteps.{Asks, CommitsWords, Finishes, Syncs, ops_for};
+ghost use Rattle.scripts.specs.PoolSteps.{Asks, CommitsOps, Finishes, Syncs, ops_for};
 
 use crate::command::PoolCommand;
+use crate::stepped_pool::SteppedPool;
 use base::{Bytes, Op, Ops, PoolError, Reply, Shape, Step, TxId};
-use device_model::MemDevice;
-use pool_core::PoolState;
 use std::alloc::{AllocError, Global};
 use std::vec::IntoIter;
 
 /// Does on a pool what a command asks for. Each sync that it starts has this moment.
-pub fn run(
+pub fn run_pool_command<P: SteppedPool>(
     alloc: Global,
-    pool: &mut PoolState<MemDevice>,
+    pool: &mut P,
     moment: u64,
     command: PoolCommand,
 ) -> Reply
-    ensures { Asks command moment result pool.old pool.new }
+    ensures { Asks P.makes P.plan_in command moment result pool.old pool.new }
 {
     match command {
         PoolCommand::Commit(tx, contents) => commit(alloc, pool, tx, contents),
-        PoolCommand::Start => make_step(pool, Step::StartSync(moment)),
+        PoolCommand::Start => pool.step(Step::StartSync(moment)),
         PoolCommand::Finish => finish(pool),
         PoolCommand::Sync => sync(pool, moment),
-        PoolCommand::Step(step) => make_step(pool, step),
+        PoolCommand::Step(step) => pool.step(step),
     }
-}
-
-// Makes one step. Whatever changes the pool goes through here.
-fn make_step(pool: &mut PoolState<MemDevice>, step: Step) -> Reply
-    ensures { IsStepOf step result pool.old pool.new }
-{
-    pool.step(step)
 }
 
 // Commits with the bytes that the script gives. Where there is no such transaction, or they are not one for each write and
 // set name of its plan, the pool is given no operations, which no plan has, so that it refuses them in its own order.
-fn commit(alloc: Global, pool: &mut PoolState<MemDevice>, tx: TxId, contents: Vec<Bytes>) -> Reply
-    ensures { CommitsWords tx contents.items result pool.old pool.new }
+fn commit<P: SteppedPool>(alloc: Global, pool: &mut P, tx: TxId, contents: Vec<Bytes>) -> Reply
+    ensures { CommitsOps P.makes tx (ops_for contents.items (P.plan_in tx pool.old))
+        result pool.old pool.new }
 {
     match make_ops(alloc, pool, tx, contents) {
-        Ok(ops) => make_step(pool, Step::Commit(tx, ops)),
+        Ok(ops) => pool.step(Step::Commit(tx, ops)),
         Err(_) => Reply::Refused(PoolError::NoMemory),
     }
 }
 
 // Takes the sync's steps until its group is synced.
-fn finish(pool: &mut PoolState<MemDevice>) -> Reply
-    ensures { Finishes result pool.old pool.new }
+fn finish<P: SteppedPool>(pool: &mut P) -> Reply
+    ensures { Finishes P.makes result pool.old pool.new }
 {
     for _step in 0..u64::MAX {
-        match make_step(pool, Step::SyncStep) {
+        match pool.step(Step::SyncStep) {
             Reply::More => {}
             reply => return reply,
         }
@@ -63,18 +55,18 @@ fn finish(pool: &mut PoolState<MemDevice>) -> Reply
     Reply::More
 }
 
-fn sync(pool: &mut PoolState<MemDevice>, moment: u64) -> Reply
-    ensures { Syncs moment result pool.old pool.new }
+fn sync<P: SteppedPool>(pool: &mut P, moment: u64) -> Reply
+    ensures { Syncs P.makes moment result pool.old pool.new }
 {
-    let closed = make_step(pool, Step::CloseGroup);
+    let closed = pool.step(Step::CloseGroup);
     if is_refused(&closed) {
         return closed;
     }
-    let quiesced = make_step(pool, Step::MarkQuiesced);
+    let quiesced = pool.step(Step::MarkQuiesced);
     if is_refused(&quiesced) {
         return quiesced;
     }
-    let started = make_step(pool, Step::StartSync(moment));
+    let started = pool.step(Step::StartSync(moment));
     if is_refused(&started) {
         return started;
     }
@@ -88,13 +80,13 @@ fn is_refused(reply: &Reply) -> bool
 }
 
 // The operations of a transaction's plan with these bytes.
-fn make_ops(
+fn make_ops<P: SteppedPool>(
     alloc: Global,
-    pool: &PoolState<MemDevice>,
+    pool: &P,
     tx: TxId,
     contents: Vec<Bytes>,
 ) -> Result<Ops, AllocError>
-    ensures { IfOk result (λ ops. ops ≡ ops_for tx.0 contents.items pool.now) }
+    ensures { IfOk result (λ ops. ops ≡ ops_for contents.items (P.plan_in tx pool.now)) }
 {
     match pool.open_plan(tx) {
         Some(plan) => fill_plan(alloc, plan.as_slice(), contents),

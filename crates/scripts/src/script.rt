@@ -3,10 +3,11 @@
 ghost use Rattle.std.specs.Prelude.{◌≡◌, ◌≢◌, ◌≤◌, ◌↔◌, IfOk, IfSome, IsTrue, None, Ok};
 ghost use Rattle.scripts.specs.Endings.{status_number};
 ghost use Rattle.scripts.specs.Letters.{is_silent};
-ghost use Rattle.scripts.specs.Sessions.{RunsLine};
+ghost use Rattle.scripts.specs.Lines.{RunsLine};
 
 use crate::answer::Answer;
 use crate::command::{LineError, parse_command};
+use crate::command_runner::CommandRunner;
 use crate::session::{BadCommand, Session};
 use base::PoolError;
 use std::alloc::Global;
@@ -53,18 +54,26 @@ pub fn run_script<R: Read + Drop, W: Write + Drop>(
     ensures range { result ≤ 3 }
     ensures no_refusal { result ≢ 1 }
 {
+    run_script_on(alloc, &mut Session::new(alloc, size, moment), script, out)
+}
+
+/// Runs a script as `run_script` does, with its commands done by this session, which may have done others before.
+pub fn run_script_on<S: CommandRunner, R: Read + Drop, W: Write + Drop>(
+    alloc: Global,
+    session: &mut S,
+    script: R,
+    out: W,
+) -> u8
+    ensures range { result ≤ 3 }
+    ensures no_refusal { result ≢ 1 }
+{
     let Ok(mut reader) = BufReader::new(alloc, script) else {
         return status_of(Ending::Failed);
     };
     let Ok(mut writer) = BufWriter::new(alloc, out) else {
         return status_of(Ending::Failed);
     };
-    let ending = match run_lines(
-        alloc,
-        &mut Session::new(alloc, size, moment),
-        &mut reader,
-        &mut writer,
-    ) {
+    let ending = match run_lines(alloc, session, &mut reader, &mut writer) {
         Ok(ending) => ending,
         Err(_) => Ending::Failed,
     };
@@ -73,9 +82,9 @@ pub fn run_script<R: Read + Drop, W: Write + Drop>(
     status_of(ending)
 }
 
-fn run_lines<R: BufRead, W: Write>(
+fn run_lines<S: CommandRunner, R: BufRead, W: Write>(
     alloc: Global,
-    session: &mut Session,
+    session: &mut S,
     script: &mut R,
     out: &mut W,
 ) -> io::Result<Ending> {
@@ -114,11 +123,15 @@ fn prints_nothing(line: &[u8]) -> bool
 }
 
 // The answer to a line, if it has one.
-fn run_line(alloc: Global, session: &mut Session, line: &[u8]) -> Result<Option<Answer>, BadCommand>
+fn run_line<S: CommandRunner>(
+    alloc: Global,
+    session: &mut S,
+    line: &[u8],
+) -> Result<Option<Answer>, BadCommand>
     ensures silent { result ≡ Ok None ↔ IsTrue (is_silent line.now) }
     ensures unchanged { IsTrue (is_silent line.now) → session.new ≡ session.old }
     ensures answered { IfOk result (λ told.
-        IfSome told (λ answer. RunsLine line.now session.old answer session.new)) }
+        IfSome told (λ answer. RunsLine S.runs line.now session.old answer session.new)) }
 {
     if prints_nothing(line) {
         return Ok(None);

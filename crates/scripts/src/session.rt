@@ -9,17 +9,15 @@ ghost use Rattle.import_replay.specs.Creations.{IsCreatedOn};
 
 use crate::answer::Answer;
 use crate::command::{Command, PoolCommand};
-use crate::pool_commands;
-use base::{Bytes, Group, Piece, PoolError, Reply};
+use crate::command_runner::CommandRunner;
+use crate::pool_commands::run_pool_command;
+use base::{Bytes, Piece, PoolError, Reply};
 use device_model::{Fault, MemDevice};
 use import_replay::{Imported, create, import};
-use labels::Geometry;
+use labels::{Geometry, SECTOR_SIZE};
 use pool_core::PoolState;
 use std::alloc::Global;
 use std::mem;
-
-/// The bytes of a sector.
-const SECTOR_SIZE: u64 = 512;
 
 /// A command that needs a device or a pool where there is none, or has more letters than there are writes.
 #[derive(Clone, Copy, Debug, PartialEq, Eq)]
@@ -97,17 +95,6 @@ impl Session {
         }
     }
 
-    // A device of zeros. It is refused `BadGeometry` where no pool may have its size, and `NoMemory`.
-    fn new_device(&self) -> Result<MemDevice, PoolError>
-        ensures device { IfOk result (λ device. device ≡ new_state (self.now.size / 512)) }
-        ensures size { IsErrOf result PoolError.BadGeometry
-            ↔ (is_geometry (512 * (self.now.size / 512)) ≡ false) }
-    {
-        let sectors = self.size / SECTOR_SIZE;
-        let _ = Geometry::of(sectors)?;
-        MemDevice::new(self.alloc, sectors)
-    }
-
     fn take_or_make_device(&mut self) -> Result<MemDevice, PoolError>
         ensures needs { IsErr result → has_device self.old.place ≡ false }
         ensures device { IfOk result (λ device. device ≡ device_for self.old) }
@@ -116,7 +103,7 @@ impl Session {
     {
         match self.take_device() {
             Some(device) => Ok(device),
-            None => self.new_device(),
+            None => new_device(self.alloc, self.size),
         }
     }
 
@@ -177,14 +164,9 @@ impl Session {
         ensures told { result ≡ imported_answer imported.mounted }
         ensures same_run { IsSameRun self.old self.new }
     {
-        let synced = imported.group();
-        let records = imported.records();
+        let answer = Answer::imported(&imported);
         self.place = Place::Pool(PoolState::new(imported));
-        Answer::Imported {
-            synced,
-            open: Group(synced.0.saturating_add(1)),
-            records,
-        }
+        answer
     }
 
     fn crash(&mut self, pieces: &[Piece]) -> Result<Answer, BadCommand>
@@ -239,10 +221,34 @@ impl Session {
     {
         match &mut self.place {
             Place::Pool(pool) => {
-                let reply = pool_commands::run(self.alloc, pool, self.moment, command);
+                let reply = run_pool_command(self.alloc, pool, self.moment, command);
                 Ok(Answer::Reply(reply))
             }
             _ => Err(BadCommand),
         }
     }
+}
+
+impl CommandRunner for Session {
+    ghost use Rattle.scripts.specs.Sessions.{Runs};
+
+    ghost runs = { Runs };
+
+    fn run(&mut self, command: Command) -> Result<Answer, BadCommand> {
+        Session::run(self, command)
+    }
+}
+
+/// A device in memory of zeros, of `size` div 512 sectors.
+///
+/// # Errors
+/// `BadGeometry` where no pool may have its size; `NoMemory`.
+pub fn new_device(alloc: Global, size: u64) -> Result<MemDevice, PoolError>
+    ensures device { IfOk result (λ device. device ≡ new_state (size / 512)) }
+    ensures size { IsErrOf result PoolError.BadGeometry
+        ↔ (is_geometry (512 * (size / 512)) ≡ false) }
+{
+    let sectors = size / SECTOR_SIZE;
+    let _ = Geometry::of(sectors)?;
+    MemDevice::new(alloc, sectors)
 }

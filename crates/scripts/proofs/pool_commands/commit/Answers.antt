@@ -2,4 +2,4 @@ use Rattle.std.proofs.Common.{inl}
 use Rattle.scripts.proofs.pool_commands.commit.Goals as goal
 
 pub returns-in-Ok : goal.returns-in-Ok
-returns-in-Ok c = inl (rw c.in-Ok.ensures at c.make_step.ensures)
+returns-in-Ok g c = inl (rw c.in-Ok.ensures at c.step.ensures)

@@ -3,21 +3,21 @@ use Rattle.scripts.proofs.PoolSteps.{one_more}
 use Rattle.scripts.proofs.pool_commands.finish.Goals as goal
 
 pub loop-step-init : goal.loop-step-init
-loop-step-init c = refl
+loop-step-init g c = refl
 
 pub returns-in_default : goal.returns-in_default
-returns-in_default c = record {
+returns-in_default g c = record {
   count = c.loop-step._step;
   middle = c.loop-step.pool;
   steps = c.loop-step.invariant;
-  last = inl (c.make_step.ensures, c.in_default.not-More);
+  last = inl (c.step.ensures, c.in_default.not-More);
 }
 
 pub loop-step-preserved : goal.loop-step-preserved
-loop-step-preserved c = one_more _ _ _ _ c.loop-step.invariant c.in-More.ensures
+loop-step-preserved g c = one_more g.P.SteppedPool.makes _ _ _ _ c.loop-step.invariant c.in-More.ensures
 
 pub returns : goal.returns
-returns c = record {
+returns g c = record {
   count = c.loop-step._step;
   middle = c.loop-step.pool;
   steps = c.loop-step.invariant;

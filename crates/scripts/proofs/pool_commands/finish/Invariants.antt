@@ -3,4 +3,4 @@ use Rattle.scripts.proofs.pool_commands.finish.Given as goal
 
 -- each step so far had more behind it
 abbrev pub invariant-loop-step : goal.invariant-loop-step
-invariant-loop-step l = MakesSteps l._step l.fn.pool l.pool
+invariant-loop-step g l = MakesSteps g.P.SteppedPool.makes l._step l.fn.pool l.pool
