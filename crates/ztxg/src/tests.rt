@@ -17,7 +17,7 @@ fn tells_of_a_script_that_is_not_opened(rt: HostRuntime) -> Result<(), Fail> {
     let opened: io::Result<&[u8]> = Err(io::Error::from(ErrorKind::NotFound));
     let mut out = Vec::new(rt.alloc());
     let mut errors = Vec::new(rt.alloc());
-    let status = run_opened(rt.alloc(), arguments, opened, &mut out, &mut errors);
+    let status = run_opened(&rt, arguments, opened, &mut out, &mut errors);
     assert_eq!(rt; status, 3);
     assert!(rt; out.is_empty());
     assert!(rt; errors.as_slice() == b"ztxg: cannot use no/script\n".as_slice());

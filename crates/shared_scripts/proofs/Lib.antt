@@ -1,0 +1,2 @@
+mod Imported
+mod Taken

@@ -1,0 +1,6 @@
+pub mod Callers
+pub mod Places
+pub mod Plans
+pub mod Pools
+pub mod Sessions
+pub mod Shared

@@ -1,0 +1,211 @@
+//! The device of a script, and the pool that is imported from it, which is shared.
+
+ghost use Rattle.std.specs.Prelude.{◌≡◌, ◌⊎◌, is_ok, IfOk, IsOk, IsTrue};
+
+use crate::shared_pool::SharedPool;
+use base::{Bytes, Piece, PoolError, Reply};
+use device_model::{Fault, MemDevice};
+use import_replay::{Imported, create, import};
+use scripts::{Answer, BadCommand, Command, CommandRunner, PoolCommand, new_device};
+use std::alloc::Global;
+use std::mem;
+use std::sync::Wait;
+
+// What a script has so far.
+#[derive(Drop)]
+enum Place {
+    Nothing,
+    Device(MemDevice),
+    Pool(SharedPool),
+}
+
+/// A run of a script on a pool that is shared: its device in memory, and the pool that is imported from it. Each step of a
+/// command is made by a handle of the pool, which may wait.
+#[derive(Drop)]
+pub struct SharedSession<'r, W: Wait> {
+    rt: &'r W,
+    alloc: Global,
+    size: u64,
+    moment: u64,
+    place: Place,
+}
+
+impl<'r, W: Wait> SharedSession<'r, W> {
+    ghost use Rattle.shared_scripts.specs.Places.{IsTaken, has_device, has_pool};
+    ghost use Rattle.shared_scripts.specs.Sessions.{AsksIn, Crashes, Creates, Does, Imports, IsNewSession, IsSameRun, IsRefusedOnDevice, PlansFault, SharesMounted, TakesDevice, has_what_it_needs};
+
+    /// A session with no device yet. A new device has `size` div 512 sectors, and each uberblock this moment.
+    pub fn new(rt: &'r W, alloc: Global, size: u64, moment: u64) -> Self
+        ensures { IsNewSession size moment result }
+    {
+        SharedSession {
+            rt,
+            alloc,
+            size,
+            moment,
+            place: Place::Nothing,
+        }
+    }
+
+    /// Does what a command asks for.
+    ///
+    /// # Errors
+    /// `BadCommand` where it needs a device or an imported pool and there is none, or where a crash is given more letters
+    /// than there are unflushed writes. A refusal of the pool is an answer.
+    pub fn run(&mut self, command: Command) -> Result<Answer, BadCommand>
+        ensures needs { IsOk result → IsTrue (has_what_it_needs command self.old) }
+        ensures done { Does command self.old result self.new }
+        ensures same_run { IsSameRun self.old self.new }
+    {
+        match command {
+            Command::Create { name, guid } => Ok(self.create(&name, guid)),
+            Command::Import { dirty_max } => self.import(dirty_max),
+            Command::Crash(pieces) => self.crash(pieces.as_slice()),
+            Command::Fail { fault, n } => self.fail(fault, n),
+            Command::Pool(command) => self.run_on_pool(command),
+        }
+    }
+
+    // The device, which then is no longer the session's. A pool on it is closed.
+    fn take_device(&mut self) -> Option<MemDevice>
+        ensures device { IsTaken self.old.place result }
+        ensures taken { self.new.place ≡ Place.Nothing }
+        ensures same_run { IsSameRun self.old self.new }
+    {
+        match mem::replace(&mut self.place, Place::Nothing) {
+            Place::Nothing => None,
+            Place::Device(device) => Some(device),
+            Place::Pool(shared) => shared.into_device(),
+        }
+    }
+
+    fn take_or_make_device(&mut self) -> Result<MemDevice, PoolError>
+        ensures taken { self.new.place ≡ Place.Nothing }
+        ensures same_run { IsSameRun self.old self.new }
+    {
+        match self.take_device() {
+            Some(device) => Ok(device),
+            None => new_device(self.alloc, self.size),
+        }
+    }
+
+    fn create(&mut self, name: &Bytes, guid: u64) -> Answer
+        ensures creates { Creates name.now guid self.old.moment result self.new.place }
+        ensures same_run { IsSameRun self.old self.new }
+    {
+        let device = match self.take_or_make_device() {
+            Ok(device) => device,
+            Err(error) => return Answer::refused(error),
+        };
+        match create(device, name.as_slice(), guid, self.moment) {
+            Ok(device) => {
+                self.place = Place::Device(device);
+                Answer::Reply(Reply::Done)
+            }
+            Err((error, device)) => self.give_back(error, device),
+        }
+    }
+
+    // A refusal, with the device that came back.
+    fn give_back(&mut self, error: PoolError, device: MemDevice) -> Answer
+        ensures refused { result ≡ Answer.Reply (Reply.Refused error) }
+        ensures device { self.new.place ≡ Place.Device device }
+        ensures same_run { IsSameRun self.old self.new }
+    {
+        self.place = Place::Device(device);
+        Answer::refused(error)
+    }
+
+    fn import(&mut self, dirty_max: u64) -> Result<Answer, BadCommand>
+        ensures needs { IsOk result → IsTrue (has_device self.old.place) }
+        ensures imports { IfOk result (λ told. TakesDevice self.old.place
+            (λ device. Imports dirty_max self.old.moment device told self.new.place)) }
+        ensures same_run { IsSameRun self.old self.new }
+    {
+        let Some(device) = self.take_device() else {
+            return Err(BadCommand);
+        };
+        match import(self.alloc, device, dirty_max, self.moment) {
+            Ok(imported) => Ok(self.share(imported)),
+            Err((error, device)) => Ok(self.give_back(error, device)),
+        }
+    }
+
+    // Shares an imported pool, and tells what it is. For want of memory the device goes on without a pool.
+    fn share(&mut self, imported: Imported<MemDevice>) -> Answer
+        ensures shares { SharesMounted imported.mounted result self.new.place
+            ⊎ IsRefusedOnDevice result self.new.place }
+        ensures same_run { IsSameRun self.old self.new }
+    {
+        let answer = Answer::imported(&imported);
+        match SharedPool::new(self.alloc, imported, self.moment) {
+            Ok(shared) => {
+                self.place = Place::Pool(shared);
+                answer
+            }
+            Err((error, device)) => self.give_back(error, device),
+        }
+    }
+
+    fn crash(&mut self, pieces: &[Piece]) -> Result<Answer, BadCommand>
+        ensures needs { IsOk result → IsTrue (has_device self.old.place) }
+        ensures crashes { IfOk result (λ told. TakesDevice self.old.place
+            (λ device. Crashes pieces.now device told self.new.place)) }
+        ensures same_run { IsSameRun self.old self.new }
+    {
+        let Some(device) = self.take_device() else {
+            return Err(BadCommand);
+        };
+        let unflushed = device.unflushed();
+        if unflushed < pieces.len() {
+            self.place = Place::Device(device);
+            return Err(BadCommand);
+        }
+        self.place = Place::Device(device.crash(pieces));
+        Ok(Answer::Crashed(unflushed))
+    }
+
+    fn fail(&mut self, fault: Fault, n: u64) -> Result<Answer, BadCommand>
+        ensures needs { is_ok result ≡ has_device self.old.place }
+        ensures fails { IfOk result (λ told.
+            PlansFault fault n self.old.place told self.new.place) }
+        ensures same_run { IsSameRun self.old self.new }
+    {
+        match &mut self.place {
+            Place::Nothing => Err(BadCommand),
+            Place::Device(device) => {
+                device.fail(fault, n);
+                Ok(Answer::Reply(Reply::Done))
+            }
+            Place::Pool(shared) => {
+                shared.fail(self.rt, fault, n);
+                Ok(Answer::Reply(Reply::Done))
+            }
+        }
+    }
+
+    fn run_on_pool(&mut self, command: PoolCommand) -> Result<Answer, BadCommand>
+        ensures needs { is_ok result ≡ has_pool self.old.place }
+        ensures asked { IfOk result (λ told.
+            AsksIn W command self.old.moment self.old.place told self.new.place) }
+        ensures same_run { IsSameRun self.old self.new }
+    {
+        match &mut self.place {
+            Place::Pool(shared) => {
+                let reply = shared.run(self.rt, self.alloc, self.moment, command);
+                Ok(Answer::Reply(reply))
+            }
+            _ => Err(BadCommand),
+        }
+    }
+}
+
+impl<'r, W: Wait> CommandRunner for SharedSession<'r, W> {
+    ghost use Rattle.shared_scripts.specs.Sessions.{Runs};
+
+    ghost runs = { Runs };
+
+    fn run(&mut self, command: Command) -> Result<Answer, BadCommand> {
+        SharedSession::run(self, command)
+    }
+}
