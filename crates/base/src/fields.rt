@@ -1,6 +1,6 @@
 //! Little-endian fields of a block, a slot or a payload (On-Disk Specification, chapter 2, in this project's one byte order).
 
-ghost use Rattle.std.specs.Prelude.{◌≡◌, ◌+◌, ◌≤◌, length};
+ghost use Rattle.std.specs.Prelude.{◌≡◌, ◌+◌, ◌≤◌, ◌↔◌, IsTrue, length, replicate};
 ghost use Rattle.base.specs.disk.Disk.{put};
 ghost use Rattle.base.specs.formats.FieldLaws.{FieldsReadBack, FieldsStay, PointersReadBack};
 ghost use Rattle.base.specs.formats.Fields.{number_at, number_bytes, pointer_at, pointer_bytes, part};
@@ -18,6 +18,13 @@ pub fn read_u64(bytes: &[u8], at: usize) -> u64
     ensures { result ≡ number_at bytes.now at }
 {
     LittleEndian::read_u64(&bytes[at..])
+}
+
+/// Whether all of these bytes are zero.
+pub fn are_zeros(bytes: &[u8]) -> bool
+    ensures { IsTrue result ↔ (bytes.now ≡ replicate (length bytes.now) 0) }
+{
+    bytes.iter().all(|byte| *byte == 0)
 }
 
 /// Writes a number's 8 bytes at a place.

@@ -25,8 +25,8 @@ mod version;
 pub use bytes::Bytes;
 pub use error::PoolError;
 pub use fields::{
-    POINTER_SIZE, fields_read_back, fields_stay, pointers_read_back, read_pointer, read_u64,
-    write_bytes, write_pointer, write_u64,
+    POINTER_SIZE, are_zeros, fields_read_back, fields_stay, pointers_read_back, read_pointer,
+    read_u64, write_bytes, write_pointer, write_u64,
 };
 pub use laws::{
     aborts_leave, begins_admit, clashes_are_overlaps, clashes_turn, closes_leave, commits_follow,
@@ -36,9 +36,9 @@ pub use laws::{
     transactions_commute, trees_follow,
 };
 pub use limits::{
-    ENTRY_COUNT, ENTRY_SIZE, FIRST_GROUP, GREATEST_DIRTY_MAX, LAST_NUMBER, LEAST_DIRTY_MAX,
-    MAX_LENGTH, MAX_LOCKS, MAX_LOG_RECORD, MAX_TRANSACTIONS, OBJECT_COUNT, POINTER_COUNT,
-    RECORD_SIZE, WRITTEN_VERSION,
+    BLOCK_SIZE, ENTRY_COUNT, ENTRY_SIZE, FIRST_GROUP, GREATEST_DIRTY_MAX, KEPT_BACK, LAST_NUMBER,
+    LEAST_DIRTY_MAX, MAX_LENGTH, MAX_LOCKS, MAX_LOG_RECORD, MAX_TRANSACTIONS, OBJECT_COUNT,
+    POINTER_COUNT, RECORD_SIZE, WRITTEN_VERSION,
 };
 pub use lists::{Ops, Plan};
 pub use names::{Group, LockId, ObjectId, Ordinal, Owner, Receipt, TxId};

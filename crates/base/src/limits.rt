@@ -11,6 +11,9 @@ pub const OBJECT_COUNT: u32 = 5292;
 /// The greatest length of an object in bytes, and the top of each range.
 pub const MAX_LENGTH: u64 = 338_688;
 
+/// The bytes of a block.
+pub const BLOCK_SIZE: usize = 4096;
+
 /// The bytes of an object that one data block holds.
 pub const RECORD_SIZE: usize = 4032;
 
@@ -37,6 +40,9 @@ pub const MAX_LOCKS: usize = 256;
 
 /// The most transactions that are open.
 pub const MAX_TRANSACTIONS: usize = 64;
+
+/// The blocks that are kept back for plans that shrink and for syncs.
+pub const KEPT_BACK: u64 = 16;
 
 /// The limits of what may be dirty, in bytes.
 pub const LEAST_DIRTY_MAX: u64 = 4096;

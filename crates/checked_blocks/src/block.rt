@@ -9,12 +9,9 @@ ghost use Rattle.base.specs.formats.Blocks.{IsBlock, block_head_bytes, sealed_bl
 ghost use Rattle.base.specs.disk.Disk.{put};
 ghost use Rattle.checked_blocks.specs.Sealing.{IsKind, padded, zeros};
 
-use base::{Group, PoolError, write_bytes, write_u64};
+use base::{BLOCK_SIZE, Group, PoolError, write_bytes, write_u64};
 use sha2::{Digest, Sha256};
 use std::marker::Model;
-
-/// The bytes of a block.
-pub const BLOCK_SIZE: usize = 4096;
 
 /// The bytes of a block's payload, which lies behind its 64 bytes of fields and check.
 pub const PAYLOAD_SIZE: usize = 4032;

@@ -3,8 +3,7 @@
 //! The block area begins behind two labels and the boot area (On-Disk Specification, chapter 1). No block is born behind
 //! the group of the uberblock that leads to it (chapter 2).
 
-use crate::block::BLOCK_SIZE;
-use base::{Group, Version};
+use base::{BLOCK_SIZE, Group, Version};
 use std::marker::Model;
 
 /// The byte place of block 0, behind two labels and the boot area (On-Disk Specification, chapter 1).

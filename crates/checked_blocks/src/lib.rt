@@ -8,7 +8,7 @@ mod kind;
 mod laws;
 mod payload;
 
-pub use block::{BLOCK_SIZE, Block, PAYLOAD_SIZE, seal};
+pub use block::{Block, PAYLOAD_SIZE, seal};
 pub use expected::Expected;
 pub use frame::{BLOCK_AREA, Frame};
 pub use kind::Kind;

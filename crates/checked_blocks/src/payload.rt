@@ -10,9 +10,8 @@ ghost use Rattle.sha2.specs.Sha256.{sha256};
 ghost use Rattle.checked_blocks.specs.Sealing.{hashed_bytes};
 ghost use Rattle.checked_blocks.specs.Opening.{IsExpected, damage_of};
 
-use crate::block::BLOCK_SIZE;
 use crate::expected::Expected;
-use base::{Group, PoolError, read_u64};
+use base::{BLOCK_SIZE, Group, PoolError, read_u64};
 use sha2::{Digest, Sha256};
 use std::marker::Model;
 

@@ -1,7 +1,7 @@
 //! Blocks: their bytes and checks, as another program makes them, and what is refused.
 
-use base::{Group, PoolError};
-use checked_blocks::{BLOCK_SIZE, Expected, Kind, PAYLOAD_SIZE, open, seal};
+use base::{BLOCK_SIZE, Group, PoolError};
+use checked_blocks::{Expected, Kind, PAYLOAD_SIZE, open, seal};
 
 // The fields, the check and the first bytes of the payload, as Python's hashlib makes them.
 const DATA: [u8; 72] = [

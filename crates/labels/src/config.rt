@@ -24,8 +24,8 @@ ghost use Rattle.std.specs.Prelude.{◌≡◌, ◌+◌, ◌<◌, ◌≤◌, ◌^
 ghost use Rattle.base.specs.formats.Labels.{IsConfigPayload};
 ghost use Rattle.labels.specs.ConfigBytes.{config_bytes};
 
-use base::{Group, MAX_NAME, PoolName, read_u64, write_bytes, write_u64};
-use checked_blocks::{BLOCK_SIZE, Block, Expected, Kind, open, seal};
+use base::{BLOCK_SIZE, Group, MAX_NAME, PoolName, are_zeros, read_u64, write_bytes, write_u64};
+use checked_blocks::{Block, Expected, Kind, open, seal};
 use std::marker::Model;
 
 /// The version of this layout of a label.
@@ -188,10 +188,4 @@ fn name_in(payload: &[u8], size: u64) -> Option<PoolName>
         return None;
     }
     PoolName::new(&payload[HEAD..end])
-}
-
-fn are_zeros(bytes: &[u8]) -> bool
-    ensures { IsTrue result ↔ (bytes.now ≡ replicate (length bytes.now) 0) }
-{
-    bytes.iter().all(|byte| *byte == 0)
 }

@@ -5,8 +5,8 @@
 ghost use Rattle.std.specs.Prelude.{◌≡◌};
 ghost use Rattle.base.specs.formats.Geometry.{is_geometry};
 
-use base::PoolError;
-use checked_blocks::{BLOCK_AREA, BLOCK_SIZE};
+use base::{BLOCK_SIZE, PoolError};
+use checked_blocks::BLOCK_AREA;
 use std::marker::Model;
 
 /// The bytes of a sector.

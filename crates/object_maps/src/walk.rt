@@ -32,7 +32,7 @@ use crate::objects::{Maps, ObjectSink, Objects};
 use crate::tree::{ObjectMap, Tree, empty_maps};
 use base::{
     ENTRY_COUNT, ENTRY_SIZE, Group, MAX_LENGTH, POINTER_COUNT, POINTER_SIZE, Pointer, PoolError,
-    RECORD_SIZE, read_pointer, read_u64, write_bytes,
+    RECORD_SIZE, are_zeros, read_pointer, read_u64, write_bytes,
 };
 use checked_blocks::{Expected, Frame, Kind, open};
 use device_model::SectorDevice;
@@ -191,12 +191,6 @@ fn are_records(payload: &[u8], size: usize) -> bool
         }
     }
     true
-}
-
-fn are_zeros(bytes: &[u8]) -> bool
-    ensures { IsTrue result ↔ (bytes.now ≡ replicate (length bytes.now) 0) }
-{
-    bytes.iter().all(|byte| *byte == 0)
 }
 
 fn damaged(kind: Kind, pointer: &Pointer) -> PoolError

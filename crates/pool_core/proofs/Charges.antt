@@ -27,7 +27,7 @@ use Rattle.object_maps.specs.declared.tree.Tree.{Tree}
 use Rattle.pool_core.specs.declared.pool.Pool.{Pool}
 use Rattle.pool_core.specs.declared.pool.RunningSync.{RunningSync}
 use Rattle.pool_core.proofs.HeldGroups.{none_syncing}
-use Rattle.pool_core.proofs.SameSyncs.{taken_count}
+use Rattle.pool_core.proofs.syncs.SameSyncs.{taken_count}
 use Rattle.pool_core.proofs.UnsyncedChanges.{syncing_follows}
 use Rattle.pool_core.specs.Shows.{contents_after_oldest, plan_of, pool_shown}
 

@@ -21,7 +21,7 @@ use Rattle.object_maps.specs.Pointers as kept
 use Rattle.tree_plans.specs.Pointers as plans
 use Rattle.tree_plans.specs.Plans.{address_of}
 use Rattle.pool_core.specs.Areas.{after_gives, after_sync_takes, is_block_of}
-use Rattle.pool_core.proofs.PlannedPointers.{same_tree}
+use Rattle.pool_core.proofs.syncs.PlannedPointers.{same_tree}
 
 and_true : (b : Bool) → (b && true) ≡ b
 and_true true = refl

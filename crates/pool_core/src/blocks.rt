@@ -8,14 +8,11 @@ ghost use Rattle.throttle.specs.DirtyBytes.{after_synced, sum_of, total_of};
 ghost use Rattle.tree_plans.specs.Plans.{address_of};
 ghost use Rattle.pool_core.specs.Areas.{AreBlocksOf, after_gives, after_sync_takes};
 
-use base::Group;
+use base::{BLOCK_SIZE, Group};
 use labels::Geometry;
 use space::FreeSet;
 use throttle::Dirty;
 use tree_plans::PlannedBlock;
-
-// The bytes of a block.
-const BLOCK_SIZE: u64 = 4096;
 
 /// What a group was charged ends once it is synced, and so does what was reserved for it.
 pub fn end_charges(dirty: &mut Dirty, free: &mut FreeSet, group: Group)
@@ -26,7 +23,7 @@ pub fn end_charges(dirty: &mut Dirty, free: &mut FreeSet, group: Group)
     ensures free { free.new ≡ after_sync_end (blocks_in (sum_of dirty.old group.0)) free.old }
     ensures reserved { free.new.reserved ≡ blocks_in (total_of dirty.new) }
 {
-    let reserved = dirty.of(group) / BLOCK_SIZE;
+    let reserved = dirty.of(group) / BLOCK_SIZE as u64;
     dirty.synced(group);
     free.end_sync(reserved);
 }

@@ -11,9 +11,6 @@ ghost use Rattle.pool_core.specs.Meets.{Passes};
 use base::{PoolError, Shape};
 use transactions::{is_plan_allowed, is_too_large};
 
-/// The blocks that are kept back for plans that shrink and for syncs.
-pub const KEPT_BACK: u64 = 16;
-
 /// A transaction may have this plan. Refused `BadRange` where it has no shape, or one that isn't built or is outside its
 /// limits; `TooLarge` where its log record would have more than 4,008 bytes.
 pub fn check_plan(plan: &[Shape]) -> Result<(), PoolError>

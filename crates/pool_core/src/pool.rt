@@ -39,11 +39,11 @@ ghost use Rattle.pool_core.specs.RunningUberblocks.{WritesUberblock, uberblock_w
 ghost use Rattle.pool_core.specs.Targets.{is_readable};
 
 use crate::blocks::{end_charges, give_all, take_all};
-use crate::plans::{KEPT_BACK, check_plan};
+use crate::plans::check_plan;
 use crate::state::Progress;
 use base::{
-    Bytes, Group, LAST_NUMBER, LockId, Mode, OBJECT_COUNT, ObjectId, ObjectRange, Op, Ops, Ordinal,
-    Owner, Plan, Pointer, PoolError, PoolName, Range, Receipt, Shape, Status, TxId,
+    Bytes, Group, KEPT_BACK, LAST_NUMBER, LockId, Mode, OBJECT_COUNT, ObjectId, ObjectRange, Op,
+    Ops, Ordinal, Owner, Plan, Pointer, PoolError, PoolName, Range, Receipt, Shape, Status, TxId,
     WRITTEN_VERSION,
 };
 use device_model::SectorDevice;

@@ -6,7 +6,7 @@ use Rattle.device_model.specs.declared.device.SectorDevice.{Ghosts}
 use Rattle.pool_core.specs.declared.state.PoolState.{PoolState}
 use Rattle.pool_core.specs.KeptSafe.{on_disk}
 use Rattle.pool_core.specs.States.{shown}
-use Rattle.pool_core.proofs.SafeMoments.{kept_own, kept_safe}
+use Rattle.pool_core.proofs.crash.SafeMoments.{kept_own, kept_safe}
 use Rattle.pool_threads.specs.declared.pool.Pool.{Pool}
 use Rattle.pool_threads.specs.Handles.{EndsIn, opening_view}
 use Rattle.pool_threads.specs.Views.{Explains, GrowsTo, View, grows_onward, grows_same}

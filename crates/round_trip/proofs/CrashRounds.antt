@@ -33,7 +33,7 @@ use Rattle.pool_core.specs.declared.state.PoolState.{PoolState}
 use Rattle.pool_core.specs.KeptSafe.{BeginsSafe, IsKeptSafe, IsSafeStep, OnDisk, SafeOn, disk_of, on_disk}
 use Rattle.pool_core.specs.NewStates.{IsHeldAtFirst, first_past}
 use Rattle.pool_core.specs.States.{shown, told}
-use Rattle.pool_core.proofs.SafeMoments.{kept_own}
+use Rattle.pool_core.proofs.crash.SafeMoments.{kept_own}
 use Rattle.round_trip.specs.Crashes.{Answer, FindsCuts, FindsCutsFrom, FindsCutsOfNew, GoesAsRound, GoesOnAs, GoesOnFrom, IsEndOf, IsFairEnd, IsLeft, IsOverFor, IsRound, IsRoundOver}
 use Rattle.round_trip.specs.declared.crashes.End.{End}
 use Rattle.round_trip.specs.declared.crashes.End.TheVariants.{Crash, GivenUp}

@@ -21,7 +21,7 @@ use Rattle.device_model.specs.declared.fault.Fault.TheVariants.{Read, Write, Flu
 use Rattle.import_replay.specs.Mounts.{shown_of_import}
 use Rattle.import_replay.specs.RunStarts.{StartsRun}
 use Rattle.import_replay.specs.declared.mounted.Mounted.{Mounted}
-use Rattle.pool_core.proofs.SafeMoments.{kept_own}
+use Rattle.pool_core.proofs.crash.SafeMoments.{kept_own}
 use Rattle.pool_core.specs.NewStates.{IsHeldAtFirst}
 use Rattle.pool_core.specs.States.{device_of, shown, told}
 use Rattle.round_trip.proofs.CrashRounds.{found, import_left, left_crashed, run_start, safe_found}

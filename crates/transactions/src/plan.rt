@@ -11,12 +11,9 @@ ghost use Rattle.transactions.specs.Ranges.{has_kept_in, kept_range_of, kept_ran
 ghost use Rattle.transactions.specs.Lengths.{TellsLengths};
 
 use base::{
-    MAX_LENGTH, MAX_LOG_RECORD, MAX_NAME, OBJECT_COUNT, ObjectId, ObjectRange, Op, RECORD_SIZE,
-    Range, Shape,
+    BLOCK_SIZE, MAX_LENGTH, MAX_LOG_RECORD, MAX_NAME, OBJECT_COUNT, ObjectId, ObjectRange, Op,
+    RECORD_SIZE, Range, Shape,
 };
-
-/// The bytes of a block.
-const BLOCK_SIZE: u64 = 4096;
 
 /// The bytes of a log record before its operations: its length, group, ordinal and number of operations.
 pub(crate) const RECORD_HEAD: u64 = 22;
@@ -223,7 +220,7 @@ pub fn charge(plan: &[Shape]) -> u64
     requires small { plans.log_record_size plan.now ≤ max_log_record }
     ensures { result ≡ plans.charge_of plan.now }
 {
-    BLOCK_SIZE * estimate(plan)
+    BLOCK_SIZE as u64 * estimate(plan)
 }
 
 /// Whether a plan only removes objects and sets the lengths of present ones to no more than they have. The caller tells the

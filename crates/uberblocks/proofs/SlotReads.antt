@@ -1,7 +1,5 @@
 -- When bytes are an uberblock, and of which fields.
-use Rattle.std.proofs.Common.{ℕ, zero, suc, ◌≡◌, ◌==◌, true, List, [], ◌∷◌, length, replicate, refl, sym, ap, ◌∙◌, subst}
-use Rattle.std.specs.List.{list_all}
-use Rattle.std.proofs.lemmas.Bool.{and_parts, eqb-true}
+use Rattle.std.proofs.Common.{ℕ, ◌≡◌, List, length, refl, sym, ap, ◌∙◌, subst}
 use Rattle.base.specs.declared.pointer.Pointer.{Pointer}
 use Rattle.base.specs.formats.Uberblocks.{Uberblock as Fields, IsUberblock, IsSealedSlot}
 use Rattle.base.specs.formats.Versions.{version_of}
@@ -75,22 +73,3 @@ pub fields_of-same : (u v : Uberblock) → fields_of u ≡ fields_of v → u ≡
 fields_of-same u v e =
     let version : u.version ≡ v.version = sym (version_of-number_of_version u.version) ∙ ap (λ (f : Fields). version_of f.version) e ∙ version_of-number_of_version v.version in
     λ i. made_of (version i) (e i)
-
--- bytes of which each is zero are so many zeros, and the other way round
-zeros_from_all : (bytes : List ℕ) → list_all (λ byte. byte == 0) bytes ≡ true → bytes ≡ replicate (length bytes) 0
-zeros_from_all [] all = refl
-zeros_from_all (b ∷ rest) all =
-    let parts = and_parts (b == 0) (list_all (λ byte. byte == 0) rest) all in
-    ap (λ (h : ℕ). h ∷ rest) (eqb-true b 0 parts.0) ∙ ap (λ (l : List ℕ). 0 ∷ l) (zeros_from_all rest parts.1)
-
-all_from_zeros : (n : ℕ) → list_all (λ byte. byte == 0) (replicate n 0) ≡ true
-all_from_zeros zero = refl
-all_from_zeros (suc n) = all_from_zeros n
-
-pub clear_from_all : (bytes : List ℕ) (n : ℕ) → length bytes ≡ n → list_all (λ byte. byte == 0) bytes ≡ true → bytes ≡ zeros n
-unfolding zeros
-clear_from_all bytes n long all = zeros_from_all bytes all ∙ ap (λ (k : ℕ). replicate k 0) long
-
-pub all_from_clear : (bytes : List ℕ) (n : ℕ) → bytes ≡ zeros n → list_all (λ byte. byte == 0) bytes ≡ true
-unfolding zeros
-all_from_clear bytes n clear = ap (λ (l : List ℕ). list_all (λ byte. byte == 0) l) clear ∙ all_from_zeros n

@@ -1,7 +1,6 @@
 //! The fields of an uberblock, and the 1,024 bytes that they are stored in.
 
-ghost use Rattle.std.specs.Prelude.{◌≡◌, ◌==◌, ◌≤◌, ◌↔◌, IfNone, IfSome, IsTrue, Some, length, take};
-ghost use Rattle.std.specs.List.{list_all};
+ghost use Rattle.std.specs.Prelude.{◌≡◌, ◌≤◌, ◌↔◌, IfNone, IfSome, IsTrue, Some, length, take};
 ghost use Rattle.sha2.specs.Sha256.{sha256};
 ghost use Rattle.base.specs.disk.Disk.{put};
 ghost use Rattle.base.specs.formats.Limits.{first_group, last_number};
@@ -11,8 +10,8 @@ ghost use Rattle.base.specs.formats.Uberblocks.{IsSealedSlot, IsUberblock};
 ghost use Rattle.uberblocks.specs.Slots.{FieldsFit, HasMagic, HasZeros, HoldsNoUberblock, IsWithinLimits, field_bytes, fields_at, fields_of, slot_bytes, zeros};
 
 use base::{
-    FIRST_GROUP, Group, LAST_NUMBER, Pointer, Version, read_pointer, read_u64, write_bytes,
-    write_pointer, write_u64,
+    FIRST_GROUP, Group, LAST_NUMBER, Pointer, Version, are_zeros, read_pointer, read_u64,
+    write_bytes, write_pointer, write_u64,
 };
 use sha2::{Digest, Sha256};
 
@@ -167,13 +166,6 @@ fn is_clear(bytes: &[u8]) -> bool
     ensures { IsTrue result ↔ HasZeros bytes.now }
 {
     are_zeros(&bytes[ZEROS_PLACE..CHECK_PLACE])
-}
-
-/// Whether all of these bytes are zero.
-fn are_zeros(bytes: &[u8]) -> bool
-    ensures { result ≡ list_all (λ byte. byte == 0) bytes.now }
-{
-    bytes.iter().all(|byte| *byte == 0)
 }
 
 /// Whether the check of a slot agrees.

@@ -1,4 +1,4 @@
-use Rattle.pool_core.proofs.SafeMoments.{kept_own}
+use Rattle.pool_core.proofs.crash.SafeMoments.{kept_own}
 use Rattle.pool_core.proofs.laws.kept_pools_leave_their_own.Goals as goal
 
 pub returns : goal.returns

@@ -1,4 +1,4 @@
-use Rattle.pool_core.proofs.StoppedSteps.{stopped_safe}
+use Rattle.pool_core.proofs.crash.StoppedSteps.{stopped_safe}
 use Rattle.pool_core.proofs.laws.stopped_steps_are_safe.Goals as goal
 
 pub returns : goal.returns

@@ -3,8 +3,8 @@ use Rattle.std.specs.FinSet as set
 use Rattle.base.specs.formats.Geometry.{block_count}
 use Rattle.space.specs.FreeSets.{FreeSpace}
 use Rattle.pool_core.specs.Shows.{contents_after_oldest, pool_shown}
-use Rattle.pool_core.proofs.PlannedPointers.{lengths-set}
-use Rattle.pool_core.proofs.SameSyncs.{none_planned, none_running, placed_after}
+use Rattle.pool_core.proofs.syncs.PlannedPointers.{lengths-set}
+use Rattle.pool_core.proofs.syncs.SameSyncs.{none_planned, none_running, placed_after}
 use Rattle.pool_core.proofs.pool.Pool.finish_tree.Goals as goal
 
 pub invariant_of-self-3 : goal.invariant_of-self-3

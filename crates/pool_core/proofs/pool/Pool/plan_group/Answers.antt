@@ -18,9 +18,9 @@ use Rattle.tree_plans.specs.Pointers.{pointers_before}
 use Rattle.pool_core.specs.GroupPlans.{IsPlannedGroup}
 use Rattle.pool_core.specs.Shows.{contents_after_oldest, pool_shown}
 use Rattle.pool_core.proofs.FreeBlocks.{are_blocks}
-use Rattle.pool_core.proofs.PlannedPointers.{IfOk_all, IfOk_both, plan_placed, retold, same_lengths, same_tree}
-use Rattle.pool_core.proofs.StartLeads.{addresses_are, laid_oldest}
-use Rattle.pool_core.proofs.Starts.{turn_want}
+use Rattle.pool_core.proofs.syncs.PlannedPointers.{IfOk_all, IfOk_both, plan_placed, retold, same_lengths, same_tree}
+use Rattle.pool_core.proofs.syncs.StartLeads.{addresses_are, laid_oldest}
+use Rattle.pool_core.proofs.syncs.Starts.{turn_want}
 use Rattle.pool_core.proofs.pool.Pool.plan_group.Goals as goal
 
 pub returns-in_err-objects-clause-refused : goal.returns-in_err-objects-clause-refused

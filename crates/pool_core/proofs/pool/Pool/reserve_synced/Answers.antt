@@ -1,4 +1,4 @@
-use Rattle.pool_core.proofs.StartLeads.{same_told}
+use Rattle.pool_core.proofs.syncs.StartLeads.{same_told}
 use Rattle.pool_core.proofs.pool.Pool.reserve_synced.Goals as goal
 
 pub returns-in_err-reserve_in-clause-kept : goal.returns-in_err-reserve_in-clause-kept

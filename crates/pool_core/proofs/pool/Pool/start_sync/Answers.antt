@@ -16,13 +16,13 @@ use Rattle.base.specs.declared.names.Group.{Group}
 use Rattle.base.specs.steps.Shown.{SyncPlan}
 use Rattle.base.specs.stored.Stored.{NewTree}
 use Rattle.pool_core.specs.Holds.{pool_told, start_reply}
-use Rattle.pool_core.proofs.StartLeads.{blocks_kept, none_counted, nothing_made, taken_anew}
-use Rattle.pool_core.proofs.StartedSyncs.{may_still, plan_wants, refused_held, refused_leads, refused_step, shown-started, started_held, started_leads, started_order, started_step}
+use Rattle.pool_core.proofs.syncs.StartLeads.{blocks_kept, none_counted, nothing_made, taken_anew}
+use Rattle.pool_core.proofs.syncs.StartedSyncs.{may_still, plan_wants, refused_held, refused_leads, refused_step, shown-started, started_held, started_leads, started_order, started_step}
 use Rattle.pool_core.proofs.HeldGroups.{counted_start, exact_moves, may_start, started}
 use Rattle.pool_core.proofs.OfNoDevice.{plan_own}
 use Rattle.pool_core.proofs.StillSteps.{still_pool}
-use Rattle.pool_core.proofs.SameSyncs.{RunsIn, kept_sync}
-use Rattle.pool_core.proofs.Starts.{start_not_ready, start_suspended}
+use Rattle.pool_core.proofs.syncs.SameSyncs.{RunsIn, kept_sync}
+use Rattle.pool_core.proofs.syncs.Starts.{start_not_ready, start_suspended}
 use Rattle.pool_core.proofs.pool.Pool.start_sync.Goals as goal
 
 pub returns-in_err-check_running-clause-step : goal.returns-in_err-check_running-clause-step

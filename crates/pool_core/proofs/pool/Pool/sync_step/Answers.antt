@@ -17,7 +17,7 @@ use Rattle.base.specs.tree.Syncs.{is_rename}
 use Rattle.tree_plans.specs.declared.planner.Committed.{Committed}
 use Rattle.std.specs.List.{list_any}
 use Rattle.std.proofs.lemmas.List.Elements.{All-filter}
-use Rattle.pool_core.proofs.SameSyncs.{RunsIn, as_many, kept_sync, left_as_before, more_left, one_left, one_less, refused_as, runs_on, same_taken, same_taken_count}
+use Rattle.pool_core.proofs.syncs.SameSyncs.{RunsIn, as_many, kept_sync, left_as_before, more_left, one_left, one_less, refused_as, runs_on, same_taken, same_taken_count}
 use Rattle.base.specs.disk.Disk.{bytes_of}
 use Rattle.base.specs.declared.step.Reply.TheVariants as reply
 use Rattle.groups.specs.CountedLines.{CountedLine, after_sync, line_after_sync}
@@ -30,8 +30,8 @@ use Rattle.base.specs.declared.error.PoolError.{PoolError}
 use Rattle.pool_core.specs.declared.state.Progress.{Progress}
 use Rattle.pool_core.specs.Holds.{SamePlaces, pool_told, made_by, sync_step_reply, tree_after}
 use Rattle.pool_core.proofs.StillSteps.{leads_as, still_pool}
-use Rattle.pool_core.proofs.SyncLeads.{advanced, failed_call, failed_running, synced_told, was_running, was_syncing}
-use Rattle.pool_core.proofs.SyncSteps.{step_failed, step_more, step_not_ready, step_suspended, step_synced}
+use Rattle.pool_core.proofs.syncs.SyncLeads.{advanced, failed_call, failed_running, synced_told, was_running, was_syncing}
+use Rattle.pool_core.proofs.syncs.SyncSteps.{step_failed, step_more, step_not_ready, step_suspended, step_synced}
 use Rattle.pool_core.proofs.pool.Pool.sync_step.Goals as goal
 
 pub returns-in_err-check_running-clause-step : goal.returns-in_err-check_running-clause-step

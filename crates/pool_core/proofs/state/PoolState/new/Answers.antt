@@ -9,7 +9,7 @@ use Rattle.pool_core.specs.declared.pool.RunningSync.{RunningSync}
 use Rattle.base.specs.steps.Shown.{Shown}
 use Rattle.pool_core.specs.KeptSafe.{run_in}
 use Rattle.pool_core.specs.NewStates.{first_past}
-use Rattle.pool_core.proofs.SafeMoments.{idle_kept}
+use Rattle.pool_core.proofs.crash.SafeMoments.{idle_kept}
 use Rattle.pool_core.proofs.state.PoolState.new.Goals as goal
 
 pub new-requires : goal.new-requires

@@ -25,7 +25,7 @@ use Rattle.base.proofs.crash.PoolViews.{found_lies}
 use Rattle.base.proofs.disk.Fairness.{fair_settled}
 use Rattle.base.proofs.disk.Moments.{bytes_may_be_left}
 use Rattle.pool_core.specs.KeptSafe.{LeavesOwn}
-use Rattle.pool_core.proofs.ViewsKept.{none_from}
+use Rattle.pool_core.proofs.crash.ViewsKept.{none_from}
 
 -- An image that a crash leaves at a moment at which no config above the synced group counts.
 module _ (size : ℕ) (m : Moment) (s : Shown) (past : Past) (explained : IsExplainedNow s past) (none : s.log.kept ≡ []) (bytes : HasFairBytes size past.created m)

@@ -13,7 +13,7 @@ use Rattle.base.specs.steps.Runs.{Step}
 use Rattle.base.specs.steps.Steps.{State}
 use Rattle.base.proofs.steps.StepEffects.{StepDoes, step_does}
 use Rattle.pool_core.specs.KeptSafe.{IsKeptSafe, IsSafeStep, IsStoppedIn, LeavesOwn, OnDisk, past_within}
-use Rattle.pool_core.proofs.SafeMoments.{IsSafeMoment}
+use Rattle.pool_core.proofs.crash.SafeMoments.{IsSafeMoment}
 
 -- what each moment from the one disk to the other has, a disk between them has
 pub moment_in : (P : Moment → Type 0) (old ended new : Disk) → EachMoment P old new → IsStoppedIn old ended new → P ended.now

@@ -52,7 +52,7 @@ use Rattle.tree_plans.specs.declared.planner.PlannedBlock.{PlannedBlock}
 use Rattle.tree_plans.specs.Plans.{new_block}
 use Rattle.pool_core.specs.Holds.{made_by}
 use Rattle.pool_core.specs.KeptSafe.{IsSyncOnDisk}
-use Rattle.pool_core.proofs.ViewsKept.{header-none, no_block, none_from}
+use Rattle.pool_core.proofs.crash.ViewsKept.{header-none, no_block, none_from}
 
 -- blocks that are written stand
 pub written_stand : (base image : List ℕ) (size : ℕ) (blocks : List PlannedBlock) (n : ℕ) → length blocks ≤ n → BlocksWritten base size blocks n image

@@ -22,7 +22,7 @@ use Rattle.sync.specs.declared.run.SyncRun.{SyncRun}
 use Rattle.sync.specs.Phases.{SyncViews, calls_before_slots}
 use Rattle.sync.specs.Runs.{call_count}
 use Rattle.pool_core.specs.KeptSafe.{IsDiskKept, IsKeptSafe, IsSyncOnDisk, LeavesOwn, OnDisk}
-use Rattle.pool_core.proofs.OwnMoments.{were_left}
+use Rattle.pool_core.proofs.crash.OwnMoments.{were_left}
 
 -- of a disk in one of the phases of a sync every fair image is laid out as the synced group, or as that of the sync
 pub phase_laid : (m : Moment) (image : List ℕ) (s : Shown) (past : Past) (group : ℕ) (plan : SyncPlan) (flushed new_flushed : ℕ) (old new : View) → s.line.syncing ≡ Some group → s.sync ≡ Some plan

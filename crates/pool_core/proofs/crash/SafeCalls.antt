@@ -22,9 +22,9 @@ use Rattle.sync.specs.Runs.{call_count}
 use Rattle.sync.proofs.ConfigWrites.{configs_staged}
 use Rattle.sync.proofs.PhasesSince.{ends_at_rest, keeps_phases}
 use Rattle.pool_core.specs.KeptSafe.{IsSyncOnDisk, LeavesOwn, TriesNext}
-use Rattle.pool_core.proofs.OwnMoments.{moment_left}
-use Rattle.pool_core.proofs.SafeMoments.{IsSafeMoment, phases_safe}
-use Rattle.pool_core.proofs.ViewsKept.{SameSyncing, configs_as, header-none, synced_view, syncing_view, view_as}
+use Rattle.pool_core.proofs.crash.OwnMoments.{moment_left}
+use Rattle.pool_core.proofs.crash.SafeMoments.{IsSafeMoment, phases_safe}
+use Rattle.pool_core.proofs.crash.ViewsKept.{SameSyncing, configs_as, header-none, synced_view, syncing_view, view_as}
 
 module _ (run next : SyncRun) (before after : Disk) (s : Shown) (p : Past) (began : p.created ≤ moments before) (x : IsSyncOnDisk run before s p) (tries : TriesNext run next before after) where
   bytes_each : EachMoment (HasFairBytes run.geometry p.created) before after

@@ -43,10 +43,10 @@ use Rattle.pool_core.specs.Lines.{MayStart}
 use Rattle.pool_core.specs.Pointers.{lengths_after, pointers_after}
 use Rattle.pool_core.specs.Shows.{contents_after_oldest, new_plan, plan_of, pool_shown, synced_of}
 use Rattle.pool_core.proofs.Flags.{is_some-map}
-use Rattle.pool_core.proofs.SameSyncs.{taken_count}
-use Rattle.pool_core.proofs.PlannedContents.{LeadsTo, changes_lead, next_above}
-use Rattle.pool_core.proofs.PlannedCounts.{enough_blocks, taken_fit, takes_for_each, takes_in_order}
-use Rattle.pool_core.proofs.PlannedGroups.{lengths_told, planned_sync}
+use Rattle.pool_core.proofs.syncs.SameSyncs.{taken_count}
+use Rattle.pool_core.proofs.syncs.PlannedContents.{LeadsTo, changes_lead, next_above}
+use Rattle.pool_core.proofs.syncs.PlannedCounts.{enough_blocks, taken_fit, takes_for_each, takes_in_order}
+use Rattle.pool_core.proofs.syncs.PlannedGroups.{lengths_told, planned_sync}
 
 -- the addresses of blocks as they are written
 pub addresses_are : (blocks : List PlannedBlock) → map (λ (b : NewBlock). b.address) (map new_block blocks) ≡ map address_of blocks

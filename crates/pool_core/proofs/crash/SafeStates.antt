@@ -24,8 +24,8 @@ use Rattle.pool_core.specs.Holds.{Leads, new_tree_of, start_reply, sync_step_rep
 use Rattle.pool_core.specs.KeptSafe.{IsSafeStep, KeepsSafe, OnDisk, StepsPhases, disk_of, on_disk, run_of}
 use Rattle.pool_core.specs.States.{device_of, told}
 use Rattle.pool_core.specs.Turns.{Turns, held_after}
-use Rattle.pool_core.proofs.SafeSteps.{last_safe, more_safe, start_safe, still_safe}
-use Rattle.pool_core.proofs.SyncLeads.{was_syncing}
+use Rattle.pool_core.proofs.crash.SafeSteps.{last_safe, more_safe, start_safe, still_safe}
+use Rattle.pool_core.proofs.syncs.SyncLeads.{was_syncing}
 
 -- what is made of something that is there
 made_of : {A B : Type 0} (f : A → B) (o : Option A) (y : B) → option_map f o ≡ Some y → (x : A) × (o ≡ Some x) × (f x ≡ y)

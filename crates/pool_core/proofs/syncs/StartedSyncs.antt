@@ -29,8 +29,8 @@ use Rattle.pool_core.specs.Pointers.{lengths_after}
 use Rattle.pool_core.specs.Shows.{contents_after_oldest, plan_of, pool_shown, synced_of}
 use Rattle.pool_core.specs.StepAnswers.{StartsSync}
 use Rattle.pool_core.specs.SyncStarts.{StartLeads, StartsHeld, StartsInOrder}
-use Rattle.pool_core.proofs.StartLeads.{group_fits, group_lengths, group_planned, group_takes, group_takes_each, never_short, oldest_leads}
-use Rattle.pool_core.proofs.Starts.{StartsAt, lowest_taken, pending_names, start_done, start_wants, wants_only}
+use Rattle.pool_core.proofs.syncs.StartLeads.{group_fits, group_lengths, group_planned, group_takes, group_takes_each, never_short, oldest_leads}
+use Rattle.pool_core.proofs.syncs.Starts.{StartsAt, lowest_taken, pending_names, start_done, start_wants, wants_only}
 use Rattle.pool_core.proofs.StillSteps.{still_pool}
 
 -- a group whose sync may start, by what was told before

@@ -31,7 +31,7 @@ use Rattle.tree_plans.specs.Changes.{changes_of_group, has_address}
 use Rattle.tree_plans.specs.Marks.{AreChangesOf, pending_ops}
 use Rattle.pool_core.specs.GroupPlans.{IsPlannedGroup, IsShortOfBlocks}
 use Rattle.pool_core.specs.Shows.{record_of as shown_record}
-use Rattle.pool_core.proofs.PlannedGroups.{in_range, ops_are, states_are, synced_tree}
+use Rattle.pool_core.proofs.syncs.PlannedGroups.{in_range, ops_are, states_are, synced_tree}
 
 -- Whatever the device holds, and from whichever pointers it is planned.
 module _ (s : Shown) (p : Past) (explained : IsExplainedNow s p) (group : ℕ) (above : s.line.synced < group) (no_log : s.log.kept ≡ []) (pending : List Committed) (log : s.log.pending ≡ map shown_record pending)
