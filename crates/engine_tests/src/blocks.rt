@@ -29,52 +29,52 @@ fn expected() -> Expected {
     }
 }
 
-#[test]
-fn seals_and_opens_a_data_block(rt: HostRuntime) {
-    let Ok(block) = seal(Kind::Data as u64, 77, Group(9), 84, b"abcd") else {
-        assert!(rt; false, "no block");
-        return;
-    };
-    assert!(rt; block.as_bytes()[..72] == DATA[..]);
-    let Ok(payload) = open(block.as_bytes(), &expected()) else {
-        assert!(rt; false, "it does not open");
-        return;
-    };
-    assert!(rt; payload.group() == Group(9));
-    assert!(rt; payload.as_slice()[..5] == b"abcd\0"[..]);
-    assert!(rt; payload.as_slice().len() == PAYLOAD_SIZE);
+// Whether a block of `abcd` has its bytes, the group that it is opened with, whether its payload begins with `abcd` and a zero,
+// and how long this is.
+fn seal_and_open() -> Result<(bool, Group, bool, usize), PoolError> {
+    let block = seal(Kind::Data as u64, 77, Group(9), 84, b"abcd")?;
+    let has_bytes = block.as_bytes()[..72] == DATA[..];
+    let payload = open(block.as_bytes(), &expected())?;
+    let bytes = payload.as_slice();
+    let is_same = bytes.get(..5) == Some(b"abcd\0".as_slice());
+    Ok((has_bytes, payload.group(), is_same, bytes.len()))
 }
 
 #[test]
-fn seals_a_full_log_block(rt: HostRuntime) {
+fn seals_and_opens_a_data_block(rt: HostRuntime) {
+    assert_eq!(rt; seal_and_open(), Ok((true, Group(9), true, PAYLOAD_SIZE)));
+}
+
+// The check of a block whose payload is full.
+fn check_full() -> Result<[u8; 32], PoolError> {
     let mut payload = [0; PAYLOAD_SIZE];
     for (i, byte) in payload.iter_mut().enumerate() {
         *byte = (i % 251) as u8;
     }
-    let Ok(block) = seal(Kind::Log as u64, u64::MAX, Group(1 << 60), 3, &payload) else {
-        assert!(rt; false, "no block");
-        return;
-    };
-    assert!(rt; block.check() == FULL_CHECK);
+    let block = seal(Kind::Log as u64, u64::MAX, Group(1 << 60), 3, &payload)?;
+    Ok(block.check())
+}
+
+#[test]
+fn seals_a_full_log_block(rt: HostRuntime) {
+    assert_eq!(rt; check_full(), Ok(FULL_CHECK));
+}
+
+fn seal_refusal(kind: u64, payload: &[u8]) -> Option<PoolError> {
+    seal(kind, 77, Group(9), 0, payload).err()
+}
+
+fn open_refusal(bytes: &[u8; BLOCK_SIZE]) -> Option<PoolError> {
+    open(bytes, &expected()).err()
 }
 
 #[test]
 fn refuses(rt: HostRuntime) {
-    assert!(rt; matches!(seal(7, 77, Group(9), 0, b""), Err(PoolError::BadRange)));
-    assert!(rt;
-        matches!(
-            seal(1, 77, Group(9), 0, &[0; 4033]),
-            Err(PoolError::BadRange)
-        )
-    );
-    let torn = [0; BLOCK_SIZE];
-    assert!(rt;
-        matches!(
-            open(&torn, &expected()),
-            Err(PoolError::Damaged {
-                kind: 5,
-                address: 4194304,
-            })
-        )
-    );
+    assert_eq!(rt; seal_refusal(7, b""), Some(PoolError::BadRange));
+    assert_eq!(rt; seal_refusal(1, &[0; 4033]), Some(PoolError::BadRange));
+    let damaged = PoolError::Damaged {
+        kind: 5,
+        address: 4194304,
+    };
+    assert_eq!(rt; open_refusal(&[0; BLOCK_SIZE]), Some(damaged));
 }

@@ -1,42 +1,65 @@
 //! The dirty bytes: charges up to the limit, one past it, and sums that end.
 
 use base::{Group, PoolError};
-use std::test::Fail;
 use throttle::Dirty;
 
-#[test]
-fn charges_reach_the_limit_and_none_passes_it(rt: HostRuntime) -> Result<(), Fail> {
+// The answers to two charges of 16,384 bytes, a third, the rest of 40,960 and more than any; whether the third is throttled;
+// and the sums behind the third and behind the rest.
+fn charges() -> ([Result<(), PoolError>; 5], bool, [u64; 2]) {
     let mut dirty = Dirty::new(40_960, Group(8));
-    assert_eq!(rt; dirty.admit(Group(9), 16_384), Ok(()));
-    assert_eq!(rt; dirty.admit(Group(9), 16_384), Ok(()));
-    assert!(rt; dirty.is_throttled(16_384));
-    assert_eq!(rt; dirty.admit(Group(9), 16_384), Err(PoolError::Throttled));
-    assert_eq!(rt; dirty.total(), 32_768);
-    assert_eq!(rt; dirty.admit(Group(9), 8_192), Ok(()));
-    assert_eq!(rt; dirty.total(), 40_960);
-    assert_eq!(rt; dirty.admit(Group(9), u64::MAX), Err(PoolError::Throttled));
-    Ok(())
+    let first = dirty.admit(Group(9), 16_384);
+    let second = dirty.admit(Group(9), 16_384);
+    let is_throttled = dirty.is_throttled(16_384);
+    let third = dirty.admit(Group(9), 16_384);
+    let before = dirty.total();
+    let rest = dirty.admit(Group(9), 8_192);
+    let after = dirty.total();
+    let most = dirty.admit(Group(9), u64::MAX);
+    (
+        [first, second, third, rest, most],
+        is_throttled,
+        [before, after],
+    )
 }
 
 #[test]
-fn a_sum_ends_where_its_group_is_synced(rt: HostRuntime) -> Result<(), Fail> {
+fn charges_reach_the_limit_and_none_passes_it(rt: HostRuntime) {
+    let refused = Err(PoolError::Throttled);
+    assert_eq!(rt;
+        charges(),
+        (
+            [Ok(()), Ok(()), refused, Ok(()), refused],
+            true,
+            [32_768, 40_960]
+        )
+    );
+}
+
+// The sums of groups 9 to 12 and of group 0.
+fn sums(dirty: &Dirty) -> [u64; 5] {
+    [9, 10, 11, 12, 0].map(|group| dirty.of(Group(group)))
+}
+
+// Three groups are charged, one of them is cancelled in part, and the oldest is synced: the sums before and behind that, their
+// total then, and whether the rest and one more are throttled.
+fn sums_about_a_sync() -> Result<([[u64; 5]; 2], u64, [bool; 2]), PoolError> {
     let mut dirty = Dirty::new(40_960, Group(8));
     dirty.admit(Group(9), 20_480)?;
     dirty.admit(Group(11), 12_288)?;
     dirty.admit(Group(10), 8_192)?;
     dirty.cancel(Group(10), 4_096);
-    assert_eq!(rt;
-        [dirty.of(Group(9)), dirty.of(Group(10)), dirty.of(Group(11))],
-        [20_480, 4_096, 12_288]
-    );
+    let before = sums(&dirty);
     dirty.synced(Group(9));
+    let throttled = [dirty.is_throttled(24_576), dirty.is_throttled(24_577)];
+    Ok(([before, sums(&dirty)], dirty.total(), throttled))
+}
+
+#[test]
+fn a_sum_ends_where_its_group_is_synced(rt: HostRuntime) {
+    let before = [20_480, 4_096, 12_288, 0, 0];
+    let after = [0, 4_096, 12_288, 0, 0];
     assert_eq!(rt;
-        [dirty.of(Group(9)), dirty.of(Group(10)), dirty.of(Group(11))],
-        [0, 4_096, 12_288]
+        sums_about_a_sync(),
+        Ok(([before, after], 16_384, [false, true]))
     );
-    assert_eq!(rt; [dirty.of(Group(12)), dirty.of(Group(0))], [0, 0]);
-    assert_eq!(rt; dirty.total(), 16_384);
-    assert!(rt; !dirty.is_throttled(24_576));
-    assert!(rt; dirty.is_throttled(24_577));
-    Ok(())
 }

@@ -19,72 +19,102 @@ fn config(guid: u64, group: u64) -> Option<LabelConfig> {
     Some(LabelConfig::new(guid, Group(group), 8_388_608, name))
 }
 
+// What lies where on 8 MiB: the size, the four labels, the config of the last one, slot 8 of the first, and how many blocks.
+fn places() -> Result<[u64; 8], PoolError> {
+    let geometry = Geometry::of(16_384)?;
+    Ok([
+        geometry.size(),
+        geometry.label_place(0),
+        geometry.label_place(1),
+        geometry.label_place(2),
+        geometry.label_place(3),
+        geometry.config_place(3),
+        geometry.slot_place(0, 8),
+        geometry.blocks(),
+    ])
+}
+
+// Which of these are addresses of blocks on a device.
+fn are_addresses(sectors: u64, addresses: [u64; 3]) -> Result<[bool; 3], PoolError> {
+    let geometry = Geometry::of(sectors)?;
+    Ok([
+        geometry.is_block_address(addresses[0]),
+        geometry.is_block_address(addresses[1]),
+        geometry.is_block_address(addresses[2]),
+    ])
+}
+
 #[test]
 fn lays_out_8_mib(rt: HostRuntime) {
-    let Ok(geometry) = Geometry::of(16_384) else {
-        assert!(rt; false, "no geometry");
-        return;
-    };
-    assert_eq!(rt; geometry.size(), 8_388_608);
-    assert_eq!(rt; geometry.label_place(0), 0);
-    assert_eq!(rt; geometry.label_place(1), 262_144);
-    assert_eq!(rt; geometry.label_place(2), 7_864_320);
-    assert_eq!(rt; geometry.label_place(3), 8_126_464);
-    assert_eq!(rt; geometry.config_place(3), 8_142_848);
-    assert_eq!(rt; geometry.slot_place(0, 8), 139_264);
-    assert_eq!(rt; geometry.blocks(), 896);
-    assert!(rt; geometry.is_block_address(4_198_400));
-    assert!(rt; !geometry.is_block_address(4_198_912));
-    assert!(rt; !geometry.is_block_address(7_864_320));
+    let wanted = [
+        8_388_608, 0, 262_144, 7_864_320, 8_126_464, 8_142_848, 139_264, 896,
+    ];
+    assert_eq!(rt; places(), Ok(wanted));
+    assert_eq!(rt;
+        are_addresses(16_384, [4_198_400, 4_198_912, 7_864_320]),
+        Ok([true, false, false])
+    );
+}
+
+// How many blocks a device has.
+fn blocks_of(sectors: u64) -> Result<u64, PoolError> {
+    Ok(Geometry::of(sectors)?.blocks())
 }
 
 #[test]
 fn lays_out_the_least_and_the_greatest_device(rt: HostRuntime) {
-    let (Ok(least), Ok(greatest)) = (Geometry::of(12_288), Geometry::of(2_097_152)) else {
-        assert!(rt; false, "no geometry");
-        return;
-    };
-    assert_eq!(rt; least.blocks(), 384);
-    assert!(rt; least.is_block_address(5_763_072));
-    assert!(rt; !least.is_block_address(5_767_168));
-    assert_eq!(rt; greatest.blocks(), 260_992);
-    for sectors in [0, 12_287, 12_289, 2_097_664, u64::MAX] {
-        assert!(rt;
-            matches!(Geometry::of(sectors), Err(PoolError::BadGeometry)),
-            "at {sectors}"
-        );
+    let bad = Err(PoolError::BadGeometry);
+    for (sectors, told) in [
+        (12_288, Ok(384)),
+        (2_097_152, Ok(260_992)),
+        (0, bad),
+        (12_287, bad),
+        (12_289, bad),
+        (2_097_664, bad),
+        (u64::MAX, bad),
+    ] {
+        assert_eq!(rt; blocks_of(sectors), told, "at {sectors}");
     }
+    assert_eq!(rt;
+        are_addresses(12_288, [4_194_304, 5_763_072, 5_767_168]),
+        Ok([true, true, false])
+    );
+}
+
+// The address of the last block of the least device, and the number of the block there.
+fn last_block() -> Result<(u64, u64), PoolError> {
+    let geometry = Geometry::of(12_288)?;
+    if geometry.blocks() != 384 || !geometry.is_block_address(5_763_072) {
+        return Err(PoolError::BadGeometry);
+    }
+    Ok((geometry.block_address(383), geometry.block_index(5_763_072)))
 }
 
 #[test]
 fn numbers_blocks(rt: HostRuntime) {
-    let Ok(geometry) = Geometry::of(12_288) else {
-        assert!(rt; false, "no geometry");
-        return;
-    };
-    assert!(rt; geometry.blocks() == 384);
-    assert_eq!(rt; geometry.block_address(383), 5_763_072);
-    assert!(rt; geometry.is_block_address(5_763_072));
-    assert_eq!(rt; geometry.block_index(5_763_072), 383);
+    assert_eq!(rt; last_block(), Ok((5_763_072, 383)));
+}
+
+// Whether the config of group 4 begins with its bytes.
+fn has_bytes() -> Option<bool> {
+    let block = config(77, 4)?.encode();
+    Some(block.as_bytes()[..96] == CONFIG[..])
+}
+
+// The guid, the group and the size of the config that is read from it on a device of so many bytes, and whether its name is
+// `tank`.
+fn read_back(size: u64) -> Option<(u64, Group, u64, bool)> {
+    let block = config(77, 4)?.encode();
+    let read = LabelConfig::decode(block.as_bytes(), size)?;
+    let is_tank = read.name().as_slice() == b"tank".as_slice();
+    Some((read.guid(), read.group(), read.size(), is_tank))
 }
 
 #[test]
 fn writes_and_reads_a_config(rt: HostRuntime) {
-    let Some(written) = config(77, 4) else {
-        assert!(rt; false, "no name");
-        return;
-    };
-    let block = written.encode();
-    assert!(rt; block.as_bytes()[..96] == CONFIG[..]);
-    let Some(read) = LabelConfig::decode(block.as_bytes(), 8_388_608) else {
-        assert!(rt; false, "no config");
-        return;
-    };
-    assert_eq!(rt; read.guid(), 77);
-    assert!(rt; read.group() == Group(4));
-    assert_eq!(rt; read.size(), 8_388_608);
-    assert!(rt; read.name().as_slice() == b"tank".as_slice());
-    assert!(rt; LabelConfig::decode(block.as_bytes(), 6_291_456).is_none());
+    assert_eq!(rt; has_bytes(), Some(true));
+    assert_eq!(rt; read_back(8_388_608), Some((77, Group(4), 8_388_608, true)));
+    assert_eq!(rt; read_back(6_291_456), None);
 }
 
 #[test]

@@ -3,8 +3,7 @@
 use base::{Bytes, ObjectId, Op, PoolError, PoolName, RECORD_SIZE, Range};
 use extents::{Basis, Extents, Laid, ObjectPatch, UnsyncedExtents};
 use object_maps::{Contents, ObjectSource, read_range};
-use std::alloc::Global;
-use std::test::Fail;
+use std::alloc::{AllocError, Global};
 
 const OBJECT: ObjectId = ObjectId(1);
 
@@ -20,100 +19,184 @@ fn contents(alloc: Global) -> Result<Contents, PoolError> {
     Ok(Contents::new(alloc, name)?)
 }
 
-#[test]
-fn a_patch_grows_and_cuts(rt: HostRuntime) -> Result<(), Fail> {
-    let alloc = rt.alloc();
-    let mut patch = ObjectPatch::new(alloc)?;
-    assert_eq!(rt; patch.basis.length_over(Some(10)), Some(10));
+// The lengths over 10 and 5,000 bytes and over no object.
+fn lengths_over(patch: &ObjectPatch) -> [Option<u64>; 3] {
+    [Some(10), Some(5_000), None].map(|length| patch.basis.length_over(length))
+}
+
+// The basis and the lengths of a patch: new, with bytes across two records, cut, and grown again.
+fn grow_and_cut(patch: &mut ObjectPatch) -> Result<([[Option<u64>; 3]; 3], Basis), PoolError> {
+    let new = lengths_over(patch);
     // the last two bytes of the first record, and two of the second
     patch.reserve_write(4_030, 4)?;
     patch.write(4_030, b"abcd");
-    assert_eq!(rt; patch.basis.length_over(Some(10)), Some(4_034));
-    assert_eq!(rt; patch.basis.length_over(Some(5_000)), Some(5_000));
-    assert_eq!(rt; patch.basis.length_over(None), None);
+    let written = lengths_over(patch);
     patch.set_length(4_031);
-    assert_eq!(rt;
-        patch.basis,
-        Basis::Cut {
-            kept: 4_031,
-            length: 4_031,
-        }
-    );
+    let cut = patch.basis;
     patch.set_length(5_000);
-    assert_eq!(rt; patch.basis.length_over(Some(10)), Some(5_000));
-    Ok(())
+    Ok(([new, written, lengths_over(patch)], cut))
+}
+
+// They, of a new patch.
+fn grown_and_cut(alloc: Global) -> Result<([[Option<u64>; 3]; 3], Basis), PoolError> {
+    grow_and_cut(&mut ObjectPatch::new(alloc)?)
 }
 
 #[test]
-fn an_object_is_removed_and_made_again(rt: HostRuntime) -> Result<(), Fail> {
-    let alloc = rt.alloc();
-    let mut patch = ObjectPatch::new(alloc)?;
+fn a_patch_grows_and_cuts(rt: HostRuntime) {
+    let new = [Some(10), Some(5_000), None];
+    let written = [Some(4_034), Some(5_000), None];
+    let grown = [Some(5_000), Some(5_000), None];
+    let cut = Basis::Cut {
+        kept: 4_031,
+        length: 4_031,
+    };
+    assert_eq!(rt; grown_and_cut(rt.alloc()), Ok(([new, written, grown], cut)));
+}
+
+// The length over 10 bytes of a patch that removes an object, makes it again and writes a byte.
+fn remove_and_make(patch: &mut ObjectPatch) -> Result<[Option<u64>; 3], PoolError> {
     patch.reserve_write(0, 1)?;
     patch.remove();
-    assert_eq!(rt; patch.basis.length_over(Some(10)), None);
+    let removed = patch.basis.length_over(Some(10));
     patch.create();
-    assert_eq!(rt; patch.basis.length_over(Some(10)), Some(0));
+    let made = patch.basis.length_over(Some(10));
     patch.write(0, b"a");
-    assert_eq!(rt; patch.basis.length_over(Some(10)), Some(1));
-    Ok(())
+    Ok([removed, made, patch.basis.length_over(Some(10))])
+}
+
+// It, of a new patch.
+fn removed_and_made(alloc: Global) -> Result<[Option<u64>; 3], PoolError> {
+    remove_and_make(&mut ObjectPatch::new(alloc)?)
 }
 
 #[test]
-fn a_group_is_laid_over_a_record(rt: HostRuntime) -> Result<(), Fail> {
-    let alloc = rt.alloc();
+fn an_object_is_removed_and_made_again(rt: HostRuntime) {
+    assert_eq!(rt; removed_and_made(rt.alloc()), Ok([None, Some(0), Some(1)]));
+}
+
+// A group that writes across two records and cuts the object behind three bytes of these.
+fn cut_group(alloc: Global) -> Result<Extents, PoolError> {
     let mut group = Extents::new(alloc);
     let write = Op::Write(OBJECT, 4_030, Bytes::from_slice(alloc, b"abcd")?);
     group.add(&vec![in alloc; write, Op::SetLength(OBJECT, 4_033)]?)?;
-    assert_eq!(rt; group.length_over(OBJECT, Some(10)), Some(4_033));
-    assert_eq!(rt; group.length_over(ObjectId(2), Some(10)), Some(10));
+    Ok(group)
+}
+
+// The first three bytes and the last two of the first record, under a group.
+fn ends_of_first(group: &Extents) -> ([u8; 3], [u8; 2]) {
     let mut record = [0; RECORD_SIZE];
     record[..2].copy_from_slice(b"xy");
     group.lay_over(OBJECT, 0, 0, Some(10), &mut record);
-    assert_eq!(rt; record[..3], b"xy\0"[..]);
-    assert_eq!(rt; record[4_030..], b"ab"[..]);
-    // of the second record the cut leaves one byte, and what lies below it doesn't show behind the cut
-    let mut next = [b'z'; RECORD_SIZE];
-    group.lay_over(OBJECT, 1, 0, Some(9_000), &mut next);
-    assert_eq!(rt; next[..3], b"c\0\0"[..]);
-    Ok(())
+    (
+        [record[0], record[1], record[2]],
+        [record[4_030], record[4_031]],
+    )
+}
+
+// The first three bytes of the second record, under a group.
+fn front_of_second(group: &Extents) -> [u8; 3] {
+    let mut record = [b'z'; RECORD_SIZE];
+    group.lay_over(OBJECT, 1, 0, Some(9_000), &mut record);
+    [record[0], record[1], record[2]]
+}
+
+// What such a group makes of objects of 10 bytes, and of two records.
+fn laid_over(alloc: Global) -> Result<([Option<u64>; 2], ([u8; 3], [u8; 2]), [u8; 3]), PoolError> {
+    let group = cut_group(alloc)?;
+    let lengths = [
+        group.length_over(OBJECT, Some(10)),
+        group.length_over(OTHER, Some(10)),
+    ];
+    Ok((lengths, ends_of_first(&group), front_of_second(&group)))
 }
 
 #[test]
-fn a_created_object_has_no_byte_of_before(rt: HostRuntime) -> Result<(), Fail> {
-    let alloc = rt.alloc();
-    let mut group = Extents::new(alloc);
+fn a_group_is_laid_over_a_record(rt: HostRuntime) {
+    let lengths = [Some(4_033), Some(10)];
+    // of the second record the cut leaves one byte, and what lies below it doesn't show behind the cut
+    assert_eq!(rt;
+        laid_over(rt.alloc()),
+        Ok((lengths, (*b"xy\0", *b"ab"), *b"c\0\0"))
+    );
+}
+
+// A group removes an object that it wrote to.
+fn write_and_remove(alloc: Global, group: &mut Extents) -> Result<(), AllocError> {
     let write = Op::Write(OBJECT, 0, Bytes::from_slice(alloc, b"abcd")?);
-    group.add(&vec![in alloc; write, Op::Remove(OBJECT)]?)?;
-    assert_eq!(rt; group.length_over(OBJECT, Some(10)), None);
-    group.add(&vec![in alloc; Op::Create(OBJECT), Op::SetLength(OBJECT, 3)]?)?;
-    assert_eq!(rt; group.length_over(OBJECT, Some(10)), Some(3));
+    group.add(&vec![in alloc; write, Op::Remove(OBJECT)]?)
+}
+
+// The group makes it again, of three bytes.
+fn make_again(alloc: Global, group: &mut Extents) -> Result<(), AllocError> {
+    group.add(&vec![in alloc; Op::Create(OBJECT), Op::SetLength(OBJECT, 3)]?)
+}
+
+// The first bytes of the first record of an object of 10 bytes, under a group.
+fn front_of_first(group: &Extents) -> [u8; 5] {
     let mut record = [b'z'; RECORD_SIZE];
     group.lay_over(OBJECT, 0, 0, Some(10), &mut record);
-    assert_eq!(rt; record[..5], b"\0\0\0\0\0"[..]);
-    Ok(())
+    [record[0], record[1], record[2], record[3], record[4]]
+}
+
+// The lengths of the object behind the removal and made again, and its first bytes.
+fn made_again(alloc: Global) -> Result<([Option<u64>; 2], [u8; 5]), PoolError> {
+    let mut group = Extents::new(alloc);
+    write_and_remove(alloc, &mut group)?;
+    let removed = group.length_over(OBJECT, Some(10));
+    make_again(alloc, &mut group)?;
+    let made = group.length_over(OBJECT, Some(10));
+    Ok(([removed, made], front_of_first(&group)))
 }
 
 #[test]
-fn a_synced_group_becomes_part_of_contents(rt: HostRuntime) -> Result<(), Fail> {
-    let alloc = rt.alloc();
-    let mut contents = contents(alloc)?;
-    let mut first = Extents::new(alloc);
+fn a_created_object_has_no_byte_of_before(rt: HostRuntime) {
+    assert_eq!(rt; made_again(rt.alloc()), Ok(([None, Some(3)], [0; 5])));
+}
+
+// A group that makes both objects, one with bytes across its first two records.
+fn first_group(alloc: Global) -> Result<Extents, PoolError> {
+    let mut group = Extents::new(alloc);
     let write = Op::Write(OBJECT, 4_030, Bytes::from_slice(alloc, b"abcd")?);
-    first.add(&vec![in alloc; Op::Create(OBJECT), write, Op::Create(OTHER)]?)?;
-    first.reserve_in(&mut contents)?;
-    first.lay_into(&mut contents);
-    let object = contents.object(OBJECT).unwrap_or(&[]);
-    assert!(rt; object.get(4_029..) == Some(b"\0abcd".as_slice()));
-    assert_eq!(rt; contents.object(OTHER).map(|bytes| bytes.len()), Some(0));
-    let mut second = Extents::new(alloc);
+    group.add(&vec![in alloc; Op::Create(OBJECT), write, Op::Create(OTHER)]?)?;
+    Ok(group)
+}
+
+// A group that cuts the one, writes behind the cut and removes the other.
+fn second_group(alloc: Global) -> Result<Extents, PoolError> {
+    let mut group = Extents::new(alloc);
     let write = Op::Write(OBJECT, 4_035, Bytes::from_slice(alloc, b"x")?);
-    second.add(&vec![in alloc; Op::SetLength(OBJECT, 4_033), write, Op::Remove(OTHER)]?)?;
-    second.reserve_in(&mut contents)?;
-    second.lay_into(&mut contents);
+    group.add(&vec![in alloc; Op::SetLength(OBJECT, 4_033), write, Op::Remove(OTHER)]?)?;
+    Ok(group)
+}
+
+// Whether the object has these bytes behind its first 4,029 ones, and the length of the other one, once a group is synced.
+fn sync_into(
+    contents: &mut Contents,
+    group: &Extents,
+    wanted: &[u8],
+) -> Result<(bool, Option<usize>), PoolError> {
+    group.reserve_in(contents)?;
+    group.lay_into(contents);
     let object = contents.object(OBJECT).unwrap_or(&[]);
-    assert!(rt; object.get(4_029..) == Some(b"\0abc\0\0x".as_slice()));
-    assert!(rt; contents.object(OTHER).is_none());
-    Ok(())
+    let is_wanted = object.get(4_029..) == Some(wanted);
+    Ok((is_wanted, contents.object(OTHER).map(|bytes| bytes.len())))
+}
+
+// They, of one group and then the next.
+fn synced_groups(alloc: Global) -> Result<[(bool, Option<usize>); 2], PoolError> {
+    let mut contents = contents(alloc)?;
+    let first = sync_into(&mut contents, &first_group(alloc)?, b"\0abcd")?;
+    let second = sync_into(&mut contents, &second_group(alloc)?, b"\0abc\0\0x")?;
+    Ok([first, second])
+}
+
+#[test]
+fn a_synced_group_becomes_part_of_contents(rt: HostRuntime) {
+    assert_eq!(rt;
+        synced_groups(rt.alloc()),
+        Ok([(true, Some(0)), (true, None)])
+    );
 }
 
 // A group that makes the object, with bytes across its first two records.
@@ -153,19 +236,33 @@ fn range_has(
     Ok(bytes.as_slice() == wanted)
 }
 
+// The lengths of both objects, bytes of the one's second record and of its first one, and whether a range has its bytes,
+// through a group over empty contents.
+fn read_through(alloc: Global) -> Result<([Option<u64>; 2], [[u8; 3]; 2], bool), PoolError> {
+    let contents = contents(alloc)?;
+    let group = written_group(alloc)?;
+    let lengths = lengths_through(&group, &contents);
+    let second = second_record(&group, &contents)?;
+    let first = part_of_first(&group, &contents)?;
+    let has_range = range_has(alloc, &group, &contents, b"\0abcd")?;
+    Ok((lengths, [second, first], has_range))
+}
+
+// The lengths of both objects, through a group.
+fn lengths_through(group: &Extents, contents: &Contents) -> [Option<u64>; 2] {
+    [
+        Laid::new(group, contents).length(OBJECT),
+        Laid::new(group, contents).length(OTHER),
+    ]
+}
+
 #[test]
-fn a_source_is_read_through_a_group(rt: HostRuntime) -> Result<(), Fail> {
-    let contents = contents(rt.alloc())?;
-    let group = written_group(rt.alloc())?;
-    assert_eq!(rt; Laid::new(&group, &contents).length(OBJECT), Some(4_034));
-    assert_eq!(rt; Laid::new(&group, &contents).length(OTHER), None);
-    assert_eq!(rt; second_record(&group, &contents), Ok(*b"cd\0"));
-    assert_eq!(rt; part_of_first(&group, &contents), Ok(*b"\0ab"));
+fn a_source_is_read_through_a_group(rt: HostRuntime) {
+    let records = [*b"cd\0", *b"\0ab"];
     assert_eq!(rt;
-        range_has(rt.alloc(), &group, &contents, b"\0abcd"),
-        Ok(true)
+        read_through(rt.alloc()),
+        Ok(([Some(4_034), None], records, true))
     );
-    Ok(())
 }
 
 // Whether the front of the object, with the changes of all groups, has these bytes.
@@ -222,19 +319,27 @@ fn sync_oldest(groups: &mut UnsyncedExtents, contents: &mut Contents) -> Result<
     Ok(())
 }
 
+// Whether the front is that of three groups before the oldest is synced and behind that, and the object's length then.
+fn fronts_about_a_sync(
+    alloc: Global,
+    groups: &mut UnsyncedExtents,
+    contents: &mut Contents,
+) -> Result<([bool; 2], Option<usize>), PoolError> {
+    let before = front_has(alloc, groups, contents, b"aabbb")?;
+    sync_oldest(groups, contents)?;
+    let after = front_has(alloc, groups, contents, b"aabbb")?;
+    Ok((
+        [before, after],
+        contents.object(OBJECT).map(|bytes| bytes.len()),
+    ))
+}
+
+// They, over empty contents.
+fn three_groups_laid(alloc: Global) -> Result<([bool; 2], Option<usize>), PoolError> {
+    fronts_about_a_sync(alloc, &mut three_groups(alloc)?, &mut contents(alloc)?)
+}
+
 #[test]
-fn three_groups_are_laid_over_one_another(rt: HostRuntime) -> Result<(), Fail> {
-    let mut contents = contents(rt.alloc())?;
-    let mut groups = three_groups(rt.alloc())?;
-    assert_eq!(rt;
-        front_has(rt.alloc(), &groups, &contents, b"aabbb"),
-        Ok(true)
-    );
-    assert_eq!(rt; sync_oldest(&mut groups, &mut contents), Ok(()));
-    assert_eq!(rt; contents.object(OBJECT).map(|bytes| bytes.len()), Some(4));
-    assert_eq!(rt;
-        front_has(rt.alloc(), &groups, &contents, b"aabbb"),
-        Ok(true)
-    );
-    Ok(())
+fn three_groups_are_laid_over_one_another(rt: HostRuntime) {
+    assert_eq!(rt; three_groups_laid(rt.alloc()), Ok(([true, true], Some(4))));
 }

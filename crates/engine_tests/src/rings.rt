@@ -4,11 +4,11 @@ ghost use Rattle.std.specs.Prelude.{◌≡◌, ◌*◌, ◌≤◌, ◌<◌, leng
 
 use base::{Group, Pointer, Version};
 use sha2::{Digest, Sha256};
-use std::test::Fail;
+use std::alloc::{AllocError, Global};
 use uberblocks::{ARRAY_SIZE, LABEL_COUNT, SLOT_SIZE, Uberblock, active, slot};
 
-/// An uberblock of this group.
-fn of_group(group: u64) -> Uberblock
+/// An uberblock of this pool and group.
+fn uberblock(guid: u64, group: u64) -> Uberblock
     ensures group { result.group.0 ≡ group }
     ensures import { result.import_number ≡ 1 }
     ensures log { result.log_number ≡ 5 }
@@ -21,7 +21,7 @@ fn of_group(group: u64) -> Uberblock
     Uberblock {
         version: Version::One,
         group: Group(group),
-        guid: 77,
+        guid,
         moment: 1_700_000_000,
         root: Pointer {
             address: 4_198_400,
@@ -51,33 +51,41 @@ const CHECK: [u8; 32] = [
     0x6d, 0x35, 0x36, 0xb5, 0xf8, 0x99, 0x20, 0x73, 0x0d, 0xd5, 0xf6, 0xc7, 0xbe, 0x74, 0x2b, 0xa3,
 ];
 
-#[test]
-fn encodes(rt: HostRuntime) {
-    let bytes = of_group(208).encode();
+/// Whether the fields of an uberblock have their bytes, all behind them are zeros, and the check has its bytes.
+fn encodes_parts() -> [bool; 3] {
+    let bytes = uberblock(77, 208).encode();
     let (fields, rest) = bytes.split_at(112);
     let (zeros, check) = rest.split_at(880);
-    assert_eq!(rt; fields, FIELDS.as_slice());
-    assert!(rt; zeros.iter().all(|byte| *byte == 0));
-    assert_eq!(rt; check, CHECK.as_slice());
-    assert_eq!(rt; Uberblock::decode(&bytes), Some(of_group(208)));
+    [
+        fields == FIELDS.as_slice(),
+        zeros.iter().all(|byte| *byte == 0),
+        check == CHECK.as_slice(),
+    ]
 }
 
-/// A slot with one byte changed, and then with the check of its other bytes.
-fn with_byte(place: usize, value: u8) -> ([u8; SLOT_SIZE], [u8; SLOT_SIZE])
-    requires { place < 1024 }
-{
-    let mut torn = of_group(208).encode();
-    torn[place] = value;
-    let mut sealed = torn;
-    let (covered, check) = sealed.split_at_mut(992);
+#[test]
+fn encodes(rt: HostRuntime) {
+    assert_eq!(rt; encodes_parts(), [true; 3]);
+    let decoded = Uberblock::decode(&uberblock(77, 208).encode());
+    assert_eq!(rt; decoded, Some(uberblock(77, 208)));
+}
+
+/// Whether a slot with one byte changed is an uberblock, as it is and with the check of its other bytes.
+fn decodes_with(place: usize, value: u8) -> [bool; 2] {
+    let mut slot = uberblock(77, 208).encode();
+    if let Some(byte) = slot.get_mut(place) {
+        *byte = value;
+    }
+    let torn = Uberblock::decode(&slot).is_some();
+    let (covered, check) = slot.split_at_mut(992);
     check.copy_from_slice(&Sha256::digest(covered));
-    (torn, sealed)
+    [torn, Uberblock::decode(&slot).is_some()]
 }
 
 #[test]
 fn decodes_no_damaged_slot(rt: HostRuntime) {
-    // a byte of each field, and whether the slot is an uberblock where its check agrees
-    let damages = [
+    // a byte of each field and of the check, and whether the slot is an uberblock where its check agrees
+    for (place, value, is_valid) in [
         (0, 0x0d, false),
         (8, 2, false),
         (15, 1, false),
@@ -93,19 +101,10 @@ fn decodes_no_damaged_slot(rt: HostRuntime) {
         (111, 0x11, false),
         (112, 1, false),
         (991, 1, false),
-    ];
-    for (place, value, is_valid) in damages {
-        assert!(rt; place < SLOT_SIZE);
-        let (torn, sealed) = with_byte(place, value);
-        assert_eq!(rt; Uberblock::decode(&torn), None, "torn at {place}");
-        assert_eq!(rt;
-            Uberblock::decode(&sealed).is_some(),
-            is_valid,
-            "sealed at {place}"
-        );
+        (1023, 0, true),
+    ] {
+        assert_eq!(rt; decodes_with(place, value), [false, is_valid], "at {place}");
     }
-    let (torn, _) = with_byte(1023, 0);
-    assert_eq!(rt; Uberblock::decode(&torn), None);
 }
 
 /// Puts bytes into a slot of a label's array.
@@ -118,37 +117,54 @@ fn store(ring: &mut [u8], label: usize, slot: usize, bytes: &[u8; SLOT_SIZE])
     ring[place..place + SLOT_SIZE].copy_from_slice(bytes);
 }
 
-#[test]
-fn finds_the_active_one(rt: HostRuntime) -> Result<(), Fail> {
-    let mut ring = vec![in rt.alloc(); 0u8; LABEL_COUNT * ARRAY_SIZE]?;
-    assert_eq!(rt; active(&ring), None);
+/// What is active once a slot has these bytes.
+fn active_with(
+    ring: &mut [u8],
+    label: usize,
+    slot: usize,
+    bytes: &[u8; SLOT_SIZE],
+) -> Option<Uberblock>
+    requires size { length ring.old ≡ 4 * 131072 }
+    requires label { label < 4 }
+    requires slot { slot < 128 }
+{
+    store(ring, label, slot, bytes);
+    active(ring)
+}
 
-    assert_eq!(rt; slot(Group(208)), 80);
-    store(&mut ring, 2, 80, &of_group(208).encode());
-    assert_eq!(rt; active(&ring), Some(of_group(208)));
-
-    // in another slot than that of its group it does not count
-    store(&mut ring, 0, 80, &of_group(209).encode());
-    assert_eq!(rt; active(&ring), Some(of_group(208)));
-
-    // the highest group
-    store(&mut ring, 3, 81, &of_group(209).encode());
-    assert_eq!(rt; active(&ring), Some(of_group(209)));
-
-    // of the labels that have this group, the lowest
-    let other = Uberblock {
-        guid: 78,
-        ..of_group(209)
-    };
-    store(&mut ring, 1, 81, &other.encode());
-    assert_eq!(rt; active(&ring), Some(other));
-
-    // all torn
+/// What is active in a ring of zeros as slots are filled, and then torn.
+fn actives(ring: &mut [u8]) -> [Option<Uberblock>; 8]
+    requires { length ring.old ≡ 4 * 131072 }
+{
     let torn = [0xaa; SLOT_SIZE];
-    store(&mut ring, 1, 81, &torn);
-    store(&mut ring, 3, 81, &torn);
-    assert_eq!(rt; active(&ring), Some(of_group(208)));
-    store(&mut ring, 2, 80, &torn);
-    assert_eq!(rt; active(&ring), None);
-    Ok(())
+    [
+        active(ring),
+        active_with(ring, 2, 80, &uberblock(77, 208).encode()),
+        // in another slot than that of its group it does not count
+        active_with(ring, 0, 80, &uberblock(77, 209).encode()),
+        // the highest group
+        active_with(ring, 3, 81, &uberblock(77, 209).encode()),
+        // of the labels that have this group, the lowest
+        active_with(ring, 1, 81, &uberblock(78, 209).encode()),
+        active_with(ring, 1, 81, &torn),
+        active_with(ring, 3, 81, &torn),
+        active_with(ring, 2, 80, &torn),
+    ]
+}
+
+/// They, in a new ring.
+fn actives_of_new(alloc: Global) -> Result<[Option<Uberblock>; 8], AllocError> {
+    let mut ring = vec![in alloc; 0u8; LABEL_COUNT * ARRAY_SIZE]?;
+    Ok(actives(&mut ring))
+}
+
+#[test]
+fn finds_the_active_one(rt: HostRuntime) {
+    assert_eq!(rt; slot(Group(208)), 80);
+    let (older, newer) = (Some(uberblock(77, 208)), Some(uberblock(77, 209)));
+    let lowest = Some(uberblock(78, 209));
+    assert_eq!(rt;
+        actives_of_new(rt.alloc()),
+        Ok([None, older, older, newer, lowest, newer, older, None])
+    );
 }

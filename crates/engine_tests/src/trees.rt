@@ -5,7 +5,6 @@ use checked_blocks::{Frame, Kind, PAYLOAD_SIZE, seal};
 use device_model::{Fault, MemDevice, SectorDevice};
 use object_maps::{Loaded, load};
 use std::alloc::Global;
-use std::test::Fail;
 
 // The addresses of the record, the indirect block, the directory and the root of a tree, and of one more block.
 const RECORD: u64 = 4_198_400;
@@ -188,7 +187,7 @@ fn damaged(kind: u64, address: u64) -> Option<PoolError> {
 }
 
 #[test]
-fn each_damage_is_told_with_its_kind_and_block(rt: HostRuntime) -> Result<(), Fail> {
+fn each_damage_is_told_with_its_kind_and_block(rt: HostRuntime) {
     let rows = [
         (Damage::None, None),
         (Damage::RootNamesItself, damaged(3, ROOT)),
@@ -209,69 +208,141 @@ fn each_damage_is_told_with_its_kind_and_block(rt: HostRuntime) -> Result<(), Fa
     for (damage, refusal) in rows {
         assert_eq!(rt; refusal_of(rt.alloc(), damage), refusal);
     }
-    Ok(())
 }
 
-#[test]
-fn a_torn_block_is_told(rt: HostRuntime) -> Result<(), Fail> {
-    for (kind, address) in [(2, ROOT), (3, DIRECTORY), (4, INDIRECT), (5, RECORD)] {
-        let mut device = device(rt.alloc())?;
-        let root = write_tree(&mut device, Damage::None)?;
-        overwrite(&mut device, address, &[0xAA; 4096])?;
-        let refusal = load_from(rt.alloc(), &mut device, root).err();
-        assert_eq!(rt; refusal, damaged(kind, address));
-    }
-    let mut device = device(rt.alloc())?;
-    let refusal = load_from(rt.alloc(), &mut device, pointer_without_address()).err();
-    assert_eq!(rt; refusal, damaged(2, 0));
-    Ok(())
-}
-
-#[test]
-fn each_read_that_fails_is_told(rt: HostRuntime) -> Result<(), Fail> {
-    let mut device = device(rt.alloc())?;
+// The load of the tree with its block at this address torn.
+fn try_load_torn(alloc: Global, address: u64) -> Result<Loaded, PoolError> {
+    let mut device = device(alloc)?;
     let root = write_tree(&mut device, Damage::None)?;
-    for n in 1..5 {
-        device.fail(Fault::Read, n);
-        let refusal = load_from(rt.alloc(), &mut device, root).err();
-        assert_eq!(rt; refusal, Some(PoolError::Read));
+    overwrite(&mut device, address, &[0xAA; 4096])?;
+    load_from(alloc, &mut device, root)
+}
+
+// The load of no tree.
+fn try_load_nothing(alloc: Global) -> Result<Loaded, PoolError> {
+    load_from(alloc, &mut device(alloc)?, pointer_without_address())
+}
+
+// The refusals of both.
+fn torn_refusal(alloc: Global, address: u64) -> Option<PoolError> {
+    try_load_torn(alloc, address).err()
+}
+
+fn missing_refusal(alloc: Global) -> Option<PoolError> {
+    try_load_nothing(alloc).err()
+}
+
+#[test]
+fn a_torn_block_is_told(rt: HostRuntime) {
+    for (kind, address) in [(2, ROOT), (3, DIRECTORY), (4, INDIRECT), (5, RECORD)] {
+        assert_eq!(rt; torn_refusal(rt.alloc(), address), damaged(kind, address));
     }
-    let loaded = load_from(rt.alloc(), &mut device, root)?;
-    assert!(rt; loaded.slots[1].present);
-    assert!(rt; loaded.slots[1].bytes.as_slice() == b"abcd".as_slice());
-    assert!(rt; !loaded.slots[0].present);
-    Ok(())
+    assert_eq!(rt; missing_refusal(rt.alloc()), damaged(2, 0));
+}
+
+// The refusal of a load whose so many-th read fails.
+fn refusal_at(
+    alloc: Global,
+    device: &mut MemDevice,
+    root: Pointer,
+    read: u64,
+) -> Option<PoolError> {
+    device.fail(Fault::Read, read);
+    load_from(alloc, device, root).err()
+}
+
+// The refusals of loads of one device, whose first read fails, then the second, and so on.
+fn read_refusals(alloc: Global, device: &mut MemDevice, root: Pointer) -> [Option<PoolError>; 4] {
+    [
+        refusal_at(alloc, device, root, 1),
+        refusal_at(alloc, device, root, 2),
+        refusal_at(alloc, device, root, 3),
+        refusal_at(alloc, device, root, 4),
+    ]
+}
+
+// Whether the objects 0 and 1 are there, and object 1 has these bytes.
+fn holds(loaded: &Loaded, bytes: &[u8]) -> [bool; 3] {
+    let [first, second] = [&loaded.slots[0], &loaded.slots[1]];
+    [
+        first.present,
+        second.present,
+        second.bytes.as_slice() == bytes,
+    ]
+}
+
+// These refusals, and then what a load without a failure holds.
+fn loads_about_failures(alloc: Global) -> Result<([Option<PoolError>; 4], [bool; 3]), PoolError> {
+    let mut device = device(alloc)?;
+    let root = write_tree(&mut device, Damage::None)?;
+    let refusals = read_refusals(alloc, &mut device, root);
+    let loaded = load_from(alloc, &mut device, root)?;
+    Ok((refusals, holds(&loaded, b"abcd")))
+}
+
+#[test]
+fn each_read_that_fails_is_told(rt: HostRuntime) {
+    assert_eq!(rt;
+        loads_about_failures(rt.alloc()),
+        Ok(([Some(PoolError::Read); 4], [false, true, true]))
+    );
+}
+
+// Writes a block whose last pointer alone is one, this one.
+fn store_last_pointer(
+    device: &mut MemDevice,
+    kind: Kind,
+    number: u64,
+    address: u64,
+    pointer: &Pointer,
+) -> Result<Pointer, PoolError> {
+    let mut payload = [0; PAYLOAD_SIZE];
+    write_pointer(&mut payload, 48 * 83, pointer);
+    store(device, kind, number, address, &payload)
+}
+
+// Writes directory 83, whose entry 62 alone is present, of the greatest length.
+fn store_last_directory(device: &mut MemDevice, indirect: &Pointer) -> Result<Pointer, PoolError> {
+    let mut payload = [0; PAYLOAD_SIZE];
+    write_u64(&mut payload, 64 * 62, 1);
+    write_u64(&mut payload, 64 * 62 + 8, 338_688);
+    write_pointer(&mut payload, 64 * 62 + 16, indirect);
+    store(device, Kind::Directory, 83, DIRECTORY, &payload)
+}
+
+// Writes the tree of object 5,291 alone, with no record but the last one.
+fn write_last_object(device: &mut MemDevice) -> Result<Pointer, PoolError> {
+    let bytes = [7; PAYLOAD_SIZE];
+    let record = store(device, Kind::Data, 5_291 * 84 + 83, RECORD, &bytes)?;
+    let indirect = store_last_pointer(device, Kind::Indirect, 5_291, INDIRECT, &record)?;
+    let directory = store_last_directory(device, &indirect)?;
+    store_last_pointer(device, Kind::Root, 0, ROOT, &directory)
+}
+
+// How many bytes the last object has, and its first one, those about the end of its last record but one, and its last one.
+fn last_object(loaded: &Loaded) -> (usize, [Option<u8>; 4]) {
+    let bytes = loaded.slots[5_291].bytes.as_slice();
+    let picked = [
+        bytes.first().copied(),
+        bytes.get(334_655).copied(),
+        bytes.get(334_656).copied(),
+        bytes.last().copied(),
+    ];
+    (bytes.len(), picked)
+}
+
+// They, of the tree of this object.
+fn load_last_object(alloc: Global) -> Result<(usize, [Option<u8>; 4]), PoolError> {
+    let mut device = device(alloc)?;
+    let root = write_last_object(&mut device)?;
+    Ok(last_object(&load_from(alloc, &mut device, root)?))
 }
 
 // Object 5,291 is entry 62 of directory 83; its record 83 ends at its greatest length.
 #[test]
-fn the_last_object_has_its_greatest_length(rt: HostRuntime) -> Result<(), Fail> {
-    let mut device = device(rt.alloc())?;
-    let last = [7; PAYLOAD_SIZE];
-    let record = store(&mut device, Kind::Data, 5_291 * 84 + 83, RECORD, &last)?;
-    let mut indirect = [0; PAYLOAD_SIZE];
-    write_pointer(&mut indirect, 48 * 83, &record);
-    let indirect = store(&mut device, Kind::Indirect, 5_291, INDIRECT, &indirect)?;
-    let mut directory = [0; PAYLOAD_SIZE];
-    write_u64(&mut directory, 64 * 62, 1);
-    write_u64(&mut directory, 64 * 62 + 8, 338_688);
-    write_pointer(&mut directory, 64 * 62 + 16, &indirect);
-    let directory = store(&mut device, Kind::Directory, 83, DIRECTORY, &directory)?;
-    let mut root = [0; PAYLOAD_SIZE];
-    write_pointer(&mut root, 48 * 83, &directory);
-    let root = store(&mut device, Kind::Root, 0, ROOT, &root)?;
-
-    let loaded = load_from(rt.alloc(), &mut device, root)?;
-    let bytes = loaded.slots[5_291].bytes.as_slice();
-    assert_eq!(rt; bytes.len(), 338_688);
+fn the_last_object_has_its_greatest_length(rt: HostRuntime) {
     assert_eq!(rt;
-        [
-            bytes.first().copied(),
-            bytes.get(334_655).copied(),
-            bytes.get(334_656).copied(),
-            bytes.last().copied(),
-        ],
-        [Some(0), Some(0), Some(7), Some(7)]
+        load_last_object(rt.alloc()),
+        Ok((338_688, [Some(0), Some(0), Some(7), Some(7)]))
     );
-    Ok(())
 }
