@@ -6,7 +6,6 @@ use base::{Piece, PoolError};
 use device_model::{Fault, MemDevice};
 use round_trip::{End, Round, play_rounds};
 use std::alloc::Global;
-use std::test::Fail;
 
 // A round that makes an object of 4 bytes, with so many device calls of the sync of its group.
 fn round(
@@ -40,41 +39,40 @@ fn found_with(alloc: Global, calls: usize, piece: Piece) -> Result<Option<usize>
 }
 
 #[test]
-fn a_crash_leaves_the_last_synced_group_or_the_one_that_is_written(
-    rt: HostRuntime,
-) -> Result<(), Fail> {
+fn a_crash_leaves_the_last_synced_group_or_the_one_that_is_written(rt: HostRuntime) {
     // four blocks and a flush, four uberblocks and a flush
     for calls in 0..11 {
-        let synced = Some(4).filter(|_| calls == 10);
-        let written = Some(4).filter(|_| calls > 5);
-        assert_eq!(rt;
-            found_with(rt.alloc(), calls, Piece::Keep)?,
-            written,
-            "{calls} calls"
-        );
-        assert_eq!(rt;
-            found_with(rt.alloc(), calls, Piece::Lose)?,
-            synced,
-            "{calls} calls"
-        );
-        assert_eq!(rt;
-            found_with(rt.alloc(), calls, Piece::Fill(0xa5))?,
-            synced,
-            "{calls} calls"
-        );
+        let synced = if calls == 10 { Some(4) } else { None };
+        let written = if calls > 5 { Some(4) } else { None };
+        for (piece, found) in [
+            (Piece::Keep, written),
+            (Piece::Lose, synced),
+            (Piece::Fill(0xa5), synced),
+        ] {
+            assert_eq!(rt;
+                found_with(rt.alloc(), calls, piece),
+                Ok(found),
+                "{calls} calls"
+            );
+        }
     }
-    Ok(())
+}
+
+// Behind a synced round, and one whose import fails at a write and whose unflushed writes are lost.
+fn found_behind_stopped(alloc: Global, n: u64) -> Result<Option<usize>, PoolError> {
+    let synced = round(alloc, 10, None, End::GivenUp)?;
+    let pieces = vec![in alloc; Piece::Lose; 16]?;
+    let stopped = round(alloc, 10, Some((Fault::Write, n)), End::Crash(pieces))?;
+    found_behind(alloc, vec![in alloc; synced, stopped]?)
 }
 
 #[test]
-fn what_was_acknowledged_is_found_behind_stopped_imports(rt: HostRuntime) -> Result<(), Fail> {
-    let alloc = rt.alloc();
+fn what_was_acknowledged_is_found_behind_stopped_imports(rt: HostRuntime) {
     for n in 1..8 {
-        let synced = round(alloc, 10, None, End::GivenUp)?;
-        let pieces = vec![in alloc; Piece::Lose; 16]?;
-        let stopped = round(alloc, 10, Some((Fault::Write, n)), End::Crash(pieces))?;
-        let found = found_behind(alloc, vec![in alloc; synced, stopped]?)?;
-        assert_eq!(rt; found, Some(4), "write {n}");
+        assert_eq!(rt;
+            found_behind_stopped(rt.alloc(), n),
+            Ok(Some(4)),
+            "write {n}"
+        );
     }
-    Ok(())
 }

@@ -22,67 +22,129 @@ fn new_file<R: Files>(files: &R, path: &str, size: u64) -> io::Result<R::File> {
     Ok(file)
 }
 
-#[test]
-fn what_is_written_outlives_the_device(rt: HostRuntime) -> Result<(), Fail> {
-    let mut device = FileDevice::new(new_file(&rt, "outlives", 2148)?)?;
-    assert_eq!(rt; device.sectors(), 4);
+// Writes the middle two of four sectors.
+fn write_middle<D: SectorDevice>(device: &mut D) -> Result<(), PoolError> {
+    if device.sectors() != 4 {
+        return Err(PoolError::BadGeometry);
+    }
     device.write(512, &[5; 1024])?;
-    device.flush()?;
-    assert_eq!(rt; device.refused(), RefusedCalls::NONE);
-    drop(device);
+    device.flush()
+}
 
-    let mut device = FileDevice::new(File::open(&rt, "outlives")?)?;
-    assert_eq!(rt; device.sectors(), 4);
+// The bytes at the ends of these, on either side.
+fn read_middle<D: SectorDevice>(device: &mut D) -> Result<[u8; 4], PoolError> {
+    if device.sectors() != 4 {
+        return Err(PoolError::BadGeometry);
+    }
     let mut all = [1; 2048];
     device.read(0, &mut all)?;
-    assert_eq!(rt; [all[511], all[512], all[1535], all[1536]], [0, 5, 5, 0]);
-    drop(device);
+    Ok([all[511], all[512], all[1535], all[1536]])
+}
+
+// What a device on a new file counts as refused once it wrote its middle.
+fn write_file(rt: &HostRuntime, path: &str) -> Result<RefusedCalls, Fail> {
+    let mut device = FileDevice::new(new_file(rt, path, 2148)?)?;
+    write_middle(&mut device)?;
+    Ok(device.refused())
+}
+
+// What a device on a file reads about its middle.
+fn read_file(rt: &HostRuntime, path: &str) -> Result<[u8; 4], Fail> {
+    let mut device = FileDevice::new(File::open(rt, path)?)?;
+    Ok(read_middle(&mut device)?)
+}
+
+#[test]
+fn what_is_written_outlives_the_device(rt: HostRuntime) -> Result<(), Fail> {
+    assert_eq!(rt; write_file(&rt, "outlives")?, RefusedCalls::NONE);
+    assert_eq!(rt; read_file(&rt, "outlives")?, [0, 5, 5, 0]);
     assert_eq!(rt; fs::metadata(&rt, "outlives")?.len(), 2148);
     fs::remove_file(&rt, "outlives")?;
     Ok(())
 }
 
-#[test]
-fn a_file_that_shrinks_is_refused(rt: HostRuntime) -> Result<(), Fail> {
-    let file = new_file(&rt, "shrinks", 2048)?;
+// Reads of the last three of four sectors, a write of the first, and a flush.
+fn call_five<D: SectorDevice>(device: &mut D) -> Result<[Result<(), PoolError>; 5], PoolError> {
+    if device.sectors() != 4 {
+        return Err(PoolError::BadGeometry);
+    }
+    let mut sector = [1; 512];
+    Ok([
+        device.read(512, &mut sector),
+        device.read(1024, &mut sector),
+        device.read(1536, &mut sector),
+        device.write(0, &sector),
+        device.flush(),
+    ])
+}
+
+// These calls on a file that is cut behind its second sector, how long it is then, and what the device counts as refused.
+fn call_shrunk(
+    rt: &HostRuntime,
+    path: &str,
+) -> Result<([Result<(), PoolError>; 5], u64, RefusedCalls), Fail> {
+    let file = new_file(rt, path, 2048)?;
     let other = file.try_clone()?;
     let mut device = FileDevice::new(file)?;
-    assert_eq!(rt; device.sectors(), 4);
     other.set_len(1100)?;
-    let mut sector = [1; 512];
-    device.read(512, &mut sector)?;
-    assert_eq!(rt; device.read(1024, &mut sector), Err(PoolError::Read));
-    assert_eq!(rt; device.read(1536, &mut sector), Err(PoolError::Read));
-    assert_eq!(rt; device.write(0, &sector), Err(PoolError::Write));
-    assert_eq!(rt; device.flush(), Err(PoolError::Flush));
-    assert_eq!(rt; other.metadata()?.len(), 1100);
-    let told = RefusedCalls {
+    let told = call_five(&mut device)?;
+    Ok((told, other.metadata()?.len(), device.refused()))
+}
+
+#[test]
+fn a_file_that_shrinks_is_refused(rt: HostRuntime) -> Result<(), Fail> {
+    let told = [
+        Ok(()),
+        Err(PoolError::Read),
+        Err(PoolError::Read),
+        Err(PoolError::Write),
+        Err(PoolError::Flush),
+    ];
+    let counts = RefusedCalls {
         reads: 2,
         writes: 1,
         flushes: 1,
     };
-    assert_eq!(rt; device.refused(), told);
+    assert_eq!(rt; call_shrunk(&rt, "shrinks")?, (told, 1100, counts));
     fs::remove_file(&rt, "shrinks")?;
     Ok(())
+}
+
+// A read and a write of the only sector.
+fn call_two<D: SectorDevice>(device: &mut D) -> Result<[Result<(), PoolError>; 2], PoolError> {
+    if device.sectors() != 1 {
+        return Err(PoolError::BadGeometry);
+    }
+    let mut sector = [1; 512];
+    Ok([device.read(0, &mut sector), device.write(0, &sector)])
+}
+
+// Both, on a file that is open for reading.
+fn call_read_only(rt: &HostRuntime, path: &str) -> Result<[Result<(), PoolError>; 2], Fail> {
+    let mut device = FileDevice::new(File::open(rt, path)?)?;
+    Ok(call_two(&mut device)?)
+}
+
+// Both, on one that is open for writing.
+fn call_write_only(rt: &HostRuntime, path: &str) -> Result<[Result<(), PoolError>; 2], Fail> {
+    let mut device = FileDevice::new(File::options().write(true).open(rt, path)?)?;
+    Ok(call_two(&mut device)?)
+}
+
+// The refusal of a device on what has no size.
+fn refusal_of(rt: &HostRuntime, path: &str) -> Result<Option<PoolError>, Fail> {
+    Ok(FileDevice::new(File::open(rt, path)?).err())
 }
 
 #[test]
 fn a_file_is_read_and_written_as_it_was_opened(rt: HostRuntime) -> Result<(), Fail> {
     new_file(&rt, "opened", 512)?;
-    let mut sector = [1; 512];
-    let mut device = FileDevice::new(File::open(&rt, "opened")?)?;
-    assert_eq!(rt; device.sectors(), 1);
-    assert_eq!(rt; device.write(0, &sector), Err(PoolError::Write));
-    assert_eq!(rt; device.read(0, &mut sector), Ok(()));
-    let mut device = FileDevice::new(File::options().write(true).open(&rt, "opened")?)?;
-    assert_eq!(rt; device.sectors(), 1);
-    assert_eq!(rt; device.read(0, &mut sector), Err(PoolError::Read));
-    assert_eq!(rt; device.write(0, &sector), Ok(()));
+    let refused = Err(PoolError::Write);
+    assert_eq!(rt; call_read_only(&rt, "opened")?, [Ok(()), refused]);
+    let refused = Err(PoolError::Read);
+    assert_eq!(rt; call_write_only(&rt, "opened")?, [refused, Ok(())]);
     fs::remove_file(&rt, "opened")?;
-    assert_eq!(rt;
-        FileDevice::new(File::open(&rt, ".")?).err(),
-        Some(PoolError::Read)
-    );
+    assert_eq!(rt; refusal_of(&rt, ".")?, Some(PoolError::Read));
     Ok(())
 }
 
@@ -120,15 +182,33 @@ impl OpenFile for Stuck {
     }
 }
 
-#[test]
-fn a_call_that_stops_short_is_refused(rt: HostRuntime) -> Result<(), Fail> {
-    let mut device = FileDevice::new(Stuck { size: 1024 })?;
-    assert_eq!(rt; device.sectors(), 2);
+// A read and a write of the second of two sectors, and a flush.
+fn call_three<D: SectorDevice>(device: &mut D) -> Result<[Result<(), PoolError>; 3], PoolError> {
+    if device.sectors() != 2 {
+        return Err(PoolError::BadGeometry);
+    }
     let mut sector = [1; 512];
-    assert_eq!(rt; device.read(512, &mut sector), Err(PoolError::Read));
-    assert_eq!(rt; device.write(512, &sector), Err(PoolError::Write));
-    assert_eq!(rt; device.flush(), Err(PoolError::Flush));
-    Ok(())
+    Ok([
+        device.read(512, &mut sector),
+        device.write(512, &sector),
+        device.flush(),
+    ])
+}
+
+// They, on such a file.
+fn call_stuck() -> Result<[Result<(), PoolError>; 3], PoolError> {
+    let mut device = FileDevice::new(Stuck { size: 1024 })?;
+    call_three(&mut device)
+}
+
+#[test]
+fn a_call_that_stops_short_is_refused(rt: HostRuntime) {
+    let told = [
+        Err(PoolError::Read),
+        Err(PoolError::Write),
+        Err(PoolError::Flush),
+    ];
+    assert_eq!(rt; call_stuck(), Ok(told));
 }
 
 // The SHA-256 of a file's bytes, in hex digits.
@@ -140,6 +220,26 @@ fn sum_of(rt: &HostRuntime, path: &str) -> Result<String, Fail> {
         digits.push_str(format!(in rt.alloc(); "{byte:02x}")?.as_str())?;
     }
     Ok(digits)
+}
+
+// Makes a pool on a new file of its name: what the device counts as refused.
+fn create_file(
+    rt: &HostRuntime,
+    size: u64,
+    name: &str,
+    guid: u64,
+    moment: u64,
+) -> Result<RefusedCalls, Fail> {
+    let device = FileDevice::new(new_file(rt, name, size)?)?;
+    match create(device, name.as_bytes(), guid, moment) {
+        Ok(device) => Ok(device.refused()),
+        Err((refusal, _)) => Err(refusal)?,
+    }
+}
+
+// Whether a file has this sum.
+fn has_sum(rt: &HostRuntime, path: &str, sum: &str) -> Result<bool, Fail> {
+    Ok(sum_of(rt, path)?.as_str() == sum)
 }
 
 // The sums are those of a writer of the formats that shares no code with this one.
@@ -161,12 +261,9 @@ fn a_new_pool_has_the_bytes_of_the_formats(rt: HostRuntime) -> Result<(), Fail> 
             "0a9354951e183eda61db5aa7316495b829706e9b2bfab130fccbccc9636ccab8",
         ),
     ] {
-        let device = FileDevice::new(new_file(&rt, name, size)?)?;
-        match create(device, name.as_bytes(), guid, moment) {
-            Ok(device) => assert_eq!(rt; device.refused(), RefusedCalls::NONE),
-            Err((refusal, _)) => return Err(refusal)?,
-        }
-        assert_eq!(rt; sum_of(&rt, name)?.as_str(), sum);
+        let refused = create_file(&rt, size, name, guid, moment)?;
+        assert_eq!(rt; refused, RefusedCalls::NONE);
+        assert!(rt; has_sum(&rt, name, sum)?);
         fs::remove_file(&rt, name)?;
     }
     Ok(())

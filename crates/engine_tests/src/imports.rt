@@ -4,7 +4,6 @@ use base::{Group, PoolError, read_u64};
 use device_model::{Fault, MemDevice, SectorDevice};
 use import_replay::{Imported, create, import, inspect};
 use std::alloc::Global;
-use std::test::Fail;
 
 // A create of a pool of this name, and the device.
 fn create_on(device: MemDevice, name: &[u8]) -> (Result<(), PoolError>, MemDevice) {
@@ -43,52 +42,113 @@ pub fn number_at(device: &mut MemDevice, place: u64) -> Result<u64, PoolError> {
     Err(PoolError::BadRange)
 }
 
-#[test]
-fn a_new_pool_lies_at_its_places(rt: HostRuntime) -> Result<(), Fail> {
-    let (answer, mut device) = create_on(MemDevice::new(rt.alloc(), 16_384)?, b"tank");
-    assert_eq!(rt; answer, Ok(()));
-    assert_eq!(rt; device.unflushed(), 0);
-    for label in [0, 262_144, 7_864_320, 8_126_464] {
-        for (at, value) in [
-            // the config: kind, guid and group
-            (16_384, 1),
-            (16_384 + 8, 77),
-            (16_384 + 16, 4),
-            // uberblock 4: magic, group, guid, moment, root, import number and log
-            (135_168, 0x00ba_b10c),
-            (135_168 + 16, 4),
-            (135_168 + 24, 77),
-            (135_168 + 32, 5),
-            (135_168 + 40, 0),
-            (135_168 + 88, 0),
-            (135_168 + 96, 0),
-        ] {
-            let place = u64::checked_add(label, at).ok_or(PoolError::BadRange)?;
-            assert_eq!(rt; number_at(&mut device, place)?, value);
+// The first of these places, counted from one, that has another number.
+pub fn first_other(
+    device: &mut MemDevice,
+    from: u64,
+    rows: &[(u64, u64)],
+) -> Result<Option<u64>, PoolError> {
+    for row in rows {
+        let (at, value) = *row;
+        let place = u64::checked_add(from, at).ok_or(PoolError::BadRange)?;
+        if number_at(device, place)? != value {
+            return Ok(Some(place));
         }
     }
-    Ok(())
+    Ok(None)
+}
+
+// The numbers of a label of a new pool.
+const LABEL: [(u64, u64); 10] = [
+    // the config: kind, guid and group
+    (16_384, 1),
+    (16_384 + 8, 77),
+    (16_384 + 16, 4),
+    // uberblock 4: magic, group, guid, moment, root, import number and log
+    (135_168, 0x00ba_b10c),
+    (135_168 + 16, 4),
+    (135_168 + 24, 77),
+    (135_168 + 32, 5),
+    (135_168 + 40, 0),
+    (135_168 + 88, 0),
+    (135_168 + 96, 0),
+];
+
+// A create of a pool of this name on a new device, how many writes are unflushed behind it, and the device.
+fn create_new(
+    alloc: Global,
+    sectors: u64,
+    name: &[u8],
+) -> Result<(Result<(), PoolError>, usize, MemDevice), PoolError> {
+    let (answer, device) = create_on(MemDevice::new(alloc, sectors)?, name);
+    Ok((answer, device.unflushed(), device))
+}
+
+// It without the device.
+fn create_answer(
+    alloc: Global,
+    sectors: u64,
+    name: &[u8],
+) -> Result<(Result<(), PoolError>, usize), PoolError> {
+    let (answer, unflushed, _) = create_new(alloc, sectors, name)?;
+    Ok((answer, unflushed))
+}
+
+// A new pool on this many sectors.
+fn new_pool(alloc: Global, sectors: u64) -> Result<MemDevice, PoolError> {
+    let (_, _, device) = create_new(alloc, sectors, b"tank")?;
+    Ok(device)
+}
+
+// The first other number in each label of a new pool on 8 MiB.
+fn other_numbers(alloc: Global) -> Result<[Result<Option<u64>, PoolError>; 4], PoolError> {
+    let mut device = new_pool(alloc, 16_384)?;
+    Ok([
+        first_other(&mut device, 0, &LABEL),
+        first_other(&mut device, 262_144, &LABEL),
+        first_other(&mut device, 7_864_320, &LABEL),
+        first_other(&mut device, 8_126_464, &LABEL),
+    ])
 }
 
 #[test]
-fn a_device_of_no_pools_size_is_refused(rt: HostRuntime) -> Result<(), Fail> {
-    let (answer, small) = create_on(MemDevice::new(rt.alloc(), 12_287)?, b"tank");
-    assert_eq!(rt; answer, Err(PoolError::BadGeometry));
-    assert_eq!(rt; small.unflushed(), 0);
-    let (answer, device) = create_on(MemDevice::new(rt.alloc(), 12_288)?, b"4tank");
-    assert_eq!(rt; answer, Err(PoolError::BadRange));
-    let (answer, device) = import_on(rt.alloc(), device, 4095);
-    assert_eq!(rt; answer, Err(PoolError::BadRange));
-    let (answer, _) = import_on(rt.alloc(), device, 4096);
-    assert_eq!(rt; answer, Err(PoolError::NoPool));
-    Ok(())
+fn a_new_pool_lies_at_its_places(rt: HostRuntime) {
+    assert_eq!(rt; create_answer(rt.alloc(), 16_384, b"tank"), Ok((Ok(()), 0)));
+    assert_eq!(rt; other_numbers(rt.alloc()), Ok([Ok(None); 4]));
+}
+
+// The answers to imports with these limits, of a device on which no pool was made.
+fn import_nothing(
+    alloc: Global,
+    limits: [u64; 2],
+) -> Result<[Result<(u64, bool), PoolError>; 2], PoolError> {
+    let (_, _, device) = create_new(alloc, 12_288, b"4tank")?;
+    let (first, device) = import_on(alloc, device, limits[0]);
+    let (second, _) = import_on(alloc, device, limits[1]);
+    Ok([first, second])
 }
 
 #[test]
-fn a_create_tells_the_call_that_was_refused(rt: HostRuntime) -> Result<(), Fail> {
-    let mut device = MemDevice::new(rt.alloc(), 12_288)?;
-    // It writes 4 ends of labels, 384 blocks, 4 configs and 4 uberblocks, and flushes before the configs, before the
-    // uberblocks and at the end.
+fn a_device_of_no_pools_size_is_refused(rt: HostRuntime) {
+    let small = Err(PoolError::BadGeometry);
+    assert_eq!(rt; create_answer(rt.alloc(), 12_287, b"tank"), Ok((small, 0)));
+    let unnamed = Err(PoolError::BadRange);
+    assert_eq!(rt;
+        create_answer(rt.alloc(), 12_288, b"4tank"),
+        Ok((unnamed, 0))
+    );
+    assert_eq!(rt;
+        import_nothing(rt.alloc(), [4095, 4096]),
+        Ok([Err(PoolError::BadRange), Err(PoolError::NoPool)])
+    );
+}
+
+// The first failure, of creates one behind another on a device, that is told otherwise than here.
+//
+// A create writes 4 ends of labels, 384 blocks, 4 configs and 4 uberblocks, and flushes before the configs, before the
+// uberblocks and at the end.
+fn first_other_create(device: MemDevice) -> Option<(Fault, u64)> {
+    let mut device = device;
     for (fault, n, told) in [
         (Fault::Write, 4, Err(PoolError::Write)),
         (Fault::Write, 5, Err(PoolError::Write)),
@@ -99,18 +159,45 @@ fn a_create_tells_the_call_that_was_refused(rt: HostRuntime) -> Result<(), Fail>
     ] {
         device.fail(fault, n);
         let (answer, back) = create_on(device, b"tank");
-        assert_eq!(rt; answer, told, "call {n}");
+        if answer != told {
+            return Some((fault, n));
+        }
         device = back;
         device.fail(fault, 0);
     }
-    Ok(())
+    None
+}
+
+// It, of a new device.
+fn create_failures(alloc: Global) -> Result<Option<(Fault, u64)>, PoolError> {
+    Ok(first_other_create(MemDevice::new(alloc, 12_288)?))
 }
 
 #[test]
-fn an_import_tells_the_call_that_was_refused(rt: HostRuntime) -> Result<(), Fail> {
-    let (_, mut device) = create_on(MemDevice::new(rt.alloc(), 12_288)?, b"tank");
-    // It reads 4 arrays and 4 configs, writes 2 configs, 4 uberblocks and 2 configs, and flushes before and after each of
-    // these and once more at the start. From the second uberblock on a first one has come, and counts as an import.
+fn a_create_tells_the_call_that_was_refused(rt: HostRuntime) {
+    assert_eq!(rt; create_failures(rt.alloc()), Ok(None));
+}
+
+// An import that is to fail, and one more: the answers, and the device.
+fn import_twice(
+    alloc: Global,
+    mut device: MemDevice,
+    fault: Fault,
+    n: u64,
+) -> ([Result<(u64, bool), PoolError>; 2], MemDevice) {
+    device.fail(fault, n);
+    let (answer, mut back) = import_on(alloc, device, 4096);
+    back.fail(fault, 0);
+    let (again, left) = import_on(alloc, back, 4096);
+    ([answer, again], left)
+}
+
+// The first failure, of imports one behind another of a pool, that is told otherwise than here.
+//
+// An import reads 4 arrays and 4 configs, writes 2 configs, 4 uberblocks and 2 configs, and flushes before and after each of
+// these and once more at the start. From the second uberblock on a first one has come, and counts as an import.
+fn first_other_import(alloc: Global, device: MemDevice) -> Option<(Fault, u64)> {
+    let mut device = device;
     for (fault, n, told, next) in [
         (Fault::Read, 1, Err(PoolError::Read), 1),
         (Fault::Read, 4, Err(PoolError::Read), 2),
@@ -125,36 +212,54 @@ fn an_import_tells_the_call_that_was_refused(rt: HostRuntime) -> Result<(), Fail
         (Fault::Flush, 5, Err(PoolError::Flush), 17),
         (Fault::Flush, 9, Ok((18, true)), 19),
     ] {
-        device.fail(fault, n);
-        let (answer, mut back) = import_on(rt.alloc(), device, 4096);
-        assert_eq!(rt; answer, told, "call {n}");
-        back.fail(fault, 0);
-        let (again, left) = import_on(rt.alloc(), back, 4096);
-        assert_eq!(rt; again, Ok((next, true)), "after call {n}");
+        let (answers, left) = import_twice(alloc, device, fault, n);
+        if answers != [told, Ok((next, true))] {
+            return Some((fault, n));
+        }
         device = left;
     }
-    Ok(())
+    None
+}
+
+// It, of a new pool.
+fn import_failures(alloc: Global) -> Result<Option<(Fault, u64)>, PoolError> {
+    Ok(first_other_import(alloc, new_pool(alloc, 12_288)?))
 }
 
 #[test]
-fn an_inspection_tells_a_new_pool(rt: HostRuntime) -> Result<(), Fail> {
-    let (_, mut device) = create_on(MemDevice::new(rt.alloc(), 16_384)?, b"tank");
-    let told = inspect(rt.alloc(), &mut device)?;
-    assert_eq!(rt; told.name().as_slice(), b"tank".as_slice());
-    assert_eq!(rt; told.group, Group(4));
-    // the guid, the import number, and the numbers of blocks, of used ones and of records
+fn an_import_tells_the_call_that_was_refused(rt: HostRuntime) {
+    assert_eq!(rt; import_failures(rt.alloc()), Ok(None));
+}
+
+// What an inspection tells: whether the name is `tank`, the group, the guid, the import number, the numbers of blocks, of used
+// ones and of records, and how many objects there are.
+fn inspected(
+    alloc: Global,
+    device: &mut MemDevice,
+) -> Result<(bool, Group, [u64; 5], usize), PoolError> {
+    let told = inspect(alloc, device)?;
+    let numbers = [
+        told.guid,
+        told.import_number,
+        told.blocks,
+        told.used,
+        told.records,
+    ];
+    let is_tank = told.name().as_slice() == b"tank".as_slice();
+    Ok((is_tank, told.group, numbers, told.objects().len()))
+}
+
+// It, of a new pool on 8 MiB.
+fn inspect_new(alloc: Global) -> Result<(bool, Group, [u64; 5], usize), PoolError> {
+    inspected(alloc, &mut new_pool(alloc, 16_384)?)
+}
+
+#[test]
+fn an_inspection_tells_a_new_pool(rt: HostRuntime) {
     assert_eq!(rt;
-        [
-            told.guid,
-            told.import_number,
-            told.blocks,
-            told.used,
-            told.records
-        ],
-        [77, 0, 896, 0, 0]
+        inspect_new(rt.alloc()),
+        Ok((true, Group(4), [77, 0, 896, 0, 0], 0))
     );
-    assert_eq!(rt; told.objects().len(), 0);
-    Ok(())
 }
 
 // How many blocks an inspection tells.
@@ -162,33 +267,46 @@ fn inspected_blocks(alloc: Global, device: &mut MemDevice) -> Result<u64, PoolEr
     Ok(inspect(alloc, device)?.blocks)
 }
 
-#[test]
-fn an_inspection_tells_the_read_that_was_refused(rt: HostRuntime) -> Result<(), Fail> {
-    let (_, mut device) = create_on(MemDevice::new(rt.alloc(), 12_288)?, b"tank");
-    // It reads 4 arrays and 4 configs, and no tree; it makes no write and no flush that could fail.
+// It, where the so many-th read fails.
+fn inspect_failing(alloc: Global, device: &mut MemDevice, read: u64) -> Result<u64, PoolError> {
+    device.fail(Fault::Read, read);
+    inspected_blocks(alloc, device)
+}
+
+// It, one behind another on a new pool, where a write and a flush would fail.
+fn inspections(alloc: Global) -> Result<[Result<u64, PoolError>; 5], PoolError> {
+    let mut device = new_pool(alloc, 12_288)?;
     device.fail(Fault::Write, 1);
     device.fail(Fault::Flush, 1);
-    for (n, told) in [
-        (1, Err(PoolError::Read)),
-        (4, Err(PoolError::Read)),
-        (5, Err(PoolError::Read)),
-        (8, Err(PoolError::Read)),
-        (9, Ok(384)),
-    ] {
-        device.fail(Fault::Read, n);
-        assert_eq!(rt; inspected_blocks(rt.alloc(), &mut device), told, "call {n}");
-    }
-    Ok(())
+    Ok([
+        inspect_failing(alloc, &mut device, 1),
+        inspect_failing(alloc, &mut device, 4),
+        inspect_failing(alloc, &mut device, 5),
+        inspect_failing(alloc, &mut device, 8),
+        inspect_failing(alloc, &mut device, 9),
+    ])
 }
 
 #[test]
-fn an_inspection_finds_no_pool_on_a_blank_device(rt: HostRuntime) -> Result<(), Fail> {
-    for (sectors, refusal) in [
-        (12_287, PoolError::BadGeometry),
-        (12_288, PoolError::NoPool),
-    ] {
-        let mut device = MemDevice::new(rt.alloc(), sectors)?;
-        assert_eq!(rt; inspected_blocks(rt.alloc(), &mut device), Err(refusal));
-    }
-    Ok(())
+fn an_inspection_tells_the_read_that_was_refused(rt: HostRuntime) {
+    // It reads 4 arrays and 4 configs, and no tree; it makes no write and no flush that could fail.
+    let refused = Err(PoolError::Read);
+    assert_eq!(rt;
+        inspections(rt.alloc()),
+        Ok([refused, refused, refused, refused, Ok(384)])
+    );
+}
+
+// It, of a device with no pool.
+fn inspect_blank(alloc: Global, sectors: u64) -> Result<u64, PoolError> {
+    inspected_blocks(alloc, &mut MemDevice::new(alloc, sectors)?)
+}
+
+#[test]
+fn an_inspection_finds_no_pool_on_a_blank_device(rt: HostRuntime) {
+    assert_eq!(rt;
+        inspect_blank(rt.alloc(), 12_287),
+        Err(PoolError::BadGeometry)
+    );
+    assert_eq!(rt; inspect_blank(rt.alloc(), 12_288), Err(PoolError::NoPool));
 }

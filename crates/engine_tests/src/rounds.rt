@@ -1,22 +1,25 @@
 //! One round on a memory device.
 
 use crate::steps::{OBJECT, stored};
-use base::{Group, Reply};
+use base::{Group, PoolError, Reply};
 use device_model::MemDevice;
 use round_trip::play;
-use std::test::Fail;
+use std::alloc::Global;
 
-#[test]
-fn a_synced_object_is_found_again(rt: HostRuntime) -> Result<(), Fail> {
-    let alloc = rt.alloc();
+// How many replies a round has, whether the last is that of its sync, the group that the import behind it synced, and whether
+// the object is found.
+fn play_sync(alloc: Global) -> Result<(usize, bool, Group, bool), PoolError> {
+    let device = MemDevice::new(alloc, 12_288)?;
     // the object's block, its map, the directory and the root, and 6 calls more
     let steps = stored(alloc, 10)?;
-    let device = MemDevice::new(alloc, 12_288)?;
     let (replies, imported) = play(alloc, device, b"tank", 77, 1_048_576, 5, steps)?;
-    assert_eq!(rt; replies.len(), 17);
-    assert!(rt; matches!(&replies[16], Reply::Synced(Group(9))));
-    assert_eq!(rt; imported.group(), Group(13));
+    let is_synced = matches!(replies.last(), Some(Reply::Synced(Group(9))));
     let object = imported.mounted.contents.object(OBJECT);
-    assert_eq!(rt; object, Some(b"abcd".as_slice()));
-    Ok(())
+    let is_found = object == Some(b"abcd".as_slice());
+    Ok((replies.len(), is_synced, imported.group(), is_found))
+}
+
+#[test]
+fn a_synced_object_is_found_again(rt: HostRuntime) {
+    assert_eq!(rt; play_sync(rt.alloc()), Ok((17, true, Group(13), true)));
 }

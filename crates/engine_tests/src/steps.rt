@@ -1,6 +1,6 @@
 //! Steps on a memory device: replies in order, and the places where an import and a sync write, that no clause gives.
 
-use crate::imports::number_at;
+use crate::imports::first_other;
 use base::{
     Bytes, Group, LockId, Mode, ObjectId, Op, Ops, Owner, Plan, PoolError, Range, Reply, Shape,
     Step, TxId,
@@ -9,7 +9,6 @@ use device_model::{MemDevice, SectorDevice};
 use import_replay::inspect;
 use round_trip::{make, round};
 use std::alloc::Global;
-use std::test::Fail;
 
 pub const OWNER: Owner = Owner(1);
 
@@ -50,11 +49,38 @@ fn device_behind(alloc: Global, steps: Vec<Step>) -> Result<MemDevice, PoolError
     Ok(device)
 }
 
+// How many writes are unflushed behind the steps, and the first of these places that has another number.
+fn numbers_behind(
+    alloc: Global,
+    steps: Vec<Step>,
+    rows: &[(u64, u64)],
+) -> Result<(usize, Option<u64>), PoolError> {
+    let mut device = device_behind(alloc, steps)?;
+    let unflushed = device.unflushed();
+    let other = first_other(&mut device, 0, rows);
+    Ok((unflushed, other?))
+}
+
+// They, behind so many syncs of empty groups.
+fn numbers_behind_syncs(
+    alloc: Global,
+    count: usize,
+    rows: &[(u64, u64)],
+) -> Result<(usize, Option<u64>), PoolError> {
+    numbers_behind(alloc, empty_syncs(alloc, count)?, rows)
+}
+
+// They, behind a transaction and its sync.
+fn numbers_behind_stored(
+    alloc: Global,
+    rows: &[(u64, u64)],
+) -> Result<(usize, Option<u64>), PoolError> {
+    numbers_behind(alloc, stored(alloc, 10)?, rows)
+}
+
 #[test]
-fn an_import_syncs_four_groups_on(rt: HostRuntime) -> Result<(), Fail> {
-    let mut device = device_behind(rt.alloc(), Vec::new(rt.alloc()))?;
-    assert_eq!(rt; device.unflushed(), 0);
-    for (place, value) in [
+fn an_import_syncs_four_groups_on(rt: HostRuntime) {
+    let rows = [
         // uberblock 8 lies in label 0 at 139,264: magic, group, guid, moment, import number, first log block
         (139_264, 0x00ba_b10c),
         (139_264 + 16, 8),
@@ -67,26 +93,24 @@ fn an_import_syncs_four_groups_on(rt: HostRuntime) -> Result<(), Fail> {
         (135_168 + 32, 5),
         // the config of label 1 has group 8
         (262_144 + 16_384 + 16, 8),
-    ] {
-        assert_eq!(rt; number_at(&mut device, place)?, value, "at {place}");
-    }
-    Ok(())
+    ];
+    assert_eq!(rt; numbers_behind_syncs(rt.alloc(), 0, &rows), Ok((0, None)));
 }
 
 #[test]
-fn a_sync_takes_the_lowest_blocks_in_order(rt: HostRuntime) -> Result<(), Fail> {
-    let mut device = device_behind(rt.alloc(), stored(rt.alloc(), 10)?)?;
-    // data, indirect, directory and root, by their kinds
-    for (address, kind) in [
+fn a_sync_takes_the_lowest_blocks_in_order(rt: HostRuntime) {
+    // data, indirect, directory and root, by their kinds, each of group 9
+    let rows = [
         (4_198_400, 5),
+        (4_198_400 + 16, 9),
         (4_202_496, 4),
+        (4_202_496 + 16, 9),
         (4_206_592, 3),
+        (4_206_592 + 16, 9),
         (4_210_688, 2),
-    ] {
-        assert_eq!(rt; number_at(&mut device, address)?, kind);
-        assert_eq!(rt; number_at(&mut device, address + 16)?, 9);
-    }
-    Ok(())
+        (4_210_688 + 16, 9),
+    ];
+    assert_eq!(rt; numbers_behind_stored(rt.alloc(), &rows), Ok((0, None)));
 }
 
 // The steps of so many syncs of empty groups, each with a flush, four uberblocks and a flush.
@@ -104,61 +128,108 @@ fn empty_syncs(alloc: Global, count: usize) -> Result<Vec<Step>, PoolError> {
 }
 
 #[test]
-fn the_slots_go_round(rt: HostRuntime) -> Result<(), Fail> {
-    let mut device = device_behind(rt.alloc(), empty_syncs(rt.alloc(), 200)?)?;
-    for (place, value) in [
+fn the_slots_go_round(rt: HostRuntime) {
+    let rows = [
         // from group 8 on 200 groups: uberblock 208 lies in slot 80 of label 0, 207 before it, and 81 still behind it
         (212_992, 0x00ba_b10c),
         (212_992 + 16, 208),
         (211_968 + 16, 207),
         (214_016 + 16, 81),
-    ] {
-        assert_eq!(rt; number_at(&mut device, place)?, value, "at {place}");
-    }
-    Ok(())
+    ];
+    assert_eq!(rt; numbers_behind_syncs(rt.alloc(), 200, &rows), Ok((0, None)));
+}
+
+// The device behind four blocks, a flush, and four uberblocks that nothing flushes.
+fn unflushed_device(alloc: Global) -> Result<MemDevice, PoolError> {
+    device_behind(alloc, stored(alloc, 9)?)
+}
+
+// What an inspection tells: the group, the import number, the numbers of blocks and of used ones, and whether the object is
+// the only one.
+fn inspected(alloc: Global, device: &mut MemDevice) -> Result<(Group, [u64; 3], bool), PoolError> {
+    let told = inspect(alloc, device)?;
+    let numbers = [told.import_number, told.blocks, told.used];
+    Ok((
+        told.group,
+        numbers,
+        told.objects() == [(OBJECT, 4)].as_slice(),
+    ))
+}
+
+// It, and how many writes are unflushed behind it.
+fn inspect_unflushed(
+    alloc: Global,
+) -> Result<(Result<(Group, [u64; 3], bool), PoolError>, usize), PoolError> {
+    let mut device = unflushed_device(alloc)?;
+    let told = inspected(alloc, &mut device);
+    Ok((told, device.unflushed()))
 }
 
 #[test]
-fn an_inspection_tells_what_a_sync_wrote(rt: HostRuntime) -> Result<(), Fail> {
-    // four blocks, a flush, and four uberblocks that nothing flushes
-    let mut device = device_behind(rt.alloc(), stored(rt.alloc(), 9)?)?;
-    let told = inspect(rt.alloc(), &mut device)?;
-    assert_eq!(rt; device.unflushed(), 4);
-    assert_eq!(rt; told.group, Group(9));
-    assert_eq!(rt; [told.import_number, told.blocks, told.used], [1, 896, 4]);
-    assert_eq!(rt; told.objects(), [(OBJECT, 4)].as_slice());
-    Ok(())
+fn an_inspection_tells_what_a_sync_wrote(rt: HostRuntime) {
+    let told = (Group(9), [1, 896, 4], true);
+    assert_eq!(rt; inspect_unflushed(rt.alloc()), Ok((Ok(told), 4)));
+}
+
+const ROOT: u64 = 4_210_688;
+
+// Writes zeros over the front of the root, and inspects the pool.
+fn inspect_torn(
+    alloc: Global,
+    device: &mut MemDevice,
+) -> Result<(Group, [u64; 3], bool), PoolError> {
+    if ROOT / 512 >= device.sectors() {
+        return Err(PoolError::BadGeometry);
+    }
+    device.write(ROOT, &[0u8; 512])?;
+    inspected(alloc, device)
+}
+
+// The refusal.
+fn torn_refusal(alloc: Global) -> Result<Option<PoolError>, PoolError> {
+    let mut device = unflushed_device(alloc)?;
+    Ok(inspect_torn(alloc, &mut device).err())
 }
 
 #[test]
-fn an_inspection_tells_a_damaged_root(rt: HostRuntime) -> Result<(), Fail> {
-    let mut device = device_behind(rt.alloc(), stored(rt.alloc(), 9)?)?;
-    let root = 4_210_688;
-    if root / 512 < device.sectors() {
-        device.write(root, &[0u8; 512])?;
-    }
-    let refusal = inspect(rt.alloc(), &mut device).err();
+fn an_inspection_tells_a_damaged_root(rt: HostRuntime) {
     let damaged = PoolError::Damaged {
         kind: 2,
-        address: root,
+        address: ROOT,
     };
-    assert_eq!(rt; refusal, Some(damaged));
-    Ok(())
+    assert_eq!(rt; torn_refusal(rt.alloc()), Ok(Some(damaged)));
 }
 
-#[test]
-fn steps_are_answered_in_order(rt: HostRuntime) -> Result<(), Fail> {
-    let alloc = rt.alloc();
+// A lock, the begin of a create, a commit of nothing and a read.
+fn four_steps(alloc: Global) -> Result<Vec<Step>, PoolError> {
     let mut steps = Vec::new(alloc);
     steps.push(Step::Lock(OWNER, OBJECT, WHOLE, Mode::Writer))?;
     steps.push(Step::Begin(OWNER, Plan::new(vec![in alloc; Shape::Create(OBJECT)]?)))?;
     steps.push(Step::Commit(TxId(0), Ops::new(Vec::new(alloc))))?;
     steps.push(Step::Read(OWNER, OBJECT, WHOLE))?;
-    let (replies, _) = replies(alloc, steps)?;
-    assert_eq!(rt; replies.len(), 4);
-    assert!(rt; matches!(&replies[0], Reply::Locked(_)));
-    assert!(rt; matches!(&replies[1], Reply::Began(TxId(0), Group(9))));
-    assert!(rt; matches!(&replies[2], Reply::Refused(PoolError::OutOfPlan)));
-    assert!(rt; matches!(&replies[3], Reply::Refused(PoolError::NoObject)));
-    Ok(())
+    Ok(steps)
+}
+
+// Whether the replies are theirs.
+fn are_four(replies: &[Reply]) -> bool {
+    matches!(
+        replies,
+        [
+            Reply::Locked(_),
+            Reply::Began(TxId(0), Group(9)),
+            Reply::Refused(PoolError::OutOfPlan),
+            Reply::Refused(PoolError::NoObject)
+        ]
+    )
+}
+
+// It, of a new pool.
+fn four_replies(alloc: Global) -> Result<bool, PoolError> {
+    let (replies, _) = replies(alloc, four_steps(alloc)?)?;
+    Ok(are_four(replies.as_slice()))
+}
+
+#[test]
+fn steps_are_answered_in_order(rt: HostRuntime) {
+    assert_eq!(rt; four_replies(rt.alloc()), Ok(true));
 }
