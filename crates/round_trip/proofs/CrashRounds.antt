@@ -25,6 +25,7 @@ use Rattle.base.proofs.disk.Moments.{bytes_may_be_left, goes_on, joins, starts, 
 use Rattle.base.proofs.steps.Additions.{step_grows}
 use Rattle.device_model.specs.declared.device.SectorDevice.{Ghosts}
 use Rattle.object_maps.specs.ContentsShown.{contents_of}
+use Rattle.import_replay.specs.Creations.{IsNewPool}
 use Rattle.import_replay.specs.Mounts.{shown_of_import}
 use Rattle.import_replay.specs.OwnCreations.{first_contents}
 use Rattle.import_replay.specs.RunStarts.{IsRunStart, StartsRun}
@@ -35,6 +36,7 @@ use Rattle.pool_core.specs.NewStates.{IsHeldAtFirst, first_past}
 use Rattle.pool_core.specs.States.{shown, told}
 use Rattle.pool_core.proofs.crash.SafeMoments.{kept_own}
 use Rattle.round_trip.specs.Crashes.{Answer, FindsCuts, FindsCutsFrom, FindsCutsOfNew, GoesAsRound, GoesOnAs, GoesOnFrom, IsEndOf, IsFairEnd, IsLeft, IsOverFor, IsRound, IsRoundOver}
+use Rattle.round_trip.specs.Rounds.{IsOpened}
 use Rattle.round_trip.specs.declared.crashes.End.{End}
 use Rattle.round_trip.specs.declared.crashes.End.TheVariants.{Crash, GivenUp}
 use Rattle.round_trip.specs.declared.crashes.Round.{Round}
@@ -112,16 +114,17 @@ steps_same_create [] (r ∷ rs) old new h = absurd h
 steps_same_create (s ∷ ss) [] old new h = absurd h
 
 -- the later past is of the same create
-same_create : (dirty_max : ℕ) (ss : List declared_step.Step) (answer : Answer) (past later : Past) (disk ended : Disk) → IsRoundOver dirty_max ss answer past later disk ended → later.created ≡ past.created
-same_create dirty_max ss (Ok replies) past later disk ended over =
+same_create : (dirty_max moment : ℕ) (ss : List declared_step.Step) (answer : Answer) (past later : Past) (disk ended : Disk) → IsRoundOver dirty_max moment ss answer past later disk ended → later.created ≡ past.created
+same_create dirty_max moment ss (Ok replies) past later disk ended over =
     let s = over.steps in
     ap (λ (p : Past). p.created) (sym s.past_is) ∙ steps_same_create ss replies.items s.start s.end s.made ∙ ap (λ (p : Past). p.created) s.begins
-same_create dirty_max ss (Err e) past later disk ended over = ap (λ (p : Past). p.created) over.steps
+same_create dirty_max moment ss (Err e) past later disk ended over = ap (λ (p : Past). p.created) over.steps
 
 -- An import that answered Ok begins a run, and the steps behind it are those of a round.
-module _ {Dev : Type 0} {G : Ghosts Dev} (keep : IsTrue G.keeps_model) (dirty_max : ℕ) (past : Past) (old : Disk) (m : Mounted) (state : PoolState Dev G)
+module _ {Dev : Type 0} {G : Ghosts Dev} (keep : IsTrue G.keeps_model) (dirty_max moment : ℕ) (past : Past) (old : Disk) (m : Mounted) (state : PoolState Dev G)
     (was : IsLeft past old) (kept : KeepsOwn old (disk_of state)) (starts_run : StartsRun old dirty_max (disk_of state) m) (shows : shown state ≡ shown_of_import m)
-    (limit : (shown_of_import m).dirty_max ≡ dirty_max) (sized : disk_size (disk_of state) ≡ m.geometry) (held : IsHeldAtFirst (told state)) (begins : BeginsSafe state) where
+    (limit : (shown_of_import m).dirty_max ≡ dirty_max) (sized : disk_size (disk_of state) ≡ m.geometry) (held : IsHeldAtFirst (told state)) (begins : BeginsSafe state)
+    (opened : IsOpened (bytes_of old.now) (told state).now moment) where
   pub found : IsLeftOnceFlushed past old
   found = left_flushed past old was
 
@@ -156,7 +159,7 @@ module _ {Dev : Type 0} {G : Ghosts Dev} (keep : IsTrue G.keeps_model) (dirty_ma
   safe_found = subst (λ (p : Past). IsKeptSafe (on_disk state p)) of_found safe_first
 
   -- the steps replied
-  replied : (ss : List declared_step.Step) (end : PoolState Dev G) (replies : Vec declared_reply.Reply) → SafeOn ss replies.items state end → (later : Past) × IsRoundOver dirty_max ss (Ok replies) past later old (disk_of end) × IsLeft later (disk_of end)
+  replied : (ss : List declared_step.Step) (end : PoolState Dev G) (replies : Vec declared_reply.Reply) → SafeOn ss replies.items state end → (later : Past) × IsRoundOver dirty_max moment ss (Ok replies) past later old (disk_of end) × IsLeft later (disk_of end)
   replied ss end replies safe =
       let run = safe first safe_first in
       let made = run.1 in (
@@ -167,6 +170,7 @@ module _ {Dev : Type 0} {G : Ghosts Dev} (keep : IsTrue G.keeps_model) (dirty_ma
             base = found.contents;
             left = found.left;
             start = on_disk state first;
+            opened = opened;
             begins = of_found;
             shows = ap (λ (s : Shown). s.contents) shows ∙ run_start.contents_are;
             end = on_disk end run.0;
@@ -179,23 +183,23 @@ module _ {Dev : Type 0} {G : Ghosts Dev} (keep : IsTrue G.keeps_model) (dirty_ma
       )
 
   -- there was no memory for the replies
-  not_made : (ss : List declared_step.Step) (end : PoolState Dev G) (e : PoolError) → end ≡ state → (later : Past) × IsRoundOver dirty_max ss (Err e) past later old (disk_of end) × IsLeft later (disk_of end)
+  not_made : (ss : List declared_step.Step) (end : PoolState Dev G) (e : PoolError) → end ≡ state → (later : Past) × IsRoundOver dirty_max moment ss (Err e) past later old (disk_of end) × IsLeft later (disk_of end)
   not_made ss end e same =
-      subst (λ (x : PoolState Dev G). (later : Past) × IsRoundOver dirty_max ss (Err e) past later old (disk_of x) × IsLeft later (disk_of x)) (sym same)
+      subst (λ (x : PoolState Dev G). (later : Past) × IsRoundOver dirty_max moment ss (Err e) past later old (disk_of x) × IsLeft later (disk_of x)) (sym same)
       (past, record { goes_on = left_then.goes_on; steps = refl }, left_then.left)
 
   pub over : (ss : List declared_step.Step) (end : PoolState Dev G) (answer : Answer) → IfOk answer (λ replies. SafeOn ss replies.items state end) → OnErr answer (end ≡ state)
-      → (later : Past) × IsRoundOver dirty_max ss answer past later old (disk_of end) × IsLeft later (disk_of end)
+      → (later : Past) × IsRoundOver dirty_max moment ss answer past later old (disk_of end) × IsLeft later (disk_of end)
   over ss end (Ok replies) safe same = replied ss end replies safe
   over ss end (Err e) safe same = not_made ss end e same
 
 -- an import that was refused is a round without steps
-pub refused_over : (dirty_max : ℕ) (ss : List declared_step.Step) (e : PoolError) (past : Past) (old new : Disk) → IsLeft past old → KeepsOwn old new → IsOverFor dirty_max ss (Err e) past old new
-refused_over dirty_max ss e past old new was kept = let l = import_left past old new was kept in ∣ (past, record { goes_on = l.goes_on; steps = refl }, l.left) ∣₁
+pub refused_over : (dirty_max moment : ℕ) (ss : List declared_step.Step) (e : PoolError) (past : Past) (old new : Disk) → IsLeft past old → KeepsOwn old new → IsOverFor dirty_max moment ss (Err e) past old new
+refused_over dirty_max moment ss e past old new was kept = let l = import_left past old new was kept in ∣ (past, record { goes_on = l.goes_on; steps = refl }, l.left) ∣₁
 
 -- a round with its end
 pub crashed_round : (round : Round) (answer : Answer) (past : Past) (old ended next : Disk) (pieces : Vec Piece) → round.end ≡ Crash pieces → MayLeave ended.now (crash_image pieces.items ended.now)
-    → next ≡ certain (crash_image pieces.items ended.now) ended → IsOverFor round.dirty_max round.steps.items answer past old ended → IsRound round answer past old next
+    → next ≡ certain (crash_image pieces.items ended.now) ended → IsOverFor round.dirty_max round.moment round.steps.items answer past old ended → IsRound round answer past old next
 crashed_round round answer past old ended next pieces is may next_is over = ∥∥₁_map over (λ o. record {
   later = o.0;
   ended = ended;
@@ -204,10 +208,10 @@ crashed_round round answer past old ended next pieces is may next_is over = ∥�
   goes_on = λ fair.
       let fair_crash : IsFairOn ended past.created (crash_image pieces.items ended.now) = subst (λ (e : End). IsFairEnd e past.created ended) is fair in
       subst (λ (d : Disk). IsLeft o.0 d) (sym next_is)
-      (left_crashed o.0 ended (crash_image pieces.items ended.now) may (subst (λ (t : ℕ). IsFairOn ended t (crash_image pieces.items ended.now)) (sym (same_create round.dirty_max round.steps.items answer past o.0 old ended o.1)) fair_crash) o.2);
+      (left_crashed o.0 ended (crash_image pieces.items ended.now) may (subst (λ (t : ℕ). IsFairOn ended t (crash_image pieces.items ended.now)) (sym (same_create round.dirty_max round.moment round.steps.items answer past o.0 old ended o.1)) fair_crash) o.2);
 })
 
-pub given_round : (round : Round) (answer : Answer) (past : Past) (old ended : Disk) → round.end ≡ GivenUp → IsOverFor round.dirty_max round.steps.items answer past old ended → IsRound round answer past old ended
+pub given_round : (round : Round) (answer : Answer) (past : Past) (old ended : Disk) → round.end ≡ GivenUp → IsOverFor round.dirty_max round.moment round.steps.items answer past old ended → IsRound round answer past old ended
 given_round round answer past old ended is over = ∥∥₁_map over (λ o. record {
   later = o.0;
   ended = ended;
@@ -251,15 +255,15 @@ new_left name guid start made own =
     own_left made (new_past new (moments start) 0) guid new (nothing_left new (moments start) 0) own
 
 -- a new pool, and the rounds behind its create
-found_behind : (name : List ℕ) (guid : ℕ) (rounds : List Round) (answers : List Answer) (start made : Disk) (found : Contents) (last : Disk) → GoesOnFrom start made
-    → IsOwnWith made (moments start) guid (first_contents name) → FindsCutsFrom rounds answers made found last → FindsCutsOfNew name rounds answers start found last
-found_behind name guid rounds answers start made found last on own finds =
+found_behind : (name : List ℕ) (guid moment : ℕ) (rounds : List Round) (answers : List Answer) (start made : Disk) (found : Contents) (last : Disk) → GoesOnFrom start made → IsNewPool (bytes_of made.now) name guid moment
+    → IsOwnWith made (moments start) guid (first_contents name) → FindsCutsFrom rounds answers made found last → FindsCutsOfNew name guid moment rounds answers start found last
+found_behind name guid moment rounds answers start made found last on written own finds =
     let new : Contents = first_contents name in
     let past : Past = new_past new (moments start) 0 in
-    record { new = new; is_new = record { name_is = refl; empty = λ n. finite.get-empty {X = List ℕ} nat_cmp n }; made = made; goes_on = on; finds = finds past (new_left name guid start made own) }
+    record { new = new; is_new = record { name_is = refl; empty = λ n. finite.get-empty {X = List ℕ} nat_cmp n }; made = made; goes_on = on; written = written; finds = finds past (new_left name guid start made own) }
 
-pub found_after : {A : Type 0} (name : List ℕ) (guid : ℕ) (rounds : List Round) (start made : Disk) (r : Result A PoolError) (answers : A → List Answer) (found : A → Contents) (last : A → Disk)
-    → GoesOnFrom start made → IsOwnWith made (moments start) guid (first_contents name) → IfOk r (λ a. FindsCutsFrom rounds (answers a) made (found a) (last a))
-    → IfOk r (λ a. FindsCutsOfNew name rounds (answers a) start (found a) (last a))
-found_after name guid rounds start made (Ok a) answers found last on own finds = found_behind name guid rounds (answers a) start made (found a) (last a) on own finds
-found_after name guid rounds start made (Err e) answers found last on own finds = tt
+pub found_after : {A : Type 0} (name : List ℕ) (guid moment : ℕ) (rounds : List Round) (start made : Disk) (r : Result A PoolError) (answers : A → List Answer) (found : A → Contents) (last : A → Disk)
+    → GoesOnFrom start made → IsNewPool (bytes_of made.now) name guid moment → IsOwnWith made (moments start) guid (first_contents name) → IfOk r (λ a. FindsCutsFrom rounds (answers a) made (found a) (last a))
+    → IfOk r (λ a. FindsCutsOfNew name guid moment rounds (answers a) start (found a) (last a))
+found_after name guid moment rounds start made (Ok a) answers found last on written own finds = found_behind name guid moment rounds (answers a) start made (found a) (last a) on written own finds
+found_after name guid moment rounds start made (Err e) answers found last on written own finds = tt

@@ -6,17 +6,18 @@ use Rattle.base.specs.declared.step.Step as declared_step
 use Rattle.base.specs.declared.step.Reply as declared_reply
 use Rattle.base.specs.crash.CrashRule.{IsRunLeft}
 use Rattle.base.specs.disk.Crashes.{crash_image}
-use Rattle.base.specs.disk.Disk.{Disk, EachMoment, certain, moments}
+use Rattle.base.specs.disk.Disk.{Disk, EachMoment, bytes_of, certain, moments}
 use Rattle.base.specs.disk.Fairness.{IsFairOn}
 use Rattle.base.specs.history.Contents.{Contents}
 use Rattle.base.specs.history.Past.{Past, new_past}
 use Rattle.base.specs.steps.Explains.{IsLeftBy}
 use Rattle.base.specs.steps.Runs.{Run}
+use Rattle.import_replay.specs.Creations.{IsNewPool}
 use Rattle.pool_core.specs.KeptSafe.{IsSafeStep, OnDisk}
 use Rattle.round_trip.specs.declared.crashes.End.{End}
 use Rattle.round_trip.specs.declared.crashes.End.TheVariants.{Crash, GivenUp}
 use Rattle.round_trip.specs.declared.crashes.Round.{Round}
-use Rattle.round_trip.specs.Rounds.{AreNew}
+use Rattle.round_trip.specs.Rounds.{AreNew, IsOpened}
 
 -- what the steps of a round replied, or why none was made
 abbrev pub Answer : Type 0
@@ -30,13 +31,14 @@ GoesOnFrom old new = EachMoment (λ m. Unit {0}) old new
 abbrev pub IsLeft : Past → Disk → Type 0
 IsLeft past disk = (guid : ℕ) × IsRunLeft disk past guid
 
--- Steps with these replies, of a pool that was imported with contents that the earlier run left: the replay of a cut of its entries with every
--- acknowledged one. They begin with a past in which nothing happened and lead to the later one; each is a step of the definitions, at each
+-- Steps with these replies, of a pool that was imported from a disk at a moment, with contents that the earlier run left: the replay of a cut of
+-- its entries with every acknowledged one. They begin with a past in which nothing happened and lead to the later one; each is a step of the definitions, at each
 -- of whose moments the disk was safe; and they end on this disk.
-pub record AreStepsFrom (dirty_max : ℕ) (ss : List declared_step.Step) (rs : List declared_reply.Reply) (earlier later : Past) (ended : Disk) : Type 0 where
+pub record AreStepsFrom (dirty_max moment : ℕ) (ss : List declared_step.Step) (rs : List declared_reply.Reply) (earlier later : Past) (disk ended : Disk) : Type 0 where
   pub base : Contents
   pub left : IsLeftBy earlier base
   pub start : OnDisk
+  pub opened : IsOpened (bytes_of disk.now) start.held.now moment
   pub begins : start.held.state.past ≡ new_past base earlier.created dirty_max
   pub shows : start.held.state.shown.contents ≡ base
   pub end : OnDisk
@@ -45,13 +47,13 @@ pub record AreStepsFrom (dirty_max : ℕ) (ss : List declared_step.Step) (rs : L
   pub disk_is : end.disk ≡ ended
 
 -- The import and the steps of a round: the steps replied, or none was made, and then what the earlier run left is left still.
-pub record IsRoundOver (dirty_max : ℕ) (ss : List declared_step.Step) (answer : Answer) (earlier later : Past) (disk ended : Disk) : Type 0 where
+pub record IsRoundOver (dirty_max moment : ℕ) (ss : List declared_step.Step) (answer : Answer) (earlier later : Past) (disk ended : Disk) : Type 0 where
   pub goes_on : GoesOnFrom disk ended
-  pub steps : MatchResult answer (λ replies. AreStepsFrom dirty_max ss replies.items earlier later ended) (λ e. later ≡ earlier)
+  pub steps : MatchResult answer (λ replies. AreStepsFrom dirty_max moment ss replies.items earlier later disk ended) (λ e. later ≡ earlier)
 
 -- so a round is over, and a run with the past that is left then left the disk that it ended on
-abbrev pub IsOverFor : ℕ → List declared_step.Step → Answer → Past → Disk → Disk → Type 0
-IsOverFor dirty_max ss answer past disk ended = ∥ ((later : Past) × IsRoundOver dirty_max ss answer past later disk ended × IsLeft later ended) ∥₁
+abbrev pub IsOverFor : (dirty_max moment : ℕ) → List declared_step.Step → Answer → Past → Disk → Disk → Type 0
+IsOverFor dirty_max moment ss answer past disk ended = ∥ ((later : Past) × IsRoundOver dirty_max moment ss answer past later disk ended × IsLeft later ended) ∥₁
 
 -- what the end of a round makes of the disk
 abbrev pub IsEndOf : End → Disk → Disk → Type 0
@@ -68,7 +70,7 @@ IsFairEnd GivenUp created ended = Unit {0}
 pub record GoesAsRound (round : Round) (answer : Answer) (past : Past) (disk next : Disk) (Then : Past → Type 0) : Type 0 where
   pub later : Past
   pub ended : Disk
-  pub over : IsRoundOver round.dirty_max round.steps.items answer past later disk ended
+  pub over : IsRoundOver round.dirty_max round.moment round.steps.items answer past later disk ended
   pub end : IsEndOf round.end ended next
   pub goes_on : IsFairEnd round.end past.created ended → Then later
 
@@ -89,12 +91,14 @@ FindsCuts (round ∷ rounds) [] past disk found last = ⊥
 abbrev pub FindsCutsFrom : List Round → List Answer → Disk → Contents → Disk → Type 0
 FindsCutsFrom rounds answers disk found last = (past : Past) → IsLeft past disk → FindsCuts rounds answers past disk found last
 
--- and behind the create of a pool of this name, which began on this disk: nothing happened before, and the pool had no object
-pub record FindsCutsOfNew (name : List ℕ) (rounds : List Round) (answers : List Answer) (start : Disk) (found : Contents) (last : Disk) : Type 0 where
+-- and behind the create of a pool of this name and guid at this moment, which began on this disk: nothing happened before, and the pool had no
+-- object
+pub record FindsCutsOfNew (name : List ℕ) (guid moment : ℕ) (rounds : List Round) (answers : List Answer) (start : Disk) (found : Contents) (last : Disk) : Type 0 where
   pub new : Contents
   pub is_new : AreNew name new
   pub made : Disk
   pub goes_on : GoesOnFrom start made
+  pub written : IsNewPool (bytes_of made.now) name guid moment
   pub finds : FindsCuts rounds answers (new_past new (moments start) 0) made found last
 
 -- rounds that are left go on from the answers so far

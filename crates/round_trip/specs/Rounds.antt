@@ -40,6 +40,10 @@ pub record IsOpened (image now : List ℕ) (moment : ℕ) : Type 0 where
   pub group : after.group ≡ before.group + 4
   pub moment_is : after.moment ≡ moment
 
+-- the active uberblock of these bytes has this moment: so an import at it left them
+abbrev pub HasMoment : List ℕ → ℕ → Type 0
+HasMoment now moment = (u : Uberblock) × IsActive now u × (u.moment ≡ moment)
+
 -- Contents that a pool leaves: the replay, over its base, of its entries up to a group. This is the synced one, or that of a sync
 -- which runs.
 pub record AreLeft (h : Held) (contents : Contents) : Type 0 where

@@ -6,10 +6,12 @@
 //! mounts is told by what each round acknowledged, round upon round.
 
 ghost use Rattle.std.specs.Prelude.{◌≡◌, IfOk, IsTrue};
+ghost use Rattle.base.specs.disk.Disk.{bytes_of};
 ghost use Rattle.base.specs.history.Past.{Past};
 ghost use Rattle.object_maps.specs.ContentsShown.{contents_of};
 ghost use Rattle.import_replay.specs.OwnCreations.{HasEarlierWrites};
 ghost use Rattle.round_trip.specs.Crashes.{FindsCutsFrom, FindsCutsOfNew, IsLeft, IsOverFor, IsRound};
+ghost use Rattle.round_trip.specs.Rounds.{HasMoment};
 
 use crate::{make, open};
 use base::{Piece, PoolError, Reply, Step};
@@ -53,7 +55,7 @@ pub fn import_and_run<D: SectorDevice>(
     steps: Vec<Step>,
 ) -> (Result<Vec<Reply>, PoolError>, D)
     ensures went { IsTrue D.keeps_model → (past : Past) → IsLeft past (D.disk device)
-        → IsOverFor dirty_max steps.items result.0 past (D.disk device) (D.disk result.1) }
+        → IsOverFor dirty_max moment steps.items result.0 past (D.disk device) (D.disk result.1) }
 {
     match import(alloc, device, dirty_max, moment) {
         Ok(imported) => {
@@ -110,6 +112,8 @@ pub fn go_rounds(
 ) -> Result<(Vec<Result<Vec<Reply>, PoolError>>, Imported<MemDevice>), PoolError>
     ensures found { IfOk result (λ r. FindsCutsFrom rounds.items r.0.items device.disk
         (contents_of r.1.mounted.contents) r.1.device.disk) }
+    ensures opened { IfOk result (λ r. HasMoment (bytes_of r.1.device.disk.now) moment) }
+    ensures limit { IfOk result (λ r. r.1.mounted.dirty_max ≡ dirty_max) }
 {
     let mut device = device;
     let mut answers = Vec::with_capacity(alloc, rounds.len())?;
@@ -136,8 +140,10 @@ pub fn play_rounds(
     rounds: Vec<Round>,
 ) -> Result<(Vec<Result<Vec<Reply>, PoolError>>, Imported<MemDevice>), PoolError>
     ensures found { HasEarlierWrites device.disk → IfOk result (λ r.
-        FindsCutsOfNew name.now rounds.items r.0.items device.disk
+        FindsCutsOfNew name.now guid moment rounds.items r.0.items device.disk
         (contents_of r.1.mounted.contents) r.1.device.disk) }
+    ensures opened { IfOk result (λ r. HasMoment (bytes_of r.1.device.disk.now) moment) }
+    ensures limit { IfOk result (λ r. r.1.mounted.dirty_max ≡ dirty_max) }
 {
     let made = make(device, name, guid, moment)?;
     go_rounds(alloc, made, dirty_max, moment, rounds)

@@ -20,3 +20,8 @@ returns-clause-found g c = λ keeps.
       now = now;
       round = subst (λ (found : Contents). IsCleanRound image new.0 c.args.dirty_max c.args.moment ss rs now found) (sym (c.in_ok-imported.ensures.found keeps left.0 left.1.holds)) left.1;
     })
+
+pub returns-clause-opened : goal.returns-clause-opened
+returns-clause-opened g c = λ keeps.
+    let o = c.in_ok-imported.ensures.opened keeps in
+    (o.after, o.active, o.moment_is)

@@ -14,8 +14,8 @@ returns-in-Crash c = record {
       let planned : Disk = c.plan_fault.new.device.disk in
       let same : planned ≡ start = c.plan_fault.ensures in
       let ended : Disk = c.import_and_run-answer.result.1.disk in
-      let over : IsOverFor r.dirty_max r.steps.items c.import_and_run-answer.result.0 past start ended =
-      subst (λ (d : Disk). IsOverFor r.dirty_max r.steps.items c.import_and_run-answer.result.0 past d ended) same
+      let over : IsOverFor r.dirty_max r.moment r.steps.items c.import_and_run-answer.result.0 past start ended =
+      subst (λ (d : Disk). IsOverFor r.dirty_max r.moment r.steps.items c.import_and_run-answer.result.0 past d ended) same
       (c.import_and_run-answer.ensures.went refl past (subst (λ (d : Disk). IsLeft past d) (sym same) was)) in
       let value : c.deref.result.now ≡ c.in-Crash.pieces.items = c.deref.ensures.value in
       let may = subst (λ (ps : List Piece). MayLeave ended.now (crash_image ps ended.now)) value c.crash.ensures.possible in
@@ -31,8 +31,8 @@ returns-in-GivenUp c = record {
       let planned : Disk = c.plan_fault.new.device.disk in
       let same : planned ≡ start = c.plan_fault.ensures in
       let ended : Disk = c.import_and_run-answer.result.1.disk in
-      let over : IsOverFor r.dirty_max r.steps.items c.import_and_run-answer.result.0 past start ended =
-      subst (λ (d : Disk). IsOverFor r.dirty_max r.steps.items c.import_and_run-answer.result.0 past d ended) same
+      let over : IsOverFor r.dirty_max r.moment r.steps.items c.import_and_run-answer.result.0 past start ended =
+      subst (λ (d : Disk). IsOverFor r.dirty_max r.moment r.steps.items c.import_and_run-answer.result.0 past d ended) same
       (c.import_and_run-answer.ensures.went refl past (subst (λ (d : Disk). IsLeft past d) (sym same) was)) in
       given_round r c.import_and_run-answer.result.0 past start ended c.in-GivenUp.is over;
 }

@@ -15,13 +15,15 @@ loop-round-preserved c = (
       c.go_round-answer.ensures.went c.loop-round.invariant.3,
 )
 
-pub returns : goal.returns
-returns c =
+pub returns-clause-found : goal.returns-clause-found
+returns-clause-found c =
     let done = c.in-None.ensures.steps.0 in
     let whole = c.loop-round.round-iterator.rest.ok.0 in
     let none : length (into_iter_items c.loop-round.round-iterator) ≡ 0 = sym whole ∙ done in
-    record {
-      found =
-          rw (append-nil c.loop-round.answers.items) at (c.loop-round.invariant.3 [] (contents_of c.in_ok-imported.imported.mounted.contents) c.in_ok-imported.imported.device.disk (rw (nil_from_length (into_iter_items c.loop-round.round-iterator) none)
-          (λ past was. last_import c.args.dirty_max past c.loop-round.device.disk c.in_ok-imported.imported.device.disk c.in_ok-imported.imported.mounted was (c.in_ok-imported.ensures.own refl) (c.in_ok-imported.ensures.starts refl))));
-    }
+    rw (append-nil c.loop-round.answers.items) at (c.loop-round.invariant.3 [] (contents_of c.in_ok-imported.imported.mounted.contents) c.in_ok-imported.imported.device.disk (rw (nil_from_length (into_iter_items c.loop-round.round-iterator) none)
+    (λ past was. last_import c.args.dirty_max past c.loop-round.device.disk c.in_ok-imported.imported.device.disk c.in_ok-imported.imported.mounted was (c.in_ok-imported.ensures.own refl) (c.in_ok-imported.ensures.starts refl))))
+
+pub returns-clause-opened : goal.returns-clause-opened
+returns-clause-opened c =
+    let o = c.in_ok-imported.ensures.opened refl in
+    (o.after, o.active, o.moment_is)

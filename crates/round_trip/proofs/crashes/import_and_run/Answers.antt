@@ -1,10 +1,13 @@
-use Rattle.std.proofs.Common.{◌≡◌, ◌∙◌, ap, sym, subst}
+use Rattle.std.proofs.Common.{◌≡◌, ◌∙◌, ap, refl, sym, subst}
 use Rattle.std.proofs.Math.Logic.{∥∥₁_map}
-use Rattle.base.specs.disk.Disk.{Disk, disk_size}
+use Rattle.base.specs.disk.Disk.{Disk, bytes_of, disk_size}
 use Rattle.base.specs.crash.CrashRule.{KeepsOwn}
+use Rattle.import_replay.specs.ImportSyncs.{uberblock_of_import}
 use Rattle.import_replay.specs.RunStarts.{StartsRun}
 use Rattle.pool_core.specs.KeptSafe.{disk_of}
+use Rattle.pool_core.specs.States.{told}
 use Rattle.round_trip.specs.Crashes.{IsLeft, IsRoundOver}
+use Rattle.round_trip.specs.Rounds.{IsOpened}
 use Rattle.round_trip.proofs.CrashRounds.{over, refused_over}
 use Rattle.round_trip.proofs.crashes.import_and_run.Goals as goal
 
@@ -19,16 +22,28 @@ returns-in-Ok g c = record {
       let ss = c.args.steps.items in
       let kept : KeepsOwn old (disk_of state) = subst (λ d. KeepsOwn old (disk d)) (sym c.new-state.ensures.device) (c.in-Ok.ensures.own keeps) in
       let starts : StartsRun old c.args.dirty_max (disk_of state) m = subst (λ d. StartsRun old c.args.dirty_max (disk d) m) (sym c.new-state.ensures.device) (c.in-Ok.ensures.starts keeps) in
+      let synced = c.in-Ok.ensures.synced keeps in
+      let here : IsOpened (bytes_of old.now) (bytes_of (disk c.in-Ok.imported.device).now) c.args.moment = record {
+        before = synced.u;
+        was_active = synced.active;
+        after = uberblock_of_import c.args.moment m;
+        active = c.in-Ok.ensures.active keeps;
+        guid = synced.guid;
+        group = synced.group;
+        moment_is = refl;
+      } in
+      let opened : IsOpened (bytes_of old.now) (told state).now c.args.moment =
+      subst (λ d. IsOpened (bytes_of old.now) (bytes_of (disk d).now) c.args.moment) (sym c.new-state.ensures.device) here in
       let limit = (c.in-Ok.ensures.explained 0).exact.charges.limit in
       let sized : disk_size (disk_of state) ≡ m.geometry = ap (λ d. disk_size (disk d)) c.new-state.ensures.device ∙ g.met.D.SectorDevice.sized keeps c.in-Ok.imported.device ∙ c.in-Ok.imported.sized in
       ∥∥₁_map c.new-state.ensures.held (λ held.
-      subst (λ d. (later : _) × IsRoundOver c.args.dirty_max ss c.run-answer.result past later old (disk d) × IsLeft later (disk d)) (sym c.into_device.ensures)
-      (over keeps c.args.dirty_max past old m state was kept starts c.new-state.ensures.shown limit sized (held keeps) c.new-state.ensures.safe ss end c.run-answer.result
+      subst (λ d. (later : _) × IsRoundOver c.args.dirty_max c.args.moment ss c.run-answer.result past later old (disk d) × IsLeft later (disk d)) (sym c.into_device.ensures)
+      (over keeps c.args.dirty_max c.args.moment past old m state was kept starts c.new-state.ensures.shown limit sized (held keeps) c.new-state.ensures.safe opened ss end c.run-answer.result
       (c.run-answer.ensures.safe keeps) c.run-answer.ensures.kept));
 }
 
 pub returns-in-Err : goal.returns-in-Err
 returns-in-Err g c = record {
   went = λ keeps past was.
-      refused_over c.args.dirty_max c.args.steps.items c.in-Err.error past (g.D.SectorDevice.disk c.args.device) (g.D.SectorDevice.disk c.in-Err.device) was (c.in-Err.ensures.own keeps);
+      refused_over c.args.dirty_max c.args.moment c.args.steps.items c.in-Err.error past (g.D.SectorDevice.disk c.args.device) (g.D.SectorDevice.disk c.in-Err.device) was (c.in-Err.ensures.own keeps);
 }
