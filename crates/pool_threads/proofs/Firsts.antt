@@ -1,11 +1,13 @@
 -- A pool that an import gave is explained by a past in which nothing happened.
 use Rattle.std.proofs.Common.{◌≡◌, ◌∙◌, ℕ, Bool, ap, refl, sym, subst, false, true}
-use Rattle.std.specs.Prelude.{IfOk, IsTrue, Result, Ok, Err}
+use Rattle.std.specs.Prelude.{IfErr, IfOk, IsTrue, Result, Ok, Err}
 use Rattle.std.proofs.Math.Logic.{∥∥₁_map}
 use Rattle.base.specs.crash.CrashRule.{KeepsOwn}
+use Rattle.base.specs.declared.error.PoolError.{PoolError}
+use Rattle.base.specs.declared.error.PoolError.TheVariants.{NoMemory}
 use Rattle.base.specs.disk.Disk.{Disk, disk_size}
 use Rattle.base.specs.history.Contents.{Contents}
-use Rattle.base.specs.history.Past.{new_past}
+use Rattle.base.specs.history.Past.{Past, new_past}
 use Rattle.base.specs.steps.Explains.{IsLeftBy}
 use Rattle.import_replay.specs.Mounts.{shown_of_import}
 use Rattle.import_replay.specs.RunStarts.{StartsRun}
@@ -40,6 +42,16 @@ module _ {Dev : Type 0} {G : Ghosts Dev} (p : PoolState Dev G) where
   pub opens_with : {E : Type 0} {s : Shown} (r : Result (Pool Dev G) E) → IfOk r (λ q. opening q.lock ≡ view_of p (first_past (shown p) 0) false) → shown p ≡ s → IfOk r (λ q. (state_of (opening q.lock)).shown ≡ s)
   opens_with (Ok q) is same = ap (λ (v : View). (state_of v).shown) is ∙ shown_at_first ∙ same
   opens_with (Err e) is same = tt
+
+-- a pool that was not shared comes back with its device, and shows the same
+pub comes_back : {Dev : Type 0} {G : Ghosts Dev} {B : Type 0} (state : PoolState Dev G) (d : Dev) (s : Shown) (r : Result B (PoolError × PoolState Dev G))
+    → IfErr r (λ e. (e.0 ≡ NoMemory) × (e.1 ≡ state)) → state.device ≡ d → shown state ≡ s → IfErr r (λ e. (e.0 ≡ NoMemory) × (e.1.device ≡ d) × (shown e.1 ≡ s))
+comes_back {Dev} {G} state d s (Ok q) given device shows = tt
+comes_back {Dev} {G} state d s (Err e) given device shows = (given.0, ap (λ (p : PoolState Dev G). p.device) given.1 ∙ device, ap (λ (p : PoolState Dev G). shown p) given.1 ∙ shows)
+
+-- a pool that opens with a view of this state shows it
+pub shown_first : {Dev : Type 0} {G : Ghosts Dev} (p : PoolState Dev G) (past : Past) (rule : Bool) (q : Pool Dev G) → opening_view q ≡ view_of p past rule → (state_of (opening_view q)).shown ≡ shown p
+shown_first p past rule q is = ap (λ (v : View). (state_of v).shown) is ∙ ap (λ (s : State). s.shown) (state_of-view_of p past rule)
 
 -- A pool that was imported behind an earlier run, where that left the disk.
 module _ {Dev : Type 0} {G : Ghosts Dev} (dirty_max : ℕ) (run : EarlierRun) (old : Disk) (m : Mounted) (p : PoolState Dev G)

@@ -10,7 +10,7 @@ use Rattle.pool_core.specs.Holds.{Told, held_with, state_with}
 use Rattle.pool_core.specs.KeptSafe.{IsKeptSafe, OnDisk, on_disk}
 use Rattle.pool_core.specs.States.{told}
 use Rattle.pool_threads.specs.declared.handle.Handle.{Handle}
-use Rattle.pool_threads.specs.Handles.{HasLooked, IsOfSamePool, turns_of, view_seen}
+use Rattle.pool_threads.specs.Handles.{HasLooked, StaysInPool, turns_of, view_seen}
 use Rattle.pool_threads.specs.Views.{Explains, GrowsTo, View}
 use Rattle.word_lock.specs.declared.rule.Turn.{Turn}
 use Rattle.word_lock.specs.Turns.{turn}
@@ -26,7 +26,7 @@ module _ {Dev : Type 0} {G : Ghosts Dev} (old new : PoolState Dev G) (same : tol
 
 -- from the handle before it has the lock, over the turns and the view of its seat that has it, to the handle after
 module _ {Dev : Type 0} {G : Ghosts Dev} (old new : Handle Dev G) (ts : List (Turn View)) (v : View) where
-  pub looked_by : IsOfSamePool old new → ts ≡ turns_of old → GrowsTo (view_seen old) v → view_seen new ≡ v → turns_of new ≡ ts ++ turn v (view_seen new) ∷ [] → HasLooked old new
+  pub looked_by : StaysInPool old new → ts ≡ turns_of old → GrowsTo (view_seen old) v → view_seen new ≡ v → turns_of new ≡ ts ++ turn v (view_seen new) ∷ [] → HasLooked old new
   looked_by pool same onward still turned = record {
     same_pool = pool;
     onward = subst (GrowsTo (view_seen old)) (sym still) onward;

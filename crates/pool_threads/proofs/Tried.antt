@@ -14,6 +14,7 @@ use Rattle.base.specs.steps.Steps.{State}
 use Rattle.device_model.specs.declared.device.SectorDevice.{Ghosts}
 use Rattle.pool_threads.specs.declared.handle.Handle.{Handle}
 use Rattle.pool_threads.specs.Answers.{IsRefusal, Makes, MakesAtLast, Sees, Tries, state_seen}
+use Rattle.pool_threads.specs.Handles.{StaysInPool}
 use Rattle.pool_threads.specs.Views.{IsPoolStep, View, grows_onward, grows_same}
 use Rattle.pool_threads.proofs.Answered.{between, refused_between}
 use Rattle.pool_threads.proofs.Made.{grows_by_made}
@@ -22,13 +23,16 @@ use Rattle.word_lock.specs.Seats.{seen, turns}
 use Rattle.word_lock.specs.Turns.{turn}
 use mathlib.Core.Logic.{◌↔◌}
 
+stays_on : {Dev : Type 0} {G : Ghosts Dev} (old now new : Handle Dev G) → StaysInPool old now → StaysInPool now new → StaysInPool old new
+stays_on old now new first later = (later.0 ∙ first.0, later.1 ∙ first.1)
+
 module _ {Dev : Type 0} {G : Ghosts Dev} (s : declared_step.Step) (e : PoolError) where
   pub no_tries : (h : Handle Dev G) → Tries s e h h
-  no_tries h = record { same_pool = refl; tried = record { tries = []; refused = All-nil (λ (t : Turn View). IsPoolStep (IsTrue G.keeps_model) s (reply.Refused e) t.took t.left); onward = grows_same (seen h.seat); turns = sym (append-nil (turns h.seat)) } }
+  no_tries h = record { same_pool = (refl, refl); tried = record { tries = []; refused = All-nil (λ (t : Turn View). IsPoolStep (IsTrue G.keeps_model) s (reply.Refused e) t.took t.left); onward = grows_same (seen h.seat); turns = sym (append-nil (turns h.seat)) } }
 
   pub one_more_try : {old now next : Handle Dev G} → Tries s e old now → Makes s (reply.Refused e) now next → Tries s e old next
   one_more_try {old} {now} {next} t m = record {
-    same_pool = m.same_pool ∙ t.same_pool;
+    same_pool = stays_on old now next t.same_pool m.same_pool;
     tried = record {
       tries = t.tried.tries ++ turn m.made.took (seen next.seat) ∷ [];
       refused = All-push (λ (t : Turn View). IsPoolStep (IsTrue G.keeps_model) s (reply.Refused e) t.took t.left) t.tried.tries (turn m.made.took (seen next.seat)) t.tried.refused m.made.made;
@@ -39,7 +43,7 @@ module _ {Dev : Type 0} {G : Ghosts Dev} (s : declared_step.Step) (e : PoolError
 
   pub at_last : {old now new : Handle Dev G} {r : declared_reply.Reply} → Tries s e old now → Makes s r now new → MakesAtLast s e r old new
   at_last {old} {now} {new} t m = record {
-    same_pool = m.same_pool ∙ t.same_pool;
+    same_pool = stays_on old now new t.same_pool m.same_pool;
     made = record {
       tries = t.tried.tries;
       refused = t.tried.refused;

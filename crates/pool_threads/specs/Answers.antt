@@ -9,9 +9,10 @@ use Rattle.base.specs.steps.SeenLaws.{is_suspending, is_untested}
 use Rattle.base.specs.steps.Steps.{State}
 use Rattle.device_model.specs.declared.device.SectorDevice.{Ghosts}
 use Rattle.pool_threads.specs.declared.handle.Handle.{Handle}
+use Rattle.pool_threads.specs.Handles.{StaysInPool}
 use Rattle.pool_threads.specs.Turns.{HasMade, HasMadeAtLast, HasTried}
 use Rattle.pool_threads.specs.Views.{state_of}
-use Rattle.word_lock.specs.Seats.{seat_table, seen}
+use Rattle.word_lock.specs.Seats.{seen}
 
 -- What is so of a refusal, by the states before and after the call: each but those of memory and of the device is the one that the rules give
 -- in some state between, and after those of the device and after `Suspended` the pool is suspended from then on.
@@ -30,15 +31,15 @@ module _ {Dev : Type 0} {G : Ghosts Dev} where
 
   -- the handle is of the same pool, and made this step with this reply in one turn and no other
   pub record Makes (s : declared_step.Step) (r : declared_reply.Reply) (old new : Handle Dev G) : Type 0 where
-    pub same_pool : seat_table new.seat ≡ seat_table old.seat
+    pub same_pool : StaysInPool old new
     pub made : HasMade (IsTrue G.keeps_model) s r old.seat new.seat
 
   -- so far the handle only tried this step, and was refused so each time
   pub record Tries (s : declared_step.Step) (e : PoolError) (old now : Handle Dev G) : Type 0 where
-    pub same_pool : seat_table now.seat ≡ seat_table old.seat
+    pub same_pool : StaysInPool old now
     pub tried : HasTried (IsTrue G.keeps_model) s e old.seat now.seat
 
   -- the handle made this step with this reply, behind turns in which it was refused so, and in no other turn
   pub record MakesAtLast (s : declared_step.Step) (e : PoolError) (r : declared_reply.Reply) (old new : Handle Dev G) : Type 0 where
-    pub same_pool : seat_table new.seat ≡ seat_table old.seat
+    pub same_pool : StaysInPool old new
     pub made : HasMadeAtLast (IsTrue G.keeps_model) s e r old.seat new.seat

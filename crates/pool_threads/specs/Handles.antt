@@ -1,15 +1,22 @@
 -- What contracts say of a pool under its lock, and of its handles.
-use Rattle.std.specs.Prelude.{ℕ, ◌≡◌, ◌++◌, Bool, true, IsTrue, List, [], ◌∷◌}
-use Rattle.base.specs.disk.Disk.{Disk}
+use Rattle.std.specs.Prelude.{ℕ, ◌≡◌, ◌⊎◌, ◌++◌, Bool, true, IsTrue, List, [], ◌∷◌}
+use Rattle.base.specs.declared.error.PoolError.{PoolError}
+use Rattle.base.specs.declared.error.PoolError.TheVariants.{NoMemory}
+use Rattle.base.specs.disk.Disk.{Disk, bytes_of, certain}
 use Rattle.base.specs.history.Past.{Past, new_past}
 use Rattle.base.specs.steps.Explains.{AreSafe, IsLeftBy}
 use Rattle.device_model.specs.declared.device.SectorDevice.{Ghosts}
+use Rattle.import_replay.specs.ImportRefusals.{IsReadingRefusal, IsReason, IsSyncRefusal}
+use Rattle.import_replay.specs.ImportStops.{IsImportStopped}
+use Rattle.import_replay.specs.ImportSyncs.{IsImportSynced}
+use Rattle.import_replay.specs.Mounts.{shown_of_import}
+use Rattle.import_replay.specs.declared.mounted.Mounted.{Mounted}
 use Rattle.pool_core.specs.declared.state.PoolState.{PoolState}
 use Rattle.pool_core.specs.KeptSafe.{disk_of}
 use Rattle.pool_threads.specs.declared.handle.Handle.{Handle}
 use Rattle.pool_threads.specs.declared.handle.LastSeen.{LastSeen}
 use Rattle.pool_threads.specs.declared.pool.Pool.{Pool}
-use Rattle.pool_threads.specs.Views.{Explains, GrowsTo, View}
+use Rattle.pool_threads.specs.Views.{Explains, GrowsTo, View, state_of}
 use Rattle.round_trip.specs.Crashes.{IsLeft}
 use Rattle.word_lock.specs.declared.rule.Turn.{Turn}
 use Rattle.word_lock.specs.Seats.{IsAsBefore, lock_table, opening, seat_number, seat_table, seen, turns}
@@ -40,38 +47,43 @@ module _ {Dev : Type 0} {G : Ghosts Dev} where
   abbrev pub IsOfSamePool : Handle Dev G → Handle Dev G → Type 0
   IsOfSamePool h g = seat_table g.seat ≡ seat_table h.seat
 
+  -- the handle still is one of this pool, whose moment its syncs carry
+  abbrev pub StaysInPool : Handle Dev G → Handle Dev G → Type 0
+  StaysInPool h g = IsOfSamePool h g × (moment_of g ≡ moment_of h)
+
   -- nothing of the handle has changed
   abbrev pub IsUnchanged : Handle Dev G → Handle Dev G → Type 0
-  IsUnchanged h g = IsAsBefore h.seat g.seat
+  IsUnchanged h g = IsAsBefore h.seat g.seat × (moment_of g ≡ moment_of h)
 
-  -- a handle of this pool that has had no turn, and has seen at least what the pool was shared with
+  -- a handle of this pool that has had no turn, and has seen at least what the pool was shared with; its syncs carry the pool's moment
   pub record IsNewHandle (p : Pool Dev G) (h : Handle Dev G) : Type 0 where
     pub of : IsOf p h
+    pub moment : moment_of h ≡ p.moment
     pub onward : GrowsTo (opening_view p) (view_seen h)
     pub no_turn : turns_of h ≡ []
 
   -- the handle is of the same pool, has seen the same and had the same turns
   pub record IsStill (old new : Handle Dev G) : Type 0 where
-    pub same_pool : IsOfSamePool old new
+    pub same_pool : StaysInPool old new
     pub seen : view_seen new ≡ view_seen old
     pub turns : turns_of new ≡ turns_of old
 
   -- another handle of the same pool, which has seen the same and had no turn
   pub record IsSplitOff (old other : Handle Dev G) : Type 0 where
-    pub same_pool : IsOfSamePool old other
+    pub same_pool : StaysInPool old other
     pub seen : view_seen other ≡ view_seen old
     pub no_turn : turns_of other ≡ []
 
   -- the handle has seen what both had seen, and had no other turn
   pub record HasJoined (old added new : Handle Dev G) : Type 0 where
-    pub same_pool : IsOfSamePool old new
+    pub same_pool : StaysInPool old new
     pub own : GrowsTo (view_seen old) (view_seen new)
     pub other : GrowsTo (view_seen added) (view_seen new)
     pub turns : turns_of new ≡ turns_of old
 
   -- In one turn and no other the handle left what it saw as it was.
   pub record HasLooked (old new : Handle Dev G) : Type 0 where
-    pub same_pool : IsOfSamePool old new
+    pub same_pool : StaysInPool old new
     pub onward : GrowsTo (view_seen old) (view_seen new)
     pub turn : turns_of new ≡ turns_of old ++ turn (view_seen new) (view_seen new) ∷ []
 
@@ -82,6 +94,11 @@ module _ {Dev : Type 0} {G : Ghosts Dev} where
   -- that handle was one of this pool
   abbrev pub WasOf : Pool Dev G → LastSeen Dev G → Type 0
   WasOf p l = seat_table l.seat ≡ lock_table p.lock
+
+  -- a handle of this pool that has seen and had just what that one had, and starts syncs with the pool's moment
+  pub record IsBackIn (p : Pool Dev G) (l : LastSeen Dev G) (h : Handle Dev G) : Type 0 where
+    pub moment : moment_of h ≡ p.moment
+    pub seat_is : h.seat ≡ l.seat
 
   -- every fair image that a crash now may leave of the state's disk mounts the replay of a conflict-closed cut of the entries of this past with every
   -- acknowledged one; and a run with this past left the disk, so a later run goes on from there
@@ -116,6 +133,23 @@ pub record EarlierRun : Type 0 where
 -- where it is to be followed, over a device that keeps the model, the run with this past left the disk
 abbrev pub HasLeft : EarlierRun → (keeps : Type 0) → Disk → Type 0
 HasLeft run keeps disk = run.crash_rule ≡ true → keeps → IsLeft run.past disk
+
+-- the view shows what one import of this disk with this moment mounted, and nothing has happened since
+pub record ShowsImport (moment : ℕ) (old : Disk) (v : View) : Type 0 where
+  pub disk : Disk
+  pub mounted : Mounted
+  pub synced : IsImportSynced old disk moment mounted
+  pub shown : (state_of v).shown ≡ shown_of_import mounted
+
+-- what a refused import tells of a disk's image, and leaves of the disk: it as it was, flushed, or what its calls before the refused one made of it
+pub record IsLeftByRefused (moment : ℕ) (old : Disk) (e : PoolError) (new : Disk) : Type 0 where
+  pub reason : IsReason (bytes_of old.now) e
+  pub unchanged : IsReadingRefusal e → new ≡ certain (bytes_of old.now) old
+  pub stopped : IsSyncRefusal e → IsImportStopped old new moment e
+
+-- what a refused open leaves of it: that, or, where there is no memory to share the pool, what the one import made of it
+abbrev pub IsLeftByOpen : ℕ → Disk → PoolError → Disk → Type 0
+IsLeftByOpen moment old e new = IsLeftByRefused moment old e new ⊎ ((e ≡ NoMemory) × ((mounted : Mounted) × IsImportSynced old new moment mounted))
 
 -- The view of a pool as it is imported behind an earlier run: nothing happened since, and where the crash rule is followed its contents are what
 -- the earlier run left: the replay of a cut of its entries with every acknowledged one.

@@ -2,5 +2,5 @@ pub mod Noted
 pub mod Views
 pub mod Turns
 pub mod Kinds
-pub mod Answers
 pub mod Handles
+pub mod Answers

@@ -1,8 +1,9 @@
 //! A pool under a lock.
-ghost use Rattle.std.specs.Prelude.{◌≡◌, IfErr, IfOk, IfSome, IsTrue};
+ghost use Rattle.std.specs.Prelude.{◌≡◌, ◌⊎◌, IfErr, IfOk, IfSome, IsTrue};
 ghost use Rattle.import_replay.specs.ImportRefusals.{IsImportRefusal};
 ghost use Rattle.import_replay.specs.Mounts.{shown_of_import};
-ghost use Rattle.pool_threads.specs.Handles.{EarlierRun, HasLeft, IsLastState, IsLaterState, IsNewHandle, OpensBehind, WasOf, opening_view};
+ghost use Rattle.pool_core.specs.States.{device_of, shown};
+ghost use Rattle.pool_threads.specs.Handles.{EarlierRun, HasLeft, IsBackIn, IsLastState, IsLaterState, IsLeftByOpen, IsNewHandle, OpensBehind, ShowsImport, WasOf, opening_view};
 ghost use Rattle.pool_threads.specs.Views.{Explains, View, state_of};
 
 use crate::handle::{Handle, LastSeen};
@@ -67,7 +68,9 @@ impl<D: SectorDevice> Pool<D> {
         ensures shown { IfOk result (λ p. (state_of (opening_view p)).shown
             ≡ shown_of_import imported.mounted) }
         ensures moment { IfOk result (λ p. p.moment ≡ moment) }
-        ensures refused { IfErr result (λ e. e.0 ≡ PoolError.NoMemory) }
+        ensures refused { IfErr result (λ e. (e.0 ≡ PoolError.NoMemory)
+            × (device_of e.1 ≡ imported.device)
+            × (shown e.1 ≡ shown_of_import imported.mounted)) }
     {
         let state = PoolState::new(imported);
         Pool::new(state, moment)
@@ -91,8 +94,14 @@ impl<D: SectorDevice> Pool<D> {
         requires left { HasLeft run (IsTrue D.keeps_model) (D.disk device) }
         ensures opened { IfOk result
             (λ p. OpensBehind run (IsTrue D.keeps_model) dirty_max (opening_view p)) }
+        ensures imported { IsTrue D.keeps_model
+            → IfOk result (λ p. ShowsImport moment (D.disk device) (opening_view p)) }
         ensures moment { IfOk result (λ p. p.moment ≡ moment) }
         ensures refused { IfErr result (λ e. IsImportRefusal (D.size device) dirty_max e.0) }
+        ensures untouched { IfErr result
+            (λ e. (e.0 ≡ PoolError.BadGeometry) ⊎ (e.0 ≡ PoolError.BadRange) → e.1 ≡ device) }
+        ensures given_back { IsTrue D.keeps_model
+            → IfErr result (λ e. IsLeftByOpen moment (D.disk device) e.0 (D.disk e.1)) }
         ensures still_left { IfErr result
             (λ e. HasLeft run (IsTrue D.keeps_model) (D.disk e.1)) }
     {
@@ -115,6 +124,15 @@ impl<D: SectorDevice> Pool<D> {
             pool: self,
             seat: self.lock.seat(),
         }
+    }
+
+    /// A handle behind one that left the pool: it goes on from what that one had seen, and its turns are among those that it knows of.
+    pub fn handle_behind(&self, last: LastSeen<D>) -> Handle<'_, D>
+        requires { WasOf self.now last }
+        ensures { IsBackIn self.entry.now last result }
+    {
+        let LastSeen { seat } = last;
+        Handle { pool: self, seat }
     }
 
     /// The state, by steps from the first one. Where the crash rule was followed, each crash of its device leaves a cut of its history

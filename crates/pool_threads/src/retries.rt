@@ -176,6 +176,7 @@ fn is_busy<T>(answer: &Result<T, PoolError>) -> bool
 // Whether a begin with this answer may pass later: it was throttled, and its charge alone is not above the limit.
 fn may_pass(answer: &Admitted, is_above_limit: bool) -> bool
     ensures again { result ≡ true → answer.now ≡ Err error.Throttled }
+    ensures helped { result ≡ true → is_above_limit ≡ false }
     ensures done { result ≡ false → answer.now ≡ Err error.Throttled → is_above_limit ≡ true }
 {
     match answer {

@@ -1,4 +1,4 @@
-use Rattle.std.proofs.Common.{◌∙◌, sym, subst}
+use Rattle.std.proofs.Common.{◌∙◌, refl, sym, subst}
 use Rattle.pool_threads.specs.Views.{Explains}
 use Rattle.pool_threads.proofs.Looked.{looked_by}
 use Rattle.pool_threads.proofs.calls.Handle+MemDevice.fail.Goals as goal
@@ -7,4 +7,4 @@ pub returns : goal.returns
 returns g c =
     let held = c.acquire-guard.ensures.held in
     let done = c.fail_guarded.ensures in
-    looked_by _ _ _ _ (done.same.0.0 ∙ c.acquire-guard.ensures.same.0) held.1 held.2 done.seen done.turn
+    looked_by _ _ _ _ (done.same.0.0 ∙ c.acquire-guard.ensures.same.0, refl) held.1 held.2 done.seen done.turn

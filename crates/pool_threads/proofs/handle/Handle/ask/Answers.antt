@@ -1,4 +1,4 @@
-use Rattle.std.proofs.Common.{sym, subst, ◌∙◌}
+use Rattle.std.proofs.Common.{refl, sym, subst, ◌∙◌}
 use Rattle.pool_threads.proofs.Fits.{fitting}
 use Rattle.pool_threads.proofs.Made.{made_by}
 use Rattle.pool_threads.specs.Views.{Explains}
@@ -14,7 +14,7 @@ returns-clause-made g c =
     let held = c.acquire-guard.ensures.held in
     let done = c.step_guarded-reply.ensures in
     record {
-      same_pool = done.same.0.0 ∙ c.acquire-guard.ensures.same.0;
+      same_pool = (done.same.0.0 ∙ c.acquire-guard.ensures.same.0, refl);
       made = made_by _ _ _ c.args.self.now.seat c.acquire-guard.result.seat.now c.step_guarded-reply.new.guard.0 held.1 held.2 done.stepped done.turn;
     }
 

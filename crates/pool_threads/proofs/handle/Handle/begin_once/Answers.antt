@@ -1,4 +1,4 @@
-use Rattle.std.proofs.Common.{sym, subst, ◌∙◌}
+use Rattle.std.proofs.Common.{refl, sym, subst, ◌∙◌}
 use Rattle.pool_threads.proofs.Limits.{ends_for_good}
 use Rattle.pool_threads.proofs.Made.{made_by}
 use Rattle.pool_threads.specs.Views.{Explains, state_of}
@@ -15,7 +15,7 @@ returns-clause-made g c =
     let held = c.acquire-guard.ensures.held in
     let done = c.begin_guarded-answer.ensures in
     record {
-      same_pool = done.same.0.0 ∙ c.acquire-guard.ensures.same.0;
+      same_pool = (done.same.0.0 ∙ c.acquire-guard.ensures.same.0, refl);
       made = made_by _ _ _ c.args.self.now.seat c.acquire-guard.result.seat.now c.begin_guarded-answer.new.guard.0 held.1 held.2 done.stepped done.turn;
     }
 
