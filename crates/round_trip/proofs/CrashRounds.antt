@@ -121,10 +121,9 @@ same_create dirty_max moment ss (Ok replies) past later disk ended over =
 same_create dirty_max moment ss (Err e) past later disk ended over = ap (λ (p : Past). p.created) over.steps
 
 -- An import that answered Ok begins a run, and the steps behind it are those of a round.
-module _ {Dev : Type 0} {G : Ghosts Dev} (keep : IsTrue G.keeps_model) (dirty_max moment : ℕ) (past : Past) (old : Disk) (m : Mounted) (state : PoolState Dev G)
+module _ {Dev : Type 0} {G : Ghosts Dev} (keep : IsTrue G.keeps_model) (dirty_max : ℕ) (past : Past) (old : Disk) (m : Mounted) (state : PoolState Dev G)
     (was : IsLeft past old) (kept : KeepsOwn old (disk_of state)) (starts_run : StartsRun old dirty_max (disk_of state) m) (shows : shown state ≡ shown_of_import m)
-    (limit : (shown_of_import m).dirty_max ≡ dirty_max) (sized : disk_size (disk_of state) ≡ m.geometry) (held : IsHeldAtFirst (told state)) (begins : BeginsSafe state)
-    (opened : IsOpened (bytes_of old.now) (told state).now moment) where
+    (limit : (shown_of_import m).dirty_max ≡ dirty_max) (sized : disk_size (disk_of state) ≡ m.geometry) (held : IsHeldAtFirst (told state)) (begins : BeginsSafe state) where
   pub found : IsLeftOnceFlushed past old
   found = left_flushed past old was
 
@@ -158,40 +157,42 @@ module _ {Dev : Type 0} {G : Ghosts Dev} (keep : IsTrue G.keeps_model) (dirty_ma
   pub safe_found : IsKeptSafe (on_disk state (new_past found.contents past.created dirty_max))
   safe_found = subst (λ (p : Past). IsKeptSafe (on_disk state p)) of_found safe_first
 
-  -- the steps replied
-  replied : (ss : List declared_step.Step) (end : PoolState Dev G) (replies : Vec declared_reply.Reply) → SafeOn ss replies.items state end → (later : Past) × IsRoundOver dirty_max moment ss (Ok replies) past later old (disk_of end) × IsLeft later (disk_of end)
-  replied ss end replies safe =
-      let run = safe first safe_first in
-      let made = run.1 in (
-        run.0,
-        record {
-          goes_on = joins (λ m. Unit {0}) old (disk_of state) (disk_of end) left_then.goes_on (steps_go_on ss replies.items (on_disk state first) (on_disk end run.0) made);
-          steps = record {
-            base = found.contents;
-            left = found.left;
-            start = on_disk state first;
-            opened = opened;
-            begins = of_found;
-            shows = ap (λ (s : Shown). s.contents) shows ∙ run_start.contents_are;
-            end = on_disk end run.0;
-            made = made;
-            past_is = refl;
-            disk_is = refl;
-          };
-        },
-        ((shown end).guid, kept_own (on_disk end run.0) run.2),
-      )
+  -- of an import at a moment
+  module _ (moment : ℕ) (opened : IsOpened (bytes_of old.now) (told state).now moment) where
+    -- the steps replied
+    replied : (ss : List declared_step.Step) (end : PoolState Dev G) (replies : Vec declared_reply.Reply) → SafeOn ss replies.items state end → (later : Past) × IsRoundOver dirty_max moment ss (Ok replies) past later old (disk_of end) × IsLeft later (disk_of end)
+    replied ss end replies safe =
+        let run = safe first safe_first in
+        let made = run.1 in (
+          run.0,
+          record {
+            goes_on = joins (λ m. Unit {0}) old (disk_of state) (disk_of end) left_then.goes_on (steps_go_on ss replies.items (on_disk state first) (on_disk end run.0) made);
+            steps = record {
+              base = found.contents;
+              left = found.left;
+              start = on_disk state first;
+              opened = opened;
+              begins = of_found;
+              shows = ap (λ (s : Shown). s.contents) shows ∙ run_start.contents_are;
+              end = on_disk end run.0;
+              made = made;
+              past_is = refl;
+              disk_is = refl;
+            };
+          },
+          ((shown end).guid, kept_own (on_disk end run.0) run.2),
+        )
 
-  -- there was no memory for the replies
-  not_made : (ss : List declared_step.Step) (end : PoolState Dev G) (e : PoolError) → end ≡ state → (later : Past) × IsRoundOver dirty_max moment ss (Err e) past later old (disk_of end) × IsLeft later (disk_of end)
-  not_made ss end e same =
-      subst (λ (x : PoolState Dev G). (later : Past) × IsRoundOver dirty_max moment ss (Err e) past later old (disk_of x) × IsLeft later (disk_of x)) (sym same)
-      (past, record { goes_on = left_then.goes_on; steps = refl }, left_then.left)
+    -- there was no memory for the replies
+    not_made : (ss : List declared_step.Step) (end : PoolState Dev G) (e : PoolError) → end ≡ state → (later : Past) × IsRoundOver dirty_max moment ss (Err e) past later old (disk_of end) × IsLeft later (disk_of end)
+    not_made ss end e same =
+        subst (λ (x : PoolState Dev G). (later : Past) × IsRoundOver dirty_max moment ss (Err e) past later old (disk_of x) × IsLeft later (disk_of x)) (sym same)
+        (past, record { goes_on = left_then.goes_on; steps = refl }, left_then.left)
 
-  pub over : (ss : List declared_step.Step) (end : PoolState Dev G) (answer : Answer) → IfOk answer (λ replies. SafeOn ss replies.items state end) → OnErr answer (end ≡ state)
-      → (later : Past) × IsRoundOver dirty_max moment ss answer past later old (disk_of end) × IsLeft later (disk_of end)
-  over ss end (Ok replies) safe same = replied ss end replies safe
-  over ss end (Err e) safe same = not_made ss end e same
+    pub over : (ss : List declared_step.Step) (end : PoolState Dev G) (answer : Answer) → IfOk answer (λ replies. SafeOn ss replies.items state end) → OnErr answer (end ≡ state)
+        → (later : Past) × IsRoundOver dirty_max moment ss answer past later old (disk_of end) × IsLeft later (disk_of end)
+    over ss end (Ok replies) safe same = replied ss end replies safe
+    over ss end (Err e) safe same = not_made ss end e same
 
 -- an import that was refused is a round without steps
 pub refused_over : (dirty_max moment : ℕ) (ss : List declared_step.Step) (e : PoolError) (past : Past) (old new : Disk) → IsLeft past old → KeepsOwn old new → IsOverFor dirty_max moment ss (Err e) past old new

@@ -38,7 +38,7 @@ returns-in-Ok g c = record {
       let sized : disk_size (disk_of state) ≡ m.geometry = ap (λ d. disk_size (disk d)) c.new-state.ensures.device ∙ g.met.D.SectorDevice.sized keeps c.in-Ok.imported.device ∙ c.in-Ok.imported.sized in
       ∥∥₁_map c.new-state.ensures.held (λ held.
       subst (λ d. (later : _) × IsRoundOver c.args.dirty_max c.args.moment ss c.run-answer.result past later old (disk d) × IsLeft later (disk d)) (sym c.into_device.ensures)
-      (over keeps c.args.dirty_max c.args.moment past old m state was kept starts c.new-state.ensures.shown limit sized (held keeps) c.new-state.ensures.safe opened ss end c.run-answer.result
+      (over keeps c.args.dirty_max past old m state was kept starts c.new-state.ensures.shown limit sized (held keeps) c.new-state.ensures.safe c.args.moment opened ss end c.run-answer.result
       (c.run-answer.ensures.safe keeps) c.run-answer.ensures.kept));
 }
 
