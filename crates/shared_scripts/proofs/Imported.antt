@@ -1,14 +1,15 @@
 -- A pool that was mounted and is shared is one of the import that mounted it.
-use Rattle.std.proofs.Common.{ℕ, inl, inr}
+use Rattle.std.proofs.Common.{ℕ, inl, inr, refl}
 use Rattle.std.specs.Prelude.{◌⊎◌}
+use Rattle.base.specs.declared.error.PoolError.TheVariants.{NoMemory}
 use Rattle.device_model.specs.MemState.{MemState}
 use Rattle.import_replay.specs.declared.mounted.Mounted.{Mounted}
 use Rattle.scripts.specs.Devices.{IsImportRun}
 use Rattle.scripts.specs.declared.answer.Answer.{Answer}
-use Rattle.shared_scripts.specs.Sessions.{Imports, IsRefusedOnDevice, SharesMounted}
+use Rattle.shared_scripts.specs.Sessions.{Imports, IsGivenBack, SharesMounted}
 use Rattle.shared_scripts.specs.declared.session.Place.{Place}
 
 pub import_shared : (dirty_max moment : ℕ) (old device : MemState) (mounted : Mounted) (told : Answer) (new : Place) → IsImportRun dirty_max moment old device mounted
-    → SharesMounted mounted told new ⊎ IsRefusedOnDevice told new → Imports dirty_max moment old told new
+    → SharesMounted mounted moment told new ⊎ IsGivenBack device told new → Imports dirty_max moment old told new
 import_shared dirty_max moment old device mounted told new run (inl shares) = inl (record { device = device; mounted = mounted; imported = run; shares = shares })
-import_shared dirty_max moment old device mounted told new run (inr refused) = inr refused
+import_shared dirty_max moment old device mounted told new run (inr back) = inr (record { error = NoMemory; device = device; told_is = back.0; place_is = back.1; left = inr (refl, (mounted, run)) })

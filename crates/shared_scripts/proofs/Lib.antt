@@ -1,2 +1,3 @@
+mod Asked
 mod Imported
 mod Taken

@@ -19,4 +19,4 @@ has_pool (Pool shared) = true
 abbrev pub IsTaken : Place → Option MemState → Type 0
 IsTaken Nothing taken = taken ≡ None
 IsTaken (Device device) taken = taken ≡ Some device
-IsTaken (Pool shared) taken = IfSome taken (IsDeviceBehind shared.pool)
+IsTaken (Pool shared) taken = IfSome taken (IsDeviceBehind shared.pool shared.last)

@@ -1,5 +1,5 @@
 -- The plans of the transactions that a session began, and what a command changes of them.
-use Rattle.std.specs.Prelude.{◌<◌, ◌++◌, Bool, not, List, [], ◌∷◌, Option, filter, nat_eq, vec_capacity, vec_len}
+use Rattle.std.specs.Prelude.{◌<◌, ◌++◌, Bool, true, false, not, List, [], ◌∷◌, Option, filter, nat_eq, vec_capacity, vec_len}
 use Rattle.std.specs.Global.{Vec}
 use Rattle.std.specs.List.{find}
 use Rattle.std.specs.Option.{option_map}
@@ -30,6 +30,11 @@ change_of (command.Commit tx contents) = Ends tx
 change_of (command.Step (step.Abort tx)) = Ends tx
 change_of (command.Step (step.Begin owner plan)) = Begins plan
 change_of asked = Nothing
+
+-- a begin may begin one
+abbrev pub is_begin : PoolCommand → Bool
+is_begin (command.Step (step.Begin owner plan)) = true
+is_begin asked = false
 
 -- the plans after a reply to a command that may change this
 abbrev pub plans_after : PlanChange → Reply → List BegunPlan → List BegunPlan

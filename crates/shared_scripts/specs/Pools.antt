@@ -2,8 +2,9 @@
 use Rattle.device_model.specs.MemState.{MemState}
 use Rattle.device_model.specs.contracts.memory.MemDeviceSectorDevice.TheImpl.{ghosts}
 use Rattle.pool_core.specs.States.{device_of}
-use Rattle.pool_threads.specs.Handles.{HasLooked, IsLaterState, IsNewHandle}
+use Rattle.pool_threads.specs.Handles.{HasLooked, IsBackIn, IsLastState, IsLeftBehind}
 use Rattle.pool_threads.specs.declared.handle.Handle.{Handle}
+use Rattle.pool_threads.specs.declared.handle.LastSeen.{LastSeen}
 use Rattle.pool_threads.specs.declared.pool.Pool.{Pool}
 use Rattle.scripts.specs.Pools.{MemPool}
 use Rattle.std.specs.Prelude.{◌≡◌}
@@ -11,10 +12,18 @@ use Rattle.std.specs.Prelude.{◌≡◌}
 abbrev pub SharedMemPool : Type 0
 SharedMemPool = Pool MemState ghosts
 
--- a new handle of the pool had one turn, in which it left what it saw as it was
-abbrev pub IsLookedAt : SharedMemPool → Type 0
-IsLookedAt pool = (before after : Handle MemState ghosts) × IsNewHandle pool before × HasLooked before after
+-- what the handle of the last command had seen as it left
+abbrev pub LastOfMem : Type 0
+LastOfMem = LastSeen MemState ghosts
 
--- the device of a state that goes on from what the pool was shared with
-abbrev pub IsDeviceBehind : SharedMemPool → MemState → Type 0
-IsDeviceBehind pool device = (state : MemPool) × IsLaterState pool state × (device ≡ device_of state)
+-- the handle went on from there, had one turn, in which it left what it saw as it was, and left again
+pub record LooksBehind (pool : SharedMemPool) (last later : LastOfMem) : Type 0 where
+  pub before : Handle MemState ghosts
+  pub after : Handle MemState ghosts
+  pub back : IsBackIn pool last before
+  pub looked : HasLooked before after
+  pub left : IsLeftBehind after later
+
+-- the device of the state that the pool ended in, behind what the handle had seen
+abbrev pub IsDeviceBehind : SharedMemPool → LastOfMem → MemState → Type 0
+IsDeviceBehind pool last device = (state : MemPool) × IsLastState pool last state × (device ≡ device_of state)

@@ -1,6 +1,7 @@
 -- What a command needs of a session on a shared pool, and does in it.
-use Rattle.std.specs.Prelude.{ℕ, ◌≡◌, ◌≤◌, ◌⊎◌, Bool, true, false, List, [], length, Some, Result, Ok, Err, IsOk, IsTrue}
+use Rattle.std.specs.Prelude.{ℕ, ◌≡◌, ◌<◌, ◌≤◌, ◌⊎◌, Bool, true, false, List, [], length, None, Some, Result, Ok, Err, IsOk, IsTrue}
 use Rattle.base.specs.declared.error.PoolError.{PoolError}
+use Rattle.base.specs.declared.error.PoolError.TheVariants.{NoMemory}
 use Rattle.base.specs.declared.piece.Piece.{Piece}
 use Rattle.base.specs.declared.step.Reply.{Reply}
 use Rattle.base.specs.declared.step.Reply.TheVariants.{Done, Refused}
@@ -12,8 +13,8 @@ use Rattle.import_replay.specs.Creations.{IsNewPool}
 use Rattle.import_replay.specs.Mounts.{shown_of_import}
 use Rattle.import_replay.specs.declared.mounted.Mounted.{Mounted}
 use Rattle.pool_threads.specs.Handles.{opening_view}
-use Rattle.pool_threads.specs.Views.{state_of}
-use Rattle.scripts.specs.Devices.{IsImportRun, imported_answer}
+use Rattle.pool_threads.specs.Views.{GrowsTo, state_of}
+use Rattle.scripts.specs.Devices.{IsImportRun, IsLeftByImport, imported_answer}
 use Rattle.scripts.specs.declared.answer.Answer.{Answer}
 use Rattle.scripts.specs.declared.answer.Answer.TheVariants as answer
 use Rattle.scripts.specs.declared.command.Command.{Command}
@@ -22,16 +23,18 @@ use Rattle.scripts.specs.declared.command.PoolCommand.{PoolCommand}
 use Rattle.scripts.specs.declared.session.BadCommand.{BadCommand}
 use Rattle.shared_scripts.specs.Places.{IsTaken, has_device, has_pool}
 use Rattle.shared_scripts.specs.Plans.{change_of, plans_after}
-use Rattle.shared_scripts.specs.Pools.{IsLookedAt}
+use Rattle.shared_scripts.specs.Pools.{LooksBehind}
 use Rattle.shared_scripts.specs.Shared.{Asks}
 use Rattle.shared_scripts.specs.declared.session.Place.{Place}
 use Rattle.shared_scripts.specs.declared.session.Place.TheVariants.{Nothing, Device, Pool}
 use Rattle.shared_scripts.specs.declared.session.SharedSession.{SharedSession}
 use Rattle.shared_scripts.specs.declared.shared_pool.SharedPool.{SharedPool}
+use Rattle.word_lock.specs.Seats.{seen, turns}
 
--- a handle of the pool makes what the command asks for and gives the reply; the pool stays, and so do the plans but for what began or ended
+-- a handle of the pool makes what the command asks for and gives the reply, behind the command before; the pool stays, and so do the plans but for
+-- what began or ended
 pub record AsksShared (W : Type 0) (asked : PoolCommand) (moment : ℕ) (old : SharedPool) (reply : Reply) (new : SharedPool) : Type 0 where
-  pub asks : Asks W asked moment old reply
+  pub asks : Asks W asked moment old reply new
   pub same_pool : new.pool ≡ old.pool
   pub plans : new.plans.plans.items ≡ plans_after (change_of asked) reply old.plans.plans.items
 
@@ -65,53 +68,79 @@ Creates name guid moment (answer.Reply Done) (Device new) = CrashLeaves (λ imag
 Creates name guid moment (answer.Reply (Refused e)) new = has_pool new ≡ false
 Creates name guid moment told new = ⊥
 
--- a refusal is told, and there is the device
-abbrev pub IsRefusedOnDevice : Answer → Place → Type 0
-IsRefusedOnDevice told new = (e : PoolError) × (device : MemState) × (told ≡ answer.Reply (Refused e)) × (new ≡ Device device)
+-- want of memory is told, and there is this device
+abbrev pub IsGivenBack : MemState → Answer → Place → Type 0
+IsGivenBack device told new = (told ≡ answer.Reply (Refused NoMemory)) × (new ≡ Device device)
 
--- a pool that shows what was mounted is shared, with no transaction begun
-pub record IsMountShared (mounted : Mounted) (shared : SharedPool) : Type 0 where
+-- a pool that shows what was mounted is shared, with this moment of its syncs; no transaction has begun, and no handle had a turn
+pub record IsMountShared (mounted : Mounted) (moment : ℕ) (shared : SharedPool) : Type 0 where
   pub shown : (state_of (opening_view shared.pool)).shown ≡ shown_of_import mounted
+  pub moment_is : shared.pool.moment ≡ moment
+  pub onward : GrowsTo (opening_view shared.pool) (seen shared.last.seat)
+  pub no_turn : turns shared.last.seat ≡ []
   pub no_plans : shared.plans.plans.items ≡ []
 
 -- so it is, and it is told what was mounted
-abbrev pub SharesMounted : Mounted → Answer → Place → Type 0
-SharesMounted mounted told new = (shared : SharedPool) × (new ≡ Pool shared) × (told ≡ imported_answer mounted) × IsMountShared mounted shared
+abbrev pub SharesMounted : Mounted → ℕ → Answer → Place → Type 0
+SharesMounted mounted moment told new = (shared : SharedPool) × (new ≡ Pool shared) × (told ≡ imported_answer mounted) × IsMountShared mounted moment shared
 
 -- an import shares the pool that it mounted
 pub record IsImportShared (dirty_max moment : ℕ) (old : MemState) (told : Answer) (new : Place) : Type 0 where
   pub device : MemState
   pub mounted : Mounted
   pub imported : IsImportRun dirty_max moment old device mounted
-  pub shares : SharesMounted mounted told new
+  pub shares : SharesMounted mounted moment told new
+
+-- A refusal is told, and there is the device: as the refused import left it, or, where there was no memory to share the pool, as it was imported.
+pub record IsImportRefused (dirty_max moment : ℕ) (old : MemState) (told : Answer) (new : Place) : Type 0 where
+  pub error : PoolError
+  pub device : MemState
+  pub told_is : told ≡ answer.Reply (Refused error)
+  pub place_is : new ≡ Device device
+  pub left : IsLeftByImport moment old error device ⊎ ((error ≡ NoMemory) × ((mounted : Mounted) × IsImportRun dirty_max moment old device mounted))
 
 -- so it does, or it is refused
 abbrev pub Imports : ℕ → ℕ → MemState → Answer → Place → Type 0
-Imports dirty_max moment old told new = IsImportShared dirty_max moment old told new ⊎ IsRefusedOnDevice told new
+Imports dirty_max moment old told new = IsImportShared dirty_max moment old told new ⊎ IsImportRefused dirty_max moment old told new
 
 -- a crash leaves the pieces of the unflushed writes, which are no more than there are, and tells their number
 abbrev pub Crashes : List Piece → MemState → Answer → Place → Type 0
 Crashes pieces device told new = (length pieces ≤ length device.disk.now.unflushed) × (told ≡ answer.Crashed (length device.disk.now.unflushed)) × (new ≡ Device (after_crash pieces device))
 
--- the n-th such call of the device is planned to fail; under a pool it is so in a turn of a handle, which no view shows
+-- in a turn of its handle the pool is left as it was, with the plans of what began
+pub record LooksAt (old new : SharedPool) : Type 0 where
+  pub same_pool : new.pool ≡ old.pool
+  pub same_plans : new.plans ≡ old.plans
+  pub looked : LooksBehind old.pool old.last new.last
+
+-- the n-th such call of the device is planned to fail; under a pool it is so in a turn of the handle, which no view shows
 abbrev pub PlansFault : Fault → ℕ → Place → Answer → Place → Type 0
-PlansFault fault n Nothing told new = ⊥
 PlansFault fault n (Device old) told new = (told ≡ answer.Reply Done) × (new ≡ Device (with_plan fault n old))
-PlansFault fault n (Pool old) told new = (told ≡ answer.Reply Done) × (new ≡ Pool old) × IsLookedAt old.pool
+PlansFault fault n (Pool old) told (Pool new) = (told ≡ answer.Reply Done) × LooksAt old new
+PlansFault fault n old told new = ⊥
+
+-- the device, which stays, has fewer unflushed writes than there are letters
+abbrev pub IsTooShort : List Piece → Place → MemState → Type 0
+IsTooShort pieces new device = (length device.disk.now.unflushed < length pieces) × (new ≡ Device device)
 
 -- the device of a place is taken, and this holds of it
 abbrev pub TakesDevice : Place → (MemState → Type 0) → Type 0
 TakesDevice place P = (device : MemState) × IsTaken place (Some device) × P device
 
 module _ {W : Type 0} where
-  -- what a command does that is answered
+  -- what a command does that is answered; one that is none leaves what is there, but for an import and a crash, which find no device, or find more
+  -- letters than there are unflushed writes
   abbrev pub Does : Command → SharedSession W → Result Answer BadCommand → SharedSession W → Type 0
   Does (command.Create name guid) s (Ok told) new = Creates name guid s.moment told new.place
   Does (command.Import dirty_max) s (Ok told) new = TakesDevice s.place (λ device. Imports dirty_max s.moment device told new.place)
   Does (command.Crash pieces) s (Ok told) new = TakesDevice s.place (λ device. Crashes pieces.items device told new.place)
   Does (command.Fail fault n) s (Ok told) new = PlansFault fault n s.place told new.place
   Does (command.Pool asked) s (Ok told) new = AsksIn W asked s.moment s.place told new.place
-  Does asked s (Err e) new = Unit {0}
+  Does (command.Create name guid) s (Err e) new = ⊥
+  Does (command.Import dirty_max) s (Err e) new = IsTaken s.place None
+  Does (command.Crash pieces) s (Err e) new = IsTaken s.place None ⊎ TakesDevice s.place (IsTooShort pieces.items new.place)
+  Does (command.Fail fault n) s (Err e) new = (has_device s.place ≡ false) × (new.place ≡ s.place)
+  Does (command.Pool asked) s (Err e) new = (has_pool s.place ≡ false) × (new.place ≡ s.place)
 
   -- A command is answered only where the session has what it needs, and does what it asks for.
   pub record Runs (asked : Command) (old : SharedSession W) (told : Result Answer BadCommand) (new : SharedSession W) : Type 0 where

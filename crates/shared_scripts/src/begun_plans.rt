@@ -3,9 +3,9 @@
 //! The words of a commit are bytes alone, so whoever makes its operations has to have the plan. A handle tells none: the
 //! session keeps a copy of the plan that each transaction began with, until the transaction has ended.
 
-ghost use Rattle.std.specs.Prelude.{◌≡◌, ◌<◌, [], IfOk, OnOk, vec_capacity, vec_len};
+ghost use Rattle.std.specs.Prelude.{◌≡◌, ◌<◌, [], true, IfOk, IsErr, OnOk, vec_capacity, vec_len};
 ghost use Rattle.std.specs.Option.{option_map};
-ghost use Rattle.shared_scripts.specs.Plans.{HasRoomFor, change_of, plan_named, plans_after, plans_without};
+ghost use Rattle.shared_scripts.specs.Plans.{HasRoomFor, change_of, is_begin, plan_named, plans_after, plans_without};
 
 use base::{Plan, Reply, Step, TxId};
 use scripts::PoolCommand;
@@ -62,6 +62,7 @@ impl BegunPlans {
     ) -> Result<PlanChange, AllocError>
         ensures change { IfOk result (λ change. change ≡ change_of command.now) }
         ensures room { IfOk result (λ change. HasRoomFor change self.new.plans) }
+        ensures refused { IsErr result → is_begin command.now ≡ true }
         ensures unchanged { self.new.plans.items ≡ self.old.plans.items }
     {
         match command {

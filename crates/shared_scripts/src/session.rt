@@ -1,6 +1,6 @@
 //! The device of a script, and the pool that is imported from it, which is shared.
 
-ghost use Rattle.std.specs.Prelude.{◌≡◌, ◌⊎◌, is_ok, IfOk, IsOk, IsTrue};
+ghost use Rattle.std.specs.Prelude.{◌≡◌, ◌⊎◌, None, is_ok, IfOk, IsErr, IsOk, IsTrue};
 
 use crate::shared_pool::SharedPool;
 use base::{Bytes, Piece, PoolError, Reply};
@@ -32,7 +32,7 @@ pub struct SharedSession<'r, W: Wait> {
 
 impl<'r, W: Wait> SharedSession<'r, W> {
     ghost use Rattle.shared_scripts.specs.Places.{IsTaken, has_device, has_pool};
-    ghost use Rattle.shared_scripts.specs.Sessions.{AsksIn, Crashes, Creates, Does, Imports, IsNewSession, IsSameRun, IsRefusedOnDevice, PlansFault, SharesMounted, TakesDevice, has_what_it_needs};
+    ghost use Rattle.shared_scripts.specs.Sessions.{AsksIn, Crashes, Creates, Does, Imports, IsGivenBack, IsNewSession, IsSameRun, IsTooShort, PlansFault, SharesMounted, TakesDevice, has_what_it_needs};
 
     /// A session with no device yet. A new device has `size` div 512 sectors, and each uberblock this moment.
     pub fn new(rt: &'r W, alloc: Global, size: u64, moment: u64) -> Self
@@ -120,6 +120,7 @@ impl<'r, W: Wait> SharedSession<'r, W> {
         ensures needs { IsOk result → IsTrue (has_device self.old.place) }
         ensures imports { IfOk result (λ told. TakesDevice self.old.place
             (λ device. Imports dirty_max self.old.moment device told self.new.place)) }
+        ensures no_device { IsErr result → IsTaken self.old.place None }
         ensures same_run { IsSameRun self.old self.new }
     {
         let Some(device) = self.take_device() else {
@@ -133,8 +134,8 @@ impl<'r, W: Wait> SharedSession<'r, W> {
 
     // Shares an imported pool, and tells what it is. For want of memory the device goes on without a pool.
     fn share(&mut self, imported: Imported<MemDevice>) -> Answer
-        ensures shares { SharesMounted imported.mounted result self.new.place
-            ⊎ IsRefusedOnDevice result self.new.place }
+        ensures shares { SharesMounted imported.mounted self.old.moment result self.new.place
+            ⊎ IsGivenBack imported.device result self.new.place }
         ensures same_run { IsSameRun self.old self.new }
     {
         let answer = Answer::imported(&imported);
@@ -151,6 +152,8 @@ impl<'r, W: Wait> SharedSession<'r, W> {
         ensures needs { IsOk result → IsTrue (has_device self.old.place) }
         ensures crashes { IfOk result (λ told. TakesDevice self.old.place
             (λ device. Crashes pieces.now device told self.new.place)) }
+        ensures no_crash { IsErr result → IsTaken self.old.place None
+            ⊎ TakesDevice self.old.place (IsTooShort pieces.now self.new.place) }
         ensures same_run { IsSameRun self.old self.new }
     {
         let Some(device) = self.take_device() else {
@@ -169,16 +172,18 @@ impl<'r, W: Wait> SharedSession<'r, W> {
         ensures needs { is_ok result ≡ has_device self.old.place }
         ensures fails { IfOk result (λ told.
             PlansFault fault n self.old.place told self.new.place) }
+        ensures unchanged { IsErr result → self.new.place ≡ self.old.place }
         ensures same_run { IsSameRun self.old self.new }
     {
-        match &mut self.place {
+        match mem::replace(&mut self.place, Place::Nothing) {
             Place::Nothing => Err(BadCommand),
-            Place::Device(device) => {
+            Place::Device(mut device) => {
                 device.fail(fault, n);
+                self.place = Place::Device(device);
                 Ok(Answer::Reply(Reply::Done))
             }
             Place::Pool(shared) => {
-                shared.fail(self.rt, fault, n);
+                self.place = Place::Pool(shared.fail(self.rt, fault, n));
                 Ok(Answer::Reply(Reply::Done))
             }
         }
@@ -188,14 +193,20 @@ impl<'r, W: Wait> SharedSession<'r, W> {
         ensures needs { is_ok result ≡ has_pool self.old.place }
         ensures asked { IfOk result (λ told.
             AsksIn W command self.old.moment self.old.place told self.new.place) }
+        ensures unchanged { IsErr result → self.new.place ≡ self.old.place }
         ensures same_run { IsSameRun self.old self.new }
     {
-        match &mut self.place {
+        match mem::replace(&mut self.place, Place::Nothing) {
+            Place::Nothing => Err(BadCommand),
+            Place::Device(device) => {
+                self.place = Place::Device(device);
+                Err(BadCommand)
+            }
             Place::Pool(shared) => {
-                let reply = shared.run(self.rt, self.alloc, self.moment, command);
+                let (shared, reply) = shared.run(self.rt, self.alloc, self.moment, command);
+                self.place = Place::Pool(shared);
                 Ok(Answer::Reply(reply))
             }
-            _ => Err(BadCommand),
         }
     }
 }
