@@ -15,7 +15,7 @@ mod pool_name;
 mod range;
 mod record_state;
 mod refused;
-mod seen_laws;
+pub mod seen_laws;
 pub mod space_laws;
 mod status;
 mod step;
@@ -49,11 +49,6 @@ pub use pool_name::{MAX_NAME, PoolName, is_name};
 pub use range::{Mode, ObjectRange, Range};
 pub use record_state::RecordState;
 pub use refused::RefusedCalls;
-pub use seen_laws::{
-    begins_are_seen, commits_are_seen, contents_are_between, durable_is_known, groups_go_up,
-    locks_are_seen, pool_syncs_sync, reads_are_seen, refusals_are_seen, refusals_suspend,
-    suspensions_are_seen, unlocks_are_seen,
-};
 pub use status::Status;
 pub use step::{Reply, Step};
 pub use step_laws::{
