@@ -1,6 +1,5 @@
 -- How a pool ends.
-use Rattle.std.proofs.Common.{◌≡◌, ◌∙◌, ◌∷◌, [], ℕ, List, sym, subst, true}
-use Rattle.std.specs.Prelude.{IsTrue}
+use Rattle.std.proofs.Common.{◌∷◌, [], ℕ, List, sym, subst}
 use Rattle.std.proofs.Math.Logic.{∥∥₁_map}
 use Rattle.device_model.specs.declared.device.SectorDevice.{Ghosts}
 use Rattle.pool_core.specs.declared.state.PoolState.{PoolState}
@@ -9,7 +8,7 @@ use Rattle.pool_core.specs.States.{shown}
 use Rattle.pool_core.proofs.crash.SafeMoments.{kept_own, kept_safe}
 use Rattle.pool_threads.specs.declared.pool.Pool.{Pool}
 use Rattle.pool_threads.specs.Handles.{EndsIn, opening_view}
-use Rattle.pool_threads.specs.Views.{Explains, GrowsTo, View, grows_onward, grows_same}
+use Rattle.pool_threads.specs.Views.{CrashRule, Explains, GrowsTo, IsFollowed, View, grows_onward, grows_same, since}
 use Rattle.word_lock.specs.declared.rule.Turn.{Turn}
 use Rattle.word_lock.specs.Turns.{IsTurnLine}
 
@@ -18,9 +17,9 @@ module _ {Dev : Type 0} {G : Ghosts Dev} (p : Pool Dev G) (s : PoolState Dev G) 
   ends_in v x onward = record {
     explains = x;
     onward = onward;
-    cuts = λ keeps followed. ∥∥₁_map (x.safe keeps (onward.rule ∙ followed)) (λ k. record {
-      safe = kept_safe (on_disk s v.past) k;
-      left = ((shown s).guid, kept_own (on_disk s v.past) k);
+    cuts = λ keeps created follows. ∥∥₁_map (x.safe keeps created (subst (λ (r : CrashRule). IsFollowed r created) (sym onward.rule) follows)) (λ k. record {
+      safe = kept_safe (on_disk s (since created v.past)) k;
+      left = ((shown s).guid, kept_own (on_disk s (since created v.past)) k);
     });
   }
 

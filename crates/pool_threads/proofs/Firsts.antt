@@ -1,8 +1,7 @@
 -- A pool that an import gave is explained by a past in which nothing happened.
-use Rattle.std.proofs.Common.{◌≡◌, ◌∙◌, ℕ, Bool, ap, refl, sym, subst, false, true}
+use Rattle.std.proofs.Common.{◌≡◌, ◌∙◌, ℕ, ap, refl, sym, subst}
 use Rattle.std.specs.Prelude.{IfErr, IfOk, IsTrue, Result, Ok, Err}
-use Rattle.std.proofs.Math.Logic.{∥∥₁_map}
-use Rattle.base.specs.crash.CrashRule.{KeepsOwn}
+use Rattle.std.proofs.Math.Logic.{∥∥₁_elim, ∥∥₁_map, ∥∥₁_prop}
 use Rattle.base.specs.declared.error.PoolError.{PoolError}
 use Rattle.base.specs.declared.error.PoolError.TheVariants.{NoMemory}
 use Rattle.base.specs.disk.Disk.{Disk, disk_size}
@@ -10,7 +9,6 @@ use Rattle.base.specs.history.Contents.{Contents}
 use Rattle.base.specs.history.Past.{Past, new_past}
 use Rattle.base.specs.steps.Explains.{IsLeftBy}
 use Rattle.import_replay.specs.Mounts.{shown_of_import}
-use Rattle.import_replay.specs.RunStarts.{StartsRun}
 use Rattle.import_replay.specs.declared.mounted.Mounted.{Mounted}
 use Rattle.object_maps.specs.ContentsShown.{contents_of}
 use Rattle.pool_core.specs.KeptSafe.{BeginsSafe, IsKeptSafe, disk_of, on_disk}
@@ -22,26 +20,32 @@ use Rattle.pool_core.specs.declared.state.PoolState.{PoolState}
 use Rattle.pool_core.specs.NewStates.{IsExplainedAtFirst, IsHeldAtFirst, first_past}
 use Rattle.pool_core.specs.States.{shown, told}
 use Rattle.pool_threads.proofs.Notes.{state_of-view_of}
-use Rattle.pool_threads.specs.Handles.{EarlierRun, HasLeft, OpensBehind, opening_view}
-use Rattle.pool_threads.specs.Views.{Explains, View, state_of, view_of}
+use Rattle.pool_threads.specs.Handles.{OpensBehind, StartsBehind, opening_view}
+use Rattle.pool_threads.specs.Views.{CrashRule, Explains, View, state_of, view_behind_disk, view_of}
+use Rattle.pool_threads.specs.Views.CrashRule.{Behind, NotFollowed}
+use Rattle.round_trip.specs.Crashes.{IsLeft}
 use Rattle.pool_threads.specs.declared.pool.Pool.{Pool}
-use Rattle.word_lock.specs.Seats.{opening}
 
 module _ {Dev : Type 0} {G : Ghosts Dev} (p : PoolState Dev G) where
-  pub explained_at_first : ∥ IsExplainedAtFirst (shown p) ∥₁ → ∥ (IsTrue G.keeps_model → IsHeldAtFirst (told p)) ∥₁ → Explains p (view_of p (first_past (shown p) 0) false)
+  pub explained_at_first : ∥ IsExplainedAtFirst (shown p) ∥₁ → ∥ (IsTrue G.keeps_model → IsHeldAtFirst (told p)) ∥₁ → Explains p (view_of p (first_past (shown p) 0) NotFollowed)
   explained_at_first explained held = record {
-    state = state_of-view_of p (first_past (shown p) 0) false;
+    state = state_of-view_of p (first_past (shown p) 0) NotFollowed;
     explained = ∥∥₁_map explained (λ x. x 0);
     held = λ keeps. ∥∥₁_map held (λ x. x keeps 0);
-    safe = λ keeps no. absurd (let no_way : false ≡ true = no in cc);
+    safe = λ keeps created no. absurd no;
   }
 
-  pub shown_at_first : (state_of (view_of p (first_past (shown p) 0) false)).shown ≡ shown p
-  shown_at_first = ap (λ (s : State). s.shown) (state_of-view_of p (first_past (shown p) 0) false)
+-- a pool that is shared with a view of this state shows it
+pub opens_with : {Dev : Type 0} {G : Ghosts Dev} {E : Type 0} (p : PoolState Dev G) (past : Past) (rule : CrashRule) (s : Shown) (r : Result (Pool Dev G) E) → IfOk r (λ q. opening_view q ≡ view_of p past rule) → shown p ≡ s
+    → IfOk r (λ q. (state_of (opening_view q)).shown ≡ s)
+opens_with p past rule s (Ok q) is same = ap (λ (v : View). (state_of v).shown) is ∙ ap (λ (a : State). a.shown) (state_of-view_of p past rule) ∙ same
+opens_with p past rule s (Err e) is same = tt
 
-  pub opens_with : {E : Type 0} {s : Shown} (r : Result (Pool Dev G) E) → IfOk r (λ q. opening q.lock ≡ view_of p (first_past (shown p) 0) false) → shown p ≡ s → IfOk r (λ q. (state_of (opening q.lock)).shown ≡ s)
-  opens_with (Ok q) is same = ap (λ (v : View). (state_of v).shown) is ∙ shown_at_first ∙ same
-  opens_with (Err e) is same = tt
+-- so it is of one behind a run
+pub shows_behind : {Dev : Type 0} {G : Ghosts Dev} {E : Type 0} (p : PoolState Dev G) (old : Disk) (s : Shown) (r : Result (Pool Dev G) E) (first : View) → first ≡ view_behind_disk p old
+    → IfOk r (λ q. opening_view q ≡ first) → shown p ≡ s → IfOk r (λ q. (state_of (opening_view q)).shown ≡ s)
+shows_behind p old s (Ok q) first told is same = opens_with {E = Unit {0}} p (first_past (shown p) 0) (Behind old) s (Ok q) (is ∙ told) same
+shows_behind p old s (Err e) first told is same = tt
 
 -- a pool that was not shared comes back with its device, and shows the same
 pub comes_back : {Dev : Type 0} {G : Ghosts Dev} {B : Type 0} (state : PoolState Dev G) (d : Dev) (s : Shown) (r : Result B (PoolError × PoolState Dev G))
@@ -49,38 +53,42 @@ pub comes_back : {Dev : Type 0} {G : Ghosts Dev} {B : Type 0} (state : PoolState
 comes_back {Dev} {G} state d s (Ok q) given device shows = tt
 comes_back {Dev} {G} state d s (Err e) given device shows = (given.0, ap (λ (p : PoolState Dev G). p.device) given.1 ∙ device, ap (λ (p : PoolState Dev G). shown p) given.1 ∙ shows)
 
--- a pool that opens with a view of this state shows it
-pub shown_first : {Dev : Type 0} {G : Ghosts Dev} (p : PoolState Dev G) (past : Past) (rule : Bool) (q : Pool Dev G) → opening_view q ≡ view_of p past rule → (state_of (opening_view q)).shown ≡ shown p
-shown_first p past rule q is = ap (λ (v : View). (state_of v).shown) is ∙ ap (λ (s : State). s.shown) (state_of-view_of p past rule)
+-- A pool that was imported from a disk goes on behind whichever run left that.
+module _ {Dev : Type 0} {G : Ghosts Dev} (old : Disk) (m : Mounted) (p : PoolState Dev G) (starts : IsTrue G.keeps_model → StartsBehind old m (disk_of p)) (shows : shown p ≡ shown_of_import m) where
+  abbrev limit_of : Mounted → ℕ
+  limit_of n = (shown_of_import n).dirty_max
 
--- A pool that was imported behind an earlier run, where that left the disk.
-module _ {Dev : Type 0} {G : Ghosts Dev} (dirty_max : ℕ) (run : EarlierRun) (old : Disk) (m : Mounted) (p : PoolState Dev G)
-    (was : HasLeft run (IsTrue G.keeps_model) old) (starts : IsTrue G.keeps_model → StartsRun old dirty_max (disk_of p) m) (shows : shown p ≡ shown_of_import m)
-    (limit : (shown_of_import m).dirty_max ≡ dirty_max) where
   abbrev behind : View
-  behind = view_of p (first_past (shown p) run.past.created) run.crash_rule
+  behind = view_behind_disk p old
 
-  pub explained_behind : (IsTrue G.keeps_model → KeepsOwn old (disk_of p)) → (IsTrue G.keeps_model → disk_size (disk_of p) ≡ m.geometry) → BeginsSafe p
-      → ∥ IsExplainedAtFirst (shown p) ∥₁ → ∥ (IsTrue G.keeps_model → IsHeldAtFirst (told p)) ∥₁ → Explains p behind
-  explained_behind kept sized begins explained held = record {
-    state = state_of-view_of p (first_past (shown p) run.past.created) run.crash_rule;
-    explained = ∥∥₁_map explained (λ x. x run.past.created);
-    held = λ keeps. ∥∥₁_map held (λ x. x keeps run.past.created);
-    safe = λ keeps yes. ∥∥₁_map held (λ x. safe_at_first keeps dirty_max run.past old m p (was yes keeps) (kept keeps) (starts keeps) shows limit (sized keeps) (x keeps) begins);
+  module _ (keeps : IsTrue G.keeps_model) (sized : disk_size (disk_of p) ≡ m.geometry) (begins : BeginsSafe p) (held : IsHeldAtFirst (told p)) where
+    safe_behind : (created : ℕ) → ((past : Past) × (past.created ≡ created) × IsLeft past old) → IsKeptSafe (on_disk p (first_past (shown p) created))
+    safe_behind created (past, same, was) =
+        subst (λ (c : ℕ). IsKeptSafe (on_disk p (first_past (shown p) c))) same
+        (safe_at_first keeps (limit_of m) past old m p was (starts keeps).own (starts keeps).starts shows refl sized held begins)
+
+  pub explained_behind : (IsTrue G.keeps_model → disk_size (disk_of p) ≡ m.geometry) → BeginsSafe p → ∥ IsExplainedAtFirst (shown p) ∥₁ → ∥ (IsTrue G.keeps_model → IsHeldAtFirst (told p)) ∥₁ → Explains p behind
+  explained_behind sized begins explained held = record {
+    state = state_of-view_of p (first_past (shown p) 0) (Behind old);
+    explained = ∥∥₁_map explained (λ x. x 0);
+    held = λ keeps. ∥∥₁_map held (λ x. x keeps 0);
+    safe = λ keeps created follows. ∥∥₁_elim follows ∥∥₁_prop (λ run. ∥∥₁_map held (λ x. safe_behind keeps (sized keeps) begins (x keeps) created run));
   }
 
   first_contents : (shown p).contents ≡ contents_of m.contents
   first_contents = ap (λ (s : Shown). s.contents) shows
 
-  opens : OpensBehind run (IsTrue G.keeps_model) dirty_max behind
+  opens : OpensBehind (IsTrue G.keeps_model) old (limit_of m) behind
   opens = record {
     rule = refl;
-    anew = ap (λ (n : ℕ). new_past (shown p).contents run.past.created n) (ap (λ (s : Shown). s.dirty_max) shows ∙ limit);
-    left = λ keeps yes.
-        let f = left_flushed run.past old (was yes keeps) in
-        let start = starts keeps run.past.created f.guid f.contents f.own in
-        subst (λ (c : Contents). IsLeftBy run.past c) (sym (first_contents ∙ start.contents_are)) f.left;
+    anew = ap (λ (n : ℕ). new_past (shown p).contents 0 n) (ap (λ (s : Shown). s.dirty_max) shows);
+    shows = ap (λ (s : State). s.shown.contents) (state_of-view_of p (first_past (shown p) 0) (Behind old));
+    left = λ keeps past was.
+        let f = left_flushed past old was in
+        let start = (starts keeps).starts past.created f.guid f.contents f.own in
+        subst (λ (c : Contents). IsLeftBy past c) (sym (first_contents ∙ start.contents_are)) f.left;
   }
 
-  pub opens_behind : (q : Pool Dev G) → opening_view q ≡ behind → OpensBehind run (IsTrue G.keeps_model) dirty_max (opening_view q)
-  opens_behind q is = subst (λ (v : View). OpensBehind run (IsTrue G.keeps_model) dirty_max v) (sym is) opens
+  pub opens_behind : {E : Type 0} (r : Result (Pool Dev G) E) (first : View) → first ≡ behind → IfOk r (λ q. opening_view q ≡ first) → IfOk r (λ q. OpensBehind (IsTrue G.keeps_model) old (limit_of m) (opening_view q))
+  opens_behind (Ok q) first told is = subst (λ (v : View). OpensBehind (IsTrue G.keeps_model) old (limit_of m) v) (sym (is ∙ told)) opens
+  opens_behind (Err e) first told is = tt

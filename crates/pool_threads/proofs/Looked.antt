@@ -1,6 +1,5 @@
 -- A plan of a fault, which no view shows.
 use Rattle.std.proofs.Common.{◌≡◌, ◌∙◌, ◌++◌, ◌∷◌, [], List, ap, sym, subst}
-use Rattle.std.proofs.Math.Logic.{∥∥₁_map}
 use Rattle.base.specs.history.Past.{Past}
 use Rattle.base.specs.steps.ExactNow.{IsExplainedNow}
 use Rattle.base.specs.stored.Stored.{IsHeld}
@@ -11,7 +10,7 @@ use Rattle.pool_core.specs.KeptSafe.{IsKeptSafe, OnDisk, on_disk}
 use Rattle.pool_core.specs.States.{told}
 use Rattle.pool_threads.specs.declared.handle.Handle.{Handle}
 use Rattle.pool_threads.specs.Handles.{HasLooked, StaysInPool, turns_of, view_seen}
-use Rattle.pool_threads.specs.Views.{Explains, GrowsTo, View}
+use Rattle.pool_threads.specs.Views.{Explains, GrowsTo, View, since}
 use Rattle.word_lock.specs.declared.rule.Turn.{Turn}
 use Rattle.word_lock.specs.Turns.{turn}
 
@@ -21,7 +20,7 @@ module _ {Dev : Type 0} {G : Ghosts Dev} (old new : PoolState Dev G) (same : tol
     state = x.state ∙ ap (λ (t : Told). state_with t v.past) (sym same);
     explained = subst (λ (t : Told). ∥ IsExplainedNow t.shown v.past ∥₁) (sym same) x.explained;
     held = λ keeps. subst (λ (t : Told). ∥ IsHeld (held_with t v.past) ∥₁) (sym same) (x.held keeps);
-    safe = λ keeps rule. subst (λ (d : Past → OnDisk). ∥ IsKeptSafe (d v.past) ∥₁) (sym disk) (x.safe keeps rule);
+    safe = λ keeps created follows. subst (λ (d : Past → OnDisk). ∥ IsKeptSafe (d (since created v.past)) ∥₁) (sym disk) (x.safe keeps created follows);
   }
 
 -- from the handle before it has the lock, over the turns and the view of its seat that has it, to the handle after

@@ -21,7 +21,7 @@ use Rattle.pool_core.specs.Holds.{state_with}
 use Rattle.pool_core.specs.Pointers.{lengths_after}
 use Rattle.pool_core.specs.States.{shown, told}
 use Rattle.pool_threads.specs.Noted.{length_in, listed, note, note_plan, plan_in, shown_in}
-use Rattle.pool_threads.specs.Views.{state_of, view_of}
+use Rattle.pool_threads.specs.Views.{CrashRule, state_of, view_of}
 
 -- no object has a number past the last one
 abbrev AreOfObjects : (ℕ → Option ℕ) → Type 0
@@ -67,7 +67,7 @@ plan_is_of_objects (Some r) tree plan_of is plan some =
     let same : plan_of r ≡ plan = cc in
     subst AreOfObjects (sym (is r) ∙ ap (λ (p : SyncPlan). p.lengths) same) (lengths_after_of_objects r tree)
 
-module _ {Dev : Type 0} {G : Ghosts Dev} (p : PoolState Dev G) (past : Past) (rule : Bool) where
+module _ {Dev : Type 0} {G : Ghosts Dev} (p : PoolState Dev G) (past : Past) (rule : CrashRule) where
   -- the view of a pool tells its state
   pub state_of-view_of : state_of (view_of p past rule) ≡ state_with (told p) past
   state_of-view_of =

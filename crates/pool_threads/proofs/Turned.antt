@@ -1,9 +1,11 @@
 -- A step of the pool under the lock leads from a view that explains it to one that does.
-use Rattle.std.proofs.Common.{◌≡◌, refl, ap, sym, ◌∙◌, subst, [], ◌∷◌}
+use Rattle.std.proofs.Common.{◌≡◌, ℕ, refl, ap, sym, ◌∙◌, subst, [], ◌∷◌}
 use Rattle.std.specs.Prelude.{IsTrue}
 use Rattle.std.proofs.Math.Logic.{∥∥₁_map}
 use Rattle.base.specs.declared.step.Step as declared_step
 use Rattle.base.specs.declared.step.Reply as declared_reply
+use Rattle.base.specs.declared.step.Step.TheVariants as step
+use Rattle.base.specs.declared.step.Reply.TheVariants as reply
 use Rattle.base.specs.history.Past.{Past}
 use Rattle.base.specs.steps.Additions.{past_after}
 use Rattle.base.specs.steps.ExactNow.{IsExplainedNow}
@@ -16,7 +18,22 @@ use Rattle.pool_core.specs.States.{told}
 use Rattle.pool_core.specs.StepReplies.{IsStep}
 use Rattle.pool_core.specs.Turns.{Turns}
 use Rattle.pool_threads.proofs.Notes.{state_of-view_of}
-use Rattle.pool_threads.specs.Views.{Explains, GrowsTo, IsPoolStep, IsSafeOverSome, IsStepOverSome, View, state_of, view_after, view_of}
+use Rattle.pool_threads.specs.Views.{Explains, GrowsTo, IsPoolStep, IsSafeOverSome, IsStepOverSome, View, since, state_of, view_after, view_of}
+
+-- a state, of a pool whose create began at this moment
+abbrev at_create : ℕ → State → State
+at_create created a = record a { past = since created a.past }
+
+-- what a step adds to the past has nothing to do with that moment
+since_after : (created : ℕ) (s : declared_step.Step) (r : declared_reply.Reply) (a : State) → past_after s r (at_create created a) ≡ since created (past_after s r a)
+since_after created (step.Lock owner n range mode) (reply.Locked id) a = refl
+since_after created (step.LockAppend owner n) (reply.Appended id range) a = refl
+since_after created (step.Unlock owner id) reply.Done a = refl
+since_after created (step.Begin owner plan) (reply.Began tx group) a = refl
+since_after created (step.Commit tx ops) (reply.Committed receipt) a = refl
+since_after created (step.Abort tx) reply.Done a = refl
+since_after created step.SyncStep (reply.Synced group) a = refl
+since_after created _ _ a = refl
 
 module _ {Dev : Type 0} {G : Ghosts Dev} (s : declared_step.Step) (r : declared_reply.Reply) (old new : PoolState Dev G) (turns : Turns s r old new)
     (safe : IsTrue G.keeps_model → KeepsSafe s r old new) where
@@ -30,43 +47,54 @@ module _ {Dev : Type 0} {G : Ghosts Dev} (s : declared_step.Step) (r : declared_
   abbrev after : Past → State
   after past = state_with (told new) (later past)
 
-  safely : (past : Past) → IsTrue G.keeps_model → IsKeptSafe (on_disk old past) → IsSafeOverSome s r (before past) (after past)
-  safely past keeps kept = (on_disk old past, on_disk new (later past), refl, refl, kept, safe keeps past kept)
+  -- so it is of a pool whose create began at this moment, of which the crash rule stands
+  module _ (created : ℕ) (past : Past) (keeps : IsTrue G.keeps_model) (kept : IsKeptSafe (on_disk old (since created past))) where
+    later_is : later (since created past) ≡ since created (later past)
+    later_is = since_after created s r (before past)
+
+    kept_after : IsKeptSafe (on_disk new (since created (later past)))
+    kept_after = subst (λ (p : Past). IsKeptSafe (on_disk new p)) later_is (safe keeps (since created past) kept).kept
+
+    safely : IsSafeOverSome s r (at_create created (before past)) (at_create created (after past))
+    safely =
+        subst (λ (p : Past). IsSafeOverSome s r (before (since created past)) (state_with (told new) p)) later_is
+        (on_disk old (since created past), on_disk new (later (since created past)), refl, refl, kept, safe keeps (since created past) kept)
 
   module _ (v : View) (x : Explains old v) where
     past_is : past_after s r (state_of v) ≡ later v.past
     past_is = ap (past_after s r) x.state
 
     next : View
-    next = view_of new (later v.past) v.crash_rule
+    next = view_of new (later v.past) v.rule
 
     next_explained : Explains new next
     unfolding next
     next_explained = record {
-      state = state_of-view_of new (later v.past) v.crash_rule;
+      state = state_of-view_of new (later v.past) v.rule;
       explained = ∥∥₁_map x.explained (turns v.past).explained;
       held = λ keeps. ∥∥₁_map (x.held keeps) ((turns v.past).held keeps);
-      safe = λ keeps rule. ∥∥₁_map (x.safe keeps rule) (λ k. (safe keeps v.past k).kept);
+      safe = λ keeps created follows. ∥∥₁_map (x.safe keeps created follows) (kept_after created v.past keeps);
     }
 
     next_stepped : IsPoolStep (IsTrue G.keeps_model) s r v next
     unfolding next
     next_stepped =
         let was : before v.past ≡ state_of v = sym x.state in
-        let is : after v.past ≡ state_of (view_of new (later v.past) v.crash_rule) = sym (state_of-view_of new (later v.past) v.crash_rule) in
-        let both : (P : State → State → Type 0) → P (before v.past) (after v.past) → P (state_of v) (state_of (view_of new (later v.past) v.crash_rule)) =
-        λ P h. subst (λ a. P a (state_of (view_of new (later v.past) v.crash_rule))) was (subst (P (before v.past)) is h) in
+        let is : after v.past ≡ state_of (view_of new (later v.past) v.rule) = sym (state_of-view_of new (later v.past) v.rule) in
+        let both : (P : State → State → Type 0) → P (before v.past) (after v.past) → P (state_of v) (state_of (view_of new (later v.past) v.rule)) =
+        λ P h. subst (λ a. P a (state_of (view_of new (later v.past) v.rule))) was (subst (P (before v.past)) is h) in
         record {
           explained = subst (λ (a : State). ∥ IsExplainedNow a.shown a.past ∥₁) was x.explained;
           step = both (λ a b. ∥ IsStep s r a b ∥₁) (∥∥₁_map x.explained (turns v.past).step);
           over = λ keeps. both (λ a b. ∥ IsStepOverSome s r a b ∥₁) (∥∥₁_map (x.held keeps) (λ h. (_, (turns v.past).over h)));
-          safe = λ keeps rule. both (λ a b. ∥ IsSafeOverSome s r a b ∥₁) (∥∥₁_map (x.safe keeps rule) (safely v.past keeps));
+          safe = λ keeps created follows.
+              both (λ a b. ∥ IsSafeOverSome s r (at_create created a) (at_create created b) ∥₁) (∥∥₁_map (x.safe keeps created follows) (safely created v.past keeps));
           rule = refl;
         }
 
     next_is : (w : View) → w ≡ view_after s r v new → w ≡ next
     unfolding next
-    next_is w is = is ∙ ap (λ (p : Past). view_of new p v.crash_rule) past_is
+    next_is w is = is ∙ ap (λ (p : Past). view_of new p v.rule) past_is
 
     pub explained_after : (w : View) → w ≡ view_after s r v new → Explains new w
     explained_after w is = subst (Explains new) (sym (next_is w is)) next_explained

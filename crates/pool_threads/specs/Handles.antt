@@ -1,5 +1,6 @@
 -- What contracts say of a pool under its lock, and of its handles.
-use Rattle.std.specs.Prelude.{ℕ, ◌≡◌, ◌⊎◌, ◌++◌, Bool, true, IsTrue, List, [], ◌∷◌}
+use Rattle.std.specs.Prelude.{ℕ, ◌≡◌, ◌⊎◌, ◌++◌, IsTrue, List, [], ◌∷◌}
+use Rattle.base.specs.crash.CrashRule.{KeepsOwn}
 use Rattle.base.specs.declared.error.PoolError.{PoolError}
 use Rattle.base.specs.declared.error.PoolError.TheVariants.{NoMemory}
 use Rattle.base.specs.disk.Disk.{Disk, bytes_of, certain}
@@ -10,13 +11,15 @@ use Rattle.import_replay.specs.ImportRefusals.{IsReadingRefusal, IsReason, IsSyn
 use Rattle.import_replay.specs.ImportStops.{IsImportStopped}
 use Rattle.import_replay.specs.ImportSyncs.{IsImportSynced}
 use Rattle.import_replay.specs.Mounts.{shown_of_import}
+use Rattle.import_replay.specs.RunStarts.{StartsRun}
 use Rattle.import_replay.specs.declared.mounted.Mounted.{Mounted}
 use Rattle.pool_core.specs.declared.state.PoolState.{PoolState}
 use Rattle.pool_core.specs.KeptSafe.{disk_of}
 use Rattle.pool_threads.specs.declared.handle.Handle.{Handle}
 use Rattle.pool_threads.specs.declared.handle.LastSeen.{LastSeen}
 use Rattle.pool_threads.specs.declared.pool.Pool.{Pool}
-use Rattle.pool_threads.specs.Views.{Explains, GrowsTo, View, state_of}
+use Rattle.pool_threads.specs.Views.{Explains, GrowsTo, IsFollowed, View, since, state_of}
+use Rattle.pool_threads.specs.Views.CrashRule.{Behind}
 use Rattle.round_trip.specs.Crashes.{IsLeft}
 use Rattle.word_lock.specs.declared.rule.Turn.{Turn}
 use Rattle.word_lock.specs.Seats.{IsAsBefore, lock_table, opening, seat_number, seat_table, seen, turns}
@@ -106,12 +109,12 @@ module _ {Dev : Type 0} {G : Ghosts Dev} where
     pub safe : AreSafe (disk_of s) past
     pub left : IsLeft past (disk_of s)
 
-  -- The view explains the state, and goes on from the one with which the pool was shared. Where the crash rule was followed, over a device that keeps
+  -- The view explains the state, and goes on from the one with which the pool was shared. Where the crash rule is followed, over a device that keeps
   -- the model, the state leaves cuts of its past.
   pub record EndsIn (p : Pool Dev G) (s : PoolState Dev G) (v : View) : Type 0 where
     pub explains : Explains s v
     pub onward : GrowsTo (opening_view p) v
-    pub cuts : IsTrue G.keeps_model → (opening_view p).crash_rule ≡ true → ∥ LeavesCuts s v.past ∥₁
+    pub cuts : IsTrue G.keeps_model → (created : ℕ) → IsFollowed (opening_view p).rule created → ∥ LeavesCuts s (since created v.past) ∥₁
 
   -- a pool ended in this state
   abbrev pub IsLaterState : Pool Dev G → PoolState Dev G → Type 0
@@ -125,14 +128,14 @@ module _ {Dev : Type 0} {G : Ghosts Dev} where
     pub onward : GrowsTo (seen l.seat) last
     pub history : IsTurnHistory GrowsTo (opening_view p) (seat_number l.seat) (turns l.seat) last
 
--- the past of the run that left a disk, and whether the crash rule is to be followed from there on
-pub record EarlierRun : Type 0 where
-  pub past : Past
-  pub crash_rule : Bool
+-- whichever run left the old disk, it left the new one too
+abbrev pub LeavesSame : Disk → Disk → Type 0
+LeavesSame old new = (past : Past) → IsLeft past old → IsLeft past new
 
--- where it is to be followed, over a device that keeps the model, the run with this past left the disk
-abbrev pub HasLeft : EarlierRun → (keeps : Type 0) → Disk → Type 0
-HasLeft run keeps disk = run.crash_rule ≡ true → keeps → IsLeft run.past disk
+-- what an import of the old disk gives with what it mounted: a run starts from what that disk holds, and what was left on it is left on the new one
+pub record StartsBehind (old : Disk) (m : Mounted) (new : Disk) : Type 0 where
+  pub starts : StartsRun old (shown_of_import m).dirty_max new m
+  pub own : KeepsOwn old new
 
 -- the view shows what one import of this disk with this moment mounted, and nothing has happened since
 pub record ShowsImport (moment : ℕ) (old : Disk) (v : View) : Type 0 where
@@ -151,9 +154,10 @@ pub record IsLeftByRefused (moment : ℕ) (old : Disk) (e : PoolError) (new : Di
 abbrev pub IsLeftByOpen : ℕ → Disk → PoolError → Disk → Type 0
 IsLeftByOpen moment old e new = IsLeftByRefused moment old e new ⊎ ((e ≡ NoMemory) × ((mounted : Mounted) × IsImportSynced old new moment mounted))
 
--- The view of a pool as it is imported behind an earlier run: nothing happened since, and where the crash rule is followed its contents are what
--- the earlier run left: the replay of a cut of its entries with every acknowledged one.
-pub record OpensBehind (run : EarlierRun) (keeps : Type 0) (dirty_max : ℕ) (v : View) : Type 0 where
-  pub rule : v.crash_rule ≡ run.crash_rule
-  pub anew : v.past ≡ new_past v.past.base run.past.created dirty_max
-  pub left : keeps → run.crash_rule ≡ true → IsLeftBy run.past v.past.base
+-- The view of a pool as it is imported from a disk: nothing happened since, and whichever run left the disk, the contents are what it left: the
+-- replay of a cut of its entries with every acknowledged one. From there on the crash rule is followed.
+pub record OpensBehind (keeps : Type 0) (old : Disk) (dirty_max : ℕ) (v : View) : Type 0 where
+  pub rule : v.rule ≡ Behind old
+  pub anew : v.past ≡ new_past v.past.base v.past.created dirty_max
+  pub shows : (state_of v).shown.contents ≡ v.past.base
+  pub left : keeps → (past : Past) → IsLeft past old → IsLeftBy past v.past.base

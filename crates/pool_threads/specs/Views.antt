@@ -1,9 +1,10 @@
 -- What a thread sees of a pool that runs, and how it goes on by steps.
-use Rattle.std.specs.Prelude.{ℕ, ◌≡◌, ◌++◌, Bool, true, false, IsTrue, List, [], ◌∷◌}
+use Rattle.std.specs.Prelude.{ℕ, ◌≡◌, ◌++◌, IsTrue, List, [], ◌∷◌}
 use Rattle.std.proofs.Common.{refl, ◌∙◌}
 use Rattle.std.proofs.Math.Logic.{∥∥₁_map, ∥∥₁_elim, ∥∥₁_prop}
 use Rattle.base.specs.declared.step.Step as declared_step
 use Rattle.base.specs.declared.step.Reply as declared_reply
+use Rattle.base.specs.disk.Disk.{Disk}
 use Rattle.base.specs.history.Past.{Past, new_past}
 use Rattle.base.specs.steps.Additions.{past_after}
 use Rattle.base.specs.steps.ExactNow.{GoesOn, IsExplainedNow}
@@ -14,36 +15,63 @@ use Rattle.device_model.specs.declared.device.SectorDevice.{Ghosts}
 use Rattle.pool_core.specs.declared.state.PoolState.{PoolState}
 use Rattle.pool_core.specs.Holds.{held_with, state_with}
 use Rattle.pool_core.specs.KeptSafe.{IsKeptSafe, IsSafeStep, OnDisk, on_disk}
+use Rattle.pool_core.specs.NewStates.{first_past}
 use Rattle.pool_core.specs.States.{shown, told}
 use Rattle.pool_core.specs.StepReplies.{IsStep}
 use Rattle.pool_threads.specs.Noted.{NotedPool, blank_note, no_contents, note, shown_in}
+use Rattle.round_trip.specs.Crashes.{IsLeft}
 
--- What is seen of a pool: what it shows, with the past of its run, and whether its disk kept the crash rule as the pool was opened.
+-- Whether the crash rule is followed: not at all; in a run of the pool whose create began at this moment; or in one behind whatever run left the
+-- disk that the pool was imported from.
+pub data CrashRule : Type 0 where
+  NotFollowed : CrashRule
+  Since : (began : ℕ) → CrashRule
+  Behind : (disk : Disk) → CrashRule
+
+-- so the rule is followed, in a run of a pool whose create began at this moment
+abbrev pub IsFollowed : CrashRule → (created : ℕ) → Type 0
+IsFollowed NotFollowed created = ⊥
+IsFollowed (Since began) created = created ≡ began
+IsFollowed (Behind disk) created = ∥ ((past : Past) × (past.created ≡ created) × IsLeft past disk) ∥₁
+
+-- What is seen of a pool: what it shows, with the past of its run, and whether the run follows the crash rule.
 pub record View : Type 0 where
   pub pool : NotedPool
   pub past : Past
-  pub crash_rule : Bool
+  pub rule : CrashRule
+
+-- a past, of a pool whose create began at this moment
+abbrev pub since : ℕ → Past → Past
+since created past = record past { created = created }
 
 -- the state that is seen
 abbrev pub state_of : View → State
 state_of v = record { shown = shown_in v.pool; past = v.past }
 
+-- so it is, of a pool whose create began at this moment
+abbrev pub state_since : ℕ → View → State
+state_since created v = record { shown = shown_in v.pool; past = since created v.past }
+
 module _ {Dev : Type 0} {G : Ghosts Dev} where
   -- the view of a pool with this past
-  abbrev pub view_of : PoolState Dev G → Past → Bool → View
-  view_of p past rule = record { pool = note (shown p); past = past; crash_rule = rule }
+  abbrev pub view_of : PoolState Dev G → Past → CrashRule → View
+  view_of p past rule = record { pool = note (shown p); past = past; rule = rule }
+
+  -- the view of a pool in whose run nothing happened yet, behind whichever run left this disk
+  abbrev pub view_behind_disk : PoolState Dev G → Disk → View
+  view_behind_disk p old = view_of p (first_past (shown p) 0) (Behind old)
 
   -- The view is of this pool, and its past explains it. Where the device keeps the disk model it holds what it should, and where the crash
-  -- rule stood as the pool was opened, it stands.
+  -- rule is followed, it stands.
   pub record Explains (p : PoolState Dev G) (v : View) : Type 0 where
     pub state : state_of v ≡ state_with (told p) v.past
     pub explained : ∥ IsExplainedNow (shown p) v.past ∥₁
     pub held : IsTrue G.keeps_model → ∥ IsHeld (held_with (told p) v.past) ∥₁
-    pub safe : IsTrue G.keeps_model → v.crash_rule ≡ true → ∥ IsKeptSafe (on_disk p v.past) ∥₁
+    pub safe : IsTrue G.keeps_model → (created : ℕ) → IsFollowed v.rule created → ∥ IsKeptSafe (on_disk p (since created v.past)) ∥₁
 
   -- the view after a step that left this pool
   abbrev pub view_after : declared_step.Step → declared_reply.Reply → View → PoolState Dev G → View
-  view_after s r v p = view_of p (past_after s r (state_of v)) v.crash_rule
+  view_after s r v p = view_of p (past_after s r (state_of v)) v.rule
 
 -- the step is one over the bytes of some device
 abbrev pub IsStepOverSome : declared_step.Step → declared_reply.Reply → State → State → Type 0
@@ -54,21 +82,21 @@ abbrev pub IsSafeOverSome : declared_step.Step → declared_reply.Reply → Stat
 IsSafeOverSome s r old new = (x y : OnDisk) × (x.held.state ≡ old) × (y.held.state ≡ new) × IsKeptSafe x × IsSafeStep s r x y
 
 -- A step with its reply, from a view that is explained. Where the device keeps the disk model it is one over the device's bytes, and where
--- the crash rule stands, it is a safe one.
+-- the crash rule is followed, it is a safe one.
 pub record IsPoolStep (keeps : Type 0) (s : declared_step.Step) (r : declared_reply.Reply) (v w : View) : Type 0 where
   pub explained : ∥ IsExplainedNow (state_of v).shown v.past ∥₁
   pub step : ∥ IsStep s r (state_of v) (state_of w) ∥₁
   pub over : keeps → ∥ IsStepOverSome s r (state_of v) (state_of w) ∥₁
-  pub safe : keeps → v.crash_rule ≡ true → ∥ IsSafeOverSome s r (state_of v) (state_of w) ∥₁
-  pub rule : w.crash_rule ≡ v.crash_rule
+  pub safe : keeps → (created : ℕ) → IsFollowed v.rule created → ∥ IsSafeOverSome s r (state_since created v) (state_since created w) ∥₁
+  pub rule : w.rule ≡ v.rule
 
 -- steps lead from one view to another
 pub record GrowsTo (v w : View) : Type 0 where
   pub goes_on : ∥ GoesOn (state_of v) (state_of w) ∥₁
-  pub rule : w.crash_rule ≡ v.crash_rule
+  pub rule : w.rule ≡ v.rule
 
 abbrev pub blank : View
-blank = record { pool = blank_note; past = new_past no_contents 0 0; crash_rule = false }
+blank = record { pool = blank_note; past = new_past no_contents 0 0; rule = NotFollowed }
 
 pub grows_same : (v : View) → GrowsTo v v
 grows_same v = record { goes_on = ∣ ([], [], refl) ∣₁; rule = refl }

@@ -7,8 +7,6 @@ mod pool;
 mod replies;
 mod retries;
 mod rule;
-#[cfg(test)]
-mod tests;
 mod turn;
 mod waiters;
 

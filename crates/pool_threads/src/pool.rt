@@ -3,8 +3,8 @@ ghost use Rattle.std.specs.Prelude.{◌≡◌, ◌⊎◌, IfErr, IfOk, IfSome, I
 ghost use Rattle.import_replay.specs.ImportRefusals.{IsImportRefusal};
 ghost use Rattle.import_replay.specs.Mounts.{shown_of_import};
 ghost use Rattle.pool_core.specs.States.{device_of, shown};
-ghost use Rattle.pool_threads.specs.Handles.{EarlierRun, HasLeft, IsBackIn, IsLastState, IsLaterState, IsLeftByOpen, IsNewHandle, OpensBehind, ShowsImport, WasOf, opening_view};
-ghost use Rattle.pool_threads.specs.Views.{Explains, View, state_of};
+ghost use Rattle.pool_threads.specs.Handles.{IsBackIn, IsLastState, IsLaterState, IsLeftByOpen, IsNewHandle, LeavesSame, OpensBehind, ShowsImport, StartsBehind, WasOf, opening_view};
+ghost use Rattle.pool_threads.specs.Views.{Explains, View, state_of, view_behind_disk};
 
 use crate::handle::{Handle, LastSeen};
 use crate::rule::{PoolRule, PoolView};
@@ -14,6 +14,7 @@ use device_model::SectorDevice;
 use import_replay::{Imported, import};
 use pool_core::PoolState;
 use std::alloc::Global;
+use std::snapshot::Snapshot;
 use word_lock::{Told, WordLock};
 
 /// A pool that threads share by reference, each with a handle of its own.
@@ -32,6 +33,16 @@ fn first_view<D: SectorDevice>(state: &PoolState<D>) -> Told<PoolView>
     Told::of(state)
 }
 
+// The view of a pool as it is shared behind whichever run left the disk of a device before the import.
+fn view_behind<'a, D: SectorDevice>(
+    before: &'a Snapshot<D>,
+    state: &'a PoolState<D>,
+) -> Told<PoolView>
+    ensures { result.value ≡ view_behind_disk state.now (D.disk before.now.value) }
+{
+    Told::of(&(before, state))
+}
+
 impl<D: SectorDevice> Pool<D> {
     /// A pool that no thread has, with a view that explains it. The syncs that its handles start carry this moment.
     ///
@@ -44,13 +55,27 @@ impl<D: SectorDevice> Pool<D> {
         ensures moment { IfOk result (λ p. p.moment ≡ moment) }
         ensures refused { IfErr result (λ e. (e.0 ≡ PoolError.NoMemory) × (e.1 ≡ state)) }
     {
-        let alloc = state.alloc();
         let first = first_view(&state);
+        Pool::with_view(state, moment, &first)
+    }
+
+    // A pool with this view, which explains it.
+    fn with_view(
+        state: PoolState<D>,
+        moment: u64,
+        first: &Told<PoolView>,
+    ) -> Result<Pool<D>, (PoolError, PoolState<D>)>
+        requires explained { Explains state first.now.value }
+        ensures opening { IfOk result (λ p. opening_view p ≡ first.now.value) }
+        ensures moment { IfOk result (λ p. p.moment ≡ moment) }
+        ensures refused { IfErr result (λ e. (e.0 ≡ PoolError.NoMemory) × (e.1 ≡ state)) }
+    {
+        let alloc = state.alloc();
         let held = match Box::new(alloc, state) {
             Ok(held) => held,
             Err(failed) => return Err((PoolError::NoMemory, failed.value)),
         };
-        match WordLock::new(alloc, held, &first) {
+        match WordLock::new(alloc, held, first) {
             Ok((lock, _seat)) => Ok(Pool {
                 lock,
                 moment,
@@ -60,7 +85,8 @@ impl<D: SectorDevice> Pool<D> {
         }
     }
 
-    /// The pool that an import gave, to be shared. The syncs that its handles start carry this moment.
+    /// The pool that an import gave, to be shared. The syncs that its handles start carry this moment. Nothing is told of the run
+    /// that left its disk, so that the crash rule is not followed; `share_behind` and `open` follow it.
     ///
     /// # Errors
     /// `NoMemory` where there is none for the lock. The state then comes back.
@@ -76,11 +102,41 @@ impl<D: SectorDevice> Pool<D> {
         Pool::new(state, moment)
     }
 
+    /// The pool that an import gave, to be shared, with the device as it was before the import. The syncs that its handles start
+    /// carry this moment.
+    ///
+    /// Whichever run left that device, where it keeps the model, the contents are what that run left, and the crash rule is
+    /// followed from there on.
+    ///
+    /// # Errors
+    /// `NoMemory` where there is none for the lock. The state then comes back.
+    pub fn share_behind(
+        imported: Imported<D>,
+        moment: u64,
+        before: &Snapshot<D>,
+    ) -> Result<Pool<D>, (PoolError, PoolState<D>)>
+        requires { IsTrue D.keeps_model → StartsBehind (D.disk before.now.value)
+            imported.mounted (D.disk imported.device) }
+        ensures opened { IfOk result
+            (λ p. OpensBehind (IsTrue D.keeps_model) (D.disk before.now.value)
+            (shown_of_import imported.mounted).dirty_max (opening_view p)) }
+        ensures shown { IfOk result (λ p. (state_of (opening_view p)).shown
+            ≡ shown_of_import imported.mounted) }
+        ensures moment { IfOk result (λ p. p.moment ≡ moment) }
+        ensures refused { IfErr result (λ e. (e.0 ≡ PoolError.NoMemory)
+            × (device_of e.1 ≡ imported.device)
+            × (shown e.1 ≡ shown_of_import imported.mounted)) }
+    {
+        let state = PoolState::new(imported);
+        let first = view_behind(before, &state);
+        Pool::with_view(state, moment, &first)
+    }
+
     /// Imports the pool on a device, and shares it. The moment is stored in the uberblocks of the import, and in those of the
     /// syncs that its handles start.
     ///
-    /// Over a device that keeps the model, where an earlier run left it (`run`), the contents are what that run left, and the
-    /// crash rule stands from then on. A caller who doesn't know so has it not followed.
+    /// Whichever run left the disk, over a device that keeps the model, the contents are what that run left, and the crash rule
+    /// is followed from there on.
     ///
     /// # Errors
     /// Those of `import`, and `NoMemory` where there is none for the lock. The device comes back, as the import left it.
@@ -90,10 +146,8 @@ impl<D: SectorDevice> Pool<D> {
         dirty_max: u64,
         moment: u64,
     ) -> Result<Pool<D>, (PoolError, D)>
-        ghost run: { EarlierRun }
-        requires left { HasLeft run (IsTrue D.keeps_model) (D.disk device) }
-        ensures opened { IfOk result
-            (λ p. OpensBehind run (IsTrue D.keeps_model) dirty_max (opening_view p)) }
+        ensures opened { IfOk result (λ p.
+            OpensBehind (IsTrue D.keeps_model) (D.disk device) dirty_max (opening_view p)) }
         ensures imported { IsTrue D.keeps_model
             → IfOk result (λ p. ShowsImport moment (D.disk device) (opening_view p)) }
         ensures moment { IfOk result (λ p. p.moment ≡ moment) }
@@ -102,15 +156,15 @@ impl<D: SectorDevice> Pool<D> {
             (λ e. (e.0 ≡ PoolError.BadGeometry) ⊎ (e.0 ≡ PoolError.BadRange) → e.1 ≡ device) }
         ensures given_back { IsTrue D.keeps_model
             → IfErr result (λ e. IsLeftByOpen moment (D.disk device) e.0 (D.disk e.1)) }
-        ensures still_left { IfErr result
-            (λ e. HasLeft run (IsTrue D.keeps_model) (D.disk e.1)) }
+        ensures still_left { IsTrue D.keeps_model
+            → IfErr result (λ e. LeavesSame (D.disk device) (D.disk e.1)) }
     {
+        let before = Snapshot::of(&device);
         let imported = match import(alloc, device, dirty_max, moment) {
             Ok(imported) => imported,
             Err(refused) => return Err(refused),
         };
-        let state = PoolState::new(imported);
-        match Pool::new(state, moment) {
+        match Pool::share_behind(imported, moment, &before) {
             Ok(pool) => Ok(pool),
             Err((error, state)) => Err((error, state.into_device())),
         }

@@ -12,8 +12,6 @@ mod pool_commands;
 mod script;
 mod session;
 mod stepped_pool;
-#[cfg(test)]
-mod tests;
 
 pub use answer::Answer;
 pub use command::{Command, LineError, PoolCommand, parse_command};

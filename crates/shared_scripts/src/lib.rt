@@ -7,7 +7,5 @@ mod begun_plans;
 mod pool_caller;
 mod session;
 mod shared_pool;
-#[cfg(test)]
-mod tests;
 
 pub use session::SharedSession;

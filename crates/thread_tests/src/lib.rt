@@ -4,6 +4,8 @@
 #![tactic(auto)]
 
 #[cfg(test)]
+mod each_call;
+#[cfg(test)]
 mod fixture;
 #[cfg(test)]
 mod four_jobs;

@@ -1,4 +1,4 @@
-use Rattle.std.proofs.Common.{refl, sym, subst}
+use Rattle.std.proofs.Common.{sym, subst}
 use Rattle.pool_threads.specs.Views.{Explains, GrowsTo, grows_same}
 use Rattle.pool_threads.proofs.Looked.{explained_still}
 use Rattle.word_lock.specs.Seats.{seen}

@@ -1,6 +1,5 @@
-use Rattle.std.proofs.Common.{rules, sym, subst}
+use Rattle.std.proofs.Common.{rules}
 use Rattle.pool_threads.proofs.Made.{made_by, made_there}
-use Rattle.pool_threads.specs.Views.{Explains}
 use Rattle.pool_threads.proofs.turn.try_turn.Goals as goal
 
 pub returns-clause-made : goal.returns-clause-made

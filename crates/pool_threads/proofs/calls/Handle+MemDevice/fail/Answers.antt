@@ -1,5 +1,4 @@
-use Rattle.std.proofs.Common.{◌∙◌, refl, sym, subst}
-use Rattle.pool_threads.specs.Views.{Explains}
+use Rattle.std.proofs.Common.{◌∙◌, refl}
 use Rattle.pool_threads.proofs.Looked.{looked_by}
 use Rattle.pool_threads.proofs.calls.Handle+MemDevice.fail.Goals as goal
 

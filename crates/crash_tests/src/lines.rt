@@ -1,7 +1,7 @@
 //! Whole scripts with their answers, lines that are no commands, and readers and writers that fail.
 
-use crate::{Answer, Command, LineError, PoolCommand, parse_command, run_script};
 use base::{Group, ObjectId, Owner, Plan, Reply, Shape, Status, Step};
+use scripts::{Answer, Command, LineError, PoolCommand, parse_command, run_script};
 use std::alloc::Global;
 use std::io::{self, ErrorKind, Read, Write};
 use std::test::Fail;

@@ -1,11 +1,11 @@
 //! Each call of a pool and of a handle, with ample memory.
 
-use crate::{Handle, Pool};
 use base::{
     Bytes, Group, Mode, ObjectId, Op, Ops, Owner, Plan, PoolError, PoolName, Range, Reply, Step,
 };
 use device_model::{Fault, MemDevice, SectorDevice};
 use import_replay::{create, import};
+use pool_threads::{Handle, Pool};
 use std::alloc::Global;
 use std::sync::Wait;
 use std::test::Fail;

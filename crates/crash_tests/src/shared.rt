@@ -1,7 +1,7 @@
 //! Scripts through handles answer as on a pool of the session's own.
 
-use crate::SharedSession;
 use scripts::{run_script, run_script_on};
+use shared_scripts::SharedSession;
 use std::sync::Wait;
 use std::test::Fail;
 

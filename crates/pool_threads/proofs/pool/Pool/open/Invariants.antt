@@ -1,8 +1,0 @@
-use Rattle.pool_core.specs.NewStates.{first_past}
-use Rattle.pool_core.specs.States.{shown}
-use Rattle.pool_threads.specs.Views.{view_of}
-use Rattle.pool_threads.proofs.pool.Pool.open.Given as goal
-
--- a past in which nothing happened since the create of the earlier run
-abbrev pub ghost-new : goal.ghost-new
-ghost-new g a = view_of a.state (first_past (shown a.state) g.run.past.created) g.run.crash_rule
