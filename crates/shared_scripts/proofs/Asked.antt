@@ -20,7 +20,7 @@ use Rattle.scripts.specs.declared.command.PoolCommand.TheVariants as command
 use Rattle.shared_scripts.specs.Callers.{CallsStep, plan_of}
 use Rattle.shared_scripts.specs.Pools.{LastOfMem, SharedMemPool}
 use Rattle.shared_scripts.specs.declared.pool_caller.PoolCaller.{PoolCaller}
-use Rattle.word_lock.specs.Seats.{lock_table, seat_table, seen}
+use Rattle.word_lock.specs.Seats.{seat_table, seen}
 
 -- what each step keeps, and goes on, a command keeps
 module _ {P : Type 0} (Makes : Step → Reply → P → P → Type 0) (R : P → P → Type 0) (same : (a : P) → R a a) (onward : (a b c : P) → R a b → R b c → R a c)

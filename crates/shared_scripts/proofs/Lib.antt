@@ -1,3 +1,4 @@
 mod Asked
 mod Imported
+mod Kept
 mod Taken

@@ -1,5 +1,5 @@
 -- What a command makes of a shared pool, by a handle of it.
-use Rattle.std.specs.Prelude.{ℕ, ◌≡◌, ◌⊎◌, List, Option}
+use Rattle.std.specs.Prelude.{ℕ, ◌≡◌, List, Option}
 use Rattle.base.specs.declared.names.TxId.{TxId}
 use Rattle.base.specs.declared.operation.Shape.{Shape}
 use Rattle.base.specs.declared.step.Step as declared_step

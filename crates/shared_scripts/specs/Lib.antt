@@ -3,4 +3,5 @@ pub mod Places
 pub mod Plans
 pub mod Pools
 pub mod Sessions
+pub mod Kept
 pub mod Shared

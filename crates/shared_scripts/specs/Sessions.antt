@@ -1,20 +1,20 @@
 -- What a command needs of a session on a shared pool, and does in it.
-use Rattle.std.specs.Prelude.{ℕ, ◌≡◌, ◌<◌, ◌≤◌, ◌⊎◌, Bool, true, false, List, [], length, None, Some, Result, Ok, Err, IsOk, IsTrue}
+use Rattle.std.specs.Prelude.{ℕ, ◌≡◌, ◌<◌, ◌≤◌, ◌⊎◌, ◌/◌, Bool, true, false, List, [], length, None, Some, Result, Ok, Err, IsTrue}
 use Rattle.base.specs.declared.error.PoolError.{PoolError}
 use Rattle.base.specs.declared.error.PoolError.TheVariants.{NoMemory}
 use Rattle.base.specs.declared.piece.Piece.{Piece}
 use Rattle.base.specs.declared.step.Reply.{Reply}
 use Rattle.base.specs.declared.step.Reply.TheVariants.{Done, Refused}
-use Rattle.base.specs.disk.Disk.{CrashLeaves}
-use Rattle.device_model.specs.MemState.{MemState, after_crash}
+use Rattle.base.specs.disk.Disk.{CrashLeaves, Disk}
+use Rattle.device_model.specs.MemState.{MemState, after_crash, new_state}
 use Rattle.device_model.specs.Plans.{with_plan}
 use Rattle.device_model.specs.declared.fault.Fault.{Fault}
 use Rattle.import_replay.specs.Creations.{IsNewPool}
 use Rattle.import_replay.specs.Mounts.{shown_of_import}
 use Rattle.import_replay.specs.declared.mounted.Mounted.{Mounted}
-use Rattle.pool_threads.specs.Handles.{opening_view}
+use Rattle.pool_threads.specs.Handles.{LeavesSame, OpensBehind, opening_view}
 use Rattle.pool_threads.specs.Views.{GrowsTo, state_of}
-use Rattle.scripts.specs.Devices.{IsImportRun, IsLeftByImport, imported_answer}
+use Rattle.scripts.specs.Devices.{IsImportRun, IsLeftByCreate, IsLeftByImport, imported_answer}
 use Rattle.scripts.specs.declared.answer.Answer.{Answer}
 use Rattle.scripts.specs.declared.answer.Answer.TheVariants as answer
 use Rattle.scripts.specs.declared.command.Command.{Command}
@@ -62,18 +62,25 @@ abbrev pub AsksIn : (W : Type 0) → PoolCommand → ℕ → Place → Answer �
 AsksIn W asked moment (Pool old) (answer.Reply reply) (Pool new) = AsksShared W asked moment old reply new
 AsksIn W asked moment old told new = ⊥
 
--- a create leaves a new pool of this name, guid and moment, whatever a crash makes of it; or it is refused
-abbrev pub Creates : List ℕ → ℕ → ℕ → Answer → Place → Type 0
-Creates name guid moment (answer.Reply Done) (Device new) = CrashLeaves (λ image. IsNewPool image name guid moment) new.disk.now
-Creates name guid moment (answer.Reply (Refused e)) new = has_pool new ≡ false
-Creates name guid moment told new = ⊥
+module _ {W : Type 0} where
+  -- the device that a create works on: the one that is taken, or a new one of zeros
+  abbrev pub IsDeviceFor : SharedSession W → MemState → Type 0
+  IsDeviceFor s device = IsTaken s.place (Some device) ⊎ (IsTaken s.place None × (device ≡ new_state (s.size / 512)))
+
+  -- a create leaves a new pool of this name, guid and the session's moment, whatever a crash makes of it; or it is refused, and gives the device back
+  abbrev pub Creates : List ℕ → ℕ → SharedSession W → Answer → Place → Type 0
+  Creates name guid s (answer.Reply Done) (Device new) = CrashLeaves (λ image. IsNewPool image name guid s.moment) new.disk.now
+  Creates name guid s (answer.Reply (Refused e)) (Device new) = (device : MemState) × IsDeviceFor s device × IsLeftByCreate device e new
+  Creates name guid s (answer.Reply (Refused e)) Nothing = IsTaken s.place None
+  Creates name guid s told new = ⊥
 
 -- want of memory is told, and there is this device
 abbrev pub IsGivenBack : MemState → Answer → Place → Type 0
 IsGivenBack device told new = (told ≡ answer.Reply (Refused NoMemory)) × (new ≡ Device device)
 
--- a pool that shows what was mounted is shared, with this moment of its syncs; no transaction has begun, and no handle had a turn
-pub record IsMountShared (mounted : Mounted) (moment : ℕ) (shared : SharedPool) : Type 0 where
+-- a pool that shows what was mounted of this disk is shared behind it, with this moment of its syncs; no transaction has begun, and no handle had a turn
+pub record IsMountShared (old : Disk) (mounted : Mounted) (moment : ℕ) (shared : SharedPool) : Type 0 where
+  pub opened : OpensBehind (IsTrue true) old (shown_of_import mounted).dirty_max (opening_view shared.pool)
   pub shown : (state_of (opening_view shared.pool)).shown ≡ shown_of_import mounted
   pub moment_is : shared.pool.moment ≡ moment
   pub onward : GrowsTo (opening_view shared.pool) (seen shared.last.seat)
@@ -81,15 +88,15 @@ pub record IsMountShared (mounted : Mounted) (moment : ℕ) (shared : SharedPool
   pub no_plans : shared.plans.plans.items ≡ []
 
 -- so it is, and it is told what was mounted
-abbrev pub SharesMounted : Mounted → ℕ → Answer → Place → Type 0
-SharesMounted mounted moment told new = (shared : SharedPool) × (new ≡ Pool shared) × (told ≡ imported_answer mounted) × IsMountShared mounted moment shared
+abbrev pub SharesMounted : Disk → Mounted → ℕ → Answer → Place → Type 0
+SharesMounted old mounted moment told new = (shared : SharedPool) × (new ≡ Pool shared) × (told ≡ imported_answer mounted) × IsMountShared old mounted moment shared
 
 -- an import shares the pool that it mounted
 pub record IsImportShared (dirty_max moment : ℕ) (old : MemState) (told : Answer) (new : Place) : Type 0 where
   pub device : MemState
   pub mounted : Mounted
   pub imported : IsImportRun dirty_max moment old device mounted
-  pub shares : SharesMounted mounted moment told new
+  pub shares : SharesMounted old.disk mounted moment told new
 
 -- A refusal is told, and there is the device: as the refused import left it, or, where there was no memory to share the pool, as it was imported.
 pub record IsImportRefused (dirty_max moment : ℕ) (old : MemState) (told : Answer) (new : Place) : Type 0 where
@@ -97,6 +104,7 @@ pub record IsImportRefused (dirty_max moment : ℕ) (old : MemState) (told : Ans
   pub device : MemState
   pub told_is : told ≡ answer.Reply (Refused error)
   pub place_is : new ≡ Device device
+  pub still : LeavesSame old.disk device.disk
   pub left : IsLeftByImport moment old error device ⊎ ((error ≡ NoMemory) × ((mounted : Mounted) × IsImportRun dirty_max moment old device mounted))
 
 -- so it does, or it is refused
@@ -131,7 +139,7 @@ module _ {W : Type 0} where
   -- what a command does that is answered; one that is none leaves what is there, but for an import and a crash, which find no device, or find more
   -- letters than there are unflushed writes
   abbrev pub Does : Command → SharedSession W → Result Answer BadCommand → SharedSession W → Type 0
-  Does (command.Create name guid) s (Ok told) new = Creates name guid s.moment told new.place
+  Does (command.Create name guid) s (Ok told) new = Creates name guid s told new.place
   Does (command.Import dirty_max) s (Ok told) new = TakesDevice s.place (λ device. Imports dirty_max s.moment device told new.place)
   Does (command.Crash pieces) s (Ok told) new = TakesDevice s.place (λ device. Crashes pieces.items device told new.place)
   Does (command.Fail fault n) s (Ok told) new = PlansFault fault n s.place told new.place
@@ -141,9 +149,3 @@ module _ {W : Type 0} where
   Does (command.Crash pieces) s (Err e) new = IsTaken s.place None ⊎ TakesDevice s.place (IsTooShort pieces.items new.place)
   Does (command.Fail fault n) s (Err e) new = (has_device s.place ≡ false) × (new.place ≡ s.place)
   Does (command.Pool asked) s (Err e) new = (has_pool s.place ≡ false) × (new.place ≡ s.place)
-
-  -- A command is answered only where the session has what it needs, and does what it asks for.
-  pub record Runs (asked : Command) (old : SharedSession W) (told : Result Answer BadCommand) (new : SharedSession W) : Type 0 where
-    pub needs : IsOk told → IsTrue (has_what_it_needs asked old)
-    pub done : Does asked old told new
-    pub same_run : IsSameRun old new

@@ -9,6 +9,7 @@ use import_replay::{Imported, create, import};
 use scripts::{Answer, BadCommand, Command, CommandRunner, PoolCommand, new_device};
 use std::alloc::Global;
 use std::mem;
+use std::snapshot::Snapshot;
 use std::sync::Wait;
 
 // What a script has so far.
@@ -31,8 +32,10 @@ pub struct SharedSession<'r, W: Wait> {
 }
 
 impl<'r, W: Wait> SharedSession<'r, W> {
+    ghost use Rattle.pool_threads.specs.Handles.{StartsBehind};
+    ghost use Rattle.shared_scripts.specs.Kept.{KeepsOverCrash, KeepsRun, StartsRunOn};
     ghost use Rattle.shared_scripts.specs.Places.{IsTaken, has_device, has_pool};
-    ghost use Rattle.shared_scripts.specs.Sessions.{AsksIn, Crashes, Creates, Does, Imports, IsGivenBack, IsNewSession, IsSameRun, IsTooShort, PlansFault, SharesMounted, TakesDevice, has_what_it_needs};
+    ghost use Rattle.shared_scripts.specs.Sessions.{AsksIn, Crashes, Creates, Does, Imports, IsDeviceFor, IsGivenBack, IsNewSession, IsSameRun, IsTooShort, PlansFault, SharesMounted, TakesDevice, has_what_it_needs};
 
     /// A session with no device yet. A new device has `size` div 512 sectors, and each uberblock this moment.
     pub fn new(rt: &'r W, alloc: Global, size: u64, moment: u64) -> Self
@@ -55,6 +58,7 @@ impl<'r, W: Wait> SharedSession<'r, W> {
     pub fn run(&mut self, command: Command) -> Result<Answer, BadCommand>
         ensures needs { IsOk result → IsTrue (has_what_it_needs command self.old) }
         ensures done { Does command self.old result self.new }
+        ensures kept { KeepsRun command self.old result self.new }
         ensures same_run { IsSameRun self.old self.new }
     {
         match command {
@@ -80,6 +84,8 @@ impl<'r, W: Wait> SharedSession<'r, W> {
     }
 
     fn take_or_make_device(&mut self) -> Result<MemDevice, PoolError>
+        ensures needs { IsErr result → IsTaken self.old.place None }
+        ensures device { IfOk result (IsDeviceFor self.old) }
         ensures taken { self.new.place ≡ Place.Nothing }
         ensures same_run { IsSameRun self.old self.new }
     {
@@ -90,7 +96,8 @@ impl<'r, W: Wait> SharedSession<'r, W> {
     }
 
     fn create(&mut self, name: &Bytes, guid: u64) -> Answer
-        ensures creates { Creates name.now guid self.old.moment result self.new.place }
+        ensures creates { Creates name.now guid self.old result self.new.place }
+        ensures kept { result ≡ Answer.Reply Reply.Done → StartsRunOn name.now self.old self.new.place }
         ensures same_run { IsSameRun self.old self.new }
     {
         let device = match self.take_or_make_device() {
@@ -126,20 +133,23 @@ impl<'r, W: Wait> SharedSession<'r, W> {
         let Some(device) = self.take_device() else {
             return Err(BadCommand);
         };
+        let before = Snapshot::of(&device);
         match import(self.alloc, device, dirty_max, self.moment) {
-            Ok(imported) => Ok(self.share(imported)),
+            Ok(imported) => Ok(self.share(imported, &before)),
             Err((error, device)) => Ok(self.give_back(error, device)),
         }
     }
 
     // Shares an imported pool, and tells what it is. For want of memory the device goes on without a pool.
-    fn share(&mut self, imported: Imported<MemDevice>) -> Answer
-        ensures shares { SharesMounted imported.mounted self.old.moment result self.new.place
+    fn share(&mut self, imported: Imported<MemDevice>, before: &Snapshot<MemDevice>) -> Answer
+        requires { StartsBehind before.now.value.disk imported.mounted imported.device.disk }
+        ensures shares { SharesMounted before.now.value.disk imported.mounted self.old.moment
+            result self.new.place
             ⊎ IsGivenBack imported.device result self.new.place }
         ensures same_run { IsSameRun self.old self.new }
     {
         let answer = Answer::imported(&imported);
-        match SharedPool::new(self.alloc, imported, self.moment) {
+        match SharedPool::new(self.alloc, imported, self.moment, before) {
             Ok(shared) => {
                 self.place = Place::Pool(shared);
                 answer
@@ -154,6 +164,7 @@ impl<'r, W: Wait> SharedSession<'r, W> {
             (λ device. Crashes pieces.now device told self.new.place)) }
         ensures no_crash { IsErr result → IsTaken self.old.place None
             ⊎ TakesDevice self.old.place (IsTooShort pieces.now self.new.place) }
+        ensures kept { KeepsOverCrash pieces.now self.old.place self.new.place }
         ensures same_run { IsSameRun self.old self.new }
     {
         let Some(device) = self.take_device() else {
@@ -212,7 +223,7 @@ impl<'r, W: Wait> SharedSession<'r, W> {
 }
 
 impl<'r, W: Wait> CommandRunner for SharedSession<'r, W> {
-    ghost use Rattle.shared_scripts.specs.Sessions.{Runs};
+    ghost use Rattle.shared_scripts.specs.Kept.{Runs};
 
     ghost runs = { Runs };
 

@@ -4,7 +4,7 @@
 
 ghost use Rattle.std.specs.Prelude.{◌≡◌, IfErr, IfOk, IfSome};
 ghost use Rattle.base.specs.declared.error.PoolError.TheVariants.{NoMemory};
-ghost use Rattle.pool_threads.specs.Handles.{WasOf};
+ghost use Rattle.pool_threads.specs.Handles.{StartsBehind, WasOf};
 ghost use Rattle.shared_scripts.specs.Plans.{change_of, plans_after};
 
 use crate::begun_plans::BegunPlans;
@@ -15,6 +15,7 @@ use import_replay::Imported;
 use pool_threads::{LastSeen, Pool};
 use scripts::PoolCommand;
 use std::alloc::Global;
+use std::snapshot::Snapshot;
 use std::sync::Wait;
 
 #[derive(Drop)]
@@ -30,7 +31,7 @@ impl SharedPool {
     ghost use Rattle.shared_scripts.specs.Sessions.{IsMountShared, LooksAt};
     ghost use Rattle.shared_scripts.specs.Shared.{Asks};
 
-    /// The pool that an import gave, shared. No transaction began.
+    /// The pool that an import gave, shared, with the device as it was before the import. No transaction began.
     ///
     /// # Errors
     /// `NoMemory`; the device then comes back.
@@ -38,11 +39,14 @@ impl SharedPool {
         alloc: Global,
         imported: Imported<MemDevice>,
         moment: u64,
+        before: &Snapshot<MemDevice>,
     ) -> Result<Self, (PoolError, MemDevice)>
-        ensures shared { IfOk result (IsMountShared imported.mounted moment) }
+        requires { StartsBehind before.now.value.disk imported.mounted imported.device.disk }
+        ensures shared { IfOk result
+            (IsMountShared before.now.value.disk imported.mounted moment) }
         ensures refused { IfErr result (λ e. (e.0 ≡ NoMemory) × (e.1 ≡ imported.device)) }
     {
-        match Pool::share(imported, moment) {
+        match Pool::share_behind(imported, moment, before) {
             Ok(pool) => {
                 let last = pool.handle().leave();
                 Ok(SharedPool {

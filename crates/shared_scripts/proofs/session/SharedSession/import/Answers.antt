@@ -1,7 +1,9 @@
-use Rattle.std.proofs.Common.{inl, inr, refl}
+use Rattle.std.proofs.Common.{inl, inr, refl, subst, sym}
+use Rattle.import_replay.specs.RunStarts.{StartsRun}
+use Rattle.pool_threads.specs.Handles.{StartsBehind}
+use Rattle.round_trip.proofs.CrashRounds.{import_left}
 use Rattle.shared_scripts.proofs.Taken.{there_was_one}
 use Rattle.shared_scripts.proofs.Imported.{import_shared}
-use Rattle.shared_scripts.specs.Places.{IsTaken}
 use Rattle.shared_scripts.proofs.session.SharedSession.import.Goals as goal
 
 pub returns-in-Ok-clause-needs : goal.returns-in-Ok-clause-needs
@@ -12,11 +14,20 @@ returns-in-Ok-clause-imports g c = (
   c.in-Some.device,
   c.in-Some.ensures.device,
   rw (← c.take_device.ensures.same_run.0)
-      (import_shared _ _ _ c.in-Ok.imported.device c.in-Ok.imported.mounted _ _ (record { limit = (c.in-Ok.ensures.explained 0).exact.charges.limit; synced = c.in-Ok.ensures.synced refl }) c.share.ensures.shares),
+      (import_shared _ _ _ c.in-Ok.imported.device c.in-Ok.imported.mounted _ _ (record { limit = (c.in-Ok.ensures.explained 0).exact.charges.limit; synced = c.in-Ok.ensures.synced refl })
+      (λ past was. (import_left past c.in-Some.device.disk c.in-Ok.imported.device.disk was (c.in-Ok.ensures.own refl)).left) (rw (← c.of-before.ensures) c.share.ensures.shares)),
 )
 
-pub returns-in-Err-clause-imports : goal.returns-in-Err-clause-imports
-returns-in-Err-clause-imports g c =
+pub share-requires : goal.share-requires
+share-requires g c =
+    let m = c.in-Ok.imported.mounted in
+    let new = c.in-Ok.imported.device.disk in
+    let limit = (c.in-Ok.ensures.explained 0).exact.charges.limit in
+    subst (λ d. StartsBehind d.disk m new) (sym c.of-before.ensures)
+    (record { starts = subst (λ n. StartsRun c.in-Some.device.disk n new m) (sym limit) (c.in-Ok.ensures.starts refl); own = c.in-Ok.ensures.own refl })
+
+pub returns-clause-imports : goal.returns-clause-imports
+returns-clause-imports g c =
     let left = c.in-Err.ensures in (
       c.in-Some.device,
       c.in-Some.ensures.device,
@@ -26,6 +37,7 @@ returns-in-Err-clause-imports g c =
             device = c.in-Err.device;
             told_is = c.give_back.ensures.refused;
             place_is = c.give_back.ensures.device;
+            still = λ past was. (import_left past c.in-Some.device.disk c.in-Err.device.disk was (c.in-Err.ensures.own refl)).left;
             left = inl (record { size = left.given_back; reason = left.reason refl; untouched = left.untouched; unchanged = left.unchanged refl; stopped = left.stopped refl });
           })),
     )

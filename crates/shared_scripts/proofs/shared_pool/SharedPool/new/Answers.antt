@@ -6,6 +6,7 @@ use Rattle.shared_scripts.proofs.shared_pool.SharedPool.new.Goals as goal
 
 pub returns-in-Ok-clause-shared : goal.returns-in-Ok-clause-shared
 returns-in-Ok-clause-shared c = record {
+  opened = c.in-Ok.ensures.opened;
   shown = c.in-Ok.ensures.shown;
   moment_is = c.in-Ok.ensures.moment;
   onward = subst (λ s. GrowsTo (opening_view c.in-Ok.pool) (seen s)) (sym c.leave-last.ensures) c.handle.ensures.onward;
