@@ -97,7 +97,8 @@ impl<'r, W: Wait> SharedSession<'r, W> {
 
     fn create(&mut self, name: &Bytes, guid: u64) -> Answer
         ensures creates { Creates name.now guid self.old result self.new.place }
-        ensures kept { result ≡ Answer.Reply Reply.Done → StartsRunOn name.now self.old self.new.place }
+        ensures kept { result ≡ Answer.Reply Reply.Done
+            → StartsRunOn name.now self.old self.new.place }
         ensures same_run { IsSameRun self.old self.new }
     {
         let device = match self.take_or_make_device() {
