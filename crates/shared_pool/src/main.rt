@@ -7,7 +7,7 @@ use base::{
     Reply, Step,
 };
 use device_model::MemDevice;
-use import_replay::{create, import};
+use import_replay::create;
 use pool_threads::{Handle, Pool};
 use std::alloc::Global;
 use std::sync::Wait;
@@ -77,8 +77,7 @@ fn main(rt: HostRuntime) -> Result<()> {
 fn new_pool(alloc: Global) -> Result<Pool<MemDevice>, PoolError> {
     let disk = MemDevice::new(alloc, 16_384)?;
     let disk = create(disk, b"tank", 77, 0).map_err(|(error, _)| error)?;
-    let imported = import(alloc, disk, 1_048_576, 0).map_err(|(error, _)| error)?;
-    Pool::share(imported, 0).map_err(|(error, _)| error)
+    Pool::open(alloc, disk, 1_048_576, 0).map_err(|(error, _)| error)
 }
 
 // Each line is written by a thread of its own. The receipts are in the order of the lines.
