@@ -137,9 +137,10 @@ pub record StartsBehind (old : Disk) (m : Mounted) (new : Disk) : Type 0 where
   pub starts : StartsRun old (shown_of_import m).dirty_max new m
   pub own : KeepsOwn old new
 
--- the view shows what one import of this disk with this moment mounted, and nothing has happened since
-pub record ShowsImport (moment : ℕ) (old : Disk) (v : View) : Type 0 where
+-- The view shows what one import of this disk mounted, and nothing has happened since. No view shows the disk that it left, nor its moment.
+pub record ShowsImport (old : Disk) (v : View) : Type 0 where
   pub disk : Disk
+  pub moment : ℕ
   pub mounted : Mounted
   pub synced : IsImportSynced old disk moment mounted
   pub shown : (state_of v).shown ≡ shown_of_import mounted

@@ -1,5 +1,6 @@
 //! A pool under a lock.
 ghost use Rattle.std.specs.Prelude.{◌≡◌, ◌⊎◌, IfErr, IfOk, IfSome, IsTrue};
+ghost use Rattle.base.specs.disk.Calls.{with_refusal};
 ghost use Rattle.import_replay.specs.ImportRefusals.{IsImportRefusal};
 ghost use Rattle.import_replay.specs.Mounts.{shown_of_import};
 ghost use Rattle.pool_core.specs.States.{device_of, shown};
@@ -149,9 +150,11 @@ impl<D: SectorDevice> Pool<D> {
         ensures opened { IfOk result (λ p.
             OpensBehind (IsTrue D.keeps_model) (D.disk device) dirty_max (opening_view p)) }
         ensures imported { IsTrue D.keeps_model
-            → IfOk result (λ p. ShowsImport moment (D.disk device) (opening_view p)) }
+            → IfOk result (λ p. ShowsImport (D.disk device) (opening_view p)) }
         ensures moment { IfOk result (λ p. p.moment ≡ moment) }
         ensures refused { IfErr result (λ e. IsImportRefusal (D.size device) dirty_max e.0) }
+        ensures counted { IfErr result
+            (λ e. D.refused e.1 ≡ with_refusal e.0 (D.refused device)) }
         ensures untouched { IfErr result
             (λ e. (e.0 ≡ PoolError.BadGeometry) ⊎ (e.0 ≡ PoolError.BadRange) → e.1 ≡ device) }
         ensures given_back { IsTrue D.keeps_model

@@ -127,11 +127,13 @@ import_keeps dirty_max moment old told new (device, taken, imports) past run =
 
 -- a fair crash leaves it, and so does one with more letters than there are unflushed writes
 module _ (pieces : List Piece) (old new : Place) (device : MemState) (taken : IsTaken old (Some device)) where
-  pub crash_keeps : MayLeave device.disk.now (crash_image pieces device.disk.now) → new ≡ Device (after_crash pieces device) → KeepsOverCrash pieces old new
-  crash_keeps may is past run = inr (taken_left past (λ later d. IsFairCrash pieces later d → IsRunIn later new) old device run taken (λ later left. ∣ (λ fair. subst (λ (place : Place). IsRunIn later place) (sym is) (left_crashed later device.disk (crash_image pieces device.disk.now) may fair left)) ∣₁))
+  pub crash_keeps : (told : Answer) → MayLeave device.disk.now (crash_image pieces device.disk.now) → new ≡ Device (after_crash pieces device) → KeepsOverCrash pieces old (Ok told) new
+  crash_keeps told may is past run =
+      taken_left past (λ later d. IsFairCrash pieces later d → IsRunIn later new) old device run taken
+      (λ later left. ∣ (λ fair. subst (λ (place : Place). IsRunIn later place) (sym is) (left_crashed later device.disk (crash_image pieces device.disk.now) may fair left)) ∣₁)
 
-  pub short_keeps : new ≡ Device device → KeepsOverCrash pieces old new
-  short_keeps is past run = inr (taken_left past (λ later d. IsFairCrash pieces later d → IsRunIn later new) old device run taken (λ later left. ∣ (λ fair. subst (λ (place : Place). IsRunIn later place) (sym is) left) ∣₁))
+  pub short_keeps : (e : BadCommand) → new ≡ Device device → KeepsOverCrash pieces old (Err e) new
+  short_keeps e is past run = inr (taken_left past (λ later d. IsRunIn later new) old device run taken (λ later left. ∣ subst (λ (place : Place). IsRunIn later place) (sym is) left ∣₁))
 
 -- a run of a place that stays goes on there
 still_keeps : (old new : Place) → new ≡ old → KeepsOn old new

@@ -1,5 +1,5 @@
 -- What a session on a shared pool keeps of its run over creates, imports, crashes and commands, whatever moment the power goes.
-use Rattle.std.specs.Prelude.{ℕ, ◌≡◌, ◌⊎◌, List, None, Some, Result, Ok, IsOk, IsTrue}
+use Rattle.std.specs.Prelude.{ℕ, ◌≡◌, ◌⊎◌, List, None, Some, Result, Ok, Err, IsOk, IsTrue}
 use Rattle.base.specs.declared.piece.Piece.{Piece}
 use Rattle.base.specs.declared.step.Reply.TheVariants.{Done}
 use Rattle.base.specs.disk.Disk.{moments}
@@ -76,9 +76,10 @@ FindsRun earlier dirty_max (Pool shared) = BeginsShared earlier dirty_max shared
 abbrev pub KeepsOverImport : ℕ → Place → Place → Type 0
 KeepsOverImport dirty_max old new = (past : Past) → IsRunIn past old → ∥ TakesFromRun past old (λ later device. FindsRun later dirty_max new) ∥₁
 
--- what each run left is left by a crash that is fair; a pool may end without its device
-abbrev pub KeepsOverCrash : List Piece → Place → Place → Type 0
-KeepsOverCrash pieces old new = (past : Past) → IsRunIn past old → IsTaken old None ⊎ ∥ TakesFromRun past old (λ later device. IsFairCrash pieces later device → IsRunIn later new) ∥₁
+-- what each run left is left by a crash that is fair, and by one that is none, where a device is found
+abbrev pub KeepsOverCrash : List Piece → Place → Result Answer BadCommand → Place → Type 0
+KeepsOverCrash pieces old (Ok told) new = (past : Past) → IsRunIn past old → ∥ TakesFromRun past old (λ later device. IsFairCrash pieces later device → IsRunIn later new) ∥₁
+KeepsOverCrash pieces old (Err e) new = (past : Past) → IsRunIn past old → (new ≡ Nothing) ⊎ ∥ TakesFromRun past old (λ later device. IsRunIn later new) ∥₁
 
 module _ {W : Type 0} where
   -- a create leaves a new pool, in whose past nothing happened, where no write of before counts as one of its own: as on a new device
@@ -89,7 +90,7 @@ module _ {W : Type 0} where
   abbrev pub KeepsRun : Command → SharedSession W → Result Answer BadCommand → SharedSession W → Type 0
   KeepsRun (command.Create name guid) s (Ok told) new = told ≡ answer.Reply Done → StartsRunOn name s new.place
   KeepsRun (command.Import dirty_max) s (Ok told) new = KeepsOverImport dirty_max s.place new.place
-  KeepsRun (command.Crash pieces) s told new = KeepsOverCrash pieces.items s.place new.place
+  KeepsRun (command.Crash pieces) s told new = KeepsOverCrash pieces.items s.place told new.place
   KeepsRun (command.Fail fault n) s told new = KeepsOn s.place new.place
   KeepsRun (command.Pool asked) s told new = KeepsOn s.place new.place
   KeepsRun asked s told new = Unit {0}

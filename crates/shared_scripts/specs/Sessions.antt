@@ -5,11 +5,13 @@ use Rattle.base.specs.declared.error.PoolError.TheVariants.{NoMemory}
 use Rattle.base.specs.declared.piece.Piece.{Piece}
 use Rattle.base.specs.declared.step.Reply.{Reply}
 use Rattle.base.specs.declared.step.Reply.TheVariants.{Done, Refused}
-use Rattle.base.specs.disk.Disk.{CrashLeaves, Disk}
+use Rattle.base.specs.disk.Disk.{CrashLeaves, Disk, disk_size}
 use Rattle.device_model.specs.MemState.{MemState, after_crash, new_state}
 use Rattle.device_model.specs.Plans.{with_plan}
 use Rattle.device_model.specs.declared.fault.Fault.{Fault}
+use Rattle.import_replay.specs.CreateRefusals.{IsCreateRefusal}
 use Rattle.import_replay.specs.Creations.{IsNewPool}
+use Rattle.import_replay.specs.ImportRefusals.{IsImportRefusal}
 use Rattle.import_replay.specs.Mounts.{shown_of_import}
 use Rattle.import_replay.specs.declared.mounted.Mounted.{Mounted}
 use Rattle.pool_threads.specs.Handles.{LeavesSame, OpensBehind, opening_view}
@@ -67,10 +69,11 @@ module _ {W : Type 0} where
   abbrev pub IsDeviceFor : SharedSession W → MemState → Type 0
   IsDeviceFor s device = IsTaken s.place (Some device) ⊎ (IsTaken s.place None × (device ≡ new_state (s.size / 512)))
 
-  -- a create leaves a new pool of this name, guid and the session's moment, whatever a crash makes of it; or it is refused, and gives the device back
+  -- A create leaves a new pool of this name, guid and the session's moment, whatever a crash makes of it. Or it is refused, as a create of this size and
+  -- name is, and gives the device back.
   abbrev pub Creates : List ℕ → ℕ → SharedSession W → Answer → Place → Type 0
   Creates name guid s (answer.Reply Done) (Device new) = CrashLeaves (λ image. IsNewPool image name guid s.moment) new.disk.now
-  Creates name guid s (answer.Reply (Refused e)) (Device new) = (device : MemState) × IsDeviceFor s device × IsLeftByCreate device e new
+  Creates name guid s (answer.Reply (Refused e)) (Device new) = (device : MemState) × IsDeviceFor s device × IsCreateRefusal (disk_size device.disk) name e × IsLeftByCreate device e new
   Creates name guid s (answer.Reply (Refused e)) Nothing = IsTaken s.place None
   Creates name guid s told new = ⊥
 
@@ -98,14 +101,15 @@ pub record IsImportShared (dirty_max moment : ℕ) (old : MemState) (told : Answ
   pub imported : IsImportRun dirty_max moment old device mounted
   pub shares : SharesMounted old.disk mounted moment told new
 
--- A refusal is told, and there is the device: as the refused import left it, or, where there was no memory to share the pool, as it was imported.
+-- A refusal is told, and there is the device: as the import left it, which is refused so, or, where there was no memory to share the pool, as it was
+-- imported.
 pub record IsImportRefused (dirty_max moment : ℕ) (old : MemState) (told : Answer) (new : Place) : Type 0 where
   pub error : PoolError
   pub device : MemState
   pub told_is : told ≡ answer.Reply (Refused error)
   pub place_is : new ≡ Device device
   pub still : LeavesSame old.disk device.disk
-  pub left : IsLeftByImport moment old error device ⊎ ((error ≡ NoMemory) × ((mounted : Mounted) × IsImportRun dirty_max moment old device mounted))
+  pub left : (IsImportRefusal (disk_size old.disk) dirty_max error × IsLeftByImport moment old error device) ⊎ ((error ≡ NoMemory) × ((mounted : Mounted) × IsImportRun dirty_max moment old device mounted))
 
 -- so it does, or it is refused
 abbrev pub Imports : ℕ → ℕ → MemState → Answer → Place → Type 0
@@ -131,6 +135,10 @@ PlansFault fault n old told new = ⊥
 abbrev pub IsTooShort : List Piece → Place → MemState → Type 0
 IsTooShort pieces new device = (length device.disk.now.unflushed < length pieces) × (new ≡ Device device)
 
+-- no device is found in a place, and nothing is there then
+abbrev pub FindsNoDevice : Place → Place → Type 0
+FindsNoDevice old new = IsTaken old None × (new ≡ Nothing)
+
 -- the device of a place is taken, and this holds of it
 abbrev pub TakesDevice : Place → (MemState → Type 0) → Type 0
 TakesDevice place P = (device : MemState) × IsTaken place (Some device) × P device
@@ -145,7 +153,7 @@ module _ {W : Type 0} where
   Does (command.Fail fault n) s (Ok told) new = PlansFault fault n s.place told new.place
   Does (command.Pool asked) s (Ok told) new = AsksIn W asked s.moment s.place told new.place
   Does (command.Create name guid) s (Err e) new = ⊥
-  Does (command.Import dirty_max) s (Err e) new = IsTaken s.place None
-  Does (command.Crash pieces) s (Err e) new = IsTaken s.place None ⊎ TakesDevice s.place (IsTooShort pieces.items new.place)
+  Does (command.Import dirty_max) s (Err e) new = FindsNoDevice s.place new.place
+  Does (command.Crash pieces) s (Err e) new = FindsNoDevice s.place new.place ⊎ TakesDevice s.place (IsTooShort pieces.items new.place)
   Does (command.Fail fault n) s (Err e) new = (has_device s.place ≡ false) × (new.place ≡ s.place)
   Does (command.Pool asked) s (Err e) new = (has_pool s.place ≡ false) × (new.place ≡ s.place)

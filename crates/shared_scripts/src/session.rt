@@ -35,7 +35,7 @@ impl<'r, W: Wait> SharedSession<'r, W> {
     ghost use Rattle.pool_threads.specs.Handles.{StartsBehind};
     ghost use Rattle.shared_scripts.specs.Kept.{KeepsOverCrash, KeepsRun, StartsRunOn};
     ghost use Rattle.shared_scripts.specs.Places.{IsTaken, has_device, has_pool};
-    ghost use Rattle.shared_scripts.specs.Sessions.{AsksIn, Crashes, Creates, Does, Imports, IsDeviceFor, IsGivenBack, IsNewSession, IsSameRun, IsTooShort, PlansFault, SharesMounted, TakesDevice, has_what_it_needs};
+    ghost use Rattle.shared_scripts.specs.Sessions.{AsksIn, Crashes, Creates, Does, FindsNoDevice, Imports, IsDeviceFor, IsGivenBack, IsNewSession, IsSameRun, IsTooShort, PlansFault, SharesMounted, TakesDevice, has_what_it_needs};
 
     /// A session with no device yet. A new device has `size` div 512 sectors, and each uberblock this moment.
     pub fn new(rt: &'r W, alloc: Global, size: u64, moment: u64) -> Self
@@ -128,7 +128,7 @@ impl<'r, W: Wait> SharedSession<'r, W> {
         ensures needs { IsOk result → IsTrue (has_device self.old.place) }
         ensures imports { IfOk result (λ told. TakesDevice self.old.place
             (λ device. Imports dirty_max self.old.moment device told self.new.place)) }
-        ensures no_device { IsErr result → IsTaken self.old.place None }
+        ensures no_device { IsErr result → FindsNoDevice self.old.place self.new.place }
         ensures same_run { IsSameRun self.old self.new }
     {
         let Some(device) = self.take_device() else {
@@ -163,9 +163,9 @@ impl<'r, W: Wait> SharedSession<'r, W> {
         ensures needs { IsOk result → IsTrue (has_device self.old.place) }
         ensures crashes { IfOk result (λ told. TakesDevice self.old.place
             (λ device. Crashes pieces.now device told self.new.place)) }
-        ensures no_crash { IsErr result → IsTaken self.old.place None
+        ensures no_crash { IsErr result → FindsNoDevice self.old.place self.new.place
             ⊎ TakesDevice self.old.place (IsTooShort pieces.now self.new.place) }
-        ensures kept { KeepsOverCrash pieces.now self.old.place self.new.place }
+        ensures kept { KeepsOverCrash pieces.now self.old.place result self.new.place }
         ensures same_run { IsSameRun self.old self.new }
     {
         let Some(device) = self.take_device() else {

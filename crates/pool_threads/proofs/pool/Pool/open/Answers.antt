@@ -1,4 +1,5 @@
-use Rattle.std.proofs.Common.{◌∙◌, inl, inr, sym, subst}
+use Rattle.base.specs.disk.Calls.{with_refusal}
+use Rattle.std.proofs.Common.{◌∙◌, ap, inl, inr, sym, subst}
 use Rattle.import_replay.specs.ImportSyncs.{IsImportSynced}
 use Rattle.import_replay.specs.RunStarts.{StartsRun}
 use Rattle.std.specs.Prelude.{IsTrue}
@@ -26,6 +27,7 @@ returns-in-Ok-share_behind-clause-opened g c =
 pub returns-in-Ok-share_behind-clause-imported : goal.returns-in-Ok-share_behind-clause-imported
 returns-in-Ok-share_behind-clause-imported g c = λ keeps. record {
   disk = g.D.SectorDevice.disk c.in-Ok.imported.device;
+  moment = c.args.moment;
   mounted = c.in-Ok.imported.mounted;
   synced = c.in-Ok.ensures.synced keeps;
   shown = c.in-Ok-share_behind.ensures.shown;
@@ -54,3 +56,8 @@ returns-clause-still_left g c = λ keeps.
     let same = c.into_device.ensures ∙ c.in-Err-share_behind.ensures.refused.1 in
     subst (λ d. LeavesSame (disk c.args.device) (disk d)) (sym same)
     (λ past was. (import_left past (disk c.args.device) (disk c.in-Ok.imported.device) was (c.in-Ok.ensures.own keeps)).left)
+
+pub returns-clause-counted : goal.returns-clause-counted
+returns-clause-counted g c =
+    let refused = g.D.SectorDevice.refused in
+    ap refused (c.into_device.ensures ∙ c.in-Err-share_behind.ensures.refused.1) ∙ c.in-Ok.ensures.count ∙ ap (λ e. with_refusal e (refused c.args.device)) (sym c.in-Err-share_behind.ensures.refused.0)
