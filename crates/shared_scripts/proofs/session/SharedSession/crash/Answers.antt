@@ -1,4 +1,5 @@
 use Rattle.std.proofs.Common.{ap, refl}
+use Rattle.scripts.specs.declared.answer.Answer.TheVariants.{Crashed}
 use Rattle.shared_scripts.specs.declared.session.Place.TheVariants.{Device}
 use Rattle.shared_scripts.proofs.Kept.{crash_keeps, short_keeps}
 use Rattle.shared_scripts.proofs.session.SharedSession.crash.Goals as goal
@@ -7,4 +8,4 @@ pub returns-then-unflushed-pieces-clause-kept : goal.returns-then-unflushed-piec
 returns-then-unflushed-pieces-clause-kept g c = short_keeps c.args.pieces.now c.args.self.now.place _ c.in-Some.device c.in-Some.ensures.device _ refl
 
 pub returns-clause-kept : goal.returns-clause-kept
-returns-clause-kept g c = crash_keeps c.args.pieces.now c.args.self.now.place _ c.in-Some.device c.in-Some.ensures.device _ c.crash.ensures.possible (ap (λ d. Device d) c.crash.ensures.left)
+returns-clause-kept g c = crash_keeps c.args.pieces.now c.args.self.now.place _ c.in-Some.device c.in-Some.ensures.device (Crashed 0) c.crash.ensures.possible (ap (λ d. Device d) c.crash.ensures.left)
