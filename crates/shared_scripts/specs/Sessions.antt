@@ -5,6 +5,7 @@ use Rattle.base.specs.declared.error.PoolError.TheVariants.{NoMemory}
 use Rattle.base.specs.declared.piece.Piece.{Piece}
 use Rattle.base.specs.declared.step.Reply.{Reply}
 use Rattle.base.specs.declared.step.Reply.TheVariants.{Done, Refused}
+use Rattle.base.specs.disk.Calls.{with_refusal}
 use Rattle.base.specs.disk.Disk.{CrashLeaves, Disk, disk_size}
 use Rattle.device_model.specs.MemState.{MemState, after_crash, new_state}
 use Rattle.device_model.specs.Plans.{with_plan}
@@ -64,16 +65,22 @@ abbrev pub AsksIn : (W : Type 0) → PoolCommand → ℕ → Place → Answer �
 AsksIn W asked moment (Pool old) (answer.Reply reply) (Pool new) = AsksShared W asked moment old reply new
 AsksIn W asked moment old told new = ⊥
 
+-- a device that refused a call has counted it, where this is what it tells
+abbrev pub IsCounted : PoolError → MemState → MemState → Type 0
+IsCounted e old new = new.refused ≡ with_refusal e old.refused
+
 module _ {W : Type 0} where
   -- the device that a create works on: the one that is taken, or a new one of zeros
   abbrev pub IsDeviceFor : SharedSession W → MemState → Type 0
   IsDeviceFor s device = IsTaken s.place (Some device) ⊎ (IsTaken s.place None × (device ≡ new_state (s.size / 512)))
 
-  -- A create leaves a new pool of this name, guid and the session's moment, whatever a crash makes of it. Or it is refused, as a create of this size and
-  -- name is, and gives the device back.
+  -- A create leaves a new pool of this name, guid and the session's moment on a device of the same size, whatever a crash makes of it. Or it is refused, as
+  -- a create of this size and name is, and gives the device back.
   abbrev pub Creates : List ℕ → ℕ → SharedSession W → Answer → Place → Type 0
-  Creates name guid s (answer.Reply Done) (Device new) = CrashLeaves (λ image. IsNewPool image name guid s.moment) new.disk.now
-  Creates name guid s (answer.Reply (Refused e)) (Device new) = (device : MemState) × IsDeviceFor s device × IsCreateRefusal (disk_size device.disk) name e × IsLeftByCreate device e new
+  Creates name guid s (answer.Reply Done) (Device new) =
+      (device : MemState) × IsDeviceFor s device × (disk_size new.disk ≡ disk_size device.disk) × CrashLeaves (λ image. IsNewPool image name guid s.moment) new.disk.now
+  Creates name guid s (answer.Reply (Refused e)) (Device new) =
+      (device : MemState) × IsDeviceFor s device × IsCreateRefusal (disk_size device.disk) name e × IsCounted e device new × IsLeftByCreate device e new
   Creates name guid s (answer.Reply (Refused e)) Nothing = IsTaken s.place None
   Creates name guid s told new = ⊥
 
@@ -109,7 +116,7 @@ pub record IsImportRefused (dirty_max moment : ℕ) (old : MemState) (told : Ans
   pub told_is : told ≡ answer.Reply (Refused error)
   pub place_is : new ≡ Device device
   pub still : LeavesSame old.disk device.disk
-  pub left : (IsImportRefusal (disk_size old.disk) dirty_max error × IsLeftByImport moment old error device) ⊎ ((error ≡ NoMemory) × ((mounted : Mounted) × IsImportRun dirty_max moment old device mounted))
+  pub left : (IsImportRefusal (disk_size old.disk) dirty_max error × IsCounted error old device × IsLeftByImport moment old error device) ⊎ ((error ≡ NoMemory) × ((mounted : Mounted) × IsImportRun dirty_max moment old device mounted))
 
 -- so it does, or it is refused
 abbrev pub Imports : ℕ → ℕ → MemState → Answer → Place → Type 0

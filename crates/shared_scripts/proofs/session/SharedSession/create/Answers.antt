@@ -15,3 +15,11 @@ returns-in-Ok-create-clause-kept g c = λ done. (
       let own : IsOwnWith made (moments start) c.args.guid (first_contents c.as_slice.result.now) = c.in-Ok-create.ensures.own refl earlier in
       new_left c.args.name.now c.args.guid start made (subst (λ (name : List _). IsOwnWith made (moments start) c.args.guid (first_contents name)) c.as_slice.ensures own),
 )
+
+pub returns-in-Ok-create-clause-creates : goal.returns-in-Ok-create-clause-creates
+returns-in-Ok-create-clause-creates g c = (
+  c.in-Ok.device,
+  c.in-Ok.ensures.device,
+  c.in-Ok-create.ensures.size,
+  rw (← c.as_slice.ensures, ← c.take_or_make_device.ensures.same_run.0) (c.in-Ok-create.ensures.written refl),
+)

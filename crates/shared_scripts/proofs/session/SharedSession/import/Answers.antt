@@ -38,6 +38,6 @@ returns-clause-imports g c =
             told_is = c.give_back.ensures.refused;
             place_is = c.give_back.ensures.device;
             still = λ past was. (import_left past c.in-Some.device.disk c.in-Err.device.disk was (c.in-Err.ensures.own refl)).left;
-            left = inl (left.refused, record { size = left.given_back; reason = left.reason refl; untouched = left.untouched; unchanged = left.unchanged refl; stopped = left.stopped refl });
+            left = inl (left.refused, left.counted, record { size = left.given_back; reason = left.reason refl; untouched = left.untouched; unchanged = left.unchanged refl; stopped = left.stopped refl });
           })),
     )
