@@ -1,6 +1,6 @@
 -- What is left of a pool goes on over imports, steps and crashes.
 use Rattle.std.proofs.Common.{arith, ◌≡◌, ◌∙◌, inl, inr, ℕ, ◌++◌, List, [], ◌∷◌, length, refl, sym, ap, subst, append_assoc}
-use Rattle.std.specs.Prelude.{Result, IfErr, IfOk, IsTrue, OnErr, Ok, Err}
+use Rattle.std.specs.Prelude.{IfErr, IfOk, IsTrue, OnErr, Ok, Err}
 use Rattle.std.specs.Global.{Vec}
 use Rattle.std.proofs.Math.Logic.{∥∥₁_map}
 use Rattle.std.proofs.lemmas.List.{append-nil, nil_from_length}
