@@ -1,5 +1,5 @@
 -- Closing a group, and marking it quiesced, step by step.
-use Rattle.std.proofs.Common.{ℕ, ◌≡◌, ◌+◌, ◌↔◌, ◌∙◌, ◌≤◌, Bool, true, false, ◌||◌, nat_le, refl, sym, arith}
+use Rattle.std.proofs.Common.{ℕ, ◌≡◌, ◌+◌, ◌↔◌, ◌∙◌, ◌≤◌, Bool, true, false, ◌||◌, List, nat_le, refl, sym, arith}
 use Rattle.std.specs.Prelude.{Some, None, Result, Ok, Err, IfErr, IfOk, IsErr, IsTrue, OnErr, OnOk, is_some, not, ◌==◌}
 use Rattle.std.specs.Option.{option_map_or}
 use Rattle.base.specs.declared.names.Group.{Group}
@@ -7,10 +7,14 @@ use Rattle.base.specs.declared.error.PoolError.{PoolError}
 use Rattle.base.specs.declared.error.PoolError.TheVariants as error
 use Rattle.base.specs.formats.Limits.{last_number}
 use Rattle.base.specs.steps.Shown.{Shown}
-use Rattle.base.specs.steps.Groups.{hold_count}
+use Rattle.base.specs.steps.Groups.{Admission, hold_count}
 use Rattle.base.specs.steps.Refusals.{close_refusal, quiesce_refusal, quiescing_group}
 use Rattle.base.specs.steps.Steps.{line_after_close, line_after_quiesce, CloseGroup, MarkQuiesced}
-use Rattle.groups.specs.CountedLines.{CountedLine, after_close, after_quiesce, is_close_refused, is_quiesce_refused}
+use Rattle.groups.specs.CountedLines.{CountedLine, IsCounted, after_close, after_quiesce, is_close_refused, is_quiesce_refused}
+use Rattle.groups.specs.Laws.{AreHoldsExact}
+use Rattle.throttle.specs.DirtyBytes.{DirtyBytes}
+use Rattle.throttle.proofs.ShownSums.{sums_stay_on_lines}
+use Rattle.pool_core.specs.Accounts.{AreAccounted}
 use Rattle.pool_core.specs.Meets.{Meets}
 use Rattle.pool_core.specs.Tables.{result_map}
 use Rattle.pool_core.proofs.Flags.{same_test}
@@ -42,6 +46,18 @@ close_ends (Err e) old new s h line refused error unchanged closed is =
 pub close_moves : (answer : Result Group PoolError) (old new : CountedLine) → OnErr answer (new ≡ old) → OnOk answer (new ≡ after_close old) → (new.line.synced ≡ old.line.synced) × (old.line.open_group ≤ new.line.open_group)
 close_moves (Ok group) old new unchanged closed = rw closed (refl, omega arith)
 close_moves (Err e) old new unchanged closed = rw unchanged (refl, omega arith)
+
+-- where the line moves on with the same synced group, and its holds stay exact, the tables owe to one another what they did
+pub accounts_move_on : (ts : List Admission) (old new : CountedLine) (dirty : DirtyBytes) → IsCounted new × AreHoldsExact ts new → (new.line.synced ≡ old.line.synced) × (old.line.open_group ≤ new.line.open_group)
+    → AreAccounted ts old dirty → AreAccounted ts new dirty
+accounts_move_on ts old new dirty kept moves was = record {
+  counted = kept.0;
+  holds_exact = kept.1;
+  charged = (sums_stay_on_lines old.line dirty was.charged).moved new.line moves.0 moves.1;
+  open_charged = was.open_charged;
+  plans_built = was.plans_built;
+  plans_small = was.plans_small;
+}
 
 pub quiesce_suspended : (s : Shown) → s.suspended ≡ true → Meets MarkQuiesced (Err error.Suspended) s s
 quiesce_suspended s h = λ past. (past, rw h (refl, refl))

@@ -1,5 +1,5 @@
 -- The start of a sync, over whichever bytes the device has.
-use Rattle.std.specs.Prelude.{ℕ, ◌≡◌, List, map, Some, Result, Ok, IfOk}
+use Rattle.std.specs.Prelude.{ℕ, ◌≡◌, List, [], map, Some, Result, Ok, IfOk}
 use Rattle.base.specs.declared.error.PoolError.{PoolError}
 use Rattle.base.specs.declared.names.Group.{Group}
 use Rattle.base.specs.history.Contents.{Contents}
@@ -12,6 +12,8 @@ use Rattle.base.specs.stored.Stored.{IsHeld, NewTree}
 use Rattle.base.specs.tree.Places.{Place, has_block}
 use Rattle.base.specs.tree.Syncs.{written_places}
 use Rattle.pool_core.specs.Holds.{Leads, Told, held_with, start_reply, state_with}
+use Rattle.pool_core.specs.States.{IsOfNoDevice}
+use Rattle.pool_core.specs.StepAnswers.{StartsSync}
 use Rattle.pool_core.specs.Tables.{result_map}
 
 -- The blocks that a started sync of a group takes are those that its tree has at the places that it writes, one for each, in their order.
@@ -36,3 +38,11 @@ StartsInOrder answer old new = (now : List ℕ) (past : Past) → IsHeld (held_w
 -- it moves no byte, and plans what the running sync makes
 abbrev pub StartLeads : Result Group PoolError → (List ℕ → Told) → (List ℕ → Told) → Type 0
 StartLeads answer old new = (now : List ℕ) → Leads (start_reply answer) (old now) (new now)
+
+-- the start of a sync, from what is told of a pool before it to what is told after it
+pub record IsSyncStart (moment : ℕ) (answer : Result Group PoolError) (old new : List ℕ → Told) : Type 0 where
+  pub step : StartsSync moment answer (old []).shown (new []).shown
+  pub held : StartsHeld moment answer old new
+  pub order : StartsInOrder answer old new
+  pub leads : StartLeads answer old new
+  pub own : IsOfNoDevice answer

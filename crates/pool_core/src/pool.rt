@@ -169,8 +169,8 @@ impl Pool {
     ghost use Rattle.pool_core.specs.Meets.{ChecksBegin, ChecksCommit, FindsLength, MayCommit, Passes, RefusesIf};
     ghost use Rattle.pool_core.specs.Shows.{contents_after_oldest, plan_of, shown_after_tree, shown_objects, pool_shown};
     ghost use Rattle.pool_core.specs.States.{IsOfNoDevice, KeepsTree};
-    ghost use Rattle.pool_core.specs.StepAnswers.{Aborts, Begins, ClosesGroup, Commits, Locks, LocksAppend, MarksQuiesced, Reads, StartsSync, StepsSync, TellsDigest, TellsLength, Unlocks};
-    ghost use Rattle.pool_core.specs.SyncStarts.{StartLeads, StartsHeld, StartsInOrder};
+    ghost use Rattle.pool_core.specs.StepAnswers.{Aborts, Begins, ClosesGroup, Commits, Locks, LocksAppend, MarksQuiesced, Reads, StepsSync, TellsDigest, TellsLength, Unlocks};
+    ghost use Rattle.pool_core.specs.SyncStarts.{IsSyncStart};
     ghost use Rattle.pool_core.specs.Targets.{is_kept_covered};
 
     pub(crate) fn new(mounted: Mounted) -> Self
@@ -604,12 +604,8 @@ impl Pool {
 
     pub(crate) fn start_sync(&mut self, moment: u64) -> Result<Group, PoolError>
         ensures geometry { self.new.geometry ≡ self.old.geometry }
-        ensures step { StartsSync moment result (pool_shown self.old) (pool_shown self.new) }
-        ensures held { StartsHeld moment result (pool_told self.old) (pool_told self.new) }
-        ensures order { StartsInOrder result (pool_told self.old) (pool_told self.new) }
-        ensures leads { StartLeads result (pool_told self.old) (pool_told self.new) }
+        ensures start { IsSyncStart moment result (pool_told self.old) (pool_told self.new) }
         ensures unmoved { OnErr result (run_in self.new ≡ run_in self.old) }
-        ensures own { IsOfNoDevice result }
     {
         self.check_running()?;
         let group = self.check_start()?;

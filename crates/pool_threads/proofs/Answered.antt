@@ -15,16 +15,16 @@ use Rattle.base.proofs.steps.SeenRefusals.{refusals_are_seen, refusals_suspend}
 use Rattle.device_model.specs.declared.device.SectorDevice.{Ghosts}
 use Rattle.pool_threads.specs.declared.handle.Handle.{Handle}
 use Rattle.pool_threads.specs.Answers.{IsRefusal, Makes, Sees, state_seen}
-use Rattle.pool_threads.specs.Views.{GrowsTo, IsPoolStep, View, state_of}
+use Rattle.pool_threads.specs.Views.{GrowsTo, IsPoolStep, SeenPool, viewed_state}
 
 -- a step that a handle made is one between what it had seen and what it has seen
-pub between : (keeps : Type 0) (s : declared_step.Step) (r : declared_reply.Reply) (u v w : View) → GrowsTo u v → IsPoolStep keeps s r v w → ∥ IsMadeBetween ⊥ s r (state_of u) (state_of w) ∥₁
+pub between : (keeps : Type 0) (s : declared_step.Step) (r : declared_reply.Reply) (u v w : SeenPool) → GrowsTo u v → IsPoolStep keeps s r v w → ∥ IsMadeBetween ⊥ s r (viewed_state u) (viewed_state w) ∥₁
 between keeps s r u v w onward one =
     ∥∥₁_elim onward.goes_on ∥∥₁_prop (λ before.
     ∥∥₁_elim one.explained ∥∥₁_prop (λ x.
-    ∥∥₁_map {B = IsMadeBetween ⊥ s r (state_of u) (state_of w)} one.step (λ step. record {
-      old = state_of v;
-      new = state_of w;
+    ∥∥₁_map {B = IsMadeBetween ⊥ s r (viewed_state u) (viewed_state w)} one.step (λ step. record {
+      old = viewed_state v;
+      new = viewed_state w;
       no_earlier = before;
       no_later = ([], [], refl);
       explained = x;

@@ -8,12 +8,12 @@ use Rattle.pool_core.specs.States.{shown}
 use Rattle.pool_core.proofs.crash.SafeMoments.{kept_own, kept_safe}
 use Rattle.pool_threads.specs.declared.pool.Pool.{Pool}
 use Rattle.pool_threads.specs.Handles.{EndsIn, opening_view}
-use Rattle.pool_threads.specs.Views.{CrashRule, Explains, GrowsTo, IsFollowed, View, grows_onward, grows_same, since}
+use Rattle.pool_threads.specs.Views.{CrashRule, Explains, GrowsTo, IsFollowed, SeenPool, grows_onward, grows_same, since}
 use Rattle.word_lock.specs.declared.rule.Turn.{Turn}
 use Rattle.word_lock.specs.Turns.{IsTurnLine}
 
 module _ {Dev : Type 0} {G : Ghosts Dev} (p : Pool Dev G) (s : PoolState Dev G) where
-  pub ends_in : (v : View) → Explains s v → GrowsTo (opening_view p) v → EndsIn p s v
+  pub ends_in : (v : SeenPool) → Explains s v → GrowsTo (opening_view p) v → EndsIn p s v
   ends_in v x onward = record {
     explains = x;
     onward = onward;
@@ -24,6 +24,6 @@ module _ {Dev : Type 0} {G : Ghosts Dev} (p : Pool Dev G) (s : PoolState Dev G) 
   }
 
 -- turns that lead from one view to another go on from it
-pub line_grows : (v : View) (ts : List (ℕ × Turn View)) (w : View) → IsTurnLine GrowsTo v ts w → GrowsTo v w
+pub line_grows : (v : SeenPool) (ts : List (ℕ × Turn SeenPool)) (w : SeenPool) → IsTurnLine GrowsTo v ts w → GrowsTo v w
 line_grows v [] w same = subst (GrowsTo v) (sym same) (grows_same v)
 line_grows v (t ∷ ts) w (took, onward, rest) = grows_onward _ _ _ onward (line_grows t.1.left ts w rest)

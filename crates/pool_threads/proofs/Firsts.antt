@@ -19,9 +19,9 @@ use Rattle.device_model.specs.declared.device.SectorDevice.{Ghosts}
 use Rattle.pool_core.specs.declared.state.PoolState.{PoolState}
 use Rattle.pool_core.specs.NewStates.{IsExplainedAtFirst, IsHeldAtFirst, first_past}
 use Rattle.pool_core.specs.States.{shown, told}
-use Rattle.pool_threads.proofs.Notes.{state_of-view_of}
+use Rattle.pool_threads.proofs.Notes.{viewed_state-view_of}
 use Rattle.pool_threads.specs.Handles.{OpensBehind, StartsBehind, opening_view}
-use Rattle.pool_threads.specs.Views.{CrashRule, Explains, View, state_of, view_behind_disk, view_of}
+use Rattle.pool_threads.specs.Views.{CrashRule, Explains, SeenPool, view_behind_disk, view_of, viewed_state}
 use Rattle.pool_threads.specs.Views.CrashRule.{Behind, NotFollowed}
 use Rattle.round_trip.specs.Crashes.{IsLeft}
 use Rattle.pool_threads.specs.declared.pool.Pool.{Pool}
@@ -29,7 +29,7 @@ use Rattle.pool_threads.specs.declared.pool.Pool.{Pool}
 module _ {Dev : Type 0} {G : Ghosts Dev} (p : PoolState Dev G) where
   pub explained_at_first : ∥ IsExplainedAtFirst (shown p) ∥₁ → ∥ (IsTrue G.keeps_model → IsHeldAtFirst (told p)) ∥₁ → Explains p (view_of p (first_past (shown p) 0) NotFollowed)
   explained_at_first explained held = record {
-    state = state_of-view_of p (first_past (shown p) 0) NotFollowed;
+    state = viewed_state-view_of p (first_past (shown p) 0) NotFollowed;
     explained = ∥∥₁_map explained (λ x. x 0);
     held = λ keeps. ∥∥₁_map held (λ x. x keeps 0);
     safe = λ keeps created no. absurd no;
@@ -37,13 +37,13 @@ module _ {Dev : Type 0} {G : Ghosts Dev} (p : PoolState Dev G) where
 
 -- a pool that is shared with a view of this state shows it
 pub opens_with : {Dev : Type 0} {G : Ghosts Dev} {E : Type 0} (p : PoolState Dev G) (past : Past) (rule : CrashRule) (s : Shown) (r : Result (Pool Dev G) E) → IfOk r (λ q. opening_view q ≡ view_of p past rule) → shown p ≡ s
-    → IfOk r (λ q. (state_of (opening_view q)).shown ≡ s)
-opens_with p past rule s (Ok q) is same = ap (λ (v : View). (state_of v).shown) is ∙ ap (λ (a : State). a.shown) (state_of-view_of p past rule) ∙ same
+    → IfOk r (λ q. (viewed_state (opening_view q)).shown ≡ s)
+opens_with p past rule s (Ok q) is same = ap (λ (v : SeenPool). (viewed_state v).shown) is ∙ ap (λ (a : State). a.shown) (viewed_state-view_of p past rule) ∙ same
 opens_with p past rule s (Err e) is same = tt
 
 -- so it is of one behind a run
-pub shows_behind : {Dev : Type 0} {G : Ghosts Dev} {E : Type 0} (p : PoolState Dev G) (old : Disk) (s : Shown) (r : Result (Pool Dev G) E) (first : View) → first ≡ view_behind_disk p old
-    → IfOk r (λ q. opening_view q ≡ first) → shown p ≡ s → IfOk r (λ q. (state_of (opening_view q)).shown ≡ s)
+pub shows_behind : {Dev : Type 0} {G : Ghosts Dev} {E : Type 0} (p : PoolState Dev G) (old : Disk) (s : Shown) (r : Result (Pool Dev G) E) (first : SeenPool) → first ≡ view_behind_disk p old
+    → IfOk r (λ q. opening_view q ≡ first) → shown p ≡ s → IfOk r (λ q. (viewed_state (opening_view q)).shown ≡ s)
 shows_behind p old s (Ok q) first told is same = opens_with {E = Unit {0}} p (first_past (shown p) 0) (Behind old) s (Ok q) (is ∙ told) same
 shows_behind p old s (Err e) first told is same = tt
 
@@ -58,7 +58,7 @@ module _ {Dev : Type 0} {G : Ghosts Dev} (old : Disk) (m : Mounted) (p : PoolSta
   abbrev limit_of : Mounted → ℕ
   limit_of n = (shown_of_import n).dirty_max
 
-  abbrev behind : View
+  abbrev behind : SeenPool
   behind = view_behind_disk p old
 
   module _ (keeps : IsTrue G.keeps_model) (sized : disk_size (disk_of p) ≡ m.geometry) (begins : BeginsSafe p) (held : IsHeldAtFirst (told p)) where
@@ -69,7 +69,7 @@ module _ {Dev : Type 0} {G : Ghosts Dev} (old : Disk) (m : Mounted) (p : PoolSta
 
   pub explained_behind : (IsTrue G.keeps_model → disk_size (disk_of p) ≡ m.geometry) → BeginsSafe p → ∥ IsExplainedAtFirst (shown p) ∥₁ → ∥ (IsTrue G.keeps_model → IsHeldAtFirst (told p)) ∥₁ → Explains p behind
   explained_behind sized begins explained held = record {
-    state = state_of-view_of p (first_past (shown p) 0) (Behind old);
+    state = viewed_state-view_of p (first_past (shown p) 0) (Behind old);
     explained = ∥∥₁_map explained (λ x. x 0);
     held = λ keeps. ∥∥₁_map held (λ x. x keeps 0);
     safe = λ keeps created follows. ∥∥₁_elim follows ∥∥₁_prop (λ run. ∥∥₁_map held (λ x. safe_behind keeps (sized keeps) begins (x keeps) created run));
@@ -82,13 +82,13 @@ module _ {Dev : Type 0} {G : Ghosts Dev} (old : Disk) (m : Mounted) (p : PoolSta
   opens = record {
     rule = refl;
     anew = ap (λ (n : ℕ). new_past (shown p).contents 0 n) (ap (λ (s : Shown). s.dirty_max) shows);
-    shows = ap (λ (s : State). s.shown.contents) (state_of-view_of p (first_past (shown p) 0) (Behind old));
+    shows = ap (λ (s : State). s.shown.contents) (viewed_state-view_of p (first_past (shown p) 0) (Behind old));
     left = λ keeps past was.
         let f = left_flushed past old was in
         let start = (starts keeps).starts past.created f.guid f.contents f.own in
         subst (λ (c : Contents). IsLeftBy past c) (sym (first_contents ∙ start.contents_are)) f.left;
   }
 
-  pub opens_behind : {E : Type 0} (r : Result (Pool Dev G) E) (first : View) → first ≡ behind → IfOk r (λ q. opening_view q ≡ first) → IfOk r (λ q. OpensBehind (IsTrue G.keeps_model) old (limit_of m) (opening_view q))
-  opens_behind (Ok q) first told is = subst (λ (v : View). OpensBehind (IsTrue G.keeps_model) old (limit_of m) v) (sym (is ∙ told)) opens
+  pub opens_behind : {E : Type 0} (r : Result (Pool Dev G) E) (first : SeenPool) → first ≡ behind → IfOk r (λ q. opening_view q ≡ first) → IfOk r (λ q. OpensBehind (IsTrue G.keeps_model) old (limit_of m) (opening_view q))
+  opens_behind (Ok q) first told is = subst (λ (v : SeenPool). OpensBehind (IsTrue G.keeps_model) old (limit_of m) v) (sym (is ∙ told)) opens
   opens_behind (Err e) first told is = tt

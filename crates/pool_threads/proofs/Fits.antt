@@ -12,7 +12,7 @@ use Rattle.base.specs.steps.Runs.{Replies}
 use Rattle.base.specs.steps.Steps.{State}
 use Rattle.pool_core.specs.StepReplies.{IsStep}
 use Rattle.pool_threads.specs.Kinds.{fits, is_append_reply, is_begin_reply, is_commit_reply, is_done_reply, is_length_reply, is_lock_reply, is_read_reply}
-use Rattle.pool_threads.specs.Views.{IsPoolStep, View}
+use Rattle.pool_threads.specs.Views.{IsPoolStep, SeenPool}
 
 by_answer : {A : Type 0} (kind : declared_reply.Reply → Bool) (make : A → declared_reply.Reply) → ((a : A) → kind (make a) ≡ true) → ((e : PoolError) → kind (reply.Refused e) ≡ true)
     → (r : declared_reply.Reply) (holds : Result A PoolError → Type 0) → Replies make r holds → kind r ≡ true
@@ -30,5 +30,5 @@ step_fits (step.Read owner n range) r old new h = by_answer is_read_reply _ (λ 
 step_fits (step.Length n) r old new h = by_answer is_length_reply _ (λ a. refl) (λ e. refl) r _ h
 step_fits _ r old new h = refl
 
-pub fitting : (keeps : Type 0) (s : declared_step.Step) (r : declared_reply.Reply) (v w : View) → IsPoolStep keeps s r v w → fits s r ≡ true
+pub fitting : (keeps : Type 0) (s : declared_step.Step) (r : declared_reply.Reply) (v w : SeenPool) → IsPoolStep keeps s r v w → fits s r ≡ true
 fitting keeps s r v w one = ∥∥₁_elim one.step (Coded-set coded_bool (fits s r) true) (step_fits s r _ _)

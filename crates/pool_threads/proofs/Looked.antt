@@ -10,11 +10,11 @@ use Rattle.pool_core.specs.KeptSafe.{IsKeptSafe, OnDisk, on_disk}
 use Rattle.pool_core.specs.States.{told}
 use Rattle.pool_threads.specs.declared.handle.Handle.{Handle}
 use Rattle.pool_threads.specs.Handles.{HasLooked, StaysInPool, turns_of, view_seen}
-use Rattle.pool_threads.specs.Views.{Explains, GrowsTo, View, since}
+use Rattle.pool_threads.specs.Views.{Explains, GrowsTo, SeenPool, since}
 use Rattle.word_lock.specs.declared.rule.Turn.{Turn}
 use Rattle.word_lock.specs.Turns.{turn}
 
-module _ {Dev : Type 0} {G : Ghosts Dev} (old new : PoolState Dev G) (same : told new ≡ told old) (disk : on_disk new ≡ on_disk old) (v : View) where
+module _ {Dev : Type 0} {G : Ghosts Dev} (old new : PoolState Dev G) (same : told new ≡ told old) (disk : on_disk new ≡ on_disk old) (v : SeenPool) where
   pub explained_still : Explains old v → Explains new v
   explained_still x = record {
     state = x.state ∙ ap (λ (t : Told). state_with t v.past) (sym same);
@@ -24,10 +24,10 @@ module _ {Dev : Type 0} {G : Ghosts Dev} (old new : PoolState Dev G) (same : tol
   }
 
 -- from the handle before it has the lock, over the turns and the view of its seat that has it, to the handle after
-module _ {Dev : Type 0} {G : Ghosts Dev} (old new : Handle Dev G) (ts : List (Turn View)) (v : View) where
+module _ {Dev : Type 0} {G : Ghosts Dev} (old new : Handle Dev G) (ts : List (Turn SeenPool)) (v : SeenPool) where
   pub looked_by : StaysInPool old new → ts ≡ turns_of old → GrowsTo (view_seen old) v → view_seen new ≡ v → turns_of new ≡ ts ++ turn v (view_seen new) ∷ [] → HasLooked old new
   looked_by pool same onward still turned = record {
     same_pool = pool;
     onward = subst (GrowsTo (view_seen old)) (sym still) onward;
-    turn = turned ∙ ap (λ (us : List (Turn View)). us ++ turn v (view_seen new) ∷ []) same ∙ ap (λ (w : View). turns_of old ++ turn w (view_seen new) ∷ []) (sym still);
+    turn = turned ∙ ap (λ (us : List (Turn SeenPool)). us ++ turn v (view_seen new) ∷ []) same ∙ ap (λ (w : SeenPool). turns_of old ++ turn w (view_seen new) ∷ []) (sym still);
   }

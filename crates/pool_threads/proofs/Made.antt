@@ -1,30 +1,37 @@
 -- A step between a taken lock and its release is one turn of the seat.
-use Rattle.std.proofs.Common.{◌≡◌, ◌++◌, ◌∷◌, [], List, ap, subst, ◌∙◌}
+use Rattle.std.proofs.Common.{◌≡◌, ◌++◌, ◌∷◌, [], List, ap, subst, sym, ◌∙◌}
 use Rattle.base.specs.declared.step.Step as declared_step
 use Rattle.base.specs.declared.step.Reply as declared_reply
 use Rattle.word_lock.specs.declared.rule.Turn.{Turn}
 use Rattle.word_lock.specs.declared.seat.Seat.{Seat}
 use Rattle.word_lock.specs.Seats.{HasTurned, seen, turns}
 use Rattle.word_lock.specs.Turns.{turn}
-use Rattle.pool_threads.specs.Turns.{HasMade}
-use Rattle.pool_threads.specs.Views.{GrowsTo, IsPoolStep, View, grows_onward}
+use Rattle.pool_threads.specs.Turns.{HasMade, HasStepped}
+use Rattle.pool_threads.specs.Views.{GrowsTo, IsPoolStep, SeenPool, grows_onward}
 use Rattle.pool_threads.proofs.Turned.{grows_by_one}
 
+-- a step over what the seat had of the pool, whose view it put back
+pub stepped_by : {T R : Type 0} (keeps : Type 0) (s : declared_step.Step) (r : declared_reply.Reply) (holder new : Seat T R SeenPool) (had left : SeenPool)
+    → had ≡ seen holder → IsPoolStep keeps s r had left → seen new ≡ left → HasTurned holder new left → HasStepped keeps s r holder new
+stepped_by keeps s r holder new had left is made freed turned = record {
+  made = subst (λ (v : SeenPool). IsPoolStep keeps s r v (seen new)) is (subst (IsPoolStep keeps s r had) (sym freed) made);
+  turn = subst (HasTurned holder new) (sym freed) turned;
+}
+
 -- from the seat before it has the lock, to the one that has it, to the one after
-module _ {T R : Type 0} (keeps : Type 0) (s : declared_step.Step) (r : declared_reply.Reply) (old holder new : Seat T R View) where
-  pub made_by : turns holder ≡ turns old → GrowsTo (seen old) (seen holder) → IsPoolStep keeps s r (seen holder) (seen new) → HasTurned holder new (seen new)
-      → HasMade keeps s r old new
-  made_by same onward step turned = record {
+module _ {T R : Type 0} (keeps : Type 0) (s : declared_step.Step) (r : declared_reply.Reply) (old holder new : Seat T R SeenPool) where
+  pub made_by : turns holder ≡ turns old → GrowsTo (seen old) (seen holder) → HasStepped keeps s r holder new → HasMade keeps s r old new
+  made_by same onward step = record {
     took = seen holder;
     onward = onward;
-    made = step;
-    turn = turned ∙ ap (λ (ts : List (Turn View)). ts ++ turn (seen holder) (seen new) ∷ []) same;
+    made = step.made;
+    turn = step.turn ∙ ap (λ (ts : List (Turn SeenPool)). ts ++ turn (seen holder) (seen new) ∷ []) same;
   }
 
 -- what a seat has seen after a turn goes on from what it had seen
-pub grows_by_made : {T R : Type 0} {keeps : Type 0} {s : declared_step.Step} {r : declared_reply.Reply} {old new : Seat T R View} → HasMade keeps s r old new → GrowsTo (seen old) (seen new)
+pub grows_by_made : {T R : Type 0} {keeps : Type 0} {s : declared_step.Step} {r : declared_reply.Reply} {old new : Seat T R SeenPool} → HasMade keeps s r old new → GrowsTo (seen old) (seen new)
 grows_by_made {old} {new} m = grows_onward _ _ _ m.onward (grows_by_one _ _ _ _ _ _ (λ i. m.took) m.made)
 
 -- so it is of a seat that is the same one
-pub made_there : {T R : Type 0} (keeps : Type 0) (s : declared_step.Step) (r : declared_reply.Reply) (old : Seat T R View) {new there : Seat T R View} → new ≡ there → HasMade keeps s r old new → HasMade keeps s r old there
+pub made_there : {T R : Type 0} (keeps : Type 0) (s : declared_step.Step) (r : declared_reply.Reply) (old : Seat T R SeenPool) {new there : Seat T R SeenPool} → new ≡ there → HasMade keeps s r old new → HasMade keeps s r old there
 made_there keeps s r old is m = subst (HasMade keeps s r old) is m

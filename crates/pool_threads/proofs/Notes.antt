@@ -20,16 +20,16 @@ use Rattle.pool_core.specs.declared.state.PoolState.{PoolState}
 use Rattle.pool_core.specs.Holds.{state_with}
 use Rattle.pool_core.specs.Pointers.{lengths_after}
 use Rattle.pool_core.specs.States.{shown, told}
-use Rattle.pool_threads.specs.Noted.{length_in, listed, note, note_plan, plan_in, shown_in}
-use Rattle.pool_threads.specs.Views.{CrashRule, state_of, view_of}
+use Rattle.pool_threads.specs.Noted.{listed, listed_length, note, note_plan, plan_in, shown_in}
+use Rattle.pool_threads.specs.Views.{CrashRule, view_of, viewed_state}
 
 -- no object has a number past the last one
 abbrev AreOfObjects : (ℕ → Option ℕ) → Type 0
 AreOfObjects lengths = (n : ℕ) → object_count ≤ n → lengths n ≡ None
 
-length_in-listed : (lengths : ℕ → Option ℕ) → AreOfObjects lengths → length_in (listed lengths) ≡ lengths
+listed_length-listed : (lengths : ℕ → Option ℕ) → AreOfObjects lengths → listed_length (listed lengths) ≡ lengths
 unfolding listed
-length_in-listed lengths none = fun_ext (λ n. elim (cases_lt n object_count) [
+listed_length-listed lengths none = fun_ext (λ n. elim (cases_lt n object_count) [
   | inl low ↦ get_or-map-range_with_len lengths 0 object_count n n None low (omega arith)
   | inr past ↦ get_or_past (map lengths (range_with_len 0 object_count)) n None (omega (arith, past, length-map-range_with_len lengths 0 object_count)) ∙ sym (none n past)
 ])
@@ -40,12 +40,12 @@ AreOfPlan o = (plan : SyncPlan) → o ≡ Some plan → AreOfObjects plan.length
 plan_in-note_plan : (o : Option SyncPlan) → AreOfPlan o → option_map plan_in (option_map note_plan o) ≡ o
 unfolding AreOfPlan
 plan_in-note_plan None h = refl
-plan_in-note_plan (Some plan) h = ap (λ (l : ℕ → Option ℕ). Some (record plan { lengths = l })) (length_in-listed plan.lengths (h plan refl))
+plan_in-note_plan (Some plan) h = ap (λ (l : ℕ → Option ℕ). Some (record plan { lengths = l })) (listed_length-listed plan.lengths (h plan refl))
 
 shown_in-note : (s : Shown) → AreOfObjects s.lengths → AreOfPlan s.sync → shown_in (note s) ≡ s
 unfolding note shown_in
 shown_in-note s lengths plan =
-    ap (λ (l : ℕ → Option ℕ). record s { lengths = l; sync = option_map plan_in (option_map note_plan s.sync) }) (length_in-listed s.lengths lengths)
+    ap (λ (l : ℕ → Option ℕ). record s { lengths = l; sync = option_map plan_in (option_map note_plan s.sync) }) (listed_length-listed s.lengths lengths)
     ∙ ap (λ (o : Option SyncPlan). record s { sync = o }) (plan_in-note_plan s.sync plan)
 
 tree_is_of_objects : (tree : Tree) → AreOfObjects (lengths_of tree)
@@ -69,7 +69,7 @@ plan_is_of_objects (Some r) tree plan_of is plan some =
 
 module _ {Dev : Type 0} {G : Ghosts Dev} (p : PoolState Dev G) (past : Past) (rule : CrashRule) where
   -- the view of a pool tells its state
-  pub state_of-view_of : state_of (view_of p past rule) ≡ state_with (told p) past
-  state_of-view_of =
+  pub viewed_state-view_of : viewed_state (view_of p past rule) ≡ state_with (told p) past
+  viewed_state-view_of =
       ap (λ (s : Shown). record { shown = s; past = past })
       (shown_in-note (shown p) (tree_is_of_objects p.pool.tree) (plan_is_of_objects p.pool.sync p.pool.tree _ (λ r. refl)))

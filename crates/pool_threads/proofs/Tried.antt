@@ -15,7 +15,7 @@ use Rattle.device_model.specs.declared.device.SectorDevice.{Ghosts}
 use Rattle.pool_threads.specs.declared.handle.Handle.{Handle}
 use Rattle.pool_threads.specs.Answers.{IsRefusal, Makes, MakesAtLast, Sees, Tries, state_seen}
 use Rattle.pool_threads.specs.Handles.{StaysInPool}
-use Rattle.pool_threads.specs.Views.{IsPoolStep, View, grows_onward, grows_same}
+use Rattle.pool_threads.specs.Views.{IsPoolStep, SeenPool, grows_onward, grows_same}
 use Rattle.pool_threads.proofs.Answered.{between, refused_between}
 use Rattle.pool_threads.proofs.Made.{grows_by_made}
 use Rattle.word_lock.specs.declared.rule.Turn.{Turn}
@@ -28,16 +28,16 @@ stays_on old now new first later = (later.0 ∙ first.0, later.1 ∙ first.1)
 
 module _ {Dev : Type 0} {G : Ghosts Dev} (s : declared_step.Step) (e : PoolError) where
   pub no_tries : (h : Handle Dev G) → Tries s e h h
-  no_tries h = record { same_pool = (refl, refl); tried = record { tries = []; refused = All-nil (λ (t : Turn View). IsPoolStep (IsTrue G.keeps_model) s (reply.Refused e) t.took t.left); onward = grows_same (seen h.seat); turns = sym (append-nil (turns h.seat)) } }
+  no_tries h = record { same_pool = (refl, refl); tried = record { tries = []; refused = All-nil (λ (t : Turn SeenPool). IsPoolStep (IsTrue G.keeps_model) s (reply.Refused e) t.took t.left); onward = grows_same (seen h.seat); turns = sym (append-nil (turns h.seat)) } }
 
   pub one_more_try : {old now next : Handle Dev G} → Tries s e old now → Makes s (reply.Refused e) now next → Tries s e old next
   one_more_try {old} {now} {next} t m = record {
     same_pool = stays_on old now next t.same_pool m.same_pool;
     tried = record {
       tries = t.tried.tries ++ turn m.made.took (seen next.seat) ∷ [];
-      refused = All-push (λ (t : Turn View). IsPoolStep (IsTrue G.keeps_model) s (reply.Refused e) t.took t.left) t.tried.tries (turn m.made.took (seen next.seat)) t.tried.refused m.made.made;
+      refused = All-push (λ (t : Turn SeenPool). IsPoolStep (IsTrue G.keeps_model) s (reply.Refused e) t.took t.left) t.tried.tries (turn m.made.took (seen next.seat)) t.tried.refused m.made.made;
       onward = grows_onward _ _ _ t.tried.onward (grows_by_made m.made);
-      turns = m.made.turn ∙ ap (λ (ts : List (Turn View)). ts ++ turn m.made.took (seen next.seat) ∷ []) t.tried.turns ∙ append_assoc (turns old.seat) t.tried.tries (turn m.made.took (seen next.seat) ∷ []);
+      turns = m.made.turn ∙ ap (λ (ts : List (Turn SeenPool)). ts ++ turn m.made.took (seen next.seat) ∷ []) t.tried.turns ∙ append_assoc (turns old.seat) t.tried.tries (turn m.made.took (seen next.seat) ∷ []);
     };
   }
 
@@ -50,7 +50,7 @@ module _ {Dev : Type 0} {G : Ghosts Dev} (s : declared_step.Step) (e : PoolError
       took = m.made.took;
       onward = grows_onward _ _ _ t.tried.onward m.made.onward;
       made = m.made.made;
-      turn = m.made.turn ∙ ap (λ (ts : List (Turn View)). ts ++ turn m.made.took (seen new.seat) ∷ []) t.tried.turns;
+      turn = m.made.turn ∙ ap (λ (ts : List (Turn SeenPool)). ts ++ turn m.made.took (seen new.seat) ∷ []) t.tried.turns;
     };
   }
 

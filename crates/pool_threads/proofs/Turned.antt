@@ -17,8 +17,8 @@ use Rattle.pool_core.specs.KeptSafe.{IsKeptSafe, KeepsSafe, on_disk}
 use Rattle.pool_core.specs.States.{told}
 use Rattle.pool_core.specs.StepReplies.{IsStep}
 use Rattle.pool_core.specs.Turns.{Turns}
-use Rattle.pool_threads.proofs.Notes.{state_of-view_of}
-use Rattle.pool_threads.specs.Views.{Explains, GrowsTo, IsPoolStep, IsSafeOverSome, IsStepOverSome, View, since, state_of, view_after, view_of}
+use Rattle.pool_threads.proofs.Notes.{viewed_state-view_of}
+use Rattle.pool_threads.specs.Views.{Explains, GrowsTo, IsPoolStep, IsSafeOverSome, IsStepOverSome, SeenPool, since, view_after, view_of, viewed_state}
 
 -- a state, of a pool whose create began at this moment
 abbrev at_create : ℕ → State → State
@@ -60,17 +60,17 @@ module _ {Dev : Type 0} {G : Ghosts Dev} (s : declared_step.Step) (r : declared_
         subst (λ (p : Past). IsSafeOverSome s r (before (since created past)) (state_with (told new) p)) later_is
         (on_disk old (since created past), on_disk new (later (since created past)), refl, refl, kept, safe keeps (since created past) kept)
 
-  module _ (v : View) (x : Explains old v) where
-    past_is : past_after s r (state_of v) ≡ later v.past
+  module _ (v : SeenPool) (x : Explains old v) where
+    past_is : past_after s r (viewed_state v) ≡ later v.past
     past_is = ap (past_after s r) x.state
 
-    next : View
+    next : SeenPool
     next = view_of new (later v.past) v.rule
 
     next_explained : Explains new next
     unfolding next
     next_explained = record {
-      state = state_of-view_of new (later v.past) v.rule;
+      state = viewed_state-view_of new (later v.past) v.rule;
       explained = ∥∥₁_map x.explained (turns v.past).explained;
       held = λ keeps. ∥∥₁_map (x.held keeps) ((turns v.past).held keeps);
       safe = λ keeps created follows. ∥∥₁_map (x.safe keeps created follows) (kept_after created v.past keeps);
@@ -79,10 +79,10 @@ module _ {Dev : Type 0} {G : Ghosts Dev} (s : declared_step.Step) (r : declared_
     next_stepped : IsPoolStep (IsTrue G.keeps_model) s r v next
     unfolding next
     next_stepped =
-        let was : before v.past ≡ state_of v = sym x.state in
-        let is : after v.past ≡ state_of (view_of new (later v.past) v.rule) = sym (state_of-view_of new (later v.past) v.rule) in
-        let both : (P : State → State → Type 0) → P (before v.past) (after v.past) → P (state_of v) (state_of (view_of new (later v.past) v.rule)) =
-        λ P h. subst (λ a. P a (state_of (view_of new (later v.past) v.rule))) was (subst (P (before v.past)) is h) in
+        let was : before v.past ≡ viewed_state v = sym x.state in
+        let is : after v.past ≡ viewed_state (view_of new (later v.past) v.rule) = sym (viewed_state-view_of new (later v.past) v.rule) in
+        let both : (P : State → State → Type 0) → P (before v.past) (after v.past) → P (viewed_state v) (viewed_state (view_of new (later v.past) v.rule)) =
+        λ P h. subst (λ a. P a (viewed_state (view_of new (later v.past) v.rule))) was (subst (P (before v.past)) is h) in
         record {
           explained = subst (λ (a : State). ∥ IsExplainedNow a.shown a.past ∥₁) was x.explained;
           step = both (λ a b. ∥ IsStep s r a b ∥₁) (∥∥₁_map x.explained (turns v.past).step);
@@ -92,23 +92,19 @@ module _ {Dev : Type 0} {G : Ghosts Dev} (s : declared_step.Step) (r : declared_
           rule = refl;
         }
 
-    next_is : (w : View) → w ≡ view_after s r v new → w ≡ next
+    next_is : (w : SeenPool) → w ≡ view_after s r v new → w ≡ next
     unfolding next
     next_is w is = is ∙ ap (λ (p : Past). view_of new p v.rule) past_is
 
-    pub explained_after : (w : View) → w ≡ view_after s r v new → Explains new w
+    pub explained_after : (w : SeenPool) → w ≡ view_after s r v new → Explains new w
     explained_after w is = subst (Explains new) (sym (next_is w is)) next_explained
 
-    pub stepped_after : (w : View) → w ≡ view_after s r v new → IsPoolStep (IsTrue G.keeps_model) s r v w
+    pub stepped_after : (w : SeenPool) → w ≡ view_after s r v new → IsPoolStep (IsTrue G.keeps_model) s r v w
     stepped_after w is = subst (IsPoolStep (IsTrue G.keeps_model) s r v) (sym (next_is w is)) next_stepped
 
 -- one step goes on
-pub grows_by_one : (keeps : Type 0) (s : declared_step.Step) (r : declared_reply.Reply) (u v w : View) → v ≡ u → IsPoolStep keeps s r v w → GrowsTo u w
-grows_by_one keeps s r u v w is one = subst (λ (h : View). GrowsTo h w) is (record {
-  goes_on = ∥∥₁_map one.step (λ x. (s ∷ [], r ∷ [], (state_of w, ([], x), refl)));
+pub grows_by_one : (keeps : Type 0) (s : declared_step.Step) (r : declared_reply.Reply) (u v w : SeenPool) → v ≡ u → IsPoolStep keeps s r v w → GrowsTo u w
+grows_by_one keeps s r u v w is one = subst (λ (h : SeenPool). GrowsTo h w) is (record {
+  goes_on = ∥∥₁_map one.step (λ x. (s ∷ [], r ∷ [], (viewed_state w, ([], x), refl)));
   rule = one.rule;
 })
-
--- the same step, of views that are named otherwise
-pub led_by : (keeps : Type 0) (s : declared_step.Step) (r : declared_reply.Reply) (u v w x : View) → v ≡ u → w ≡ x → IsPoolStep keeps s r v w → IsPoolStep keeps s r u x
-led_by keeps s r u v w x first last one = subst (λ (h : View). IsPoolStep keeps s r u h) last (subst (λ (h : View). IsPoolStep keeps s r h w) first one)

@@ -11,7 +11,7 @@ use Rattle.device_model.specs.declared.device.SectorDevice.{Ghosts}
 use Rattle.pool_threads.specs.declared.handle.Handle.{Handle}
 use Rattle.pool_threads.specs.Handles.{StaysInPool}
 use Rattle.pool_threads.specs.Turns.{HasMade, HasMadeAtLast, HasTried}
-use Rattle.pool_threads.specs.Views.{state_of}
+use Rattle.pool_threads.specs.Views.{viewed_state}
 use Rattle.word_lock.specs.Seats.{seen}
 
 -- What is so of a refusal, by the states before and after the call: each but those of memory and of the device is the one that the rules give
@@ -23,7 +23,7 @@ pub record IsRefusal (s : declared_step.Step) (e : PoolError) (before after : St
 module _ {Dev : Type 0} {G : Ghosts Dev} where
   -- what the handle has seen
   abbrev pub state_seen : Handle Dev G → State
-  state_seen h = state_of (seen h.seat)
+  state_seen h = viewed_state (seen h.seat)
 
   -- of the states that a handle had seen before a call and has seen after it
   abbrev pub Sees : (State → State → Type 0) → Handle Dev G → Handle Dev G → Type 0

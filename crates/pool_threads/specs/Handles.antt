@@ -18,7 +18,7 @@ use Rattle.pool_core.specs.KeptSafe.{disk_of}
 use Rattle.pool_threads.specs.declared.handle.Handle.{Handle}
 use Rattle.pool_threads.specs.declared.handle.LastSeen.{LastSeen}
 use Rattle.pool_threads.specs.declared.pool.Pool.{Pool}
-use Rattle.pool_threads.specs.Views.{Explains, GrowsTo, IsFollowed, View, since, state_of}
+use Rattle.pool_threads.specs.Views.{Explains, GrowsTo, IsFollowed, SeenPool, since, viewed_state}
 use Rattle.pool_threads.specs.Views.CrashRule.{Behind}
 use Rattle.round_trip.specs.Crashes.{IsLeft}
 use Rattle.word_lock.specs.declared.rule.Turn.{Turn}
@@ -27,15 +27,15 @@ use Rattle.word_lock.specs.Turns.{IsTurnHistory, turn}
 
 module _ {Dev : Type 0} {G : Ghosts Dev} where
   -- the view with which the pool was shared
-  abbrev pub opening_view : Pool Dev G → View
+  abbrev pub opening_view : Pool Dev G → SeenPool
   opening_view p = opening p.lock
 
   -- what the handle has seen
-  abbrev pub view_seen : Handle Dev G → View
+  abbrev pub view_seen : Handle Dev G → SeenPool
   view_seen h = seen h.seat
 
   -- the turns that the handle has had, the latest last
-  abbrev pub turns_of : Handle Dev G → List (Turn View)
+  abbrev pub turns_of : Handle Dev G → List (Turn SeenPool)
   turns_of h = turns h.seat
 
   -- the moment of the syncs that the handle starts
@@ -111,19 +111,19 @@ module _ {Dev : Type 0} {G : Ghosts Dev} where
 
   -- The view explains the state, and goes on from the one with which the pool was shared. Where the crash rule is followed, over a device that keeps
   -- the model, the state leaves cuts of its past.
-  pub record EndsIn (p : Pool Dev G) (s : PoolState Dev G) (v : View) : Type 0 where
+  pub record EndsIn (p : Pool Dev G) (s : PoolState Dev G) (v : SeenPool) : Type 0 where
     pub explains : Explains s v
     pub onward : GrowsTo (opening_view p) v
     pub cuts : IsTrue G.keeps_model → (created : ℕ) → IsFollowed (opening_view p).rule created → ∥ LeavesCuts s (since created v.past) ∥₁
 
   -- a pool ended in this state
   abbrev pub IsLaterState : Pool Dev G → PoolState Dev G → Type 0
-  IsLaterState p s = (v : View) × EndsIn p s v
+  IsLaterState p s = (v : SeenPool) × EndsIn p s v
 
   -- A pool ended in this state, behind what a handle had seen: the turns of all handles lead to the last view, and those of this handle among
   -- them are just the ones that it knows of.
   pub record IsLastState (p : Pool Dev G) (l : LastSeen Dev G) (s : PoolState Dev G) : Type 0 where
-    pub last : View
+    pub last : SeenPool
     pub ends : EndsIn p s last
     pub onward : GrowsTo (seen l.seat) last
     pub history : IsTurnHistory GrowsTo (opening_view p) (seat_number l.seat) (turns l.seat) last
@@ -138,12 +138,12 @@ pub record StartsBehind (old : Disk) (m : Mounted) (new : Disk) : Type 0 where
   pub own : KeepsOwn old new
 
 -- The view shows what one import of this disk mounted, and nothing has happened since. No view shows the disk that it left, nor its moment.
-pub record ShowsImport (old : Disk) (v : View) : Type 0 where
+pub record ShowsImport (old : Disk) (v : SeenPool) : Type 0 where
   pub disk : Disk
   pub moment : ℕ
   pub mounted : Mounted
   pub synced : IsImportSynced old disk moment mounted
-  pub shown : (state_of v).shown ≡ shown_of_import mounted
+  pub shown : (viewed_state v).shown ≡ shown_of_import mounted
 
 -- what a refused import tells of a disk's image, and leaves of the disk: it as it was, flushed, or what its calls before the refused one made of it
 pub record IsLeftByRefused (moment : ℕ) (old : Disk) (e : PoolError) (new : Disk) : Type 0 where
@@ -157,8 +157,8 @@ IsLeftByOpen moment old e new = IsLeftByRefused moment old e new ⊎ ((e ≡ NoM
 
 -- The view of a pool as it is imported from a disk: nothing happened since, and whichever run left the disk, the contents are what it left: the
 -- replay of a cut of its entries with every acknowledged one. From there on the crash rule is followed.
-pub record OpensBehind (keeps : Type 0) (old : Disk) (dirty_max : ℕ) (v : View) : Type 0 where
+pub record OpensBehind (keeps : Type 0) (old : Disk) (dirty_max : ℕ) (v : SeenPool) : Type 0 where
   pub rule : v.rule ≡ Behind old
   pub anew : v.past ≡ new_past v.past.base v.past.created dirty_max
-  pub shows : (state_of v).shown.contents ≡ v.past.base
+  pub shows : (viewed_state v).shown.contents ≡ v.past.base
   pub left : keeps → (past : Past) → IsLeft past old → IsLeftBy past v.past.base

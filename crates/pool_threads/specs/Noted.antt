@@ -21,8 +21,8 @@ unfoldable pub listed : (ℕ → Option ℕ) → List (Option ℕ)
 listed lengths = map lengths (range_with_len 0 object_count)
 
 -- the length of an object, None where the list has none for it
-abbrev pub length_in : List (Option ℕ) → ℕ → Option ℕ
-length_in lengths n = get_or lengths n None
+abbrev pub listed_length : List (Option ℕ) → ℕ → Option ℕ
+listed_length lengths n = get_or lengths n None
 
 pub record NotedPlan : Type 0 where
   pub steps_left : ℕ
@@ -77,7 +77,7 @@ plan_in plan = record {
   root = plan.root;
   header = plan.header;
   contents = plan.contents;
-  lengths = length_in plan.lengths;
+  lengths = listed_length plan.lengths;
 }
 
 -- what is noted of what is shown, and what a note shows
@@ -125,7 +125,7 @@ shown_in s = record {
   log = s.log;
   root = s.root;
   synced_contents = s.synced_contents;
-  lengths = length_in s.lengths;
+  lengths = listed_length s.lengths;
   sync = option_map plan_in s.sync;
 }
 

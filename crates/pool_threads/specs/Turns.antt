@@ -10,9 +10,9 @@ use Rattle.base.specs.declared.step.Reply as declared_reply
 use Rattle.base.specs.declared.step.Reply.TheVariants as reply
 use Rattle.word_lock.specs.declared.rule.Turn.{Turn}
 use Rattle.word_lock.specs.declared.seat.Seat.{Seat}
-use Rattle.word_lock.specs.Seats.{seen, turns}
+use Rattle.word_lock.specs.Seats.{HasTurned, seen, turns}
 use Rattle.word_lock.specs.Turns.{turn}
-use Rattle.pool_threads.specs.Views.{GrowsTo, IsPoolStep, View}
+use Rattle.pool_threads.specs.Views.{GrowsTo, IsPoolStep, SeenPool}
 
 -- a step, with this moment where it starts a sync
 abbrev pub dated : ℕ → declared_step.Step → declared_step.Step
@@ -24,26 +24,31 @@ abbrev pub begin_reply : Result (TxId × Group) PoolError → declared_reply.Rep
 begin_reply = reply_of (λ a. reply.Began a.0 a.1)
 
 module _ {T R : Type 0} where
+  -- In the turn in which it had the lock, the seat made a step with this reply.
+  pub record HasStepped (keeps : Type 0) (s : declared_step.Step) (r : declared_reply.Reply) (holder new : Seat T R SeenPool) : Type 0 where
+    pub made : IsPoolStep keeps s r (seen holder) (seen new)
+    pub turn : HasTurned holder new (seen new)
+
   -- In one turn and no other the seat made a step with this reply: from a view that goes on from what it had seen, to the one that it has
   -- seen then.
-  pub record HasMade (keeps : Type 0) (s : declared_step.Step) (r : declared_reply.Reply) (old new : Seat T R View) : Type 0 where
-    pub took : View
+  pub record HasMade (keeps : Type 0) (s : declared_step.Step) (r : declared_reply.Reply) (old new : Seat T R SeenPool) : Type 0 where
+    pub took : SeenPool
     pub onward : GrowsTo (seen old) took
     pub made : IsPoolStep keeps s r took (seen new)
     pub turn : turns new ≡ turns old ++ turn took (seen new) ∷ []
 
   -- In these turns and no others the seat made a step that was refused each time, with the same refusal.
-  pub record HasTried (keeps : Type 0) (s : declared_step.Step) (e : PoolError) (old now : Seat T R View) : Type 0 where
-    pub tries : List (Turn View)
+  pub record HasTried (keeps : Type 0) (s : declared_step.Step) (e : PoolError) (old now : Seat T R SeenPool) : Type 0 where
+    pub tries : List (Turn SeenPool)
     pub refused : All (λ t. IsPoolStep keeps s (reply.Refused e) t.took t.left) tries
     pub onward : GrowsTo (seen old) (seen now)
     pub turns : turns now ≡ turns old ++ tries
 
   -- Behind such tries the seat made the step with this reply.
-  pub record HasMadeAtLast (keeps : Type 0) (s : declared_step.Step) (e : PoolError) (r : declared_reply.Reply) (old new : Seat T R View) : Type 0 where
-    pub tries : List (Turn View)
+  pub record HasMadeAtLast (keeps : Type 0) (s : declared_step.Step) (e : PoolError) (r : declared_reply.Reply) (old new : Seat T R SeenPool) : Type 0 where
+    pub tries : List (Turn SeenPool)
     pub refused : All (λ t. IsPoolStep keeps s (reply.Refused e) t.took t.left) tries
-    pub took : View
+    pub took : SeenPool
     pub onward : GrowsTo (seen old) took
     pub made : IsPoolStep keeps s r took (seen new)
     pub turn : turns new ≡ (turns old ++ tries) ++ turn took (seen new) ∷ []

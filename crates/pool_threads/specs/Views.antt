@@ -35,7 +35,7 @@ IsFollowed (Since began) created = created ≡ began
 IsFollowed (Behind disk) created = ∥ ((past : Past) × (past.created ≡ created) × IsLeft past disk) ∥₁
 
 -- What is seen of a pool: what it shows, with the past of its run, and whether the run follows the crash rule.
-pub record View : Type 0 where
+pub record SeenPool : Type 0 where
   pub pool : NotedPool
   pub past : Past
   pub rule : CrashRule
@@ -45,33 +45,33 @@ abbrev pub since : ℕ → Past → Past
 since created past = record past { created = created }
 
 -- the state that is seen
-abbrev pub state_of : View → State
-state_of v = record { shown = shown_in v.pool; past = v.past }
+abbrev pub viewed_state : SeenPool → State
+viewed_state v = record { shown = shown_in v.pool; past = v.past }
 
 -- so it is, of a pool whose create began at this moment
-abbrev pub state_since : ℕ → View → State
+abbrev pub state_since : ℕ → SeenPool → State
 state_since created v = record { shown = shown_in v.pool; past = since created v.past }
 
 module _ {Dev : Type 0} {G : Ghosts Dev} where
   -- the view of a pool with this past
-  abbrev pub view_of : PoolState Dev G → Past → CrashRule → View
+  abbrev pub view_of : PoolState Dev G → Past → CrashRule → SeenPool
   view_of p past rule = record { pool = note (shown p); past = past; rule = rule }
 
   -- the view of a pool in whose run nothing happened yet, behind whichever run left this disk
-  abbrev pub view_behind_disk : PoolState Dev G → Disk → View
+  abbrev pub view_behind_disk : PoolState Dev G → Disk → SeenPool
   view_behind_disk p old = view_of p (first_past (shown p) 0) (Behind old)
 
   -- The view is of this pool, and its past explains it. Where the device keeps the disk model it holds what it should, and where the crash
   -- rule is followed, it stands.
-  pub record Explains (p : PoolState Dev G) (v : View) : Type 0 where
-    pub state : state_of v ≡ state_with (told p) v.past
+  pub record Explains (p : PoolState Dev G) (v : SeenPool) : Type 0 where
+    pub state : viewed_state v ≡ state_with (told p) v.past
     pub explained : ∥ IsExplainedNow (shown p) v.past ∥₁
     pub held : IsTrue G.keeps_model → ∥ IsHeld (held_with (told p) v.past) ∥₁
     pub safe : IsTrue G.keeps_model → (created : ℕ) → IsFollowed v.rule created → ∥ IsKeptSafe (on_disk p (since created v.past)) ∥₁
 
   -- the view after a step that left this pool
-  abbrev pub view_after : declared_step.Step → declared_reply.Reply → View → PoolState Dev G → View
-  view_after s r v p = view_of p (past_after s r (state_of v)) v.rule
+  abbrev pub view_after : declared_step.Step → declared_reply.Reply → SeenPool → PoolState Dev G → SeenPool
+  view_after s r v p = view_of p (past_after s r (viewed_state v)) v.rule
 
 -- the step is one over the bytes of some device
 abbrev pub IsStepOverSome : declared_step.Step → declared_reply.Reply → State → State → Type 0
@@ -83,22 +83,22 @@ IsSafeOverSome s r old new = (x y : OnDisk) × (x.held.state ≡ old) × (y.held
 
 -- A step with its reply, from a view that is explained. Where the device keeps the disk model it is one over the device's bytes, and where
 -- the crash rule is followed, it is a safe one.
-pub record IsPoolStep (keeps : Type 0) (s : declared_step.Step) (r : declared_reply.Reply) (v w : View) : Type 0 where
-  pub explained : ∥ IsExplainedNow (state_of v).shown v.past ∥₁
-  pub step : ∥ IsStep s r (state_of v) (state_of w) ∥₁
-  pub over : keeps → ∥ IsStepOverSome s r (state_of v) (state_of w) ∥₁
+pub record IsPoolStep (keeps : Type 0) (s : declared_step.Step) (r : declared_reply.Reply) (v w : SeenPool) : Type 0 where
+  pub explained : ∥ IsExplainedNow (viewed_state v).shown v.past ∥₁
+  pub step : ∥ IsStep s r (viewed_state v) (viewed_state w) ∥₁
+  pub over : keeps → ∥ IsStepOverSome s r (viewed_state v) (viewed_state w) ∥₁
   pub safe : keeps → (created : ℕ) → IsFollowed v.rule created → ∥ IsSafeOverSome s r (state_since created v) (state_since created w) ∥₁
   pub rule : w.rule ≡ v.rule
 
 -- steps lead from one view to another
-pub record GrowsTo (v w : View) : Type 0 where
-  pub goes_on : ∥ GoesOn (state_of v) (state_of w) ∥₁
+pub record GrowsTo (v w : SeenPool) : Type 0 where
+  pub goes_on : ∥ GoesOn (viewed_state v) (viewed_state w) ∥₁
   pub rule : w.rule ≡ v.rule
 
-abbrev pub blank : View
-blank = record { pool = blank_note; past = new_past no_contents 0 0; rule = NotFollowed }
+abbrev pub blank_view : SeenPool
+blank_view = record { pool = blank_note; past = new_past no_contents 0 0; rule = NotFollowed }
 
-pub grows_same : (v : View) → GrowsTo v v
+pub grows_same : (v : SeenPool) → GrowsTo v v
 grows_same v = record { goes_on = ∣ ([], [], refl) ∣₁; rule = refl }
 
 abbrev One : declared_step.Step → declared_reply.Reply → State → State → Type 0
@@ -111,8 +111,8 @@ many_more (s ∷ ss) ts (r ∷ rs) us a b c (middle, one, more) rest = (middle, 
 many_more [] ts (r ∷ rs) us a b c h rest = absurd h
 many_more (s ∷ ss) ts [] us a b c h rest = absurd h
 
-pub grows_onward : (a b c : View) → GrowsTo a b → GrowsTo b c → GrowsTo a c
+pub grows_onward : (a b c : SeenPool) → GrowsTo a b → GrowsTo b c → GrowsTo a c
 grows_onward a b c x y = record {
-  goes_on = ∥∥₁_elim x.goes_on ∥∥₁_prop (λ p. ∥∥₁_map y.goes_on (λ q. (p.0 ++ q.0, p.1 ++ q.1, many_more p.0 q.0 p.1 q.1 (state_of a) (state_of b) (state_of c) p.2 q.2)));
+  goes_on = ∥∥₁_elim x.goes_on ∥∥₁_prop (λ p. ∥∥₁_map y.goes_on (λ q. (p.0 ++ q.0, p.1 ++ q.1, many_more p.0 q.0 p.1 q.1 (viewed_state a) (viewed_state b) (viewed_state c) p.2 q.2)));
   rule = y.rule ∙ x.rule;
 }

@@ -5,7 +5,7 @@ ghost use Rattle.import_replay.specs.ImportRefusals.{IsImportRefusal};
 ghost use Rattle.import_replay.specs.Mounts.{shown_of_import};
 ghost use Rattle.pool_core.specs.States.{device_of, shown};
 ghost use Rattle.pool_threads.specs.Handles.{IsBackIn, IsLastState, IsLaterState, IsLeftByOpen, IsNewHandle, LeavesSame, OpensBehind, ShowsImport, StartsBehind, WasOf, opening_view};
-ghost use Rattle.pool_threads.specs.Views.{Explains, View, state_of, view_behind_disk};
+ghost use Rattle.pool_threads.specs.Views.{Explains, SeenPool, view_behind_disk, viewed_state};
 
 use crate::handle::{Handle, LastSeen};
 use crate::rule::{PoolRule, PoolView};
@@ -28,7 +28,7 @@ pub struct Pool<D: SectorDevice> {
 
 // The view of a pool as it is shared.
 fn first_view<D: SectorDevice>(state: &PoolState<D>) -> Told<PoolView>
-    ghost first: { View }
+    ghost first: { SeenPool }
     ensures { result.value ≡ first }
 {
     Told::of(state)
@@ -50,7 +50,7 @@ impl<D: SectorDevice> Pool<D> {
     /// # Errors
     /// `NoMemory` where there is none for the lock. The state then comes back.
     pub fn new(state: PoolState<D>, moment: u64) -> Result<Pool<D>, (PoolError, PoolState<D>)>
-        ghost first: { View }
+        ghost first: { SeenPool }
         requires explained { Explains state first }
         ensures opening { IfOk result (λ p. opening_view p ≡ first) }
         ensures moment { IfOk result (λ p. p.moment ≡ moment) }
@@ -92,7 +92,7 @@ impl<D: SectorDevice> Pool<D> {
     /// # Errors
     /// `NoMemory` where there is none for the lock. The state then comes back.
     pub fn share(imported: Imported<D>, moment: u64) -> Result<Pool<D>, (PoolError, PoolState<D>)>
-        ensures shown { IfOk result (λ p. (state_of (opening_view p)).shown
+        ensures shown { IfOk result (λ p. (viewed_state (opening_view p)).shown
             ≡ shown_of_import imported.mounted) }
         ensures moment { IfOk result (λ p. p.moment ≡ moment) }
         ensures refused { IfErr result (λ e. (e.0 ≡ PoolError.NoMemory)
@@ -121,7 +121,7 @@ impl<D: SectorDevice> Pool<D> {
         ensures opened { IfOk result
             (λ p. OpensBehind (IsTrue D.keeps_model) (D.disk before.now.value)
             (shown_of_import imported.mounted).dirty_max (opening_view p)) }
-        ensures shown { IfOk result (λ p. (state_of (opening_view p)).shown
+        ensures shown { IfOk result (λ p. (viewed_state (opening_view p)).shown
             ≡ shown_of_import imported.mounted) }
         ensures moment { IfOk result (λ p. p.moment ≡ moment) }
         ensures refused { IfErr result (λ e. (e.0 ≡ PoolError.NoMemory)

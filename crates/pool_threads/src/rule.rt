@@ -14,13 +14,13 @@ impl Model for PoolView {
     ghost use Rattle.std.specs.Coded.{codes, coded_list, coded_ℕ};
     ghost use Rattle.std.specs.FinMap as finite;
     ghost use Rattle.std.specs.FinSet as set;
-    ghost use Rattle.pool_threads.specs.Views.{View, blank};
+    ghost use Rattle.pool_threads.specs.Views.{SeenPool, blank_view};
 
-    ghost Value = { View };
+    ghost Value = { SeenPool };
 
     ghost coded = { Prim.hlevel (codes, finite.code, set.code) };
 
-    ghost view = { λ _. blank };
+    ghost view = { λ _. blank_view };
 }
 
 /// A view explains a pool that shows just this, with a past that says how it came so. One goes on from another by steps.
@@ -29,7 +29,7 @@ pub struct PoolRule<D> {
 }
 
 impl<D: SectorDevice> LockRule<Box<PoolState<D>>> for PoolRule<D> {
-    ghost use Rattle.pool_threads.specs.Views.{Explains, GrowsTo, blank, grows_onward, grows_same};
+    ghost use Rattle.pool_threads.specs.Views.{Explains, GrowsTo, blank_view, grows_onward, grows_same};
 
     type View = PoolView;
 
@@ -37,7 +37,7 @@ impl<D: SectorDevice> LockRule<Box<PoolState<D>>> for PoolRule<D> {
 
     ghost grows = { GrowsTo };
 
-    ghost blank = { blank };
+    ghost blank = { blank_view };
 
     ghost same = { grows_same };
 

@@ -3,8 +3,8 @@ ghost use Rattle.std.specs.Prelude.{◌≡◌, IsTrue, MatchOption};
 ghost use Rattle.base.specs.declared.step.Step.TheVariants as step;
 ghost use Rattle.pool_core.specs.BeginTests.{is_above_limit};
 ghost use Rattle.word_lock.specs.Seats.{HasTurned, IsAsBefore, IsHolding, IsIdle, IsSameSeat, lock_table, seat_table, seen};
-ghost use Rattle.pool_threads.specs.Turns.{HasMade, begin_reply};
-ghost use Rattle.pool_threads.specs.Views.{Explains, IsPoolStep, state_of, view_after};
+ghost use Rattle.pool_threads.specs.Turns.{HasMade, HasStepped, begin_reply};
+ghost use Rattle.pool_threads.specs.Views.{Explains, IsPoolStep, view_after, viewed_state};
 
 use crate::rule::{PoolRule, PoolView};
 use base::{Group, Owner, Plan, PoolError, Reply, Step, TxId};
@@ -54,9 +54,8 @@ pub(crate) fn step_guarded<'s, 'l, D: SectorDevice>(
     requires view { guard.held.view.value ≡ seen guard.seat.now }
     requires explains { Explains guard.held.value.value guard.held.view.value }
     ensures same { IsSameSeat guard.entry.seat.now guard.exit.0.now × IsIdle guard.exit.0.now }
-    ensures stepped { IsPoolStep (IsTrue D.keeps_model) step result
-        (seen guard.entry.seat.now) (seen guard.exit.0.now) }
-    ensures turn { HasTurned guard.entry.seat.now guard.exit.0.now (seen guard.exit.0.now) }
+    ensures stepped { HasStepped (IsTrue D.keeps_model) step result
+        guard.entry.seat.now guard.exit.0.now }
 {
     let Guard { seat, lock, held } = guard;
     let mut held = held;
@@ -109,7 +108,7 @@ fn begin_noted<'h, D: SectorDevice>(
     ensures explains { Explains held.new.value.value held.new.view.value }
     ensures stepped { IsPoolStep (IsTrue D.keeps_model) (step.Begin owner plan.now)
         (begin_reply result.0) held.old.view.value held.new.view.value }
-    ensures above { result.1 ≡ is_above_limit plan.now (state_of held.new.view.value).shown }
+    ensures above { result.1 ≡ is_above_limit plan.now (viewed_state held.new.view.value).shown }
 {
     let answer = held.value.begin(owner, plan);
     let is_above = held.value.is_above_limit(plan);
@@ -128,10 +127,9 @@ pub(crate) fn begin_guarded<'s, 'l, D: SectorDevice>(
     requires view { guard.held.view.value ≡ seen guard.seat.now }
     requires explains { Explains guard.held.value.value guard.held.view.value }
     ensures same { IsSameSeat guard.entry.seat.now guard.exit.0.now × IsIdle guard.exit.0.now }
-    ensures stepped { IsPoolStep (IsTrue D.keeps_model) (step.Begin owner plan.now)
-        (begin_reply result.0) (seen guard.entry.seat.now) (seen guard.exit.0.now) }
-    ensures turn { HasTurned guard.entry.seat.now guard.exit.0.now (seen guard.exit.0.now) }
-    ensures above { result.1 ≡ is_above_limit plan.now (state_of (seen guard.exit.0.now)).shown }
+    ensures stepped { HasStepped (IsTrue D.keeps_model) (step.Begin owner plan.now)
+        (begin_reply result.0) guard.entry.seat.now guard.exit.0.now }
+    ensures above { result.1 ≡ is_above_limit plan.now (viewed_state (seen guard.exit.0.now)).shown }
 {
     let Guard { seat, lock, held } = guard;
     let mut held = held;

@@ -13,7 +13,7 @@ use indexmap::IndexMap;
 use std::alloc::Global;
 
 /// The parts by number. A number that no held lock is of has none.
-#[derive(Drop)]
+#[derive(Debug, Drop)]
 pub(crate) struct Numbers {
     parts: IndexMap<u32, Parts>,
     ghost none_empty: { (n : ℕ) (p : Parts) → parts_of parts n ≡ Some p → HasNoParts p.table → ⊥ },

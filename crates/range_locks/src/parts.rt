@@ -110,7 +110,7 @@ impl Part {
 }
 
 /// The parts of a number by offset, rising.
-#[derive(Drop)]
+#[derive(Debug, Drop)]
 pub(crate) struct Parts {
     table: BTreeMap<u64, Part>,
 }

@@ -19,7 +19,7 @@ use std::alloc::{AllocError, Global};
 use std::marker::Model;
 
 /// The held locks, and the name of the next one.
-#[derive(Drop)]
+#[derive(Debug, Drop)]
 pub(crate) struct HeldTable {
     /// By name, rising: `None` is where a lock was let go.
     places: IndexMap<LockId, Option<HeldLock>>,
@@ -140,7 +140,7 @@ fn sweep(places: &mut IndexMap<LockId, Option<HeldLock>>)
 }
 
 /// The held locks in order of grant, each with its name.
-#[derive(Drop)]
+#[derive(Debug, Drop)]
 pub struct HeldLocks<'a> {
     places: Iter<'a, LockId, Option<HeldLock>>,
 }

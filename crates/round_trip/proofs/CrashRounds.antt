@@ -1,8 +1,9 @@
 -- What is left of a pool goes on over imports, steps and crashes.
-use Rattle.std.proofs.Common.{arith, ◌≡◌, ◌∙◌, inl, inr, ℕ, ◌++◌, List, [], ◌∷◌, refl, sym, ap, subst, append_assoc}
-use Rattle.std.specs.Prelude.{Result, IfOk, IsTrue, OnErr, Ok, Err}
+use Rattle.std.proofs.Common.{arith, ◌≡◌, ◌∙◌, inl, inr, ℕ, ◌++◌, List, [], ◌∷◌, length, refl, sym, ap, subst, append_assoc}
+use Rattle.std.specs.Prelude.{IfErr, IfOk, IsTrue, OnErr, Ok, Err}
 use Rattle.std.specs.Global.{Vec}
 use Rattle.std.proofs.Math.Logic.{∥∥₁_map}
+use Rattle.std.proofs.lemmas.List.{append-nil, nil_from_length}
 use Rattle.std.specs.FinMap as finite
 use Rattle.std.specs.Ordering.{nat_cmp}
 use Rattle.base.specs.declared.step.Step as declared_step
@@ -10,8 +11,11 @@ use Rattle.base.specs.declared.step.Reply as declared_reply
 use Rattle.base.specs.crash.CrashRule.{IsImportKept, IsImportMoment, IsOwnOnceFlushed, KeepsOwn}
 use Rattle.base.specs.crash.Own.{IsOwnWith}
 use Rattle.base.specs.declared.error.PoolError.{PoolError}
+use Rattle.base.specs.declared.error.PoolError.TheVariants.{NoMemory}
+use Rattle.base.specs.declared.refused.RefusedCalls.{RefusedCalls}
 use Rattle.base.specs.declared.piece.Piece.{Piece}
 use Rattle.base.specs.crash.PoolViews.{IsPoolDisk}
+use Rattle.base.specs.disk.Calls.{with_refusal}
 use Rattle.base.specs.disk.Crashes.{crash_image}
 use Rattle.base.specs.disk.Disk.{Disk, MayLeave, Write, bytes_of, certain, certain_with, disk_size, moments, settled}
 use Rattle.base.specs.disk.Fairness.{IsFairOn}
@@ -26,16 +30,18 @@ use Rattle.base.proofs.steps.Additions.{step_grows}
 use Rattle.device_model.specs.declared.device.SectorDevice.{Ghosts}
 use Rattle.object_maps.specs.ContentsShown.{contents_of}
 use Rattle.import_replay.specs.Creations.{IsNewPool}
+use Rattle.import_replay.specs.ImportRefusals.{CanImport, FindsOwn, IsImportRefusal, IsReason}
 use Rattle.import_replay.specs.Mounts.{shown_of_import}
 use Rattle.import_replay.specs.OwnCreations.{first_contents}
 use Rattle.import_replay.specs.RunStarts.{IsRunStart, StartsRun}
 use Rattle.import_replay.specs.declared.mounted.Mounted.{Mounted}
 use Rattle.pool_core.specs.declared.state.PoolState.{PoolState}
+use Rattle.pool_core.specs.Calls.{counted_in_turn}
 use Rattle.pool_core.specs.KeptSafe.{BeginsSafe, IsKeptSafe, IsSafeStep, OnDisk, SafeOn, disk_of, on_disk}
 use Rattle.pool_core.specs.NewStates.{IsHeldAtFirst, first_past}
 use Rattle.pool_core.specs.States.{shown, told}
 use Rattle.pool_core.proofs.crash.SafeMoments.{kept_own}
-use Rattle.round_trip.specs.Crashes.{Answer, FindsCuts, FindsCutsFrom, FindsCutsOfNew, GoesAsRound, GoesOnAs, GoesOnFrom, IsEndOf, IsFairEnd, IsLeft, IsOverFor, IsRound, IsRoundOver}
+use Rattle.round_trip.specs.Crashes.{Answer, ComesTo, ComesToFrom, ComesToOfNew, GoesAsRound, GoesOnAs, GoesOnFrom, IsEndOf, IsFairEnd, IsLeft, IsOverFor, IsRefusedFrom, IsRefusedOfNew, IsRound, IsRoundOver, Outcome, counted_in}
 use Rattle.round_trip.specs.Rounds.{IsOpened}
 use Rattle.round_trip.specs.declared.crashes.End.{End}
 use Rattle.round_trip.specs.declared.crashes.End.TheVariants.{Crash, GivenUp}
@@ -88,11 +94,11 @@ kept_left past old new was f (inl same) = subst (λ (d : Disk). IsLeft past d) (
 kept_left past old new was f (inr steady) = own_left new past f.guid f.contents f.left steady.own
 
 -- an import, whatever it answers, leaves what the run before it left
-pub record IsLeftByImport (past : Past) (old new : Disk) : Type 0 where
+pub record IsStillLeft (past : Past) (old new : Disk) : Type 0 where
   pub goes_on : GoesOnFrom old new
   pub left : IsLeft past new
 
-pub import_left : (past : Past) (old new : Disk) → IsLeft past old → KeepsOwn old new → IsLeftByImport past old new
+pub import_left : (past : Past) (old new : Disk) → IsLeft past old → KeepsOwn old new → IsStillLeft past old new
 import_left past old new was keeps =
     let f = left_flushed past old was in
     let kept = keeps past.created f.guid f.contents f.own in
@@ -127,7 +133,7 @@ module _ {Dev : Type 0} {G : Ghosts Dev} (keep : IsTrue G.keeps_model) (dirty_ma
   pub found : IsLeftOnceFlushed past old
   found = left_flushed past old was
 
-  left_then : IsLeftByImport past old (disk_of state)
+  left_then : IsStillLeft past old (disk_of state)
   left_then = import_left past old (disk_of state) was kept
 
   pub run_start : IsRunStart past.created found.guid found.contents dirty_max m (disk_of state).now
@@ -198,6 +204,23 @@ module _ {Dev : Type 0} {G : Ghosts Dev} (keep : IsTrue G.keeps_model) (dirty_ma
 pub refused_over : (dirty_max moment : ℕ) (ss : List declared_step.Step) (e : PoolError) (past : Past) (old new : Disk) → IsLeft past old → KeepsOwn old new → IsOverFor dirty_max moment ss (Err e) past old new
 refused_over dirty_max moment ss e past old new was kept = let l = import_left past old new was kept in ∣ (past, record { goes_on = l.goes_on; steps = refl }, l.left) ∣₁
 
+-- the refused calls of a device after an import and a list of steps, of which there was no memory for the replies or each counted its own
+pub run_counted : {S : Type 0} (calls : S → RefusedCalls) (answer : Answer) (old new : S) → IfOk answer (λ replies. calls new ≡ counted_in_turn replies.items (calls old)) → IfErr answer (λ e. e ≡ NoMemory)
+    → OnErr answer (new ≡ old) → calls new ≡ counted_in answer (calls old)
+run_counted calls (Ok replies) old new count refused kept = count
+run_counted calls (Err e) old new count refused kept = subst (λ (x : PoolError). calls new ≡ with_refusal x (calls old)) (sym refused) (ap calls kept)
+
+-- a list of steps is refused as its import may be
+pub run_refused : (size dirty_max : ℕ) (answer : Answer) → CanImport size dirty_max → IfErr answer (λ e. e ≡ NoMemory) → IfErr answer (IsImportRefusal size dirty_max)
+run_refused size dirty_max (Ok replies) can refused = tt
+run_refused size dirty_max (Err e) can refused = subst (λ (x : PoolError). IsImportRefusal size dirty_max x) (sym refused) (can, tt)
+
+-- a fault that was planned leaves the disk of a round
+pub over_planned : (round : Round) (answer : Answer) (past : Past) (start planned ended : Disk) → planned ≡ start → IsLeft past start
+    → ((p : Past) → IsLeft p planned → IsOverFor round.dirty_max round.moment round.steps.items answer p planned ended) → IsOverFor round.dirty_max round.moment round.steps.items answer past start ended
+over_planned round answer past start planned ended same was over =
+    subst (λ (d : Disk). IsOverFor round.dirty_max round.moment round.steps.items answer past d ended) same (over past (subst (λ (d : Disk). IsLeft past d) (sym same) was))
+
 -- a round with its end
 pub crashed_round : (round : Round) (answer : Answer) (past : Past) (old ended next : Disk) (pieces : Vec Piece) → round.end ≡ Crash pieces → MayLeave ended.now (crash_image pieces.items ended.now)
     → next ≡ certain (crash_image pieces.items ended.now) ended → IsOverFor round.dirty_max round.moment round.steps.items answer past old ended → IsRound round answer past old next
@@ -222,23 +245,33 @@ given_round round answer past old ended is over = ∥∥₁_map over (λ o. reco
 })
 
 -- the import behind the last round finds what is left
-pub last_import : (dirty_max : ℕ) (past : Past) (old new : Disk) (m : Mounted) → IsLeft past old → KeepsOwn old new → StartsRun old dirty_max new m → FindsCuts [] [] past old (contents_of m.contents) new
+pub last_import : (dirty_max : ℕ) (past : Past) (old new : Disk) (m : Mounted) → IsLeft past old → KeepsOwn old new → StartsRun old dirty_max new m → ComesTo (Ok (contents_of m.contents, new)) [] [] past old
 last_import dirty_max past old new m was kept starts_run =
     let f = left_flushed past old was in
     let start = starts_run past.created f.guid f.contents f.own in
     ∣ (subst (λ (c : Contents). IsLeftBy past c) (sym start.contents_are) f.left, (import_left past old new was kept).goes_on) ∣₁
 
+-- or it is refused, for no reason that a sound pool doesn't have
+pub last_refusal : (past : Past) (old : Disk) (e : PoolError) → IsLeft past old → FindsOwn old e → IsReason (bytes_of old.now) e → ComesTo (Err e) [] [] past old
+last_refusal past old e was own reason =
+    let f = left_flushed past old was in
+    ∣ (reason, own past.created f.guid f.contents f.own) ∣₁
+
 -- by one round the answers go on
 pub one_more : (items : List Round) (round : Round) (left : List Round) (answers more : List Answer) (answer : Answer) (all : List Round) (first old next : Disk)
     → items ≡ round ∷ left → more ≡ answers ++ answer ∷ [] → ((past : Past) → IsLeft past old → IsRound round answer past old next)
     → GoesOnAs all items answers first old → GoesOnAs all left more first next
-one_more items round left answers more answer all first old next these now gone onward rest found last after =
-    let whole : FindsCutsFrom items (answer ∷ rest) old found last =
+one_more items round left answers more answer all first old next these now gone onward rest outcome after =
+    let whole : ComesToFrom outcome items (answer ∷ rest) old =
     rw these (λ past was. ∥∥₁_map (gone past was) (λ (g : GoesAsRound round answer past old next (λ later. IsLeft later next)). (
       next,
       record { later = g.later; ended = g.ended; over = g.over; end = g.end; goes_on = λ fair. after g.later (g.goes_on fair) },
     ))) in
-    rw (now, append_assoc) (onward (answer ∷ rest) found last whole)
+    rw (now, append_assoc) (onward (answer ∷ rest) outcome whole)
+
+-- where no round is left, they come to what the import behind them came to
+pub all_over : (all left : List Round) (answers : List Answer) (first now : Disk) (outcome : Outcome) → length left ≡ 0 → GoesOnAs all left answers first now → ComesToFrom outcome [] [] now → ComesToFrom outcome all answers first
+all_over all left answers first now outcome none onward last = rw (append-nil answers) at (onward [] outcome (rw (nil_from_length left none) last))
 
 -- nothing happened in the past of a new pool, so its contents are what is left
 nothing_left : (contents : Contents) (created dirty_max : ℕ) → IsLeftBy (new_past contents created dirty_max) contents
@@ -256,15 +289,14 @@ new_left name guid start made own =
     own_left made (new_past new (moments start) 0) guid new (nothing_left new (moments start) 0) own
 
 -- a new pool, and the rounds behind its create
-found_behind : (name : List ℕ) (guid moment : ℕ) (rounds : List Round) (answers : List Answer) (start made : Disk) (found : Contents) (last : Disk) → GoesOnFrom start made → IsNewPool (bytes_of made.now) name guid moment
-    → IsOwnWith made (moments start) guid (first_contents name) → FindsCutsFrom rounds answers made found last → FindsCutsOfNew name guid moment rounds answers start found last
-found_behind name guid moment rounds answers start made found last on written own finds =
+pub comes_behind : (outcome : Outcome) (name : List ℕ) (guid moment : ℕ) (rounds : List Round) (answers : List Answer) (start made : Disk) → GoesOnFrom start made → IsNewPool (bytes_of made.now) name guid moment
+    → IsOwnWith made (moments start) guid (first_contents name) → ComesToFrom outcome rounds answers made → ComesToOfNew outcome name guid moment rounds answers start
+comes_behind outcome name guid moment rounds answers start made on written own comes =
     let new : Contents = first_contents name in
     let past : Past = new_past new (moments start) 0 in
-    record { new = new; is_new = record { name_is = refl; empty = λ n. finite.get-empty {X = List ℕ} nat_cmp n }; made = made; goes_on = on; written = written; finds = finds past (new_left name guid start made own) }
+    record { new = new; is_new = record { name_is = refl; empty = λ n. finite.get-empty {X = List ℕ} nat_cmp n }; made = made; goes_on = on; written = written; comes = comes past (new_left name guid start made own) }
 
-pub found_after : {A : Type 0} (name : List ℕ) (guid moment : ℕ) (rounds : List Round) (start made : Disk) (r : Result A PoolError) (answers : A → List Answer) (found : A → Contents) (last : A → Disk)
-    → GoesOnFrom start made → IsNewPool (bytes_of made.now) name guid moment → IsOwnWith made (moments start) guid (first_contents name) → IfOk r (λ a. FindsCutsFrom rounds (answers a) made (found a) (last a))
-    → IfOk r (λ a. FindsCutsOfNew name guid moment rounds (answers a) start (found a) (last a))
-found_after name guid moment rounds start made (Ok a) answers found last on written own finds = found_behind name guid moment rounds (answers a) start made (found a) (last a) on written own finds
-found_after name guid moment rounds start made (Err e) answers found last on written own finds = tt
+pub refused_behind : (name : List ℕ) (guid moment : ℕ) (rounds : List Round) (start made : Disk) (e : PoolError) → GoesOnFrom start made → IsNewPool (bytes_of made.now) name guid moment
+    → IsOwnWith made (moments start) guid (first_contents name) → IsRefusedFrom rounds made e → IsRefusedOfNew name guid moment rounds start e
+refused_behind name guid moment rounds start made e on written own (inl none) = inl none
+refused_behind name guid moment rounds start made e on written own (inr (answers, comes)) = inr (answers, comes_behind (Err e) name guid moment rounds answers start made on written own comes)

@@ -1,10 +1,13 @@
 -- Rounds of a pool with crashes between them, and what the import behind the last one finds.
-use Rattle.std.specs.Prelude.{ℕ, ◌≡◌, ◌++◌, List, [], ◌∷◌, Result, MatchResult}
+use Rattle.std.specs.Prelude.{ℕ, ◌≡◌, ◌⊎◌, ◌++◌, List, [], ◌∷◌, Option, None, Some, Result, Ok, Err, MatchResult}
 use Rattle.std.specs.Global.{Vec}
 use Rattle.base.specs.declared.error.PoolError.{PoolError}
+use Rattle.base.specs.declared.error.PoolError.TheVariants.{NoMemory}
+use Rattle.base.specs.declared.refused.RefusedCalls.{RefusedCalls}
 use Rattle.base.specs.declared.step.Step as declared_step
 use Rattle.base.specs.declared.step.Reply as declared_reply
 use Rattle.base.specs.crash.CrashRule.{IsRunLeft}
+use Rattle.base.specs.disk.Calls.{with_refusal}
 use Rattle.base.specs.disk.Crashes.{crash_image}
 use Rattle.base.specs.disk.Disk.{Disk, EachMoment, bytes_of, certain, moments}
 use Rattle.base.specs.disk.Fairness.{IsFairOn}
@@ -12,7 +15,13 @@ use Rattle.base.specs.history.Contents.{Contents}
 use Rattle.base.specs.history.Past.{Past, new_past}
 use Rattle.base.specs.steps.Explains.{IsLeftBy}
 use Rattle.base.specs.steps.Runs.{Run}
+use Rattle.device_model.specs.declared.fault.Fault.{Fault}
+use Rattle.device_model.specs.MemState.{MemState}
+use Rattle.device_model.specs.Plans.{with_plan}
+use Rattle.import_replay.specs.CreateRefusals.{CanCreate, IsCreateRefusal}
 use Rattle.import_replay.specs.Creations.{IsNewPool}
+use Rattle.import_replay.specs.ImportRefusals.{IsImportRefusal, IsOfSoundPool, IsReason}
+use Rattle.pool_core.specs.Calls.{counted_in_turn}
 use Rattle.pool_core.specs.KeptSafe.{IsSafeStep, OnDisk}
 use Rattle.round_trip.specs.declared.crashes.End.{End}
 use Rattle.round_trip.specs.declared.crashes.End.TheVariants.{Crash, GivenUp}
@@ -22,6 +31,16 @@ use Rattle.round_trip.specs.Rounds.{AreNew, IsOpened}
 -- what the steps of a round replied, or why none was made
 abbrev pub Answer : Type 0
 Answer = Result (Vec declared_reply.Reply) PoolError
+
+-- the refused calls of a device after the import and the steps of a round: one more for each that the answer tells
+abbrev pub counted_in : Answer → RefusedCalls → RefusedCalls
+counted_in (Ok replies) calls = counted_in_turn replies.items calls
+counted_in (Err e) calls = with_refusal e calls
+
+-- the device with the fault that a round plans, where it plans one
+abbrev pub with_fault : Option (Fault × ℕ) → MemState → MemState
+with_fault None device = device
+with_fault (Some (fault, n)) device = with_plan fault n device
 
 -- the later disk goes on from the earlier one: its moments are those of the earlier one, and others behind them
 abbrev pub GoesOnFrom : Disk → Disk → Type 0
@@ -78,29 +97,62 @@ pub record GoesAsRound (round : Round) (answer : Answer) (past : Past) (disk nex
 abbrev pub IsRound : Round → Answer → Past → Disk → Disk → Type 0
 IsRound round answer past disk next = ∥ GoesAsRound round answer past disk next (λ later. IsLeft later next) ∥₁
 
--- Rounds with these answers, from what an earlier run left on a disk: where each crash was fair, the contents that are found behind them are the
--- replay of a cut of the last run's entries with every acknowledged one, over contents that the run before it left so, and so on to the first.
-abbrev pub FindsCuts : List Round → List Answer → Past → Disk → Contents → Disk → Type 0
-FindsCuts [] [] past disk found last = ∥ IsLeftBy past found × GoesOnFrom disk last ∥₁
-FindsCuts (round ∷ rounds) (answer ∷ answers) past disk found last =
-    ∥ ((next : Disk) × GoesAsRound round answer past disk next (λ later. FindsCuts rounds answers later next found last)) ∥₁
-FindsCuts [] (answer ∷ answers) past disk found last = ⊥
-FindsCuts (round ∷ rounds) [] past disk found last = ⊥
+-- what the import behind rounds came to: the contents that it shows, with the disk that it left, or its refusal
+abbrev pub Outcome : Type 0
+Outcome = Result (Contents × Disk) PoolError
+
+-- The import of the disk that a run with this past left came to this: it shows the replay of a cut of the run's entries with every acknowledged
+-- one, or it is refused for what the disk's bytes say, and not as one of a pool that isn't sound.
+abbrev pub IsOutcome : Outcome → Past → Disk → Type 0
+IsOutcome (Ok (found, last)) past disk = IsLeftBy past found × GoesOnFrom disk last
+IsOutcome (Err e) past disk = IsReason (bytes_of disk.now) e × IsOfSoundPool e
+
+-- Rounds with these answers, from what an earlier run left on a disk: where each crash was fair, the import behind them came to this, from what
+-- the last run left, over contents that the run before it left, and so on to the first.
+abbrev pub ComesTo : Outcome → List Round → List Answer → Past → Disk → Type 0
+ComesTo outcome [] [] past disk = ∥ IsOutcome outcome past disk ∥₁
+ComesTo outcome (round ∷ rounds) (answer ∷ answers) past disk =
+    ∥ ((next : Disk) × GoesAsRound round answer past disk next (λ later. ComesTo outcome rounds answers later next)) ∥₁
+ComesTo outcome [] (answer ∷ answers) past disk = ⊥
+ComesTo outcome (round ∷ rounds) [] past disk = ⊥
 
 -- so it is of each past of an earlier run that left the disk
-abbrev pub FindsCutsFrom : List Round → List Answer → Disk → Contents → Disk → Type 0
-FindsCutsFrom rounds answers disk found last = (past : Past) → IsLeft past disk → FindsCuts rounds answers past disk found last
+abbrev pub ComesToFrom : Outcome → List Round → List Answer → Disk → Type 0
+ComesToFrom outcome rounds answers disk = (past : Past) → IsLeft past disk → ComesTo outcome rounds answers past disk
 
 -- and behind the create of a pool of this name and guid at this moment, which began on this disk: nothing happened before, and the pool had no
 -- object
-pub record FindsCutsOfNew (name : List ℕ) (guid moment : ℕ) (rounds : List Round) (answers : List Answer) (start : Disk) (found : Contents) (last : Disk) : Type 0 where
+pub record ComesToOfNew (outcome : Outcome) (name : List ℕ) (guid moment : ℕ) (rounds : List Round) (answers : List Answer) (start : Disk) : Type 0 where
   pub new : Contents
   pub is_new : AreNew name new
   pub made : Disk
   pub goes_on : GoesOnFrom start made
   pub written : IsNewPool (bytes_of made.now) name guid moment
-  pub finds : FindsCuts rounds answers (new_past new (moments start) 0) made found last
+  pub comes : ComesTo outcome rounds answers (new_past new (moments start) 0) made
+
+-- so the import behind the rounds finds the contents that they left
+abbrev pub FindsCutsFrom : List Round → List Answer → Disk → Contents → Disk → Type 0
+FindsCutsFrom rounds answers disk found last = ComesToFrom (Ok (found, last)) rounds answers disk
+
+abbrev pub FindsCutsOfNew : (name : List ℕ) (guid moment : ℕ) → List Round → List Answer → Disk → Contents → Disk → Type 0
+FindsCutsOfNew name guid moment rounds answers start found last = ComesToOfNew (Ok (found, last)) name guid moment rounds answers start
+
+-- or it is refused, behind rounds that had some answers, unless there was no memory for these
+abbrev pub IsRefusedFrom : List Round → Disk → PoolError → Type 0
+IsRefusedFrom rounds disk e = (e ≡ NoMemory) ⊎ ((answers : List Answer) × ComesToFrom (Err e) rounds answers disk)
+
+-- so also behind a create that was not refused
+abbrev pub IsRefusedOfNew : (name : List ℕ) (guid moment : ℕ) → List Round → Disk → PoolError → Type 0
+IsRefusedOfNew name guid moment rounds start e = (e ≡ NoMemory) ⊎ ((answers : List Answer) × ComesToOfNew (Err e) name guid moment rounds answers start)
+
+-- a refusal of rounds with this limit at their end: no memory for the answers, or that of an import
+abbrev pub IsRoundsRefusal : ℕ → PoolError → Type 0
+IsRoundsRefusal dirty_max e = (e ≡ NoMemory) ⊎ ((size : ℕ) × IsImportRefusal size dirty_max e)
+
+-- behind a create on a device of so many bytes, or that of the create
+abbrev pub IsRoundsOfNewRefusal : ℕ → List ℕ → ℕ → PoolError → Type 0
+IsRoundsOfNewRefusal size name dirty_max e = IsCreateRefusal size name e ⊎ (CanCreate size name × IsRoundsRefusal dirty_max e)
 
 -- rounds that are left go on from the answers so far
 abbrev pub GoesOnAs : List Round → List Round → List Answer → Disk → Disk → Type 0
-GoesOnAs all left answers first now = (rest : List Answer) (found : Contents) (last : Disk) → FindsCutsFrom left rest now found last → FindsCutsFrom all (answers ++ rest) first found last
+GoesOnAs all left answers first now = (rest : List Answer) (outcome : Outcome) → ComesToFrom outcome left rest now → ComesToFrom outcome all (answers ++ rest) first

@@ -30,19 +30,19 @@ ShowsHeld now shown = (contents : Contents) → HoldsContents now contents → s
 abbrev pub KeepsNoLog : List ℕ → List ℕ → Type 0
 KeepsNoLog old new = HasNoLogBlock old → HasNoLogBlock new
 
--- an import of the image at this moment left these bytes: their active uberblock is of the image's pool, four groups later, and has the moment
+-- the active uberblock of these bytes has this moment
+pub record HasMoment (now : List ℕ) (moment : ℕ) : Type 0 where
+  pub u : Uberblock
+  pub active : IsActive now u
+  pub moment_is : u.moment ≡ moment
+
+-- an import of the image at this moment left these bytes: their active uberblock has the moment, and is of the image's pool, four groups later
 pub record IsOpened (image now : List ℕ) (moment : ℕ) : Type 0 where
   pub before : Uberblock
   pub was_active : IsActive image before
-  pub after : Uberblock
-  pub active : IsActive now after
-  pub guid : after.guid ≡ before.guid
-  pub group : after.group ≡ before.group + 4
-  pub moment_is : after.moment ≡ moment
-
--- the active uberblock of these bytes has this moment: so an import at it left them
-abbrev pub HasMoment : List ℕ → ℕ → Type 0
-HasMoment now moment = (u : Uberblock) × IsActive now u × (u.moment ≡ moment)
+  pub after : HasMoment now moment
+  pub guid : after.u.guid ≡ before.guid
+  pub group : after.u.group ≡ before.group + 4
 
 -- Contents that a pool leaves: the replay, over its base, of its entries up to a group. This is the synced one, or that of a sync
 -- which runs.

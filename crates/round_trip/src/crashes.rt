@@ -5,12 +5,14 @@
 //! goes, or the device is handed to the next import with what is unflushed on it. Whatever comes, what the last import
 //! mounts is told by what each round acknowledged, round upon round.
 
-ghost use Rattle.std.specs.Prelude.{◌≡◌, IfOk, IsTrue};
-ghost use Rattle.base.specs.disk.Disk.{bytes_of};
+ghost use Rattle.std.specs.Prelude.{◌≡◌, ◌⊎◌, IfErr, IfOk, IsTrue};
+ghost use Rattle.base.specs.disk.Disk.{bytes_of, disk_size};
 ghost use Rattle.base.specs.history.Past.{Past};
 ghost use Rattle.object_maps.specs.ContentsShown.{contents_of};
+ghost use Rattle.import_replay.specs.CreateRefusals.{IsCreateRefusal};
+ghost use Rattle.import_replay.specs.ImportRefusals.{IsImportRefusal};
 ghost use Rattle.import_replay.specs.OwnCreations.{HasEarlierWrites};
-ghost use Rattle.round_trip.specs.Crashes.{FindsCutsFrom, FindsCutsOfNew, IsLeft, IsOverFor, IsRound};
+ghost use Rattle.round_trip.specs.Crashes.{FindsCutsFrom, FindsCutsOfNew, IsLeft, IsOverFor, IsRefusedFrom, IsRefusedOfNew, IsRound, IsRoundsOfNewRefusal, IsRoundsRefusal, counted_in, with_fault};
 ghost use Rattle.round_trip.specs.Rounds.{HasMoment};
 
 use crate::{make, open};
@@ -56,6 +58,8 @@ pub fn import_and_run<D: SectorDevice>(
 ) -> (Result<Vec<Reply>, PoolError>, D)
     ensures went { IsTrue D.keeps_model → (past : Past) → IsLeft past (D.disk device)
         → IsOverFor dirty_max moment steps.items result.0 past (D.disk device) (D.disk result.1) }
+    ensures count { D.refused result.1 ≡ counted_in result.0 (D.refused device) }
+    ensures refusal { IfErr result.0 (IsImportRefusal (D.size device) dirty_max) }
 {
     match import(alloc, device, dirty_max, moment) {
         Ok(imported) => {
@@ -75,6 +79,8 @@ pub fn go_round(
 ) -> (Result<Vec<Reply>, PoolError>, MemDevice)
     ensures went { (past : Past) → IsLeft past device.disk
         → IsRound round result.0 past device.disk result.1.disk }
+    ensures count { result.1.refused ≡ counted_in result.0 device.refused }
+    ensures refusal { IfErr result.0 (IsImportRefusal (disk_size device.disk) round.dirty_max) }
 {
     let Round {
         fault,
@@ -92,7 +98,9 @@ pub fn go_round(
 }
 
 fn plan_fault(device: &mut MemDevice, fault: Option<(Fault, u64)>)
-    ensures { device.new.disk ≡ device.old.disk }
+    ensures device { device.new ≡ with_fault fault device.old }
+    ensures disk { device.new.disk ≡ device.old.disk }
+    ensures refused { device.new.refused ≡ device.old.refused }
 {
     if let Some((fault, n)) = fault {
         device.fail(fault, n);
@@ -114,6 +122,8 @@ pub fn go_rounds(
         (contents_of r.1.mounted.contents) r.1.device.disk) }
     ensures opened { IfOk result (λ r. HasMoment (bytes_of r.1.device.disk.now) moment) }
     ensures limit { IfOk result (λ r. r.1.mounted.dirty_max ≡ dirty_max) }
+    ensures refusal { IfErr result (λ e. IsRoundsRefusal dirty_max e) }
+    ensures reason { IfErr result (λ e. IsRefusedFrom rounds.items device.disk e) }
 {
     let mut device = device;
     let mut answers = Vec::with_capacity(alloc, rounds.len())?;
@@ -144,6 +154,11 @@ pub fn play_rounds(
         (contents_of r.1.mounted.contents) r.1.device.disk) }
     ensures opened { IfOk result (λ r. HasMoment (bytes_of r.1.device.disk.now) moment) }
     ensures limit { IfOk result (λ r. r.1.mounted.dirty_max ≡ dirty_max) }
+    ensures refusal { IfErr result
+        (λ e. IsRoundsOfNewRefusal (disk_size device.disk) name.now dirty_max e) }
+    ensures reason { HasEarlierWrites device.disk → IfErr result
+        (λ e. IsCreateRefusal (disk_size device.disk) name.now e
+        ⊎ IsRefusedOfNew name.now guid moment rounds.items device.disk e) }
 {
     let made = make(device, name, guid, moment)?;
     go_rounds(alloc, made, dirty_max, moment, rounds)

@@ -11,7 +11,7 @@ ghost use Rattle.base.specs.crash.Own.{IsOwnWith};
 ghost use Rattle.base.specs.disk.Disk.{bytes_of, moments};
 ghost use Rattle.import_replay.specs.CreateRefusals.{CanCreate, IsCreateRefusal};
 ghost use Rattle.import_replay.specs.Creations.{IsNewPool};
-ghost use Rattle.import_replay.specs.ImportRefusals.{CanImport, IsImportRefusal, IsReason};
+ghost use Rattle.import_replay.specs.ImportRefusals.{CanImport, FindsOwn, IsImportRefusal, IsReason};
 ghost use Rattle.import_replay.specs.OwnCreations.{HasEarlierWrites, first_contents};
 ghost use Rattle.import_replay.specs.RunStarts.{StartsRun};
 ghost use Rattle.object_maps.specs.ContentsShown.{contents_of};
@@ -80,6 +80,7 @@ pub fn open<D: SectorDevice + Drop>(
     ensures refusal { IfErr result (λ e. IsImportRefusal (D.size device) dirty_max e) }
     ensures reason { IsTrue D.keeps_model
         → IfErr result (λ e. IsReason (bytes_of (D.disk device).now) e) }
+    ensures sound { IsTrue D.keeps_model → IfErr result (λ e. FindsOwn (D.disk device) e) }
 {
     match import(alloc, device, dirty_max, moment) {
         Ok(imported) => Ok(imported),

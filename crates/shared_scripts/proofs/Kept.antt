@@ -11,7 +11,7 @@ use Rattle.device_model.specs.MemState.{MemState}
 use Rattle.device_model.specs.Plans.{with_plan}
 use Rattle.device_model.specs.declared.fault.Fault.{Fault}
 use Rattle.pool_threads.specs.Handles.{OpensBehind, opening_view, view_seen}
-use Rattle.pool_threads.specs.Views.{CrashRule, GrowsTo, IsFollowed, View, grows_same, since, state_of}
+use Rattle.pool_threads.specs.Views.{CrashRule, GrowsTo, IsFollowed, SeenPool, grows_same, since, viewed_state}
 use Rattle.pool_threads.specs.Views.CrashRule.{Behind}
 use Rattle.round_trip.proofs.CrashRounds.{left_crashed}
 use Rattle.round_trip.specs.Crashes.{IsLeft}
@@ -34,9 +34,9 @@ use Rattle.shared_scripts.specs.declared.shared_pool.SharedPool.{SharedPool}
 use Rattle.word_lock.specs.Seats.{seen}
 
 -- from one view to a later one the past grows, of a pool of whichever create
-grows_since : (created : ℕ) (v w : View) → GrowsTo v w → ∥ Grows (since created v.past) (since created w.past) ∥₁
+grows_since : (created : ℕ) (v w : SeenPool) → GrowsTo v w → ∥ Grows (since created v.past) (since created w.past) ∥₁
 grows_since created v w onward = ∥∥₁_map onward.goes_on (λ r.
-    let g : Grows v.past w.past = runs_grow r.0 r.1 (state_of v) (state_of w) r.2 in
+    let g : Grows v.past w.past = runs_grow r.0 r.1 (viewed_state v) (viewed_state w) r.2 in
     record {
       base = g.base;
       created = refl;

@@ -9,7 +9,7 @@ use Rattle.base.specs.steps.Explains.{IsLeftBy}
 use Rattle.device_model.specs.MemState.{MemState}
 use Rattle.import_replay.specs.OwnCreations.{HasEarlierWrites}
 use Rattle.pool_threads.specs.Handles.{opening_view}
-use Rattle.pool_threads.specs.Views.{IsFollowed, since, state_of}
+use Rattle.pool_threads.specs.Views.{IsFollowed, since, viewed_state}
 use Rattle.round_trip.specs.Crashes.{IsLeft}
 use Rattle.scripts.specs.Kept.{IsFairCrash, LeavesNew}
 use Rattle.scripts.specs.Places.{has_what_it_needs}
@@ -60,7 +60,7 @@ pub record TakesFromRun (past : Past) (old : SharedPlace) (P : Past → MemState
 pub record BeginsShared (earlier : Past) (dirty_max : ℕ) (shared : SharedPool) : Type 0 where
   pub base : Contents
   pub left : IsLeftBy earlier base
-  pub shows : (state_of (opening_view shared.pool)).shown.contents ≡ base
+  pub shows : (viewed_state (opening_view shared.pool)).shown.contents ≡ base
   pub begins : since earlier.created (opening_view shared.pool).past ≡ new_past base earlier.created dirty_max
   pub later : Past
   pub goes_on : Grows (new_past base earlier.created dirty_max) later

@@ -10,7 +10,7 @@ use Rattle.device_model.specs.MemState.{MemState, new_state}
 use Rattle.import_replay.specs.Mounts.{shown_of_import}
 use Rattle.import_replay.specs.declared.mounted.Mounted.{Mounted}
 use Rattle.pool_threads.specs.Handles.{LeavesSame, OpensBehind, opening_view}
-use Rattle.pool_threads.specs.Views.{GrowsTo, state_of}
+use Rattle.pool_threads.specs.Views.{GrowsTo, viewed_state}
 use Rattle.scripts.specs.Devices.{CreatesOn, IsImportRun, IsLeftByImport, MakesNoDevice, imported_answer}
 use Rattle.scripts.specs.Places.{AsksIn, CrashesOn, PlansFault, has_device, has_pool}
 use Rattle.scripts.specs.declared.answer.Answer.{Answer}
@@ -62,7 +62,7 @@ IsGivenBack device told new = (told ≡ answer.Reply (Refused NoMemory)) × (new
 -- a pool that shows what was mounted of this disk is shared behind it, with this moment of its syncs; no transaction has begun, and no handle had a turn
 pub record IsMountShared (old : Disk) (mounted : Mounted) (moment : ℕ) (shared : SharedPool) : Type 0 where
   pub opened : OpensBehind (IsTrue true) old (shown_of_import mounted).dirty_max (opening_view shared.pool)
-  pub shown : (state_of (opening_view shared.pool)).shown ≡ shown_of_import mounted
+  pub shown : (viewed_state (opening_view shared.pool)).shown ≡ shown_of_import mounted
   pub moment_is : shared.pool.moment ≡ moment
   pub onward : GrowsTo (opening_view shared.pool) (seen shared.last.seat)
   pub no_turn : turns shared.last.seat ≡ []

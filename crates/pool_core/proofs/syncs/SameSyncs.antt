@@ -8,7 +8,7 @@ use Rattle.std.specs.Option.{option_map_or}
 use Rattle.base.specs.declared.error.PoolError.{PoolError}
 use Rattle.base.specs.declared.error.PoolError.TheVariants as error
 use Rattle.base.specs.declared.pointer.Pointer.{Pointer}
-use Rattle.base.specs.formats.Geometry.{block_address}
+use Rattle.base.specs.formats.Geometry.{block_address, block_count}
 use Rattle.base.specs.disk.SyncOrder.{DeviceCall}
 use Rattle.base.specs.disk.SyncOrder.DeviceCall.{Block, Config, Uberblock, Flush}
 use Rattle.base.specs.formats.Uberblocks.{Uberblock as Fields, IsUberblock}
@@ -23,7 +23,9 @@ use Rattle.pool_core.specs.declared.pool.RunningSync.{RunningSync}
 use Rattle.pool_core.specs.Shows.{plan_of}
 use Rattle.extents.specs.Unsynced.{changes_at}
 use Rattle.sync.specs.Runs.{SameSync, call_count, other_calls}
+use Rattle.throttle.specs.DirtyBytes.{total_of}
 use Rattle.pool_core.specs.declared.pool.Pool.{Pool}
+use Rattle.pool_core.specs.Accounts.{IsFreeSetOf}
 use Rattle.pool_core.specs.Holds.{tree_after}
 use Rattle.pool_core.specs.Running.{IsRunning}
 use Rattle.pool_core.specs.RunningUberblocks.{WritesUberblock, uberblock_with}
@@ -85,8 +87,16 @@ abbrev pub taken_count : Option RunningSync → ℕ
 taken_count sync = option_map_or (λ (r : RunningSync). length r.run.blocks.items) sync 0
 
 -- after a call it has as many
-pub same_taken_count : (sync : Option RunningSync) (r : RunningSync) (new : SyncRun) → SameSync r.run new → sync ≡ Some r → taken_count sync ≡ length new.blocks.items
+same_taken_count : (sync : Option RunningSync) (r : RunningSync) (new : SyncRun) → SameSync r.run new → sync ≡ Some r → taken_count sync ≡ length new.blocks.items
 same_taken_count sync r new same is = ap taken_count is ∙ ap (λ (v : Vec PlannedBlock). length v.items) (sym same.blocks)
+
+-- so they are counted in the free set as they were
+pub counted_still : (pool : Pool) (r : RunningSync) (new : SyncRun) → SameSync r.run new → pool.sync ≡ Some r → IsFreeSetOf (block_count pool.geometry) (length new.blocks.items) (total_of pool.dirty) pool.free
+counted_still pool r new same is = record {
+  sized = pool.free_counted.sized;
+  taken = pool.free_counted.taken ∙ same_taken_count pool.sync r new same is;
+  reserved = pool.free_counted.reserved;
+}
 
 -- and its uberblock is the one that it was
 pub same_uberblock : (old new : SyncRun) → SameSync old new → (u : Fields) → WritesUberblock u old → WritesUberblock u new

@@ -9,9 +9,10 @@ use Rattle.base.specs.declared.pointer.Pointer.{Pointer}
 use Rattle.base.specs.declared.step.Reply.TheVariants as reply
 use Rattle.base.specs.declared.names.Group.{Group}
 use Rattle.base.specs.disk.Disk.{Disk, bytes_of, put}
-use Rattle.base.specs.formats.Geometry.{slot_of, slot_place}
+use Rattle.base.specs.formats.Geometry.{block_address, slot_of, slot_place}
 use Rattle.base.specs.tree.Places.{Place}
 use Rattle.base.specs.tree.PlannedTrees.{NewBlock}
+use Rattle.base.specs.steps.Shown.{SyncPlan}
 use Rattle.base.specs.stored.Stored.{Advances, NewTree, total_calls}
 use Rattle.base.specs.crash.SyncCalls.PoolCall.{Put, Settle}
 use Rattle.base.specs.disk.SyncOrder.{DeviceCall, calls_in_order}
@@ -30,6 +31,8 @@ use Rattle.pool_core.specs.declared.pool.Pool.{Pool}
 use Rattle.pool_core.specs.declared.pool.RunningSync.{RunningSync}
 use Rattle.pool_core.specs.Holds.{Leads, SamePlaces, Told, made_by, new_tree_of, pool_told}
 use Rattle.pool_core.specs.Pointers.{pointers_after}
+use Rattle.pool_core.specs.Shows.{contents_after_oldest, plan_of, pool_shown}
+use Rattle.pool_core.proofs.syncs.SameSyncs.{same_taken}
 
 -- each call of a list, with its place in it
 abbrev EachAt : (ℕ → DeviceCall → Type 0) → ℕ → List DeviceCall → Type 0
@@ -155,6 +158,16 @@ was_running pool r is = ap (λ (o : Option RunningSync). option_map (new_tree_of
 -- and its group
 pub was_syncing : (pool : Pool) (r : RunningSync) → pool.sync ≡ Some r → pool.groups.line.syncing ≡ Some r.group.0
 was_syncing pool r is = sym pool.sync_line ∙ ap (λ (o : Option RunningSync). option_map (λ (r : RunningSync). r.group.0) o) is
+
+-- and its plan
+pub was_planned : (pool : Pool) (r : RunningSync) → pool.sync ≡ Some r → (pool_shown pool).sync ≡ Some (plan_of pool.log_address pool.tree (contents_after_oldest pool) r)
+was_planned pool r is = ap (λ (o : Option RunningSync). option_map (plan_of pool.log_address pool.tree (contents_after_oldest pool)) o) is
+
+-- of which the next state of its run leaves so many calls
+pub planned_still : (pool : Pool) (r : RunningSync) (next : SyncRun) → SameSync r.run next → (left : ℕ) → call_count next - next.done ≡ left
+    → (let plan : SyncPlan = plan_of pool.log_address pool.tree (contents_after_oldest pool) r in
+    (let now : SyncPlan = record plan { steps_left = call_count next - next.done; taken = map (λ (b : PlannedBlock). block_address b.index) next.blocks.items } in now) ≡ record plan { steps_left = left })
+planned_still pool r next same left is = λ k. record (plan_of pool.log_address pool.tree (contents_after_oldest pool) r) { steps_left = is k; taken = same_taken r.run next same k }
 
 -- after a refused call it is as before
 pub failed_running : (pool : Pool) (r : RunningSync) (next : SyncRun) → pool.sync ≡ Some r → SameSync r.run next → next.done ≡ r.run.done

@@ -30,51 +30,36 @@ pub step_more : (s n : Shown) (group : ℕ) (plan : SyncPlan) → s.suspended �
 step_more s n group plan h is running left same = λ past.
     (past, rw (goes_on s group h is) (group, plan, is, running, (left, ap (λ (x : Shown). let state : State = record { shown = x; past = past } in state) same)))
 
-pub step_failed : (s n : Shown) (group : ℕ) (plan : SyncPlan) (e : PoolError) → s.suspended ≡ false → s.line.syncing ≡ Some group → (e ≡ error.Write) ⊎ (e ≡ error.Flush)
+pub step_failed : (s n : Shown) (group : ℕ) (e : PoolError) → s.suspended ≡ false → s.line.syncing ≡ Some group → (e ≡ error.Write) ⊎ (e ≡ error.Flush)
     → n ≡ record s { suspended = true } → Meets SyncStep (Err e) s n
-step_failed s n group plan e h is failed same = λ past.
+step_failed s n group e h is failed same = λ past.
     (past, rw (goes_on s group h is) (failed, ap (λ (x : Shown). let state : State = record { shown = x; past = past } in state) same))
 
--- the last call of a sync: its group is synced, where no log block is kept
+-- what is shown once a group is synced by its plan, where no log block is kept
+abbrev shown_synced : Shown → ℕ → SyncPlan → Shown
+shown_synced s group plan = record s {
+  line = record s.line { synced = group; syncing = None };
+  dirty = finite.remove s.dirty group;
+  reserved = finite.remove s.reserved group;
+  free = set.union s.free (set.from_list plan.freed);
+  log = record s.log { pending = filter (λ (r : Record). nat_lt group r.group) s.log.pending };
+  root = plan.root;
+  synced_contents = plan.contents;
+  lengths = plan.lengths;
+  sync = None;
+}
+
+-- the last call of a sync: its group is synced
 pub step_synced : (s n : Shown) (group g : ℕ) (plan : SyncPlan) → s.suspended ≡ false → s.line.syncing ≡ Some group → s.sync ≡ Some plan → plan.steps_left ≡ 1 → g ≡ group
-    → s.log.kept ≡ []
-    → n ≡ record s {
-      line = record s.line { synced = group; syncing = None };
-      dirty = finite.remove s.dirty group;
-      reserved = finite.remove s.reserved group;
-      free = set.union s.free (set.from_list plan.freed);
-      log = record s.log { pending = filter (λ (r : Record). nat_lt group r.group) s.log.pending };
-      root = plan.root;
-      synced_contents = plan.contents;
-      lengths = plan.lengths;
-      sync = None;
-    }
-    → Meets SyncStep (Ok (Synced g)) s n
+    → s.log.kept ≡ [] → n ≡ shown_synced s group plan → Meets SyncStep (Ok (Synced g)) s n
 step_synced s n group g plan h is running last same_group no_kept same = λ past.
     let later : Past = record past { acknowledged = past.acknowledged ++ ordinals_of group past.entries } in
     let back : plan.freed ≡ returned_addresses plan s.log = sym (append-nil plan.freed)
     ∙ ap (λ (kept : List KeptBlock). plan.freed ++ map (λ (b : KeptBlock). b.address) (blocks_before plan.header kept)) (sym no_kept) in
     let kept : s.log.kept ≡ filter (λ (b : KeptBlock). nat_le plan.header.number b.number) s.log.kept =
     no_kept ∙ ap (λ (l : List KeptBlock). filter (λ (b : KeptBlock). nat_le plan.header.number b.number) l) (sym no_kept) in
-    let all : record s {
-      line = record s.line { synced = group; syncing = None };
-      dirty = finite.remove s.dirty group;
-      reserved = finite.remove s.reserved group;
-      free = set.union s.free (set.from_list plan.freed);
-      log = record s.log { pending = filter (λ (r : Record). nat_lt group r.group) s.log.pending };
-      root = plan.root;
-      synced_contents = plan.contents;
-      lengths = plan.lengths;
-      sync = None;
-    } ≡ (state_after_sync group plan (record { shown = s; past = past })).shown = λ k. record s {
-      line = record s.line { synced = group; syncing = None };
-      dirty = finite.remove s.dirty group;
-      reserved = finite.remove s.reserved group;
+    let all : shown_synced s group plan ≡ (state_after_sync group plan (record { shown = s; past = past })).shown = λ k. record (shown_synced s group plan) {
       free = set.union s.free (set.from_list (back k));
       log = record s.log { pending = filter (λ (r : Record). nat_lt group r.group) s.log.pending; kept = kept k };
-      root = plan.root;
-      synced_contents = plan.contents;
-      lengths = plan.lengths;
-      sync = None;
     } in
     (later, rw (goes_on s group h is) (group, plan, is, running, (last, same_group, ap (λ (x : Shown). let state : State = record { shown = x; past = later } in state) (same ∙ all))))

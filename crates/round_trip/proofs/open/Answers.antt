@@ -26,11 +26,9 @@ returns-in-Ok-clause-opened g c = λ keeps.
     record {
       before = synced.u;
       was_active = synced.active;
-      after = uberblock_of_import c.args.moment c.in-Ok.imported.mounted;
-      active = c.in-Ok.ensures.active keeps;
+      after = record { u = uberblock_of_import c.args.moment c.in-Ok.imported.mounted; active = c.in-Ok.ensures.active keeps; moment_is = refl };
       guid = synced.guid;
       group = synced.group;
-      moment_is = refl;
     }
 
 pub returns-in-Ok-clause-limit : goal.returns-in-Ok-clause-limit

@@ -22,6 +22,4 @@ returns-clause-found g c = λ keeps.
     })
 
 pub returns-clause-opened : goal.returns-clause-opened
-returns-clause-opened g c = λ keeps.
-    let o = c.in_ok-imported.ensures.opened keeps in
-    (o.after, o.active, o.moment_is)
+returns-clause-opened g c = λ keeps. (c.in_ok-imported.ensures.opened keeps).after

@@ -6,4 +6,4 @@ pub returns-clause-made : goal.returns-clause-made
 returns-clause-made g c =
     let held = c.in-Some.ensures.held in
     let done = c.step_guarded.ensures in
-    made_there _ _ _ _ (search rules) (made_by _ _ _ c.args.seat.now c.in-Some.guard.seat.now c.step_guarded.new.guard.0 held.1 held.2 done.stepped done.turn)
+    made_there _ _ _ _ (search rules) (made_by _ _ _ _ _ _ held.1 held.2 done.stepped)

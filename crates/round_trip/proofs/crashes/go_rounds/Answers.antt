@@ -1,8 +1,9 @@
-use Rattle.std.proofs.Common.{◌≡◌, ◌∙◌, [], length, sym, refl, rules}
+use Rattle.std.proofs.Common.{◌∙◌, inr, sym, refl, rules}
+use Rattle.std.specs.Prelude.{Err, Ok}
 use Rattle.std.specs.Vec.Iter.{into_iter_items}
-use Rattle.std.proofs.lemmas.List.{append-nil, nil_from_length}
+use Rattle.std.proofs.lemmas.Result.{err_from_is_err_and}
 use Rattle.object_maps.specs.ContentsShown.{contents_of}
-use Rattle.round_trip.proofs.CrashRounds.{last_import, one_more}
+use Rattle.round_trip.proofs.CrashRounds.{all_over, last_import, last_refusal, one_more}
 use Rattle.round_trip.proofs.crashes.go_rounds.Goals as goal
 
 pub loop-round-preserved : goal.loop-round-preserved
@@ -17,13 +18,22 @@ loop-round-preserved c = (
 
 pub returns-clause-found : goal.returns-clause-found
 returns-clause-found c =
-    let done = c.in-None.ensures.steps.0 in
-    let whole = c.loop-round.round-iterator.rest.ok.0 in
-    let none : length (into_iter_items c.loop-round.round-iterator) ≡ 0 = sym whole ∙ done in
-    rw (append-nil c.loop-round.answers.items) at (c.loop-round.invariant.3 [] (contents_of c.in_ok-imported.imported.mounted.contents) c.in_ok-imported.imported.device.disk (rw (nil_from_length (into_iter_items c.loop-round.round-iterator) none)
-    (λ past was. last_import c.args.dirty_max past c.loop-round.device.disk c.in_ok-imported.imported.device.disk c.in_ok-imported.imported.mounted was (c.in_ok-imported.ensures.own refl) (c.in_ok-imported.ensures.starts refl))))
+    let i = c.in_ok-imported.imported in
+    all_over c.args.rounds.items (into_iter_items c.loop-round.round-iterator) c.loop-round.answers.items c.args.device.disk c.loop-round.device.disk (Ok (contents_of i.mounted.contents, i.device.disk))
+    (sym c.loop-round.round-iterator.rest.ok.0 ∙ c.in-None.ensures.steps.0) c.loop-round.invariant.3
+    (λ past was. last_import c.args.dirty_max past c.loop-round.device.disk i.device.disk i.mounted was (c.in_ok-imported.ensures.own refl) (c.in_ok-imported.ensures.starts refl))
 
 pub returns-clause-opened : goal.returns-clause-opened
-returns-clause-opened c =
-    let o = c.in_ok-imported.ensures.opened refl in
-    (o.after, o.active, o.moment_is)
+returns-clause-opened c = (c.in_ok-imported.ensures.opened refl).after
+
+pub returns-in_err-imported-clause-reason : goal.returns-in_err-imported-clause-reason
+returns-in_err-imported-clause-reason c =
+    let e = c.in_err-imported.field-0.0 in
+    let refused = c.in_err-imported.ensures in
+    let p = err_from_is_err_and c.from_residual-in_err-imported.result c.from_residual-in_err-imported.ensures.1 in
+    rw (p.1, p.2) (inr (
+      c.loop-round.answers.items,
+      all_over c.args.rounds.items (into_iter_items c.loop-round.round-iterator) c.loop-round.answers.items c.args.device.disk c.loop-round.device.disk (Err e)
+          (sym c.loop-round.round-iterator.rest.ok.0 ∙ c.in-None.ensures.steps.0) c.loop-round.invariant.3
+          (λ past was. last_refusal past c.loop-round.device.disk e was (refused.sound refl) (refused.reason refl)),
+    ))

@@ -5,45 +5,48 @@ use Rattle.base.specs.crash.CrashRule.{KeepsOwn}
 use Rattle.import_replay.specs.ImportSyncs.{uberblock_of_import}
 use Rattle.import_replay.specs.RunStarts.{StartsRun}
 use Rattle.pool_core.specs.KeptSafe.{disk_of}
-use Rattle.pool_core.specs.States.{told}
-use Rattle.round_trip.specs.Crashes.{IsLeft, IsRoundOver}
+use Rattle.pool_core.specs.States.{refused_calls, told}
+use Rattle.round_trip.specs.Crashes.{IsLeft, IsRoundOver, counted_in}
 use Rattle.round_trip.specs.Rounds.{IsOpened}
-use Rattle.round_trip.proofs.CrashRounds.{over, refused_over}
+use Rattle.round_trip.proofs.CrashRounds.{over, refused_over, run_counted, run_refused}
 use Rattle.round_trip.proofs.crashes.import_and_run.Goals as goal
 
-pub returns-in-Ok : goal.returns-in-Ok
-returns-in-Ok g c = record {
-  went = λ keeps past was.
-      let disk = g.D.SectorDevice.disk in
-      let old : Disk = disk c.args.device in
-      let m = c.in-Ok.imported.mounted in
-      let state = c.new-state.result in
-      let end = c.run-answer.new.state in
-      let ss = c.args.steps.items in
-      let kept : KeepsOwn old (disk_of state) = subst (λ d. KeepsOwn old (disk d)) (sym c.new-state.ensures.device) (c.in-Ok.ensures.own keeps) in
-      let starts : StartsRun old c.args.dirty_max (disk_of state) m = subst (λ d. StartsRun old c.args.dirty_max (disk d) m) (sym c.new-state.ensures.device) (c.in-Ok.ensures.starts keeps) in
-      let synced = c.in-Ok.ensures.synced keeps in
-      let here : IsOpened (bytes_of old.now) (bytes_of (disk c.in-Ok.imported.device).now) c.args.moment = record {
-        before = synced.u;
-        was_active = synced.active;
-        after = uberblock_of_import c.args.moment m;
-        active = c.in-Ok.ensures.active keeps;
-        guid = synced.guid;
-        group = synced.group;
-        moment_is = refl;
-      } in
-      let opened : IsOpened (bytes_of old.now) (told state).now c.args.moment =
-      subst (λ d. IsOpened (bytes_of old.now) (bytes_of (disk d).now) c.args.moment) (sym c.new-state.ensures.device) here in
-      let limit = (c.in-Ok.ensures.explained 0).exact.charges.limit in
-      let sized : disk_size (disk_of state) ≡ m.geometry = ap (λ d. disk_size (disk d)) c.new-state.ensures.device ∙ g.met.D.SectorDevice.sized keeps c.in-Ok.imported.device ∙ c.in-Ok.imported.sized in
-      ∥∥₁_map c.new-state.ensures.held (λ held.
-      subst (λ d. (later : _) × IsRoundOver c.args.dirty_max c.args.moment ss c.run-answer.result past later old (disk d) × IsLeft later (disk d)) (sym c.into_device.ensures)
-      (over keeps c.args.dirty_max past old m state was kept starts c.new-state.ensures.shown limit sized (held keeps) c.new-state.ensures.safe c.args.moment opened ss end c.run-answer.result
-      (c.run-answer.ensures.safe keeps) c.run-answer.ensures.kept));
-}
+pub returns-in-Ok-clause-went : goal.returns-in-Ok-clause-went
+returns-in-Ok-clause-went g c = λ keeps past was.
+    let disk = g.D.SectorDevice.disk in
+    let old : Disk = disk c.args.device in
+    let m = c.in-Ok.imported.mounted in
+    let state = c.new-state.result in
+    let end = c.run-answer.new.state in
+    let ss = c.args.steps.items in
+    let kept : KeepsOwn old (disk_of state) = subst (λ d. KeepsOwn old (disk d)) (sym c.new-state.ensures.device) (c.in-Ok.ensures.own keeps) in
+    let starts : StartsRun old c.args.dirty_max (disk_of state) m = subst (λ d. StartsRun old c.args.dirty_max (disk d) m) (sym c.new-state.ensures.device) (c.in-Ok.ensures.starts keeps) in
+    let synced = c.in-Ok.ensures.synced keeps in
+    let here : IsOpened (bytes_of old.now) (bytes_of (disk c.in-Ok.imported.device).now) c.args.moment = record {
+      before = synced.u;
+      was_active = synced.active;
+      after = record { u = uberblock_of_import c.args.moment m; active = c.in-Ok.ensures.active keeps; moment_is = refl };
+      guid = synced.guid;
+      group = synced.group;
+    } in
+    let opened : IsOpened (bytes_of old.now) (told state).now c.args.moment =
+    subst (λ d. IsOpened (bytes_of old.now) (bytes_of (disk d).now) c.args.moment) (sym c.new-state.ensures.device) here in
+    let limit = (c.in-Ok.ensures.explained 0).exact.charges.limit in
+    let sized : disk_size (disk_of state) ≡ m.geometry = ap (λ d. disk_size (disk d)) c.new-state.ensures.device ∙ g.met.D.SectorDevice.sized keeps c.in-Ok.imported.device ∙ c.in-Ok.imported.sized in
+    ∥∥₁_map c.new-state.ensures.held (λ held.
+    subst (λ d. (later : _) × IsRoundOver c.args.dirty_max c.args.moment ss c.run-answer.result past later old (disk d) × IsLeft later (disk d)) (sym c.into_device.ensures)
+    (over keeps c.args.dirty_max past old m state was kept starts c.new-state.ensures.shown limit sized (held keeps) c.new-state.ensures.safe c.args.moment opened ss end c.run-answer.result
+    (c.run-answer.ensures.safe keeps) c.run-answer.ensures.kept))
 
-pub returns-in-Err : goal.returns-in-Err
-returns-in-Err g c = record {
-  went = λ keeps past was.
-      refused_over c.args.dirty_max c.args.moment c.args.steps.items c.in-Err.error past (g.D.SectorDevice.disk c.args.device) (g.D.SectorDevice.disk c.in-Err.device) was (c.in-Err.ensures.own keeps);
-}
+pub returns-in-Ok-clause-count : goal.returns-in-Ok-clause-count
+returns-in-Ok-clause-count g c =
+    let refused = g.D.SectorDevice.refused in
+    ap refused c.into_device.ensures ∙ run_counted refused_calls c.run-answer.result c.new-state.result c.run-answer.new.state c.run-answer.ensures.count c.run-answer.ensures.refused c.run-answer.ensures.kept
+    ∙ ap (λ calls. counted_in c.run-answer.result calls) (ap refused c.new-state.ensures.device ∙ c.in-Ok.ensures.count)
+
+pub returns-in-Ok-clause-refusal : goal.returns-in-Ok-clause-refusal
+returns-in-Ok-clause-refusal g c = run_refused (g.D.SectorDevice.size c.args.device) c.args.dirty_max c.run-answer.result c.in-Ok.ensures.made c.run-answer.ensures.refused
+
+pub returns-in-Err-clause-went : goal.returns-in-Err-clause-went
+returns-in-Err-clause-went g c = λ keeps past was.
+    refused_over c.args.dirty_max c.args.moment c.args.steps.items c.in-Err.error past (g.D.SectorDevice.disk c.args.device) (g.D.SectorDevice.disk c.in-Err.device) was (c.in-Err.ensures.own keeps)

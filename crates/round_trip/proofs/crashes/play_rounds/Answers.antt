@@ -1,11 +1,25 @@
-use Rattle.std.proofs.Common.{refl}
-use Rattle.base.specs.disk.Disk.{Disk}
+use Rattle.std.proofs.Common.{inr, refl}
+use Rattle.std.specs.Prelude.{Ok}
+use Rattle.std.proofs.lemmas.Result.{IfErr-weaker, IfOk-weaker}
 use Rattle.object_maps.specs.ContentsShown.{contents_of}
-use Rattle.round_trip.proofs.CrashRounds.{found_after}
+use Rattle.round_trip.proofs.CrashRounds.{comes_behind, refused_behind}
 use Rattle.round_trip.proofs.crashes.play_rounds.Goals as goal
 
 pub returns-clause-found : goal.returns-clause-found
 returns-clause-found c = λ earlier.
-    let made : Disk = c.in_ok-made.made.disk in
-    found_after c.args.name.now c.args.guid c.args.moment c.args.rounds.items c.args.device.disk made c.go_rounds.result (λ r. r.0.items) (λ r. contents_of r.1.mounted.contents) (λ r. r.1.device.disk)
-    (c.in_ok-made.ensures.goes_on refl) (c.in_ok-made.ensures.written refl) (c.in_ok-made.ensures.own refl earlier) c.go_rounds.ensures.found
+    let a = c.args in
+    let made = c.in_ok-made.ensures in
+    IfOk-weaker c.go_rounds.result _ _
+    (λ r finds. comes_behind (Ok (contents_of r.1.mounted.contents, r.1.device.disk)) a.name.now a.guid a.moment a.rounds.items r.0.items a.device.disk c.in_ok-made.made.disk
+    (made.goes_on refl) (made.written refl) (made.own refl earlier) finds) c.go_rounds.ensures.found
+
+pub returns-clause-refusal : goal.returns-clause-refusal
+returns-clause-refusal c = IfErr-weaker c.go_rounds.result _ _ (λ e refused. inr (c.in_ok-made.ensures.made, refused)) c.go_rounds.ensures.refusal
+
+pub returns-clause-reason : goal.returns-clause-reason
+returns-clause-reason c = λ earlier.
+    let a = c.args in
+    let made = c.in_ok-made.ensures in
+    IfErr-weaker c.go_rounds.result _ _
+    (λ e refused. inr (refused_behind a.name.now a.guid a.moment a.rounds.items a.device.disk c.in_ok-made.made.disk e (made.goes_on refl) (made.written refl) (made.own refl earlier) refused))
+    c.go_rounds.ensures.reason

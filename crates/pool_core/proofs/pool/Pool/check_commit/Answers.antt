@@ -1,14 +1,11 @@
-use Rattle.std.proofs.Common.{◌∙◌, List, ℕ, sym, subst, arith}
-use Rattle.std.specs.FinMap.{FinMap}
-use Rattle.std.specs.Ordering.{nat_cmp}
+use Rattle.std.proofs.Common.{◌∙◌, sym, arith}
 use Rattle.std.specs.Prelude.{Err, Ok}
 use Rattle.std.proofs.lemmas.Result.{err_from_is_err_and}
-use Rattle.object_maps.specs.Judging.{JudgesOver}
 use Rattle.transactions.specs.Open.{admission_of}
 use Rattle.pool_core.specs.Shows.{pool_shown}
 use Rattle.pool_core.proofs.Opens.{above_last, up_to_last}
 use Rattle.pool_core.proofs.CommitSteps.{commit_fails, commit_many, commit_none, commit_out, commit_passes}
-use Rattle.pool_core.proofs.CommitTests.{in_plan, ops_allowed}
+use Rattle.pool_core.proofs.CommitTests.{in_plan, judged, ops_allowed}
 use Rattle.pool_core.proofs.pool.Pool.check_commit.Goals as goal
 
 pub returns-in_default-clause-refusal : goal.returns-in_default-clause-refusal
@@ -32,12 +29,9 @@ returns-in_err-judge-clause-refusal c =
     let ops = c.args.ops.now in
     let pool = c.args.self.now in
     let a = admission_of c.in-Some.transaction.now in
-    let passed = c.if-not-is_in_plan.false in
-    let allowed = ops_allowed tx ops pool a (sym c.in-Some.ensures) passed _ c.as_slice.ensures c.is_in_plan.ensures.equal in
-    let may = in_plan tx ops pool a (sym c.in-Some.ensures) passed c.in_ok-check_running.ensures (rw c.as_slice.ensures at c.is_in_plan.ensures.same) allowed in
+    let may = in_plan tx ops pool a (sym c.in-Some.ensures) c.if-not-is_in_plan.false _ c.as_slice.ensures c.is_in_plan.ensures.equal c.in_ok-check_running.ensures c.is_in_plan.ensures.same in
     let p = err_from_is_err_and c.from_residual-in_err-judge.result c.from_residual-in_err-judge.ensures.1 in
-    rw (p.1, p.2) (commit_fails tx ops a _ (pool_shown pool) may
-    (subst (λ (o : FinMap nat_cmp (List ℕ)). JudgesOver ops o (Err c.in_err-judge.field-0.0)) c.objects.ensures c.in_err-judge.ensures pool.synced.name))
+    rw (p.1, p.2) (commit_fails tx ops a _ (pool_shown pool) may (judged ops pool (Err c.in_err-judge.field-0.0) c.objects.ensures c.in_err-judge.ensures))
 
 pub returns-then-self-gt-LAST_NUMBER-clause-refusal : goal.returns-then-self-gt-LAST_NUMBER-clause-refusal
 returns-then-self-gt-LAST_NUMBER-clause-refusal c =
@@ -45,10 +39,8 @@ returns-then-self-gt-LAST_NUMBER-clause-refusal c =
     let ops = c.args.ops.now in
     let pool = c.args.self.now in
     let a = admission_of c.in-Some.transaction.now in
-    let passed = c.if-not-is_in_plan.false in
-    let allowed = ops_allowed tx ops pool a (sym c.in-Some.ensures) passed _ c.as_slice.ensures c.is_in_plan.ensures.equal in
-    let may = in_plan tx ops pool a (sym c.in-Some.ensures) passed c.in_ok-check_running.ensures (rw c.as_slice.ensures at c.is_in_plan.ensures.same) allowed in
-    let ok = subst (λ (o : FinMap nat_cmp (List ℕ)). JudgesOver ops o (Ok c.in_ok-judge.field-0)) c.objects.ensures c.in_ok-judge.ensures pool.synced.name in
+    let may = in_plan tx ops pool a (sym c.in-Some.ensures) c.if-not-is_in_plan.false _ c.as_slice.ensures c.is_in_plan.ensures.equal c.in_ok-check_running.ensures c.is_in_plan.ensures.same in
+    let ok = judged ops pool (Ok c.in_ok-judge.field-0) c.objects.ensures c.in_ok-judge.ensures in
     commit_many tx ops a ok.0 (pool_shown pool) may ok.1 (above_last pool.next_ordinal (omega arith))
 
 pub returns-clause-refusal : goal.returns-clause-refusal
@@ -57,10 +49,8 @@ returns-clause-refusal c =
     let ops = c.args.ops.now in
     let pool = c.args.self.now in
     let a = admission_of c.in-Some.transaction.now in
-    let passed = c.if-not-is_in_plan.false in
-    let allowed = ops_allowed tx ops pool a (sym c.in-Some.ensures) passed _ c.as_slice.ensures c.is_in_plan.ensures.equal in
-    let may = in_plan tx ops pool a (sym c.in-Some.ensures) passed c.in_ok-check_running.ensures (rw c.as_slice.ensures at c.is_in_plan.ensures.same) allowed in
-    let ok = subst (λ (o : FinMap nat_cmp (List ℕ)). JudgesOver ops o (Ok c.in_ok-judge.field-0)) c.objects.ensures c.in_ok-judge.ensures pool.synced.name in
+    let may = in_plan tx ops pool a (sym c.in-Some.ensures) c.if-not-is_in_plan.false _ c.as_slice.ensures c.is_in_plan.ensures.equal c.in_ok-check_running.ensures c.is_in_plan.ensures.same in
+    let ok = judged ops pool (Ok c.in_ok-judge.field-0) c.objects.ensures c.in_ok-judge.ensures in
     commit_passes tx ops a ok.0 (pool_shown pool) may ok.1 (up_to_last pool.next_ordinal (omega arith))
 
 pub returns-clause-allowed : goal.returns-clause-allowed

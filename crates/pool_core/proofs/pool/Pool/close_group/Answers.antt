@@ -1,8 +1,7 @@
 use Rattle.std.proofs.Common.{refl}
 use Rattle.std.proofs.lemmas.Result.{err_from_is_err_and}
-use Rattle.pool_core.proofs.Closes.{close_ends, close_moves, close_suspended}
+use Rattle.pool_core.proofs.Closes.{accounts_move_on, close_ends, close_moves, close_suspended}
 use Rattle.pool_core.proofs.HeldGroups.{close_keeps}
-use Rattle.throttle.proofs.ShownSums.{sums_stay_on_lines}
 use Rattle.pool_core.proofs.UnsyncedChanges.{moved_on}
 use Rattle.pool_core.specs.Shows.{pool_shown}
 use Rattle.pool_core.proofs.pool.Pool.close_group.Goals as goal
@@ -16,17 +15,10 @@ returns-in_err-check_running-clause-step c =
 pub invariant_of-self-clause-accounted : goal.invariant_of-self-clause-accounted
 invariant_of-self-clause-accounted c =
     let pool = c.args.self.now in
+    let ts = pool.transactions.transactions in
     let told = c.close_open.ensures in
-    let kept = close_keeps c.close_open.result pool.transactions.transactions pool.groups c.close_open.new.self pool.accounted.counted pool.accounted.holds_exact told.refused told.unchanged told.closed in
-    let moves = close_moves c.close_open.result pool.groups c.close_open.new.self told.unchanged told.closed in
-    record {
-      counted = kept.0;
-      holds_exact = kept.1;
-      charged = (sums_stay_on_lines pool.groups.line pool.dirty pool.accounted.charged).moved c.close_open.new.self.line moves.0 moves.1;
-      open_charged = pool.accounted.open_charged;
-      plans_built = pool.accounted.plans_built;
-      plans_small = pool.accounted.plans_small;
-    }
+    let kept = close_keeps c.close_open.result ts pool.groups c.close_open.new.self pool.accounted.counted pool.accounted.holds_exact told.refused told.unchanged told.closed in
+    accounts_move_on ts pool.groups c.close_open.new.self pool.dirty kept (close_moves c.close_open.result pool.groups c.close_open.new.self told.unchanged told.closed) pool.accounted
 
 pub invariant_of-self-clause-unsynced : goal.invariant_of-self-clause-unsynced
 invariant_of-self-clause-unsynced c =

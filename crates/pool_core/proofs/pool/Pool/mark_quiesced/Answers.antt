@@ -1,9 +1,8 @@
 use Rattle.std.proofs.Common.{refl}
 use Rattle.std.proofs.lemmas.Result.{err_from_is_err_and}
 use Rattle.groups.proofs.ExactHolds.{count_transactions}
-use Rattle.pool_core.proofs.Closes.{quiesce_ends, quiesce_moves, quiesce_suspended}
+use Rattle.pool_core.proofs.Closes.{accounts_move_on, quiesce_ends, quiesce_moves, quiesce_suspended}
 use Rattle.pool_core.proofs.HeldGroups.{quiesce_keeps}
-use Rattle.throttle.proofs.ShownSums.{sums_stay_on_lines}
 use Rattle.pool_core.proofs.UnsyncedChanges.{moved_on}
 use Rattle.pool_core.specs.Shows.{pool_shown}
 use Rattle.pool_core.proofs.pool.Pool.mark_quiesced.Goals as goal
@@ -17,17 +16,10 @@ returns-in_err-check_running-clause-step c =
 pub invariant_of-self-clause-accounted : goal.invariant_of-self-clause-accounted
 invariant_of-self-clause-accounted c =
     let pool = c.args.self.now in
+    let ts = pool.transactions.transactions in
     let told = c.mark_quiesced.ensures in
-    let kept = quiesce_keeps c.mark_quiesced.result pool.transactions.transactions pool.groups c.mark_quiesced.new.self pool.accounted.counted pool.accounted.holds_exact told.refused told.unchanged told.quiesced told.group in
-    let moves = quiesce_moves c.mark_quiesced.result pool.groups c.mark_quiesced.new.self told.unchanged told.quiesced in
-    record {
-      counted = kept.0;
-      holds_exact = kept.1;
-      charged = (sums_stay_on_lines pool.groups.line pool.dirty pool.accounted.charged).moved c.mark_quiesced.new.self.line moves.0 moves.1;
-      open_charged = pool.accounted.open_charged;
-      plans_built = pool.accounted.plans_built;
-      plans_small = pool.accounted.plans_small;
-    }
+    let kept = quiesce_keeps c.mark_quiesced.result ts pool.groups c.mark_quiesced.new.self pool.accounted.counted pool.accounted.holds_exact told.refused told.unchanged told.quiesced told.group in
+    accounts_move_on ts pool.groups c.mark_quiesced.new.self pool.dirty kept (quiesce_moves c.mark_quiesced.result pool.groups c.mark_quiesced.new.self told.unchanged told.quiesced) pool.accounted
 
 pub invariant_of-self-clause-unsynced : goal.invariant_of-self-clause-unsynced
 invariant_of-self-clause-unsynced c =

@@ -1,14 +1,12 @@
 use Rattle.std.proofs.Common.{◌≡◌, ◌∙◌, ◌≤◌, ◌-◌, ap, filter, inl, inr, map, nat_lt, sym, subst, refl, true, false, Some, None}
 use Rattle.std.specs.Prelude.{Bool, Option, Result, option_map}
 use Rattle.std.proofs.lemmas.Result.{err_from_is_err_and}
-use Rattle.base.specs.formats.Geometry.{block_address, block_count}
-use Rattle.tree_plans.specs.declared.planner.PlannedBlock.{PlannedBlock}
+use Rattle.base.specs.formats.Geometry.{block_count}
 use Rattle.base.specs.tree.PlacedTrees.{ArePlaced}
 use Rattle.base.specs.steps.Shown.{SyncPlan}
-use Rattle.sync.specs.Runs.{call_count}
 use Rattle.object_maps.specs.Pointers.{pointers_of}
 use Rattle.pool_core.specs.declared.pool.RunningSync.{RunningSync}
-use Rattle.pool_core.specs.Shows.{contents_after_oldest, plan_of, pool_shown, record_of, shown_after_tree}
+use Rattle.pool_core.specs.Shows.{pool_shown, record_of, shown_after_tree}
 use Rattle.pool_core.proofs.Mapped.{filter-map}
 use Rattle.pool_core.proofs.UnsyncedChanges.{has_room, open_three, same_contents, synced_changes, synced_within, syncing_follows}
 use Rattle.extents.specs.Unsynced.{changes_at}
@@ -17,7 +15,7 @@ use Rattle.base.specs.tree.Syncs.{is_rename}
 use Rattle.tree_plans.specs.declared.planner.Committed.{Committed}
 use Rattle.std.specs.List.{list_any}
 use Rattle.std.proofs.lemmas.List.Elements.{All-filter}
-use Rattle.pool_core.proofs.syncs.SameSyncs.{RunsIn, as_many, kept_sync, left_as_before, more_left, one_left, one_less, refused_as, runs_on, same_taken, same_taken_count}
+use Rattle.pool_core.proofs.syncs.SameSyncs.{RunsIn, as_many, counted_still, kept_sync, left_as_before, more_left, one_left, one_less, refused_as, runs_on}
 use Rattle.base.specs.disk.Disk.{bytes_of}
 use Rattle.base.specs.declared.step.Reply.TheVariants as reply
 use Rattle.groups.specs.CountedLines.{CountedLine, after_sync, line_after_sync}
@@ -30,7 +28,7 @@ use Rattle.base.specs.declared.error.PoolError.{PoolError}
 use Rattle.pool_core.specs.declared.state.Progress.{Progress}
 use Rattle.pool_core.specs.Holds.{SamePlaces, pool_told, made_by, sync_step_reply, tree_after}
 use Rattle.pool_core.proofs.StillSteps.{leads_as, still_pool}
-use Rattle.pool_core.proofs.syncs.SyncLeads.{advanced, failed_call, failed_running, synced_told, was_running, was_syncing}
+use Rattle.pool_core.proofs.syncs.SyncLeads.{advanced, failed_call, failed_running, planned_still, synced_told, was_planned, was_running, was_syncing}
 use Rattle.pool_core.proofs.syncs.SyncSteps.{step_failed, step_more, step_not_ready, step_suspended, step_synced}
 use Rattle.pool_core.proofs.pool.Pool.sync_step.Goals as goal
 
@@ -63,8 +61,7 @@ pub end_charges-requires-clause-next : goal.end_charges-requires-clause-next
 end_charges-requires-clause-next g c =
     let pool = c.args.self.now in
     let same = kept_sync c.in-Some-take.synced _ c.in-Some-take.ensures.value in
-    let syncing = sym pool.sync_line ∙ ap (λ (o : Option RunningSync). option_map (λ (r : RunningSync). r.group.0) o) c.in-Some.is in
-    syncing_next pool c.in-Some-take.synced.group.0 (syncing ∙ ap (λ (r : RunningSync). Some r.group.0) (sym same))
+    syncing_next pool c.in-Some-take.synced.group.0 (was_syncing pool c.in-Some.running c.in-Some.is ∙ ap (λ (r : RunningSync). Some r.group.0) (sym same))
 
 pub invariant_of-self-in-Ok-Last-clause-accounted : goal.invariant_of-self-in-Ok-Last-clause-accounted
 invariant_of-self-in-Ok-Last-clause-accounted g c =
@@ -106,59 +103,35 @@ invariant_of-self-in-Ok-Last-clause-unsynced g c =
           pool.unsynced.changed (open_three pool.groups.line pool.pending.items pool.accounted.counted.line pool.unsynced.open_or_before) c.lay_oldest.ensures.changes;
     })
 
-pub invariant_of-self-in-Ok-More : goal.invariant_of-self-in-Ok-More
-invariant_of-self-in-Ok-More g c =
-    let pool = c.args.self.now in
-    let is = c.in-Some.is in
-    let was = pool.running c.in-Some.running is in
-    let told = c.in-Ok-More.ensures in
-    let left = more_left c.in-Some.running.run c.next.new.self told.counts.same told.counts.done was.left (λ e. let other = sym c.in-Ok-More.field-0-is ∙ told.counts.last.1 e in cc) in
-    record {
-      free_counted = record {
-        sized = pool.free_counted.sized;
-        taken = pool.free_counted.taken ∙ same_taken_count pool.sync c.in-Some.running c.next.new.self told.counts.same is;
-        reserved = pool.free_counted.reserved;
-      };
-      import_fits = pool.import_fits;
-      next_ordinal_fits = pool.next_ordinal_fits;
-      accounted = pool.accounted;
-      running = λ x e. subst (RunsIn pool) (kept_sync _ x e) (runs_on pool c.in-Some.running c.next.new.self told.counts.same left.1 was);
-      sync_line = ap (λ (o : Option RunningSync). option_map (λ (r : RunningSync). r.group.0) o) (sym is) ∙ pool.sync_line;
-      tree_placed = pool.tree_placed;
-      unsynced = record {
-        built = pool.unsynced.built;
-        open_or_before = pool.unsynced.open_or_before;
-        within = pool.unsynced.within;
-        changed = pool.unsynced.changed;
-      };
-    }
+pub invariant_of-self-in-Ok-More-clause-free_counted : goal.invariant_of-self-in-Ok-More-clause-free_counted
+invariant_of-self-in-Ok-More-clause-free_counted g c = counted_still c.args.self.now c.in-Some.running c.next.new.self c.in-Ok-More.ensures.counts.same c.in-Some.is
 
-pub invariant_of-self-in-Err : goal.invariant_of-self-in-Err
-invariant_of-self-in-Err g c =
+pub invariant_of-self-in-Ok-More-clause-running : goal.invariant_of-self-in-Ok-More-clause-running
+invariant_of-self-in-Ok-More-clause-running g c =
     let pool = c.args.self.now in
-    let is = c.in-Some.is in
-    let was = pool.running c.in-Some.running is in
-    let told = c.in-Err.ensures in
-    let left = left_as_before c.in-Some.running.run c.next.new.self told.counts.same told.counts.done was.left in
-    record {
-      free_counted = record {
-        sized = pool.free_counted.sized;
-        taken = pool.free_counted.taken ∙ same_taken_count pool.sync c.in-Some.running c.next.new.self told.counts.same is;
-        reserved = pool.free_counted.reserved;
-      };
-      import_fits = pool.import_fits;
-      next_ordinal_fits = pool.next_ordinal_fits;
-      accounted = pool.accounted;
-      running = λ x e. subst (RunsIn pool) (kept_sync _ x e) (runs_on pool c.in-Some.running c.next.new.self told.counts.same left was);
-      sync_line = ap (λ (o : Option RunningSync). option_map (λ (r : RunningSync). r.group.0) o) (sym is) ∙ pool.sync_line;
-      tree_placed = pool.tree_placed;
-      unsynced = record {
-        built = pool.unsynced.built;
-        open_or_before = pool.unsynced.open_or_before;
-        within = pool.unsynced.within;
-        changed = pool.unsynced.changed;
-      };
-    }
+    let r = c.in-Some.running in
+    let was = pool.running r c.in-Some.is in
+    let counts = c.in-Ok-More.ensures.counts in
+    let left = (more_left r.run c.next.new.self counts.same counts.done was.left (λ e. let other = sym c.in-Ok-More.field-0-is ∙ counts.last.1 e in cc)).1 in
+    λ x e. subst (RunsIn pool) (kept_sync _ x e) (runs_on pool r c.next.new.self counts.same left was)
+
+pub invariant_of-self-in-Ok-More-clause-sync_line : goal.invariant_of-self-in-Ok-More-clause-sync_line
+invariant_of-self-in-Ok-More-clause-sync_line g c = sym (was_syncing c.args.self.now c.in-Some.running c.in-Some.is)
+
+pub invariant_of-self-in-Err-clause-free_counted : goal.invariant_of-self-in-Err-clause-free_counted
+invariant_of-self-in-Err-clause-free_counted g c = counted_still c.args.self.now c.in-Some.running c.next.new.self c.in-Err.ensures.counts.same c.in-Some.is
+
+pub invariant_of-self-in-Err-clause-running : goal.invariant_of-self-in-Err-clause-running
+invariant_of-self-in-Err-clause-running g c =
+    let pool = c.args.self.now in
+    let r = c.in-Some.running in
+    let was = pool.running r c.in-Some.is in
+    let counts = c.in-Err.ensures.counts in
+    let left = left_as_before r.run c.next.new.self counts.same counts.done was.left in
+    λ x e. subst (RunsIn pool) (kept_sync _ x e) (runs_on pool r c.next.new.self counts.same left was)
+
+pub invariant_of-self-in-Err-clause-sync_line : goal.invariant_of-self-in-Err-clause-sync_line
+invariant_of-self-in-Err-clause-sync_line g c = sym (was_syncing c.args.self.now c.in-Some.running c.in-Some.is)
 
 pub returns-in-Ok-clause-step : goal.returns-in-Ok-clause-step
 returns-in-Ok-clause-step g c =
@@ -166,16 +139,14 @@ returns-in-Ok-clause-step g c =
     let s = pool_shown pool in
     let is = c.in-Some.is in
     let told = c.in-Ok-Last.ensures in
-    let plan : SyncPlan = plan_of pool.log_address pool.tree (contents_after_oldest pool) c.in-Some.running in
-    let syncing = sym pool.sync_line ∙ ap (λ (o : Option RunningSync). option_map (λ (r : RunningSync). r.group.0) o) is in
+    let syncing = was_syncing pool c.in-Some.running is in
     let same = kept_sync c.in-Some-take.synced _ c.in-Some-take.ensures.value in
-    let running = ap (λ (o : Option RunningSync). option_map (plan_of pool.log_address pool.tree (contents_after_oldest pool)) o) is in
     let finished : c.finish_sync.new.self ≡ after_sync c.in-Some-take.synced.group.0 pool.groups =
     of_group (λ n. after_sync n pool.groups) pool.groups.line.syncing c.in-Some-take.synced.group.0 _ (syncing ∙ ap (λ (r : RunningSync). Some r.group.0) (sym same)) c.in-Ok.ensures.group c.in-Ok.ensures.synced in
     let pending = ap (map record_of) c.drop_synced.ensures ∙ sym (filter-map (λ (x : Record). nat_lt c.in-Some-take.synced.group.0 x.group) record_of pool.pending.items)
     ∙ (λ k. filter (λ (x : Record). nat_lt (same k).group.0 x.group) s.log.pending) in
     let contents = same_contents pool.changes pool.synced c.lay_oldest.new.synced c.lay_oldest.ensures.contents c.lay_oldest.new.changes c.lay_oldest.ensures.changes in
-    step_synced s _ c.in-Some.running.group.0 c.in-Some-take.synced.group.0 plan c.in_ok-check_running.ensures syncing running
+    step_synced s _ c.in-Some.running.group.0 c.in-Some-take.synced.group.0 _ c.in_ok-check_running.ensures syncing (was_planned pool c.in-Some.running is)
     (one_left c.in-Some.running.run c.next.new.self told.counts.same told.counts.done (told.counts.last.0 c.in-Ok-Last.field-0-is)) (ap (λ (r : RunningSync). r.group.0) same) refl
     (c.finish_tree.ensures.shown ∙ rw (finished, c.take.ensures.after, c.end_charges.ensures.dirty, c.end_charges.ensures.free, blocks_of-remove)
     (λ k. shown_after_tree (same k) pool.tree (record s {
@@ -191,35 +162,22 @@ returns-in-Ok-clause-step g c =
 pub returns-in-Ok-More-clause-step : goal.returns-in-Ok-More-clause-step
 returns-in-Ok-More-clause-step g c =
     let pool = c.args.self.now in
-    let s = pool_shown pool in
+    let r = c.in-Some.running in
     let is = c.in-Some.is in
-    let was = pool.running c.in-Some.running is in
-    let told = c.in-Ok-More.ensures in
-    let plan : SyncPlan = plan_of pool.log_address pool.tree (contents_after_oldest pool) c.in-Some.running in
-    let syncing = sym pool.sync_line ∙ ap (λ (o : Option RunningSync). option_map (λ (r : RunningSync). r.group.0) o) is in
-    let running = ap (λ (o : Option RunningSync). option_map (plan_of pool.log_address pool.tree (contents_after_oldest pool)) o) is in
-    let left = more_left c.in-Some.running.run c.next.new.self told.counts.same told.counts.done was.left (λ e. let other = sym c.in-Ok-More.field-0-is ∙ told.counts.last.1 e in cc) in
-    let steps = one_less c.in-Some.running.run c.next.new.self told.counts.same told.counts.done in
-    let taken = same_taken c.in-Some.running.run c.next.new.self told.counts.same in
-    step_more s _ c.in-Some.running.group.0 plan c.in_ok-check_running.ensures syncing running left.0
-    (λ k. record s { sync = Some (record plan { steps_left = steps k; taken = taken k }) })
+    let counts = c.in-Ok-More.ensures.counts in
+    let left = more_left r.run c.next.new.self counts.same counts.done (pool.running r is).left (λ e. let other = sym c.in-Ok-More.field-0-is ∙ counts.last.1 e in cc) in
+    let planned = planned_still pool r c.next.new.self counts.same _ (one_less r.run c.next.new.self counts.same counts.done) in
+    step_more (pool_shown pool) _ r.group.0 _ c.in_ok-check_running.ensures (was_syncing pool r is) (was_planned pool r is) left.0 (λ k. record (pool_shown pool) { sync = Some (planned k) })
 
 pub returns-in-Err-clause-step : goal.returns-in-Err-clause-step
 returns-in-Err-clause-step g c =
     let pool = c.args.self.now in
-    let s = pool_shown pool in
-    let is = c.in-Some.is in
+    let r = c.in-Some.running in
     let told = c.in-Err.ensures in
-    let plan : SyncPlan = plan_of pool.log_address pool.tree (contents_after_oldest pool) c.in-Some.running in
-    let syncing = sym pool.sync_line ∙ ap (λ (o : Option RunningSync). option_map (λ (r : RunningSync). r.group.0) o) is in
-    let running = ap (λ (o : Option RunningSync). option_map (plan_of pool.log_address pool.tree (contents_after_oldest pool)) o) is in
-    let steps = as_many c.in-Some.running.run c.next.new.self told.counts.same told.counts.done in
-    let taken = same_taken c.in-Some.running.run c.next.new.self told.counts.same in
-    let same : Some (record plan { steps_left = call_count c.next.new.self - c.next.new.self.done; taken = map (λ (b : PlannedBlock). block_address b.index) c.next.new.self.blocks.items }) ≡ s.sync =
-    (λ k. Some (record plan { steps_left = steps k; taken = taken k })) ∙ sym running in
-    step_failed s _ c.in-Some.running.group.0 plan c.in-Err.error c.in_ok-check_running.ensures syncing
-    (refused_as told.called.call c.in-Err.error told.called.refusal)
-    (λ k. record s { suspended = true; sync = same k })
+    let planned = planned_still pool r c.next.new.self told.counts.same _ (as_many r.run c.next.new.self told.counts.same told.counts.done) in
+    let same = ap (λ (q : SyncPlan). Some q) planned ∙ sym (was_planned pool r c.in-Some.is) in
+    step_failed (pool_shown pool) _ r.group.0 c.in-Err.error c.in_ok-check_running.ensures (was_syncing pool r c.in-Some.is) (refused_as told.called.call c.in-Err.error told.called.refusal)
+    (λ k. record (pool_shown pool) { suspended = true; sync = same k })
 
 pub returns-in_err-check_running-clause-leads : goal.returns-in_err-check_running-clause-leads
 returns-in_err-check_running-clause-leads g c = λ keeps.

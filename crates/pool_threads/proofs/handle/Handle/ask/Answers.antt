@@ -15,8 +15,8 @@ returns-clause-made g c =
     let done = c.step_guarded-reply.ensures in
     record {
       same_pool = (done.same.0.0 ∙ c.acquire-guard.ensures.same.0, refl);
-      made = made_by _ _ _ c.args.self.now.seat c.acquire-guard.result.seat.now c.step_guarded-reply.new.guard.0 held.1 held.2 done.stepped done.turn;
+      made = made_by _ _ _ _ _ _ held.1 held.2 done.stepped;
     }
 
 pub returns-clause-fits : goal.returns-clause-fits
-returns-clause-fits g c = fitting _ _ _ _ _ c.step_guarded-reply.ensures.stepped
+returns-clause-fits g c = fitting _ _ _ _ _ c.step_guarded-reply.ensures.stepped.made

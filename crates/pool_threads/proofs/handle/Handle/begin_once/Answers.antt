@@ -1,7 +1,7 @@
 use Rattle.std.proofs.Common.{refl, sym, subst, ◌∙◌}
 use Rattle.pool_threads.proofs.Limits.{ends_for_good}
 use Rattle.pool_threads.proofs.Made.{made_by}
-use Rattle.pool_threads.specs.Views.{Explains, state_of}
+use Rattle.pool_threads.specs.Views.{Explains, viewed_state}
 use Rattle.word_lock.specs.Seats.{seen}
 use Rattle.pool_threads.proofs.handle.Handle.begin_once.Goals as goal
 
@@ -16,8 +16,8 @@ returns-clause-made g c =
     let done = c.begin_guarded-answer.ensures in
     record {
       same_pool = (done.same.0.0 ∙ c.acquire-guard.ensures.same.0, refl);
-      made = made_by _ _ _ c.args.self.now.seat c.acquire-guard.result.seat.now c.begin_guarded-answer.new.guard.0 held.1 held.2 done.stepped done.turn;
+      made = made_by _ _ _ _ _ _ held.1 held.2 done.stepped;
     }
 
 pub returns-clause-for_good : goal.returns-clause-for_good
-returns-clause-for_good g c = λ ends. ends_for_good _ c.args.plan.now (state_of (seen c.begin_guarded-answer.new.guard.0)) c.begin_guarded-answer.result.0 c.begin_guarded-answer.ensures.above (c.may_pass-may_pass.ensures.done ends)
+returns-clause-for_good g c = λ ends. ends_for_good _ c.args.plan.now (viewed_state (seen c.begin_guarded-answer.new.guard.0)) c.begin_guarded-answer.result.0 c.begin_guarded-answer.ensures.above (c.may_pass-may_pass.ensures.done ends)
