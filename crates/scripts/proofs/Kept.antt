@@ -1,7 +1,6 @@
 -- What a session keeps of its pool goes on over the steps of a command, an import and a crash.
-use Rattle.std.proofs.Common.{arith, ◌≡◌, ◌∙◌, inl, inr, ℕ, zero, suc, ◌++◌, List, [], ◌∷◌, refl, sym, ap, subst}
+use Rattle.std.proofs.Common.{◌≡◌, ◌∙◌, inl, inr, ℕ, zero, suc, ◌++◌, List, [], ◌∷◌, refl, sym, ap, subst}
 use Rattle.std.specs.Prelude.{◌≢◌, ◌⊎◌, ◌-◌, ◌^◌, Option, Some, Result, Ok, Err, IfOk, IfSome, IsOk}
-use Rattle.std.specs.Global.{Vec}
 use Rattle.std.proofs.Math.Logic.{∥∥₁_map}
 use Rattle.base.specs.declared.step.Step as declared_step
 use Rattle.base.specs.declared.step.Step.TheVariants as step
@@ -14,7 +13,7 @@ use Rattle.base.specs.declared.piece.Piece.{Piece}
 use Rattle.base.specs.disk.Crashes.{crash_image}
 use Rattle.base.specs.disk.Disk.{Disk, MayLeave, disk_size}
 use Rattle.base.specs.steps.Runs.{Run}
-use Rattle.device_model.specs.MemState.{MemState, after_crash}
+use Rattle.device_model.specs.MemState.{MemState}
 use Rattle.device_model.specs.Plans.{with_plan}
 use Rattle.device_model.specs.declared.fault.Fault.{Fault}
 use Rattle.device_model.specs.declared.fault.Fault.TheVariants.{Read, Write, Flush}
@@ -22,7 +21,6 @@ use Rattle.import_replay.specs.Mounts.{shown_of_import}
 use Rattle.import_replay.specs.RunStarts.{StartsRun}
 use Rattle.import_replay.specs.declared.mounted.Mounted.{Mounted}
 use Rattle.pool_core.proofs.crash.SafeMoments.{kept_own}
-use Rattle.pool_core.specs.NewStates.{IsHeldAtFirst}
 use Rattle.pool_core.specs.States.{device_of, shown, told}
 use Rattle.round_trip.proofs.CrashRounds.{found, import_left, left_crashed, run_start, safe_found}
 use Rattle.round_trip.specs.Crashes.{IsLeft}
@@ -38,7 +36,7 @@ use Rattle.base.specs.history.Past.{Past}
 use Rattle.pool_core.specs.KeptSafe.{IsKeptSafe, IsSafeStep, OnDisk, on_disk}
 use Rattle.scripts.specs.Kept.{BeginsKept, BeginsRun, FindsLeft, GoesOnSafely, IsFairCrash, IsLastRunIn, IsMadeSafely, KeepsCuts}
 use Rattle.scripts.specs.Pools.{IsStepOf, MemPlace, MemPool, device_in, open_plan}
-use Rattle.scripts.specs.PoolSteps.{Asks, CommitsOps, Finishes, MakesSteps, Syncs, Then}
+use Rattle.scripts.specs.PoolSteps.{Asks, CommitsOps, Finishes, MakesSteps, Then}
 use Rattle.scripts.specs.declared.command.PoolCommand.{PoolCommand}
 use Rattle.scripts.specs.declared.command.PoolCommand.TheVariants as command
 

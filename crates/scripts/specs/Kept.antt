@@ -1,5 +1,5 @@
 -- What a session keeps of its pool over crashes, imports and steps, whatever moment the power goes.
-use Rattle.std.specs.Prelude.{ℕ, ◌≡◌, List, Result, Ok, IfSome, MatchResult}
+use Rattle.std.specs.Prelude.{ℕ, ◌≡◌, List, Result, Ok, IfSome}
 use Rattle.base.specs.declared.piece.Piece.{Piece}
 use Rattle.base.specs.declared.step.Step as declared_step
 use Rattle.base.specs.declared.step.Reply as declared_reply

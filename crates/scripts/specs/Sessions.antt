@@ -1,5 +1,5 @@
 -- What a command does in a session and leaves of it.
-use Rattle.std.specs.Prelude.{ℕ, ◌≡◌, ◌⊎◌, false, List, Option, None, Some, Result, Ok, Err, IfSome, IsErr, IsOk, IsTrue, is_ok}
+use Rattle.std.specs.Prelude.{ℕ, ◌≡◌, false, List, Option, None, Some, Result, Ok, Err, IfSome, IsErr, IsOk, IsTrue, is_ok}
 use Rattle.base.specs.declared.piece.Piece.{Piece}
 use Rattle.device_model.specs.MemState.{MemState}
 use Rattle.scripts.specs.Devices.{Creates, Imports}
