@@ -1,7 +1,6 @@
 -- What a session keeps of its pool goes on over the steps of a command, an import and a crash.
-use Rattle.std.proofs.Common.{arith, ◌≡◌, ◌∙◌, inl, inr, ℕ, zero, suc, ◌++◌, List, [], ◌∷◌, refl, sym, ap, subst}
-use Rattle.std.specs.Prelude.{◌≢◌, ◌⊎◌, ◌-◌, ◌^◌, Option, Some, Result, Ok, Err, IfOk, IfSome}
-use Rattle.std.specs.Global.{Vec}
+use Rattle.std.proofs.Common.{◌≡◌, ◌∙◌, inl, inr, ℕ, zero, suc, ◌++◌, List, [], ◌∷◌, refl, sym, ap, subst}
+use Rattle.std.specs.Prelude.{◌≢◌, ◌⊎◌, ◌-◌, ◌^◌, Option, Some, Result, Ok, Err, IfOk, IfSome, IsOk}
 use Rattle.std.proofs.Math.Logic.{∥∥₁_map}
 use Rattle.base.specs.declared.step.Step as declared_step
 use Rattle.base.specs.declared.step.Step.TheVariants as step
@@ -14,7 +13,7 @@ use Rattle.base.specs.declared.piece.Piece.{Piece}
 use Rattle.base.specs.disk.Crashes.{crash_image}
 use Rattle.base.specs.disk.Disk.{Disk, MayLeave, disk_size}
 use Rattle.base.specs.steps.Runs.{Run}
-use Rattle.device_model.specs.MemState.{MemState, after_crash}
+use Rattle.device_model.specs.MemState.{MemState}
 use Rattle.device_model.specs.Plans.{with_plan}
 use Rattle.device_model.specs.declared.fault.Fault.{Fault}
 use Rattle.device_model.specs.declared.fault.Fault.TheVariants.{Read, Write, Flush}
@@ -22,25 +21,22 @@ use Rattle.import_replay.specs.Mounts.{shown_of_import}
 use Rattle.import_replay.specs.RunStarts.{StartsRun}
 use Rattle.import_replay.specs.declared.mounted.Mounted.{Mounted}
 use Rattle.pool_core.proofs.crash.SafeMoments.{kept_own}
-use Rattle.pool_core.specs.NewStates.{IsHeldAtFirst}
 use Rattle.pool_core.specs.States.{device_of, shown, told}
 use Rattle.round_trip.proofs.CrashRounds.{found, import_left, left_crashed, run_start, safe_found}
 use Rattle.round_trip.specs.Crashes.{IsLeft}
 use Rattle.scripts.specs.Devices.{IfPool, IsImportedPool}
-use Rattle.scripts.specs.Places.{device_in}
+use Rattle.scripts.specs.Places.{AsksIn, CrashesOn}
 use Rattle.scripts.specs.declared.answer.Answer.{Answer}
 use Rattle.scripts.specs.declared.answer.Answer.TheVariants as answer
 use Rattle.scripts.specs.declared.command.Command.TheVariants as asked_command
 use Rattle.scripts.specs.declared.session.BadCommand.{BadCommand}
-use Rattle.scripts.specs.declared.session.Place.{Place}
-use Rattle.scripts.specs.declared.session.Place.TheVariants.{Nothing, Device, Pool}
+use Rattle.scripts.specs.declared.place.Place.TheVariants.{Nothing, Device, Pool}
 use Rattle.scripts.specs.declared.session.Session.{Session}
 use Rattle.base.specs.history.Past.{Past}
 use Rattle.pool_core.specs.KeptSafe.{IsKeptSafe, IsSafeStep, OnDisk, on_disk}
-use Rattle.scripts.specs.Kept.{BeginsKept, BeginsRun, FindsLeft, GoesOnSafely, IsFairCrash, IsKeptIn, IsMadeSafely, KeepsCuts}
-use Rattle.scripts.specs.Pools.{IsStepOf, MemPool, plan_of}
-use Rattle.scripts.specs.Sessions.{AsksIn}
-use Rattle.scripts.specs.PoolSteps.{Asks, CommitsOps, Finishes, MakesSteps, Syncs, Then}
+use Rattle.scripts.specs.Kept.{BeginsKept, BeginsRun, FindsLeft, GoesOnSafely, IsFairCrash, IsLastRunIn, IsMadeSafely, KeepsCuts}
+use Rattle.scripts.specs.Pools.{IsStepOf, MemPlace, MemPool, device_in, open_plan}
+use Rattle.scripts.specs.PoolSteps.{Asks, CommitsOps, Finishes, MakesSteps, Then}
 use Rattle.scripts.specs.declared.command.PoolCommand.{PoolCommand}
 use Rattle.scripts.specs.declared.command.PoolCommand.TheVariants as command
 
@@ -103,7 +99,7 @@ commit_made : (tx : TxId) (ops : List Op) (reply : declared_reply.Reply) (old ne
 commit_made tx ops reply old new past (inl made) kept = one_made _ reply old new past made kept
 commit_made tx ops reply old new past (inr none) kept = none_made old new past none.1 kept
 
-pub asked_safely : (asked : PoolCommand) (moment : ℕ) (reply : declared_reply.Reply) (old new : MemPool) (past : Past) → Asks IsStepOf plan_of asked moment reply old new → IsKeptSafe (on_disk old past)
+pub asked_safely : (asked : PoolCommand) (moment : ℕ) (reply : declared_reply.Reply) (old new : MemPool) (past : Past) → Asks IsStepOf open_plan asked moment reply old new → IsKeptSafe (on_disk old past)
     → IsMadeSafely old new past
 asked_safely (command.Commit tx contents) moment reply old new past made kept = commit_made tx _ reply old new past made kept
 asked_safely command.Start moment reply old new past made kept = one_made _ reply old new past made kept
@@ -112,7 +108,7 @@ asked_safely command.Sync moment reply old new past made kept =
     then_made step.CloseGroup _ (then_made step.MarkQuiesced _ (then_made (step.StartSync moment) (Finishes IsStepOf) finish_made)) reply old new past made kept
 asked_safely (command.Step s) moment reply old new past made kept = one_made s reply old new past made kept
 
-pub asked_in : (asked : PoolCommand) (moment : ℕ) (told : Answer) (old new : Place) (past : Past) → AsksIn asked moment old told new → IsKeptIn past old → GoesOnSafely old new past
+pub asked_in : (asked : PoolCommand) (moment : ℕ) (told : Answer) (old new : MemPlace) (past : Past) → AsksIn (Asks IsStepOf open_plan asked moment) old told new → IsLastRunIn past old → GoesOnSafely old new past
 asked_in asked moment (answer.Reply reply) (Pool old) (Pool new) past made kept = asked_safely asked moment reply old new past made kept
 asked_in asked moment (answer.Reply reply) (Pool old) (Device new) past made kept = absurd made
 asked_in asked moment (answer.Reply reply) (Pool old) Nothing past made kept = absurd made
@@ -122,16 +118,19 @@ asked_in asked moment told (Device old) new past made kept = absurd made
 asked_in asked moment told Nothing new past made kept = absurd made
 
 -- what is kept of a place is left on its device
-pub left_in : (place : Place) (device : MemState) (past : Past) → device_in place ≡ Some device → IsKeptIn past place → IsLeft past device.disk
+pub left_in : (place : MemPlace) (device : MemState) (past : Past) → device_in place ≡ Some device → IsLastRunIn past place → IsLeft past device.disk
 left_in Nothing device past is kept = absurd kept
 left_in (Device here) device past is kept = subst (λ (o : Option MemState). IfSome o (λ d. IsLeft past d.disk)) is kept
 left_in (Pool pool) device past is kept = subst (λ (o : Option MemState). IfSome o (λ d. IsLeft past d.disk)) is ((shown pool).guid, kept_own (on_disk pool past) kept)
 
--- a fair crash of it leaves it
-pub crash_kept : (place : Place) (device : MemState) (pieces : List Piece) (past : Past) → device_in place ≡ Some device → MayLeave device.disk.now (crash_image pieces device.disk.now)
-    → IsKeptIn past place → IfSome (device_in place) (IsFairCrash pieces past) → IsLeft past (after_crash pieces device).disk
-crash_kept place device pieces past is may kept fair =
-    left_crashed past device.disk (crash_image pieces device.disk.now) may (subst (λ (o : Option MemState). IfSome o (IsFairCrash pieces past)) is fair) (left_in place device past is kept)
+-- a fair crash of it leaves it, and so does one that is refused
+pub crash_kept : (place : MemPlace) (device : MemState) (pieces : List Piece) (told : Result Answer BadCommand) (new : MemPlace) (past : Past) → device_in place ≡ Some device
+    → CrashesOn pieces device told new → (IsOk told → MayLeave device.disk.now (crash_image pieces device.disk.now))
+    → IsLastRunIn past place → IfSome (device_in place) (IsFairCrash pieces past) → IsLastRunIn past new
+crash_kept place device pieces (Ok a) new past is crashes may kept fair =
+    subst (λ (p : MemPlace). IsLastRunIn past p) (sym crashes.2)
+    (left_crashed past device.disk (crash_image pieces device.disk.now) (may refl) (subst (λ (o : Option MemState). IfSome o (IsFairCrash pieces past)) is fair) (left_in place device past is kept))
+crash_kept place device pieces (Err e) new past is crashes may kept fair = subst (λ (p : MemPlace). IsLastRunIn past p) (sym crashes.1) (left_in place device past is kept)
 
 -- an import of it that answered Ok begins a run
 pub import_kept : (dirty_max : ℕ) (past : Past) (old : Disk) (m : Mounted) (device : MemState) (pool : MemPool) → IsLeft past old → KeepsOwn old device.disk
@@ -155,23 +154,23 @@ pub import_refused_kept : (past : Past) (old new : Disk) → IsLeft past old →
 import_refused_kept past old new was keeps = (import_left past old new was keeps).left
 
 -- what is so of each such pool is so of the one that is there
-pub pool_found : (past : Past) (dirty_max : ℕ) (place : Place) (device : MemState) (m : Mounted) → IfPool place (IsImportedPool device m) → IfPool place BeginsKept
+pub pool_found : (past : Past) (dirty_max : ℕ) (place : MemPlace) (device : MemState) (m : Mounted) → IfPool place (IsImportedPool device m) → IfPool place BeginsKept
     → ((pool : MemPool) → IsImportedPool device m pool → BeginsKept pool → ∥ BeginsRun past dirty_max pool ∥₁) → FindsLeft past dirty_max place
 pool_found past dirty_max (Pool pool) device m imported begins so = so pool imported begins
 pool_found past dirty_max (Device left) device m imported begins so = absurd imported
 pool_found past dirty_max Nothing device m imported begins so = absurd imported
 
-pub asked_kept : (asked : PoolCommand) (s : Session) (told : Result Answer BadCommand) (new : Session) → IfOk told (λ a. AsksIn asked s.moment s.place a new.place)
+pub asked_kept : (asked : PoolCommand) (s : Session) (told : Result Answer BadCommand) (new : Session) → IfOk told (λ a. AsksIn (Asks IsStepOf open_plan asked s.moment) s.place a new.place)
     → KeepsCuts (asked_command.Pool asked) s told new
 asked_kept asked s (Ok told) new made = λ past kept. asked_in asked s.moment told s.place new.place past made kept
 asked_kept asked s (Err e) new made = tt
 
 -- a plan to fail leaves it
-pub plan_kept : (place : Place) (old new : MemState) (past : Past) → place ≡ Device old → new.disk ≡ old.disk → IsKeptIn past place → IsLeft past new.disk
-plan_kept place old new past is same kept = subst (λ (d : Disk). IsLeft past d) (sym same) (subst (λ (p : Place). IsKeptIn past p) is kept)
+pub plan_kept : (place : MemPlace) (old new : MemState) (past : Past) → place ≡ Device old → new.disk ≡ old.disk → IsLastRunIn past place → IsLeft past new.disk
+plan_kept place old new past is same kept = subst (λ (d : Disk). IsLeft past d) (sym same) (subst (λ (p : MemPlace). IsLastRunIn past p) is kept)
 
-pub plan_kept_in : (place : Place) (old new : MemPool) (past : Past) → place ≡ Pool old → on_disk new ≡ on_disk old → IsKeptIn past place → IsKeptSafe (on_disk new past)
-plan_kept_in place old new past is same kept = subst (λ (f : Past → OnDisk). IsKeptSafe (f past)) (sym same) (subst (λ (p : Place). IsKeptIn past p) is kept)
+pub plan_kept_in : (place : MemPlace) (old new : MemPool) (past : Past) → place ≡ Pool old → on_disk new ≡ on_disk old → IsLastRunIn past place → IsKeptSafe (on_disk new past)
+plan_kept_in place old new past is same kept = subst (λ (f : Past → OnDisk). IsKeptSafe (f past)) (sym same) (subst (λ (p : MemPlace). IsLastRunIn past p) is kept)
 
 pub plan_disk : (fault : Fault) (n : ℕ) (s : MemState) → (with_plan fault n s).disk ≡ s.disk
 plan_disk Read n s = refl

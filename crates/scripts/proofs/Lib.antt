@@ -1,4 +1,4 @@
 pub mod Copies
 mod PoolSteps
 mod Zips
-mod Kept
+pub mod Kept

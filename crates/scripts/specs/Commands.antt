@@ -1,10 +1,11 @@
 -- What a line's words ask for.
-use Rattle.std.specs.Prelude.{◌≡◌, ◌<◌, ◌^◌, ◌⊎◌, ℕ, List, [], Some, Result, Ok, Err, IfOk, IsOk, IsSome, codes, drop, length, map, unwrap_or, vec_len}
+use Rattle.std.specs.Prelude.{◌≡◌, ◌<◌, ◌^◌, ◌⊎◌, ℕ, List, [], Some, Result, All, Ok, Err, IfOk, IsOk, IsOkAnd, IsOkUnless, IsSome, codes, drop, length, map, unwrap_or, vec_len}
 use Rattle.std.specs.Result.{OkIff}
 use Rattle.std.specs.Borrow.{Bor}
 use Rattle.base.specs.declared.range.Mode.TheVariants.{Reader}
 use Rattle.base.specs.declared.step.Step.{Step}
 use Rattle.base.specs.declared.step.Step.TheVariants as step
+use Rattle.device_model.specs.declared.fault.Fault.{Fault}
 use Rattle.scripts.specs.declared.command.Command.{Command}
 use Rattle.scripts.specs.declared.command.Command.TheVariants.{Create, Import, Crash, Fail, Pool}
 use Rattle.scripts.specs.declared.command.LineError.{LineError}
@@ -27,14 +28,14 @@ abbrev pub IsFailOf : List ℕ → List ℕ → Command → Type 0
 IsFailOf call count (Fail fault n) = (call ≡ call_name fault) × IsNumberBelow (2 ^ 64) count × (n ≡ spelled_number count) × (0 < n)
 IsFailOf call count _ = ⊥
 
--- a begin of this owner with a shape for each of these words
+-- a begin of this owner, which is a number, with a shape for each of these words
 abbrev pub IsBeginOf : List ℕ → Words → Step → Type 0
-IsBeginOf owner words (step.Begin o plan) = (o.0 ≡ spelled_number owner) × (length plan ≡ length words) × AreShapesOf words plan
+IsBeginOf owner words (step.Begin o plan) = IsNumberBelow (2 ^ 32) owner × (o.0 ≡ spelled_number owner) × (length plan ≡ length words) × AreShapesOf words plan
 IsBeginOf owner words _ = ⊥
 
--- a commit of this transaction with the bytes of these words
+-- a commit of this transaction, which is a number, with the bytes of these words
 abbrev pub IsCommitOf : List ℕ → List (Bor (List ℕ)) → PoolCommand → Type 0
-IsCommitOf tx words (pool.Commit t contents) = (t.0 ≡ spelled_number tx) × (vec_len contents ≡ length words) × AreContentsOf words contents.items
+IsCommitOf tx words (pool.Commit t contents) = IsNumberBelow (2 ^ 64) tx × (t.0 ≡ spelled_number tx) × (vec_len contents ≡ length words) × AreContentsOf words contents.items
 IsCommitOf tx words _ = ⊥
 
 -- the lines of a step that tells what the contents are, where an object ends, or what the pool's groups and sums are
@@ -140,18 +141,21 @@ pub record ReadsPool {A : Type 0} (of : PoolCommand → A) (words : Words) (r : 
   pub sync : HasForm words (codes "sync") 1 → r ≡ Ok (of pool.Sync)
   pub step : ReadsStep (λ s. of (pool.Step s)) words r
 
--- what the words of a line that works on the device as it is are read as
+-- what the words of a line that works on the device as it is are read as; a plan to fail is read where its words are those of one
 pub record ReadsDeviceLine (words : Words) (r : Result Command LineError) : Type 0 where
   pub fail : HasForm words (codes "fail") 3 → IfOk r (IsFailOf (word words 1) (word words 2))
+  pub fail_read : HasForm words (codes "fail") 3 → (fault : Fault) → word words 1 ≡ call_name fault → 0 < spelled_number (word words 2) → IsNumberBelow (2 ^ 64) (word words 2) → IsOk r
   pub pool : ReadsPool Pool words r
 
--- what the words of a line are read as
+-- What the words of a line are read as. Where those of a create or a crash are good, it is read but for want of memory.
 pub record ReadsWords (words : Words) (r : Result Command LineError) : Type 0 where
   pub create : HasForm words (codes "create") 3 → IfOk r (λ asked. (asked ≡ Create (word words 1) (spelled_number (word words 2)))
       × (0 < length (word words 1)) × IsNumberBelow (2 ^ 64) (word words 2))
+  pub create_read : HasForm words (codes "create") 3 → 0 < length (word words 1) → IsNumberBelow (2 ^ 64) (word words 2) → IsOkUnless r NoMemory
   pub import : HasForm words (codes "import") 2 → OkIff r (IsNumberBelow (2 ^ 64) (word words 1)) (Import (spelled_number (word words 1)))
-  pub crash : HasForm words (codes "crash") 1 → IfOk r (IsCrashOf [])
+  pub crash : HasForm words (codes "crash") 1 → IsOkAnd r (IsCrashOf [])
   pub crash_of : HasForm words (codes "crash") 2 → IfOk r (IsCrashOf (word words 1))
+  pub crash_read : HasForm words (codes "crash") 2 → 0 < length (word words 1) → All (λ letter. IsSome (piece_of letter)) (word words 1) → IsOkUnless r NoMemory
   pub device : ReadsDeviceLine words r
 
 -- a line is read by its words between single spaces (32), or there is no memory for them

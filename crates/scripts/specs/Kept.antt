@@ -1,5 +1,5 @@
 -- What a session keeps of its pool over crashes, imports and steps, whatever moment the power goes.
-use Rattle.std.specs.Prelude.{ℕ, ◌≡◌, List, Result, Ok, IfSome, MatchResult}
+use Rattle.std.specs.Prelude.{ℕ, ◌≡◌, List, Result, Ok, IfSome}
 use Rattle.base.specs.declared.piece.Piece.{Piece}
 use Rattle.base.specs.declared.step.Step as declared_step
 use Rattle.base.specs.declared.step.Reply as declared_reply
@@ -22,12 +22,11 @@ use Rattle.scripts.specs.declared.answer.Answer.TheVariants as answer
 use Rattle.scripts.specs.declared.command.Command.{Command}
 use Rattle.scripts.specs.declared.command.Command.TheVariants as command
 use Rattle.scripts.specs.declared.session.BadCommand.{BadCommand}
-use Rattle.scripts.specs.declared.session.Place.{Place}
-use Rattle.scripts.specs.declared.session.Place.TheVariants.{Nothing, Device, Pool}
+use Rattle.scripts.specs.declared.place.Place.{Place}
+use Rattle.scripts.specs.declared.place.Place.TheVariants.{Nothing, Device, Pool}
 use Rattle.scripts.specs.declared.session.Session.{Session}
 use Rattle.scripts.specs.Devices.{device_for}
-use Rattle.scripts.specs.Places.{device_in}
-use Rattle.scripts.specs.Pools.{MemPool}
+use Rattle.scripts.specs.Pools.{MemPlace, MemPool, device_in}
 
 -- a pool that was just imported keeps the crash rule where its disk is at rest on the view of its group, over bytes that hold what they should
 pub record BeginsKept (pool : MemPool) : Type 0 where
@@ -35,10 +34,10 @@ pub record BeginsKept (pool : MemPool) : Type 0 where
   pub safe : BeginsSafe pool
 
 -- of the last run, with this past: a device that it left, or its pool, which keeps the crash rule
-abbrev pub IsKeptIn : Past → Place → Type 0
-IsKeptIn past Nothing = ⊥
-IsKeptIn past (Device device) = IsLeft past device.disk
-IsKeptIn past (Pool pool) = IsKeptSafe (on_disk pool past)
+abbrev pub IsLastRunIn : Past → MemPlace → Type 0
+IsLastRunIn past Nothing = ⊥
+IsLastRunIn past (Device device) = IsLeft past device.disk
+IsLastRunIn past (Pool pool) = IsKeptSafe (on_disk pool past)
 
 -- Steps with their replies lead the pool from this past to a later one. Each is a step of the definitions, and a crash at any moment of it leaves a
 -- cut with every acknowledged entry.
@@ -50,7 +49,7 @@ pub record IsMadeSafely (old new : MemPool) (past : Past) : Type 0 where
   pub kept : IsKeptSafe (on_disk new later)
 
 -- so the pool of a place goes on
-abbrev pub GoesOnSafely : Place → Place → Past → Type 0
+abbrev pub GoesOnSafely : MemPlace → MemPlace → Past → Type 0
 GoesOnSafely (Pool old) (Pool new) past = IsMadeSafely old new past
 GoesOnSafely old new past = ⊥
 
@@ -63,7 +62,7 @@ pub record BeginsRun (earlier : Past) (dirty_max : ℕ) (pool : MemPool) : Type 
   pub kept : IsKeptSafe (on_disk pool (new_past base earlier.created dirty_max))
 
 -- an import begins such a run, or it is refused, and what the run before it left is left still
-abbrev pub FindsLeft : Past → ℕ → Place → Type 0
+abbrev pub FindsLeft : Past → ℕ → MemPlace → Type 0
 FindsLeft earlier dirty_max Nothing = ⊥
 FindsLeft earlier dirty_max (Device device) = IsLeft earlier device.disk
 FindsLeft earlier dirty_max (Pool pool) = ∥ BeginsRun earlier dirty_max pool ∥₁
@@ -72,20 +71,21 @@ FindsLeft earlier dirty_max (Pool pool) = ∥ BeginsRun earlier dirty_max pool �
 abbrev pub IsFairCrash : List Piece → Past → MemState → Type 0
 IsFairCrash pieces past device = IsFairOn device.disk past.created (crash_image pieces device.disk.now)
 
--- a new pool of this name is left on the device, one in whose past nothing happened; its create began at this moment
-abbrev pub LeavesNew : List ℕ → ℕ → Place → Type 0
-LeavesNew name created (Device device) = IsLeft (new_past (first_contents name) created 0) device.disk
-LeavesNew name created place = ⊥
+module _ {P : Type 0} where
+  -- a new pool of this name is left on the device, one in whose past nothing happened; its create began at this moment
+  abbrev pub LeavesNew : List ℕ → ℕ → Place P → Type 0
+  LeavesNew name created (Device device) = IsLeft (new_past (first_contents name) created 0) device.disk
+  LeavesNew name created place = ⊥
 
--- a create that was answered Ok leaves a new pool, where no write of before counts as one of its own: as on a new device
-abbrev pub StartsKept : List ℕ → MemState → Answer → Place → Type 0
-StartsKept name old told new = told ≡ answer.Reply Done → HasEarlierWrites old.disk → LeavesNew name (moments old.disk) new
+  -- a create that was answered Ok leaves a new pool, where no write of before counts as one of its own: as on a new device
+  abbrev pub StartsKept : List ℕ → MemState → Answer → Place P → Type 0
+  StartsKept name old told new = told ≡ answer.Reply Done → HasEarlierWrites old.disk → LeavesNew name (moments old.disk) new
 
 -- What a command keeps, from each past with which there is something to keep. A crash keeps it where it is fair.
 abbrev pub KeepsCuts : Command → Session → Result Answer BadCommand → Session → Type 0
 KeepsCuts (command.Create name guid) s (Ok told) new = StartsKept name (device_for s) told new.place
-KeepsCuts (command.Import dirty_max) s (Ok told) new = (past : Past) → IsKeptIn past s.place → FindsLeft past dirty_max new.place
-KeepsCuts (command.Crash pieces) s told new = (past : Past) → IsKeptIn past s.place → IfSome (device_in s.place) (IsFairCrash pieces.items past) → IsKeptIn past new.place
-KeepsCuts (command.Fail fault n) s told new = (past : Past) → IsKeptIn past s.place → IsKeptIn past new.place
-KeepsCuts (command.Pool asked) s (Ok told) new = (past : Past) → IsKeptIn past s.place → GoesOnSafely s.place new.place past
+KeepsCuts (command.Import dirty_max) s (Ok told) new = (past : Past) → IsLastRunIn past s.place → FindsLeft past dirty_max new.place
+KeepsCuts (command.Crash pieces) s told new = (past : Past) → IsLastRunIn past s.place → IfSome (device_in s.place) (IsFairCrash pieces.items past) → IsLastRunIn past new.place
+KeepsCuts (command.Fail fault n) s told new = (past : Past) → IsLastRunIn past s.place → IsLastRunIn past new.place
+KeepsCuts (command.Pool asked) s (Ok told) new = (past : Past) → IsLastRunIn past s.place → GoesOnSafely s.place new.place past
 KeepsCuts asked s told new = Unit {0}

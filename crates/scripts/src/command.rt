@@ -262,8 +262,7 @@ fn parse_create(alloc: Global, name: &str, guid: &str) -> Result<Command, LineEr
 }
 
 fn parse_begin(alloc: Global, owner: &str, words: &[&str]) -> Result<Step, LineError>
-    ensures begin { IfOk result (λ step. IsBeginOf owner.now words.now step) }
-    ensures owner { IsOk result → IsNumberBelow (2 ^ 32) owner.now }
+    ensures { IfOk result (IsBeginOf owner.now words.now) }
 {
     let owner = parse_owner(owner)?;
     Ok(Step::Begin(owner, Plan::new(parse_shapes(alloc, words)?)))
@@ -312,8 +311,7 @@ fn parse_parts(parts: &[&str]) -> Result<Shape, LineError>
 }
 
 fn parse_commit(alloc: Global, tx: &str, words: &[&str]) -> Result<PoolCommand, LineError>
-    ensures commit { IfOk result (λ asked. IsCommitOf tx.now words.now asked) }
-    ensures tx { IsOk result → IsNumberBelow (2 ^ 64) tx.now }
+    ensures { IfOk result (IsCommitOf tx.now words.now) }
 {
     let tx = TxId(wide(tx)?);
     Ok(PoolCommand::Commit(tx, parse_contents(alloc, words)?))

@@ -1,19 +1,19 @@
 //! The device and the pool that a script works on.
 
-ghost use Rattle.std.specs.Prelude.{◌≡◌, ◌↔◌, ◌*◌, ◌/◌, true, false, is_ok, is_some, IsTrue, IsOk, IsErr, IfOk, IsErrOf, unwrap_or, IfSome, IsSomeAnd};
-ghost use Rattle.base.specs.disk.Disk.{bytes_of};
-ghost use Rattle.base.specs.formats.Geometry.{is_geometry};
+ghost use Rattle.std.specs.Prelude.{◌≡◌, ◌*◌, ◌/◌, true, false, is_ok, is_some, IsTrue, IsOk, IsErr, IfErr, IfOk, IfSome, OnOk};
+ghost use Rattle.base.specs.formats.Geometry.{IsGeometry};
 ghost use Rattle.base.specs.history.Past.{Past};
 ghost use Rattle.device_model.specs.MemState.{new_state};
-ghost use Rattle.import_replay.specs.Creations.{IsCreatedOn};
+ghost use Rattle.scripts.specs.Devices.{IsNewDeviceRefusal};
 
 use crate::answer::Answer;
 use crate::command::{Command, PoolCommand};
 use crate::command_runner::CommandRunner;
+use crate::place::Place;
 use crate::pool_commands::run_pool_command;
 use base::{Bytes, Piece, PoolError, Reply};
 use device_model::{Fault, MemDevice};
-use import_replay::{Imported, create, import};
+use import_replay::{Imported, import};
 use labels::{Geometry, SECTOR_SIZE};
 use pool_core::PoolState;
 use std::alloc::Global;
@@ -23,28 +23,22 @@ use std::mem;
 #[derive(Clone, Copy, Debug, PartialEq, Eq)]
 pub struct BadCommand;
 
-// What a script has so far.
-#[derive(Drop)]
-enum Place {
-    Nothing,
-    Device(MemDevice),
-    Pool(PoolState<MemDevice>),
-}
-
 /// A run of a script: its device in memory, and the pool that is imported from it.
 #[derive(Drop)]
 pub struct Session {
     alloc: Global,
     size: u64,
     moment: u64,
-    place: Place,
+    place: Place<PoolState<MemDevice>>,
 }
 
 impl Session {
     ghost use Rattle.scripts.specs.Devices.{Creates, IfPool, Imports, IsImportedPool, device_for, imported_answer};
-    ghost use Rattle.scripts.specs.Kept.{BeginsKept, FindsLeft, IsFairCrash, IsKeptIn, KeepsCuts, StartsKept};
-    ghost use Rattle.scripts.specs.Places.{Crashes, PlansFault, device_in, has_device, has_pool, is_crash};
-    ghost use Rattle.scripts.specs.Sessions.{AsksIn, Does, IsNewSession, IsSameRun, Leaves, has_what_it_needs};
+    ghost use Rattle.scripts.specs.Kept.{BeginsKept, FindsLeft, IsFairCrash, IsLastRunIn, KeepsCuts, StartsKept};
+    ghost use Rattle.scripts.specs.Places.{AsksIn, PlansFault, has_device, has_pool, has_what_it_needs, is_crash};
+    ghost use Rattle.scripts.specs.PoolSteps.{Asks};
+    ghost use Rattle.scripts.specs.Pools.{IsPlannedOn, IsStepOf, device_in, open_plan};
+    ghost use Rattle.scripts.specs.Sessions.{Crashes, Does, IsNewSession, IsSameRun, Leaves};
 
     /// A session with no device yet. A new device has `size` div 512 sectors, and each uberblock this moment.
     pub fn new(alloc: Global, size: u64, moment: u64) -> Self
@@ -64,9 +58,9 @@ impl Session {
     /// `BadCommand` where it needs a device or an imported pool and there is none, or where a crash is given more letters
     /// than there are unflushed writes. A refusal of the pool is an answer.
     pub fn run(&mut self, command: Command) -> Result<Answer, BadCommand>
-        ensures needs { IsOk result → IsTrue (has_what_it_needs command self.old) }
+        ensures needs { IsOk result → IsTrue (has_what_it_needs command self.old.place) }
         ensures answered { is_crash command ≡ false
-            → is_ok result ≡ has_what_it_needs command self.old }
+            → is_ok result ≡ has_what_it_needs command self.old.place }
         ensures left { Leaves command self.old result self.new }
         ensures done { Does command self.old result self.new }
         ensures kept { KeepsCuts command self.old result self.new }
@@ -86,6 +80,7 @@ impl Session {
         ensures device { result ≡ device_in self.old.place }
         ensures variant { is_some result ≡ has_device self.old.place }
         ensures taken { self.new.place ≡ Place.Nothing }
+        ensures unchanged { is_some result ≡ false → self.new.place ≡ self.old.place }
         ensures same_run { IsSameRun self.old self.new }
     {
         match mem::replace(&mut self.place, Place::Nothing) {
@@ -97,6 +92,7 @@ impl Session {
 
     fn take_or_make_device(&mut self) -> Result<MemDevice, PoolError>
         ensures needs { IsErr result → has_device self.old.place ≡ false }
+        ensures refused { IfErr result (IsNewDeviceRefusal self.old.size) }
         ensures device { IfOk result (λ device. device ≡ device_for self.old) }
         ensures taken { self.new.place ≡ Place.Nothing }
         ensures same_run { IsSameRun self.old self.new }
@@ -110,33 +106,16 @@ impl Session {
     fn create(&mut self, name: &Bytes, guid: u64) -> Answer
         ensures left { IsTrue (has_device self.old.place) → IsTrue (has_device self.new.place) }
         ensures no_pool { has_pool self.new.place ≡ false }
-        ensures created { result ≡ Answer.Reply Reply.Done → IsSomeAnd (device_in self.new.place)
-            (λ device. IsCreatedOn (bytes_of device.disk.now) name.now guid) }
         ensures creates { Creates name.now guid self.old result self.new.place }
         ensures kept { StartsKept name.now (device_for self.old) result self.new.place }
         ensures same_run { IsSameRun self.old self.new }
     {
-        let device = match self.take_or_make_device() {
-            Ok(device) => device,
-            Err(error) => return Answer::refused(error),
-        };
-        match create(device, name.as_slice(), guid, self.moment) {
-            Ok(device) => {
-                self.place = Place::Device(device);
-                Answer::Reply(Reply::Done)
-            }
-            Err((error, device)) => self.give_back(error, device),
+        match self.take_or_make_device() {
+            Ok(device) => self
+                .place
+                .create(device, name.as_slice(), guid, self.moment),
+            Err(error) => Answer::refused(error),
         }
-    }
-
-    // A refusal, with the device that came back.
-    fn give_back(&mut self, error: PoolError, device: MemDevice) -> Answer
-        ensures refused { result ≡ Answer.Reply (Reply.Refused error) }
-        ensures device { self.new.place ≡ Place.Device device }
-        ensures same_run { IsSameRun self.old self.new }
-    {
-        self.place = Place::Device(device);
-        Answer::refused(error)
     }
 
     fn import(&mut self, dirty_max: u64) -> Result<Answer, BadCommand>
@@ -144,8 +123,9 @@ impl Session {
         ensures left { has_device self.new.place ≡ has_device self.old.place }
         ensures imports { IfOk result (λ told. IfSome (device_in self.old.place)
             (λ device. Imports dirty_max self.old.moment device told self.new.place)) }
-        ensures kept { IfOk result (λ told. (past : Past) → IsKeptIn past self.old.place
+        ensures kept { IfOk result (λ told. (past : Past) → IsLastRunIn past self.old.place
             → FindsLeft past dirty_max self.new.place) }
+        ensures unchanged { IsErr result → self.new.place ≡ self.old.place }
         ensures same_run { IsSameRun self.old self.new }
     {
         let Some(device) = self.take_device() else {
@@ -153,7 +133,7 @@ impl Session {
         };
         match import(self.alloc, device, dirty_max, self.moment) {
             Ok(imported) => Ok(self.keep_pool(imported)),
-            Err((error, device)) => Ok(self.give_back(error, device)),
+            Err((error, device)) => Ok(self.place.give_back(error, device)),
         }
     }
 
@@ -171,9 +151,9 @@ impl Session {
 
     fn crash(&mut self, pieces: &[Piece]) -> Result<Answer, BadCommand>
         ensures crash { Crashes (device_in self.old.place) pieces.now result self.new.place }
-        ensures kept { (past : Past) → IsKeptIn past self.old.place
+        ensures kept { (past : Past) → IsLastRunIn past self.old.place
             → IfSome (device_in self.old.place) (IsFairCrash pieces.now past)
-            → IsKeptIn past self.new.place }
+            → IsLastRunIn past self.new.place }
         ensures needs { IsOk result → IsTrue (has_device self.old.place) }
         ensures left { has_device self.new.place ≡ has_device self.old.place }
         ensures same_run { IsSameRun self.old self.new }
@@ -182,21 +162,18 @@ impl Session {
         let Some(device) = self.take_device() else {
             return Err(BadCommand);
         };
-        let unflushed = device.unflushed();
-        if unflushed < pieces.len() {
-            self.place = Place::Device(device);
-            return Err(BadCommand);
-        }
-        self.place = Place::Device(device.crash(pieces));
-        Ok(Answer::Crashed(unflushed))
+        self.place.crash(device, pieces)
     }
 
     fn fail(&mut self, fault: Fault, n: u64) -> Result<Answer, BadCommand>
         ensures needs { is_ok result ≡ has_device self.old.place }
         ensures left { has_device self.new.place ≡ has_device self.old.place }
         ensures no_other { has_pool self.new.place ≡ has_pool self.old.place }
-        ensures fails { PlansFault fault n self.old.place result self.new.place }
-        ensures kept { (past : Past) → IsKeptIn past self.old.place → IsKeptIn past self.new.place }
+        ensures fails { IfOk result (λ told.
+            PlansFault (IsPlannedOn fault n) fault n self.old.place told self.new.place) }
+        ensures unchanged { IsErr result → self.new.place ≡ self.old.place }
+        ensures kept { (past : Past) → IsLastRunIn past self.old.place
+            → IsLastRunIn past self.new.place }
         ensures same_run { IsSameRun self.old self.new }
     {
         match &mut self.place {
@@ -215,8 +192,9 @@ impl Session {
     fn run_on_pool(&mut self, command: PoolCommand) -> Result<Answer, BadCommand>
         ensures needs { is_ok result ≡ has_pool self.old.place }
         ensures left { has_pool self.new.place ≡ has_pool self.old.place }
-        ensures asked { IfOk result (λ told.
-            AsksIn command self.old.moment self.old.place told self.new.place) }
+        ensures asked { IfOk result (λ told. AsksIn
+            (Asks IsStepOf open_plan command self.old.moment) self.old.place told self.new.place) }
+        ensures unchanged { IsErr result → self.new.place ≡ self.old.place }
         ensures same_run { IsSameRun self.old self.new }
     {
         match &mut self.place {
@@ -245,8 +223,8 @@ impl CommandRunner for Session {
 /// `BadGeometry` where no pool may have its size; `NoMemory`.
 pub fn new_device(alloc: Global, size: u64) -> Result<MemDevice, PoolError>
     ensures device { IfOk result (λ device. device ≡ new_state (size / 512)) }
-    ensures size { IsErrOf result PoolError.BadGeometry
-        ↔ (is_geometry (512 * (size / 512)) ≡ false) }
+    ensures size { OnOk result (IsGeometry (512 * (size / 512))) }
+    ensures refused { IfErr result (IsNewDeviceRefusal size) }
 {
     let sectors = size / SECTOR_SIZE;
     let _ = Geometry::of(sectors)?;

@@ -29,11 +29,11 @@ pub trait SteppedPool {
 }
 
 impl SteppedPool for PoolState<MemDevice> {
-    ghost use Rattle.scripts.specs.Pools.{IsStepOf, plan_of};
+    ghost use Rattle.scripts.specs.Pools.{IsStepOf, open_plan};
 
     ghost makes = { IsStepOf };
 
-    ghost plan_in = { plan_of };
+    ghost plan_in = { open_plan };
 
     fn step(&mut self, step: Step) -> Reply {
         PoolState::step(self, step)

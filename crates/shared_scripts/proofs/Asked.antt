@@ -17,7 +17,7 @@ use Rattle.pool_threads.proofs.Made.{grows_by_made}
 use Rattle.scripts.specs.PoolSteps.{Asks, CommitsOps, Finishes, MakesSteps, Then}
 use Rattle.scripts.specs.declared.command.PoolCommand.{PoolCommand}
 use Rattle.scripts.specs.declared.command.PoolCommand.TheVariants as command
-use Rattle.shared_scripts.specs.Callers.{CallsStep, plan_of}
+use Rattle.shared_scripts.specs.Callers.{CallsStep, plan_begun}
 use Rattle.shared_scripts.specs.Pools.{LastOfMem, SharedMemPool}
 use Rattle.shared_scripts.specs.declared.pool_caller.PoolCaller.{PoolCaller}
 use Rattle.word_lock.specs.Seats.{seat_table, seen}
@@ -73,8 +73,8 @@ module _ {W : Type 0} where
   goes_on_by_step : (s : Step) (r : Reply) (a b : PoolCaller W) → CallsStep s r a b → GoesOnBy W a b
   goes_on_by_step s r a b made = record { stays = made.1.same_pool; onward = grows_by_made made.1.made }
 
-  goes_on_asked : (asked : PoolCommand) (moment : ℕ) (reply : Reply) (a b : PoolCaller W) → Asks CallsStep plan_of asked moment reply a b → GoesOnBy W a b
-  goes_on_asked asked moment reply a b made = by_command CallsStep (GoesOnBy W) goes_on_same goes_onward goes_on_by_step plan_of asked moment reply a b made
+  goes_on_asked : (asked : PoolCommand) (moment : ℕ) (reply : Reply) (a b : PoolCaller W) → Asks CallsStep plan_begun asked moment reply a b → GoesOnBy W a b
+  goes_on_asked asked moment reply a b made = by_command CallsStep (GoesOnBy W) goes_on_same goes_onward goes_on_by_step plan_begun asked moment reply a b made
 
 -- a handle that went on from what was left of this pool still is of it, and so is what it leaves
 pub left_of : (pool : SharedMemPool) (last later : LastOfMem) (before after : Handle MemState ghosts) → WasOf pool last → IsBackIn pool last before → StaysInPool before after
@@ -82,7 +82,7 @@ pub left_of : (pool : SharedMemPool) (last later : LastOfMem) (before after : Ha
 left_of pool last later before after was back stays left = ap (λ s. seat_table s) left ∙ stays.0 ∙ ap (λ s. seat_table s) back.seat_is ∙ was
 
 module _ {W : Type 0} (pool : SharedMemPool) (last later : LastOfMem) (asked : PoolCommand) (moment : ℕ) (reply : Reply) (before after : PoolCaller W)
-    (back : IsBackIn pool last before.handle) (made : Asks CallsStep plan_of asked moment reply before after) (left : later.seat ≡ after.handle.seat) where
+    (back : IsBackIn pool last before.handle) (made : Asks CallsStep plan_begun asked moment reply before after) (left : later.seat ≡ after.handle.seat) where
   pub asked_of : WasOf pool last → WasOf pool later
   asked_of was = left_of pool last later before.handle after.handle was back (goes_on_asked asked moment reply before after made).stays left
 

@@ -7,10 +7,10 @@ use Rattle.import_replay.specs.declared.mounted.Mounted.{Mounted}
 use Rattle.pool_threads.specs.Handles.{LeavesSame}
 use Rattle.scripts.specs.Devices.{IsImportRun}
 use Rattle.scripts.specs.declared.answer.Answer.{Answer}
-use Rattle.shared_scripts.specs.Sessions.{Imports, IsGivenBack, SharesMounted}
-use Rattle.shared_scripts.specs.declared.session.Place.{Place}
+use Rattle.shared_scripts.specs.Places.{SharedPlace}
+use Rattle.shared_scripts.specs.Sessions.{ImportsShared, IsGivenBack, SharesMounted}
 
-pub import_shared : (dirty_max moment : ℕ) (old device : MemState) (mounted : Mounted) (told : Answer) (new : Place) → IsImportRun dirty_max moment old device mounted → LeavesSame old.disk device.disk
-    → SharesMounted old.disk mounted moment told new ⊎ IsGivenBack device told new → Imports dirty_max moment old told new
+pub import_shared : (dirty_max moment : ℕ) (old device : MemState) (mounted : Mounted) (told : Answer) (new : SharedPlace) → IsImportRun dirty_max moment old device mounted → LeavesSame old.disk device.disk
+    → SharesMounted old.disk mounted moment told new ⊎ IsGivenBack device told new → ImportsShared dirty_max moment old told new
 import_shared dirty_max moment old device mounted told new run still (inl shares) = inl (record { device = device; mounted = mounted; imported = run; shares = shares })
 import_shared dirty_max moment old device mounted told new run still (inr back) = inr (record { error = NoMemory; device = device; told_is = back.0; place_is = back.1; still = still; left = inr (refl, (mounted, run)) })

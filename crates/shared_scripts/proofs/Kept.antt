@@ -1,34 +1,34 @@
 -- What a session on a shared pool keeps of its run follows from what its commands do.
 use Rattle.std.proofs.Common.{◌≡◌, ◌∙◌, ℕ, List, inl, inr, refl, sym, ap, subst}
-use Rattle.std.specs.Prelude.{Some, Result, Ok, Err, IfOk, IsErr, IsTrue, true}
+use Rattle.std.specs.Prelude.{Some, Result, Ok, Err, IfOk, IsErr, IsOk, IsTrue, true}
 use Rattle.std.proofs.Math.Logic.{∥∥₁_elim, ∥∥₁_map, ∥∥₁_prop}
 use Rattle.base.proofs.steps.Additions.{runs_grow}
 use Rattle.base.specs.declared.piece.Piece.{Piece}
 use Rattle.base.specs.disk.Crashes.{crash_image}
 use Rattle.base.specs.disk.Disk.{Disk, MayLeave}
 use Rattle.base.specs.history.Past.{Grows, Past, new_past}
-use Rattle.device_model.specs.MemState.{MemState, after_crash}
+use Rattle.device_model.specs.MemState.{MemState}
 use Rattle.device_model.specs.Plans.{with_plan}
 use Rattle.device_model.specs.declared.fault.Fault.{Fault}
-use Rattle.device_model.specs.declared.fault.Fault.TheVariants.{Read, Write, Flush}
 use Rattle.pool_threads.specs.Handles.{OpensBehind, opening_view, view_seen}
 use Rattle.pool_threads.specs.Views.{CrashRule, GrowsTo, IsFollowed, SeenPool, grows_same, since, viewed_state}
 use Rattle.pool_threads.specs.Views.CrashRule.{Behind}
 use Rattle.round_trip.proofs.CrashRounds.{left_crashed}
 use Rattle.round_trip.specs.Crashes.{IsLeft}
+use Rattle.scripts.proofs.Kept.{plan_disk}
 use Rattle.scripts.specs.Kept.{IsFairCrash}
+use Rattle.scripts.specs.Places.{AsksIn, CrashesOn, PlansFault}
 use Rattle.scripts.specs.declared.answer.Answer.{Answer}
 use Rattle.scripts.specs.declared.answer.Answer.TheVariants as answer
 use Rattle.scripts.specs.declared.command.Command.TheVariants as command
 use Rattle.scripts.specs.declared.command.PoolCommand.{PoolCommand}
 use Rattle.scripts.specs.declared.session.BadCommand.{BadCommand}
 use Rattle.shared_scripts.specs.Kept.{BeginsShared, FindsRun, GoesOnIn, IsRunIn, IsRunOf, KeepsOn, KeepsOverCrash, KeepsOverImport, KeepsRun, TakesFromRun}
-use Rattle.shared_scripts.specs.Places.{IsTaken}
+use Rattle.shared_scripts.specs.Places.{IsTakenFrom, SharedPlace}
 use Rattle.shared_scripts.specs.Pools.{LastOfMem, LooksBehind, SharedMemPool}
-use Rattle.shared_scripts.specs.Sessions.{AsksIn, Imports, PlansFault, TakesDevice}
+use Rattle.shared_scripts.specs.Sessions.{AsksShared, ImportsShared, LooksAt, TakesDevice}
 use Rattle.shared_scripts.specs.Shared.{Asks}
-use Rattle.shared_scripts.specs.declared.session.Place.{Place}
-use Rattle.shared_scripts.specs.declared.session.Place.TheVariants.{Nothing, Device, Pool}
+use Rattle.scripts.specs.declared.place.Place.TheVariants.{Nothing, Device, Pool}
 use Rattle.shared_scripts.specs.declared.session.SharedSession.{SharedSession}
 use Rattle.shared_scripts.specs.declared.shared_pool.SharedPool.{SharedPool}
 use Rattle.word_lock.specs.Seats.{seen}
@@ -62,7 +62,7 @@ run_goes_on past old new run onward = ∥∥₁_map (grows_since past.created (s
 
 -- the device that is taken was left by the run
 module _ (past : Past) (P : Past → MemState → Type 0) where
-  pub taken_left : (place : Place) (device : MemState) → IsRunIn past place → IsTaken place (Some device) → ((later : Past) → IsLeft later device.disk → ∥ P later device ∥₁) → ∥ TakesFromRun past place P ∥₁
+  pub taken_left : (place : SharedPlace) (device : MemState) → IsRunIn past place → IsTakenFrom place (Some device) → ((later : Past) → IsLeft later device.disk → ∥ P later device ∥₁) → ∥ TakesFromRun past place P ∥₁
   taken_left Nothing device run taken so = absurd run
   taken_left (Device here) device run taken so =
       let same : device ≡ here = cc in
@@ -113,53 +113,46 @@ begins_shared earlier dirty_max old shared was o onward =
       };
     })
 
-pub import_kept : (dirty_max moment : ℕ) (old : MemState) (told : Answer) (new : Place) (past : Past) → Imports dirty_max moment old told new → IsLeft past old.disk → ∥ FindsRun past dirty_max new ∥₁
+pub import_kept : (dirty_max moment : ℕ) (old : MemState) (told : Answer) (new : SharedPlace) (past : Past) → ImportsShared dirty_max moment old told new → IsLeft past old.disk → ∥ FindsRun past dirty_max new ∥₁
 import_kept dirty_max moment old told new past (inl i) was =
     let shared = i.shares.0 in
     let m = i.shares.3 in
     let opened : OpensBehind (IsTrue true) old.disk dirty_max (opening_view shared.pool) = subst (λ (n : ℕ). OpensBehind (IsTrue true) old.disk n (opening_view shared.pool)) i.imported.limit m.opened in
-    subst (λ (place : Place). ∥ FindsRun past dirty_max place ∥₁) (sym i.shares.1) (begins_shared past dirty_max old.disk shared was opened m.onward)
-import_kept dirty_max moment old told new past (inr i) was = subst (λ (place : Place). ∥ FindsRun past dirty_max place ∥₁) (sym i.place_is) ∣ i.still past was ∣₁
+    subst (λ (place : SharedPlace). ∥ FindsRun past dirty_max place ∥₁) (sym i.shares.1) (begins_shared past dirty_max old.disk shared was opened m.onward)
+import_kept dirty_max moment old told new past (inr i) was = subst (λ (place : SharedPlace). ∥ FindsRun past dirty_max place ∥₁) (sym i.place_is) ∣ i.still past was ∣₁
 
-import_keeps : (dirty_max moment : ℕ) (old : Place) (told : Answer) (new : Place) → TakesDevice old (λ device. Imports dirty_max moment device told new) → KeepsOverImport dirty_max old new
+import_keeps : (dirty_max moment : ℕ) (old : SharedPlace) (told : Answer) (new : SharedPlace) → TakesDevice old (λ device. ImportsShared dirty_max moment device told new) → KeepsOverImport dirty_max old new
 import_keeps dirty_max moment old told new (device, taken, imports) past run =
     taken_left past (λ later d. FindsRun later dirty_max new) old device run taken (λ later left. import_kept dirty_max moment device told new later imports left)
 
 -- a fair crash leaves it, and so does one with more letters than there are unflushed writes
-module _ (pieces : List Piece) (old new : Place) (device : MemState) (taken : IsTaken old (Some device)) where
-  pub crash_keeps : (told : Answer) → MayLeave device.disk.now (crash_image pieces device.disk.now) → new ≡ Device (after_crash pieces device) → KeepsOverCrash pieces old (Ok told) new
-  crash_keeps told may is past run =
+module _ (pieces : List Piece) (old new : SharedPlace) (device : MemState) (taken : IsTakenFrom old (Some device)) where
+  pub crash_keeps : (told : Result Answer BadCommand) → CrashesOn pieces device told new → (IsOk told → MayLeave device.disk.now (crash_image pieces device.disk.now)) → KeepsOverCrash pieces old told new
+  crash_keeps (Ok a) crashes may past run =
       taken_left past (λ later d. IsFairCrash pieces later d → IsRunIn later new) old device run taken
-      (λ later left. ∣ (λ fair. subst (λ (place : Place). IsRunIn later place) (sym is) (left_crashed later device.disk (crash_image pieces device.disk.now) may fair left)) ∣₁)
-
-  pub short_keeps : (e : BadCommand) → new ≡ Device device → KeepsOverCrash pieces old (Err e) new
-  short_keeps e is past run = inr (taken_left past (λ later d. IsRunIn later new) old device run taken (λ later left. ∣ subst (λ (place : Place). IsRunIn later place) (sym is) left ∣₁))
+      (λ later left. ∣ (λ fair. subst (λ (place : SharedPlace). IsRunIn later place) (sym crashes.2) (left_crashed later device.disk (crash_image pieces device.disk.now) (may refl) fair left)) ∣₁)
+  crash_keeps (Err e) crashes may past run = inr (taken_left past (λ later d. IsRunIn later new) old device run taken (λ later left. ∣ subst (λ (place : SharedPlace). IsRunIn later place) (sym crashes.1) left ∣₁))
 
 -- a run of a place that stays goes on there
-still_keeps : (old new : Place) → new ≡ old → KeepsOn old new
-still_keeps old new is past run = subst (λ (place : Place). ∥ ((later : Past) × GoesOnIn old past later × IsRunIn later place) ∥₁) (sym is) (same old run)
+still_keeps : (old new : SharedPlace) → new ≡ old → KeepsOn old new
+still_keeps old new is past run = subst (λ (place : SharedPlace). ∥ ((later : Past) × GoesOnIn old past later × IsRunIn later place) ∥₁) (sym is) (same old run)
   where
-    same : (place : Place) → IsRunIn past place → ∥ ((later : Past) × GoesOnIn place past later × IsRunIn later place) ∥₁
+    same : (place : SharedPlace) → IsRunIn past place → ∥ ((later : Past) × GoesOnIn place past later × IsRunIn later place) ∥₁
     same Nothing run = absurd run
     same (Device device) run = ∣ (past, refl, run) ∣₁
     same (Pool shared) run = run_goes_on past shared shared run (grows_same (seen shared.last.seat))
 
--- a plan to fail leaves the disk
-planned_disk : (fault : Fault) (n : ℕ) (s : MemState) → (with_plan fault n s).disk ≡ s.disk
-planned_disk Read n s = refl
-planned_disk Write n s = refl
-planned_disk Flush n s = refl
-
-plan_keeps : (fault : Fault) (n : ℕ) (old new : Place) (told : Answer) → PlansFault fault n old told new → KeepsOn old new
+-- a plan to fail leaves the disk, and the run goes on
+plan_keeps : (fault : Fault) (n : ℕ) (old new : SharedPlace) (told : Answer) → PlansFault LooksAt fault n old told new → KeepsOn old new
 plan_keeps fault n (Device old) new told plans past run =
-    ∣ (past, refl, subst (λ (place : Place). IsRunIn past place) (sym plans.1) (subst (λ (d : Disk). IsLeft past d) (sym (planned_disk fault n old)) run)) ∣₁
+    ∣ (past, refl, subst (λ (place : SharedPlace). IsRunIn past place) (sym plans.1) (subst (λ (d : Disk). IsLeft past d) (sym (plan_disk fault n old)) run)) ∣₁
 plan_keeps fault n (Pool old) (Pool new) told plans past run = run_goes_on past old new run (looks_onward plans.1.looked)
 plan_keeps fault n (Pool old) (Device new) told plans past run = absurd plans
 plan_keeps fault n (Pool old) Nothing told plans past run = absurd plans
 plan_keeps fault n Nothing new told plans past run = absurd run
 
 -- a command of the pool goes on
-asks_keeps : (W : Type 0) (asked : PoolCommand) (moment : ℕ) (old new : Place) (told : Answer) → AsksIn W asked moment old told new → KeepsOn old new
+asks_keeps : (W : Type 0) (asked : PoolCommand) (moment : ℕ) (old new : SharedPlace) (told : Answer) → AsksIn (AsksShared W asked moment) old told new → KeepsOn old new
 asks_keeps W asked moment (Pool old) (Pool new) (answer.Reply reply) made past run = run_goes_on past old new run (asked_on made.asks)
   where
     asked_on : Asks W asked moment old reply new → GrowsTo (seen old.last.seat) (seen new.last.seat)
@@ -174,14 +167,14 @@ asks_keeps W asked moment Nothing new told made past run = absurd made
 
 -- what is so of an answer, and of none, is kept of the run
 module _ {W : Type 0} (s new : SharedSession W) where
-  pub import_runs : (dirty_max moment : ℕ) (told : Result Answer BadCommand) → IfOk told (λ a. TakesDevice s.place (λ device. Imports dirty_max moment device a new.place)) → KeepsRun (command.Import dirty_max) s told new
+  pub import_runs : (dirty_max moment : ℕ) (told : Result Answer BadCommand) → IfOk told (λ a. TakesDevice s.place (λ device. ImportsShared dirty_max moment device a new.place)) → KeepsRun (command.Import dirty_max) s told new
   import_runs dirty_max moment (Ok a) imports = import_keeps dirty_max moment s.place a new.place imports
   import_runs dirty_max moment (Err e) none = tt
 
-  pub fail_runs : (fault : Fault) (n : ℕ) (told : Result Answer BadCommand) → IfOk told (λ a. PlansFault fault n s.place a new.place) → (IsErr told → new.place ≡ s.place) → KeepsOn s.place new.place
+  pub fail_runs : (fault : Fault) (n : ℕ) (told : Result Answer BadCommand) → IfOk told (λ a. PlansFault LooksAt fault n s.place a new.place) → (IsErr told → new.place ≡ s.place) → KeepsOn s.place new.place
   fail_runs fault n (Ok a) plans same = plan_keeps fault n s.place new.place a plans
   fail_runs fault n (Err e) none same = still_keeps s.place new.place (same refl)
 
-  pub asked_runs : (asked : PoolCommand) (moment : ℕ) (told : Result Answer BadCommand) → IfOk told (λ a. AsksIn W asked moment s.place a new.place) → (IsErr told → new.place ≡ s.place) → KeepsOn s.place new.place
+  pub asked_runs : (asked : PoolCommand) (moment : ℕ) (told : Result Answer BadCommand) → IfOk told (λ a. AsksIn (AsksShared W asked moment) s.place a new.place) → (IsErr told → new.place ≡ s.place) → KeepsOn s.place new.place
   asked_runs asked moment (Ok a) made same = asks_keeps W asked moment s.place new.place a made
   asked_runs asked moment (Err e) none same = still_keeps s.place new.place (same refl)

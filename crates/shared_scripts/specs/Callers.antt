@@ -21,8 +21,9 @@ module _ {W : Type 0} where
   abbrev pub CallsStep : declared_step.Step → declared_reply.Reply → PoolCaller W → PoolCaller W → Type 0
   CallsStep s r old new = (new.plans ≡ old.plans) × Makes (dated (moment_of old.handle) s) r old.handle new.handle
 
-  abbrev pub plan_of : TxId → PoolCaller W → Option (List Shape)
-  plan_of tx c = plan_named tx c.plans.now.plans.items
+  -- the plan that a transaction of this name began with, of those that the caller has
+  abbrev pub plan_begun : TxId → PoolCaller W → Option (List Shape)
+  plan_begun tx c = plan_named tx c.plans.now.plans.items
 
 -- A handle of the pool goes on from what the handle of the command before had seen, makes what this command asks for, in turns of its own, and leaves.
 pub record AsksByHandle (W : Type 0) (asked : PoolCommand) (moment : ℕ) (plans : List BegunPlan) (pool : SharedMemPool) (last : LastOfMem) (reply : declared_reply.Reply) (later : LastOfMem) : Type 0 where
@@ -30,6 +31,6 @@ pub record AsksByHandle (W : Type 0) (asked : PoolCommand) (moment : ℕ) (plans
   pub after : PoolCaller W
   pub back : IsBackIn pool last before.handle
   pub plans_are : before.plans.now.plans.items ≡ plans
-  pub asks : Asks CallsStep plan_of asked moment reply before after
+  pub asks : Asks CallsStep plan_begun asked moment reply before after
   pub onward : GrowsTo (seen last.seat) (seen later.seat)
   pub left : IsLeftBehind after.handle later

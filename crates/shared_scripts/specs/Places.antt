@@ -1,22 +1,16 @@
--- What a session on a shared pool has: nothing, a device or a pool.
-use Rattle.std.specs.Prelude.{◌≡◌, Bool, true, false, Option, Some, None, IfSome}
+-- What a session on a shared pool has.
+use Rattle.std.specs.Prelude.{◌≡◌, Option, Some, None, IfSome}
 use Rattle.device_model.specs.MemState.{MemState}
+use Rattle.scripts.specs.declared.place.Place.{Place}
+use Rattle.scripts.specs.declared.place.Place.TheVariants.{Nothing, Device, Pool}
 use Rattle.shared_scripts.specs.Pools.{IsDeviceBehind}
-use Rattle.shared_scripts.specs.declared.session.Place.{Place}
-use Rattle.shared_scripts.specs.declared.session.Place.TheVariants.{Nothing, Device, Pool}
+use Rattle.shared_scripts.specs.declared.shared_pool.SharedPool.{SharedPool}
 
-abbrev pub has_device : Place → Bool
-has_device Nothing = false
-has_device (Device device) = true
-has_device (Pool shared) = true
-
-abbrev pub has_pool : Place → Bool
-has_pool Nothing = false
-has_pool (Device device) = false
-has_pool (Pool shared) = true
+abbrev pub SharedPlace : Type 0
+SharedPlace = Place SharedPool
 
 -- the device that is taken of a place, if there is one; a pool on it is closed
-abbrev pub IsTaken : Place → Option MemState → Type 0
-IsTaken Nothing taken = taken ≡ None
-IsTaken (Device device) taken = taken ≡ Some device
-IsTaken (Pool shared) taken = IfSome taken (IsDeviceBehind shared.pool shared.last)
+abbrev pub IsTakenFrom : SharedPlace → Option MemState → Type 0
+IsTakenFrom Nothing taken = taken ≡ None
+IsTakenFrom (Device device) taken = taken ≡ Some device
+IsTakenFrom (Pool shared) taken = IfSome taken (IsDeviceBehind shared.pool shared.last)

@@ -44,7 +44,7 @@ plans_after (Ends tx) reply.Done plans = plans_without tx plans
 plans_after change given plans = plans
 
 -- there is room for a plan that may be kept
-abbrev pub HasRoomFor : PlanChange → Vec BegunPlan → Type 0
-HasRoomFor Nothing plans = Unit {0}
-HasRoomFor (Begins plan) plans = vec_len plans < vec_capacity plans
-HasRoomFor (Ends tx) plans = Unit {0}
+abbrev pub HasRoomForPlan : PlanChange → Vec BegunPlan → Type 0
+HasRoomForPlan Nothing plans = Unit {0}
+HasRoomForPlan (Begins plan) plans = vec_len plans < vec_capacity plans
+HasRoomForPlan (Ends tx) plans = Unit {0}

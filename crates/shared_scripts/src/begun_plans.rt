@@ -5,7 +5,7 @@
 
 ghost use Rattle.std.specs.Prelude.{◌≡◌, ◌<◌, [], true, IfOk, IsErr, OnOk, vec_capacity, vec_len};
 ghost use Rattle.std.specs.Option.{option_map};
-ghost use Rattle.shared_scripts.specs.Plans.{HasRoomFor, change_of, is_begin, plan_named, plans_after, plans_without};
+ghost use Rattle.shared_scripts.specs.Plans.{HasRoomForPlan, change_of, is_begin, plan_named, plans_after, plans_without};
 
 use base::{Plan, Reply, Step, TxId};
 use scripts::PoolCommand;
@@ -61,7 +61,7 @@ impl BegunPlans {
         command: &PoolCommand,
     ) -> Result<PlanChange, AllocError>
         ensures change { IfOk result (λ change. change ≡ change_of command.now) }
-        ensures room { IfOk result (λ change. HasRoomFor change self.new.plans) }
+        ensures room { IfOk result (λ change. HasRoomForPlan change self.new.plans) }
         ensures refused { IsErr result → is_begin command.now ≡ true }
         ensures unchanged { self.new.plans.items ≡ self.old.plans.items }
     {
@@ -84,7 +84,7 @@ impl BegunPlans {
 
     /// Keeps the plan of a transaction that began, and lets go that of one that ended, as the pool replied.
     pub(crate) fn change(&mut self, change: PlanChange, reply: &Reply)
-        requires room { HasRoomFor change self.old.plans }
+        requires room { HasRoomForPlan change self.old.plans }
         ensures { self.new.plans.items ≡ plans_after change reply.now self.old.plans.items }
     {
         match (change, reply) {

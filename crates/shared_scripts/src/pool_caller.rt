@@ -22,11 +22,11 @@ pub(crate) struct PoolCaller<'p, 'r, W: Wait> {
 }
 
 impl<'p, 'r, W: Wait> SteppedPool for PoolCaller<'p, 'r, W> {
-    ghost use Rattle.shared_scripts.specs.Callers.{CallsStep, plan_of};
+    ghost use Rattle.shared_scripts.specs.Callers.{CallsStep, plan_begun};
 
     ghost makes = { CallsStep };
 
-    ghost plan_in = { plan_of };
+    ghost plan_in = { plan_begun };
 
     fn step(&mut self, step: Step) -> Reply {
         self.handle.step(self.rt, step)

@@ -1,24 +1,16 @@
 //! The device of a script, and the pool that is imported from it, which is shared.
 
-ghost use Rattle.std.specs.Prelude.{◌≡◌, ◌⊎◌, None, is_ok, IfOk, IsErr, IsOk, IsTrue};
+ghost use Rattle.std.specs.Prelude.{◌≡◌, ◌⊎◌, None, is_ok, IfErr, IfOk, IsErr, IsOk, IsTrue};
 
 use crate::shared_pool::SharedPool;
 use base::{Bytes, Piece, PoolError, Reply};
 use device_model::{Fault, MemDevice};
-use import_replay::{Imported, create, import};
-use scripts::{Answer, BadCommand, Command, CommandRunner, PoolCommand, new_device};
+use import_replay::{Imported, import};
+use scripts::{Answer, BadCommand, Command, CommandRunner, Place, PoolCommand, new_device};
 use std::alloc::Global;
 use std::mem;
 use std::snapshot::Snapshot;
 use std::sync::Wait;
-
-// What a script has so far.
-#[derive(Drop)]
-enum Place {
-    Nothing,
-    Device(MemDevice),
-    Pool(SharedPool),
-}
 
 /// A run of a script on a pool that is shared: its device in memory, and the pool that is imported from it. Each step of a
 /// command is made by a handle of the pool, which may wait.
@@ -28,18 +20,20 @@ pub struct SharedSession<'r, W: Wait> {
     alloc: Global,
     size: u64,
     moment: u64,
-    place: Place,
+    place: Place<SharedPool>,
 }
 
 impl<'r, W: Wait> SharedSession<'r, W> {
     ghost use Rattle.pool_threads.specs.Handles.{StartsBehind};
+    ghost use Rattle.scripts.specs.Devices.{IsNewDeviceRefusal};
+    ghost use Rattle.scripts.specs.Places.{AsksIn, PlansFault, has_device, has_pool, has_what_it_needs};
     ghost use Rattle.shared_scripts.specs.Kept.{KeepsOverCrash, KeepsRun, StartsRunOn};
-    ghost use Rattle.shared_scripts.specs.Places.{IsTaken, has_device, has_pool};
-    ghost use Rattle.shared_scripts.specs.Sessions.{AsksIn, Crashes, Creates, Does, FindsNoDevice, Imports, IsDeviceFor, IsGivenBack, IsNewSession, IsSameRun, IsTooShort, PlansFault, SharesMounted, TakesDevice, has_what_it_needs};
+    ghost use Rattle.shared_scripts.specs.Places.{IsTakenFrom};
+    ghost use Rattle.shared_scripts.specs.Sessions.{AsksShared, CrashesShared, CreatesShared, Does, FindsNoDevice, ImportsShared, IsDeviceFor, IsGivenBack, IsNewSharedSession, IsSameRun, LooksAt, SharesMounted, TakesDevice};
 
     /// A session with no device yet. A new device has `size` div 512 sectors, and each uberblock this moment.
     pub fn new(rt: &'r W, alloc: Global, size: u64, moment: u64) -> Self
-        ensures { IsNewSession size moment result }
+        ensures { IsNewSharedSession size moment result }
     {
         SharedSession {
             rt,
@@ -56,7 +50,7 @@ impl<'r, W: Wait> SharedSession<'r, W> {
     /// `BadCommand` where it needs a device or an imported pool and there is none, or where a crash is given more letters
     /// than there are unflushed writes. A refusal of the pool is an answer.
     pub fn run(&mut self, command: Command) -> Result<Answer, BadCommand>
-        ensures needs { IsOk result → IsTrue (has_what_it_needs command self.old) }
+        ensures needs { IsOk result → IsTrue (has_what_it_needs command self.old.place) }
         ensures done { Does command self.old result self.new }
         ensures kept { KeepsRun command self.old result self.new }
         ensures same_run { IsSameRun self.old self.new }
@@ -72,7 +66,7 @@ impl<'r, W: Wait> SharedSession<'r, W> {
 
     // The device, which then is no longer the session's. A pool on it is closed.
     fn take_device(&mut self) -> Option<MemDevice>
-        ensures device { IsTaken self.old.place result }
+        ensures device { IsTakenFrom self.old.place result }
         ensures taken { self.new.place ≡ Place.Nothing }
         ensures same_run { IsSameRun self.old self.new }
     {
@@ -84,7 +78,8 @@ impl<'r, W: Wait> SharedSession<'r, W> {
     }
 
     fn take_or_make_device(&mut self) -> Result<MemDevice, PoolError>
-        ensures needs { IsErr result → IsTaken self.old.place None }
+        ensures needs { IsErr result → IsTakenFrom self.old.place None }
+        ensures refused { IfErr result (IsNewDeviceRefusal self.old.size) }
         ensures device { IfOk result (IsDeviceFor self.old) }
         ensures taken { self.new.place ≡ Place.Nothing }
         ensures same_run { IsSameRun self.old self.new }
@@ -96,38 +91,23 @@ impl<'r, W: Wait> SharedSession<'r, W> {
     }
 
     fn create(&mut self, name: &Bytes, guid: u64) -> Answer
-        ensures creates { Creates name.now guid self.old result self.new.place }
+        ensures creates { CreatesShared name.now guid self.old result self.new.place }
         ensures kept { result ≡ Answer.Reply Reply.Done
             → StartsRunOn name.now self.old self.new.place }
         ensures same_run { IsSameRun self.old self.new }
     {
-        let device = match self.take_or_make_device() {
-            Ok(device) => device,
-            Err(error) => return Answer::refused(error),
-        };
-        match create(device, name.as_slice(), guid, self.moment) {
-            Ok(device) => {
-                self.place = Place::Device(device);
-                Answer::Reply(Reply::Done)
-            }
-            Err((error, device)) => self.give_back(error, device),
+        match self.take_or_make_device() {
+            Ok(device) => self
+                .place
+                .create(device, name.as_slice(), guid, self.moment),
+            Err(error) => Answer::refused(error),
         }
-    }
-
-    // A refusal, with the device that came back.
-    fn give_back(&mut self, error: PoolError, device: MemDevice) -> Answer
-        ensures refused { result ≡ Answer.Reply (Reply.Refused error) }
-        ensures device { self.new.place ≡ Place.Device device }
-        ensures same_run { IsSameRun self.old self.new }
-    {
-        self.place = Place::Device(device);
-        Answer::refused(error)
     }
 
     fn import(&mut self, dirty_max: u64) -> Result<Answer, BadCommand>
         ensures needs { IsOk result → IsTrue (has_device self.old.place) }
         ensures imports { IfOk result (λ told. TakesDevice self.old.place
-            (λ device. Imports dirty_max self.old.moment device told self.new.place)) }
+            (λ device. ImportsShared dirty_max self.old.moment device told self.new.place)) }
         ensures no_device { IsErr result → FindsNoDevice self.old.place self.new.place }
         ensures same_run { IsSameRun self.old self.new }
     {
@@ -137,7 +117,7 @@ impl<'r, W: Wait> SharedSession<'r, W> {
         let before = Snapshot::of(&device);
         match import(self.alloc, device, dirty_max, self.moment) {
             Ok(imported) => Ok(self.share(imported, &before)),
-            Err((error, device)) => Ok(self.give_back(error, device)),
+            Err((error, device)) => Ok(self.place.give_back(error, device)),
         }
     }
 
@@ -155,35 +135,26 @@ impl<'r, W: Wait> SharedSession<'r, W> {
                 self.place = Place::Pool(shared);
                 answer
             }
-            Err((error, device)) => self.give_back(error, device),
+            Err((error, device)) => self.place.give_back(error, device),
         }
     }
 
     fn crash(&mut self, pieces: &[Piece]) -> Result<Answer, BadCommand>
         ensures needs { IsOk result → IsTrue (has_device self.old.place) }
-        ensures crashes { IfOk result (λ told. TakesDevice self.old.place
-            (λ device. Crashes pieces.now device told self.new.place)) }
-        ensures no_crash { IsErr result → FindsNoDevice self.old.place self.new.place
-            ⊎ TakesDevice self.old.place (IsTooShort pieces.now self.new.place) }
+        ensures crashes { CrashesShared pieces.now self.old.place result self.new.place }
         ensures kept { KeepsOverCrash pieces.now self.old.place result self.new.place }
         ensures same_run { IsSameRun self.old self.new }
     {
         let Some(device) = self.take_device() else {
             return Err(BadCommand);
         };
-        let unflushed = device.unflushed();
-        if unflushed < pieces.len() {
-            self.place = Place::Device(device);
-            return Err(BadCommand);
-        }
-        self.place = Place::Device(device.crash(pieces));
-        Ok(Answer::Crashed(unflushed))
+        self.place.crash(device, pieces)
     }
 
     fn fail(&mut self, fault: Fault, n: u64) -> Result<Answer, BadCommand>
         ensures needs { is_ok result ≡ has_device self.old.place }
         ensures fails { IfOk result (λ told.
-            PlansFault fault n self.old.place told self.new.place) }
+            PlansFault LooksAt fault n self.old.place told self.new.place) }
         ensures unchanged { IsErr result → self.new.place ≡ self.old.place }
         ensures same_run { IsSameRun self.old self.new }
     {
@@ -204,7 +175,7 @@ impl<'r, W: Wait> SharedSession<'r, W> {
     fn run_on_pool(&mut self, command: PoolCommand) -> Result<Answer, BadCommand>
         ensures needs { is_ok result ≡ has_pool self.old.place }
         ensures asked { IfOk result (λ told.
-            AsksIn W command self.old.moment self.old.place told self.new.place) }
+            AsksIn (AsksShared W command self.old.moment) self.old.place told self.new.place) }
         ensures unchanged { IsErr result → self.new.place ≡ self.old.place }
         ensures same_run { IsSameRun self.old self.new }
     {

@@ -3,7 +3,7 @@ use Rattle.scripts.proofs.Kept.{plan_disk, plan_kept, plan_kept_in}
 use Rattle.scripts.proofs.session.Session.fail.Goals as goal
 
 pub returns-in-Pool-clause-fails : goal.returns-in-Pool-clause-fails
-returns-in-Pool-clause-fails c = rw c.in-Pool.is (refl, c.fail-in-Pool.ensures.device, c.fail-in-Pool.ensures.told)
+returns-in-Pool-clause-fails c = rw c.in-Pool.is (refl, (c.fail-in-Pool.ensures.device, c.fail-in-Pool.ensures.told))
 
 pub returns-in-Device-clause-kept : goal.returns-in-Device-clause-kept
 returns-in-Device-clause-kept c = λ past.

@@ -14,7 +14,7 @@ returns-in-Ok-clause-imports g c = (
   c.in-Some.device,
   c.in-Some.ensures.device,
   rw (← c.take_device.ensures.same_run.0)
-      (import_shared _ _ _ c.in-Ok.imported.device c.in-Ok.imported.mounted _ _ (record { limit = (c.in-Ok.ensures.explained 0).exact.charges.limit; synced = c.in-Ok.ensures.synced refl })
+      (import_shared _ _ _ c.in-Ok.imported.device c.in-Ok.imported.mounted _ _ (record { limit = (c.in-Ok.ensures.explained 0).exact.charges.limit; counted = c.in-Ok.ensures.count; synced = c.in-Ok.ensures.synced refl })
       (λ past was. (import_left past c.in-Some.device.disk c.in-Ok.imported.device.disk was (c.in-Ok.ensures.own refl)).left) (rw (← c.of-before.ensures) c.share.ensures.shares)),
 )
 
@@ -38,6 +38,6 @@ returns-clause-imports g c =
             told_is = c.give_back.ensures.refused;
             place_is = c.give_back.ensures.device;
             still = λ past was. (import_left past c.in-Some.device.disk c.in-Err.device.disk was (c.in-Err.ensures.own refl)).left;
-            left = inl (left.refused, left.counted, record { size = left.given_back; reason = left.reason refl; untouched = left.untouched; unchanged = left.unchanged refl; stopped = left.stopped refl });
+            left = inl (record { size = left.given_back; refused = left.refused; counted = left.counted; reason = left.reason refl; untouched = left.untouched; unchanged = left.unchanged refl; stopped = left.stopped refl });
           })),
     )
