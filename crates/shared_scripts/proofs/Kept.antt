@@ -128,10 +128,10 @@ import_keeps dirty_max moment old told new (device, taken, imports) past run =
 -- a fair crash leaves it, and so does one with more letters than there are unflushed writes
 module _ (pieces : List Piece) (old new : SharedPlace) (device : MemState) (taken : IsTakenFrom old (Some device)) where
   pub crash_keeps : (told : Result Answer BadCommand) → CrashesOn pieces device told new → (IsOk told → MayLeave device.disk.now (crash_image pieces device.disk.now)) → KeepsOverCrash pieces old told new
-  crash_keeps (Ok a) crashes may past run =
+  crash_keeps (Ok a) crashes may = λ past run.
       taken_left past (λ later d. IsFairCrash pieces later d → IsRunIn later new) old device run taken
       (λ later left. ∣ (λ fair. subst (λ (place : SharedPlace). IsRunIn later place) (sym crashes.2) (left_crashed later device.disk (crash_image pieces device.disk.now) (may refl) fair left)) ∣₁)
-  crash_keeps (Err e) crashes may past run = inr (taken_left past (λ later d. IsRunIn later new) old device run taken (λ later left. ∣ subst (λ (place : SharedPlace). IsRunIn later place) (sym crashes.1) left ∣₁))
+  crash_keeps (Err e) crashes may = λ past run. inr (taken_left past (λ later d. IsRunIn later new) old device run taken (λ later left. ∣ subst (λ (place : SharedPlace). IsRunIn later place) (sym crashes.1) left ∣₁))
 
 -- a run of a place that stays goes on there
 still_keeps : (old new : SharedPlace) → new ≡ old → KeepsOn old new

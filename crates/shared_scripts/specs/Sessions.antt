@@ -30,7 +30,7 @@ use Rattle.word_lock.specs.Seats.{seen, turns}
 
 -- a handle of the pool makes what the command asks for and gives the reply, behind the command before; the pool stays, and so do the plans but for
 -- what began or ended
-pub record AsksShared (W : Type 0) (asked : PoolCommand) (moment : ℕ) (old : SharedPool) (reply : Reply) (new : SharedPool) : Type 0 where
+pub record AsksShared (W : Type 0) (asked : PoolCommand) (moment : ℕ) (reply : Reply) (old new : SharedPool) : Type 0 where
   pub asks : Asks W asked moment old reply new
   pub same_pool : new.pool ≡ old.pool
   pub plans : new.plans.plans.items ≡ plans_after (change_of asked) reply old.plans.plans.items
