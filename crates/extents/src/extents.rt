@@ -9,7 +9,7 @@ use indexmap::IndexMap;
 use std::alloc::{AllocError, Global};
 
 /// The patches of the objects that a group changed, by their numbers.
-#[derive(Drop)]
+#[derive(Debug, Drop)]
 pub struct Extents {
     pub(crate) patches: IndexMap<u32, ObjectPatch>,
 }

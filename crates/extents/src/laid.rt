@@ -12,7 +12,7 @@ use base::{OBJECT_COUNT, ObjectId, PoolError};
 use object_maps::ObjectSource;
 
 /// The objects of a source with the changes of a group laid over them.
-#[derive(Drop)]
+#[derive(Debug, Drop)]
 pub struct Laid<'a, O> {
     extents: &'a Extents,
     below: O,

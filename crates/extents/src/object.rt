@@ -10,7 +10,7 @@ use base::{POINTER_COUNT, RECORD_SIZE};
 use std::alloc::{AllocError, Global};
 
 /// What a group leaves of an object, and the bytes that it wrote, by records.
-#[derive(Drop)]
+#[derive(Debug, Drop)]
 pub struct ObjectPatch {
     /// What it leaves of the object below.
     pub basis: Basis,

@@ -16,7 +16,7 @@ use std::mem;
 
 /// The changes of the unsynced groups, oldest first: at most three are there, one that is written out, one that quiesces and
 /// the open one.
-#[derive(Drop)]
+#[derive(Debug, Drop)]
 pub struct UnsyncedExtents {
     alloc: Global,
     oldest: Extents,

@@ -63,7 +63,7 @@ use tree_plans::{Committed, PlanSource, TreePlan, changed_objects, plan};
 use uberblocks::{Uberblock, slot};
 
 // A sync that runs, and what it makes of the tree.
-#[derive(Drop)]
+#[derive(Debug, Drop)]
 struct RunningSync {
     group: Group,
     // what its uberblocks carry
@@ -83,6 +83,7 @@ struct RunningSync {
 
 // What a running pool keeps in memory: all but its device. Each step changes it, or leaves it as it was. `PoolState` says
 // what each answers, and why it is refused.
+#[derive(Debug)]
 pub(crate) struct Pool {
     alloc: Global,
     geometry: Geometry,

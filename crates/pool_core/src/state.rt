@@ -28,7 +28,7 @@ pub enum Progress {
 ///
 /// After a device refused a write or a flush the pool is suspended: it still tells its name and its status, and each other
 /// later step is refused `Suspended`. Every other refusal leaves the pool as it was.
-#[derive(Drop)]
+#[derive(Debug, Drop)]
 pub struct PoolState<D: SectorDevice> {
     device: D,
     pool: Pool,

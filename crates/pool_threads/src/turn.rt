@@ -129,7 +129,8 @@ pub(crate) fn begin_guarded<'s, 'l, D: SectorDevice>(
     ensures same { IsSameSeat guard.entry.seat.now guard.exit.0.now × IsIdle guard.exit.0.now }
     ensures stepped { HasStepped (IsTrue D.keeps_model) (step.Begin owner plan.now)
         (begin_reply result.0) guard.entry.seat.now guard.exit.0.now }
-    ensures above { result.1 ≡ is_above_limit plan.now (viewed_state (seen guard.exit.0.now)).shown }
+    ensures above { result.1
+        ≡ is_above_limit plan.now (viewed_state (seen guard.exit.0.now)).shown }
 {
     let Guard { seat, lock, held } = guard;
     let mut held = held;

@@ -11,7 +11,7 @@ use device_model::MemDevice;
 use import_replay::create;
 
 /// What a session has so far.
-#[derive(Drop)]
+#[derive(Debug, Drop)]
 pub enum Place<P> {
     Nothing,
     Device(MemDevice),

@@ -24,7 +24,7 @@ use std::mem;
 pub struct BadCommand;
 
 /// A run of a script: its device in memory, and the pool that is imported from it.
-#[derive(Drop)]
+#[derive(Debug, Drop)]
 pub struct Session {
     alloc: Global,
     size: u64,

@@ -29,7 +29,7 @@ pub enum SyncCall {
 }
 
 /// A sync that runs.
-#[derive(Drop)]
+#[derive(Debug, Drop)]
 pub struct SyncRun {
     pub geometry: Geometry,
     pub blocks: Vec<PlannedBlock>,

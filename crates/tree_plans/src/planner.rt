@@ -18,7 +18,7 @@ use std::alloc::Global;
 use std::collections::BTreeMap;
 
 /// A committed transaction of an unsynced group.
-#[derive(Drop)]
+#[derive(Debug, Drop)]
 pub struct Committed {
     pub group: Group,
     pub ordinal: u64,
@@ -26,7 +26,7 @@ pub struct Committed {
 }
 
 /// A block with the place that it is written to.
-#[derive(Drop)]
+#[derive(Debug, Drop)]
 pub struct PlannedBlock {
     /// Its index in the block area.
     pub index: usize,
@@ -34,7 +34,7 @@ pub struct PlannedBlock {
 }
 
 /// What a sync makes of a tree.
-#[derive(Drop)]
+#[derive(Debug, Drop)]
 pub struct TreePlan {
     /// The blocks to be written, in the order of their places in the walk of a sync.
     pub blocks: Vec<PlannedBlock>,
@@ -49,7 +49,7 @@ pub struct TreePlan {
 }
 
 /// The blocks that a plan has taken so far.
-#[derive(Drop)]
+#[derive(Debug, Drop)]
 pub struct Planner {
     pub alloc: Global,
     pub geometry: Geometry,

@@ -92,7 +92,7 @@ fn state_of(touched: bool, left: bool) -> RecordState
 }
 
 /// What a plan is made of, beside the objects.
-#[derive(Clone, Copy)]
+#[derive(Clone, Copy, Debug)]
 pub struct PlanSource<'a> {
     pub alloc: Global,
     pub geometry: Geometry,
