@@ -11,7 +11,7 @@ use Rattle.base.specs.declared.step.Reply as declared_reply
 use Rattle.base.specs.crash.CrashRule.{IsImportKept, IsImportMoment, IsOwnOnceFlushed, KeepsOwn}
 use Rattle.base.specs.crash.Own.{IsOwnWith}
 use Rattle.base.specs.declared.error.PoolError.{PoolError}
-use Rattle.base.specs.declared.error.PoolError.TheVariants.{NoMemory}
+use Rattle.base.specs.declared.error.PoolError.TheVariants.{Damaged, NoMemory, NoPool, NoSpace, TooMany}
 use Rattle.base.specs.declared.refused.RefusedCalls.{RefusedCalls}
 use Rattle.base.specs.declared.piece.Piece.{Piece}
 use Rattle.base.specs.crash.PoolViews.{IsPoolDisk}
@@ -41,7 +41,7 @@ use Rattle.pool_core.specs.KeptSafe.{BeginsSafe, IsKeptSafe, IsSafeStep, OnDisk,
 use Rattle.pool_core.specs.NewStates.{IsHeldAtFirst, first_past}
 use Rattle.pool_core.specs.States.{shown, told}
 use Rattle.pool_core.proofs.crash.SafeMoments.{kept_own}
-use Rattle.round_trip.specs.Crashes.{Answer, ComesTo, ComesToFrom, ComesToOfNew, GoesAsRound, GoesOnAs, GoesOnFrom, IsEndOf, IsFairEnd, IsLeft, IsOverFor, IsRefusedFrom, IsRefusedOfNew, IsRound, IsRoundOver, Outcome, counted_in}
+use Rattle.round_trip.specs.Crashes.{Answer, ComesTo, ComesToFrom, ComesToOfNew, GoesAsRound, GoesOnAs, GoesOnFrom, IsEndOf, IsFairEnd, IsLeft, IsOverFor, IsRefusedFrom, IsRefusedOfNew, IsRefusedOn, IsRound, IsRoundOver, Outcome, counted_in}
 use Rattle.round_trip.specs.Rounds.{IsOpened}
 use Rattle.round_trip.specs.declared.crashes.End.{End}
 use Rattle.round_trip.specs.declared.crashes.End.TheVariants.{Crash, GivenUp}
@@ -124,7 +124,27 @@ same_create : (dirty_max moment : ℕ) (ss : List declared_step.Step) (answer : 
 same_create dirty_max moment ss (Ok replies) past later disk ended over =
     let s = over.steps in
     ap (λ (p : Past). p.created) (sym s.past_is) ∙ steps_same_create ss replies.items s.start s.end s.made ∙ ap (λ (p : Past). p.created) s.begins
-same_create dirty_max moment ss (Err e) past later disk ended over = ap (λ (p : Past). p.created) over.steps
+same_create dirty_max moment ss (Err e) past later disk ended over = ap (λ (p : Past). p.created) over.steps.0
+
+-- want of memory says nothing of the bytes, and comes to sound pools too
+no_memory_on : (disk : Disk) (e : PoolError) → e ≡ NoMemory → IsRefusedOn disk e
+no_memory_on disk e none = (
+  record {
+    no_pool = λ is. let h : NoMemory ≡ NoPool = sym none ∙ is in cc;
+    damaged = λ kind address is. let h : NoMemory ≡ Damaged kind address = sym none ∙ is in cc;
+    too_many = λ is. let h : NoMemory ≡ TooMany = sym none ∙ is in cc;
+    no_space = λ is. let h : NoMemory ≡ NoSpace = sym none ∙ is in cc;
+  },
+  record {
+    not_missing = λ is. let h : NoMemory ≡ NoPool = sym none ∙ is in cc;
+    not_full = λ is. let h : NoMemory ≡ NoSpace = sym none ∙ is in cc;
+    not_damaged = λ kind address is. let h : NoMemory ≡ Damaged kind address = sym none ∙ is in cc;
+  },
+)
+
+-- an import of what a run left is refused for what the bytes say, and as one of a sound pool
+refused_on : (past : Past) (old : Disk) (e : PoolError) → IsLeft past old → FindsOwn old e → IsReason (bytes_of old.now) e → IsRefusedOn old e
+refused_on past old e was own reason = let f = left_flushed past old was in (reason, own past.created f.guid f.contents f.own)
 
 -- An import that answered Ok begins a run, and the steps behind it are those of a round.
 module _ {Dev : Type 0} {G : Ghosts Dev} (keep : IsTrue G.keeps_model) (dirty_max : ℕ) (past : Past) (old : Disk) (m : Mounted) (state : PoolState Dev G)
@@ -178,6 +198,7 @@ module _ {Dev : Type 0} {G : Ghosts Dev} (keep : IsTrue G.keeps_model) (dirty_ma
               left = found.left;
               start = on_disk state first;
               opened = opened;
+              at_first = record { mounted = m; shown_is = shows };
               begins = of_found;
               shows = ap (λ (s : Shown). s.contents) shows ∙ run_start.contents_are;
               end = on_disk end run.0;
@@ -190,19 +211,21 @@ module _ {Dev : Type 0} {G : Ghosts Dev} (keep : IsTrue G.keeps_model) (dirty_ma
         )
 
     -- there was no memory for the replies
-    not_made : (ss : List declared_step.Step) (end : PoolState Dev G) (e : PoolError) → end ≡ state → (later : Past) × IsRoundOver dirty_max moment ss (Err e) past later old (disk_of end) × IsLeft later (disk_of end)
-    not_made ss end e same =
+    not_made : (ss : List declared_step.Step) (end : PoolState Dev G) (e : PoolError) → e ≡ NoMemory → end ≡ state → (later : Past) × IsRoundOver dirty_max moment ss (Err e) past later old (disk_of end) × IsLeft later (disk_of end)
+    not_made ss end e none same =
         subst (λ (x : PoolState Dev G). (later : Past) × IsRoundOver dirty_max moment ss (Err e) past later old (disk_of x) × IsLeft later (disk_of x)) (sym same)
-        (past, record { goes_on = left_then.goes_on; steps = refl }, left_then.left)
+        (past, record { goes_on = left_then.goes_on; steps = (refl, no_memory_on old e none) }, left_then.left)
 
-    pub over : (ss : List declared_step.Step) (end : PoolState Dev G) (answer : Answer) → IfOk answer (λ replies. SafeOn ss replies.items state end) → OnErr answer (end ≡ state)
+    pub over : (ss : List declared_step.Step) (end : PoolState Dev G) (answer : Answer) → IfOk answer (λ replies. SafeOn ss replies.items state end) → IfErr answer (λ e. e ≡ NoMemory) → OnErr answer (end ≡ state)
         → (later : Past) × IsRoundOver dirty_max moment ss answer past later old (disk_of end) × IsLeft later (disk_of end)
-    over ss end (Ok replies) safe same = replied ss end replies safe
-    over ss end (Err e) safe same = not_made ss end e same
+    over ss end (Ok replies) safe none same = replied ss end replies safe
+    over ss end (Err e) safe none same = not_made ss end e none same
 
 -- an import that was refused is a round without steps
-pub refused_over : (dirty_max moment : ℕ) (ss : List declared_step.Step) (e : PoolError) (past : Past) (old new : Disk) → IsLeft past old → KeepsOwn old new → IsOverFor dirty_max moment ss (Err e) past old new
-refused_over dirty_max moment ss e past old new was kept = let l = import_left past old new was kept in ∣ (past, record { goes_on = l.goes_on; steps = refl }, l.left) ∣₁
+pub refused_over : (dirty_max moment : ℕ) (ss : List declared_step.Step) (e : PoolError) (past : Past) (old new : Disk) → IsLeft past old → KeepsOwn old new → FindsOwn old e → IsReason (bytes_of old.now) e → IsOverFor dirty_max moment ss (Err e) past old new
+refused_over dirty_max moment ss e past old new was kept own reason =
+    let l = import_left past old new was kept in
+    ∣ (past, record { goes_on = l.goes_on; steps = (refl, refused_on past old e was own reason) }, l.left) ∣₁
 
 -- the refused calls of a device after an import and a list of steps, of which there was no memory for the replies or each counted its own
 pub run_counted : {S : Type 0} (calls : S → RefusedCalls) (answer : Answer) (old new : S) → IfOk answer (λ replies. calls new ≡ counted_in_turn replies.items (calls old)) → IfErr answer (λ e. e ≡ NoMemory)
@@ -245,17 +268,16 @@ given_round round answer past old ended is over = ∥∥₁_map over (λ o. reco
 })
 
 -- the import behind the last round finds what is left
-pub last_import : (dirty_max : ℕ) (past : Past) (old new : Disk) (m : Mounted) → IsLeft past old → KeepsOwn old new → StartsRun old dirty_max new m → ComesTo (Ok (contents_of m.contents, new)) [] [] past old
-last_import dirty_max past old new m was kept starts_run =
+pub last_import : (dirty_max : ℕ) (past : Past) (old new : Disk) (m : Mounted) → IsLeft past old → KeepsOwn old new → StartsRun old dirty_max new m → (moment : ℕ) → IsOpened (bytes_of old.now) (bytes_of new.now) moment
+    → ComesTo (Ok (contents_of m.contents, new)) [] [] past old
+last_import dirty_max past old new m was kept starts_run moment opened =
     let f = left_flushed past old was in
     let start = starts_run past.created f.guid f.contents f.own in
-    ∣ (subst (λ (c : Contents). IsLeftBy past c) (sym start.contents_are) f.left, (import_left past old new was kept).goes_on) ∣₁
+    ∣ (subst (λ (c : Contents). IsLeftBy past c) (sym start.contents_are) f.left, (import_left past old new was kept).goes_on, (moment, opened)) ∣₁
 
 -- or it is refused, for no reason that a sound pool doesn't have
 pub last_refusal : (past : Past) (old : Disk) (e : PoolError) → IsLeft past old → FindsOwn old e → IsReason (bytes_of old.now) e → ComesTo (Err e) [] [] past old
-last_refusal past old e was own reason =
-    let f = left_flushed past old was in
-    ∣ (reason, own past.created f.guid f.contents f.own) ∣₁
+last_refusal past old e was own reason = ∣ refused_on past old e was own reason ∣₁
 
 -- by one round the answers go on
 pub one_more : (items : List Round) (round : Round) (left : List Round) (answers more : List Answer) (answer : Answer) (all : List Round) (first old next : Disk)

@@ -23,7 +23,7 @@ use Rattle.pool_core.specs.declared.state.PoolState.{PoolState}
 use Rattle.pool_core.specs.Holds.{KeepsHeld, Leads, Told, held_with, state_with}
 use Rattle.pool_core.specs.States.{told}
 use Rattle.pool_core.specs.Turns.{MakesStep, turned_state}
-use Rattle.round_trip.specs.Rounds.{AreLeft, HoldsContents, IsAllSynced, IsOpened, IsCleanRound}
+use Rattle.round_trip.specs.Rounds.{AreLeft, HoldsContents, IsAllSynced, IsCleanRound, IsJustMounted, IsOpened}
 
 -- an image without log blocks has no chain
 pub no_chain : (now : List ℕ) (u : Uberblock) → HasNoLogBlock now → IsChainOf now u []
@@ -106,9 +106,9 @@ module _ {Dev : Type 0} {G : Ghosts Dev} (keep : IsTrue G.keeps_model) where
 
   -- a run from a pool that was just imported is a round
   pub round : (image : List ℕ) (ss : List declared_step.Step) (rs : List declared_reply.Reply) (old new : PoolState Dev G) → Run MakesStep ss rs old new → (before : Contents) (dirty_max moment : ℕ)
-      → IsOpened image (told old).now moment → (told old).shown.contents ≡ before → IsHeld (held_with (told old) (new_past before 0 dirty_max)) → HasNoLogBlock (told old).now
+      → IsOpened image (told old).now moment → IsJustMounted (told old).shown → (told old).shown.contents ≡ before → IsHeld (held_with (told old) (new_past before 0 dirty_max)) → HasNoLogBlock (told old).now
       → (after : Contents) × IsCleanRound image before dirty_max moment ss rs (told new).now after
-  round image ss rs old new ran before dirty_max moment opened shows held none =
+  round image ss rs old new ran before dirty_max moment opened at_first shows held none =
       let past : Past = new_past before 0 dirty_max in
       let l = led ss rs old new ran past held none in
       let end : Held = held_with (told new) l.later in
@@ -117,6 +117,7 @@ module _ {Dev : Type 0} {G : Ghosts Dev} (keep : IsTrue G.keeps_model) where
         record {
           start = held_with (told old) past;
           opened = opened;
+          at_first = at_first;
           shows = shows;
           anew = refl;
           end = end;

@@ -26,7 +26,7 @@ use Rattle.pool_core.specs.KeptSafe.{IsSafeStep, OnDisk}
 use Rattle.round_trip.specs.declared.crashes.End.{End}
 use Rattle.round_trip.specs.declared.crashes.End.TheVariants.{Crash, GivenUp}
 use Rattle.round_trip.specs.declared.crashes.Round.{Round}
-use Rattle.round_trip.specs.Rounds.{AreNew, IsOpened}
+use Rattle.round_trip.specs.Rounds.{AreNew, IsJustMounted, IsOpened}
 
 -- what the steps of a round replied, or why none was made
 abbrev pub Answer : Type 0
@@ -51,13 +51,14 @@ abbrev pub IsLeft : Past → Disk → Type 0
 IsLeft past disk = (guid : ℕ) × IsRunLeft disk past guid
 
 -- Steps with these replies, of a pool that was imported from a disk at a moment, with contents that the earlier run left: the replay of a cut of
--- its entries with every acknowledged one. They begin with a past in which nothing happened and lead to the later one; each is a step of the definitions, at each
+-- its entries with every acknowledged one. They begin with no step made and a past in which nothing happened, and lead to the later one; each is a step of the definitions, at each
 -- of whose moments the disk was safe; and they end on this disk.
 pub record AreStepsFrom (dirty_max moment : ℕ) (ss : List declared_step.Step) (rs : List declared_reply.Reply) (earlier later : Past) (disk ended : Disk) : Type 0 where
   pub base : Contents
   pub left : IsLeftBy earlier base
   pub start : OnDisk
   pub opened : IsOpened (bytes_of disk.now) start.held.now moment
+  pub at_first : IsJustMounted start.held.state.shown
   pub begins : start.held.state.past ≡ new_past base earlier.created dirty_max
   pub shows : start.held.state.shown.contents ≡ base
   pub end : OnDisk
@@ -65,10 +66,15 @@ pub record AreStepsFrom (dirty_max moment : ℕ) (ss : List declared_step.Step) 
   pub past_is : end.held.state.past ≡ later
   pub disk_is : end.disk ≡ ended
 
--- The import and the steps of a round: the steps replied, or none was made, and then what the earlier run left is left still.
+-- an import of the disk may be refused so: for what its bytes say, and not as one of a pool that isn't sound
+abbrev pub IsRefusedOn : Disk → PoolError → Type 0
+IsRefusedOn disk e = IsReason (bytes_of disk.now) e × IsOfSoundPool e
+
+-- The import and the steps of a round: the steps replied, or none was made for a refusal of the import or of want of memory, and then what the
+-- earlier run left is left still.
 pub record IsRoundOver (dirty_max moment : ℕ) (ss : List declared_step.Step) (answer : Answer) (earlier later : Past) (disk ended : Disk) : Type 0 where
   pub goes_on : GoesOnFrom disk ended
-  pub steps : MatchResult answer (λ replies. AreStepsFrom dirty_max moment ss replies.items earlier later disk ended) (λ e. later ≡ earlier)
+  pub steps : MatchResult answer (λ replies. AreStepsFrom dirty_max moment ss replies.items earlier later disk ended) (λ e. (later ≡ earlier) × IsRefusedOn disk e)
 
 -- so a round is over, and a run with the past that is left then left the disk that it ended on
 abbrev pub IsOverFor : (dirty_max moment : ℕ) → List declared_step.Step → Answer → Past → Disk → Disk → Type 0
@@ -102,10 +108,10 @@ abbrev pub Outcome : Type 0
 Outcome = Result (Contents × Disk) PoolError
 
 -- The import of the disk that a run with this past left came to this: it shows the replay of a cut of the run's entries with every acknowledged
--- one, or it is refused for what the disk's bytes say, and not as one of a pool that isn't sound.
+-- one, and left the last disk four groups later, or it is refused.
 abbrev pub IsOutcome : Outcome → Past → Disk → Type 0
-IsOutcome (Ok (found, last)) past disk = IsLeftBy past found × GoesOnFrom disk last
-IsOutcome (Err e) past disk = IsReason (bytes_of disk.now) e × IsOfSoundPool e
+IsOutcome (Ok (found, last)) past disk = IsLeftBy past found × GoesOnFrom disk last × ((moment : ℕ) × IsOpened (bytes_of disk.now) (bytes_of last.now) moment)
+IsOutcome (Err e) past disk = IsRefusedOn disk e
 
 -- Rounds with these answers, from what an earlier run left on a disk: where each crash was fair, the import behind them came to this, from what
 -- the last run left, over contents that the run before it left, and so on to the first.

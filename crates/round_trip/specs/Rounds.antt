@@ -10,11 +10,14 @@ use Rattle.base.specs.history.History.{Entry, entries_up_to, replay}
 use Rattle.base.specs.crash.Mount.{MountsTo}
 use Rattle.base.specs.history.Past.{new_past}
 use Rattle.base.specs.steps.Runs.{Run}
+use Rattle.base.specs.steps.Shown.{Shown}
 use Rattle.base.specs.stored.ShownLabels.{HasNoLogBlock}
 use Rattle.base.specs.stored.Stored.{Held, IsHeld}
 use Rattle.import_replay.specs.CreateRefusals.{CanCreate, IsCreateRefusal}
 use Rattle.import_replay.specs.Creations.{IsNewPool}
 use Rattle.import_replay.specs.ImportRefusals.{IsImportRefusal}
+use Rattle.import_replay.specs.Mounts.{shown_of_import}
+use Rattle.import_replay.specs.declared.mounted.Mounted.{Mounted}
 use Rattle.pool_core.specs.Holds.{KeepsHeld}
 
 -- the bytes mount these contents, and no block is a log block
@@ -44,6 +47,11 @@ pub record IsOpened (image now : List ℕ) (moment : ℕ) : Type 0 where
   pub guid : after.u.guid ≡ before.guid
   pub group : after.u.group ≡ before.group + 4
 
+-- a pool as an import mounted it: no step was made since
+pub record IsJustMounted (s : Shown) : Type 0 where
+  pub mounted : Mounted
+  pub shown_is : s ≡ shown_of_import mounted
+
 -- Contents that a pool leaves: the replay, over its base, of its entries up to a group. This is the synced one, or that of a sync
 -- which runs.
 pub record AreLeft (h : Held) (contents : Contents) : Type 0 where
@@ -57,11 +65,12 @@ pub record IsAllSynced (h : Held) : Type 0 where
   pub none_above : All (λ (e : Entry). e.group ≤ h.state.shown.line.synced) h.state.past.entries
 
 -- A round over an image of the contents before, at a moment and with a limit: the image's pool is opened at this moment and shows the
--- contents at first, with this limit and a past in which nothing happened; the steps with these replies are a run of the definitions; and the bytes, which are given up, hold what the pool leaves. Where all is synced these are
+-- contents at first, with this limit, no step made and a past in which nothing happened; the steps with these replies are a run of the definitions; and the bytes, which are given up, hold what the pool leaves. Where all is synced these are
 -- the contents that are shown at the end.
 pub record IsCleanRound (image : List ℕ) (before : Contents) (dirty_max moment : ℕ) (ss : List declared_step.Step) (rs : List declared_reply.Reply) (now : List ℕ) (after : Contents) : Type 0 where
   pub start : Held
   pub opened : IsOpened image start.now moment
+  pub at_first : IsJustMounted start.state.shown
   pub shows : start.state.shown.contents ≡ before
   pub anew : start.state.past ≡ new_past before 0 dirty_max
   pub end : Held
@@ -93,14 +102,15 @@ pub record Play : Type 0 where
   pub dirty_max : ℕ
   pub moment : ℕ
 
--- from an image of a new pool a round with these steps and replies leaves the contents that the next import found
-pub record IsFoundAfter (p : Play) (ss : List declared_step.Step) (rs : List declared_reply.Reply) (found : Contents) : Type 0 where
+-- from an image of a new pool a round with these steps and replies leaves the contents that the next import found, which left the last bytes
+pub record IsFoundAfter (p : Play) (ss : List declared_step.Step) (rs : List declared_reply.Reply) (found : Contents) (last : List ℕ) : Type 0 where
   pub image : List ℕ
   pub made : IsNewPool image p.name p.guid p.moment
   pub before : Contents
   pub new : AreNew p.name before
   pub now : List ℕ
   pub round : IsCleanRound image before p.dirty_max p.moment ss rs now found
+  pub opened : IsOpened now last p.moment
 
 -- a refusal of a play on a device of so many bytes: that of its create, or behind it of an import
 abbrev pub IsPlayRefusal : ℕ → List ℕ → ℕ → PoolError → Type 0

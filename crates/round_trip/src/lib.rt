@@ -16,7 +16,7 @@ ghost use Rattle.import_replay.specs.OwnCreations.{HasEarlierWrites, first_conte
 ghost use Rattle.import_replay.specs.RunStarts.{StartsRun};
 ghost use Rattle.object_maps.specs.ContentsShown.{contents_of};
 ghost use Rattle.round_trip.specs.Crashes.{GoesOnFrom};
-ghost use Rattle.round_trip.specs.Rounds.{GoesRound, HasMoment, HoldsNew, IsFoundAfter, IsOpened, IsPlayRefusal, KeepsNoLog, ShowsHeld};
+ghost use Rattle.round_trip.specs.Rounds.{GoesRound, HoldsNew, IsFoundAfter, IsOpened, IsPlayRefusal, KeepsNoLog, ShowsHeld};
 
 mod crashes;
 
@@ -125,9 +125,8 @@ pub fn play<D: SectorDevice + Drop>(
 ) -> Result<(Vec<Reply>, Imported<D>), PoolError>
     ensures found { IsTrue D.keeps_model → IfOk result (λ r. ∥ IsFoundAfter
         (record { name = name.now; guid = guid; dirty_max = dirty_max; moment = moment })
-        steps.items r.0.items (contents_of r.1.mounted.contents) ∥₁) }
-    ensures opened { IsTrue D.keeps_model
-        → IfOk result (λ r. HasMoment (bytes_of (D.disk r.1.device).now) moment) }
+        steps.items r.0.items (contents_of r.1.mounted.contents)
+        (bytes_of (D.disk r.1.device).now) ∥₁) }
     ensures limit { IfOk result (λ r. r.1.mounted.dirty_max ≡ dirty_max) }
     ensures refusal { IfErr result (λ e. IsPlayRefusal (D.size device) name.now dirty_max e) }
 {

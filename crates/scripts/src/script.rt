@@ -1,9 +1,9 @@
 //! A script, line by line.
 
-ghost use Rattle.std.specs.Prelude.{◌≡◌, ◌≢◌, ◌≤◌, ◌↔◌, IfOk, IfSome, IsTrue, None, Ok};
+ghost use Rattle.std.specs.Prelude.{◌≡◌, ◌≢◌, ◌≤◌, ◌↔◌, IfErr, IfOk, IfSome, IsTrue, None, Ok};
 ghost use Rattle.scripts.specs.Endings.{status_number};
 ghost use Rattle.scripts.specs.Letters.{is_silent};
-ghost use Rattle.scripts.specs.Lines.{RunsLine};
+ghost use Rattle.scripts.specs.Lines.{RunsBadLine, RunsLine};
 
 use crate::answer::Answer;
 use crate::command::{LineError, parse_command};
@@ -132,6 +132,7 @@ fn run_line<S: CommandRunner>(
     ensures unchanged { IsTrue (is_silent line.now) → session.new ≡ session.old }
     ensures answered { IfOk result (λ told.
         IfSome told (λ answer. RunsLine S.runs line.now session.old answer session.new)) }
+    ensures bad { IfErr result (λ e. RunsBadLine S.runs line.now session.old e session.new) }
 {
     if prints_nothing(line) {
         return Ok(None);

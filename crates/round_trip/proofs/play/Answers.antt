@@ -19,7 +19,5 @@ returns-clause-found g c = λ keeps.
       new = new.1;
       now = now;
       round = subst (λ (found : Contents). IsCleanRound image new.0 c.args.dirty_max c.args.moment ss rs now found) (sym (c.in_ok-imported.ensures.found keeps left.0 left.1.holds)) left.1;
+      opened = c.in_ok-imported.ensures.opened keeps;
     })
-
-pub returns-clause-opened : goal.returns-clause-opened
-returns-clause-opened g c = λ keeps. (c.in_ok-imported.ensures.opened keeps).after

@@ -9,7 +9,7 @@ use Rattle.base.specs.stored.ShownLabels.{HasNoLogBlock}
 use Rattle.base.specs.stored.Stored.{IsHeld}
 use Rattle.pool_core.specs.Holds.{held_with}
 use Rattle.pool_core.specs.States.{shown, told}
-use Rattle.round_trip.specs.Rounds.{IsOpened, IsCleanRound}
+use Rattle.round_trip.specs.Rounds.{IsCleanRound, IsJustMounted, IsOpened}
 use Rattle.round_trip.proofs.Rounds.{round}
 use Rattle.round_trip.proofs.round.Goals as goal
 
@@ -20,6 +20,7 @@ returns-clause-went g c = λ keeps before holds.
     let ss = c.args.steps.items in
     let rs = c.in_ok-replies.replies.items in
     let shows : (shown state).contents ≡ before = ap (λ (s : Shown). s.contents) c.new-state.ensures.shown ∙ c.in_ok-imported.ensures.found keeps before holds in
+    let at_first : IsJustMounted (shown state) = record { mounted = c.in_ok-imported.imported.mounted; shown_is = c.new-state.ensures.shown } in
     let none : HasNoLogBlock (told state).now = subst (λ d. HasNoLogBlock (bytes_of (disk d).now)) (sym c.new-state.ensures.device) (c.in_ok-imported.ensures.no_log keeps holds.no_log) in
     let image : List ℕ = bytes_of (disk c.args.device).now in
     let opened : IsOpened image (told state).now c.args.moment =
@@ -31,7 +32,7 @@ returns-clause-went g c = λ keeps before holds.
     let held : IsHeld (held_with (told state) (new_past before 0 c.args.dirty_max)) =
     subst (λ (k : ℕ). IsHeld (held_with (told state) (new_past before 0 k))) limit based in
     subst (λ d. (after : Contents) × IsCleanRound image before c.args.dirty_max c.args.moment ss rs (bytes_of (disk d).now) after) (sym c.into_device.ensures)
-    (round keeps image ss rs state c.run.new.state c.in_ok-replies.ensures.ran before c.args.dirty_max c.args.moment opened shows held none))
+    (round keeps image ss rs state c.run.new.state c.in_ok-replies.ensures.ran before c.args.dirty_max c.args.moment opened at_first shows held none))
 
 pub returns-in_err-replies-clause-refusal : goal.returns-in_err-replies-clause-refusal
 returns-in_err-replies-clause-refusal g c =

@@ -21,7 +21,8 @@ returns-clause-found c =
     let i = c.in_ok-imported.imported in
     all_over c.args.rounds.items (into_iter_items c.loop-round.round-iterator) c.loop-round.answers.items c.args.device.disk c.loop-round.device.disk (Ok (contents_of i.mounted.contents, i.device.disk))
     (sym c.loop-round.round-iterator.rest.ok.0 ∙ c.in-None.ensures.steps.0) c.loop-round.invariant.3
-    (λ past was. last_import c.args.dirty_max past c.loop-round.device.disk i.device.disk i.mounted was (c.in_ok-imported.ensures.own refl) (c.in_ok-imported.ensures.starts refl))
+    (λ past was. last_import c.args.dirty_max past c.loop-round.device.disk i.device.disk i.mounted was (c.in_ok-imported.ensures.own refl) (c.in_ok-imported.ensures.starts refl)
+    c.args.moment (c.in_ok-imported.ensures.opened refl))
 
 pub returns-clause-opened : goal.returns-clause-opened
 returns-clause-opened c = (c.in_ok-imported.ensures.opened refl).after

@@ -36,7 +36,7 @@ returns-in-Ok-clause-went g c = λ keeps past was.
     ∥∥₁_map c.new-state.ensures.held (λ held.
     subst (λ d. (later : _) × IsRoundOver c.args.dirty_max c.args.moment ss c.run-answer.result past later old (disk d) × IsLeft later (disk d)) (sym c.into_device.ensures)
     (over keeps c.args.dirty_max past old m state was kept starts c.new-state.ensures.shown limit sized (held keeps) c.new-state.ensures.safe c.args.moment opened ss end c.run-answer.result
-    (c.run-answer.ensures.safe keeps) c.run-answer.ensures.kept))
+    (c.run-answer.ensures.safe keeps) c.run-answer.ensures.refused c.run-answer.ensures.kept))
 
 pub returns-in-Ok-clause-count : goal.returns-in-Ok-clause-count
 returns-in-Ok-clause-count g c =
@@ -49,4 +49,5 @@ returns-in-Ok-clause-refusal g c = run_refused (g.D.SectorDevice.size c.args.dev
 
 pub returns-in-Err-clause-went : goal.returns-in-Err-clause-went
 returns-in-Err-clause-went g c = λ keeps past was.
-    refused_over c.args.dirty_max c.args.moment c.args.steps.items c.in-Err.error past (g.D.SectorDevice.disk c.args.device) (g.D.SectorDevice.disk c.in-Err.device) was (c.in-Err.ensures.own keeps)
+    refused_over c.args.dirty_max c.args.moment c.args.steps.items c.in-Err.error past (g.D.SectorDevice.disk c.args.device) (g.D.SectorDevice.disk c.in-Err.device) was (c.in-Err.ensures.own keeps) (c.in-Err.ensures.found keeps)
+    (c.in-Err.ensures.reason keeps)
