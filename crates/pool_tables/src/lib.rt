@@ -1,0 +1,8 @@
+//! The tables of a running pool, and each call on them, without a device.
+#![tactic(auto)]
+
+mod blocks;
+mod plans;
+mod pool;
+
+pub use pool::{PoolTables, Progress};
