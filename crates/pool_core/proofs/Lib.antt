@@ -6,4 +6,5 @@ pub mod StepsOver
 pub mod StillSteps
 pub mod MadeSteps
 pub mod NewStates
+pub mod Callers
 pub mod crash

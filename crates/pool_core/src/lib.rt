@@ -1,6 +1,7 @@
 //! The state of a pool, one step at a time.
 #![tactic(auto)]
 
+mod clients;
 mod laws;
 mod runs;
 mod state;

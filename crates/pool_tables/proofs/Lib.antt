@@ -20,4 +20,5 @@ pub mod PendingOps
 pub mod UnsyncedChanges
 pub mod FreeBlocks
 pub mod Aborts
+pub mod Callers
 pub mod syncs

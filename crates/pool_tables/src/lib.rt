@@ -2,6 +2,7 @@
 #![tactic(auto)]
 
 mod blocks;
+mod clients;
 mod plans;
 mod pool;
 

@@ -27,7 +27,10 @@ ghost use Rattle.pool_tables.specs.Targets.{is_readable};
 mod commits;
 mod syncs;
 
-use base::{Bytes, Group, LockId, Mode, OBJECT_COUNT, ObjectId, ObjectRange, Owner, Pointer, PoolError, PoolName, Range, Status};
+use base::{
+    Bytes, Group, LockId, Mode, OBJECT_COUNT, ObjectId, ObjectRange, Owner, Pointer, PoolError,
+    PoolName, Range, Status,
+};
 use extents::{Laid, UnsyncedExtents};
 use groups::Groups;
 use import_replay::Mounted;
@@ -289,12 +292,7 @@ impl PoolTables {
 
     /// The bytes of a range that lie below the length of the object. Refused, in this order, `Suspended`, `BadRange`,
     /// `NotLocked`, `NoObject` or `NoMemory`.
-    pub fn read(
-        &self,
-        owner: Owner,
-        object: ObjectId,
-        range: Range,
-    ) -> Result<Bytes, PoolError>
+    pub fn read(&self, owner: Owner, object: ObjectId, range: Range) -> Result<Bytes, PoolError>
         ensures { Reads owner object range result (pool_shown self.now) }
     {
         self.check_running()?;

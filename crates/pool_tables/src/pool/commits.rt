@@ -13,7 +13,9 @@ ghost use Rattle.tree_plans.specs.declared.planner.Committed.{Committed};
 
 use crate::plans::check_plan;
 use crate::pool::PoolTables;
-use base::{Group, KEPT_BACK, LAST_NUMBER, Op, Ops, Ordinal, Owner, Plan, PoolError, Receipt, Shape, TxId};
+use base::{
+    Group, KEPT_BACK, LAST_NUMBER, Op, Ops, Ordinal, Owner, Plan, PoolError, Receipt, Shape, TxId,
+};
 use object_maps::judge;
 use transactions::{charge, estimate, is_in_plan, is_shrinking, range_of};
 use tree_plans::Committed;

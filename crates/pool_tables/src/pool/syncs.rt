@@ -163,10 +163,7 @@ impl PoolTables {
 
     /// Makes the next device call of the running sync; after the last one its group is synced. Refused, in this order,
     /// `Suspended`, `NotReady`, or `Write` or `Flush` as the device refused, and then the pool is suspended.
-    pub fn sync_step<D: SectorDevice>(
-        &mut self,
-        device: &mut D,
-    ) -> Result<Progress, PoolError>
+    pub fn sync_step<D: SectorDevice>(&mut self, device: &mut D) -> Result<Progress, PoolError>
         requires { D.size device.old ≡ geometry_of self.old }
         ensures size { D.size device.new ≡ D.size device.old }
         ensures geometry { geometry_of self.new ≡ geometry_of self.old }
