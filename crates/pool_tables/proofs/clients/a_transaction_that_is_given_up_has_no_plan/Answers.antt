@@ -1,4 +1,4 @@
-use Rattle.std.proofs.Common.{◌∙◌, ap, sym}
+use Rattle.std.proofs.Common.{◌∙◌}
 use Rattle.pool_tables.specs.Shows.{pool_shown}
 use Rattle.pool_tables.proofs.Callers.{given_up, none_mapped}
 use Rattle.pool_tables.proofs.clients.a_transaction_that_is_given_up_has_no_plan.Goals as goal

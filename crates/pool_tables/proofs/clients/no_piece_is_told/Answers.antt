@@ -1,4 +1,3 @@
-use Rattle.std.proofs.Common.{rules}
 use Rattle.pool_tables.proofs.clients.no_piece_is_told.Goals as goal
 
 pub returns : goal.returns
