@@ -20,7 +20,8 @@ use Rattle.base.specs.tree.Tree.{IsRecord, OpensAt}
 use Rattle.base.specs.tree.PlacedTrees.{IsEntryFor}
 use Rattle.base.specs.formats.Fields.{entry_in}
 use Rattle.base.proofs.stored.StoredRuns.{moves-keep}
-use Rattle.pool_core.specs.Holds.{IsStepOver, Leads, SamePlaces, Told, held_with}
+use Rattle.pool_tables.specs.Told.{Leads, SamePlaces, Told, held_with}
+use Rattle.pool_core.specs.Holds.{IsStepOver}
 
 module _ (image : List ℕ) (frame : Frame) (old new : Place → Pointer) (same : SamePlaces new old) (objects : FinMap nat_cmp (List ℕ)) where
   -- what stands at a place by its pointers stands there by others that are the same

@@ -12,7 +12,8 @@ use Rattle.device_model.specs.declared.device.SectorDevice.{Ghosts}
 use Rattle.pool_core.specs.declared.state.PoolState.{PoolState}
 use Rattle.pool_core.specs.Calls.{counted_in_turn}
 use Rattle.pool_core.specs.ExplainedRuns.{RunsOn}
-use Rattle.pool_core.specs.Holds.{HoldsOn, held_with, state_with}
+use Rattle.pool_tables.specs.Told.{held_with, state_with}
+use Rattle.pool_core.specs.Holds.{HoldsOn}
 use Rattle.pool_core.specs.KeptSafe.{IsKeptSafe, SafeOn, on_disk}
 use Rattle.pool_core.specs.States.{refused_calls, shown, told}
 use Rattle.pool_core.specs.Turns.{MakesStep, turned_state}

@@ -24,25 +24,27 @@ use Rattle.base.specs.steps.Steps.{Answers, State}
 use Rattle.base.specs.stored.Stored.{is_turn}
 use Rattle.device_model.specs.declared.device.SectorDevice.{Ghosts}
 use Rattle.sync.specs.Calls.{plain_answer}
-use Rattle.pool_core.specs.declared.pool.RunningSync.{RunningSync}
+use Rattle.pool_tables.specs.declared.pool.RunningSync.{RunningSync}
 use Rattle.pool_core.specs.declared.state.PoolState.{PoolState}
-use Rattle.pool_core.specs.declared.state.Progress.{Progress}
-use Rattle.pool_core.specs.declared.state.Progress.TheVariants.{More, Synced}
+use Rattle.pool_tables.specs.declared.pool.Progress.{Progress}
+use Rattle.pool_tables.specs.declared.pool.Progress.TheVariants.{More, Synced}
 use Rattle.pool_core.specs.Calls.{CallsDevice, CallsNext, answer_in, reply_in}
-use Rattle.pool_core.specs.Holds.{Leads, start_reply, sync_step_reply}
-use Rattle.pool_core.specs.KeptSafe.{StepsPhases, disk_of, run_of}
-use Rattle.pool_core.specs.Meets.{Meets}
-use Rattle.pool_core.specs.Progresses.{plain_progress}
+use Rattle.pool_tables.specs.Told.{Leads, start_reply, sync_step_reply}
+use Rattle.pool_tables.specs.SyncPhases.{StepsPhases}
+use Rattle.pool_core.specs.KeptSafe.{disk_of, run_of}
+use Rattle.pool_tables.specs.Meets.{Meets}
+use Rattle.pool_tables.specs.Progresses.{plain_progress}
 use Rattle.pool_core.specs.States.{CountsRefused, MakesNoCall, MovesNothing, device_of, refused_calls, shown, told, told_over}
-use Rattle.pool_core.specs.StepAnswers.{Commits, StartsSync, StepsSync, group_number, receipt_numbers}
+use Rattle.pool_tables.specs.StepAnswers.{Commits, StartsSync, StepsSync, group_number, receipt_numbers}
 use Rattle.pool_core.specs.StepReplies.{IsStep, StepReplies, rests_on_past}
-use Rattle.pool_core.specs.SyncStarts.{StartLeads, StartsHeld}
-use Rattle.pool_core.specs.Tables.{result_map}
+use Rattle.pool_tables.specs.SyncStarts.{StartLeads, StartsHeld}
+use Rattle.pool_tables.specs.Tables.{result_map}
 use Rattle.pool_core.specs.Turns.{MakesStep, Turns}
 use Rattle.pool_core.proofs.RepliedSteps.{result_map-same, reply_in-made, replied_with}
 use Rattle.pool_core.proofs.crash.SafeStates.{start_keeps, still_keeps, sync_keeps}
 use Rattle.pool_core.proofs.StepsOver.{start_over}
-use Rattle.pool_core.proofs.StillSteps.{is_still, leads_as, answer_in-still, no_call_counts, start_told, still_replied, still_turn}
+use Rattle.pool_tables.proofs.StillSteps.{leads_as}
+use Rattle.pool_core.proofs.StillSteps.{is_still, answer_in-still, no_call_counts, start_told, still_replied, still_turn}
 use Rattle.pool_core.proofs.Turns.{any_turns, turns}
 
 answer_in-sync_step : (answer : Result Progress PoolError) → answer_in (sync_step_reply answer) ≡ plain_answer answer

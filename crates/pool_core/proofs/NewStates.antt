@@ -16,10 +16,10 @@ use Rattle.object_maps.specs.Sources.{AreWithin}
 use Rattle.import_replay.specs.declared.mounted.Mounted.{Mounted}
 use Rattle.import_replay.specs.Mounts.{IsExplainedAnew, StandsOn, shown_of_import}
 use Rattle.import_replay.specs.ShownMounts.{LabelsShow}
-use Rattle.pool_core.specs.declared.pool.Pool.{Pool}
-use Rattle.pool_core.specs.Holds.{held_with, new_tree_of, pool_told}
+use Rattle.pool_tables.specs.declared.pool.PoolTables.{PoolTables}
+use Rattle.pool_tables.specs.Told.{held_with, new_tree_of, pool_told}
 use Rattle.pool_core.specs.NewStates.{IsExplainedAtFirst, IsHeldAtFirst, first_past}
-use Rattle.pool_core.specs.Shows.{pool_shown}
+use Rattle.pool_tables.specs.Shows.{pool_shown}
 
 module _ (now : List ℕ) (created : ℕ) (m : Mounted) (sized : block_count m.geometry ≡ block_count (length now)) (on : StandsOn now m) (shows : LabelsShow now m) (explained : IsExplainedAnew m) where
   stored : IsStored now (shown_of_import m) (pointers_of m.tree) (new_past (contents_of m.contents) created m.dirty_max)
@@ -63,7 +63,7 @@ pub explained_as : (m : Mounted) (shown : Shown) → shown ≡ shown_of_import m
 explained_as m shown is explained = subst IsExplainedAtFirst (sym is) explained
 
 -- And where it has the tree and no running sync, the device holds what it should.
-pub held_as : (m : Mounted) (pool : Pool) (now : List ℕ) → pool_shown pool ≡ shown_of_import m → pool.tree ≡ m.tree → pool.sync ≡ None
+pub held_as : (m : Mounted) (pool : PoolTables) (now : List ℕ) → pool_shown pool ≡ shown_of_import m → pool.tree ≡ m.tree → pool.sync ≡ None
     → block_count m.geometry ≡ block_count (length now) → StandsOn now m → LabelsShow now m → IsExplainedAnew m → IsHeldAtFirst (pool_told pool now)
 held_as m pool now shown tree idle sized on shows explained created =
     let same : held_with (pool_told pool now) (first_past (pool_shown pool) created)

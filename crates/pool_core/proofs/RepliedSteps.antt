@@ -6,7 +6,7 @@ use Rattle.base.specs.declared.step.Reply.{Reply}
 use Rattle.base.specs.history.Past.{Past}
 use Rattle.base.specs.steps.Runs.{Replies, reply_of}
 use Rattle.pool_core.specs.Calls.{reply_in}
-use Rattle.pool_core.specs.Tables.{result_map}
+use Rattle.pool_tables.specs.Tables.{result_map}
 
 -- the reply that is made of the value of an answer
 pub reply_in-made : {A : Type 0} (make : A → Reply) (answer : Result A PoolError) (made : Result Reply PoolError)

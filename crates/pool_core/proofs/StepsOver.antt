@@ -12,10 +12,11 @@ use Rattle.base.specs.steps.Stage as stage
 use Rattle.base.proofs.steps.AnyDevice.{same_over}
 use Rattle.device_model.specs.declared.device.SectorDevice.{Ghosts}
 use Rattle.pool_core.specs.declared.state.PoolState.{PoolState}
-use Rattle.pool_core.specs.Holds.{StepsOver, Told, start_reply, state_with}
+use Rattle.pool_tables.specs.Told.{Told, start_reply, state_with}
+use Rattle.pool_core.specs.Holds.{StepsOver}
 use Rattle.pool_core.specs.States.{told, told_over}
 use Rattle.pool_core.specs.StepReplies.{StepReplies}
-use Rattle.pool_core.specs.SyncStarts.{StartsHeld}
+use Rattle.pool_tables.specs.SyncStarts.{StartsHeld}
 use Rattle.pool_core.proofs.RepliedSteps.{replied_with}
 
 -- each step but the start of a sync is the same over every device

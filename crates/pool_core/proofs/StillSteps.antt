@@ -13,12 +13,13 @@ use Rattle.base.specs.stored.Stored.{is_turn}
 use Rattle.device_model.specs.declared.device.SectorDevice.{Ghosts}
 use Rattle.object_maps.specs.declared.tree.Tree.{Tree}
 use Rattle.object_maps.specs.Pointers.{pointers_of}
-use Rattle.pool_core.specs.declared.pool.Pool.{Pool}
 use Rattle.pool_core.specs.declared.state.PoolState.{PoolState}
 use Rattle.pool_core.specs.Calls.{answer_in}
-use Rattle.pool_core.specs.Holds.{Leads, Told, new_tree_of, start_reply, pool_told}
-use Rattle.pool_core.specs.States.{CountsRefused, IsOfNoDevice, MakesNoCall, MovesNothing, refused_calls, told, told_over}
-use Rattle.pool_core.specs.SyncStarts.{StartLeads}
+use Rattle.pool_tables.specs.Told.{Leads, Told, new_tree_of, start_reply}
+use Rattle.pool_tables.specs.KeptTrees.{IsOfNoDevice}
+use Rattle.pool_core.specs.States.{CountsRefused, MakesNoCall, MovesNothing, refused_calls, told, told_over}
+use Rattle.pool_tables.specs.SyncStarts.{StartLeads}
+use Rattle.pool_tables.proofs.StillSteps.{leads_as}
 
 -- whether a reply is neither a refusal nor says of a sync that it was started, goes on or is done
 abbrev pub is_still : declared_reply.Reply → Bool
@@ -53,15 +54,6 @@ pub still_turn : {A : Type 0} (make : A → declared_reply.Reply) (answer : Resu
     → given ≡ reply_of make answer → is_turn given ≡ false
 still_turn make (Ok x) given quiet is = ap is_turn is ∙ no_turn (make x) (quiet x)
 still_turn make (Err e) given quiet is = ap is_turn is
-
--- with another word for its reply
-pub leads_as : (r given : declared_reply.Reply) (old new : Told) → r ≡ given → Leads r old new → Leads given old new
-leads_as r given old new is leads = subst (λ (q : declared_reply.Reply). Leads q old new) is leads
-
--- a refused step of a pool that stands
-pub still_pool : (given : declared_reply.Reply) (e : PoolError) (now : List ℕ) (pool : Pool) → given ≡ reply.Refused e → Leads given (pool_told pool now) (pool_told pool now)
-still_pool given e now pool is =
-    subst (λ (r : declared_reply.Reply). Leads r (pool_told pool now) (pool_told pool now)) (sym is) (λ past later. (refl, refl, refl))
 
 module _ {Dev : Type 0} {G : Ghosts Dev} (old new : PoolState Dev G) where
   still : {A : Type 0} (answer : Result A PoolError) → MovesNothing answer old new → IsStill (told old) (told new)

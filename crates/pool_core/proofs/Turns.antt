@@ -7,7 +7,8 @@ use Rattle.base.specs.history.Past.{Past}
 use Rattle.base.specs.stored.Stored.{IsHeld}
 use Rattle.base.proofs.steps.Additions.{told_past}
 use Rattle.base.proofs.steps.KeptTables.{steps_keep_tables}
-use Rattle.pool_core.specs.Holds.{IsStepOver, Leads, StepsOver, Told, held_with, state_with}
+use Rattle.pool_tables.specs.Told.{Leads, Told, held_with, state_with}
+use Rattle.pool_core.specs.Holds.{IsStepOver, StepsOver}
 use Rattle.base.specs.steps.Runs.{is_start}
 use Rattle.pool_core.specs.StepReplies.{IsStep, StepReplies}
 use Rattle.pool_core.specs.Turns.{TurnsTo, held_after, turned_state}

@@ -5,3 +5,4 @@ pub mod SafeCalls
 pub mod SafeSteps
 pub mod SafeStates
 pub mod StoppedSteps
+pub mod StartedViews

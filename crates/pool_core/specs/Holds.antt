@@ -1,81 +1,12 @@
 -- What a pool keeps of its device, step by step.
-use Rattle.std.specs.Prelude.{ℕ, ◌≡◌, List, map, Option, option_map, Result}
-use Rattle.std.specs.FinMap.{FinMap}
-use Rattle.std.specs.Ordering.{nat_cmp}
-use Rattle.base.specs.declared.error.PoolError.{PoolError}
-use Rattle.base.specs.declared.names.Group.{Group}
-use Rattle.base.specs.declared.pointer.Pointer.{Pointer}
+use Rattle.std.specs.Prelude.{List}
 use Rattle.base.specs.declared.step.Step as declared_step
 use Rattle.base.specs.declared.step.Reply as declared_reply
-use Rattle.base.specs.declared.step.Reply.TheVariants as reply
 use Rattle.base.specs.history.Past.{Past}
-use Rattle.base.specs.tree.Places.{Place, IsPlace}
 use Rattle.base.specs.steps.Runs as runs
-use Rattle.base.specs.steps.Runs.{Run, progress_reply, reply_of}
-use Rattle.base.specs.steps.Shown.{Shown}
-use Rattle.base.specs.steps.Steps.{State}
-use Rattle.base.specs.stored.Stored.{Held, IsHeld, Moves, NewTree}
-use Rattle.object_maps.specs.declared.tree.Tree.{Tree}
-use Rattle.object_maps.specs.Pointers.{pointers_of}
-use Rattle.sync.specs.declared.run.SyncRun.{SyncRun}
-use Rattle.tree_plans.specs.Plans.{new_block}
-use Rattle.pool_core.specs.declared.pool.Pool.{Pool}
-use Rattle.pool_core.specs.declared.pool.RunningSync.{RunningSync}
-use Rattle.pool_core.specs.declared.state.Progress.{Progress}
-use Rattle.pool_core.specs.Pointers.{pointers_after}
-use Rattle.pool_core.specs.Progresses.{plain_progress}
-use Rattle.pool_core.specs.Shows.{shown_objects, shown_of}
-
--- what is shown of a pool, the bytes of its device, the pointers of its tree, and what its running sync makes
-pub record Told : Type 0 where
-  pub shown : Shown
-  pub now : List ℕ
-  pub pointers : Place → Pointer
-  pub running : Option NewTree
-
--- the tree of these pointers that a sync makes, its blocks as they are written, its uberblock, and how many of its calls it has made
-abbrev pub made_by : (Place → Pointer) → SyncRun → NewTree
-made_by pointers run = record { pointers = pointers; blocks = map new_block run.blocks.items; slot = run.uberblock; done = run.done }
-
--- the one that a running sync makes of this tree, and its pointers
-abbrev pub tree_after : RunningSync → Tree → Place → Pointer
-tree_after r tree = pointers_after r.root r.directories.items r.maps tree
-
-abbrev pub new_tree_of : Tree → RunningSync → NewTree
-new_tree_of tree r = made_by (tree_after r tree) r.run
-
--- a pool that has these objects, over a device with these bytes
-abbrev pub told_of : FinMap nat_cmp (List ℕ) → Pool → List ℕ → Told
-told_of objects p now = record { shown = shown_of objects p; now = now; pointers = pointers_of p.tree; running = option_map (new_tree_of p.tree) p.sync }
-
--- with the objects that it shows
-abbrev pub pool_told : Pool → List ℕ → Told
-pool_told p = told_of (shown_objects p) p
-
--- what is told, with a past
-abbrev pub held_with : Told → Past → Held
-held_with t past = record { state = record { shown = t.shown; past = past }; now = t.now; pointers = t.pointers; running = t.running }
-
-abbrev pub state_with : Told → Past → State
-state_with t past = record { shown = t.shown; past = past }
-
--- the replies with the answers of a start and of a step of a sync
-abbrev pub start_reply : Result Group PoolError → declared_reply.Reply
-start_reply answer = reply_of (λ (g : Group). reply.Syncing g) answer
-
-abbrev pub sync_step_reply : Result Progress PoolError → declared_reply.Reply
-sync_step_reply answer = reply_of (λ (p : Progress). progress_reply (plain_progress p)) answer
-
--- the same pointer at each place of a tree
-abbrev pub SamePlaces : (Place → Pointer) → (Place → Pointer) → Type 0
-SamePlaces f g = (place : Place) → IsPlace place → f place ≡ g place
-
--- Whatever the past, a step with this reply moves the bytes, the pointers and the running sync as the definitions say. At the end of a
--- sync the pointers are those of its tree at each place of a tree.
-abbrev pub Leads : declared_reply.Reply → Told → Told → Type 0
-Leads (reply.Synced group) old new = (pointers : Place → Pointer) × SamePlaces new.pointers pointers
-    × ((past later : Past) → Moves (reply.Synced group) (held_with old past) (held_with (record new { pointers = pointers }) later))
-Leads r old new = (past later : Past) → Moves r (held_with old past) (held_with new later)
+use Rattle.base.specs.steps.Runs.{Run}
+use Rattle.base.specs.stored.Stored.{Held, IsHeld}
+use Rattle.pool_tables.specs.Told.{Told, held_with}
 
 -- a step with its reply, over a device with the bytes of the old state
 abbrev pub IsStepOver : declared_step.Step → declared_reply.Reply → Held → Held → Type 0

@@ -1,6 +1,5 @@
 -- What a pool keeps of its disk for crashes, step by step.
-use Rattle.std.specs.Prelude.{ℕ, ◌≡◌, ◌≤◌, ◌<◌, ◌⊎◌, ◌++◌, ◌∷◌, List, Option, Some, None, Result, Ok, Err, option_map}
-use Rattle.base.specs.declared.error.PoolError.{PoolError}
+use Rattle.std.specs.Prelude.{ℕ, ◌≡◌, ◌≤◌, ◌<◌, ◌++◌, ◌∷◌, List, Option, Some, None}
 use Rattle.base.specs.declared.step.Step as declared_step
 use Rattle.base.specs.declared.step.Reply as declared_reply
 use Rattle.base.specs.crash.CrashRule.{IsRunLeft}
@@ -19,17 +18,14 @@ use Rattle.base.specs.steps.Shown.{Shown, SyncPlan}
 use Rattle.base.specs.stored.Stored.{Held, IsHeld}
 use Rattle.device_model.specs.declared.device.SectorDevice.{Ghosts}
 use Rattle.sync.specs.declared.run.SyncRun.{SyncRun}
-use Rattle.sync.specs.Made.{KeepsWritten}
-use Rattle.sync.specs.Phases.{HasPhasesSince, KeepsPhases, SyncViews}
-use Rattle.sync.specs.Runs.{SameSync, call_count}
-use Rattle.pool_core.specs.declared.pool.Pool.{Pool}
-use Rattle.pool_core.specs.declared.pool.RunningSync.{RunningSync}
+use Rattle.sync.specs.Phases.{HasPhasesSince, SyncViews}
+use Rattle.sync.specs.Runs.{call_count}
 use Rattle.pool_core.specs.declared.state.PoolState.{PoolState}
-use Rattle.pool_core.specs.declared.state.Progress.{Progress}
-use Rattle.pool_core.specs.declared.state.Progress.TheVariants.{More, Synced}
-use Rattle.pool_core.specs.Holds.{IsStepOver, held_with, state_with}
+use Rattle.pool_tables.specs.Told.{held_with, state_with}
+use Rattle.pool_core.specs.Holds.{IsStepOver}
 use Rattle.pool_core.specs.NewStates.{IsHeldAtFirst, first_past}
 use Rattle.pool_core.specs.States.{shown, told}
+use Rattle.pool_tables.specs.SyncPhases.{run_in}
 
 -- a pool over its disk: what is told of it with its past, the disk, and the calls of its running sync
 pub record OnDisk : Type 0 where
@@ -87,25 +83,6 @@ pub record IsSafeStep (s : declared_step.Step) (r : declared_reply.Reply) (old n
   pub kept : IsKeptSafe new
   pub were : WereSafe old.disk new.disk old.held.state.past new.held.state.past
   pub own : WereOwn old new
-
--- The next device call of a sync was tried: what it has made then, and that each moment of the call is of one of its phases.
-pub record TriesNext (run next : SyncRun) (before after : Disk) : Type 0 where
-  pub same : SameSync run next
-  pub written : KeepsWritten run next before.now after.now
-  pub phases : KeepsPhases run next before after
-
--- A step of a sync tries the next call of the running one: it has calls left then, or that was the last, or the device refused it. Refused
--- before a call it leaves the sync and the disk.
-abbrev pub StepsPhases : Result Progress PoolError → Option SyncRun → Option SyncRun → Disk → Disk → Type 0
-StepsPhases (Ok More) old new before after = (run next : SyncRun) × (old ≡ Some run) × (new ≡ Some next) × TriesNext run next before after
-StepsPhases (Ok (Synced group)) old new before after =
-    (run next : SyncRun) × (old ≡ Some run) × (new ≡ None) × (next.done ≡ call_count next) × TriesNext run next before after
-StepsPhases (Err e) old new before after =
-    ((new ≡ old) × (after ≡ before)) ⊎ ((run next : SyncRun) × (old ≡ Some run) × (new ≡ Some next) × TriesNext run next before after)
-
--- the calls of the sync that runs
-abbrev pub run_in : Pool → Option SyncRun
-run_in pool = option_map (λ (r : RunningSync). r.run) pool.sync
 
 module _ {Dev : Type 0} {G : Ghosts Dev} where
   abbrev pub disk_of : PoolState Dev G → Disk

@@ -4,7 +4,7 @@ use Rattle.base.specs.steps.ExactNow.{IsExplainedNow}
 use Rattle.base.specs.steps.Shown.{Shown}
 use Rattle.base.specs.history.Past.{Past, new_past}
 use Rattle.base.specs.stored.Stored.{IsHeld}
-use Rattle.pool_core.specs.Holds.{Told, held_with}
+use Rattle.pool_tables.specs.Told.{Told, held_with}
 
 -- the past in which nothing has happened yet, of a pool that was created at this moment
 abbrev pub first_past : Shown → ℕ → Past

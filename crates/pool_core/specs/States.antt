@@ -6,20 +6,10 @@ use Rattle.base.specs.disk.Calls.{counted}
 use Rattle.base.specs.disk.Disk.{bytes_of}
 use Rattle.base.specs.steps.Shown.{Shown}
 use Rattle.device_model.specs.declared.device.SectorDevice.{Ghosts}
-use Rattle.pool_core.specs.declared.pool.Pool.{Pool}
 use Rattle.pool_core.specs.declared.state.PoolState.{PoolState}
-use Rattle.pool_core.specs.Holds.{Told, told_of}
-use Rattle.pool_core.specs.Shows.{shown_objects, shown_of}
-
--- an answer that is no refusal of a device: none of its calls is counted
-abbrev pub IsOfNoDevice : {A : Type 0} → Result A PoolError → Type 0
-IsOfNoDevice answer = (calls : RefusedCalls) → counted answer calls ≡ calls
-
--- a pool whose tree and running sync are as they were
-pub record KeepsTree (old new : Pool) : Type 0 where
-  pub geometry : new.geometry ≡ old.geometry
-  pub tree : new.tree ≡ old.tree
-  pub sync : new.sync ≡ old.sync
+use Rattle.pool_tables.specs.Told.{Told, told_of}
+use Rattle.pool_tables.specs.Shows.{shown_objects, shown_of}
+use Rattle.pool_tables.specs.KeptTrees.{IsOfNoDevice, KeepsTree}
 
 module _ {Dev : Type 0} {G : Ghosts Dev} where
   -- what is shown of it

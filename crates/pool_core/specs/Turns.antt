@@ -10,7 +10,8 @@ use Rattle.base.specs.stored.Stored.{Held, IsHeld}
 use Rattle.device_model.specs.declared.device.SectorDevice.{Ghosts}
 use Rattle.pool_core.specs.declared.state.PoolState.{PoolState}
 use Rattle.pool_core.specs.Calls.{CallsDevice, answer_in}
-use Rattle.pool_core.specs.Holds.{IsStepOver, Leads, Told, held_with, state_with}
+use Rattle.pool_tables.specs.Told.{Leads, Told, held_with, state_with}
+use Rattle.pool_core.specs.Holds.{IsStepOver}
 use Rattle.pool_core.specs.KeptSafe.{KeepsSafe}
 use Rattle.pool_core.specs.States.{CountsRefused, shown, told}
 use Rattle.pool_core.specs.StepReplies.{IsStep, StepReplies}

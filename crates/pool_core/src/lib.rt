@@ -1,10 +1,8 @@
 //! The state of a pool, one step at a time.
 #![tactic(auto)]
 
-mod blocks;
+mod clients;
 mod laws;
-mod plans;
-mod pool;
 mod runs;
 mod state;
 
@@ -12,5 +10,6 @@ pub use laws::{
     kept_pools_are_laid, kept_pools_are_safe, kept_pools_leave_their_own, stopped_steps_are_safe,
     stopped_steps_leave_their_own,
 };
+pub use pool_tables::Progress;
 pub use runs::run;
-pub use state::{PoolState, Progress};
+pub use state::PoolState;

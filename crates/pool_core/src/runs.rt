@@ -5,16 +5,18 @@ ghost use Rattle.base.specs.steps.Runs as runs;
 ghost use Rattle.base.specs.steps.Runs.{Run};
 ghost use Rattle.pool_core.specs.Calls.{CallsDevice, answer_in, counted_in_turn, reply_in};
 ghost use Rattle.pool_core.specs.ExplainedRuns.{RunsOn};
-ghost use Rattle.pool_core.specs.Holds.{HoldsOn, Leads};
+ghost use Rattle.pool_tables.specs.Told.{Leads};
+ghost use Rattle.pool_core.specs.Holds.{HoldsOn};
 ghost use Rattle.pool_core.specs.KeptSafe.{KeepsSafe, SafeOn};
-ghost use Rattle.pool_core.specs.Progresses.{plain_progress};
+ghost use Rattle.pool_tables.specs.Progresses.{plain_progress};
 ghost use Rattle.pool_core.specs.States.{CountsRefused, refused_calls, shown, told};
 ghost use Rattle.pool_core.specs.StepReplies.{StepReplies};
 ghost use Rattle.pool_core.specs.Turns.{MakesStep, Turns};
 
-use crate::state::{PoolState, Progress};
+use crate::state::PoolState;
 use base::{PoolError, Reply, Step};
 use device_model::SectorDevice;
+use pool_tables::Progress;
 
 impl<D: SectorDevice> PoolState<D> {
     /// Makes one step. Of the steps only that of a sync calls the device: it makes the next call of its sync.

@@ -4,25 +4,17 @@ ghost use Rattle.std.specs.Prelude.{◌≡◌, ◌≤◌, IfErr, IfOk, IsTrue, O
 ghost use Rattle.base.specs.steps.Groups.{Admission};
 ghost use Rattle.base.specs.steps.Refusals.{transaction_of};
 ghost use Rattle.base.specs.steps.Shown.{status_of};
+ghost use Rattle.pool_tables.specs.Shows.{geometry_of};
 
-use crate::pool::Pool;
 use base::{
     Bytes, Group, LockId, Mode, ObjectId, Ops, Owner, Plan, PoolError, PoolName, Range, Receipt,
     Status, TxId,
 };
 use device_model::{Fault, MemDevice, SectorDevice};
 use import_replay::Imported;
+use pool_tables::{PoolTables, Progress};
 use range_locks::{HeldLock, HeldLocks, HeldPiece};
 use std::alloc::Global;
-
-/// What a step of a sync answers.
-#[derive(Clone, Copy, Debug, PartialEq, Eq)]
-pub enum Progress {
-    /// There are more device calls to make.
-    More,
-    /// The group is synced.
-    Synced(Group),
-}
 
 /// A pool that runs on a device, which it owns. One step at a time changes it.
 ///
@@ -31,8 +23,8 @@ pub enum Progress {
 #[derive(Debug, Drop)]
 pub struct PoolState<D: SectorDevice> {
     device: D,
-    pool: Pool,
-    ghost sized: { D.size device ≡ pool.geometry },
+    pool: PoolTables,
+    ghost sized: { D.size device ≡ geometry_of pool },
 }
 
 impl<D: SectorDevice> PoolState<D> {
@@ -43,14 +35,15 @@ impl<D: SectorDevice> PoolState<D> {
     ghost use Rattle.range_locks.specs.Pieces.{pieces_of};
     ghost use Rattle.import_replay.specs.Mounts.{shown_of_import};
     ghost use Rattle.sync.specs.Calls.{plain_answer};
-    ghost use Rattle.pool_core.specs.BeginTests.{is_above_limit};
+    ghost use Rattle.pool_tables.specs.BeginTests.{is_above_limit};
     ghost use Rattle.pool_core.specs.Calls.{CallsNext};
-    ghost use Rattle.pool_core.specs.Holds.{Leads, sync_step_reply};
-    ghost use Rattle.pool_core.specs.KeptSafe.{BeginsSafe, StepsPhases, disk_of, run_of};
+    ghost use Rattle.pool_tables.specs.Told.{Leads, sync_step_reply};
+    ghost use Rattle.pool_tables.specs.SyncPhases.{StepsPhases};
+    ghost use Rattle.pool_core.specs.KeptSafe.{BeginsSafe, disk_of, run_of};
     ghost use Rattle.pool_core.specs.NewStates.{IsExplainedAtFirst, IsHeldAtFirst};
     ghost use Rattle.pool_core.specs.States.{CountsRefused, MakesNoCall, MovesNothing, device_of, shown, told, told_over};
-    ghost use Rattle.pool_core.specs.StepAnswers.{Aborts, Begins, ClosesGroup, Commits, Locks, LocksAppend, MarksQuiesced, Reads, StartsSync, StepsSync, TellsDigest, TellsLength, Unlocks};
-    ghost use Rattle.pool_core.specs.SyncStarts.{StartLeads, StartsHeld, StartsInOrder};
+    ghost use Rattle.pool_tables.specs.StepAnswers.{Aborts, Begins, ClosesGroup, Commits, Locks, LocksAppend, MarksQuiesced, Reads, StartsSync, StepsSync, TellsDigest, TellsLength, Unlocks};
+    ghost use Rattle.pool_tables.specs.SyncStarts.{StartLeads, StartsHeld, StartsInOrder};
 
     /// The pool that an import gave. It takes no memory.
     pub fn new(imported: Imported<D>) -> Self
@@ -63,7 +56,7 @@ impl<D: SectorDevice> PoolState<D> {
         let Imported { device, mounted } = imported;
         PoolState {
             device,
-            pool: Pool::new(mounted),
+            pool: PoolTables::new(mounted),
         }
     }
 

@@ -11,7 +11,7 @@ use Rattle.base.specs.declared.step.Reply.TheVariants as reply
 use Rattle.device_model.specs.declared.device.SectorDevice.{Ghosts}
 use Rattle.pool_core.specs.declared.state.PoolState.{PoolState}
 use Rattle.pool_core.specs.States.{MovesNothing, shown}
-use Rattle.pool_core.specs.StepAnswers.{Begins, admitted_numbers}
+use Rattle.pool_tables.specs.StepAnswers.{Begins, admitted_numbers}
 use Rattle.pool_core.specs.Turns.{MakesStep}
 use Rattle.pool_core.proofs.MadeSteps.{still_step}
 use Rattle.pool_threads.specs.Turns.{begin_reply}

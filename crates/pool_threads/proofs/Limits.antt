@@ -9,7 +9,7 @@ use Rattle.base.specs.history.Plans.{charge_of}
 use Rattle.base.specs.steps.Refusals.{first_refusal}
 use Rattle.base.specs.steps.Seen.{IsThrottledForGood}
 use Rattle.base.specs.steps.Steps.{State}
-use Rattle.pool_core.specs.BeginTests.{is_above_limit, plan_tests}
+use Rattle.pool_tables.specs.BeginTests.{is_above_limit, plan_tests}
 
 above_for_good : (plan : List Shape) (s : State) → is_above_limit plan s.shown ≡ true → IsThrottledForGood plan s
 above_for_good plan s is =

@@ -5,7 +5,7 @@ use Rattle.base.specs.steps.ExactNow.{IsExplainedNow}
 use Rattle.base.specs.stored.Stored.{IsHeld}
 use Rattle.device_model.specs.declared.device.SectorDevice.{Ghosts}
 use Rattle.pool_core.specs.declared.state.PoolState.{PoolState}
-use Rattle.pool_core.specs.Holds.{Told, held_with, state_with}
+use Rattle.pool_tables.specs.Told.{Told, held_with, state_with}
 use Rattle.pool_core.specs.KeptSafe.{IsKeptSafe, OnDisk, on_disk}
 use Rattle.pool_core.specs.States.{told}
 use Rattle.pool_threads.specs.declared.handle.Handle.{Handle}

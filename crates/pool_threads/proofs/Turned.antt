@@ -12,7 +12,7 @@ use Rattle.base.specs.steps.ExactNow.{IsExplainedNow}
 use Rattle.base.specs.steps.Steps.{State}
 use Rattle.device_model.specs.declared.device.SectorDevice.{Ghosts}
 use Rattle.pool_core.specs.declared.state.PoolState.{PoolState}
-use Rattle.pool_core.specs.Holds.{state_with}
+use Rattle.pool_tables.specs.Told.{state_with}
 use Rattle.pool_core.specs.KeptSafe.{IsKeptSafe, KeepsSafe, on_disk}
 use Rattle.pool_core.specs.States.{told}
 use Rattle.pool_core.specs.StepReplies.{IsStep}

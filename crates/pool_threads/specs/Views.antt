@@ -13,7 +13,7 @@ use Rattle.base.specs.steps.Steps.{State}
 use Rattle.base.specs.stored.Stored.{IsHeld}
 use Rattle.device_model.specs.declared.device.SectorDevice.{Ghosts}
 use Rattle.pool_core.specs.declared.state.PoolState.{PoolState}
-use Rattle.pool_core.specs.Holds.{held_with, state_with}
+use Rattle.pool_tables.specs.Told.{held_with, state_with}
 use Rattle.pool_core.specs.KeptSafe.{IsKeptSafe, IsSafeStep, OnDisk, on_disk}
 use Rattle.pool_core.specs.NewStates.{first_past}
 use Rattle.pool_core.specs.States.{shown, told}

@@ -1,7 +1,7 @@
 //! One step on the pool of a lock, and the view after it.
 ghost use Rattle.std.specs.Prelude.{◌≡◌, IsTrue, MatchOption};
 ghost use Rattle.base.specs.declared.step.Step.TheVariants as step;
-ghost use Rattle.pool_core.specs.BeginTests.{is_above_limit};
+ghost use Rattle.pool_tables.specs.BeginTests.{is_above_limit};
 ghost use Rattle.word_lock.specs.Seats.{HasTurned, IsAsBefore, IsHolding, IsIdle, IsSameSeat, lock_table, seat_table, seen};
 ghost use Rattle.pool_threads.specs.Turns.{HasMade, HasStepped, begin_reply};
 ghost use Rattle.pool_threads.specs.Views.{Explains, IsPoolStep, view_after, viewed_state};

@@ -20,7 +20,8 @@ use Rattle.base.proofs.steps.Additions.{runs_grow}
 use Rattle.base.proofs.stored.HeldMounts.{held_mounts, steps_write_no_log}
 use Rattle.device_model.specs.declared.device.SectorDevice.{Ghosts}
 use Rattle.pool_core.specs.declared.state.PoolState.{PoolState}
-use Rattle.pool_core.specs.Holds.{KeepsHeld, Leads, Told, held_with, state_with}
+use Rattle.pool_tables.specs.Told.{Leads, Told, held_with, state_with}
+use Rattle.pool_core.specs.Holds.{KeepsHeld}
 use Rattle.pool_core.specs.States.{told}
 use Rattle.pool_core.specs.Turns.{MakesStep, turned_state}
 use Rattle.round_trip.specs.Rounds.{AreLeft, HoldsContents, IsAllSynced, IsCleanRound, IsJustMounted, IsOpened}

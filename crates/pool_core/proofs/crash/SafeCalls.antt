@@ -21,7 +21,8 @@ use Rattle.sync.specs.Phases.{HasPhaseOf, HasPhasesSince, IsSyncPhase, IsWritten
 use Rattle.sync.specs.Runs.{call_count}
 use Rattle.sync.proofs.ConfigWrites.{configs_staged}
 use Rattle.sync.proofs.PhasesSince.{ends_at_rest, keeps_phases}
-use Rattle.pool_core.specs.KeptSafe.{IsSyncOnDisk, LeavesOwn, TriesNext}
+use Rattle.pool_tables.specs.SyncPhases.{TriesNext}
+use Rattle.pool_core.specs.KeptSafe.{IsSyncOnDisk, LeavesOwn}
 use Rattle.pool_core.proofs.crash.OwnMoments.{moment_left}
 use Rattle.pool_core.proofs.crash.SafeMoments.{IsSafeMoment, phases_safe}
 use Rattle.pool_core.proofs.crash.ViewsKept.{SameSyncing, configs_as, header-none, synced_view, syncing_view, view_as}

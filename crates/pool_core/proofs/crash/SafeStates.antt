@@ -15,17 +15,18 @@ use Rattle.base.proofs.steps.KeptGroups.{none_there}
 use Rattle.device_model.specs.declared.device.SectorDevice.{Ghosts}
 use Rattle.sync.specs.declared.run.SyncRun.{SyncRun}
 use Rattle.sync.specs.Runs.{call_count}
-use Rattle.pool_core.specs.declared.pool.Pool.{Pool}
-use Rattle.pool_core.specs.declared.pool.RunningSync.{RunningSync}
+use Rattle.pool_tables.specs.declared.pool.PoolTables.{PoolTables}
+use Rattle.pool_tables.specs.declared.pool.RunningSync.{RunningSync}
 use Rattle.pool_core.specs.declared.state.PoolState.{PoolState}
-use Rattle.pool_core.specs.declared.state.Progress.{Progress}
-use Rattle.pool_core.specs.declared.state.Progress.TheVariants.{More, Synced}
-use Rattle.pool_core.specs.Holds.{Leads, new_tree_of, start_reply, sync_step_reply, tree_after}
-use Rattle.pool_core.specs.KeptSafe.{IsSafeStep, KeepsSafe, OnDisk, StepsPhases, disk_of, on_disk, run_of}
+use Rattle.pool_tables.specs.declared.pool.Progress.{Progress}
+use Rattle.pool_tables.specs.declared.pool.Progress.TheVariants.{More, Synced}
+use Rattle.pool_tables.specs.Told.{Leads, new_tree_of, start_reply, sync_step_reply, tree_after}
+use Rattle.pool_tables.specs.SyncPhases.{StepsPhases}
+use Rattle.pool_core.specs.KeptSafe.{IsSafeStep, KeepsSafe, OnDisk, disk_of, on_disk, run_of}
 use Rattle.pool_core.specs.States.{device_of, told}
 use Rattle.pool_core.specs.Turns.{Turns, held_after}
 use Rattle.pool_core.proofs.crash.SafeSteps.{last_safe, more_safe, start_safe, still_safe}
-use Rattle.pool_core.proofs.syncs.SyncLeads.{was_syncing}
+use Rattle.pool_tables.proofs.syncs.SyncLeads.{was_syncing}
 
 -- what is made of something that is there
 made_of : {A B : Type 0} (f : A → B) (o : Option A) (y : B) → option_map f o ≡ Some y → (x : A) × (o ≡ Some x) × (f x ≡ y)
@@ -33,7 +34,7 @@ made_of f None y is = absurd (let no_way : None ≡ Some y = is in cc)
 made_of f (Some x) y is = (x, refl, Some-injective is)
 
 -- a running sync has calls left
-left_of : (pool : Pool) (run : SyncRun) → option_map (λ (r : RunningSync). r.run) pool.sync ≡ Some run → run.done < call_count run
+left_of : (pool : PoolTables) (run : SyncRun) → option_map (λ (r : RunningSync). r.run) pool.sync ≡ Some run → run.done < call_count run
 left_of pool run is =
     let r = made_of (λ (r : RunningSync). r.run) pool.sync run is in
     subst (λ (x : SyncRun). x.done < call_count x) r.2 (pool.running r.0 r.1).left
@@ -55,7 +56,7 @@ module _ {Dev : Type 0} {G : Ghosts Dev} where
         let turn = turns past in
         let h : Held = held_after (step.StartSync moment) (reply.Syncing group) (told old) (told new) past in
         let starts = leads past past in
-        let pool : Pool = new.pool in
+        let pool : PoolTables = new.pool in
         let r = made_of (new_tree_of pool.tree) pool.sync _ starts.running in
         let was = pool.running r.0 r.1 in
         subst (λ (y : OnDisk). IsSafeStep (step.StartSync moment) (reply.Syncing group) (on_disk old past) y)

@@ -39,13 +39,15 @@ use Rattle.base.proofs.history.CommitOrder.{ok-none}
 use Rattle.base.proofs.steps.StepEffects.{none_syncs}
 use Rattle.sync.specs.declared.run.SyncRun.{SyncRun}
 use Rattle.sync.specs.Runs.{call_count}
-use Rattle.pool_core.specs.Holds.{IsStepOver, made_by}
-use Rattle.pool_core.specs.KeptSafe.{IsDiskKept, IsKeptSafe, IsSafeStep, IsSyncOnDisk, LeavesOwn, OnDisk, TriesNext}
+use Rattle.pool_tables.specs.Told.{made_by}
+use Rattle.pool_core.specs.Holds.{IsStepOver}
+use Rattle.pool_tables.specs.SyncPhases.{TriesNext}
+use Rattle.pool_core.specs.KeptSafe.{IsDiskKept, IsKeptSafe, IsSafeStep, IsSyncOnDisk, LeavesOwn, OnDisk}
 use Rattle.pool_core.proofs.crash.OwnMoments.{were_left}
 use Rattle.pool_core.proofs.crash.SafeCalls.{call_kept, call_own, call_safe, last_call_kept}
 use Rattle.pool_core.proofs.crash.SafeMoments.{IsSafeMoment, kept_laid, kept_safe, stood_own, stood_safe, were_safe}
-use Rattle.pool_core.proofs.SamePlans.{renames_none}
-use Rattle.pool_core.proofs.syncs.StartedViews.{started_kept}
+use Rattle.pool_tables.proofs.SamePlans.{renames_none}
+use Rattle.pool_core.proofs.crash.StartedViews.{started_kept}
 use Rattle.pool_core.proofs.crash.ViewsKept.{SameSynced, SameSyncing, configs_as, step_leaves, synced_view, syncing_view}
 
 -- no operation of a pool gives it a new name

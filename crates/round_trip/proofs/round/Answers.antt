@@ -7,7 +7,7 @@ use Rattle.base.specs.history.Past.{new_past}
 use Rattle.base.specs.steps.Shown.{Shown}
 use Rattle.base.specs.stored.ShownLabels.{HasNoLogBlock}
 use Rattle.base.specs.stored.Stored.{IsHeld}
-use Rattle.pool_core.specs.Holds.{held_with}
+use Rattle.pool_tables.specs.Told.{held_with}
 use Rattle.pool_core.specs.States.{shown, told}
 use Rattle.round_trip.specs.Rounds.{IsCleanRound, IsJustMounted, IsOpened}
 use Rattle.round_trip.proofs.Rounds.{round}

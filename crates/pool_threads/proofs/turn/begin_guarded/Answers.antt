@@ -1,5 +1,5 @@
 use Rattle.std.proofs.Common.{◌∙◌, ap, sym}
-use Rattle.pool_core.specs.BeginTests.{is_above_limit}
+use Rattle.pool_tables.specs.BeginTests.{is_above_limit}
 use Rattle.pool_threads.proofs.Made.{stepped_by}
 use Rattle.pool_threads.proofs.Turned.{grows_by_one}
 use Rattle.pool_threads.specs.Views.{viewed_state}

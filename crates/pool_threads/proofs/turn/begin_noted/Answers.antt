@@ -1,6 +1,6 @@
 use Rattle.std.proofs.Common.{ap, sym, subst, ◌∙◌}
 use Rattle.base.specs.declared.step.Step.TheVariants as step
-use Rattle.pool_core.specs.BeginTests.{is_above_limit}
+use Rattle.pool_tables.specs.BeginTests.{is_above_limit}
 use Rattle.pool_core.specs.States.{shown}
 use Rattle.pool_threads.specs.Turns.{begin_reply}
 use Rattle.pool_threads.specs.Views.{Explains, view_after}

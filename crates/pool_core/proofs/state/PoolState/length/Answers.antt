@@ -1,6 +1,6 @@
 use Rattle.std.proofs.Common.{refl}
-use Rattle.pool_core.specs.Shows.{pool_shown}
-use Rattle.pool_core.proofs.OfNoDevice.{length_own, own_counts}
+use Rattle.pool_tables.specs.Shows.{pool_shown}
+use Rattle.pool_tables.proofs.OfNoDevice.{length_own, own_counts}
 use Rattle.pool_core.proofs.state.PoolState.length.Goals as goal
 
 pub returns-clause-no_call : goal.returns-clause-no_call

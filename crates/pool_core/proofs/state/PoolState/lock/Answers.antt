@@ -1,9 +1,9 @@
 use Rattle.std.proofs.Common.{refl}
 use Rattle.base.specs.steps.Refusals.{object_range}
-use Rattle.pool_core.specs.Shows.{pool_shown}
-use Rattle.pool_core.specs.StepAnswers.{lock_number}
-use Rattle.pool_core.specs.Tables.{result_map}
-use Rattle.pool_core.proofs.OfNoDevice.{lock_own, map_counts}
+use Rattle.pool_tables.specs.Shows.{pool_shown}
+use Rattle.pool_tables.specs.StepAnswers.{lock_number}
+use Rattle.pool_tables.specs.Tables.{result_map}
+use Rattle.pool_tables.proofs.OfNoDevice.{lock_own, map_counts}
 use Rattle.pool_core.proofs.state.PoolState.lock.Goals as goal
 
 pub returns-clause-unmoved : goal.returns-clause-unmoved

@@ -1,8 +1,8 @@
 use Rattle.std.proofs.Common.{refl}
-use Rattle.pool_core.specs.Shows.{pool_shown}
-use Rattle.pool_core.specs.StepAnswers.{group_number}
-use Rattle.pool_core.specs.Tables.{result_map}
-use Rattle.pool_core.proofs.OfNoDevice.{quiesce_own, map_counts}
+use Rattle.pool_tables.specs.Shows.{pool_shown}
+use Rattle.pool_tables.specs.StepAnswers.{group_number}
+use Rattle.pool_tables.specs.Tables.{result_map}
+use Rattle.pool_tables.proofs.OfNoDevice.{quiesce_own, map_counts}
 use Rattle.pool_core.proofs.state.PoolState.mark_quiesced.Goals as goal
 
 pub returns-clause-unmoved : goal.returns-clause-unmoved

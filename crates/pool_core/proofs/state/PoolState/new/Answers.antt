@@ -2,12 +2,12 @@ use Rattle.std.proofs.Common.{◌≡◌, ◌∙◌, ℕ, List, ap, sym}
 use Rattle.std.proofs.Math.Logic.{∥∥₁_elim, ∥∥₁_map, ∥∥₁_prop}
 use Rattle.base.specs.disk.Disk.{bytes_of}
 use Rattle.base.specs.formats.Geometry.{block_count}
-use Rattle.pool_core.specs.Shows.{pool_shown}
+use Rattle.pool_tables.specs.Shows.{pool_shown}
 use Rattle.pool_core.proofs.NewStates.{explained_as, held_as, mounted_within}
 use Rattle.std.specs.Prelude.{None, Option, option_map}
-use Rattle.pool_core.specs.declared.pool.RunningSync.{RunningSync}
+use Rattle.pool_tables.specs.declared.pool.RunningSync.{RunningSync}
 use Rattle.base.specs.steps.Shown.{Shown}
-use Rattle.pool_core.specs.KeptSafe.{run_in}
+use Rattle.pool_tables.specs.SyncPhases.{run_in}
 use Rattle.pool_core.specs.NewStates.{first_past}
 use Rattle.pool_core.proofs.crash.SafeMoments.{idle_kept}
 use Rattle.pool_core.proofs.state.PoolState.new.Goals as goal

@@ -1,7 +1,7 @@
 use Rattle.std.proofs.Common.{refl}
 use Rattle.base.specs.steps.Refusals.{object_range}
-use Rattle.pool_core.specs.Shows.{pool_shown}
-use Rattle.pool_core.proofs.OfNoDevice.{own_counts, read_own}
+use Rattle.pool_tables.specs.Shows.{pool_shown}
+use Rattle.pool_tables.proofs.OfNoDevice.{own_counts, read_own}
 use Rattle.pool_core.proofs.state.PoolState.read.Goals as goal
 
 pub returns-clause-no_call : goal.returns-clause-no_call

@@ -1,5 +1,5 @@
 use Rattle.std.proofs.Common.{refl, rules}
-use Rattle.pool_core.specs.StepAnswers.{admitted_numbers, appended_numbers, group_number, lock_number}
+use Rattle.pool_tables.specs.StepAnswers.{admitted_numbers, appended_numbers, group_number, lock_number}
 use Rattle.pool_core.proofs.MadeSteps.{commit_step, name_step, plain_step, start_step, status_step, read_moves_nothing, still_step, sync_step}
 use Rattle.pool_core.proofs.state.PoolState.try_step.Goals as goal
 

@@ -1,6 +1,6 @@
 use Rattle.std.proofs.Common.{refl}
-use Rattle.pool_core.specs.Shows.{pool_shown}
-use Rattle.pool_core.proofs.OfNoDevice.{own_counts, unlock_own}
+use Rattle.pool_tables.specs.Shows.{pool_shown}
+use Rattle.pool_tables.proofs.OfNoDevice.{own_counts, unlock_own}
 use Rattle.pool_core.proofs.state.PoolState.unlock.Goals as goal
 
 pub returns-clause-unmoved : goal.returns-clause-unmoved

@@ -1,0 +1,319 @@
+-- The start of a sync leads from the view of the synced group to that of its own: its blocks are those of a tree, apart from the one of before,
+-- and once they stand its tree does.
+use Rattle.std.proofs.Common.{◌≡◌, ◌∙◌, inl, inr, ℕ, zero, suc, ◌+◌, ◌-◌, ◌*◌, ◌/◌, ◌<◌, ◌≤◌, All, false, List, [], ◌∷◌, length, map, Option, Some, None, refl, ap, sym, subst, arith, vec_len, nat_eq}
+use Rattle.std.specs.Prelude.{◌≢◌, IfSome, Ok, slice_get}
+use Rattle.std.specs.FinMap as finite
+use Rattle.std.specs.List.{AllByRecursion, IsDistinct}
+use Rattle.std.proofs.lemmas.Bool.{ne_eqb}
+use Rattle.std.proofs.lemmas.Option.{slice_get_within}
+use Rattle.base.specs.declared.pointer.Pointer.{Pointer}
+use Rattle.base.specs.crash.Layout.{header_now}
+use Rattle.base.specs.crash.Own.{IsAtRest}
+use Rattle.base.specs.crash.PoolViews.{IsViewOf}
+use Rattle.base.specs.crash.Views.{AreConfigsUpTo, IsConfigContent, IsView, Logged, View, view_frame}
+use Rattle.base.specs.disk.Disk.{Disk, bytes_of, handed}
+use Rattle.base.specs.disk.Fairness.{HasFairBytes}
+use Rattle.base.specs.formats.Blocks.{Frame}
+use Rattle.base.specs.formats.Chain.{Header}
+use Rattle.base.specs.formats.Fields.{no_pointer, number_at, part}
+use Rattle.base.specs.formats.Geometry.{IsBlockAddress, IsGeometry, block_address, block_area, block_count, block_size, slot_of}
+use Rattle.base.specs.formats.Limits.{object_count}
+use Rattle.base.specs.formats.Versions.{written_version}
+use Rattle.base.specs.history.Contents.{Contents}
+use Rattle.base.specs.history.History.{entries_up_to, replay}
+use Rattle.base.specs.history.Past.{Past}
+use Rattle.base.specs.steps.ExactNow.{IsExplainedNow}
+use Rattle.base.specs.steps.Logs.{KeptBlock}
+use Rattle.base.specs.steps.Shown.{Shown, uberblock_of}
+use Rattle.base.specs.stored.Stored.{IsStored, IsSyncing, IsUnwritten, NewTree, frame_at}
+use Rattle.base.specs.tree.PlacedTrees.{HoldsTree}
+use Rattle.base.specs.tree.Places.{IsInTree, IsPlace, Place, kind_of}
+use Rattle.base.specs.tree.Places.Place.{Data, Directory, Indirect, Root}
+use Rattle.base.specs.tree.PlannedTrees.{NewBlock}
+use Rattle.base.proofs.common.KeptLists.{All-each}
+use Rattle.base.proofs.crash.NewViews.{configs_of_old, logs_of_group}
+use Rattle.base.proofs.disk.Put.{part_same}
+use Rattle.base.proofs.disk.WrittenBlocks.{blocks-apart, planned-written, put_blocks, new-stand}
+use Rattle.base.proofs.formats.Geometry.{IsGeometry-IsSize}
+use Rattle.base.proofs.history.BuiltNames.{name-up_to}
+use Rattle.base.proofs.history.KeptContents.{bounded-no_others}
+use Rattle.base.proofs.stored.StoredSets.{at-map, map-at}
+use Rattle.base.proofs.stored.StoredTrees.{stored-placed}
+use Rattle.base.proofs.tree.FreedBlocks.{in-new_tree, new-in_tree}
+use Rattle.base.proofs.tree.PlacedTrees.{in-tree, opens-at, told-in_tree}
+use Rattle.base.proofs.tree.PlannedTrees.{planned-holds}
+use Rattle.sync.specs.declared.run.LabelStages.{LabelStages}
+use Rattle.sync.specs.declared.run.SyncRun.{SyncRun}
+use Rattle.sync.specs.Made.{BlocksWritten, HasDistinctBlocks}
+use Rattle.sync.specs.Phases.{HasConfigOf, IsBefore, IsSpareBlock, LeadsViews, SyncViews}
+use Rattle.sync.specs.Runs.{call_count}
+use Rattle.sync.proofs.PhasesSince.{begins_at_rest}
+use Rattle.tree_plans.specs.declared.planner.PlannedBlock.{PlannedBlock}
+use Rattle.tree_plans.specs.Plans.{new_block}
+use Rattle.pool_tables.specs.Told.{made_by}
+use Rattle.pool_core.specs.KeptSafe.{IsSyncOnDisk}
+use Rattle.pool_core.proofs.crash.ViewsKept.{header-none, no_block, none_from}
+
+-- blocks that are written stand
+pub written_stand : (base image : List ℕ) (size : ℕ) (blocks : List PlannedBlock) (n : ℕ) → length blocks ≤ n → BlocksWritten base size blocks n image
+    → (i : ℕ) (b : NewBlock) → slice_get (map new_block blocks) i ≡ Some b → part image b.address block_size ≡ b.content
+written_stand base image size blocks n all written i b at =
+    let c = at-map new_block blocks i b at in
+    let below : i < n = omega (arith, all, slice_get_within blocks i c.0 c.1) in
+    subst (λ (d : NewBlock). part image d.address block_size ≡ d.content) c.2 (written.each i c.0 below c.1)
+
+-- and each other block of the area is as before
+pub others_stay : (base image : List ℕ) (size : ℕ) (blocks : List PlannedBlock) (n : ℕ) → length image ≡ length base → BlocksWritten base size blocks n image
+    → ((i : ℕ) (b : NewBlock) → slice_get (map new_block blocks) i ≡ Some b → IsBlockAddress (block_count size) b.address)
+    → (address : ℕ) → IsBlockAddress (block_count size) address → IsUnwritten (map new_block blocks) address → part image address block_size ≡ part base address block_size
+others_stay base image size blocks n long written placed address is other = part_same image base address block_size long (λ i from to.
+    let below : is.0 < block_count size = is.1 in
+    let there : address ≡ block_address is.0 = is.2 in
+    written.others i (omega (arith, from, there)) (omega (arith, to, there, below)) (λ k b early at here.
+    let stands = map-at new_block blocks k b at in
+    elim (blocks-apart (block_count size) (block_address b.index) address (placed k (new_block b) stands) is (other k (new_block b) stands)) as (λ _. ⊥) [
+      | inl before ↦ omega (arith, before, from, here.1)
+      | inr behind ↦ omega (arith, behind, to, here.0)
+    ]))
+
+-- blocks at different addresses have different indices
+differ_all : (b : PlannedBlock) (bs : List PlannedBlock) → ((i : ℕ) (c : PlannedBlock) → slice_get bs i ≡ Some c → b.index ≢ c.index)
+    → AllByRecursion (λ y. nat_eq b.index y ≡ false) (map (λ (c : PlannedBlock). c.index) bs)
+differ_all b [] differ = tt
+differ_all b (c ∷ bs) differ = (ne_eqb b.index c.index (differ zero c refl), differ_all b bs (λ i d at. differ (suc i) d at))
+
+pub distinct_blocks : (bs : List PlannedBlock) → ((i j : ℕ) (b c : PlannedBlock) → slice_get bs i ≡ Some b → slice_get bs j ≡ Some c → b.index ≡ c.index → i ≡ j)
+    → IsDistinct nat_eq (map (λ (b : PlannedBlock). b.index) bs)
+unfolding IsDistinct
+distinct_blocks [] apart = tt
+distinct_blocks (b ∷ bs) apart = (
+  differ_all b bs (λ i c at same. let e = apart zero (suc i) b c refl at same in omega (arith, e)),
+  distinct_blocks bs (λ i j c d at_i at_j same. let e = apart (suc i) (suc j) c d at_i at_j same in omega (arith, e)),
+)
+
+no_config : (place : Place) → kind_of place ≢ 1
+no_config Root = λ same. omega (arith, same)
+no_config (Directory d) = λ same. omega (arith, same)
+no_config (Indirect n) = λ same. omega (arith, same)
+no_config (Data n r) = λ same. omega (arith, same)
+
+-- A sync that was started, over what the device holds.
+module _ (now : List ℕ) (s : Shown) (p : Past) (pointers : Place → Pointer) (new : NewTree) (x : IsStored now s pointers p) (y : IsSyncing now s pointers new p) (explained : IsExplainedNow s p)
+    (geometry : IsGeometry (length now)) where
+  pub next_group : y.group ≡ s.line.synced + 1
+  next_group = subst (λ (o : Option ℕ). IfSome o (λ g. g ≡ s.line.synced + 1)) y.syncing explained.exact.groups.line.syncing
+
+  later : s.line.synced ≤ y.group
+  later = omega (arith, next_group)
+
+  olds : HoldsTree now (frame_at s s.line.synced) pointers y.synced.objects
+  olds = let same : Ok x.synced ≡ Ok y.synced = sym x.replayed ∙ y.replayed in
+      let contents : x.synced ≡ y.synced = cc in
+      subst (λ (c : Contents). HoldsTree now (frame_at s s.line.synced) pointers c.objects) contents x.tree
+
+  no_others : (n : ℕ) → object_count ≤ n → finite.get y.plan.contents.objects n ≡ None
+  no_others = bounded-no_others y.plan.contents (explained.trees.planned y.group y.plan y.syncing y.running).bounded
+
+  room : block_area + block_size * s.blocks ≤ length now
+  room =
+      let large = (IsGeometry-IsSize (length now) geometry).least in
+      let count : s.blocks ≡ (length now - 524288 - 4194304) / 4096 = x.blocks in
+      omega (arith, large, count)
+
+  abbrev after : List ℕ
+  after = put_blocks new.blocks now
+
+  news : HoldsTree after (frame_at s y.group) new.pointers y.plan.contents.objects
+  news =
+      planned-written now (frame_at s s.line.synced) (frame_at s y.group) new.blocks pointers new.pointers y.synced.objects y.plan.contents.objects refl refl later olds y.planned.planned no_others y.are y.leaves room
+
+  -- its tree has no block where the next log block goes
+  pub next_spared : (place : Place) → IsPlace place → (new.pointers place).address ≢ s.log.next.address
+  next_spared place in_range same =
+      let block = x.log_block in
+      let at : s.log.next.address ≡ block_address block.0 = block.2 in
+      let some : new.pointers place ≢ no_pointer = λ none. let zero_is : 0 ≡ s.log.next.address = ap (λ (q : Pointer). q.address) (sym none) ∙ same in omega (arith, zero_is, at) in
+      let there : IsInTree after (new.pointers Root) s.log.next.address =
+      subst (λ (a : ℕ). IsInTree after (new.pointers Root) a) same (told-in_tree after (frame_at s y.group) new.pointers y.plan.contents.objects news place in_range some) in
+      elim (in-new_tree now after (frame_at s s.line.synced) (frame_at s y.group) new.blocks pointers new.pointers y.synced.objects y.plan.contents.objects olds news y.planned.planned y.leaves s.log.next.address there) as (λ _. ⊥) [
+        | inl old ↦ x.log_apart (subst (λ (r : Pointer). IsInTree now r s.log.next.address) x.root old)
+        | inr h ↦ y.log_apart h.0 h.1 h.2 h.3
+      ]
+
+  -- no block that it writes is a config
+  pub not_config : (i : ℕ) (b : NewBlock) → slice_get new.blocks i ≡ Some b → number_at b.content 0 ≢ 1
+  not_config i b at =
+      let image : List ℕ = after in
+      let old_frame : Frame = frame_at s s.line.synced in
+      let frame : Frame = frame_at s y.group in
+      let t = in-tree image frame new.pointers y.plan.contents.objects news b.address
+      (new-in_tree now image old_frame frame new.blocks pointers new.pointers y.synced.objects y.plan.contents.objects olds news y.planned.planned y.leaves s.blocks y.are y.planned.used b.address (i, b, at, refl)) in
+      let o = opens-at image frame new.pointers y.plan.contents.objects news t.0 t.1 t.3 in
+      let stands : part image b.address block_size ≡ b.content = (new-stand s.blocks new.blocks now y.are room i b at).stands in
+      let kind : number_at b.content 0 ≡ kind_of t.0 = ap (λ (l : List ℕ). number_at l 0) (sym stands) ∙ ap (λ (a : ℕ). number_at (part image a block_size) 0) (sym t.2) ∙ o.1.block.kind_is in
+      λ same. no_config t.0 (sym kind ∙ same)
+
+  -- its tree stands where its blocks do and the others of the area are as before
+  pub tree_made : (image : List ℕ) → ((i : ℕ) (b : NewBlock) → slice_get new.blocks i ≡ Some b → part image b.address block_size ≡ b.content)
+      → ((address : ℕ) → IsBlockAddress s.blocks address → IsUnwritten new.blocks address → part image address block_size ≡ part now address block_size)
+      → HoldsTree image (frame_at s y.group) new.pointers y.plan.contents.objects
+  tree_made image stand others =
+      planned-holds now image (frame_at s s.line.synced) (frame_at s y.group) refl refl later new.blocks (λ i b at. record { in_area = y.are.in_area i b at; stands = stand i b at })
+      pointers new.pointers y.synced.objects y.plan.contents.objects olds y.planned.planned
+      (λ place in_range same some. elim (stored-placed now s pointers p x place in_range) as (λ _. part image (pointers place).address block_size ≡ part now (pointers place).address block_size) [
+        | inl none ↦ absurd (some none)
+        | inr area ↦ others (pointers place).address area (y.leaves place in_range some)
+      ]) no_others
+
+  -- no block that it writes is one of a tree with the same root
+  pub not_in_tree : (frame : Frame) (old : Place → Pointer) (contents : Contents) → HoldsTree now frame old contents.objects → old Root ≡ s.root
+      → (i : ℕ) (b : NewBlock) → slice_get new.blocks i ≡ Some b → (place : Place) → IsPlace place → old place ≢ no_pointer → b.address ≢ (old place).address
+  not_in_tree frame old contents holds root i b at place in_range some same =
+      let there : IsInTree now (pointers Root) (old place).address = subst (λ (r : Pointer). IsInTree now r (old place).address) (root ∙ sym x.root) (told-in_tree now frame old contents.objects holds place in_range some) in
+      let t = in-tree now (frame_at s s.line.synced) pointers y.synced.objects olds (old place).address there in
+      y.leaves t.0 t.1 t.3 i b at (same ∙ sym t.2)
+
+-- A sync without label stages that has made no call yet, on a disk at rest on the view of the synced group.
+module _ (disk : Disk) (s : Shown) (p : Past) (pointers tree : Place → Pointer) (run : SyncRun) (x : IsStored (bytes_of disk.now) s pointers p) (y : IsSyncing (bytes_of disk.now) s pointers (made_by tree run) p)
+    (explained : IsExplainedNow s p) (sized : IsGeometry run.geometry) (long : length (bytes_of disk.now) ≡ run.geometry) (slot : run.slot ≡ slot_of y.group) (stages : run.stages ≡ None)
+    (flushed : ℕ) (old : View) (rest : IsAtRest run.geometry p.created flushed disk.now old) (is : IsViewOf flushed old s p s.line.synced s.root (header_now s.log))
+    (configs : AreConfigsUpTo run.geometry p.created (handed disk.now) s.guid s.line.synced (λ above content. ⊥)) where
+  abbrev now : List ℕ
+  now = bytes_of disk.now
+
+  geometry : IsGeometry (length now)
+  geometry = subst (λ (n : ℕ). IsGeometry n) (sym long) sized
+
+  next : y.group ≡ s.line.synced + 1
+  next = next_group now s p pointers (made_by tree run) x y explained geometry
+
+  abbrev new : View
+  new = record {
+    u = uberblock_of s y.group y.plan;
+    slot = run.uberblock;
+    config_group = old.config_group;
+    name = old.name;
+    config = old.config;
+    pointers = tree;
+    synced = y.plan.contents;
+    logged = [];
+  }
+
+  abbrev views : SyncViews
+  views = record {
+    created = p.created;
+    fixed = record { config = rest.laid.firm.config.label; config_below = rest.laid.firm.config.in_range; slot = rest.slot.label; slot_below = rest.slot.in_range };
+    old = old;
+    flushed = flushed;
+    new = new;
+    new_flushed = 0;
+  }
+
+  replayed : replay (entries_up_to y.group p.entries) p.base ≡ Ok y.plan.contents
+  replayed = (explained.trees.planned y.group y.plan y.syncing y.running).replayed
+
+  is_view : IsView run.geometry new
+  is_view = record {
+    geometry = sized;
+    uberblock = y.slot;
+    config = subst (λ (g : ℕ). IsConfigContent old.config run.geometry g old.config_group old.name) is.guid rest.laid.view.config;
+    not_above = omega (arith, rest.laid.view.not_above, is.group_is, next);
+    name = name-up_to s p explained y.group y.plan.contents replayed ∙ sym (name-up_to s p explained s.line.synced old.synced is.replayed) ∙ rest.laid.view.name;
+    root = y.planned.root;
+    linked = tt;
+    spare = (
+      s.log.next.address,
+      subst (λ (n : ℕ). IsBlockAddress n s.log.next.address) (x.blocks ∙ ap (λ (n : ℕ). block_count n) long) x.log_block,
+      next_spared now s p pointers (made_by tree run) x y explained geometry,
+    );
+  }
+
+  no_logged : old.logged ≡ []
+  no_logged = none old.logged (is.as_many ∙ ap (λ (ks : List KeptBlock). length ks) (none_from (header_now s.log) s.log x.no_log))
+    where
+      none : (ls : List Logged) → length ls ≡ 0 → ls ≡ []
+      none [] empty = refl
+      none (l ∷ ls) some = absurd (omega (arith, some))
+
+  placed : (i : ℕ) (b : NewBlock) → slice_get (map new_block run.blocks.items) i ≡ Some b → IsBlockAddress (block_count run.geometry) b.address
+  placed i b at = subst (λ (n : ℕ). IsBlockAddress n b.address) (x.blocks ∙ ap (λ (n : ℕ). block_count n) long) (y.are.in_area i b at)
+
+  spare : All (IsSpareBlock views) run.blocks.items
+  spare = All-each (IsSpareBlock views) run.blocks.items (λ i b at.
+      let stands = map-at new_block run.blocks.items i b at in
+      record {
+        not_config = not_config now s p pointers (made_by tree run) x y explained geometry i (new_block b) stands;
+        not_log = y.not_log i (new_block b) stands;
+        not_in_tree = not_in_tree now s p pointers (made_by tree run) x y explained geometry (view_frame run.geometry old) old.pointers old.synced rest.laid.firm.tree.holds
+            (rest.laid.view.root ∙ is.root_is) i (new_block b) stands;
+        not_logged = λ j l below there. absurd (let no_way : None ≡ Some l = ap (λ (ls : List Logged). slice_get ls j) (sym no_logged) ∙ there in cc);
+      })
+
+  makes_tree : (image : List ℕ) → length image ≡ length now → BlocksWritten now run.geometry run.blocks.items (vec_len run.blocks) image
+      → HoldsTree image (view_frame run.geometry new) tree y.plan.contents.objects
+  makes_tree image same written =
+      let count : s.blocks ≡ block_count run.geometry = x.blocks ∙ ap (λ (n : ℕ). block_count n) long in
+      let all : length run.blocks.items ≤ vec_len run.blocks = omega (arith, run.blocks.ok.0) in
+      subst (λ (n : ℕ). HoldsTree image (record { version = written_version; guid = s.guid; blocks = n; group = y.group }) tree y.plan.contents.objects) count
+      (tree_made now s p pointers (made_by tree run) x y explained geometry image (written_stand now image run.geometry run.blocks.items (vec_len run.blocks) all written)
+      (λ address area other. others_stay now image run.geometry run.blocks.items (vec_len run.blocks) same written placed address (subst (λ (n : ℕ). IsBlockAddress n address) count area) other))
+
+  above : old.u.group < y.group
+  above = omega (arith, is.group_is, next)
+
+  leads : LeadsViews now run views
+  leads = record {
+    view = is_view;
+    above = above;
+    slot = slot;
+    other_slot = λ same. let at : old.u.group ≡ s.line.synced = is.group_is in omega (arith, same, at, next);
+    uberblock = refl;
+    config = subst (λ (o : Option LabelStages). HasConfigOf o views) (sym stages) refl;
+    blocks = spare;
+    tree = makes_tree;
+    log = (omega arith, λ i l below at. absurd (omega (arith, below)));
+  }
+
+  distinct : HasDistinctBlocks run
+  distinct = distinct_blocks run.blocks.items (λ i j b c at_i at_j same.
+      y.are.apart i j (new_block b) (new_block c) (map-at new_block run.blocks.items i b at_i) (map-at new_block run.blocks.items j c at_j) (ap (λ (n : ℕ). block_address n) same))
+
+  before : IsBefore views run.geometry disk.now
+  before = record {
+    rest = record { rest = rest; config = rest.laid.firm.config.fixed; slot = rest.slot.fixed };
+    configs = configs_of_old run.geometry p.created (handed disk.now) old new (sym is.guid) refl refl
+        (subst (λ (g : ℕ). AreConfigsUpTo run.geometry p.created (handed disk.now) g old.u.group (λ above content. ⊥)) (sym is.guid)
+        (subst (λ (g : ℕ). AreConfigsUpTo run.geometry p.created (handed disk.now) s.guid g (λ above content. ⊥)) (sym is.group_is) configs)) rest.laid.configs;
+    logs = logs_of_group run.geometry p.created 0 (handed disk.now) old new rest.laid.view (sym is.guid) (sym is.import_is)
+        (let number : y.plan.header.number ≡ old.u.log_number = ap (λ (h : Header). h.number) (y.header ∙ sym (header-none s.log x.no_log) ∙ sym is.header_is) in omega (arith, number)) (omega arith)
+        (sym no_logged) rest.laid.logs;
+  }
+
+  -- So the disk is kept while the sync runs.
+  pub started_kept : run.done ≡ 0 → run.done < call_count run → HasFairBytes run.geometry p.created disk.now → IsSyncOnDisk run disk s p
+  started_kept none left bytes = record {
+    no_stages = stages;
+    left = left;
+    group = y.group;
+    plan = y.plan;
+    syncing = y.syncing;
+    running = y.running;
+    start = disk;
+    views = views;
+    created = refl;
+    since = begins_at_rest disk views run none distinct leads before;
+    old_is = is;
+    new_is = record {
+      guid = refl;
+      group_is = refl;
+      root_is = refl;
+      import_is = refl;
+      header_is = refl;
+      replayed = replayed;
+      as_many = ap (λ (ks : List KeptBlock). length ks) (sym (none_from y.plan.header s.log x.no_log));
+      blocks = λ i k l at there. absurd (no_block y.plan.header s.log i k x.no_log at);
+      flushed_are = λ i k at flushed. absurd (no_block y.plan.header s.log i k x.no_log at);
+    };
+    bytes = bytes;
+    configs = configs;
+  }

@@ -1,0 +1,48 @@
+//! What callers rest on: one function for each promise of this crate's calls, proved from the contract of the call alone. So it
+//! is refused as soon as that contract says less.
+
+ghost use Rattle.std.specs.Prelude.{◌≡◌, ◌∷◌, [], Err, IfOk, true};
+ghost use Rattle.base.specs.declared.step.Reply.TheVariants as reply;
+ghost use Rattle.base.specs.declared.step.Step.TheVariants as step;
+ghost use Rattle.pool_core.specs.States.{shown};
+
+use crate::runs::run;
+use crate::state::PoolState;
+use base::{LockId, Owner, PoolError, Reply, Step};
+use device_model::SectorDevice;
+
+// A suspended pool releases no lock.
+fn a_suspended_pool_releases_no_lock<D: SectorDevice>(
+    pool: &mut PoolState<D>,
+    owner: Owner,
+    id: LockId,
+) -> Result<(), PoolError>
+    requires { (shown pool.old).suspended ≡ true }
+    ensures refused { result ≡ Err PoolError.Suspended }
+    ensures unchanged { shown pool.new ≡ shown pool.old }
+{
+    pool.unlock(owner, id)
+}
+
+// A run of no steps has no reply, and leaves the pool as it was.
+fn no_steps_change_nothing<D: SectorDevice>(
+    pool: &mut PoolState<D>,
+) -> Result<Vec<Reply>, PoolError>
+    ensures none { IfOk result (λ replies. replies.items ≡ []) }
+    ensures unchanged { pool.new ≡ pool.old }
+{
+    let none = Vec::new(pool.alloc());
+    run(pool, none)
+}
+
+// A run that asks for the name has the name as its one reply.
+fn the_reply_to_a_name_is_the_name<D: SectorDevice>(
+    pool: &mut PoolState<D>,
+    steps: Vec<Step>,
+) -> Result<Vec<Reply>, PoolError>
+    requires { steps.items ≡ step.Name ∷ [] }
+    ensures { IfOk result
+        (λ replies. replies.items ≡ reply.Name (shown pool.old).contents.name ∷ []) }
+{
+    run(pool, steps)
+}

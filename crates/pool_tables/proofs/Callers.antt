@@ -1,0 +1,171 @@
+-- What a caller reads off an answer: refused by the first test that applies, all stands; else it is what the step says.
+use Rattle.std.proofs.Common.{◌≡◌, ◌∙◌, ℕ, Bool, true, false, ◌&&◌, not, List, [], ◌∷◌, nat_eq, refl, ap, sym, subst}
+use Rattle.std.proofs.lemmas.Bool.{eq-eqb}
+use Rattle.std.proofs.lemmas.Cmp.{nat_cmp_total}
+use Rattle.std.specs.Prelude.{Option, Some, None, Result, Ok, Err, IfOk, IfSome, find, is_some, option_map, ◌==◌}
+use Rattle.std.specs.Ordering.{nat_cmp}
+use Rattle.std.specs.FinMap as finite
+use Rattle.std.specs.FinSet as set
+use Rattle.std.specs.FinSet.{FinSet, contains-difference, contains-from_list_nat}
+use Rattle.base.specs.declared.error.PoolError.{PoolError}
+use Rattle.base.specs.declared.error.PoolError.TheVariants as error
+use Rattle.base.specs.declared.names.Group.{Group}
+use Rattle.base.specs.declared.names.LockId.{LockId}
+use Rattle.base.specs.declared.range.Mode.TheVariants.{Writer}
+use Rattle.base.specs.declared.range.Range.{Range}
+use Rattle.base.specs.formats.Digest.{digest_of}
+use Rattle.base.specs.history.Contents.{length_of}
+use Rattle.base.specs.history.Past.{Past}
+use Rattle.base.specs.history.Plans.{NumberRange}
+use Rattle.base.specs.steps.ExactNow.{IsExplainedNow}
+use Rattle.base.specs.steps.Groups.{Admission}
+use Rattle.base.specs.steps.Refusals.{abort_refusal, append_range, append_refusal, digest_refusal, length_refusal, quiesced_group, read_refusal, start_refusal, transaction_of}
+use Rattle.base.specs.steps.Shown.{Shown, SyncPlan}
+use Rattle.base.specs.steps.Stage as stage
+use Rattle.base.specs.steps.Steps as steps
+use Rattle.base.specs.steps.Steps.{Answers, IsPlanned, IsReplayUpTo, State, TakesForEach, WantsMemory, bytes_in, next_grant, state_after_abort, state_after_grant, state_after_start, transactions_without}
+use Rattle.base.proofs.common.KeptLists.{Some-injective, any_at}
+use Rattle.base.proofs.history.CommitOrder.{ok-none}
+use Rattle.pool_tables.specs.Meets.{Meets}
+use Rattle.pool_tables.specs.StepAnswers.{StartsSync, appended_numbers}
+use Rattle.pool_tables.specs.Tables.{result_map}
+use Rattle.pool_tables.proofs.OfNoDevice.{some_past}
+
+-- Refused by its tests, a call answers so, and all stands.
+pub refused_by : {A : Type 0} (r : Option PoolError) (e : PoolError) (answer : Result A PoolError) (s new : Shown) (past later : Past) (does : A → Type 0) (own : PoolError → Type 0)
+    → r ≡ Some e → Answers r answer (record { shown = s; past = past }) (record { shown = new; past = later }) does own → (answer ≡ Err e) × (new ≡ s)
+refused_by r e answer s new past later does own is h =
+    let both = subst (λ (q : Option PoolError). Answers q answer (record { shown = s; past = past }) (record { shown = new; past = later }) does own) is h in
+    (both.0, ap (λ (x : State). x.shown) both.1)
+
+-- So does one whose answer is told by numbers.
+pub refused_as : {A B : Type 0} (f : A → B) (r : Option PoolError) (e : PoolError) (answer : Result A PoolError) (s new : Shown) (past later : Past) (does : B → Type 0) (own : PoolError → Type 0)
+    → r ≡ Some e → Answers r (result_map f answer) (record { shown = s; past = past }) (record { shown = new; past = later }) does own → (answer ≡ Err e) × (new ≡ s)
+refused_as f r e (Ok a) s new past later does own is h = absurd (let no_way : Ok (f a) ≡ Err e = (refused_by r e (Ok (f a)) s new past later does own is h).0 in cc)
+refused_as f r e (Err x) s new past later does own is h =
+    let both = subst (λ (q : Option PoolError). Answers q (Err x) (record { shown = s; past = past }) (record { shown = new; past = later }) does own) is h in
+    (let same : x ≡ e = let told : Err x ≡ Err e = both.0 in cc in ap (λ (y : PoolError). Err y) same, ap (λ (x : State). x.shown) both.1)
+
+-- A call that no test refuses, and that takes no memory, is not refused.
+never_refused : {A : Type 0} (r : Option PoolError) (e : PoolError) (old new : State) (does : A → Type 0) → r ≡ None → Answers r (Err e) old new does steps.Never → ⊥
+never_refused r e old new does is h = subst (λ (q : Option PoolError). Answers q (Err e) old new does steps.Never) is h
+
+-- of the transactions without one of a name none has it
+none_left : (tx : ℕ) (ts : List Admission) → find (λ (a : Admission). a.tx == tx) (transactions_without tx ts) ≡ None
+none_left tx [] = refl
+none_left tx (a ∷ ts) = go (a.tx == tx) refl (none_left tx ts)
+  where
+    go : (b : Bool) → (a.tx == tx) ≡ b → find (λ (x : Admission). x.tx == tx) (transactions_without tx ts) ≡ None
+        → find (λ (x : Admission). x.tx == tx) (transactions_without tx (a ∷ ts)) ≡ None
+    go true is rest = rw is rest
+    go false is rest = rw is (rw is rest)
+
+-- What a caller knows of a step from the shown pool before it to the one after it, whatever the past.
+module _ (s new : Shown) where
+  abbrev before : State
+  before = record { shown = s; past = some_past s }
+
+  abbrev after : Past → State
+  after later = record { shown = new; past = later }
+
+  -- an append begins at the end of its object
+  pub append_low : (owner n low : ℕ) (answer : Result (LockId × Range) PoolError) → length_of s.contents n ≡ Some low
+      → Meets (steps.LockAppend owner n) (result_map appended_numbers answer) s new → IfOk answer (λ granted. granted.1.low ≡ low)
+  append_low owner n low (Ok (id, range)) at meets =
+      let later : Past = (meets (some_past s)).0 in
+      let done = ok-none (append_refusal owner n s) (id.0, range.low, range.high) before (after later)
+      (λ a. (a ≡ (s.next_lock, (append_range n s).low, (append_range n s).high)) × (after later ≡ state_after_grant (next_grant owner (append_range n s) Writer s) before))
+      (WantsMemory before (after later)) (meets (some_past s)).1 in
+      let begins : (append_range n s).low ≡ low = rw at refl in
+      ap (λ (a : ℕ × ℕ × ℕ). a.1) done.1.0 ∙ begins
+  append_low owner n low (Err e) at meets = tt
+
+  abbrev Ends : ℕ → Past → Type 0
+  Ends tx later = (a : Admission) × (transaction_of tx s ≡ Some a) × (after later ≡ state_after_abort tx a before)
+
+  ended : (tx : ℕ) (later : Past) (answer : Result (Unit {0}) PoolError) → abort_refusal tx s ≡ None → Answers (abort_refusal tx s) answer before (after later) (λ u. Ends tx later) steps.Never → Ends tx later
+  ended tx later (Ok u) passes h = (ok-none (abort_refusal tx s) u before (after later) (λ u. Ends tx later) steps.Never h).1
+  ended tx later (Err e) passes h = absurd (never_refused (abort_refusal tx s) e before (after later) (λ u. Ends tx later) passes h)
+
+  -- A transaction that is given up, or was not open, is not open then, and the pool runs on.
+  pub given_up : (tx : ℕ) (answer : Result (Unit {0}) PoolError) → s.suspended ≡ false → Meets (steps.Abort tx) answer s new → (new.suspended ≡ false) × (transaction_of tx new ≡ None)
+  given_up tx answer running meets = go (meets (some_past s)).0 (meets (some_past s)).1 (transaction_of tx s) refl
+    where
+      go : (later : Past) → Answers (abort_refusal tx s) answer before (after later) (λ u. Ends tx later) steps.Never → (o : Option Admission) → transaction_of tx s ≡ o
+          → (new.suspended ≡ false) × (transaction_of tx new ≡ None)
+      go later h None is =
+          let stands = (refused_by (abort_refusal tx s) error.NoSuchTransaction answer s new (some_past s) later (λ u. Ends tx later) steps.Never (rw (running, is) refl) h).1 in
+          (ap (λ (x : Shown). x.suspended) stands ∙ running, ap (λ (x : Shown). transaction_of tx x) stands ∙ is)
+      go later h (Some a) is =
+          let end = ended tx later answer (rw (running, is) refl) h in (
+            ap (λ (x : State). x.shown.suspended) end.2 ∙ running,
+            ap (λ (x : State). find (λ (a : Admission). a.tx == tx) x.shown.transactions) end.2 ∙ none_left tx s.transactions,
+          )
+
+  -- A sync that starts writes what its group left.
+  pub started_contents : (moment : ℕ) (answer : Result Group PoolError) → StartsSync moment answer s new
+      → IfOk answer (λ group. (past : Past) → IsExplainedNow s past → (plan : SyncPlan) × (new.sync ≡ Some plan) × IsReplayUpTo group.0 past plan.contents)
+  started_contents moment (Ok group) starts = λ past explained.
+      let old : State = record { shown = s; past = past } in
+      let later : State = after (starts past explained).0 in
+      let done = ok-none (start_refusal s) group.0 old later
+      (λ g. (plan : SyncPlan) × (quiesced_group s.line ≡ Some g) × IsPlanned old moment g plan × (⊥ → TakesForEach [] old g plan) × (later ≡ state_after_start g plan old))
+      (WantsMemory old later) (starts past explained).1 in
+      (done.1.0, ap (λ (x : State). x.shown.sync) done.1.4, done.1.2.contents)
+  started_contents moment (Err e) starts = tt
+
+-- And of a step that leaves what is shown.
+module _ (s : Shown) where
+  -- the bytes of a range that are read
+  pub read_bytes : (owner : ℕ) (range : NumberRange) (all : List ℕ) (answer : Result (List ℕ) PoolError) → finite.get s.contents.objects range.number ≡ Some all
+      → Meets (stage.Read owner range) answer s s → IfOk answer (λ bytes. bytes ≡ bytes_in range all)
+  read_bytes owner range all (Ok bytes) at meets =
+      let later : State = after s s (meets (some_past s)).0 in
+      let done = ok-none (read_refusal owner range s) bytes (before s s) later
+      (λ given. IfSome (finite.get s.contents.objects range.number) (λ found. given ≡ bytes_in range found) × (later ≡ before s s))
+      (WantsMemory (before s s) later) (meets (some_past s)).1 in
+      subst (λ (o : Option (List ℕ)). IfSome o (λ found. bytes ≡ bytes_in range found)) at done.1.0
+  read_bytes owner range all (Err e) at meets = tt
+
+  abbrev TellsLength : ℕ → Past → ℕ → Type 0
+  TellsLength n later length = (length_of s.contents n ≡ Some length) × (after s s later ≡ before s s)
+
+  length_by : (n length : ℕ) (later : Past) (answer : Result ℕ PoolError) → length_refusal n s ≡ None → length_of s.contents n ≡ Some length
+      → Answers (length_refusal n s) answer (before s s) (after s s later) (TellsLength n later) steps.Never → answer ≡ Ok length
+  length_by n length later (Ok k) passes at h =
+      let done = ok-none (length_refusal n s) k (before s s) (after s s later) (TellsLength n later) steps.Never h in
+      let same : k ≡ length = Some-injective (sym done.1.0 ∙ at) in
+      ap (λ (x : ℕ). Ok x) same
+  length_by n length later (Err e) passes at h = absurd (never_refused (length_refusal n s) e (before s s) (after s s later) (TellsLength n later) passes h)
+
+  -- the length that is told
+  pub told_length : (n length : ℕ) (answer : Result ℕ PoolError) → length_refusal n s ≡ None → length_of s.contents n ≡ Some length → Meets (steps.Length n) answer s s → answer ≡ Ok length
+  told_length n length answer passes at meets = length_by n length (meets (some_past s)).0 answer passes at (meets (some_past s)).1
+
+  abbrev TellsDigest : Past → List ℕ → Type 0
+  TellsDigest later digest = (digest ≡ digest_of s.contents) × (after s s later ≡ before s s)
+
+  digest_by : (later : Past) (answer : Result (List ℕ) PoolError) → digest_refusal s ≡ None → Answers (digest_refusal s) answer (before s s) (after s s later) (TellsDigest later) steps.Never
+      → answer ≡ Ok (digest_of s.contents)
+  digest_by later (Ok d) passes h = ap (λ (x : List ℕ). Ok x) (ok-none (digest_refusal s) d (before s s) (after s s later) (TellsDigest later) steps.Never h).1.0
+  digest_by later (Err e) passes h = absurd (never_refused (digest_refusal s) e (before s s) (after s s later) (TellsDigest later) passes h)
+
+  -- the digest that is told
+  pub told_digest : (answer : Result (List ℕ) PoolError) → s.suspended ≡ false → Meets stage.DigestInMemory answer s s → answer ≡ Ok (digest_of s.contents)
+  told_digest answer running meets = digest_by (meets (some_past s)).0 answer (rw running refl) (meets (some_past s)).1
+
+-- an address that a sync takes is free no more
+pub taken_away : (free : FinSet nat_cmp) (address : ℕ) → set.contains (set.difference free (set.from_list (address ∷ []))) address ≡ false
+taken_away free address =
+    contains-difference nat_cmp_total free (set.from_list (address ∷ [])) address
+    ∙ ap (λ (b : Bool). set.contains free address && not b) (contains-from_list_nat (address ∷ []) address ∙ any_at (λ y. nat_eq y address) (address ∷ []) 0 address refl (eq-eqb address address refl))
+    ∙ and-false (set.contains free address)
+  where
+    and-false : (b : Bool) → (b && false) ≡ false
+    and-false true = refl
+    and-false false = refl
+
+-- what is mapped to nothing is nothing
+pub none_mapped : {A B : Type 0} (f : A → B) (o : Option A) → option_map f o ≡ None → is_some o ≡ false
+none_mapped f None is = refl
+none_mapped f (Some a) is = absurd (let no_way : Some (f a) ≡ None = is in cc)

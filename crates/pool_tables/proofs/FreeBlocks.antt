@@ -1,0 +1,142 @@
+-- Blocks that are taken from the free ones, or come back to them, one after another.
+use Rattle.std.proofs.Common.{◌≡◌, ℕ, ◌+◌, ◌-◌, ◌/◌, ◌%◌, ◌<◌, ◌≤◌, Bool, true, false, not, ◌&&◌, ◌||◌, List, [], ◌∷◌, ◌++◌, length, map, take, refl, sym, ◌∙◌, ap, subst, arith, nat_le, nat_lt, add-zero}
+use Rattle.std.specs.Prelude.{All, get_or, ◌==◌}
+use Rattle.std.specs.List.{list_any}
+use Rattle.std.specs.Ordering.{nat_cmp, eq_by_cmp}
+use Rattle.std.proofs.Math.Nat.{div-add-mod}
+use Rattle.std.proofs.lemmas.List.{length-append, length-map, length-take-le, take_more, map-append}
+use Rattle.std.proofs.lemmas.List.Folds.{list_any-append}
+use Rattle.std.proofs.lemmas.Cmp.{nat_cmp_total}
+use Rattle.std.proofs.Math.Logic.{∥∥₁_elim}
+use mathlib.Core.Bool.{Bool-set}
+use Rattle.std.proofs.lemmas.Bool.{and_from, and_parts, eq-eqb, eqb-true, le-leb, leb-true, lt-ltb, ltb-true}
+use Rattle.std.specs.FinSet as set
+use Rattle.std.specs.FinSet.{FinSet, contains-empty, contains-insert, contains-remove, contains-from_list, contains-difference, contains-union, same_set, nat_cmp-IsAntisymmetric}
+use Rattle.base.specs.formats.Geometry.{IsBlockAddress, block_address, block_area, block_size}
+use Rattle.space.specs.FreeSets.{FreeSpace, after_give, after_sync_take}
+use Rattle.tree_plans.specs.declared.planner.PlannedBlock.{PlannedBlock}
+use Rattle.base.specs.tree.PlacedTrees.{ArePlaced, IsPlaced}
+use Rattle.object_maps.specs.declared.tree.Tree.{Tree}
+use Rattle.object_maps.specs.Pointers as kept
+use Rattle.tree_plans.specs.Pointers as plans
+use Rattle.tree_plans.specs.Plans.{address_of}
+use Rattle.pool_tables.specs.Areas.{after_gives, after_sync_takes, is_block_of}
+use Rattle.pool_tables.proofs.syncs.PlannedPointers.{same_tree}
+
+and_true : (b : Bool) → (b && true) ≡ b
+and_true true = refl
+and_true false = refl
+
+or_false : (b : Bool) → (b || false) ≡ b
+or_false true = refl
+or_false false = refl
+
+pub difference_none : (s : FinSet nat_cmp) → s ≡ set.difference s (set.from_list [])
+difference_none s = same_set nat_cmp_total nat_cmp-IsAntisymmetric _ _ (λ q.
+    sym (contains-difference nat_cmp_total s (set.from_list []) q ∙ ap (λ b. set.contains s q && not b) (contains-empty nat_cmp q) ∙ and_true (set.contains s q)))
+
+pub union_none : (s : FinSet nat_cmp) → s ≡ set.union s (set.from_list [])
+union_none s = same_set nat_cmp_total nat_cmp-IsAntisymmetric _ _ (λ q.
+    sym (contains-union nat_cmp_total s (set.from_list []) q ∙ ap (λ b. set.contains s q || b) (contains-empty nat_cmp q) ∙ or_false (set.contains s q)))
+
+one_more : (xs : List ℕ) (x q : ℕ) → set.contains (set.from_list {R = nat_cmp} (xs ++ x ∷ [])) q ≡ (set.contains (set.from_list {R = nat_cmp} xs) q || eq_by_cmp nat_cmp q x)
+one_more xs x q =
+    contains-from_list nat_cmp_total (xs ++ x ∷ []) q
+    ∙ list_any-append (eq_by_cmp nat_cmp q) xs (x ∷ [])
+    ∙ ap (λ b. list_any (eq_by_cmp nat_cmp q) xs || b) (or_false (eq_by_cmp nat_cmp q x))
+    ∙ sym (ap (λ b. b || eq_by_cmp nat_cmp q x) (contains-from_list nat_cmp_total xs q))
+
+pub difference_more : (s : FinSet nat_cmp) (xs : List ℕ) (x : ℕ) → set.remove (set.difference s (set.from_list xs)) x ≡ set.difference s (set.from_list (xs ++ x ∷ []))
+difference_more s xs x = same_set nat_cmp_total nat_cmp-IsAntisymmetric _ _ (λ q.
+    contains-remove nat_cmp_total (set.difference s (set.from_list xs)) x q
+    ∙ ap (λ b. not (eq_by_cmp nat_cmp q x) && b) (contains-difference nat_cmp_total s (set.from_list xs) q)
+    ∙ turned (eq_by_cmp nat_cmp q x) (set.contains s q) (set.contains (set.from_list {R = nat_cmp} xs) q)
+    ∙ sym (contains-difference nat_cmp_total s (set.from_list (xs ++ x ∷ [])) q ∙ ap (λ b. set.contains s q && not b) (one_more xs x q)))
+  where
+    turned : (e c l : Bool) → (not e && (c && not l)) ≡ (c && not (l || e))
+    turned true true true = refl
+    turned true true false = refl
+    turned true false l = refl
+    turned false true true = refl
+    turned false true false = refl
+    turned false false l = refl
+
+pub union_more : (s : FinSet nat_cmp) (xs : List ℕ) (x : ℕ) → set.insert (set.union s (set.from_list xs)) x ≡ set.union s (set.from_list (xs ++ x ∷ []))
+union_more s xs x = same_set nat_cmp_total nat_cmp-IsAntisymmetric _ _ (λ q.
+    contains-insert nat_cmp_total (set.union s (set.from_list xs)) x q
+    ∙ ap (λ b. eq_by_cmp nat_cmp q x || b) (contains-union nat_cmp_total s (set.from_list xs) q)
+    ∙ turned (eq_by_cmp nat_cmp q x) (set.contains s q) (set.contains (set.from_list {R = nat_cmp} xs) q)
+    ∙ sym (contains-union nat_cmp_total s (set.from_list (xs ++ x ∷ [])) q ∙ ap (λ b. set.contains s q || b) (one_more xs x q)))
+  where
+    turned : (e c l : Bool) → (e || (c || l)) ≡ (c || (l || e))
+    turned true true l = refl
+    turned true false true = refl
+    turned true false false = refl
+    turned false true l = refl
+    turned false false true = refl
+    turned false false false = refl
+
+-- a front of a list is one longer
+pub front_more : {A : Type 0} (xs : List A) (i : ℕ) (x : A) → i < length xs → x ≡ get_or xs i x → take (i + 1) xs ≡ take i xs ++ x ∷ []
+front_more {A} xs i x low is = take_more xs i x low ∙ ap (λ (y : A). take i xs ++ y ∷ []) (sym is)
+
+-- a sync that starts has taken none yet, and one more each time
+pub none_taken : (s : FreeSpace) → s ≡ after_sync_takes [] s
+none_taken s = λ k. record s { free = difference_none s.free k; taken = sym (add-zero s.taken) k }
+
+pub taken_more : (first old new : FreeSpace) (blocks : List PlannedBlock) (i : ℕ) (b : PlannedBlock) → i < length blocks → b ≡ get_or blocks i b
+    → old ≡ after_sync_takes (map address_of (take i blocks)) first → new ≡ after_sync_take b.index old
+    → new ≡ after_sync_takes (map address_of (take (i + 1) blocks)) first
+taken_more first old new blocks i b low is so_far now =
+    let before : List ℕ = map address_of (take i blocks) in
+    let front : map address_of (take (i + 1) blocks) ≡ before ++ address_of b ∷ [] =
+    ap (map address_of) (front_more blocks i b low is) ∙ map-append address_of (take i blocks) (b ∷ []) in
+    let count : first.taken + length before + 1 ≡ first.taken + length (before ++ address_of b ∷ []) = omega (arith, length-append before (address_of b ∷ [])) in
+    now ∙ ap (after_sync_take b.index) so_far
+    ∙ (λ k. record first { free = difference_more first.free before (address_of b) k; taken = count k })
+    ∙ ap (λ (l : List ℕ). after_sync_takes l first) (sym front)
+
+-- where none was taken before, it took as many as went before
+pub taken_so_far : (first old : FreeSpace) (blocks : List PlannedBlock) (i : ℕ) → i < length blocks → first.taken ≡ 0 → old ≡ after_sync_takes (map address_of (take i blocks)) first → old.taken ≡ i
+taken_so_far first old blocks i low none so_far =
+    let count : length (map address_of (take i blocks)) ≡ i = length-map (take i blocks) address_of ∙ length-take-le i blocks (omega (arith, low)) in
+    omega (arith, none, count, ap (λ (s : FreeSpace). s.taken) so_far)
+
+-- of addresses none has come back yet, and one more each time
+pub none_given : (s : FreeSpace) → s ≡ after_gives [] s
+none_given s = λ k. record s { free = union_none s.free k }
+
+pub given_more : (first old new : FreeSpace) (addresses : List ℕ) (i k : ℕ) → i < length addresses → block_address k ≡ get_or addresses i 0
+    → old ≡ after_gives (take i addresses) first → new ≡ after_give k old → new ≡ after_gives (take (i + 1) addresses) first
+given_more first old new addresses i k low at so_far now =
+    let a = get_or addresses i 0 in
+    now ∙ (λ j. record (so_far j) { free = set.insert (so_far j).free (at j) })
+    ∙ (λ j. record first { free = union_more first.free (take i addresses) a j })
+    ∙ ap (λ (l : List ℕ). after_gives l first) (sym (take_more addresses i 0 low))
+
+-- what passes the test is the address of a block
+pub block_of : (blocks address : ℕ) → is_block_of blocks address ≡ true → IsBlockAddress blocks address
+block_of blocks address h =
+    let outer = and_parts (nat_le block_area address && (((address - block_area) % block_size) == 0)) (nat_lt ((address - block_area) / block_size) blocks) h in
+    let inner = and_parts (nat_le block_area address) (((address - block_area) % block_size) == 0) outer.0 in
+    let above : block_area ≤ address = leb-true block_area address inner.0 in
+    let no_rest : (address - block_area) % block_size ≡ 0 = eqb-true ((address - block_area) % block_size) 0 inner.1 in
+    let parts = div-add-mod (address - block_area) block_size in
+    ((address - block_area) / block_size, ltb-true ((address - block_area) / block_size) blocks outer.1, omega (arith, parts, no_rest))
+
+-- and the address of a block passes it
+pub block_passes : (blocks address : ℕ) → IsBlockAddress blocks address → is_block_of blocks address ≡ true
+block_passes blocks address (k, low, at) =
+    let whole : (address - block_area) % block_size ≡ 0 = omega arith in
+    let index : (address - block_area) / block_size ≡ k = omega arith in
+    let above : block_area ≤ address = omega arith in
+    let within : (address - block_area) / block_size < blocks = omega (arith, index, low) in
+    and_from (nat_le block_area address && (((address - block_area) % block_size) == 0)) (nat_lt ((address - block_area) / block_size) blocks)
+    (and_from (nat_le block_area address) (((address - block_area) % block_size) == 0) (le-leb block_area address above) (eq-eqb ((address - block_area) % block_size) 0 whole))
+    (lt-ltb ((address - block_area) / block_size) blocks within)
+
+-- the addresses that come back are those of blocks, where the pointers of the tree are placed
+pub are_blocks : (blocks : ℕ) (tree : Tree) (freed : List ℕ) → ∥ ArePlaced blocks (kept.pointers_of tree) ∥₁
+    → (ArePlaced blocks (plans.pointers_before tree) → All (λ address. IsBlockAddress blocks address) freed) → All (λ address. is_block_of blocks address ≡ true) freed
+are_blocks blocks tree freed placed returned = λ k d low.
+    ∥∥₁_elim placed (Bool-set _ _) (λ at. block_passes blocks (get_or freed k d) (returned (λ p i. subst (IsPlaced blocks) (same_tree tree p) (at p i)) k d low))

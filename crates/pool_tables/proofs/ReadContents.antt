@@ -1,0 +1,38 @@
+-- What the changes of the unsynced groups make of the synced contents: for each past that explains a pool, the contents that are shown.
+use Rattle.std.proofs.Common.{◌≡◌, ℕ, ◌+◌, ◌<◌, ◌≤◌, List, [], map, sym, subst, arith}
+use Rattle.std.specs.Prelude.{All}
+use Rattle.base.specs.declared.operation.Op.{Op}
+use Rattle.base.specs.history.History.{Entry}
+use Rattle.base.specs.history.Past.{Past}
+use Rattle.base.specs.steps.ExactNow.{IsExplainedNow}
+use Rattle.base.specs.steps.Shown.{Shown}
+use Rattle.base.specs.steps.Steps.{ops_of_group}
+use Rattle.base.proofs.common.KeptLists.{All-each}
+use Rattle.base.proofs.history.KeptContents.{bounded-no_others}
+use Rattle.extents.specs.declared.unsynced.UnsyncedExtents.{UnsyncedExtents}
+use Rattle.extents.specs.Patches.{ArePatchesOf}
+use Rattle.extents.specs.Unsynced.{changes_at, laid_all}
+use Rattle.extents.proofs.UnsyncedGroups.{unsynced_are_read}
+use Rattle.throttle.proofs.SumLaws.{open_within}
+use Rattle.tree_plans.specs.declared.planner.Committed.{Committed}
+use Rattle.pool_tables.specs.Pending.{AreChangesOfPending}
+use Rattle.pool_tables.specs.Shows.{record_of}
+use Rattle.pool_tables.proofs.PendingOps.{pending_are}
+
+module _ (s : Shown) (p : Past) (explained : IsExplainedNow s p) (no_log : s.log.kept ≡ []) (pending : List Committed) (log : s.log.pending ≡ map record_of pending) (changes : UnsyncedExtents)
+    (of_pending : AreChangesOfPending s.line.synced pending changes) where
+  -- each entry is of a group up to the third behind the synced one
+  all_within : All (λ (e : Entry). e.group ≤ s.line.synced + 3) p.entries
+  all_within = All-each (λ (e : Entry). e.group ≤ s.line.synced + 3) p.entries (λ i e at.
+      let committed = explained.exact.groups.members.committed i e at in
+      let known : committed.0.group ≤ s.line.open_group = explained.exact.groups.members.known e.tx committed.0 committed.1 in
+      let same : committed.0.group ≡ e.group = committed.2 in
+      let three = open_within s.line explained.exact.groups.line in
+      omega (arith, known, same, three))
+
+  of_entries : (place : ℕ) → place < 3 → ArePatchesOf (ops_of_group (s.line.synced + 1 + place) p.entries) (changes_at changes place)
+  of_entries place below = subst (λ (ops : List Op). ArePatchesOf ops (changes_at changes place)) (sym (pending_are s p explained no_log pending log (s.line.synced + 1 + place) (omega arith))) (of_pending place below)
+
+  pub read_as_explained : laid_all changes s.synced_contents.objects ≡ s.contents.objects
+  read_as_explained = unsynced_are_read p.entries s.line.synced p.base s.synced_contents s.contents changes explained.history all_within explained.trees.synced.replayed of_entries
+      (bounded-no_others s.synced_contents explained.trees.synced.bounded) (bounded-no_others s.contents explained.exact.bounded)

@@ -1,0 +1,143 @@
+-- The changes of the unsynced groups, laid over the synced objects, beside the operations that are pending: at first, while groups are opened and once the oldest one is synced.
+use Rattle.std.proofs.Common.{◌≡◌, ◌∙◌, ℕ, ◌+◌, ◌<◌, ◌≤◌, ◌==◌, Bool, true, false, cond, List, [], ◌∷◌, filter, nat_lt, refl, ap, sym, subst, arith, ◌⊎◌, inl, inr}
+use Rattle.std.proofs.Math.Logic.{∥∥₁_elim}
+use Rattle.std.proofs.lemmas.Bool.{cases_lt, eqb-true, lt-ltb, true≢false}
+use Rattle.std.proofs.lemmas.List.Elements.{All-head, All-tail, All-weaker}
+use Rattle.std.specs.Coded.{Π_prop, →_prop, Unit-prop, le_prop}
+use Rattle.std.specs.FinMap as finite
+use Rattle.std.specs.FinMap.{FinMap}
+use Rattle.std.specs.List.{flat_map}
+use Rattle.std.specs.Ordering.{nat_cmp}
+use Rattle.std.specs.Prelude.{All, IfSome, None, Option, Some, fold, length, option_map}
+use Rattle.base.specs.declared.operation.Op.{Op}
+use Rattle.base.specs.formats.Limits.{max_length, object_count}
+use Rattle.base.specs.history.Contents.{Contents, object_after}
+use Rattle.base.specs.steps.Groups.{IsLine, Line}
+use Rattle.extents.specs.declared.unsynced.UnsyncedExtents.{UnsyncedExtents}
+use Rattle.extents.specs.Patches.{Patches, laid_over, length_over, no_patch, patched}
+use Rattle.extents.specs.Synced.{FitsPatched, HasRoomForPatches, patched_contents}
+use Rattle.extents.specs.Unsynced.{MovesUp, changes_at, laid_all}
+use Rattle.extents.proofs.LaidObjects.{laid_nothing}
+use Rattle.extents.proofs.LaidWithin.{stay_within}
+use Rattle.extents.proofs.PatchedObjects.{patched_nothing}
+use Rattle.extents.proofs.UnsyncedGroups.{oldest_is_laid}
+use Rattle.object_maps.specs.declared.contents.Contents as declared
+use Rattle.object_maps.specs.declared.contents.Slot.{Slot}
+use Rattle.object_maps.specs.ContentsShown.{contents_of, object_in}
+use Rattle.object_maps.specs.Judging.{with_name}
+use Rattle.object_maps.specs.Ops.{room_of}
+use Rattle.object_maps.specs.Sources.{AreWithin}
+use Rattle.throttle.proofs.SumLaws.{open_within}
+use Rattle.tree_plans.specs.declared.planner.Committed.{Committed}
+use Rattle.tree_plans.specs.Marks.{pending_ops}
+use Rattle.pool_tables.specs.Pending.{AreChangesOfPending, KeepsUnsynced, pending_after}
+
+-- where the open group is a later one, each pending transaction is still of a group up to it
+stay_open : (before after : ℕ) (pending : List Committed) → before ≤ after → All (λ (c : Committed). c.group.0 ≤ before) pending → All (λ (c : Committed). c.group.0 ≤ after) pending
+stay_open before after pending later = All-weaker (λ (c : Committed). c.group.0 ≤ before) (λ (c : Committed). c.group.0 ≤ after) (λ c up_to. omega (arith, later, up_to)) pending
+
+-- so all stays where the line moves on with the same synced group
+pub moved_on : (old new : Line) (pending : List Committed) (synced : declared.Contents) (changes : UnsyncedExtents) → (new.synced ≡ old.synced) × (old.open_group ≤ new.open_group)
+    → KeepsUnsynced old pending synced changes → KeepsUnsynced new pending synced changes
+moved_on old new pending synced changes (same, later) x = record {
+  built = x.built;
+  open_or_before = stay_open old.open_group new.open_group pending later x.open_or_before;
+  within = x.within;
+  changed = subst (λ (g : ℕ). AreChangesOfPending g pending changes) (sym same) x.changed;
+}
+
+-- a group behind those of all pending transactions has no operations pending
+none_pending : (group : ℕ) (pending : List Committed) → All (λ (c : Committed). c.group.0 < group) pending → pending_ops group pending ≡ []
+none_pending group [] low = refl
+none_pending group (c ∷ cs) low = by (c.group.0 == group) refl (none_pending group cs (All-tail (λ (x : Committed). x.group.0 < group) c cs low))
+  where
+    others : List Committed
+    others = filter (λ (x : Committed). x.group.0 == group) cs
+
+    by : (b : Bool) → (c.group.0 == group) ≡ b → pending_ops group cs ≡ [] → flat_map (λ (x : Committed). x.ops) (cond b (c ∷ others) others) ≡ []
+    by true is rest = absurd (let below = All-head (λ (x : Committed). x.group.0 < group) c cs low in let same = eqb-true c.group.0 group is in omega (arith, below, same))
+    by false is rest = rest
+
+-- what passes a test among those that pass a weaker one
+filter_inside : {X : Type 0} (p q : X → Bool) (xs : List X) → ((x : X) → p x ≡ true → q x ≡ true) → filter p (filter q xs) ≡ filter p xs
+filter_inside p q [] inside = refl
+filter_inside {X} p q (x ∷ xs) inside = by (q x) refl (p x) refl (filter_inside p q xs inside)
+  where
+    by : (b : Bool) → q x ≡ b → (a : Bool) → p x ≡ a → filter p (filter q xs) ≡ filter p xs → filter p (cond b (x ∷ filter q xs) (filter q xs)) ≡ cond a (x ∷ filter p xs) (filter p xs)
+    by true kept true is rest = ap (λ (t : Bool). cond t (x ∷ filter p (filter q xs)) (filter p (filter q xs))) is ∙ ap (λ (l : List X). x ∷ l) rest
+    by true kept false is rest = ap (λ (t : Bool). cond t (x ∷ filter p (filter q xs)) (filter p (filter q xs))) is ∙ rest
+    by false dropped true is rest = absurd (true≢false (sym (inside x is) ∙ dropped))
+    by false dropped false is rest = rest
+
+-- once a group is synced, those behind it have the operations that they had
+later_ops : (group later : ℕ) (pending : List Committed) → group < later → pending_ops later (pending_after group pending) ≡ pending_ops later pending
+later_ops group later pending below =
+    ap (flat_map (λ (c : Committed). c.ops)) (filter_inside (λ (c : Committed). c.group.0 == later) (λ (c : Committed). nat_lt group c.group.0) pending
+    (λ c is. subst (λ (g : ℕ). nat_lt group g ≡ true) (sym (eqb-true c.group.0 later is)) (lt-ltb group later below)))
+
+-- the groups at the places are those behind the one that is synced then, and the last place has no changes
+pub synced_changes : (synced group : ℕ) (pending : List Committed) (old new : UnsyncedExtents) → group ≡ synced + 1 → AreChangesOfPending synced pending old
+    → All (λ (c : Committed). c.group.0 ≤ synced + 3) pending → MovesUp old new → AreChangesOfPending group (pending_after group pending) new
+synced_changes synced group pending old new next changed within moves place low n below =
+    ap (λ p. patched p below) (moves place n) ∙ at (cases_lt place 2) ∙ ap after (sym (later_ops group (group + 1 + place) pending (omega arith)))
+  where
+    after : List Op → Option (List ℕ)
+    after ops = fold (λ object op. object_after n op object) below ops
+
+    at : (place < 2) ⊎ (2 ≤ place) → patched (changes_at old (place + 1) n) below ≡ after (pending_ops (group + 1 + place) pending)
+    at (inl moved) =
+        let same : synced + 1 + (place + 1) ≡ group + 1 + place = omega (arith, next) in
+        changed (place + 1) (omega (arith, moved)) n below ∙ ap (λ (g : ℕ). after (pending_ops g pending)) same
+    at (inr last) =
+        let is : place ≡ 2 = omega (arith, low, last) in
+        ap (λ (k : ℕ). patched (changes_at old (k + 1) n) below) is ∙ patched_nothing below
+        ∙ sym (ap after (none_pending (group + 1 + place) pending (All-weaker (λ (c : Committed). c.group.0 ≤ synced + 3) (λ (c : Committed). c.group.0 < group + 1 + place) (λ c up_to. omega (arith, up_to, next, is)) pending within)))
+
+-- the syncing group is the one behind the synced one
+pub syncing_follows : (l : Line) (group : ℕ) → IsLine l → l.syncing ≡ Some group → group ≡ l.synced + 1
+syncing_follows l group line is = subst (λ (o : Option ℕ). IfSome o (λ g. g ≡ l.synced + 1)) is line.syncing
+
+-- at most three groups are unsynced, so each pending transaction is of one with a place
+pub open_three : (l : Line) (pending : List Committed) → IsLine l → All (λ (c : Committed). c.group.0 ≤ l.open_group) pending → All (λ (c : Committed). c.group.0 ≤ l.synced + 3) pending
+open_three l pending line = stay_open l.open_group (l.synced + 3) pending (open_within l line)
+
+-- at first no group has changes, nor pending operations
+module _ (changes : UnsyncedExtents) (none : (place n : ℕ) → changes_at changes place n ≡ no_patch) where
+  pub first_changes : (synced : ℕ) → AreChangesOfPending synced [] changes
+  first_changes synced place low n below = ap (λ p. patched p below) (none place n) ∙ patched_nothing below
+
+  -- and the objects are those of the tree
+  pub first_objects : (objects : FinMap nat_cmp (List ℕ)) → AreWithin objects → laid_all changes objects ≡ objects
+  first_objects objects within =
+      let same : (place : ℕ) → laid_over (changes_at changes place) objects ≡ objects = λ place. laid_nothing (changes_at changes place) objects (none place) (λ n past. none_past n (finite.get objects n) (within n) past) in
+      ap (λ (o : FinMap nat_cmp (List ℕ)). laid_over (changes_at changes 2) (laid_over (changes_at changes 1) o)) (same 0) ∙ ap (laid_over (changes_at changes 2)) (same 1) ∙ same 2
+    where
+      none_past : (n : ℕ) (o : Option (List ℕ)) → IfSome o (λ bytes. (n < object_count) × (length bytes ≤ max_length)) → object_count ≤ n → o ≡ None
+      none_past n None within past = refl
+      none_past n (Some bytes) within past = absurd (let low = within.0 in omega (arith, low, past))
+
+-- objects within the limits stay so with the changes of each group laid over them
+pub laid_stay_within : (changes : UnsyncedExtents) (objects : FinMap nat_cmp (List ℕ)) → AreWithin objects → AreWithin (laid_all changes objects)
+laid_stay_within changes objects within =
+    (stay_within changes.third).1 _ ((stay_within changes.second).1 _ ((stay_within changes.oldest).1 objects within))
+
+-- The oldest group's changes were laid into the synced contents, and the others moved up.
+module _ (old : UnsyncedExtents) (before after : declared.Contents) (laid : contents_of after ≡ patched_contents (changes_at old 0) (contents_of before)) where
+  pub synced_within : AreWithin (contents_of before).objects → AreWithin (contents_of after).objects
+  synced_within within = subst (λ (c : Contents). AreWithin c.objects) (sym laid) ((stay_within old.oldest).1 (contents_of before).objects within)
+
+  -- the contents that are shown are those of before
+  pub same_contents : (new : UnsyncedExtents) → MovesUp old new → with_name (laid_all new (contents_of after).objects) after.name ≡ with_name (laid_all old (contents_of before).objects) before.name
+  same_contents new moves =
+      ap (λ (c : Contents). with_name (laid_all new c.objects) c.name) laid ∙ ap (λ (objects : FinMap nat_cmp (List ℕ)). with_name objects before.name) (oldest_is_laid old new (contents_of before).objects moves)
+
+-- the room that is taken before a sync is there
+pub has_room : (patches : Patches) (slots : List Slot) → ∥ HasRoomForPatches patches slots ∥₁ → HasRoomForPatches patches slots
+has_room patches slots room = ∥∥₁_elim room (Π_prop (λ n. →_prop (fits_prop n))) (λ h. h)
+  where
+    within_prop : (o : Option ℕ) (room : ℕ) → IsProp (IfSome o (λ size. size ≤ room))
+    within_prop None room = Unit-prop
+    within_prop (Some size) room = le_prop
+
+    fits_prop : (n : ℕ) → IsProp (FitsPatched (patches n).basis (object_in slots n) (room_of slots n))
+    fits_prop n = within_prop (length_over (patches n).basis (option_map length (object_in slots n))) (room_of slots n)

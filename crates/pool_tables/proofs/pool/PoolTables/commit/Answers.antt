@@ -1,0 +1,111 @@
+use Rattle.std.proofs.Common.{◌≡◌, ◌∙◌, true, List, Some, Err, ap, sym, subst}
+use Rattle.std.specs.List.{list_all}
+use Rattle.std.proofs.lemmas.Result.{err_from_is_err_and}
+use Rattle.base.specs.declared.error.PoolError.TheVariants as error
+use Rattle.base.specs.declared.operation.Op.{Op}
+use Rattle.base.specs.formats.Records.{is_content_allowed}
+use Rattle.base.specs.steps.Refusals.{commit_refusal}
+use Rattle.base.specs.steps.Shown.{Shown}
+use Rattle.base.specs.steps.Steps.{Commit}
+use Rattle.extents.specs.Patches.{Patches}
+use Rattle.extents.specs.Synced.{HasRoomForPatches}
+use Rattle.object_maps.specs.Ops.{AreOpsAllowed}
+use Rattle.pool_tables.specs.Meets.{MayCommit, MeetsExplained}
+use Rattle.pool_tables.specs.Entries.{shown_after_entry}
+use Rattle.pool_tables.specs.Shows.{pool_shown, shown_objects}
+use Rattle.pool_tables.proofs.CommitSteps.{commit_refused, commit_wants}
+use Rattle.pool_tables.proofs.Entered.{entered}
+use Rattle.pool_tables.proofs.OfNoDevice.{commit_own}
+use Rattle.pool_tables.proofs.PendingChanges.{changes_left_at, committed_behind, same_changes, shown_left}
+use Rattle.pool_tables.proofs.pool.PoolTables.commit.Goals as goal
+
+pub returns-in_err-group-clause-step : goal.returns-in_err-group-clause-step
+returns-in_err-group-clause-step c =
+    let tx = c.args.tx.0 in
+    let ops = c.args.ops in
+    let s = pool_shown c.args.self.now in
+    let p = err_from_is_err_and c.from_residual.result c.from_residual.ensures.1 in
+    let e = c.in_err-group.field-0.0 in
+    rw (p.1, p.2) (commit_refused tx ops e s (subst (λ (l : List Op). commit_refusal tx l s ≡ Some e) c.as_slice.ensures c.in_err-group.ensures.refusal))
+
+pub returns-in_err-group-clause-own : goal.returns-in_err-group-clause-own
+returns-in_err-group-clause-own c =
+    let s = pool_shown c.args.self.now in
+    let p = err_from_is_err_and c.from_residual.result c.from_residual.ensures.1 in
+    rw (p.1, p.2) (commit_own c.args.tx.0 _ s c.in_err-group.field-0.0 c.in_err-group.ensures.refusal)
+
+pub returns-in_err-reserve-clause-step : goal.returns-in_err-reserve-clause-step
+returns-in_err-reserve-clause-step c =
+    let tx = c.args.tx.0 in
+    let ops = c.args.ops in
+    let s = pool_shown c.args.self.now in
+    let may : MayCommit tx ops c.in_ok-group.group.0 s = subst (λ (l : List Op). MayCommit tx l c.in_ok-group.group.0 s) c.as_slice.ensures c.in_ok-group.ensures.refusal in
+    let p = err_from_is_err_and c.from_residual-in_err-reserve.result c.from_residual-in_err-reserve.ensures.1 in
+    rw (p.1, p.2, c.in_err-reserve.ensures.items) (commit_wants tx ops s may.passes)
+
+pub place_of-place-requires : goal.place_of-place-requires
+place_of-place-requires c =
+    let s = pool_shown c.args.self.now in
+    let ops = c.args.ops in
+    let may : MayCommit c.args.tx.0 ops c.in_ok-group.group.0 s = subst (λ (l : List Op). MayCommit c.args.tx.0 l c.in_ok-group.group.0 s) c.as_slice.ensures c.in_ok-group.ensures.refusal in
+    committed_behind c.args.self.now c.args.tx.0 ops c.in_ok-group.group.0 may
+
+pub invariant_of-self-2 : goal.invariant_of-self-2
+invariant_of-self-2 c =
+    let pool = c.args.self.now in
+    record {
+      free_counted = pool.free_counted;
+      import_fits = pool.import_fits;
+      next_ordinal_fits = pool.next_ordinal_fits;
+      accounted = pool.accounted;
+      running = λ r is. let was = pool.running r is in record {
+        geometry = was.geometry;
+        left = was.left;
+        uberblock = was.uberblock;
+        placed = was.placed;
+        room = subst (λ (patches : Patches). ∥ HasRoomForPatches patches pool.synced.slots.items ∥₁) (sym (same_changes pool.changes c.reserve-2.new.self c.reserve-2.ensures.same 0)) was.room;
+      };
+      sync_line = pool.sync_line;
+      tree_placed = pool.tree_placed;
+      unsynced = record {
+        built = rw c.in_ok-reserve.ensures.items pool.unsynced.built;
+        open_or_before = rw c.in_ok-reserve.ensures.items pool.unsynced.open_or_before;
+        within = pool.unsynced.within;
+        changed = rw c.in_ok-reserve.ensures.items (changes_left_at pool.groups.line.synced pool.pending.items pool.changes c.reserve-2.new.self pool.unsynced.changed c.reserve-2.ensures.same);
+      };
+    }
+
+pub returns-in_err-reserve-2-clause-step : goal.returns-in_err-reserve-2-clause-step
+returns-in_err-reserve-2-clause-step c =
+    let tx = c.args.tx.0 in
+    let ops = c.args.ops in
+    let pool = c.args.self.now in
+    let s = pool_shown pool in
+    let may : MayCommit tx ops c.in_ok-group.group.0 s = subst (λ (l : List Op). MayCommit tx l c.in_ok-group.group.0 s) c.as_slice.ensures c.in_ok-group.ensures.refusal in
+    let p = err_from_is_err_and c.from_residual-in_err-reserve-2.result c.from_residual-in_err-reserve-2.ensures.1 in
+    rw (p.1, p.2)
+    (subst (λ (x : Shown). MeetsExplained (Commit tx ops) (Err error.NoMemory) s x) (sym (shown_left pool c.reserve-2.new.self c.reserve.new.self.items c.reserve-2.ensures.same c.in_ok-reserve.ensures.items)) (commit_wants tx ops s may.passes))
+
+pub enter-ordinal-requires-clause-may : goal.enter-ordinal-requires-clause-may
+enter-ordinal-requires-clause-may c =
+    let tx = c.args.tx.0 in
+    let ops = c.args.ops in
+    let pool = c.args.self.now in
+    let s = pool_shown pool in
+    let may : MayCommit tx ops c.in_ok-group.group.0 s = subst (λ (l : List Op). MayCommit tx l c.in_ok-group.group.0 s) c.as_slice.ensures c.in_ok-group.ensures.refusal in
+    subst (λ (x : Shown). MayCommit tx ops c.in_ok-group.group.0 x) (sym (shown_left pool c.reserve-2.new.self c.reserve.new.self.items c.in_ok-reserve-2.ensures.same c.in_ok-reserve.ensures.items)) may
+
+pub returns-clause-step : goal.returns-clause-step
+returns-clause-step c =
+    let tx = c.args.tx.0 in
+    let ops = c.args.ops in
+    let group = c.in_ok-group.group.0 in
+    let pool = c.args.self.now in
+    let s = pool_shown pool in
+    let new = c.enter-ordinal.new.self in
+    let may : MayCommit tx ops group s = subst (λ (l : List Op). MayCommit tx l group s) c.as_slice.ensures c.in_ok-group.ensures.refusal in
+    let bytes = subst (λ (l : List Op). list_all is_content_allowed l ≡ true) c.as_slice-2.ensures c.in_ok-reserve-2.ensures.bytes in
+    let allowed = subst AreOpsAllowed c.as_slice.ensures c.in_ok-group.ensures.allowed in
+    let shown : pool_shown new ≡ shown_after_entry tx group ops (shown_objects new) s = c.enter-ordinal.ensures.shown
+    ∙ ap (λ (x : Shown). shown_after_entry tx group ops (shown_objects new) x) (shown_left pool c.reserve-2.new.self c.reserve.new.self.items c.in_ok-reserve-2.ensures.same c.in_ok-reserve.ensures.items) in
+    rw c.enter-ordinal.ensures.ordinal (entered tx ops group s may bytes allowed new shown)

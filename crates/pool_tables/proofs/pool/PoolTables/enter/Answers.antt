@@ -1,0 +1,85 @@
+use Rattle.std.proofs.Common.{◌≡◌, ◌∙◌, ◌==◌, Bool, false, not, List, ap, refl, sym, subst, arith}
+use Rattle.std.specs.Prelude.{◌≤◌}
+use Rattle.std.specs.List.{list_any}
+use Rattle.std.proofs.lemmas.Bool.{false≢true}
+use Rattle.std.proofs.lemmas.List.{map-append}
+use Rattle.std.proofs.lemmas.List.Elements.{All-filter, All-push}
+use Rattle.base.specs.steps.Groups.{Admission}
+use Rattle.base.specs.tree.Syncs.{is_rename}
+use Rattle.extents.specs.Patches.{Patches}
+use Rattle.extents.specs.Synced.{HasRoomForPatches}
+use Rattle.extents.specs.Unsynced.{laid_all}
+use Rattle.groups.specs.CountedLines.{CountedLine, after_release}
+use Rattle.groups.specs.Laws.{AreHoldsExact}
+use Rattle.throttle.proofs.OpenCharges.{stay_charged}
+use Rattle.throttle.specs.Blocks.{AreSumsOn}
+use Rattle.tree_plans.specs.declared.planner.Committed.{Committed}
+use Rattle.pool_tables.specs.Entries.{shown_after_entry}
+use Rattle.pool_tables.specs.Shows.{pool_shown, synced_of}
+use Rattle.pool_tables.proofs.HeldGroups.{counted_release, exact_end, has_hold, line-after_release, may_release}
+use Rattle.pool_tables.proofs.Opens.{IsBuilt, IsSmall}
+use Rattle.pool_tables.proofs.PendingChanges.{changes_entered, entered_behind, kept_oldest, same_plan}
+use Rattle.pool_tables.proofs.SamePlans.{built_names}
+use Rattle.pool_tables.proofs.pool.PoolTables.enter.Goals as goal
+
+pub unreachable-requires : goal.unreachable-requires
+unreachable-requires c =
+    let pool = c.args.self.now in
+    let may = c.requires.may in
+    let held = has_hold pool.transactions.transactions pool.groups c.args.tx.0 may.admission c.args.group.0 pool.accounted.holds_exact c.end.ensures.apart may.found may.group_is in
+    false≢true (sym (may_release pool.groups c.args.group.0 held) ∙ c.in_default.ensures.refused.0 refl)
+
+pub invariant_of-self : goal.invariant_of-self
+invariant_of-self c =
+    let pool = c.args.self.now in
+    let may = c.requires.may in
+    let group = c.args.group.0 in
+    let ops : List _ = c.args.ops in
+    let hold = has_hold pool.transactions.transactions pool.groups c.args.tx.0 may.admission group pool.accounted.holds_exact c.end.ensures.apart may.found may.group_is in
+    let behind = entered_behind pool group hold in
+    let line : c.release.new.self.line ≡ pool.groups.line = ap (λ (l : CountedLine). l.line) c.in-Ok.ensures.released ∙ line-after_release pool.groups pool.accounted.counted group in
+    let p : Admission → Bool = λ (a : Admission). not (a.tx == c.args.tx.0) in
+    record {
+      free_counted = pool.free_counted;
+      import_fits = pool.import_fits;
+      next_ordinal_fits = omega (arith, c.requires.named);
+      accounted = record {
+        counted = rw c.in-Ok.ensures.released (counted_release pool.groups pool.accounted.counted group);
+        holds_exact = subst (AreHoldsExact c.end.new.self.transactions) (sym c.in-Ok.ensures.released)
+            (subst (λ (ts : List Admission). AreHoldsExact ts (after_release group pool.groups)) (sym c.end.ensures.others)
+            (exact_end pool.transactions.transactions pool.groups c.args.tx.0 may.admission group pool.accounted.holds_exact c.end.ensures.apart may.found may.group_is));
+        charged = subst (λ l. AreSumsOn l pool.dirty) (sym line) pool.accounted.charged;
+        open_charged = rw c.end.ensures.others ((stay_charged pool.transactions.transactions pool.dirty pool.accounted.open_charged).ended c.args.tx.0);
+        plans_built = rw c.end.ensures.others (All-filter p IsBuilt pool.transactions.transactions pool.accounted.plans_built);
+        plans_small = rw c.end.ensures.others (All-filter p IsSmall pool.transactions.transactions pool.accounted.plans_small);
+      };
+      running = λ r is. let was = pool.running r is in record {
+        geometry = was.geometry;
+        left = was.left;
+        uberblock = was.uberblock;
+        placed = was.placed;
+        room = subst (λ (patches : Patches). ∥ HasRoomForPatches patches pool.synced.slots.items ∥₁)
+            (sym (kept_oldest pool group hold c.args.place c.apply.new.self c.requires.place r is c.apply.ensures.others)) was.room;
+      };
+      sync_line = pool.sync_line ∙ ap (λ l. l.syncing) (sym line);
+      tree_placed = pool.tree_placed;
+      unsynced = record {
+        built = rw c.push_reserved.ensures.items (All-push (λ (x : Committed). list_any is_rename x.ops ≡ false) pool.pending.items _ pool.unsynced.built (built_names ops c.requires.allowed));
+        open_or_before = rw (line, c.push_reserved.ensures.items) (All-push (λ (x : Committed). x.group.0 ≤ pool.groups.line.open_group) pool.pending.items _ pool.unsynced.open_or_before behind.open_or_before);
+        within = pool.unsynced.within;
+        changed = rw (line, c.push_reserved.ensures.items)
+            (changes_entered pool.groups.line.synced c.args.place pool.pending.items _ pool.changes c.apply.new.self c.requires.place pool.unsynced.changed
+            (rw c.as_slice.ensures at c.apply.ensures.applied) c.apply.ensures.others);
+      };
+    }
+
+pub returns-clause-shown : goal.returns-clause-shown
+returns-clause-shown c =
+    let pool = c.args.self.now in
+    let s = pool_shown pool in
+    let may = c.requires.may in
+    let group = c.args.group.0 in
+    let hold = has_hold pool.transactions.transactions pool.groups c.args.tx.0 may.admission group pool.accounted.holds_exact c.end.ensures.apart may.found may.group_is in
+    let same = same_plan pool c.apply.new.self (λ r is. kept_oldest pool group hold c.args.place c.apply.new.self c.requires.place r is c.apply.ensures.others) in
+    rw (c.end.ensures.others, c.end.ensures.next, c.in-Ok.ensures.released, line-after_release pool.groups pool.accounted.counted group, c.push_reserved.ensures.items, map-append)
+    (λ k. record (shown_after_entry c.args.tx.0 group c.args.ops (laid_all c.apply.new.self (synced_of pool).objects) s) { sync = same k })

@@ -1,0 +1,49 @@
+use Rattle.std.proofs.Common.{◌≡◌, ◌∙◌, ◌≤◌, ap, arith, false, refl, sym}
+use Rattle.std.specs.List.{list_any}
+use Rattle.std.proofs.lemmas.List.Elements.{All-nil}
+use Rattle.base.specs.tree.Syncs.{is_rename}
+use Rattle.groups.specs.CountedLines.{counted_behind}
+use Rattle.tree_plans.specs.declared.planner.Committed.{Committed}
+use Rattle.throttle.specs.Blocks.{blocks_in}
+use Rattle.throttle.proofs.BlockSums.{blocks_of-empty}
+use Rattle.throttle.proofs.ShownSums.{new_sums_are_on_lines}
+use Rattle.object_maps.specs.ContentsShown.{contents_of}
+use Rattle.pool_tables.proofs.Charges.{total-behind}
+use Rattle.pool_tables.proofs.HeldGroups.{counted_new, exact_new}
+use Rattle.pool_tables.proofs.Opens.{IsBuilt, IsSmall}
+use Rattle.pool_tables.proofs.UnsyncedChanges.{first_changes, first_objects}
+use Rattle.pool_tables.proofs.pool.PoolTables.new.Goals as goal
+
+pub invariant_of-result-clause-accounted : goal.invariant_of-result-clause-accounted
+invariant_of-result-clause-accounted c =
+    let group = c.args.mounted.group.0 in
+    rw (c.new-2.ensures, c.new-3.ensures.none, c.new-4.ensures) (record {
+      counted = counted_new group c.args.mounted.group_fits.0 c.args.mounted.group_fits.1;
+      holds_exact = exact_new group;
+      charged = new_sums_are_on_lines (counted_behind group).line c.args.mounted.dirty_max;
+      open_charged = λ other. omega arith;
+      plans_built = All-nil IsBuilt;
+      plans_small = All-nil IsSmall;
+    })
+
+pub invariant_of-result-clause-free_counted : goal.invariant_of-result-clause-free_counted
+invariant_of-result-clause-free_counted c =
+    let idle = c.args.mounted.free_idle in
+    record {
+      sized = c.args.mounted.free_sized;
+      taken = idle.taken;
+      reserved = rw c.new-4.ensures (idle.reserved ∙ sym (ap blocks_in (total-behind c.args.mounted.dirty_max c.args.mounted.group.0)));
+    }
+
+pub invariant_of-result-clause-unsynced : goal.invariant_of-result-clause-unsynced
+invariant_of-result-clause-unsynced c = rw (c.new-2.ensures, c.new-6.ensures.items) (record {
+  built = All-nil (λ (x : Committed). list_any is_rename x.ops ≡ false);
+  open_or_before = All-nil (λ (x : Committed). x.group.0 ≤ (counted_behind c.args.mounted.group.0).line.open_group);
+  within = c.requires;
+  changed = first_changes c.new-5.result c.new-5.ensures c.args.mounted.group.0;
+})
+
+pub returns-clause-shown : goal.returns-clause-shown
+returns-clause-shown c =
+    let objects = first_objects c.new-5.result c.new-5.ensures (contents_of c.args.mounted.contents).objects c.requires in
+    rw (c.new.ensures.none, c.new.ensures.next, c.new-2.ensures, c.new-3.ensures.none, c.new-3.ensures.first, c.new-4.ensures, c.new-6.ensures.items, blocks_of-empty, objects) refl

@@ -1,0 +1,292 @@
+use Rattle.std.proofs.Common.{◌≡◌, ◌∙◌, ◌≤◌, ap, filter, inl, inr, map, nat_lt, sym, subst, refl, true, false, Some, None}
+use Rattle.std.specs.Prelude.{Bool, Option, Result, option_map}
+use Rattle.std.proofs.lemmas.Result.{err_from_is_err_and}
+use Rattle.base.specs.formats.Geometry.{block_count}
+use Rattle.base.specs.tree.PlacedTrees.{ArePlaced}
+use Rattle.base.specs.steps.Shown.{SyncPlan}
+use Rattle.object_maps.specs.Pointers.{pointers_of}
+use Rattle.pool_tables.specs.declared.pool.RunningSync.{RunningSync}
+use Rattle.pool_tables.specs.Shows.{pool_shown, record_of, shown_after_tree}
+use Rattle.pool_tables.proofs.Mapped.{filter-map}
+use Rattle.pool_tables.proofs.UnsyncedChanges.{has_room, open_three, same_contents, synced_changes, synced_within, syncing_follows}
+use Rattle.extents.specs.Unsynced.{changes_at}
+use Rattle.base.specs.formats.Records.{Record}
+use Rattle.base.specs.tree.Syncs.{is_rename}
+use Rattle.tree_plans.specs.declared.planner.Committed.{Committed}
+use Rattle.std.specs.List.{list_any}
+use Rattle.std.proofs.lemmas.List.Elements.{All-filter}
+use Rattle.pool_tables.proofs.syncs.SameSyncs.{RunsIn, as_many, counted_still, kept_sync, left_as_before, more_left, one_left, one_less, refused_as, runs_on}
+use Rattle.base.specs.disk.Disk.{bytes_of}
+use Rattle.base.specs.declared.step.Reply.TheVariants as reply
+use Rattle.groups.specs.CountedLines.{CountedLine, after_sync, line_after_sync}
+use Rattle.std.specs.FinMap as finite
+use Rattle.throttle.proofs.BlockSums.{blocks_of-remove}
+use Rattle.throttle.specs.Blocks.{AreOpenOnesCharged, AreSumsOn}
+use Rattle.pool_tables.proofs.Charges.{synced_charged, synced_open_charged, syncing_next}
+use Rattle.pool_tables.proofs.HeldGroups.{counted_sync, exact_moves, of_group}
+use Rattle.base.specs.declared.error.PoolError.{PoolError}
+use Rattle.pool_tables.specs.declared.pool.Progress.{Progress}
+use Rattle.pool_tables.specs.Told.{SamePlaces, pool_told, made_by, sync_step_reply, tree_after}
+use Rattle.pool_tables.proofs.StillSteps.{leads_as, still_pool}
+use Rattle.pool_tables.proofs.syncs.SyncLeads.{advanced, failed_call, failed_running, planned_still, synced_told, was_planned, was_running, was_syncing}
+use Rattle.pool_tables.proofs.syncs.SyncSteps.{step_failed, step_more, step_not_ready, step_suspended, step_synced}
+use Rattle.pool_tables.proofs.pool.PoolTables.sync_step.Goals as goal
+
+pub returns-in_err-check_running-clause-step : goal.returns-in_err-check_running-clause-step
+returns-in_err-check_running-clause-step g c =
+    let p = err_from_is_err_and c.from_residual.result c.from_residual.ensures.1 in
+    let told = c.in_err-check_running.ensures in
+    rw (p.1, p.2, told.0) (step_suspended (pool_shown c.args.self.now) told.1)
+
+pub returns-in_default-clause-step : goal.returns-in_default-clause-step
+returns-in_default-clause-step g c =
+    let pool = c.args.self.now in
+    let s = pool_shown pool in
+    let none : pool.sync ≡ None = c.in_default.is in
+    let idle = sym pool.sync_line ∙ ap (λ (o : Option RunningSync). option_map (λ (r : RunningSync). r.group.0) o) none in
+    step_not_ready s s c.in_ok-check_running.ensures idle refl
+
+pub next-requires-clause-sized : goal.next-requires-clause-sized
+next-requires-clause-sized g c =
+    let was = c.args.self.now.running c.in-Some.running c.in-Some.is in
+    c.requires ∙ sym was.geometry
+
+pub finish_tree-requires-clause-placed : goal.finish_tree-requires-clause-placed
+finish_tree-requires-clause-placed g c =
+    let pool = c.args.self.now in
+    let same = kept_sync c.in-Some-take.synced _ c.in-Some-take.ensures.value in
+    subst (λ (r : RunningSync). ∥ ArePlaced (block_count pool.geometry) (tree_after r pool.tree) ∥₁) (sym same) ((pool.running c.in-Some.running c.in-Some.is).placed)
+
+pub end_charges-requires-clause-next : goal.end_charges-requires-clause-next
+end_charges-requires-clause-next g c =
+    let pool = c.args.self.now in
+    let same = kept_sync c.in-Some-take.synced _ c.in-Some-take.ensures.value in
+    syncing_next pool c.in-Some-take.synced.group.0 (was_syncing pool c.in-Some.running c.in-Some.is ∙ ap (λ (r : RunningSync). Some r.group.0) (sym same))
+
+pub invariant_of-self-in-Ok-Last-clause-accounted : goal.invariant_of-self-in-Ok-Last-clause-accounted
+invariant_of-self-in-Ok-Last-clause-accounted g c =
+    let pool = c.args.self.now in
+    let group = c.in-Some-take.synced.group.0 in
+    let same = kept_sync c.in-Some-take.synced _ c.in-Some-take.ensures.value in
+    let was = was_syncing pool c.in-Some.running c.in-Some.is ∙ ap (λ (r : RunningSync). Some r.group.0) (sym same) in
+    let finished : c.finish_sync.new.self ≡ after_sync group pool.groups =
+    of_group (λ n. after_sync n pool.groups) pool.groups.line.syncing group _ was c.in-Ok.ensures.group c.in-Ok.ensures.synced in
+    record {
+      counted = rw finished (counted_sync pool.groups pool.accounted.counted group was);
+      holds_exact = rw finished ((exact_moves pool.transactions.transactions pool.groups pool.accounted.counted pool.accounted.holds_exact).sync group);
+      charged = subst (λ (l : CountedLine). AreSumsOn l.line c.end_charges.new.dirty) (sym finished)
+          (subst (AreSumsOn (line_after_sync group pool.groups.line)) (sym c.end_charges.ensures.dirty) (synced_charged pool group));
+      open_charged = subst (AreOpenOnesCharged pool.transactions.transactions) (sym c.end_charges.ensures.dirty) (synced_open_charged pool group was);
+      plans_built = pool.accounted.plans_built;
+      plans_small = pool.accounted.plans_small;
+    }
+
+pub lay_oldest-requires : goal.lay_oldest-requires
+lay_oldest-requires g c =
+    let pool = c.args.self.now in
+    has_room (changes_at pool.changes 0) pool.synced.slots.items ((pool.running c.in-Some.running c.in-Some.is).room)
+
+pub invariant_of-self-in-Ok-Last-clause-unsynced : goal.invariant_of-self-in-Ok-Last-clause-unsynced
+invariant_of-self-in-Ok-Last-clause-unsynced g c =
+    let pool = c.args.self.now in
+    let group = c.in-Some-take.synced.group.0 in
+    let same = kept_sync c.in-Some-take.synced _ c.in-Some-take.ensures.value in
+    let syncing = was_syncing pool c.in-Some.running c.in-Some.is ∙ ap (λ (r : RunningSync). Some r.group.0) (sym same) in
+    let finished : c.finish_sync.new.self ≡ after_sync group pool.groups =
+    of_group (λ n. after_sync n pool.groups) pool.groups.line.syncing group _ syncing c.in-Ok.ensures.group c.in-Ok.ensures.synced in
+    let later : Committed → Bool = λ (x : Committed). nat_lt group x.group.0 in
+    rw (finished, c.drop_synced.ensures) (record {
+      built = All-filter later (λ (x : Committed). list_any is_rename x.ops ≡ false) pool.pending.items pool.unsynced.built;
+      open_or_before = All-filter later (λ (x : Committed). x.group.0 ≤ pool.groups.line.open_group) pool.pending.items pool.unsynced.open_or_before;
+      within = synced_within pool.changes pool.synced c.lay_oldest.new.synced c.lay_oldest.ensures.contents pool.unsynced.within;
+      changed = synced_changes pool.groups.line.synced group pool.pending.items pool.changes c.lay_oldest.new.changes (syncing_follows pool.groups.line group pool.accounted.counted.line syncing)
+          pool.unsynced.changed (open_three pool.groups.line pool.pending.items pool.accounted.counted.line pool.unsynced.open_or_before) c.lay_oldest.ensures.changes;
+    })
+
+pub invariant_of-self-in-Ok-More-clause-free_counted : goal.invariant_of-self-in-Ok-More-clause-free_counted
+invariant_of-self-in-Ok-More-clause-free_counted g c = counted_still c.args.self.now c.in-Some.running c.next.new.self c.in-Ok-More.ensures.counts.same c.in-Some.is
+
+pub invariant_of-self-in-Ok-More-clause-running : goal.invariant_of-self-in-Ok-More-clause-running
+invariant_of-self-in-Ok-More-clause-running g c =
+    let pool = c.args.self.now in
+    let r = c.in-Some.running in
+    let was = pool.running r c.in-Some.is in
+    let counts = c.in-Ok-More.ensures.counts in
+    let left = (more_left r.run c.next.new.self counts.same counts.done was.left (λ e. let other = sym c.in-Ok-More.field-0-is ∙ counts.last.1 e in cc)).1 in
+    λ x e. subst (RunsIn pool) (kept_sync _ x e) (runs_on pool r c.next.new.self counts.same left was)
+
+pub invariant_of-self-in-Ok-More-clause-sync_line : goal.invariant_of-self-in-Ok-More-clause-sync_line
+invariant_of-self-in-Ok-More-clause-sync_line g c = sym (was_syncing c.args.self.now c.in-Some.running c.in-Some.is)
+
+pub invariant_of-self-in-Err-clause-free_counted : goal.invariant_of-self-in-Err-clause-free_counted
+invariant_of-self-in-Err-clause-free_counted g c = counted_still c.args.self.now c.in-Some.running c.next.new.self c.in-Err.ensures.counts.same c.in-Some.is
+
+pub invariant_of-self-in-Err-clause-running : goal.invariant_of-self-in-Err-clause-running
+invariant_of-self-in-Err-clause-running g c =
+    let pool = c.args.self.now in
+    let r = c.in-Some.running in
+    let was = pool.running r c.in-Some.is in
+    let counts = c.in-Err.ensures.counts in
+    let left = left_as_before r.run c.next.new.self counts.same counts.done was.left in
+    λ x e. subst (RunsIn pool) (kept_sync _ x e) (runs_on pool r c.next.new.self counts.same left was)
+
+pub invariant_of-self-in-Err-clause-sync_line : goal.invariant_of-self-in-Err-clause-sync_line
+invariant_of-self-in-Err-clause-sync_line g c = sym (was_syncing c.args.self.now c.in-Some.running c.in-Some.is)
+
+pub returns-in-Ok-clause-step : goal.returns-in-Ok-clause-step
+returns-in-Ok-clause-step g c =
+    let pool = c.args.self.now in
+    let s = pool_shown pool in
+    let is = c.in-Some.is in
+    let told = c.in-Ok-Last.ensures in
+    let syncing = was_syncing pool c.in-Some.running is in
+    let same = kept_sync c.in-Some-take.synced _ c.in-Some-take.ensures.value in
+    let finished : c.finish_sync.new.self ≡ after_sync c.in-Some-take.synced.group.0 pool.groups =
+    of_group (λ n. after_sync n pool.groups) pool.groups.line.syncing c.in-Some-take.synced.group.0 _ (syncing ∙ ap (λ (r : RunningSync). Some r.group.0) (sym same)) c.in-Ok.ensures.group c.in-Ok.ensures.synced in
+    let pending = ap (map record_of) c.drop_synced.ensures ∙ sym (filter-map (λ (x : Record). nat_lt c.in-Some-take.synced.group.0 x.group) record_of pool.pending.items)
+    ∙ (λ k. filter (λ (x : Record). nat_lt (same k).group.0 x.group) s.log.pending) in
+    let contents = same_contents pool.changes pool.synced c.lay_oldest.new.synced c.lay_oldest.ensures.contents c.lay_oldest.new.changes c.lay_oldest.ensures.changes in
+    step_synced s _ c.in-Some.running.group.0 c.in-Some-take.synced.group.0 _ c.in_ok-check_running.ensures syncing (was_planned pool c.in-Some.running is)
+    (one_left c.in-Some.running.run c.next.new.self told.counts.same told.counts.done (told.counts.last.0 c.in-Ok-Last.field-0-is)) (ap (λ (r : RunningSync). r.group.0) same) refl
+    (c.finish_tree.ensures.shown ∙ rw (finished, c.take.ensures.after, c.end_charges.ensures.dirty, c.end_charges.ensures.free, blocks_of-remove)
+    (λ k. shown_after_tree (same k) pool.tree (record s {
+      line = line_after_sync (same k).group.0 s.line;
+      dirty = finite.remove s.dirty (same k).group.0;
+      reserved = finite.remove s.reserved (same k).group.0;
+      contents = contents k;
+      log = record s.log { pending = pending k };
+      synced_contents = c.lay_oldest.ensures.contents k;
+      sync = None;
+    })))
+
+pub returns-in-Ok-More-clause-step : goal.returns-in-Ok-More-clause-step
+returns-in-Ok-More-clause-step g c =
+    let pool = c.args.self.now in
+    let r = c.in-Some.running in
+    let is = c.in-Some.is in
+    let counts = c.in-Ok-More.ensures.counts in
+    let left = more_left r.run c.next.new.self counts.same counts.done (pool.running r is).left (λ e. let other = sym c.in-Ok-More.field-0-is ∙ counts.last.1 e in cc) in
+    let planned = planned_still pool r c.next.new.self counts.same _ (one_less r.run c.next.new.self counts.same counts.done) in
+    step_more (pool_shown pool) _ r.group.0 _ c.in_ok-check_running.ensures (was_syncing pool r is) (was_planned pool r is) left.0 (λ k. record (pool_shown pool) { sync = Some (planned k) })
+
+pub returns-in-Err-clause-step : goal.returns-in-Err-clause-step
+returns-in-Err-clause-step g c =
+    let pool = c.args.self.now in
+    let r = c.in-Some.running in
+    let told = c.in-Err.ensures in
+    let planned = planned_still pool r c.next.new.self told.counts.same _ (as_many r.run c.next.new.self told.counts.same told.counts.done) in
+    let same = ap (λ (q : SyncPlan). Some q) planned ∙ sym (was_planned pool r c.in-Some.is) in
+    step_failed (pool_shown pool) _ r.group.0 c.in-Err.error c.in_ok-check_running.ensures (was_syncing pool r c.in-Some.is) (refused_as told.called.call c.in-Err.error told.called.refusal)
+    (λ k. record (pool_shown pool) { suspended = true; sync = same k })
+
+pub returns-in_err-check_running-clause-leads : goal.returns-in_err-check_running-clause-leads
+returns-in_err-check_running-clause-leads g c = λ keeps.
+    let p = err_from_is_err_and c.from_residual.result c.from_residual.ensures.1 in
+    still_pool (sync_step_reply c.from_residual.result) p.0 (bytes_of (g.D.SectorDevice.disk c.args.device.now).now) c.args.self.now (ap (λ (r : Result Progress PoolError). sync_step_reply r) p.1)
+
+pub returns-in_default-clause-leads : goal.returns-in_default-clause-leads
+returns-in_default-clause-leads g c = λ keeps past later. (refl, refl, refl)
+
+pub returns-in-Ok-clause-leads : goal.returns-in-Ok-clause-leads
+returns-in-Ok-clause-leads g c = λ keeps.
+    let pool = c.args.self.now in
+    let is = c.in-Some.is in
+    let was = pool.running c.in-Some.running is in
+    let told = c.in-Ok-Last.ensures in
+    let same = kept_sync c.in-Some-take.synced _ c.in-Some-take.ensures.value in
+    let sized = g.met.D.SectorDevice.sized keeps c.args.device.now ∙ c.requires in
+    leads_as (reply.Synced c.in-Some.running.group) (reply.Synced c.in-Some-take.synced.group) (pool_told pool (bytes_of (g.D.SectorDevice.disk c.args.device.now).now))
+    (pool_told c.finish_tree.new.self (bytes_of (g.D.SectorDevice.disk c.next.new.device).now)) (ap (λ (r : RunningSync). reply.Synced r.group) (sym same))
+    (synced_told pool c.in-Some.running c.next.new.self (g.D.SectorDevice.disk c.args.device.now) (g.D.SectorDevice.disk c.next.new.device) is told.counts.same sized was.geometry told.called.call told.called.next
+    c.finish_tree.new.self told.counts.done (told.counts.last.0 c.in-Ok-Last.field-0-is) (told.called.made keeps) (c.finish_tree.ensures.sync ∙ c.take.ensures.after)
+    (subst (λ (r : RunningSync). SamePlaces (pointers_of c.finish_tree.new.self.tree) (tree_after r pool.tree)) same c.finish_tree.ensures.pointers))
+
+pub returns-in-Ok-More-clause-leads : goal.returns-in-Ok-More-clause-leads
+returns-in-Ok-More-clause-leads g c = λ keeps past later.
+    let pool = c.args.self.now in
+    let r = c.in-Some.running in
+    let is = c.in-Some.is in
+    let size = (pool.running r is).geometry in
+    let told = c.in-Ok-More.ensures in
+    let sized = g.met.D.SectorDevice.sized keeps c.args.device.now ∙ c.requires in
+    let before = g.D.SectorDevice.disk c.args.device.now in
+    let after = g.D.SectorDevice.disk c.next.new.device in
+    let advances = advanced pool r c.next.new.self before after is told.counts.same sized size told.called.call told.called.next told.counts.done (told.called.made keeps) in
+    (made_by (tree_after r pool.tree) c.next.new.self, record { before = made_by (tree_after r pool.tree) r.run; running = was_running pool r is; group = r.group.0; syncing = was_syncing pool r is; advances = advances }, refl, refl)
+
+pub returns-in-Err-clause-leads : goal.returns-in-Err-clause-leads
+returns-in-Err-clause-leads g c = λ keeps past later.
+    let pool = c.args.self.now in
+    let r = c.in-Some.running in
+    let is = c.in-Some.is in
+    let told = c.in-Err.ensures in
+    let before = g.D.SectorDevice.disk c.args.device.now in
+    let after = g.D.SectorDevice.disk c.next.new.device in
+    (failed_call r.run told.called.call c.in-Err.error before after (told.called.made keeps), refl, failed_running pool r c.next.new.self is told.counts.same told.counts.done)
+
+pub returns-in_err-check_running-clause-phases : goal.returns-in_err-check_running-clause-phases
+returns-in_err-check_running-clause-phases g c = λ keeps. let p = err_from_is_err_and c.from_residual.result c.from_residual.ensures.1 in rw (p.1) (inl (refl, refl))
+
+pub returns-in_default-clause-phases : goal.returns-in_default-clause-phases
+returns-in_default-clause-phases g c = λ keeps. inl (refl, refl)
+
+pub returns-in-Ok-clause-phases : goal.returns-in-Ok-clause-phases
+returns-in-Ok-clause-phases g c = λ keeps.
+    let told = c.in-Ok-Last.ensures in (
+      c.in-Some.running.run,
+      c.next.new.self,
+      ap (λ (o : Option RunningSync). option_map (λ (r : RunningSync). r.run) o) c.in-Some.is,
+      ap (λ (o : Option RunningSync). option_map (λ (r : RunningSync). r.run) o) (c.finish_tree.ensures.sync ∙ c.take.ensures.after),
+      told.counts.last.0 c.in-Ok-Last.field-0-is,
+      record { same = told.counts.same; written = told.written keeps; phases = told.phases keeps },
+    )
+
+pub returns-in-Ok-More-clause-phases : goal.returns-in-Ok-More-clause-phases
+returns-in-Ok-More-clause-phases g c = λ keeps.
+    let told = c.in-Ok-More.ensures in (
+      c.in-Some.running.run,
+      c.next.new.self,
+      ap (λ (o : Option RunningSync). option_map (λ (r : RunningSync). r.run) o) c.in-Some.is,
+      refl,
+      record { same = told.counts.same; written = told.written keeps; phases = told.phases keeps },
+    )
+
+pub returns-in-Err-clause-phases : goal.returns-in-Err-clause-phases
+returns-in-Err-clause-phases g c = λ keeps.
+    let told = c.in-Err.ensures in
+    inr (
+      c.in-Some.running.run,
+      c.next.new.self,
+      ap (λ (o : Option RunningSync). option_map (λ (r : RunningSync). r.run) o) c.in-Some.is,
+      refl,
+      record { same = told.counts.same; written = told.written keeps; phases = told.phases keeps },
+    )
+
+pub returns-in_err-check_running-clause-called : goal.returns-in_err-check_running-clause-called
+returns-in_err-check_running-clause-called g c = rw c.in_err-check_running.ensures.1 refl
+
+pub returns-in_default-clause-called : goal.returns-in_default-clause-called
+returns-in_default-clause-called g c = rw (c.in_ok-check_running.ensures, c.in_default.is) refl
+
+pub returns-in-Ok-clause-called : goal.returns-in-Ok-clause-called
+returns-in-Ok-clause-called g c =
+    let told = c.in-Ok-Last.ensures in
+    rw (c.in_ok-check_running.ensures, c.in-Some.is)
+    (record { call = told.called.call; next = told.called.next; refusal = tt; made = λ keeps. told.called.made keeps })
+
+pub returns-in-Ok-More-clause-called : goal.returns-in-Ok-More-clause-called
+returns-in-Ok-More-clause-called g c =
+    let told = c.in-Ok-More.ensures in
+    rw (c.in_ok-check_running.ensures, c.in-Some.is)
+    (record { call = told.called.call; next = told.called.next; refusal = tt; made = λ keeps. told.called.made keeps })
+
+pub returns-in-Err-clause-called : goal.returns-in-Err-clause-called
+returns-in-Err-clause-called g c =
+    let told = c.in-Err.ensures in
+    rw (c.in_ok-check_running.ensures, c.in-Some.is)
+    (record { call = told.called.call; next = told.called.next; refusal = told.called.refusal; made = λ keeps. told.called.made keeps })
+
+pub returns-in_err-check_running-clause-count : goal.returns-in_err-check_running-clause-count
+returns-in_err-check_running-clause-count g c =
+    let p = err_from_is_err_and c.from_residual.result c.from_residual.ensures.1 in
+    rw (p.1, p.2, c.in_err-check_running.ensures.0) refl

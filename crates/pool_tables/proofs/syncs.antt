@@ -1,0 +1,10 @@
+pub mod SameSyncs
+pub mod SyncLeads
+pub mod PlannedGroups
+pub mod PlannedContents
+pub mod PlannedCounts
+pub mod StartLeads
+pub mod Starts
+pub mod StartedSyncs
+pub mod SyncSteps
+pub mod PlannedPointers

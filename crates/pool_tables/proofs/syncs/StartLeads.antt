@@ -1,0 +1,164 @@
+-- The start of a sync, with what is planned of its tree.
+use Rattle.std.proofs.Common.{◌≡◌, ◌<◌, ◌≤◌, ◌+◌, ℕ, true, false, arith, List, [], ◌∷◌, length, map, refl, ap, sym, subst, ◌∙◌}
+use Rattle.std.specs.Prelude.{Option, Some, None, is_some, option_map, slice_get}
+use Rattle.std.specs.BTreeMap.{BTreeMap}
+use Rattle.std.specs.FinMap.{FinMap}
+use Rattle.std.specs.Global.{Vec}
+use Rattle.std.specs.Option.{option_map_or}
+use Rattle.std.specs.Ordering.{nat_cmp}
+use Rattle.std.proofs.lemmas.List.{length-map}
+use Rattle.base.specs.common.Rising.{rising}
+use Rattle.base.specs.declared.names.ObjectId.{ObjectId}
+use Rattle.base.specs.declared.pointer.Pointer.{Pointer}
+use Rattle.base.specs.history.Contents.{Contents}
+use Rattle.base.specs.history.Past.{Past}
+use Rattle.base.specs.history.Plans.{estimate_of, shape_of}
+use Rattle.base.specs.steps.ExactNow.{IsExplainedNow}
+use Rattle.base.specs.tree.Places.{Place, has_block}
+use Rattle.base.specs.tree.PlannedTrees.{AreFreed, NewBlock}
+use Rattle.base.specs.steps.Shown.{SyncPlan}
+use Rattle.base.specs.steps.Steps.{AreLengthsOf, TakesForEach, ops_of_group}
+use Rattle.base.specs.stored.Stored.{AreUsed, IsHeld, IsPlannedSync, frame_at}
+use Rattle.base.specs.tree.Syncs.{written_places}
+use Rattle.base.proofs.steps.KeptGroups.{none_there, quiesced_is}
+use Rattle.base.proofs.steps.WaitingGroups.{next-group}
+use Rattle.object_maps.specs.declared.tree.ObjectMap.{ObjectMap}
+use Rattle.object_maps.specs.declared.tree.Tree.{Tree}
+use Rattle.extents.specs.declared.extents.Extents.{Extents}
+use Rattle.extents.specs.Patches.{ArePatchesOf, laid_over, no_patch}
+use Rattle.extents.specs.Synced.{patched_contents}
+use Rattle.extents.specs.Tables.{patches_of}
+use Rattle.extents.specs.Unsynced.{changes_at, extents_at, laid_all}
+use Rattle.object_maps.specs.Pointers.{pointers_of}
+use Rattle.space.proofs.FreeLists.{length-rising}
+use Rattle.tree_plans.specs.declared.planner.PlannedBlock.{PlannedBlock}
+use Rattle.tree_plans.specs.Changes.{AreBornBefore}
+use Rattle.tree_plans.specs.Marks.{pending_ops}
+use Rattle.tree_plans.specs.Plans.{address_of, new_block}
+use Rattle.pool_tables.specs.declared.pool.PoolTables.{PoolTables}
+use Rattle.pool_tables.specs.declared.pool.RunningSync.{RunningSync}
+use Rattle.pool_tables.specs.GroupPlans.{HasGroupLengths, IsPlannedGroup, IsShortOfBlocks}
+use Rattle.pool_tables.specs.Told.{Told, held_with, new_tree_of, pool_told}
+use Rattle.pool_tables.specs.Lines.{MayStart}
+use Rattle.pool_tables.specs.Pointers.{lengths_after, pointers_after}
+use Rattle.pool_tables.specs.Shows.{contents_after_oldest, new_plan, plan_of, pool_shown, synced_of}
+use Rattle.pool_tables.proofs.Flags.{is_some-map}
+use Rattle.pool_tables.proofs.syncs.SameSyncs.{taken_count}
+use Rattle.pool_tables.proofs.syncs.PlannedContents.{LeadsTo, changes_lead, next_above}
+use Rattle.pool_tables.proofs.syncs.PlannedCounts.{enough_blocks, taken_fit, takes_for_each, takes_in_order}
+use Rattle.pool_tables.proofs.syncs.PlannedGroups.{lengths_told, planned_sync}
+
+-- the addresses of blocks as they are written
+pub addresses_are : (blocks : List PlannedBlock) → map (λ (b : NewBlock). b.address) (map new_block blocks) ≡ map address_of blocks
+addresses_are [] = refl
+addresses_are (b ∷ blocks) = ap (λ (l : List ℕ). address_of b ∷ l) (addresses_are blocks)
+
+-- a sync that has made no call yet
+pub nothing_made : (tree : Tree) (r : RunningSync) (root : Pointer) (directories : Vec Pointer) (maps : BTreeMap ObjectId ObjectMap) (blocks : Vec PlannedBlock) → r.root ≡ root → r.directories ≡ directories → r.maps ≡ maps
+    → r.run.blocks ≡ blocks → r.run.done ≡ 0 → new_tree_of tree r ≡ record { pointers = pointers_after root directories.items maps tree; blocks = map new_block blocks.items; slot = r.run.uberblock; done = 0 }
+nothing_made tree r root directories maps blocks root_is directories_are maps_are blocks_are none =
+    λ k. record { pointers = pointers_after (root_is k) (directories_are k).items (maps_are k) tree; blocks = map new_block (blocks_are k).items; slot = r.run.uberblock; done = none k }
+
+-- the blocks that it writes are those of its plan
+pub blocks_kept : (r : RunningSync) (planned : Vec PlannedBlock) (told : List PlannedBlock) → r.run.blocks ≡ planned → told ≡ r.run.blocks.items → told ≡ planned.items
+blocks_kept r planned told kept is = is ∙ ap (λ (v : Vec PlannedBlock). v.items) kept
+
+-- where no sync runs none is counted as taken, so those that it takes are all
+pub none_counted : (pool : PoolTables) → is_some pool.groups.line.syncing ≡ false → pool.free.taken ≡ 0
+none_counted pool idle =
+    pool.free_counted.taken ∙ ap taken_count (none_there pool.sync (sym (is_some-map (λ (r : RunningSync). r.group.0) pool.sync) ∙ ap (λ (o : Option ℕ). is_some o) pool.sync_line ∙ idle))
+
+pub taken_anew : (pool : PoolTables) (blocks : List PlannedBlock) → is_some pool.groups.line.syncing ≡ false → pool.free.taken + length (map address_of blocks) ≡ length blocks
+taken_anew pool blocks idle = omega (arith, none_counted pool idle, length-map blocks address_of)
+
+-- what is told of a pool with these synced contents
+abbrev pub told_with : Contents → PoolTables → List ℕ → Told
+told_with synced pool now = record (pool_told pool now) {
+  shown = record (pool_shown pool) {
+    contents = record { name = synced.name; objects = laid_all pool.changes synced.objects };
+    synced_contents = synced;
+    sync = option_map (plan_of pool.log_address pool.tree (patched_contents (changes_at pool.changes 0) synced)) pool.sync;
+  };
+}
+
+-- with the same contents it is the same
+pub same_told : (pool : PoolTables) {synced : Contents} → synced ≡ synced_of pool → (λ (now : List ℕ). told_with synced pool now) ≡ pool_told pool
+same_told pool same = λ k now. told_with (same k) pool now
+
+-- what the oldest changes, laid over the synced objects, stand for
+pub laid_oldest : (pool : PoolTables) (oldest : Extents) {objects : FinMap nat_cmp (List ℕ)} → Some oldest ≡ extents_at pool.changes 0 → objects ≡ laid_over (patches_of oldest) (synced_of pool).objects
+    → objects ≡ (contents_after_oldest pool).objects
+laid_oldest pool oldest is laid = laid ∙ ap (λ (e : Option Extents). laid_over (option_map_or patches_of e (λ _. no_patch)) (synced_of pool).objects) is
+
+-- What a past that explains a pool says of a group whose sync may start.
+module _ (past : Past) (pool : PoolTables) (group : ℕ) (may : MayStart group pool.groups.line) (explained : IsExplainedNow (pool_shown pool) past) where
+  idle : pool.groups.line.syncing ≡ None
+  idle = none_there pool.groups.line.syncing may.1
+
+  middle : pool.groups.line.middle ≡ Some (record { group = group; quiesced = true })
+  middle = quiesced_is pool.groups.line group may.0
+
+  pub group_above : pool.groups.line.synced < group
+  group_above = next_above (pool_shown pool) past explained group idle middle refl pool.pending.items refl
+
+  -- the oldest changes are those of its pending operations
+  oldest_changes : ArePatchesOf (pending_ops group pool.pending.items) (changes_at pool.changes 0)
+  oldest_changes =
+      let next : group ≡ pool.groups.line.synced + 1 = next-group (pool_shown pool) past explained group idle middle in
+      let same : pool.groups.line.synced + 1 + 0 ≡ group = omega (arith, next) in
+      subst (λ (g : ℕ). ArePatchesOf (pending_ops g pool.pending.items) (changes_at pool.changes 0)) same (pool.unsynced.changed 0 (omega arith))
+
+  -- so its operations lead to what they make of the synced contents
+  pub oldest_leads : LeadsTo (pool_shown pool) past group pool.pending.items (contents_after_oldest pool)
+  oldest_leads = changes_lead (pool_shown pool) past explained group idle middle refl pool.pending.items refl (changes_at pool.changes 0) oldest_changes
+
+  -- Whatever the device holds: it takes no more blocks than its operations are estimated at.
+  pub group_fits : (blocks : List PlannedBlock) (new : Place → Pointer)
+      → IsPlannedGroup group pool.pending.items pool.tree.maps.items (frame_at (pool_shown pool) group) (pointers_of pool.tree) new (map new_block blocks) (contents_after_oldest pool).objects
+      → length (map address_of blocks) ≤ estimate_of (map shape_of (ops_of_group group past.entries))
+  group_fits blocks new planned =
+      let fits = taken_fit (pool_shown pool) past explained group group_above refl pool.pending.items refl (contents_after_oldest pool) oldest_leads.leads pool.tree.maps.items (λ n. refl) (pointers_of pool.tree)
+      new (map new_block blocks) planned in
+      subst (λ (n : ℕ). n ≤ estimate_of (map shape_of (ops_of_group group past.entries))) (length-map blocks new_block ∙ sym (length-map blocks address_of)) fits
+
+  -- its lengths are those after the group
+  pub group_lengths : (new : ℕ → Option ℕ) → HasGroupLengths group pool.pending.items pool.tree.maps.items new (contents_after_oldest pool).objects → AreLengthsOf (contents_after_oldest pool) new
+  group_lengths new = lengths_told (pool_shown pool) past explained group group_above refl pool.pending.items refl (contents_after_oldest pool) oldest_leads.leads pool.tree.maps.items (λ n. refl) new
+
+  -- and its plan is not short of blocks
+  pub never_short : IsShortOfBlocks group pool.pending.items pool.tree.maps.items (pointers_of pool.tree) (contents_after_oldest pool).objects (rising pool.free.free) → ⊥
+  never_short short =
+      enough_blocks (pool_shown pool) past explained group group_above refl pool.pending.items refl (contents_after_oldest pool) oldest_leads.leads pool.tree.maps.items (λ n. refl) (pointers_of pool.tree)
+      idle may.0 (rising pool.free.free) (length-rising pool.free.free) short
+
+-- What a device holds: a plan of the group is what a start of its sync asks, with each past.
+module _ (now : List ℕ) (past : Past) (pool : PoolTables) (group moment : ℕ) (blocks : List PlannedBlock) (freed : List ℕ) (root : Pointer) (directories : List Pointer) (maps : BTreeMap ObjectId ObjectMap)
+    (may : MayStart group pool.groups.line)
+    (planned : IsPlannedGroup group pool.pending.items pool.tree.maps.items (frame_at (pool_shown pool) group) (pointers_of pool.tree) (pointers_after root directories maps pool.tree) (map new_block blocks) (contents_after_oldest pool).objects)
+    (x : IsHeld (held_with (pool_told pool now) past)) where
+  abbrev pub plan : SyncPlan
+  plan = new_plan moment pool.log_address (map address_of blocks) freed root (contents_after_oldest pool) (lengths_after maps pool.tree)
+
+  above : pool.groups.line.synced < group
+  above = group_above past pool group may x.explained
+
+  to : LeadsTo (pool_shown pool) past group pool.pending.items (contents_after_oldest pool)
+  to = oldest_leads past pool group may x.explained
+
+  pub group_planned : (AreBornBefore group (pointers_of pool.tree) → AreFreed (pointers_of pool.tree) (pointers_after root directories maps pool.tree) freed)
+      → AreUsed (map new_block blocks) (pointers_after root directories maps pool.tree) → ((i : ℕ) (b : NewBlock) → slice_get (map new_block blocks) i ≡ Some b → length b.content ≡ 4096)
+      → IsPlannedSync (frame_at (pool_shown pool) group) (pointers_of pool.tree) (pointers_after root directories maps pool.tree) (map new_block blocks) x.kept.stored.synced.objects (contents_after_oldest pool).objects plan
+  group_planned freed_are used whole =
+      planned_sync now (pool_shown pool) past (pointers_of pool.tree) x.kept.stored x.explained group above pool.pending.items refl (contents_after_oldest pool) to.leads to.bounded pool.tree.maps.items (λ n. refl)
+      (pointers_after root directories maps pool.tree) (map new_block blocks) plan planned (addresses_are blocks) whole freed_are used refl
+
+  -- what it takes is what its tree has at the places that it writes, in order
+  pub group_takes : map (λ (place : Place). (pointers_after root directories maps pool.tree place).address) (written_places (ops_of_group group past.entries) (synced_of pool) (has_block now (pool_shown pool).root)) ≡ plan.taken
+  group_takes =
+      takes_in_order now (pool_shown pool) past (pointers_of pool.tree) x.kept.stored x.explained group above pool.pending.items refl (contents_after_oldest pool) to.leads pool.tree.maps.items (λ n. refl)
+      (pointers_after root directories maps pool.tree) (map new_block blocks) plan planned (addresses_are blocks)
+
+  pub group_takes_each : TakesForEach now (record { shown = pool_shown pool; past = past }) group plan
+  group_takes_each =
+      takes_for_each now (pool_shown pool) past (pointers_of pool.tree) x.kept.stored x.explained group above pool.pending.items refl (contents_after_oldest pool) to.leads pool.tree.maps.items (λ n. refl)
+      (pointers_after root directories maps pool.tree) (map new_block blocks) plan planned (addresses_are blocks)

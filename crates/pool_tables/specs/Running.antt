@@ -1,0 +1,22 @@
+-- What is known of a sync while it runs.
+use Rattle.std.specs.Prelude.{ℕ, ◌≡◌, ◌<◌, List}
+use Rattle.base.specs.declared.pointer.Pointer.{Pointer}
+use Rattle.base.specs.formats.Geometry.{block_count}
+use Rattle.base.specs.formats.Uberblocks.{Uberblock}
+use Rattle.base.specs.tree.PlacedTrees.{ArePlaced}
+use Rattle.base.specs.tree.Places.{Place}
+use Rattle.extents.specs.Patches.{Patches}
+use Rattle.extents.specs.Synced.{HasRoomForPatches}
+use Rattle.object_maps.specs.declared.contents.Slot.{Slot}
+use Rattle.sync.specs.Runs.{call_count}
+use Rattle.sync.specs.declared.run.SyncRun.{SyncRun}
+use Rattle.pool_tables.specs.RunningUberblocks.{WritesUberblock}
+
+-- It has calls left, on a device of this size. It writes this uberblock, and its tree has these pointers. For its group's changes there is room in
+-- the synced objects.
+pub record IsRunning (size : ℕ) (u : Uberblock) (pointers : Place → Pointer) (patches : Patches) (slots : List Slot) (run : SyncRun) : Type 0 where
+  pub geometry : run.geometry ≡ size
+  pub left : run.done < call_count run
+  pub uberblock : WritesUberblock u run
+  pub placed : ∥ ArePlaced (block_count size) pointers ∥₁
+  pub room : ∥ HasRoomForPatches patches slots ∥₁

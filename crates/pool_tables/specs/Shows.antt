@@ -1,0 +1,112 @@
+-- What contracts show of a pool, read off its fields.
+use Rattle.std.specs.Prelude.{ℕ, ◌-◌, ◌+◌, List, [], length, map, Option, option_map}
+use Rattle.std.specs.FinMap.{FinMap}
+use Rattle.std.specs.Ordering.{nat_cmp}
+use Rattle.std.specs.FinSet as set
+use Rattle.base.specs.declared.pointer.Pointer.{Pointer}
+use Rattle.base.specs.formats.Geometry.{block_address, block_count}
+use Rattle.base.specs.formats.Records.{Record}
+use Rattle.base.specs.history.Contents.{Contents}
+use Rattle.base.specs.steps.Logs.{Log}
+use Rattle.base.specs.steps.Shown.{Shown, SyncPlan}
+use Rattle.extents.specs.Synced.{patched_contents}
+use Rattle.extents.specs.Unsynced.{changes_at, laid_all}
+use Rattle.object_maps.specs.declared.tree.Tree.{Tree}
+use Rattle.object_maps.specs.ContentsShown.{contents_of}
+use Rattle.object_maps.specs.Lengths.{lengths_of}
+use Rattle.tree_plans.specs.declared.planner.Committed.{Committed}
+use Rattle.tree_plans.specs.declared.planner.PlannedBlock.{PlannedBlock}
+use Rattle.pool_tables.specs.declared.pool.RunningSync.{RunningSync}
+use Rattle.pool_tables.specs.declared.pool.PoolTables.{PoolTables}
+use Rattle.pool_tables.specs.Pointers.{lengths_after}
+use Rattle.sync.specs.Runs.{call_count}
+use Rattle.throttle.specs.Blocks.{blocks_of}
+
+-- the size of its device, its tree, and the sync that runs
+abbrev pub geometry_of : PoolTables → ℕ
+geometry_of p = p.geometry
+
+abbrev pub tree_of : PoolTables → Tree
+tree_of p = p.tree
+
+abbrev pub sync_of : PoolTables → Option RunningSync
+sync_of p = p.sync
+
+abbrev pub record_of : Committed → Record
+record_of c = record { group = c.group.0; ordinal = c.ordinal; ops = c.ops }
+
+abbrev pub log_of : List Committed → ℕ → Log
+log_of pending address = record { pending = map record_of pending; kept = []; next = record { address = address; number = 0 } }
+
+-- what is shown of a running sync, which makes this tree into that of these contents
+abbrev pub plan_of : ℕ → Tree → Contents → RunningSync → SyncPlan
+plan_of address tree contents r = record {
+  steps_left = call_count r.run - r.run.done;
+  taken = map (λ (b : PlannedBlock). block_address b.index) r.run.blocks.items;
+  freed = r.freed.items;
+  moment = r.moment;
+  root = r.root;
+  header = record { address = address; number = 0 };
+  contents = contents;
+  lengths = lengths_after r.maps tree;
+}
+
+-- the plan of a sync that starts, with the addresses that it takes and those that come back, and the contents that it writes
+abbrev pub new_plan : ℕ → ℕ → List ℕ → List ℕ → Pointer → Contents → (ℕ → Option ℕ) → SyncPlan
+new_plan moment address taken freed root contents lengths = record {
+  steps_left = length taken + 6;
+  taken = taken;
+  freed = freed;
+  moment = moment;
+  root = root;
+  header = record { address = address; number = 0 };
+  contents = contents;
+  lengths = lengths;
+}
+
+-- the contents of the synced tree, and what the oldest unsynced group makes of them
+abbrev pub synced_of : PoolTables → Contents
+synced_of p = contents_of p.synced
+
+abbrev pub contents_after_oldest : PoolTables → Contents
+contents_after_oldest p = patched_contents (changes_at p.changes 0) (synced_of p)
+
+-- what is shown of a pool that has these objects
+abbrev pub shown_of : FinMap nat_cmp (List ℕ) → PoolTables → Shown
+shown_of objects p = record {
+  suspended = p.suspended;
+  guid = p.guid;
+  blocks = block_count p.geometry;
+  import_number = p.import_number;
+  dirty_max = p.dirty.limit;
+  locks = p.locks.locks;
+  next_lock = p.locks.next;
+  line = p.groups.line;
+  transactions = p.transactions.transactions;
+  next_tx = p.transactions.next;
+  contents = record { name = p.synced.name; objects = objects };
+  next_ordinal = p.next_ordinal;
+  dirty = p.dirty.sums;
+  reserved = blocks_of p.dirty.sums;
+  free = p.free.free;
+  log = log_of p.pending.items p.log_address;
+  root = p.tree.root;
+  synced_contents = synced_of p;
+  lengths = lengths_of p.tree;
+  sync = option_map (plan_of p.log_address p.tree (contents_after_oldest p)) p.sync;
+}
+
+-- the objects that a pool shows are those of its synced tree with the changes of its unsynced groups laid over
+abbrev pub shown_objects : PoolTables → FinMap nat_cmp (List ℕ)
+shown_objects p = laid_all p.changes (synced_of p).objects
+
+abbrev pub pool_shown : PoolTables → Shown
+pool_shown p = shown_of (shown_objects p) p
+
+-- what is shown once the tree of a synced group, which was this one before it, is the pool's
+abbrev pub shown_after_tree : RunningSync → Tree → Shown → Shown
+shown_after_tree r tree s = record s {
+  free = set.union s.free (set.from_list r.freed.items);
+  root = r.root;
+  lengths = lengths_after r.maps tree;
+}

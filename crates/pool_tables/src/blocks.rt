@@ -1,0 +1,50 @@
+//! The free blocks of a pool, as its syncs take and give them, and the end of a synced group's charges.
+
+ghost use Rattle.std.specs.Prelude.{◌≡◌, ◌+◌, map};
+ghost use Rattle.base.specs.formats.Geometry.{block_count};
+ghost use Rattle.space.specs.FreeSets.{after_sync_end};
+ghost use Rattle.throttle.specs.Blocks.{AreWholeBlocks, blocks_in};
+ghost use Rattle.throttle.specs.DirtyBytes.{after_synced, sum_of, total_of};
+ghost use Rattle.tree_plans.specs.Plans.{address_of};
+ghost use Rattle.pool_tables.specs.Areas.{AreBlocksOf, after_gives, after_sync_takes};
+
+use base::{BLOCK_SIZE, Group};
+use labels::Geometry;
+use space::FreeSet;
+use throttle::Dirty;
+use tree_plans::PlannedBlock;
+
+/// What a group was charged ends once it is synced, and so does what was reserved for it.
+pub fn end_charges(dirty: &mut Dirty, free: &mut FreeSet, group: Group)
+    requires next { group.0 ≡ dirty.old.synced + 1 }
+    requires whole { AreWholeBlocks dirty.old }
+    requires reserved { free.old.reserved ≡ blocks_in (total_of dirty.old) }
+    ensures dirty { dirty.new ≡ after_synced group.0 dirty.old }
+    ensures free { free.new ≡ after_sync_end (blocks_in (sum_of dirty.old group.0)) free.old }
+    ensures reserved { free.new.reserved ≡ blocks_in (total_of dirty.new) }
+{
+    let reserved = dirty.of(group) / BLOCK_SIZE as u64;
+    dirty.synced(group);
+    free.end_sync(reserved);
+}
+
+/// The sync that starts takes these blocks.
+pub fn take_all(free: &mut FreeSet, blocks: &[PlannedBlock])
+    requires { free.old.taken ≡ 0 }
+    ensures { free.new ≡ after_sync_takes (map address_of blocks.now) free.old }
+{
+    for planned in blocks {
+        free.take_for_sync(planned.index);
+    }
+}
+
+/// The blocks at these addresses come back.
+pub fn give_all(free: &mut FreeSet, geometry: Geometry, addresses: &[u64])
+    requires count { free.old.blocks ≡ block_count geometry }
+    requires placed { AreBlocksOf (block_count geometry) addresses.now }
+    ensures { free.new ≡ after_gives addresses.now free.old }
+{
+    for address in addresses {
+        free.give(geometry.block_index(*address) as usize);
+    }
+}

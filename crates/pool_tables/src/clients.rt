@@ -1,0 +1,206 @@
+//! What callers rest on: one function for each promise of this crate's calls, proved from the contract of the call alone. So it
+//! is refused as soon as that contract says less.
+
+ghost use Rattle.std.specs.Prelude.{◌≡◌, ◌+◌, ◌∷◌, [], IfOk, None, Ok, Some, false, length, map, true};
+ghost use Rattle.std.specs.FinMap as finite;
+ghost use Rattle.std.specs.FinSet as set;
+ghost use Rattle.base.specs.declared.range.Mode.TheVariants as mode;
+ghost use Rattle.base.specs.formats.Digest.{digest_of};
+ghost use Rattle.base.specs.history.Contents.{length_of};
+ghost use Rattle.base.specs.history.Past.{Past};
+ghost use Rattle.base.specs.history.Plans.{charge_of};
+ghost use Rattle.base.specs.steps.ExactNow.{IsExplainedNow};
+ghost use Rattle.base.specs.steps.Groups.{hold_count};
+ghost use Rattle.base.specs.steps.Refusals.{first_refusal};
+ghost use Rattle.base.specs.steps.Shown.{SyncPlan, free_count, reserved_total};
+ghost use Rattle.base.specs.steps.Steps.{IsReplayUpTo};
+ghost use Rattle.object_maps.specs.ContentsShown.{contents_of};
+ghost use Rattle.object_maps.specs.Sources.{AreWithin};
+ghost use Rattle.tree_plans.specs.Plans.{address_of};
+ghost use Rattle.pool_tables.specs.BeginTests.{plan_tests};
+ghost use Rattle.pool_tables.specs.Shows.{pool_shown};
+
+use crate::blocks::take_all;
+use crate::pool::PoolTables;
+use base::{
+    Bytes, Group, LockId, Mode, ObjectId, Owner, Plan, PoolError, PoolName, Range, Shape, TxId,
+};
+use import_replay::Mounted;
+use range_locks::{HeldLocks, HeldPiece};
+use space::FreeSet;
+use tree_plans::PlannedBlock;
+
+// No transaction is open in a pool that was just mounted, and the group after the mounted one is open.
+fn a_mounted_pool_has_no_transaction(mounted: Mounted) -> PoolTables
+    requires { AreWithin (contents_of mounted.contents).objects }
+    ensures none { (pool_shown result).transactions ≡ [] }
+    ensures open { (pool_shown result).line.open_group ≡ mounted.group.0 + 1 }
+{
+    PoolTables::new(mounted)
+}
+
+// While a writer holds the bytes 0 to 10 of an object, a reader is not granted the last of them.
+fn a_reader_waits_for_a_writer(pool: &mut PoolTables, reader: Owner) -> Result<LockId, PoolError>
+    requires running { (pool_shown pool.old).suspended ≡ false }
+    requires held { (pool_shown pool.old).locks ≡ record {
+      id = 3;
+      owner = 1;
+      range = record { number = 7; low = 0; high = 10 };
+      mode = mode.Writer;
+    } ∷ [] }
+    ensures refused { result ≡ Err PoolError.Busy }
+    ensures unchanged { pool_shown pool.new ≡ pool_shown pool.old }
+{
+    pool.lock(
+        reader,
+        ObjectId(7),
+        Range { low: 9, high: 11 },
+        Mode::Reader,
+    )
+}
+
+// An append locks from the end of the object on.
+fn an_append_begins_at_the_end(
+    pool: &mut PoolTables,
+    owner: Owner,
+) -> Result<(LockId, Range), PoolError>
+    requires { length_of (pool_shown pool.old).contents 7 ≡ Some 100 }
+    ensures { IfOk result (λ granted. granted.1.low ≡ 100) }
+{
+    pool.lock_append(owner, ObjectId(7))
+}
+
+// No one releases a lock of another owner.
+fn a_lock_of_another_is_not_released(pool: &mut PoolTables) -> Result<(), PoolError>
+    requires running { (pool_shown pool.old).suspended ≡ false }
+    requires held { (pool_shown pool.old).locks ≡ record {
+      id = 3;
+      owner = 1;
+      range = record { number = 7; low = 0; high = 10 };
+      mode = mode.Writer;
+    } ∷ [] }
+    ensures refused { result ≡ Err PoolError.NoSuchLock }
+    ensures unchanged { pool_shown pool.new ≡ pool_shown pool.old }
+{
+    pool.unlock(Owner(2), LockId(3))
+}
+
+// Without a lock none is told.
+fn no_lock_is_told(pool: &PoolTables) -> HeldLocks<'_>
+    requires { (pool_shown pool.now).locks ≡ [] }
+    ensures { length result ≡ 0 }
+{
+    pool.held()
+}
+
+// Nor is a piece.
+fn no_piece_is_told(pool: &PoolTables, number: ObjectId) -> Result<Vec<HeldPiece>, PoolError>
+    requires { (pool_shown pool.now).locks ≡ [] }
+    ensures { IfOk result (λ pieces. pieces.items ≡ []) }
+{
+    pool.pieces(number)
+}
+
+// A plan that is charged two blocks is above a limit of one.
+fn a_plan_of_two_blocks_is_above_a_limit_of_one(pool: &PoolTables, plan: &[Shape]) -> bool
+    requires allowed { first_refusal (plan_tests plan.now) ≡ None }
+    requires charged { charge_of plan.now ≡ 8192 }
+    requires limit { (pool_shown pool.now).dirty_max ≡ 4096 }
+    ensures { result ≡ true }
+{
+    pool.is_above_limit(plan)
+}
+
+// A transaction that is given up is open no more.
+fn a_transaction_that_is_given_up_has_no_plan(pool: &mut PoolTables, tx: TxId) -> bool
+    requires { (pool_shown pool.old).suspended ≡ false }
+    ensures { result ≡ false }
+{
+    let _ = pool.abort(tx);
+    pool.open_plan(tx).is_some()
+}
+
+// So it is given up once.
+fn a_transaction_is_given_up_once(pool: &mut PoolTables, tx: TxId) -> Result<(), PoolError>
+    requires { (pool_shown pool.old).suspended ≡ false }
+    ensures { result ≡ Err PoolError.NoSuchTransaction }
+{
+    let _ = pool.abort(tx);
+    pool.abort(tx)
+}
+
+// A read gives the bytes of its range, from the first one on.
+fn a_read_gives_the_bytes_of_its_range(pool: &PoolTables, owner: Owner) -> Result<Bytes, PoolError>
+    requires { finite.get (pool_shown pool.now).contents.objects 7
+        ≡ Some (10 ∷ 11 ∷ 12 ∷ 13 ∷ []) }
+    ensures { IfOk result (λ bytes. bytes ≡ 11 ∷ 12 ∷ []) }
+{
+    pool.read(owner, ObjectId(7), Range { low: 1, high: 3 })
+}
+
+// The length of an object is that of all its bytes, also of those of unsynced groups.
+fn a_length_counts_all_bytes(pool: &PoolTables) -> Result<u64, PoolError>
+    requires running { (pool_shown pool.now).suspended ≡ false }
+    requires present { length_of (pool_shown pool.now).contents 7 ≡ Some 100 }
+    ensures { result ≡ Ok 100 }
+{
+    pool.length(ObjectId(7))
+}
+
+// A digest is that of the shown contents, with the changes of the unsynced groups.
+fn a_digest_is_of_the_shown_contents(pool: &PoolTables) -> Result<[u8; 32], PoolError>
+    requires { (pool_shown pool.now).suspended ≡ false }
+    ensures { result ≡ Ok (digest_of (pool_shown pool.now).contents) }
+{
+    pool.digest()
+}
+
+// The name is that of the shown contents.
+fn a_pool_tells_its_name(pool: &PoolTables) -> PoolName
+    requires { (pool_shown pool.now).contents.name ≡ 122 ∷ 105 ∷ [] }
+    ensures { result ≡ 122 ∷ 105 ∷ [] }
+{
+    pool.name()
+}
+
+// What is reserved of the free blocks is not available.
+fn reserved_blocks_are_not_available(pool: &PoolTables) -> u64
+    requires free { free_count (pool_shown pool.now) ≡ 100 }
+    requires reserved { reserved_total (pool_shown pool.now) ≡ 30 }
+    requires idle { (pool_shown pool.now).sync ≡ None }
+    ensures { result ≡ 70 }
+{
+    pool.status().available
+}
+
+// A group with an open transaction is not quiesced.
+fn a_group_with_an_open_transaction_is_not_quiesced(
+    pool: &mut PoolTables,
+) -> Result<Group, PoolError>
+    requires running { (pool_shown pool.old).suspended ≡ false }
+    requires closed { (pool_shown pool.old).line.middle
+        ≡ Some (record { group = 9; quiesced = false }) }
+    requires open { hold_count 9 (pool_shown pool.old).transactions ≡ 1 }
+    ensures refused { result ≡ Err PoolError.NotReady }
+    ensures unchanged { pool_shown pool.new ≡ pool_shown pool.old }
+{
+    pool.mark_quiesced()
+}
+
+// A sync writes what its group left, without what later groups did.
+fn a_sync_writes_what_its_group_left(pool: &mut PoolTables, moment: u64) -> Result<Group, PoolError>
+    ensures { IfOk result (λ group. (past : Past) → IsExplainedNow (pool_shown pool.old) past
+        → (plan : SyncPlan) × ((pool_shown pool.new).sync ≡ Some plan)
+        × IsReplayUpTo group.0 past plan.contents) }
+{
+    pool.start_sync(moment)
+}
+
+// A block that a sync takes is free no more.
+fn a_block_that_a_sync_takes_is_not_free(free: &mut FreeSet, blocks: &[PlannedBlock])
+    requires none { free.old.taken ≡ 0 }
+    requires one { map address_of blocks.now ≡ 4202496 ∷ [] }
+    ensures { set.contains free.new.free 4202496 ≡ false }
+{
+    take_all(free, blocks);
+}

@@ -1,0 +1,9 @@
+//! The tables of a running pool, and each call on them, without a device.
+#![tactic(auto)]
+
+mod blocks;
+mod clients;
+mod plans;
+mod pool;
+
+pub use pool::{PoolTables, Progress};

@@ -1,0 +1,389 @@
+//! A pool without its device: its tables, its locks and what it reads. Each call changes the tables, or leaves them as they
+//! were; the full contract of each stands at `PoolState` of `pool_core`, which adds the device.
+
+ghost use Rattle.std.specs.Prelude.{◌≡◌, ◌+◌, ◌≤◌, ◌^◌, All, IfErr, IfOk, IsTrue, None, false, is_some, length, map, option_map, true, vec_len};
+ghost use Rattle.std.proofs.Props.{props};
+ghost use Rattle.std.specs.Option.{ForSome, option_map_or};
+ghost use Rattle.base.specs.formats.Geometry.{IsGeometry, block_count};
+ghost use Rattle.base.specs.formats.Limits.{max_length};
+ghost use Rattle.base.specs.history.Contents.{length_of};
+ghost use Rattle.base.specs.tree.PlacedTrees.{ArePlaced};
+ghost use Rattle.base.specs.steps.Refusals.{is_lock_in_use};
+ghost use Rattle.base.specs.steps.Shown as show;
+ghost use Rattle.extents.specs.Unsynced.{changes_at};
+ghost use Rattle.object_maps.specs.ContentsShown.{contents_of};
+ghost use Rattle.object_maps.specs.Sources.{AreWithin};
+ghost use Rattle.object_maps.specs.Pointers.{pointers_of};
+ghost use Rattle.throttle.specs.DirtyBytes.{total_of};
+ghost use Rattle.tree_plans.specs.declared.planner.Committed.{Committed};
+ghost use Rattle.pool_tables.specs.Accounts.{AreAccounted, IsFreeSetOf};
+ghost use Rattle.pool_tables.specs.Areas.{is_block_of};
+ghost use Rattle.pool_tables.specs.Pending.{KeepsUnsynced};
+ghost use Rattle.pool_tables.specs.Pointers.{pointers_after};
+ghost use Rattle.pool_tables.specs.Running.{IsRunning};
+ghost use Rattle.pool_tables.specs.RunningUberblocks.{uberblock_with};
+ghost use Rattle.pool_tables.specs.Targets.{is_readable};
+
+mod commits;
+mod syncs;
+
+use base::{
+    Bytes, Group, LockId, Mode, OBJECT_COUNT, ObjectId, ObjectRange, Owner, Pointer, PoolError,
+    PoolName, Range, Status,
+};
+use extents::{Laid, UnsyncedExtents};
+use groups::Groups;
+use import_replay::Mounted;
+use labels::Geometry;
+use object_maps::{Contents, ObjectMap, ObjectSource, Tree, digest, read_range_below};
+use range_locks::{HeldLock, HeldLocks, HeldPiece, RangeLocks};
+use space::FreeSet;
+use std::alloc::Global;
+use std::collections::BTreeMap;
+use sync::SyncRun;
+use throttle::Dirty;
+use transactions::OpenTransactions;
+use tree_plans::Committed;
+
+/// What a step of a sync answers.
+#[derive(Clone, Copy, Debug, PartialEq, Eq)]
+pub enum Progress {
+    /// There are more device calls to make.
+    More,
+    /// The group is synced.
+    Synced(Group),
+}
+
+// A sync that runs, and what it makes of the tree.
+#[derive(Debug, Drop)]
+struct RunningSync {
+    group: Group,
+    // what its uberblocks carry
+    moment: u64,
+    run: SyncRun,
+    maps: BTreeMap<ObjectId, ObjectMap>,
+    directories: Vec<Pointer>,
+    root: Pointer,
+    // the addresses of the blocks that come back
+    freed: Vec<u64>,
+    ghost all_directories: { vec_len directories ≡ 84 },
+    ghost no_stages: { is_some run.stages ≡ false },
+    ghost sized: { IsGeometry run.geometry },
+    ghost coded: { length run.uberblock ≡ 1024 },
+    ghost freed_placed: { All (λ address. is_block_of (block_count run.geometry) address ≡ true) freed.items },
+}
+
+/// What a running pool keeps in memory: all but its device. Each call changes it, or leaves it as it was.
+#[derive(Debug)]
+pub struct PoolTables {
+    alloc: Global,
+    geometry: Geometry,
+    guid: u64,
+    import_number: u64,
+    suspended: bool,
+    locks: RangeLocks,
+    groups: Groups,
+    transactions: OpenTransactions,
+    // the bytes charged to the unsynced groups; their blocks are reserved
+    dirty: Dirty,
+    // the objects of the synced tree
+    synced: Contents,
+    // what the unsynced groups made of them
+    changes: UnsyncedExtents,
+    next_ordinal: u64,
+    // the committed transactions of unsynced groups, in order
+    pending: Vec<Committed>,
+    free: FreeSet,
+    log_address: u64,
+    tree: Tree,
+    sync: Option<RunningSync>,
+    ghost free_counted: { IsFreeSetOf (block_count geometry)
+        (option_map_or (λ r. length r.run.blocks.items) sync 0)
+        (total_of dirty)
+        free } by { Prim.hlevel props },
+    ghost import_fits: { import_number ≤ 2 ^ 60 },
+    ghost next_ordinal_fits: { next_ordinal ≤ 2 ^ 60 + 1 },
+    ghost accounted: { AreAccounted transactions.transactions groups dirty } by { Prim.hlevel props },
+    ghost running: { ForSome sync (λ r. IsRunning geometry
+        (uberblock_with guid import_number log_address r.group.0 r.moment r.root)
+        (pointers_after r.root r.directories.items r.maps tree)
+        (changes_at changes 0) synced.slots.items r.run) } by { Prim.hlevel props },
+    ghost sync_line: { option_map (λ r. r.group.0) sync ≡ groups.line.syncing } by { Prim.hlevel props },
+    ghost tree_placed: { ∥ ArePlaced (block_count geometry) (pointers_of tree) ∥₁ },
+    ghost unsynced: { KeepsUnsynced groups.line pending.items synced changes } by { Prim.hlevel props },
+}
+
+impl Drop for PoolTables {
+    // One function drops all tables, for each place where a pool is let go.
+    fn drop(self) {
+        let PoolTables {
+            alloc: _,
+            geometry: _,
+            guid: _,
+            import_number: _,
+            suspended: _,
+            locks: _,
+            groups: _,
+            transactions: _,
+            dirty: _,
+            synced: _,
+            changes: _,
+            next_ordinal: _,
+            pending: _,
+            free: _,
+            log_address: _,
+            tree: _,
+            sync: _,
+        } = self;
+    }
+}
+
+// The objects of the synced tree, with what the unsynced groups made of them.
+type Objects<'a> = Laid<'a, Laid<'a, Laid<'a, &'a Contents>>>;
+
+impl PoolTables {
+    ghost use Rattle.std.specs.Map.Iter.{ShowsInOrder, deref_pair};
+    ghost use Rattle.import_replay.specs.Mounts.{shown_of_import};
+    ghost use Rattle.base.specs.formats.Limits.{max_locks};
+    ghost use Rattle.base.specs.steps.Locks.{AreLocksSound};
+    ghost use Rattle.range_locks.specs.Locks.{grant_of};
+    ghost use Rattle.range_locks.specs.Pieces.{pieces_of};
+    ghost use Rattle.pool_tables.specs.Meets.{FindsLength, RefusesIf};
+    ghost use Rattle.pool_tables.specs.Shows.{geometry_of, pool_shown, shown_objects, sync_of, tree_of};
+    ghost use Rattle.pool_tables.specs.KeptTrees.{KeepsTree};
+    ghost use Rattle.pool_tables.specs.StepAnswers.{Locks, LocksAppend, Reads, TellsDigest, TellsLength, Unlocks};
+
+    /// The pool that an import mounted. No transaction is open and no sync runs. It takes no memory.
+    pub fn new(mounted: Mounted) -> Self
+        requires { AreWithin (contents_of mounted.contents).objects }
+        ensures geometry { geometry_of result ≡ mounted.geometry }
+        ensures shown { pool_shown result ≡ shown_of_import mounted }
+        ensures tree { tree_of result ≡ mounted.tree }
+        ensures idle { sync_of result ≡ None }
+    {
+        let Mounted {
+            alloc,
+            geometry,
+            guid,
+            group,
+            import_number,
+            contents,
+            tree,
+            free,
+            log_address,
+            dirty_max,
+        } = mounted;
+        PoolTables {
+            alloc,
+            geometry,
+            guid,
+            import_number,
+            suspended: false,
+            locks: RangeLocks::new(alloc),
+            groups: Groups::new(group),
+            transactions: OpenTransactions::new(alloc),
+            dirty: Dirty::new(dirty_max, group),
+            synced: contents,
+            changes: UnsyncedExtents::new(alloc),
+            next_ordinal: 0,
+            pending: Vec::new(alloc),
+            free,
+            log_address,
+            tree,
+            sync: None,
+        }
+    }
+
+    /// The allocator of its collections.
+    pub fn alloc(&self) -> Global {
+        self.alloc
+    }
+
+    fn check_running(&self) -> Result<(), PoolError>
+        ensures { RefusesIf self.now.suspended PoolError.Suspended result }
+    {
+        if self.suspended {
+            return Err(PoolError::Suspended);
+        }
+        Ok(())
+    }
+
+    // The objects as the last commit left them.
+    fn objects<'a>(&'a self) -> Objects<'a>
+        ensures { ⟦<Objects<'a> as ObjectSource>⟧.objects result ≡ shown_objects self.now }
+    {
+        self.changes.over(&self.synced)
+    }
+
+    /// Locks a range of an object, in bytes. Refused, in this order, `Suspended`, `BadRange`, `Busy`, `TooMany` or
+    /// `NoMemory`.
+    pub fn lock(
+        &mut self,
+        owner: Owner,
+        object: ObjectId,
+        range: Range,
+        mode: Mode,
+    ) -> Result<LockId, PoolError>
+        ensures step { Locks owner object range mode result
+            (pool_shown self.old) (pool_shown self.new) }
+        ensures kept { KeepsTree self.old self.new }
+    {
+        self.check_running()?;
+        self.locks.lock(owner, ObjectRange { object, range }, mode)
+    }
+
+    /// Locks an object as a writer from its end to the greatest length, and returns that range too. Refused, in this order,
+    /// `Suspended`, `BadRange`, `NoObject`, `BadRange` at the greatest length, `Busy`, `TooMany` or `NoMemory`.
+    pub fn lock_append(
+        &mut self,
+        owner: Owner,
+        object: ObjectId,
+    ) -> Result<(LockId, Range), PoolError>
+        ensures step { LocksAppend owner object result (pool_shown self.old) (pool_shown self.new) }
+        ensures kept { KeepsTree self.old self.new }
+    {
+        self.check_running()?;
+        let length = self.shown_length(object);
+        self.locks.lock_append(owner, object, length)
+    }
+
+    /// Releases a lock. Refused, in this order, `Suspended`, `NoSuchLock`, or `LockInUse` for a writer lock in which a range of
+    /// an open transaction lies.
+    pub fn unlock(&mut self, owner: Owner, id: LockId) -> Result<(), PoolError>
+        ensures step { Unlocks owner id result (pool_shown self.old) (pool_shown self.new) }
+        ensures kept { KeepsTree self.old self.new }
+    {
+        self.check_running()?;
+        let Some(held) = self.locks.find(owner, id) else {
+            return Err(PoolError::NoSuchLock);
+        };
+        if self.is_in_use(held) {
+            return Err(PoolError::LockInUse);
+        }
+        self.locks.unlock(owner, id)
+    }
+
+    fn is_in_use(&self, held: &HeldLock) -> bool
+        ensures { (id : LockId)
+            → result ≡ is_lock_in_use (grant_of (id, held.now)) (pool_shown self.now) }
+    {
+        !held.mode.is_reader() && self.transactions.is_lock_in_use(&held.range)
+    }
+
+    /// The held locks in order of grant, each with its name. It is never refused, and takes no memory.
+    pub fn held(&self) -> HeldLocks<'_>
+        ensures locks { map grant_of result ≡ (pool_shown self.now).locks }
+        ensures sound { AreLocksSound (pool_shown self.now).locks }
+        ensures count { length result ≤ max_locks }
+        ensures runs { ShowsInOrder (deref_pair {K = LockId} {X = HeldLock}) }
+    {
+        self.locks.held()
+    }
+
+    /// The pieces of an object that some lock covers, rising, each with its readers and whether a writer covers it. Refused
+    /// `NoMemory`.
+    pub fn pieces(&self, number: ObjectId) -> Result<Vec<HeldPiece>, PoolError>
+        ensures pieces { IfOk result
+            (λ pieces. pieces.items ≡ pieces_of number.0 (pool_shown self.now).locks) }
+        ensures refused { IfErr result (λ e. e ≡ PoolError.NoMemory) }
+    {
+        self.locks.pieces(number)
+    }
+
+    /// The bytes of a range that lie below the length of the object. Refused, in this order, `Suspended`, `BadRange`,
+    /// `NotLocked`, `NoObject` or `NoMemory`.
+    pub fn read(&self, owner: Owner, object: ObjectId, range: Range) -> Result<Bytes, PoolError>
+        ensures { Reads owner object range result (pool_shown self.now) }
+    {
+        self.check_running()?;
+        if !is_readable(object, range) {
+            return Err(PoolError::BadRange);
+        }
+        if !self.locks.covers(owner, &ObjectRange { object, range }) {
+            return Err(PoolError::NotLocked);
+        }
+        let mut objects = self.objects();
+        let Some(length) = objects.length(object) else {
+            return Err(PoolError::NoObject);
+        };
+        read_range_below(&mut objects, self.alloc, object, range, length)
+    }
+
+    /// The length of an object in bytes. Refused, in this order, `Suspended`, `BadRange` or `NoObject`.
+    pub fn length(&self, object: ObjectId) -> Result<u64, PoolError>
+        ensures { TellsLength object result (pool_shown self.now) }
+    {
+        self.check_running()?;
+        self.object_length(object)
+    }
+
+    // The length of an object. Refused BadRange where the number is no object's, NoObject.
+    fn object_length(&self, object: ObjectId) -> Result<u64, PoolError>
+        ensures { FindsLength object.0 result (pool_shown self.now) }
+    {
+        if object.0 >= OBJECT_COUNT {
+            return Err(PoolError::BadRange);
+        }
+        self.shown_length(object).ok_or(PoolError::NoObject)
+    }
+
+    // The length of an object, `None` where there is none of this number.
+    fn shown_length(&self, object: ObjectId) -> Option<u64>
+        ensures { result ≡ length_of (pool_shown self.now).contents object.0 }
+    {
+        self.objects().length(object)
+    }
+
+    /// The SHA-256 digest of the contents, the changes of unsynced groups included. Refused `Suspended`.
+    pub fn digest(&self) -> Result<[u8; 32], PoolError>
+        ensures { TellsDigest result (pool_shown self.now) }
+    {
+        self.check_running()?;
+        digest(&self.synced.name, &mut self.objects())
+    }
+
+    /// The name of the pool. It is never refused.
+    pub fn name(&self) -> PoolName
+        ensures { result ≡ (pool_shown self.now).contents.name }
+    {
+        self.synced.name.copy()
+    }
+
+    /// The groups, the charged bytes, and the counts of free and of available blocks. It is never refused.
+    pub fn status(&self) -> Status
+        ensures { result ≡ show.status_of (pool_shown self.now) }
+    {
+        Status {
+            synced: self.groups.synced(),
+            syncing: self.groups.syncing(),
+            middle: self.groups.middle(),
+            open_group: self.groups.open_group(),
+            dirty: self.dirty.total(),
+            free: self.free_count(),
+            available: self.available(),
+        }
+    }
+
+    // How many blocks are free.
+    fn free_count(&self) -> u64
+        ensures { result ≡ show.free_count (pool_shown self.now) }
+    {
+        self.free.free()
+    }
+
+    // How many of them no unsynced transaction may still ask for.
+    fn available(&self) -> u64
+        ensures { result ≡ show.available (pool_shown self.now) }
+    {
+        self.free.available()
+    }
+}
+
+// Whether this range of an object may be read.
+fn is_readable(object: ObjectId, range: Range) -> bool
+    ensures allowed { result ≡ is_readable object.0 range }
+    ensures ordered { IsTrue result → range.low ≤ range.high }
+    ensures within { IsTrue result → range.high ≤ max_length }
+{
+    object.0 < OBJECT_COUNT && range.is_allowed()
+}

@@ -1,0 +1,240 @@
+//! The transactions of a pool: they begin, commit and are given up. A call that is refused leaves the pool as it was.
+
+ghost use Rattle.std.specs.Prelude.{◌≡◌, ◌<◌, ◌+◌, ◌≤◌, ◌^◌, OnOk, nat_lt, option_map, true, vec_capacity, vec_len};
+ghost use Rattle.base.specs.formats.Limits.{max_log_record};
+ghost use Rattle.base.specs.history.Plans.{estimate_of, log_record_size};
+ghost use Rattle.base.specs.steps.Groups.{Admission};
+ghost use Rattle.base.specs.steps.Refusals.{blocks_wanted, transaction_of};
+ghost use Rattle.base.specs.steps.Shown as show;
+ghost use Rattle.base.specs.steps.Stage.{is_plan_built};
+ghost use Rattle.extents.specs.Unsynced.{CanApplyAt};
+ghost use Rattle.object_maps.specs.Ops.{AreOpsAllowed};
+ghost use Rattle.tree_plans.specs.declared.planner.Committed.{Committed};
+
+use crate::plans::check_plan;
+use crate::pool::PoolTables;
+use base::{
+    Group, KEPT_BACK, LAST_NUMBER, Op, Ops, Ordinal, Owner, Plan, PoolError, Receipt, Shape, TxId,
+};
+use object_maps::judge;
+use transactions::{charge, estimate, is_in_plan, is_shrinking, range_of};
+use tree_plans::Committed;
+
+impl PoolTables {
+    ghost use Rattle.pool_tables.specs.Entries.{IsUnsynced, shown_after_entry};
+    ghost use Rattle.pool_tables.specs.BeginTests.{is_above_limit, range_tests, room_tests};
+    ghost use Rattle.pool_tables.specs.Meets.{ChecksBegin, ChecksCommit, MayCommit, Passes};
+    ghost use Rattle.pool_tables.specs.Shows.{shown_objects, pool_shown};
+    ghost use Rattle.pool_tables.specs.KeptTrees.{IsOfNoDevice, KeepsTree};
+    ghost use Rattle.pool_tables.specs.StepAnswers.{Aborts, Begins, Commits};
+    ghost use Rattle.pool_tables.specs.Targets.{is_kept_covered};
+
+    /// Opens a transaction of the open group: charges it 4,096 bytes for each block that the plan is estimated at, and reserves
+    /// these blocks. Refused, in this order, `Suspended`, `BadRange`, `TooLarge`, `NotLocked`, `Busy`, `TooMany`, `Throttled`,
+    /// `NoSpace` or `NoMemory`.
+    pub fn begin(&mut self, owner: Owner, plan: &Plan) -> Result<(TxId, Group), PoolError>
+        ensures step { Begins owner plan.now result (pool_shown self.old) (pool_shown self.new) }
+        ensures kept { KeepsTree self.old self.new }
+    {
+        let shapes = plan.as_slice();
+        self.check_begin(owner, shapes)?;
+        let plan = plan.try_clone(self.alloc)?;
+        let group = self.groups.open_group();
+        let tx = self.transactions.admit(owner, group, plan)?;
+        let Ok(()) = self.dirty.admit(group, charge(shapes)) else {
+            unreachable!();
+        };
+        let Ok(()) = self.free.reserve(estimate(shapes), 0) else {
+            unreachable!();
+        };
+        let Ok(_) = self.groups.hold() else {
+            unreachable!();
+        };
+        Ok((tx, group))
+    }
+
+    /// Whether a transaction may have this plan, but its charge in bytes alone is above the limit of all charges.
+    pub fn is_above_limit(&self, plan: &[Shape]) -> bool
+        ensures { result ≡ is_above_limit plan.now (pool_shown self.now) }
+    {
+        if check_plan(plan).is_err() {
+            return false;
+        }
+        charge(plan) > self.dirty.limit()
+    }
+
+    // Refused where a begin is, but for want of memory.
+    fn check_begin(&self, owner: Owner, plan: &[Shape]) -> Result<(), PoolError>
+        ensures { ChecksBegin owner plan.now result (pool_shown self.now) }
+    {
+        self.check_running()?;
+        check_plan(plan)?;
+        self.check_ranges(owner, plan)?;
+        self.check_room(plan)
+    }
+
+    // Each range of a plan lies in a writer lock of the owner, and overlaps none of an open transaction.
+    fn check_ranges(&self, owner: Owner, plan: &[Shape]) -> Result<(), PoolError>
+        requires { is_plan_built plan.now ≡ true }
+        ensures { Passes (range_tests owner.0 plan.now (pool_shown self.now)) result }
+    {
+        if !self.is_covered(owner, plan) {
+            return Err(PoolError::NotLocked);
+        }
+        if self.transactions.is_blocked(plan) {
+            return Err(PoolError::Busy);
+        }
+        Ok(())
+    }
+
+    // One more transaction may be open, its charge passes no limit, and the blocks that it may take are available.
+    fn check_room(&self, plan: &[Shape]) -> Result<(), PoolError>
+        requires built { is_plan_built plan.now ≡ true }
+        requires small { log_record_size plan.now ≤ max_log_record }
+        ensures { Passes (room_tests plan.now (pool_shown self.now)) result }
+    {
+        if self.transactions.is_full() {
+            return Err(PoolError::TooMany);
+        }
+        if self.dirty.is_throttled(charge(plan)) {
+            return Err(PoolError::Throttled);
+        }
+        if self.is_short_for(plan) {
+            return Err(PoolError::NoSpace);
+        }
+        Ok(())
+    }
+
+    // Whether fewer blocks are available than a plan may take and, unless it shrinks, 16 more.
+    fn is_short_for(&self, plan: &[Shape]) -> bool
+        requires built { is_plan_built plan.now ≡ true }
+        requires small { log_record_size plan.now ≤ max_log_record }
+        ensures { result ≡ nat_lt (show.available (pool_shown self.now))
+            (blocks_wanted (pool_shown self.now).contents plan.now) }
+    {
+        let kept_back = self.kept_back(plan);
+        let blocks = estimate(plan);
+        let available = self.available();
+        available < blocks || available - blocks < kept_back
+    }
+
+    // How many blocks stay available beside those of a plan: 16, or none where it only removes objects and shortens
+    // present ones.
+    fn kept_back(&self, plan: &[Shape]) -> u64
+        ensures { estimate_of plan.now + result
+            ≡ blocks_wanted (pool_shown self.now).contents plan.now }
+    {
+        if is_shrinking(plan, &|object| self.shown_length(object)) {
+            0
+        } else {
+            KEPT_BACK
+        }
+    }
+
+    fn is_covered(&self, owner: Owner, plan: &[Shape]) -> bool
+        ensures { result ≡ is_kept_covered owner.0 self.now.locks.locks plan.now }
+    {
+        plan.iter().all(|shape| self.locks.covers_for_writing(owner, &range_of(shape)))
+    }
+
+    /// The plan of an open transaction, or `None` if none of this name is open.
+    pub fn open_plan(&self, tx: TxId) -> Option<&Plan>
+        ensures { option_map (λ p. p.now) result
+            ≡ option_map (λ (a : Admission). a.plan) (transaction_of tx.0 (pool_shown self.now)) }
+    {
+        let transaction = self.transactions.find(tx)?;
+        Some(&transaction.plan)
+    }
+
+    // The group of a transaction that may commit. Refused where a commit is, but for want of memory.
+    fn check_commit(&self, tx: TxId, ops: &[Op]) -> Result<Group, PoolError>
+        ensures refusal { ChecksCommit tx ops.now result (pool_shown self.now) }
+        ensures allowed { OnOk result (AreOpsAllowed ops.now) }
+        ensures named { OnOk result (self.now.next_ordinal ≤ 2 ^ 60) }
+    {
+        self.check_running()?;
+        let Some(transaction) = self.transactions.find(tx) else {
+            return Err(PoolError::NoSuchTransaction);
+        };
+        if !is_in_plan(ops, transaction.plan.as_slice()) {
+            return Err(PoolError::OutOfPlan);
+        }
+        judge(&self.objects(), ops)?;
+        if self.next_ordinal > LAST_NUMBER {
+            return Err(PoolError::TooMany);
+        }
+        Ok(transaction.group)
+    }
+
+    // Which of the unsynced groups an open transaction is in, counted from the oldest on.
+    fn place_of(&self, group: Group) -> usize
+        requires { IsUnsynced self.now.groups.line group.0 }
+        ensures place { self.now.groups.line.synced + 1 + result ≡ group.0 }
+        ensures within { result < 3 }
+    {
+        (group.0 - self.groups.synced().0 - 1) as usize
+    }
+
+    /// Commits a transaction whole, in its own group. Refused, in this order, `Suspended`, `NoSuchTransaction`, `OutOfPlan`,
+    /// `NoObject` or `Exists` for the first operation that cannot take place, `TooMany` or `NoMemory`; the transaction stays open
+    /// then.
+    pub fn commit(&mut self, tx: TxId, ops: Ops) -> Result<Receipt, PoolError>
+        ensures step { Commits tx ops result (pool_shown self.old) (pool_shown self.new) }
+        ensures kept { KeepsTree self.old self.new }
+        ensures own { IsOfNoDevice result }
+    {
+        let group = self.check_commit(tx, ops.as_slice())?;
+        self.pending.reserve(1)?;
+        let place = self.place_of(group);
+        self.changes.reserve(place, ops.as_slice())?;
+        let ordinal = self.enter(tx, group, place, ops);
+        Ok(Receipt { ordinal, group })
+    }
+
+    // The transaction takes place in its group, of which this is the place. The room is there.
+    fn enter(&mut self, tx: TxId, group: Group, place: usize, ops: Ops) -> Ordinal
+        requires may { MayCommit tx.0 ops group.0 (pool_shown self.old) }
+        requires allowed { AreOpsAllowed ops }
+        requires place { self.old.groups.line.synced + 1 + place ≡ group.0 }
+        requires room { CanApplyAt place self.old.changes ops }
+        requires named { self.old.next_ordinal ≤ 2 ^ 60 }
+        requires more { vec_len self.old.pending < vec_capacity self.old.pending }
+        ensures ordinal { result.0 ≡ self.old.next_ordinal }
+        ensures kept { KeepsTree self.old self.new }
+        ensures shown { pool_shown self.new
+            ≡ shown_after_entry tx.0 group.0 ops (shown_objects self.new) (pool_shown self.old) }
+    {
+        self.changes.apply(place, ops.as_slice());
+        self.transactions.end(tx);
+        let Ok(()) = self.groups.release(group) else {
+            unreachable!();
+        };
+        let ordinal = self.next_ordinal;
+        self.next_ordinal += 1;
+        self.pending.push_reserved(Committed {
+            group,
+            ordinal,
+            ops,
+        });
+        Ordinal(ordinal)
+    }
+
+    /// Gives a transaction up: its hold, its charge and its reserved blocks end. Refused, in this order, `Suspended` or
+    /// `NoSuchTransaction`.
+    pub fn abort(&mut self, tx: TxId) -> Result<(), PoolError>
+        ensures step { Aborts tx result (pool_shown self.old) (pool_shown self.new) }
+        ensures kept { KeepsTree self.old self.new }
+    {
+        self.check_running()?;
+        let Some(transaction) = self.transactions.end(tx) else {
+            return Err(PoolError::NoSuchTransaction);
+        };
+        let shapes = transaction.plan.as_slice();
+        self.dirty.cancel(transaction.group, charge(shapes));
+        self.free.unreserve(estimate(shapes));
+        let Ok(()) = self.groups.release(transaction.group) else {
+            unreachable!();
+        };
+        Ok(())
+    }
+}

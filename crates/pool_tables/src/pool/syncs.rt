@@ -1,0 +1,252 @@
+//! The groups of a pool and their syncs. A group closes, is quiesced, and is written out call by call; after the last call the
+//! pool lays its changes into the synced objects, and what the sync replaced is free.
+
+ghost use Rattle.std.specs.Prelude.{◌≡◌, ◌⊎◌, IfErr, IfOk, IsTrue, OnErr, OnOk, false, is_some};
+ghost use Rattle.base.specs.formats.Geometry.{block_count};
+ghost use Rattle.base.specs.tree.PlacedTrees.{ArePlaced};
+ghost use Rattle.extents.specs.Synced.{HasRoomForPatches, patched_contents};
+ghost use Rattle.extents.specs.Unsynced.{MovesUp, changes_at};
+ghost use Rattle.object_maps.specs.ContentsShown.{contents_of};
+ghost use Rattle.object_maps.specs.Pointers.{pointers_of};
+ghost use Rattle.tree_plans.specs.declared.planner.Committed.{Committed};
+ghost use Rattle.pool_tables.specs.Numbers.{IsGroup};
+ghost use Rattle.pool_tables.specs.Pending.{pending_after};
+ghost use Rattle.pool_tables.specs.RunningUberblocks.{WritesUberblock};
+
+use crate::blocks::{end_charges, give_all, take_all};
+use crate::pool::{PoolTables, Progress, RunningSync};
+use base::{Group, PoolError, WRITTEN_VERSION};
+use device_model::SectorDevice;
+use extents::{Laid, UnsyncedExtents};
+use object_maps::Contents;
+use sync::{SyncCall, SyncRun};
+use tree_plans::{Committed, PlanSource, TreePlan, changed_objects, plan};
+use uberblocks::{Uberblock, slot};
+
+impl PoolTables {
+    ghost use Rattle.base.specs.disk.Disk.{bytes_of};
+    ghost use Rattle.base.specs.disk.Calls.{counted};
+    ghost use Rattle.sync.specs.Calls.{plain_answer};
+    ghost use Rattle.pool_tables.specs.NextCalls.{MakesNextOf};
+    ghost use Rattle.pool_tables.specs.GroupPlans.{BeginsPlan, FitsIn, IsRefusedShort, MakesGroupTree, TakesLowest, begun_plan, uberblock_for};
+    ghost use Rattle.pool_tables.specs.Told.{Leads, SamePlaces, sync_step_reply, pool_told, tree_after};
+    ghost use Rattle.pool_tables.specs.SyncPhases.{StepsPhases, run_in};
+    ghost use Rattle.pool_tables.specs.Lines.{ChecksStart};
+    ghost use Rattle.pool_tables.specs.Shows.{contents_after_oldest, geometry_of, plan_of, pool_shown, shown_after_tree};
+    ghost use Rattle.pool_tables.specs.KeptTrees.{KeepsTree};
+    ghost use Rattle.pool_tables.specs.StepAnswers.{ClosesGroup, MarksQuiesced, StepsSync};
+    ghost use Rattle.pool_tables.specs.SyncStarts.{IsSyncStart};
+
+    /// The open group quiesces, and the next one opens, whose number it returns. Refused, in this order, `Suspended` or
+    /// `NotReady`.
+    pub fn close_group(&mut self) -> Result<Group, PoolError>
+        ensures step { ClosesGroup result (pool_shown self.old) (pool_shown self.new) }
+        ensures kept { KeepsTree self.old self.new }
+    {
+        self.check_running()?;
+        self.groups.close_open()
+    }
+
+    /// The closed group is quiesced. Refused, in this order, `Suspended`, or `NotReady` if none quiesces or a transaction of it
+    /// is open.
+    pub fn mark_quiesced(&mut self) -> Result<Group, PoolError>
+        ensures step { MarksQuiesced result (pool_shown self.old) (pool_shown self.new) }
+        ensures kept { KeepsTree self.old self.new }
+    {
+        self.check_running()?;
+        self.groups.mark_quiesced()
+    }
+
+    /// Starts the sync of the quiesced group, with this moment in its uberblocks, and takes the blocks that it writes. Refused,
+    /// in this order, `Suspended`, `NotReady` or `NoMemory`, and then nothing is shown changed.
+    pub fn start_sync(&mut self, moment: u64) -> Result<Group, PoolError>
+        ensures geometry { geometry_of self.new ≡ geometry_of self.old }
+        ensures start { IsSyncStart moment result (pool_told self.old) (pool_told self.new) }
+        ensures unmoved { OnErr result (run_in self.new ≡ run_in self.old) }
+    {
+        self.check_running()?;
+        let group = self.check_start()?;
+        self.reserve_synced()?;
+        let planned = self.plan_group(group)?;
+        let running = self.running_sync(group, moment, planned);
+        take_all(&mut self.free, &running.run.blocks);
+        self.sync = Some(running);
+        let Ok(_) = self.groups.start_sync() else {
+            unreachable!();
+        };
+        Ok(group)
+    }
+
+    // The quiesced group, where a sync of it may start.
+    fn check_start(&self) -> Result<Group, PoolError>
+        ensures group { IfOk result (λ group. IsGroup group.0) }
+        ensures may { ChecksStart result self.now.groups.line }
+    {
+        self.groups.ready_to_sync()
+    }
+
+    // Takes the room in the synced objects that the end of the next sync needs, where none runs.
+    fn reserve_synced(&mut self) -> Result<(), PoolError>
+        requires { is_some self.old.groups.line.syncing ≡ false }
+        ensures geometry { self.new.geometry ≡ self.old.geometry }
+        ensures kept { pool_told self.new ≡ pool_told self.old }
+        ensures unmoved { run_in self.new ≡ run_in self.old }
+        ensures room { OnOk result
+            (HasRoomForPatches (changes_at self.new.changes 0) self.new.synced.slots.items) }
+        ensures refused { IfErr result (λ e. e ≡ PoolError.NoMemory) }
+    {
+        self.changes.oldest().reserve_in(&mut self.synced)?;
+        Ok(())
+    }
+
+    fn plan_group(&self, group: Group) -> Result<TreePlan, PoolError>
+        ensures fits { IfOk result (FitsIn self.now.geometry) }
+        ensures taken { IfOk result (TakesLowest self.now) }
+        ensures tree { IfOk result (MakesGroupTree self.now group.0) }
+        ensures no_space { IfErr result (IsRefusedShort self.now group.0) }
+        ensures refused { IfErr result (λ e. (e ≡ PoolError.NoMemory) ⊎ (e ≡ PoolError.NoSpace)) }
+    {
+        let objects = changed_objects(self.alloc, &self.tree.maps, &self.pending, group)?;
+        let source = PlanSource {
+            alloc: self.alloc,
+            geometry: self.geometry,
+            guid: self.guid,
+            group,
+            tree: &self.tree,
+            free: &self.free,
+        };
+        let mut after = Laid::new(self.changes.oldest(), &self.synced);
+        plan(&source, &mut after, &objects)
+    }
+
+    fn running_sync(&self, group: Group, moment: u64, planned: TreePlan) -> RunningSync
+        requires group { IsGroup group.0 }
+        requires fits { FitsIn self.now.geometry planned }
+        ensures geometry { result.run.geometry ≡ self.now.geometry }
+        ensures group { result.group ≡ group }
+        ensures moment { result.moment ≡ moment }
+        ensures begins { BeginsPlan planned result }
+        ensures plan { plan_of self.now.log_address self.now.tree
+            (contents_after_oldest self.now) result ≡ begun_plan self.now moment planned }
+        ensures uberblock { WritesUberblock
+            (uberblock_for self.now group.0 moment planned.root) result.run }
+    {
+        // Labels lie apart from the blocks, as the size is one of a pool's device.
+        let _size = self.geometry.size();
+        let TreePlan {
+            blocks,
+            maps,
+            directories,
+            root,
+            freed,
+        } = planned;
+        let uberblock = Uberblock {
+            version: WRITTEN_VERSION,
+            group,
+            guid: self.guid,
+            moment,
+            root,
+            import_number: self.import_number,
+            log_address: self.log_address,
+            log_number: 0,
+        };
+        RunningSync {
+            group,
+            moment,
+            run: SyncRun::new(self.geometry, blocks, uberblock.encode(), slot(group), None),
+            maps,
+            directories,
+            root,
+            freed,
+        }
+    }
+
+    /// Makes the next device call of the running sync; after the last one its group is synced. Refused, in this order,
+    /// `Suspended`, `NotReady`, or `Write` or `Flush` as the device refused, and then the pool is suspended.
+    pub fn sync_step<D: SectorDevice>(&mut self, device: &mut D) -> Result<Progress, PoolError>
+        requires { D.size device.old ≡ geometry_of self.old }
+        ensures size { D.size device.new ≡ D.size device.old }
+        ensures geometry { geometry_of self.new ≡ geometry_of self.old }
+        ensures step { StepsSync result (pool_shown self.old) (pool_shown self.new) }
+        ensures called { MakesNextOf (IsTrue D.keeps_model) D.disk self.old (plain_answer result)
+            device.old device.new }
+        ensures count { D.refused device.new ≡ counted result (D.refused device.old) }
+        ensures leads { IsTrue D.keeps_model → Leads (sync_step_reply result)
+            (pool_told self.old (bytes_of (D.disk device.old).now))
+            (pool_told self.new (bytes_of (D.disk device.new).now)) }
+        ensures phases { IsTrue D.keeps_model → StepsPhases result
+            (run_in self.old) (run_in self.new) (D.disk device.old) (D.disk device.new) }
+    {
+        self.check_running()?;
+        let Some(running) = &mut self.sync else {
+            return Err(PoolError::NotReady);
+        };
+        match running.run.next(device) {
+            Ok(SyncCall::Last) => {
+                let Some(synced) = self.sync.take() else {
+                    unreachable!();
+                };
+                let group = synced.group;
+                let Ok(_) = self.groups.finish_sync() else {
+                    unreachable!();
+                };
+                end_charges(&mut self.dirty, &mut self.free, group);
+                drop_synced(&mut self.pending, group);
+                lay_oldest(&mut self.changes, &mut self.synced);
+                self.finish_tree(synced);
+                Ok(Progress::Synced(group))
+            }
+            Ok(SyncCall::More) => Ok(Progress::More),
+            Err(error) => {
+                self.suspended = true;
+                Err(error)
+            }
+        }
+    }
+
+    // The synced group's tree is the pool's, and what it replaced is free.
+    fn finish_tree(&mut self, running: RunningSync)
+        requires none { is_some self.old.sync ≡ false }
+        requires geometry { running.run.geometry ≡ self.old.geometry }
+        requires placed { ∥ ArePlaced (block_count self.old.geometry)
+            (tree_after running self.old.tree) ∥₁ }
+        ensures geometry { self.new.geometry ≡ self.old.geometry }
+        ensures sync { self.new.sync ≡ self.old.sync }
+        ensures shown { pool_shown self.new
+            ≡ shown_after_tree running self.old.tree (pool_shown self.old) }
+        ensures pointers { SamePlaces (pointers_of self.new.tree)
+            (tree_after running self.old.tree) }
+    {
+        let RunningSync {
+            group: _,
+            moment: _,
+            run: _,
+            maps,
+            directories,
+            root,
+            freed,
+        } = running;
+        self.tree.root = root;
+        self.tree.directories = directories;
+        self.tree.set_all(maps);
+        give_all(&mut self.free, self.geometry, &freed);
+    }
+}
+
+// The transactions of a synced group are no longer pending, nor are those of older ones.
+fn drop_synced(pending: &mut Vec<Committed>, group: Group)
+    ensures { pending.new.items ≡ pending_after group.0 pending.old.items }
+{
+    pending.retain(|committed| committed.group > group);
+}
+
+// The oldest group is synced: the synced objects are those that it left, and the groups after it move up.
+fn lay_oldest(changes: &mut UnsyncedExtents, synced: &mut Contents)
+    requires { HasRoomForPatches (changes_at changes.old 0) synced.old.slots.items }
+    ensures contents { contents_of synced.new
+        ≡ patched_contents (changes_at changes.old 0) (contents_of synced.old) }
+    ensures changes { MovesUp changes.old changes.new }
+{
+    changes.oldest().lay_into(synced);
+    changes.drop_oldest();
+}
