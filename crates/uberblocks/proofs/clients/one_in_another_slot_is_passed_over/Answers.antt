@@ -1,5 +1,4 @@
 use Rattle.std.proofs.Common.{List, ℕ, Option, Some, None, IsNone, IfSome, refl}
-use Rattle.base.specs.formats.Uberblocks.{Uberblock as Fields}
 use Rattle.uberblocks.specs.declared.uberblock.Uberblock.{Uberblock}
 use Rattle.uberblocks.specs.Slots.{fields_of}
 use Rattle.uberblocks.specs.Rings.{IsActiveInRing, HasNoneInRing}
