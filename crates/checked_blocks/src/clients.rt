@@ -26,7 +26,8 @@ fn a_sealed_block_opens_and_gives_its_payload(payload: &[u8]) -> Result<(), Pool
     };
     let opened = open(block.as_bytes(), &expected)?;
     let same = opened.as_slice() == payload;
-    prove!(same);
+    let born = opened.group();
+    prove!(same && born.0 == 9);
     Ok(())
 }
 
@@ -132,11 +133,4 @@ fn a_frame_has_the_fields_that_it_was_made_of() {
     let blocks = frame.blocks();
     let group = frame.group();
     prove!(guid == 77 && blocks == 2 && group.0 == 9);
-}
-
-fn a_frame_has_its_version(frame: &Frame) -> u64
-    requires { frame.now.version ≡ 1 }
-    ensures { result ≡ 1 }
-{
-    frame.version().number()
 }
