@@ -11,7 +11,7 @@ use crate::fault::Fault;
 use crate::file::FileDevice;
 use crate::memory::MemDevice;
 use crate::sector_file::SectorFile;
-use base::{Piece, PoolError};
+use base::{Piece, PoolError, RefusedCalls};
 use std::alloc::Global;
 
 fn a_new_device_is_zeros(alloc: Global) -> Result<MemDevice, PoolError>
@@ -61,6 +61,21 @@ fn a_write_that_is_planned_to_fail_is_refused(
     device.write(512, bytes)
 }
 
+fn a_refused_write_is_counted_once(device: &mut MemDevice, bytes: &[u8]) -> Result<(), PoolError>
+    requires on_device { IsOnDevice (disk_size device.old.disk) 512 (length bytes.now) }
+    requires none { device.old.refused.writes ≡ 0 }
+    ensures { OnErr result (device.new.refused.writes ≡ 1) }
+{
+    device.write(512, bytes)
+}
+
+fn writes_that_found_no_memory_are_counted(device: &MemDevice) -> u64
+    requires { device.now.unnoted ≡ 3 }
+    ensures { result ≡ 3 }
+{
+    device.unnoted()
+}
+
 fn one_write_since_a_flush_is_one_unflushed(device: &MemDevice) -> usize
     requires { length device.now.disk.now.unflushed ≡ 1 }
     ensures { result ≡ 1 }
@@ -87,6 +102,15 @@ fn a_device_shows_its_files_disk<F: SectorFile + Drop>(file: F) -> Result<FileDe
     ensures { IfOk result (λ device. bytes_of device.disk.now ≡ zeros 2048) }
 {
     FileDevice::new(file)
+}
+
+fn a_device_on_a_file_has_refused_nothing_at_first<F: SectorFile + Drop>(
+    file: F,
+) -> Result<(), PoolError> {
+    let device = FileDevice::new(file)?;
+    let refused = device.refused();
+    prove!(refused == RefusedCalls::NONE);
+    Ok(())
 }
 
 fn what_is_written_to_a_file_is_read<F: SectorFile + Drop>(
