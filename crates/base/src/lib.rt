@@ -2,6 +2,7 @@
 #![tactic(auto)]
 
 mod bytes;
+mod clients;
 mod error;
 mod fields;
 mod laws;

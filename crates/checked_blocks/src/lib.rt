@@ -2,6 +2,7 @@
 #![tactic(auto)]
 
 mod block;
+mod clients;
 mod expected;
 mod frame;
 mod kind;

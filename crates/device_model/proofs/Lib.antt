@@ -4,3 +4,4 @@ pub mod NoteLists
 pub mod Tracks
 pub mod Sound
 pub mod Left
+pub mod AfterCalls

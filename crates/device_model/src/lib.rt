@@ -5,6 +5,7 @@
 //! of the bytes of a file of the system nothing is claimed.
 #![tactic(auto)]
 
+mod clients;
 mod device;
 mod fault;
 mod file;

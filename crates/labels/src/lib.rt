@@ -2,6 +2,7 @@
 #![tactic(auto)]
 
 mod choice;
+mod clients;
 mod config;
 mod geometry;
 mod laws;

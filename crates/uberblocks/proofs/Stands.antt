@@ -1,5 +1,5 @@
 -- Uberblocks in an image: there is one active one at most, and the next groups have other slots.
-use Rattle.std.proofs.Common.{◌≡◌, arith}
+use Rattle.std.proofs.Common.{arith}
 use Rattle.base.proofs.crash.OneMount.{one-active}
 use Rattle.uberblocks.specs.Laws.{ActivesAgree, SlotsDiffer}
 

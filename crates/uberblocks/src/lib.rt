@@ -6,6 +6,7 @@
 //! highest group.
 #![tactic(auto)]
 
+mod clients;
 mod laws;
 mod ring;
 mod uberblock;

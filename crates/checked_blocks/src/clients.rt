@@ -1,0 +1,136 @@
+//! What callers rest on: one function for each promise of this crate's calls, proved from the contract of the call alone. So it
+//! is refused as soon as that contract says less.
+
+ghost use Rattle.std.specs.Prelude.{◌≡◌, IsErrOf, IsOk, length};
+ghost use Rattle.base.specs.formats.Blocks.{IsSealed};
+ghost use Rattle.base.specs.formats.Fields.{number_at, part};
+
+use crate::block::{Block, seal};
+use crate::expected::Expected;
+use crate::frame::Frame;
+use crate::payload::{Payload, open};
+use base::{BLOCK_SIZE, Group, PoolError, Version};
+
+fn a_sealed_block_opens_and_gives_its_payload(payload: &[u8]) -> Result<(), PoolError>
+    requires { length payload.now ≡ 4032 }
+    ensures { IsOk result }
+{
+    let block = seal(5, 77, Group(9), 3, payload)?;
+    let expected = Expected {
+        address: 4_194_304,
+        kind: 5,
+        guid: 77,
+        number: 3,
+        group: Some(Group(9)),
+        check: Some(block.check()),
+    };
+    let opened = open(block.as_bytes(), &expected)?;
+    let same = opened.as_slice() == payload;
+    let born = opened.group();
+    prove!(same && born.0 == 9);
+    Ok(())
+}
+
+fn no_block_has_kind_7() -> Result<Block, PoolError>
+    ensures { IsErrOf result PoolError.BadRange }
+{
+    seal(7, 77, Group(9), 3, &[])
+}
+
+fn no_payload_has_4033_bytes(payload: &[u8]) -> Result<Block, PoolError>
+    requires { length payload.now ≡ 4033 }
+    ensures { IsErrOf result PoolError.BadRange }
+{
+    seal(5, 77, Group(9), 3, payload)
+}
+
+fn a_block_of_another_pool_does_not_open(block: &[u8; BLOCK_SIZE]) -> Result<Payload<'_>, PoolError>
+    requires { number_at block.now 8 ≡ 78 }
+    ensures { IsErrOf result (PoolError.Damaged 5 4194304) }
+{
+    open(
+        block,
+        &Expected {
+            address: 4_194_304,
+            kind: 5,
+            guid: 77,
+            number: 3,
+            group: None,
+            check: None,
+        },
+    )
+}
+
+fn a_block_of_a_lower_group_does_not_open(
+    block: &[u8; BLOCK_SIZE],
+) -> Result<Payload<'_>, PoolError>
+    requires { number_at block.now 16 ≡ 8 }
+    ensures { IsErrOf result (PoolError.Damaged 5 4194304) }
+{
+    open(
+        block,
+        &Expected {
+            address: 4_194_304,
+            kind: 5,
+            guid: 77,
+            number: 3,
+            group: Some(Group(9)),
+            check: None,
+        },
+    )
+}
+
+fn a_block_with_another_check_than_its_pointers_does_not_open(
+    block: &[u8; BLOCK_SIZE],
+    check: [u8; 32],
+) -> Result<Payload<'_>, PoolError>
+    requires { part block.now 32 32 ≡ check → ⊥ }
+    ensures { IsErrOf result (PoolError.Damaged 5 4194304) }
+{
+    open(
+        block,
+        &Expected {
+            address: 4_194_304,
+            kind: 5,
+            guid: 77,
+            number: 3,
+            group: None,
+            check: Some(check),
+        },
+    )
+}
+
+fn bytes_that_are_not_sealed_do_not_open(block: &[u8; BLOCK_SIZE]) -> Result<Payload<'_>, PoolError>
+    requires { IsSealed block.now → ⊥ }
+    ensures { IsErrOf result (PoolError.Damaged 5 4194304) }
+{
+    open(
+        block,
+        &Expected {
+            address: 4_194_304,
+            kind: 5,
+            guid: 77,
+            number: 3,
+            group: None,
+            check: None,
+        },
+    )
+}
+
+fn two_blocks_have_two_addresses() {
+    let frame = Frame::new(Version::One, 77, 2, Group(9));
+    let last = frame.is_block_address(4_198_400);
+    let past = frame.is_block_address(4_202_496);
+    let between = frame.is_block_address(4_194_816);
+    prove!(last);
+    prove!(!past);
+    prove!(!between);
+}
+
+fn a_frame_has_the_fields_that_it_was_made_of() {
+    let frame = Frame::new(Version::One, 77, 2, Group(9));
+    let guid = frame.guid();
+    let blocks = frame.blocks();
+    let group = frame.group();
+    prove!(guid == 77 && blocks == 2 && group.0 == 9);
+}

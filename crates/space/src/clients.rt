@@ -1,0 +1,136 @@
+//! What callers rest on: one function for each promise of this crate's calls, proved from the contract of the call alone. So it
+//! is refused as soon as that contract says less.
+
+ghost use Rattle.std.specs.Prelude.{◌≡◌, ◌≤◌, IfOk, IfSome, IsErrOf, IsTrue, true};
+ghost use Rattle.std.specs.FinSet as set;
+ghost use Rattle.space.specs.FreeSets.{is_free};
+
+use crate::free_set::FreeSet;
+use base::PoolError;
+use std::alloc::{AllocError, Global};
+
+fn a_taken_block_is_free_no_more(free: &mut FreeSet) {
+    free.take(3);
+    let is_free = free.is_free(3);
+    prove!(!is_free);
+}
+
+fn a_given_block_is_free(free: &mut FreeSet)
+    requires { 4 ≤ free.old.blocks }
+{
+    free.give(3);
+    let is_free = free.is_free(3);
+    prove!(is_free);
+}
+
+fn a_block_that_the_set_does_not_have_is_not_given(free: &mut FreeSet)
+    requires { free.old.blocks ≡ 24 }
+    ensures { free.new ≡ free.old }
+{
+    free.give(24);
+}
+
+fn the_first_free_block_is_taken_first(free: &mut FreeSet) -> Result<usize, PoolError>
+    requires { IsTrue (is_free 0 free.old) }
+    ensures { IfOk result (λ block. block ≡ 0) }
+{
+    free.take_lowest()
+}
+
+fn no_block_is_taken_where_none_is_free(free: &mut FreeSet) -> Result<usize, PoolError>
+    requires { set.len free.old.free ≡ 0 }
+    ensures refused { IsErrOf result PoolError.NoSpace }
+    ensures unchanged { free.new ≡ free.old }
+{
+    free.take_lowest()
+}
+
+// Of 24 free blocks 6 are reserved, and 18 stay available.
+fn reserved_blocks_are_available_no_more(free: &mut FreeSet) -> u64
+    requires free { set.len free.old.free ≡ 24 }
+    requires reserved { free.old.reserved ≡ 0 }
+    requires taken { free.old.taken ≡ 0 }
+    ensures { result ≡ 18 }
+{
+    let reserved = free.reserve(6, 16);
+    prove!(reserved.is_ok());
+    free.available()
+}
+
+// The 16 blocks that are kept back stay available.
+fn blocks_that_are_kept_back_are_not_given_away(free: &mut FreeSet) -> Result<(), PoolError>
+    requires free { set.len free.old.free ≡ 24 }
+    requires reserved { free.old.reserved ≡ 3 }
+    requires taken { free.old.taken ≡ 0 }
+    ensures refused { IsErrOf result PoolError.NoSpace }
+    ensures unchanged { free.new.reserved ≡ 3 }
+{
+    free.reserve(6, 16)
+}
+
+fn what_a_sync_takes_of_its_own_blocks_stays_available(free: &mut FreeSet) -> u64
+    requires free { set.len free.old.free ≡ 24 }
+    requires reserved { free.old.reserved ≡ 6 }
+    requires taken { free.old.taken ≡ 2 }
+    ensures { result ≡ 20 }
+{
+    free.available()
+}
+
+fn a_sync_counts_what_it_takes(free: &mut FreeSet) -> u64
+    requires free { set.len free.old.free ≡ 24 }
+    requires reserved { free.old.reserved ≡ 6 }
+    requires taken { free.old.taken ≡ 0 }
+    requires is_free { is_free 1 free.old ≡ true }
+    ensures { result ≡ 18 }
+{
+    free.take_for_sync(1);
+    free.available()
+}
+
+fn an_ended_sync_reserves_nothing(free: &mut FreeSet) -> u64
+    requires free { set.len free.old.free ≡ 22 }
+    requires reserved { free.old.reserved ≡ 6 }
+    requires taken { free.old.taken ≡ 2 }
+    ensures { result ≡ 22 }
+{
+    free.end_sync(6);
+    free.available()
+}
+
+fn another_reservation_stays(free: &mut FreeSet) -> u64
+    requires free { set.len free.old.free ≡ 24 }
+    requires reserved { free.old.reserved ≡ 10 }
+    requires taken { free.old.taken ≡ 0 }
+    ensures { result ≡ 18 }
+{
+    free.unreserve(4);
+    free.available()
+}
+
+fn a_free_block_is_not_passed_over(free: &FreeSet) -> Option<usize>
+    requires { IsTrue (is_free 3 free.now) }
+    ensures { IfSome result (λ block. block ≤ 3) }
+{
+    free.next_from(1)
+}
+
+fn a_count_of_free_blocks_is_theirs(free: &FreeSet) -> u64
+    requires { set.len free.now.free ≡ 24 }
+    ensures { result ≡ 24 }
+{
+    free.free()
+}
+
+fn all_blocks_of_a_new_set_are_free(alloc: Global) -> Result<(), AllocError> {
+    let free = FreeSet::new(alloc, 24)?;
+    let last = free.is_free(23);
+    let past = free.is_free(24);
+    let count = free.free();
+    let available = free.available();
+    let blocks = free.blocks();
+    prove!(last);
+    prove!(!past);
+    prove!(blocks == 24 && available == count);
+    Ok(())
+}
