@@ -24,7 +24,7 @@ fn a_second_transaction_may_begin() {
     prove!(second == Ok(Group(9)));
 }
 
-// No transaction begins where 64 are open, those of both groups together.
+// No transaction begins while 64 are open, those of both groups together.
 fn a_sixty_fifth_transaction_is_refused(groups: &mut Groups) -> Result<Group, PoolError>
     requires { groups.old.open_holds + groups.old.middle_holds ≡ 64 }
     ensures refused { result ≡ Err PoolError.NotReady }

@@ -35,7 +35,7 @@ fn the_first_lock_has_name_0(alloc: Global) -> Result<LockId, PoolError>
     locks.lock(ONE, bytes(0, 10), Mode::Writer)
 }
 
-// A writer may not touch the last byte that a reader has.
+// A writer may not touch the last byte that a reader has locked.
 fn a_writer_waits_for_a_reader(locks: &mut RangeLocks) -> Result<LockId, PoolError>
     requires { locks.old.locks ≡ record {
       id = 3;
@@ -100,7 +100,7 @@ fn a_refused_lock_uses_up_no_name(
     locks.lock(ONE, range, Mode::Reader)
 }
 
-// Where 256 locks are held, no other is granted.
+// While 256 locks are held, no other is granted.
 fn no_more_than_256_locks_are_held(locks: &mut RangeLocks) -> bool
     requires { length locks.old.locks ≡ 256 }
     ensures { result ≡ false }

@@ -29,7 +29,7 @@ fn a_write_makes_no_object_shorter() {
     prove!(Basis::Made(50).after_write(40) == Basis::Made(50));
 }
 
-// The length of an object is its own where the group set one, and no object has none.
+// An object has the length that the group set, and an absent one has none.
 fn a_cut_object_has_its_own_length() {
     let cut = Basis::Cut { kept: 1, length: 3 };
     prove!(cut.length_over(Some(10)) == Some(3));

@@ -30,7 +30,7 @@ fn bytes_after_a_cut_do_not_show(
     Ok(())
 }
 
-// So it is where the bytes of the object below are at hand.
+// So it is if the caller has the bytes of the object below.
 fn bytes_after_a_cut_are_laid_over(extents: &Extents, into: &mut [u8])
     requires basis { (patches_of extents.now 7).basis ≡ basis.Cut 1 3 }
     requires written { (i : ℕ) → (patches_of extents.now 7).written i ≡ None }
@@ -41,7 +41,7 @@ fn bytes_after_a_cut_are_laid_over(extents: &Extents, into: &mut [u8])
     extents.lay_over(ObjectId(7), 0, 0, Some(3), into);
 }
 
-// Where the first byte was written and the second was not, the second one of the object below shows.
+// If the first byte was written and the second was not, the second one of the object below shows.
 fn a_byte_that_was_not_written_shows(
     extents: &Extents,
     contents: &Contents,

@@ -50,7 +50,7 @@ fn no_plan_that_overlaps_an_open_one_is_admitted(
     table.admit(Owner(2), Group(9), plan)
 }
 
-// Where 64 are open, no other is admitted.
+// While 64 are open, no other is admitted.
 fn a_sixty_fifth_transaction_is_refused(
     table: &mut OpenTransactions,
     plan: Plan,
@@ -64,7 +64,7 @@ fn a_sixty_fifth_transaction_is_refused(
     table.admit(Owner(1), Group(9), plan)
 }
 
-// A plan is blocked from the bytes of an open one, and from no others.
+// A plan is blocked if it touches a byte of an open one, and not by the byte after them.
 fn a_plan_is_blocked_where_it_overlaps(table: &OpenTransactions)
     requires { table.now.transactions ≡ record {
       tx = 3;

@@ -26,7 +26,7 @@ fn a_record_of_a_create_has_27_bytes(
     encode_record(alloc, committed)
 }
 
-// Where there is room for these 27 bytes the record is appended, with no memory.
+// If there is room for its 27 bytes, the record is appended without memory.
 fn a_record_with_its_room_is_appended(
     out: &mut Vec<u8>,
     committed: &Record,
