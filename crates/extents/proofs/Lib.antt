@@ -12,3 +12,4 @@ pub mod ReadRecords
 pub mod SamePatches
 pub mod LaidBytes
 pub mod LaidContents
+pub mod SmallObjects

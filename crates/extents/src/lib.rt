@@ -2,6 +2,7 @@
 #![tactic(auto)]
 
 mod basis;
+mod clients;
 mod extents;
 mod laid;
 mod laws;

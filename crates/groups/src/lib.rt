@@ -1,6 +1,7 @@
 //! The line of transaction groups, and how many open transactions hold each.
 #![tactic(auto)]
 
+mod clients;
 mod laws;
 mod line;
 

@@ -13,3 +13,5 @@ pub mod LoadedTrees
 pub mod WalkOrder
 pub mod WalkFaults
 pub mod WalkParts
+pub mod HeldTrees
+pub mod JudgedLists

@@ -1,6 +1,7 @@
 //! The objects of a pool in memory, and the tree of blocks that they are loaded from.
 #![tactic(auto)]
 
+mod clients;
 mod contents;
 mod digests;
 mod judging;

@@ -1,6 +1,7 @@
 //! The range locks of a pool (`zfs_rlock.c`): readers may overlap readers, a writer overlaps nothing.
 #![tactic(auto)]
 
+mod clients;
 mod held;
 mod locks;
 mod numbers;

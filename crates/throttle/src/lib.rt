@@ -1,6 +1,7 @@
 //! The dirty bytes of the unsynced groups, and the limit at which a transaction has to wait.
 #![tactic(auto)]
 
+mod clients;
 mod dirty;
 mod laws;
 

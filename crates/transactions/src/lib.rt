@@ -1,6 +1,7 @@
 //! Transactions: the plans that they keep to, which of them are open, and their records for the intent log (`zil.c`).
 #![tactic(auto)]
 
+mod clients;
 mod laws;
 mod open;
 mod plan;

@@ -1,0 +1,41 @@
+-- What patches make of an object of three bytes, and of none.
+use Rattle.std.proofs.Common.{◌≡◌, ℕ, ◌<◌, List, [], ◌∷◌, get_or, refl, ap, ◌∙◌, Option, Some, None}
+use Rattle.std.specs.Prelude.{unwrap_or}
+use Rattle.std.specs.Ordering.{nat_cmp}
+use Rattle.std.specs.FinMap as finite
+use Rattle.std.specs.FinMap.{FinMap}
+use Rattle.base.specs.formats.Limits.{object_count}
+use Rattle.object_maps.specs.Sources.{object_bytes}
+use Rattle.extents.specs.declared.basis.Basis.TheVariants.{Grown, Cut, Made}
+use Rattle.extents.specs.Patches.{Patch, Patches, filled, laid_over, patched}
+use Rattle.extents.proofs.LaidObjects.{get-laid_over}
+use Rattle.extents.proofs.PatchedBytes.{filled-in}
+
+-- cut to one byte, and three bytes long again
+pub cut-three : (p : Patch) (below : Option (List ℕ)) → p.basis ≡ Cut 1 3 → ((i : ℕ) → p.written i ≡ None) → below ≡ Some (1 ∷ 2 ∷ 3 ∷ [])
+    → patched p below ≡ Some (1 ∷ 0 ∷ 0 ∷ [])
+cut-three p below is none there = rw (is, there, none 0, none 1, none 2) refl
+
+-- with its first byte written
+pub written-three : (p : Patch) (below : Option (List ℕ)) → p.basis ≡ Grown 1 → p.written 0 ≡ Some 9 → p.written 1 ≡ None → below ≡ Some (1 ∷ 2 ∷ 3 ∷ [])
+    → patched p below ≡ Some (9 ∷ 2 ∷ unwrap_or (p.written 2) 3 ∷ [])
+written-three p below is first second there = rw (is, there, first, second) refl
+
+made-bytes : (p : Patch) (below : Option (List ℕ)) (size : ℕ) → p.basis ≡ Made size → patched p below ≡ Some (filled p.written [] size)
+made-bytes p below size is = rw is refl
+
+made-byte : (written : ℕ → Option ℕ) (size k x : ℕ) → k < size → written k ≡ Some x → get_or (filled written [] size) k 0 ≡ x
+made-byte written size k x low is = filled-in written [] size k low ∙ ap (λ (o : Option ℕ). unwrap_or o (get_or [] k 0)) is
+
+-- the bytes of objects with patches laid over them
+pub laid-bytes : (patches : Patches) (below objects : FinMap nat_cmp (List ℕ)) (n : ℕ) (bytes : List ℕ) → n < object_count → objects ≡ laid_over patches below
+    → patched (patches n) (finite.get below n) ≡ Some bytes → object_bytes objects n ≡ bytes
+laid-bytes patches below objects n bytes low is made =
+    ap (λ (m : FinMap nat_cmp (List ℕ)). object_bytes m n) is ∙ ap (λ (o : Option (List ℕ)). unwrap_or o []) (get-laid_over patches below n low ∙ made)
+
+-- a byte that was written into a created object
+pub laid-made : (patches : Patches) (below objects : FinMap nat_cmp (List ℕ)) (n size k x : ℕ) → n < object_count → objects ≡ laid_over patches below
+    → (patches n).basis ≡ Made size → k < size → (patches n).written k ≡ Some x → get_or (object_bytes objects n) k 0 ≡ x
+laid-made patches below objects n size k x low is basis inside written =
+    ap (λ (b : List ℕ). get_or b k 0) (laid-bytes patches below objects n (filled (patches n).written [] size) low is (made-bytes (patches n) (finite.get below n) size basis))
+    ∙ made-byte (patches n).written size k x inside written

@@ -1,0 +1,70 @@
+//! What callers rest on of the changes of groups: operations are applied to their own group, and groups move up.
+
+ghost use Rattle.std.specs.Prelude.{◌≡◌, IfOk, OnOk, Some};
+ghost use Rattle.extents.specs.Patches.{no_patch};
+ghost use Rattle.extents.specs.Tables.{patches_of};
+ghost use Rattle.extents.specs.Unsynced.{changes_at, extents_at};
+ghost use Rattle.extents.specs.declared.basis.Basis.TheVariants as basis;
+
+use crate::extents::Extents;
+use crate::unsynced::UnsyncedExtents;
+use base::{ObjectId, Op};
+use std::alloc::{AllocError, Global};
+
+// Nothing is changed at first: an object has the length of the one below.
+fn nothing_is_changed_at_first(alloc: Global) {
+    let extents = Extents::new(alloc);
+    prove!(extents.length_over(ObjectId(7), Some(500)) == Some(500));
+}
+
+// What an added operation makes of an object is seen, and of no other.
+fn an_added_length_is_seen(alloc: Global) -> Result<(Option<u64>, Option<u64>), AllocError>
+    ensures here { IfOk result (λ lengths. lengths.0 ≡ Some 100) }
+    ensures other { IfOk result (λ lengths. lengths.1 ≡ Some 500) }
+{
+    let mut extents = Extents::new(alloc);
+    extents.add(&[Op::SetLength(ObjectId(7), 100)])?;
+    let here = extents.length_over(ObjectId(7), Some(500));
+    let other = extents.length_over(ObjectId(8), Some(500));
+    Ok((here, other))
+}
+
+// Operations that have their room are applied without memory.
+fn an_applied_length_is_seen(extents: &mut Extents) -> Result<(), AllocError>
+    requires { (patches_of extents.old 7).basis ≡ basis.Made 0 }
+    ensures { OnOk result ((patches_of extents.new 7).basis ≡ basis.Made 100) }
+{
+    let ops = [Op::SetLength(ObjectId(7), 100)];
+    extents.reserve(&ops)?;
+    extents.apply(&ops);
+    Ok(())
+}
+
+// The operations of the second group change what that group made, and not what the third one made.
+fn operations_go_to_their_group(unsynced: &mut UnsyncedExtents) -> Result<(), AllocError>
+    requires { (changes_at unsynced.old 1 7).basis ≡ basis.Made 0 }
+    ensures here { OnOk result ((changes_at unsynced.new 1 7).basis ≡ basis.Made 100) }
+    ensures others { OnOk result (extents_at unsynced.new 2 ≡ extents_at unsynced.old 2) }
+{
+    let ops = [Op::SetLength(ObjectId(7), 100)];
+    unsynced.reserve(1, &ops)?;
+    unsynced.apply(1, &ops);
+    Ok(())
+}
+
+// The group after a synced one is the oldest then, with what it made, and the last place is free.
+fn the_groups_move_up(unsynced: &mut UnsyncedExtents)
+    requires { (changes_at unsynced.old 1 7).basis ≡ basis.Made 100 }
+    ensures oldest { (changes_at unsynced.new 0 7).basis ≡ basis.Made 100 }
+    ensures last { changes_at unsynced.new 2 7 ≡ no_patch }
+{
+    unsynced.drop_oldest();
+}
+
+// The oldest group has place 0.
+fn the_oldest_group_has_place_0(unsynced: &UnsyncedExtents) -> Option<u64>
+    requires { (changes_at unsynced.now 0 7).basis ≡ basis.Made 100 }
+    ensures { result ≡ Some 100 }
+{
+    unsynced.oldest().length_over(ObjectId(7), None)
+}

@@ -1,0 +1,93 @@
+//! What callers rest on of objects with changes laid over them: written bytes, and bytes below as far as they show.
+
+ghost use Rattle.std.specs.Prelude.{ℕ, ◌≡◌, ◌∷◌, [], None, OnOk, Some, get_or, length};
+ghost use Rattle.std.specs.FinMap as finite;
+ghost use Rattle.object_maps.specs.ContentsShown.{contents_of};
+ghost use Rattle.extents.specs.Tables.{patches_of};
+ghost use Rattle.extents.specs.declared.basis.Basis.TheVariants as basis;
+
+use crate::extents::Extents;
+use crate::laid::Laid;
+use base::{ObjectId, PoolError};
+use object_maps::{Contents, ObjectSource};
+use std::alloc::AllocError;
+
+// Of an object that was cut to its first byte, and made three bytes long again, that byte shows and then zeros.
+fn bytes_after_a_cut_do_not_show(
+    extents: &Extents,
+    contents: &Contents,
+    into: &mut [u8],
+) -> Result<(), PoolError>
+    requires basis { (patches_of extents.now 7).basis ≡ basis.Cut 1 3 }
+    requires written { (i : ℕ) → (patches_of extents.now 7).written i ≡ None }
+    requires object { finite.get (contents_of contents.now).objects 7 ≡ Some (1 ∷ 2 ∷ 3 ∷ []) }
+    requires size { length into.old ≡ 2 }
+    ensures first { OnOk result (get_or into.new 0 0 ≡ 1) }
+    ensures second { OnOk result (get_or into.new 1 0 ≡ 0) }
+{
+    let mut laid = Laid::new(extents, contents);
+    laid.read_part(ObjectId(7), 0, 0, into)?;
+    Ok(())
+}
+
+// So it is if the caller has the bytes of the object below.
+fn bytes_after_a_cut_are_laid_over(extents: &Extents, into: &mut [u8])
+    requires basis { (patches_of extents.now 7).basis ≡ basis.Cut 1 3 }
+    requires written { (i : ℕ) → (patches_of extents.now 7).written i ≡ None }
+    requires bytes { into.old ≡ 1 ∷ 2 ∷ 3 ∷ [] }
+    ensures first { get_or into.new 0 0 ≡ 1 }
+    ensures second { get_or into.new 1 0 ≡ 0 }
+{
+    extents.lay_over(ObjectId(7), 0, 0, Some(3), into);
+}
+
+// If the first byte was written and the second was not, the second one of the object below shows.
+fn a_byte_that_was_not_written_shows(
+    extents: &Extents,
+    contents: &Contents,
+    into: &mut [u8],
+) -> Result<(), PoolError>
+    requires basis { (patches_of extents.now 7).basis ≡ basis.Grown 1 }
+    requires first { (patches_of extents.now 7).written 0 ≡ Some 9 }
+    requires second { (patches_of extents.now 7).written 1 ≡ None }
+    requires object { finite.get (contents_of contents.now).objects 7 ≡ Some (1 ∷ 2 ∷ 3 ∷ []) }
+    requires size { length into.old ≡ 2 }
+    ensures first { OnOk result (get_or into.new 0 0 ≡ 9) }
+    ensures second { OnOk result (get_or into.new 1 0 ≡ 2) }
+{
+    let mut laid = Laid::new(extents, contents);
+    laid.read_part(ObjectId(7), 0, 0, into)?;
+    Ok(())
+}
+
+// A read of record 1 has what was written into that record.
+fn a_read_has_the_changes_of_its_record(
+    extents: &Extents,
+    contents: &Contents,
+    into: &mut [u8],
+) -> Result<(), PoolError>
+    requires basis { (patches_of extents.now 7).basis ≡ basis.Made 4033 }
+    requires written { (patches_of extents.now 7).written 4032 ≡ Some 9 }
+    requires size { length into.old ≡ 1 }
+    ensures { OnOk result (get_or into.new 0 0 ≡ 9) }
+{
+    let mut laid = Laid::new(extents, contents);
+    laid.read_part(ObjectId(7), 1, 0, into)?;
+    Ok(())
+}
+
+// Once the group is synced, bytes after its cut don't come back in the contents.
+fn bytes_after_a_cut_do_not_come_back(
+    extents: &Extents,
+    contents: &mut Contents,
+) -> Result<(), AllocError>
+    requires basis { (patches_of extents.now 7).basis ≡ basis.Cut 1 3 }
+    requires written { (i : ℕ) → (patches_of extents.now 7).written i ≡ None }
+    requires object { finite.get (contents_of contents.old).objects 7 ≡ Some (1 ∷ 2 ∷ 3 ∷ []) }
+    ensures { OnOk result (finite.get (contents_of contents.new).objects 7
+        ≡ Some (1 ∷ 0 ∷ 0 ∷ [])) }
+{
+    extents.reserve_in(contents)?;
+    extents.lay_into(contents);
+    Ok(())
+}

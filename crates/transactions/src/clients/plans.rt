@@ -1,0 +1,74 @@
+//! What callers rest on of plans: their limits, what they touch and what they are charged.
+
+ghost use Rattle.std.specs.Prelude.{◌≡◌, Some, false, true};
+ghost use Rattle.base.specs.history.Contents.{Contents, length_of};
+ghost use Rattle.transactions.specs.Lengths.{TellsLengths};
+
+use crate::plan::{
+    charge, estimate, is_in_plan, is_plan_allowed, is_shrinking, is_too_large, plans_overlap,
+    range_of,
+};
+use base::{ObjectId, Op, Shape};
+
+// A plan has a shape, and its writes end at the greatest length at most.
+fn a_write_ends_at_the_greatest_length() {
+    prove!(!is_plan_allowed(&[]));
+    prove!(is_plan_allowed(&[Shape::Write(ObjectId(0), 338_680, 8)]));
+    prove!(!is_plan_allowed(&[Shape::Write(ObjectId(0), 338_681, 8)]));
+}
+
+// A record of 4,008 bytes is not too large, and one of 4,009 is.
+fn a_record_of_4009_bytes_is_too_large() {
+    prove!(!is_too_large(&[Shape::Write(ObjectId(0), 0, 3_969)]));
+    prove!(is_too_large(&[Shape::Write(ObjectId(0), 0, 3_970)]));
+}
+
+// A write touches its bytes and none after them.
+fn a_write_touches_its_bytes() {
+    let touched = range_of(&Shape::Write(ObjectId(7), 100, 20));
+    prove!(touched.object.0 == 7);
+    prove!(touched.range.low == 100);
+    prove!(touched.range.high == 120);
+}
+
+// Two writes overlap if they have a byte in common.
+fn writes_overlap_in_a_common_byte() {
+    let plan = [Shape::Write(ObjectId(7), 0, 10)];
+    prove!(plans_overlap(&plan, &[Shape::Write(ObjectId(7), 9, 1)]));
+    prove!(!plans_overlap(&plan, &[Shape::Write(ObjectId(7), 10, 1)]));
+    prove!(!plans_overlap(&plan, &[Shape::Write(ObjectId(8), 9, 1)]));
+}
+
+// Operations have to have each shape of the plan.
+fn no_shape_of_a_plan_may_be_missing() {
+    let ops = [Op::Create(ObjectId(7))];
+    prove!(is_in_plan(&ops, &[Shape::Create(ObjectId(7))]));
+    prove!(!is_in_plan(
+        &ops,
+        &[Shape::Create(ObjectId(7)), Shape::Create(ObjectId(8))]
+    ));
+}
+
+// A write that touches two records is estimated at five blocks.
+fn a_write_over_two_records_takes_five_blocks() {
+    prove!(estimate(&[Shape::Write(ObjectId(0), 4_000, 64)]) == 5);
+    prove!(charge(&[Shape::Write(ObjectId(0), 4_000, 64)]) == 20_480);
+}
+
+// A plan that sets an object to a greater length does not shrink.
+fn a_longer_object_does_not_shrink<F: Fn(ObjectId) -> Option<u64>>(lengths: &F) -> bool
+    requires { F.IsAlwaysCallable lengths.now }
+    ensures { (c : Contents) → TellsLengths (F.post lengths.now) c
+        → length_of c 5 ≡ Some 100 → result ≡ false }
+{
+    is_shrinking(&[Shape::SetLength(ObjectId(5), 101)], lengths)
+}
+
+// One that cuts it shrinks.
+fn a_cut_object_shrinks<F: Fn(ObjectId) -> Option<u64>>(lengths: &F) -> bool
+    requires { F.IsAlwaysCallable lengths.now }
+    ensures { (c : Contents) → TellsLengths (F.post lengths.now) c
+        → length_of c 5 ≡ Some 100 → result ≡ true }
+{
+    is_shrinking(&[Shape::SetLength(ObjectId(5), 99)], lengths)
+}
