@@ -128,7 +128,7 @@ byte_kept size old new is writes =
     let last : KeepsOutside (IsPoolByte size) old.now new.now = latest (KeepsOutside (IsPoolByte size) old.now) old new writes in
     last.bytes.others 524288 (λ inside. outside_pool (subst (λ (n : ℕ). IsPoolByte n 524288) is inside))
 
--- what an inspection tells of what is mounted
+-- what an inspection reports of what is mounted
 module _ (image : List ℕ) (u : Uberblock) (contents : Contents) (mounts : Mounts image u [] contents) where
   pub told_of : (i : Inspected) → IsInspectionOf image i → (i.name ≡ contents.name) × (i.lengths.items ≡ listed contents.objects) × (i.group.0 ≡ u.group) × (i.import_number ≡ u.import_number)
   told_of i inspected =

@@ -35,7 +35,7 @@ fn a_new_pool_is_imported<D: SectorDevice>(
     }
 }
 
-// An import of group 9 and import 3 makes an uberblock of group 13 and import 4 the active one.
+// If group 9 and import 3 are active, an import makes an uberblock of group 13 and import 4 the active one.
 fn the_next_uberblock_is_active<D: SectorDevice>(
     alloc: Global,
     device: D,
@@ -60,7 +60,7 @@ fn no_block_of_the_tree_is_free<D: SectorDevice>(
     import(alloc, device, 1_048_576, 0)
 }
 
-// An import that is refused for memory has written nothing: a disk where nothing was unflushed is as it was.
+// An import that is refused for memory has written nothing: a disk with nothing unflushed stays as it was.
 fn memory_lacks_before_the_first_write<D: SectorDevice>(
     alloc: Global,
     device: D,
@@ -82,7 +82,7 @@ fn a_limit_below_a_block_leaves_the_device<D: SectorDevice>(
     import(alloc, device, 4_095, 0)
 }
 
-// An import of group 9 says so, and that no log record was replayed.
+// If an import synced group 9, `group` returns 9. `records` returns 0.
 fn an_import_has_its_group<D: SectorDevice>(imported: &Imported<D>) -> Group
     requires { imported.now.mounted.group.0 ≡ 9 }
     ensures { result.0 ≡ 9 }
@@ -92,7 +92,7 @@ fn an_import_has_its_group<D: SectorDevice>(imported: &Imported<D>) -> Group
     imported.group()
 }
 
-// A create whose flush the device refused has one refused flush, and no refused write.
+// A create returns the kind of call that the device refused: a refused flush counts as one, and no write was refused.
 fn a_refused_flush_is_no_refused_write<D: SectorDevice>(device: D) -> Result<D, (PoolError, D)>
     requires { D.refused device ≡ record { reads = 0; writes = 0; flushes = 0 } }
     ensures flush { IfErr result (λ e. e.0 ≡ PoolError.Flush
@@ -103,7 +103,7 @@ fn a_refused_flush_is_no_refused_write<D: SectorDevice>(device: D) -> Result<D, 
     create(device, b"tank", 77, 0)
 }
 
-// A create leaves the first byte behind the first two labels, whatever it answers.
+// A create does not change the first byte after the first two labels, whatever it returns.
 fn a_create_leaves_what_lies_behind_the_labels<D: SectorDevice>(
     device: D,
 ) -> Result<D, (PoolError, D)>
@@ -117,7 +117,7 @@ fn a_create_leaves_what_lies_behind_the_labels<D: SectorDevice>(
     create(device, b"tank", 77, 0)
 }
 
-// A pool without a name is refused, and the device comes back as it was.
+// A create without a name is refused, and the device comes back as it was.
 fn a_pool_has_a_name<D: SectorDevice>(device: D) -> Result<D, (PoolError, D)>
     requires { D.size device ≡ 8388608 }
     ensures refused { IsErr result }
@@ -127,12 +127,12 @@ fn a_pool_has_a_name<D: SectorDevice>(device: D) -> Result<D, (PoolError, D)>
     create(device, b"", 77, 0)
 }
 
-// An inspection finds the pool of an image that mounts contents without a log, and tells their name and objects.
-fn an_inspection_tells_what_is_mounted<D: SectorDevice>(
+// If an image mounts contents without a log, an inspection finds the pool and reports their name and objects.
+fn an_inspection_reports_what_is_mounted<D: SectorDevice>(
     alloc: Global,
     device: &mut D,
 ) -> Result<Inspected, PoolError>
-    ensures told { IsTrue D.keeps_model → IfOk result (λ i. (u : image.Uberblock)
+    ensures reported { IsTrue D.keeps_model → IfOk result (λ i. (u : image.Uberblock)
         → (contents : Contents) → Mounts (bytes_of (D.disk device.old).now) u [] contents
         → (i.name ≡ contents.name) × (i.lengths.items ≡ listed contents.objects)
         × (i.group.0 ≡ u.group) × (i.import_number ≡ u.import_number)) }
@@ -143,7 +143,7 @@ fn an_inspection_tells_what_is_mounted<D: SectorDevice>(
     inspect(alloc, device)
 }
 
-// A device of 512 bytes is no pool's, and an inspection leaves it as it was.
+// A device of 512 bytes is too small for a pool, and a refused inspection leaves it as it was.
 fn an_inspection_needs_a_size<D: SectorDevice>(
     alloc: Global,
     device: &mut D,
@@ -156,18 +156,18 @@ fn an_inspection_needs_a_size<D: SectorDevice>(
     inspect(alloc, device)
 }
 
-// What is told of a pool with one object of five bytes has that length.
-fn the_objects_told_have_their_lengths(told: &Inspected) -> u64
-    requires { told.now.lengths.items ≡ (record { 0 = 7 }, 5) ∷ [] }
+// If an inspection found one object of five bytes, `objects` returns that length.
+fn the_objects_reported_have_their_lengths(inspected: &Inspected) -> u64
+    requires { inspected.now.lengths.items ≡ (record { 0 = 7 }, 5) ∷ [] }
     ensures { result ≡ 5 }
 {
-    told.objects()[0].1
+    inspected.objects()[0].1
 }
 
-// And its name.
-fn the_name_told_is_that_of_the_pool(told: &Inspected) -> &PoolName
-    requires { told.now.name ≡ 116 ∷ 97 ∷ 110 ∷ 107 ∷ [] }
+// `name` returns the name that the inspection found.
+fn the_name_reported_is_that_of_the_pool(inspected: &Inspected) -> &PoolName
+    requires { inspected.now.name ≡ 116 ∷ 97 ∷ 110 ∷ 107 ∷ [] }
     ensures { result.now ≡ 116 ∷ 97 ∷ 110 ∷ 107 ∷ [] }
 {
-    told.name()
+    inspected.name()
 }

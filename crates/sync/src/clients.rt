@@ -13,7 +13,7 @@ use device_model::SectorDevice;
 use labels::Geometry;
 use std::alloc::Global;
 
-// A new sync of no blocks that leaves the configs has six calls, and has made none.
+// A new sync without blocks and label stages has six calls, and has made none.
 fn a_sync_of_no_blocks_has_six_calls(
     alloc: Global,
     geometry: Geometry,
@@ -44,7 +44,7 @@ fn label_stages_add_six_calls(
     run
 }
 
-// The first call of two blocks writes the first block at its own place, and no other byte.
+// The first call of a sync of two blocks writes the first block at its place, and no other byte.
 fn the_first_block_is_written_first<D: SectorDevice>(
     run: &mut SyncRun,
     device: &mut D,
@@ -75,7 +75,7 @@ fn a_flush_follows_the_last_block<D: SectorDevice>(
     run.next(device)
 }
 
-// Three calls are made: a refused call is the next one still, and one that the device makes counts.
+// After three calls, a refused call remains the next one, and a call that the device makes is counted.
 fn a_refused_call_is_the_next_one_still<D: SectorDevice>(
     run: &mut SyncRun,
     device: &mut D,
@@ -89,7 +89,7 @@ fn a_refused_call_is_the_next_one_still<D: SectorDevice>(
     run.next(device)
 }
 
-// The sixth call of six is told as the last, and the fifth is not.
+// The sixth call of six reports that it is the last, and the fifth does not.
 fn the_sixth_call_of_six_is_the_last<D: SectorDevice>(
     run: &mut SyncRun,
     device: &mut D,

@@ -53,7 +53,7 @@ fn a_cut_makes_the_record_that_it_goes_into_dirty() -> ObjectChanges
     changes
 }
 
-// A removed object has holes alone, also where it was written before.
+// A removed object has only holes, even if it was written before.
 fn a_removed_object_has_holes_alone() -> ObjectChanges
     ensures first { state_at result 0 ≡ state.Hole }
     ensures last { state_at result 83 ≡ state.Hole }
@@ -65,7 +65,7 @@ fn a_removed_object_has_holes_alone() -> ObjectChanges
     changes
 }
 
-// What group 5 did is no part of group 6.
+// Operations of group 5 change nothing in group 6.
 fn operations_of_another_group_are_left_out(
     alloc: Global,
     maps: &[ObjectMap],
@@ -77,7 +77,7 @@ fn operations_of_another_group_are_left_out(
     changed_objects(alloc, maps, pending, Group(6))
 }
 
-// A new length of 5,000 bytes is a cut where the tree has 12,096: record 2 becomes a hole.
+// If the tree has 12,096 bytes, a new length of 5,000 is a cut: record 2 becomes a hole.
 fn a_length_is_cut_from_that_of_the_tree(
     alloc: Global,
     maps: &[ObjectMap],
@@ -108,7 +108,7 @@ fn a_plan_takes_the_lowest_free_blocks<O: ObjectSource>(
     plan(source, after, objects)
 }
 
-// A group that leaves no record dirty, has set no length and leaves no object takes no block.
+// A group that leaves no record dirty, writes no object, sets no length and leaves no object takes no block.
 fn what_is_unchanged_is_not_written<O: ObjectSource>(
     source: &PlanSource<'_>,
     after: &mut O,
@@ -124,7 +124,7 @@ fn what_is_unchanged_is_not_written<O: ObjectSource>(
     plan(source, after, objects)
 }
 
-// A block that is new at record 2 of object 7 is a data block of number 590, and has the record.
+// A new block at record 2 of object 7 is data block 590 and holds that record.
 fn a_new_data_block_has_its_record<O: ObjectSource>(
     source: &PlanSource<'_>,
     after: &mut O,
@@ -137,7 +137,7 @@ fn a_new_data_block_has_its_record<O: ObjectSource>(
     plan(source, after, objects)
 }
 
-// A block that is new at the indirect block of object 7 is one of number 7, and has the pointers to the records.
+// A new indirect block of object 7 has number 7 and holds the pointers to its records.
 fn a_new_indirect_block_has_the_number_of_its_object<O: ObjectSource>(
     source: &PlanSource<'_>,
     after: &mut O,
@@ -150,7 +150,7 @@ fn a_new_indirect_block_has_the_number_of_its_object<O: ObjectSource>(
     plan(source, after, objects)
 }
 
-// Object 7 has three bytes after the group, and the tree that is planned says so; object 8 keeps its length.
+// If object 7 has three bytes after the group, the planned tree has that length. Object 8 keeps its own.
 fn a_planned_object_has_its_new_length<O: ObjectSource>(
     source: &PlanSource<'_>,
     after: &mut O,
@@ -167,7 +167,7 @@ fn a_planned_object_has_its_new_length<O: ObjectSource>(
     plan(source, after, objects)
 }
 
-// A plan leaves the objects that it reads: a second one gives object 7 the same three bytes.
+// A plan does not change the objects that it reads: a second plan has the same length of object 7.
 fn a_second_plan_sees_the_same_objects<O: ObjectSource>(
     source: &PlanSource<'_>,
     after: &mut O,
@@ -182,7 +182,7 @@ fn a_second_plan_sees_the_same_objects<O: ObjectSource>(
     plan(source, after, objects)
 }
 
-// Where the operations are on an object, the block of the old root comes back.
+// If an operation is on an object, the block of the old root comes back.
 fn a_replaced_root_comes_back<O: ObjectSource>(
     source: &PlanSource<'_>,
     after: &mut O,
@@ -198,7 +198,7 @@ fn a_replaced_root_comes_back<O: ObjectSource>(
     plan(source, after, objects)
 }
 
-// Where as many blocks are free as there are places to write, and no read is refused, only memory may lack.
+// If enough blocks are free and no read is refused, a plan may be refused only for memory.
 fn free_blocks_suffice_for_the_places_written<O: ObjectSource>(
     source: &PlanSource<'_>,
     after: &mut O,
