@@ -23,3 +23,4 @@ pub mod OwnRefusals
 pub mod ShownMounts
 pub mod UsedBlocks
 pub mod Inspections
+pub mod Promises

@@ -2,6 +2,7 @@
 //! there, and `inspect` tells what `import` would mount (On-Disk Specification, chapter 1).
 #![tactic(auto)]
 
+mod clients;
 mod creation;
 mod finding;
 mod free_blocks;

@@ -15,3 +15,4 @@ pub mod LaidViews
 pub mod KeptPhases
 pub mod PhasesSince
 pub mod ConfigWrites
+pub mod Promises

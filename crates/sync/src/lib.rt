@@ -2,6 +2,7 @@
 #![tactic(auto)]
 
 mod call;
+mod clients;
 mod laws;
 mod run;
 

@@ -8,3 +8,4 @@ pub mod Uses
 pub mod Order
 pub mod Room
 mod Parts
+pub mod Promises

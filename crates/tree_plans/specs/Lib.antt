@@ -8,3 +8,4 @@ pub mod Order
 pub mod Room
 pub mod Parts
 pub mod TreePlans
+pub mod NewBlocks

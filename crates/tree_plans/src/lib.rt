@@ -2,6 +2,7 @@
 #![tactic(auto)]
 
 mod changes;
+mod clients;
 mod freed;
 mod payload;
 mod place;

@@ -1,0 +1,173 @@
+//! What callers rest on: one function for each promise of this crate's calls, proved from the contract of the call alone. So it
+//! is refused as soon as that contract says less.
+
+ghost use Rattle.std.specs.Prelude.{◌≡◌, ◌≢◌, ◌∷◌, [], ℕ, IfErr, IfOk, IsErr, IsTrue, MatchResult, slice_index, true};
+ghost use Rattle.std.specs.FinSet as set;
+ghost use Rattle.base.specs.disk.Disk.{bytes_of};
+ghost use Rattle.base.specs.formats.Uberblocks as image;
+ghost use Rattle.base.specs.formats.Uberblocks.{IsActive};
+ghost use Rattle.base.specs.crash.Mount.{Mounts};
+ghost use Rattle.base.specs.history.Contents.{Contents};
+ghost use Rattle.base.specs.tree.Places.{IsInTree};
+ghost use Rattle.object_maps.specs.Surveys.{listed};
+
+use crate::creation::create;
+use crate::imported::import;
+use crate::imported_pool::Imported;
+use crate::inspection::{Inspected, inspect};
+use base::{Group, PoolError, PoolName};
+use device_model::SectorDevice;
+use std::alloc::Global;
+
+// A pool that was just made is found and imported by its name, as group 8 and import 1.
+fn a_new_pool_is_imported<D: SectorDevice>(
+    alloc: Global,
+    device: D,
+) -> Result<Imported<D>, (PoolError, D)>
+    ensures mounted { IsTrue D.keeps_model → IfOk result (λ i.
+        (i.mounted.contents.name ≡ 116 ∷ 97 ∷ 110 ∷ 107 ∷ []) × (i.mounted.guid ≡ 77)
+        × (i.mounted.group.0 ≡ 8) × (i.mounted.import_number ≡ 1)) }
+    ensures found { IsTrue D.keeps_model → IfErr result (λ e. e.0 ≢ PoolError.NoPool) }
+{
+    match create(device, b"tank", 77, 0) {
+        Ok(device) => import(alloc, device, 1_048_576, 0),
+        Err(refused) => Err(refused),
+    }
+}
+
+// If group 9 and import 3 are active, an import makes an uberblock of group 13 and import 4 the active one.
+fn the_next_uberblock_is_active<D: SectorDevice>(
+    alloc: Global,
+    device: D,
+) -> Result<Imported<D>, (PoolError, D)>
+    ensures { IsTrue D.keeps_model → IfOk result (λ i. (u : image.Uberblock)
+        → IsActive (bytes_of (D.disk device).now) u → u.group ≡ 9 → u.import_number ≡ 3
+        → (v : image.Uberblock) × IsActive (bytes_of (D.disk i.device).now) v
+        × (v.group ≡ 13) × (v.import_number ≡ 4)) }
+{
+    import(alloc, device, 1_048_576, 0)
+}
+
+// No block of the tree is free after an import.
+fn no_block_of_the_tree_is_free<D: SectorDevice>(
+    alloc: Global,
+    device: D,
+) -> Result<Imported<D>, (PoolError, D)>
+    ensures { IsTrue D.keeps_model → IfOk result (λ i. (address : ℕ)
+        → set.contains i.mounted.free.free address ≡ true
+        → IsInTree (bytes_of (D.disk i.device).now) i.mounted.tree.root address → ⊥) }
+{
+    import(alloc, device, 1_048_576, 0)
+}
+
+// An import that is refused for memory has written nothing: a disk with nothing unflushed stays as it was.
+fn memory_lacks_before_the_first_write<D: SectorDevice>(
+    alloc: Global,
+    device: D,
+) -> Result<Imported<D>, (PoolError, D)>
+    ensures { IsTrue D.keeps_model → IfErr result (λ e. e.0 ≡ PoolError.NoMemory
+        → (D.disk device).now.unflushed ≡ [] → D.disk e.1 ≡ D.disk device) }
+{
+    import(alloc, device, 1_048_576, 0)
+}
+
+// A limit of 4,095 dirty bytes is refused, and the device comes back as it was.
+fn a_limit_below_a_block_leaves_the_device<D: SectorDevice>(
+    alloc: Global,
+    device: D,
+) -> Result<Imported<D>, (PoolError, D)>
+    ensures refused { IsErr result }
+    ensures unchanged { IfErr result (λ e. e.1 ≡ device) }
+{
+    import(alloc, device, 4_095, 0)
+}
+
+// If an import synced group 9, `group` returns 9. `records` returns 0.
+fn an_import_has_its_group<D: SectorDevice>(imported: &Imported<D>) -> Group
+    requires { imported.now.mounted.group.0 ≡ 9 }
+    ensures { result.0 ≡ 9 }
+{
+    let records = imported.records();
+    prove!(records == 0);
+    imported.group()
+}
+
+// A create returns the kind of call that the device refused: a refused flush counts as one, and no write was refused.
+fn a_refused_flush_is_no_refused_write<D: SectorDevice>(device: D) -> Result<D, (PoolError, D)>
+    requires { D.refused device ≡ record { reads = 0; writes = 0; flushes = 0 } }
+    ensures flush { IfErr result (λ e. e.0 ≡ PoolError.Flush
+        → D.refused e.1 ≡ record { reads = 0; writes = 0; flushes = 1 }) }
+    ensures write { IfErr result (λ e. e.0 ≡ PoolError.Write
+        → D.refused e.1 ≡ record { reads = 0; writes = 1; flushes = 0 }) }
+{
+    create(device, b"tank", 77, 0)
+}
+
+// A create does not change the first byte after the first two labels, whatever it returns.
+fn a_create_leaves_what_lies_behind_the_labels<D: SectorDevice>(
+    device: D,
+) -> Result<D, (PoolError, D)>
+    requires { D.size device ≡ 8388608 }
+    ensures { IsTrue D.keeps_model → MatchResult result
+        (λ d. slice_index (bytes_of (D.disk d).now) 524288
+        ≡ slice_index (bytes_of (D.disk device).now) 524288)
+        (λ e. slice_index (bytes_of (D.disk e.1).now) 524288
+        ≡ slice_index (bytes_of (D.disk device).now) 524288) }
+{
+    create(device, b"tank", 77, 0)
+}
+
+// A create without a name is refused, and the device comes back as it was.
+fn a_pool_has_a_name<D: SectorDevice>(device: D) -> Result<D, (PoolError, D)>
+    requires { D.size device ≡ 8388608 }
+    ensures refused { IsErr result }
+    ensures reason { IfErr result (λ e. e.0 ≡ PoolError.BadRange) }
+    ensures unchanged { IfErr result (λ e. e.1 ≡ device) }
+{
+    create(device, b"", 77, 0)
+}
+
+// If an image mounts contents without a log, an inspection finds the pool and reports their name and objects.
+fn an_inspection_reports_what_is_mounted<D: SectorDevice>(
+    alloc: Global,
+    device: &mut D,
+) -> Result<Inspected, PoolError>
+    ensures reported { IsTrue D.keeps_model → IfOk result (λ i. (u : image.Uberblock)
+        → (contents : Contents) → Mounts (bytes_of (D.disk device.old).now) u [] contents
+        → (i.name ≡ contents.name) × (i.lengths.items ≡ listed contents.objects)
+        × (i.group.0 ≡ u.group) × (i.import_number ≡ u.import_number)) }
+    ensures found { IsTrue D.keeps_model → IfErr result (λ e. (u : image.Uberblock)
+        → (contents : Contents) → Mounts (bytes_of (D.disk device.old).now) u [] contents
+        → e ≢ PoolError.NoPool) }
+{
+    inspect(alloc, device)
+}
+
+// A device of 512 bytes is too small for a pool, and a refused inspection leaves it as it was.
+fn an_inspection_needs_a_size<D: SectorDevice>(
+    alloc: Global,
+    device: &mut D,
+) -> Result<Inspected, PoolError>
+    requires { D.size device.old ≡ 512 }
+    ensures refused { IsErr result }
+    ensures reason { IfErr result (λ e. e ≡ PoolError.BadGeometry) }
+    ensures unchanged { device.new ≡ device.old }
+{
+    inspect(alloc, device)
+}
+
+// If an inspection found one object of five bytes, `objects` returns that length.
+fn the_objects_reported_have_their_lengths(inspected: &Inspected) -> u64
+    requires { inspected.now.lengths.items ≡ (record { 0 = 7 }, 5) ∷ [] }
+    ensures { result ≡ 5 }
+{
+    inspected.objects()[0].1
+}
+
+// `name` returns the name that the inspection found.
+fn the_name_reported_is_that_of_the_pool(inspected: &Inspected) -> &PoolName
+    requires { inspected.now.name ≡ 116 ∷ 97 ∷ 110 ∷ 107 ∷ [] }
+    ensures { result.now ≡ 116 ∷ 97 ∷ 110 ∷ 107 ∷ [] }
+{
+    inspected.name()
+}

@@ -1,0 +1,47 @@
+-- What a plan makes of one record and of one indirect block.
+use Rattle.std.specs.Prelude.{ℕ, ◌≡◌, ◌≢◌, ◌<◌, List, Some, map, slice_get}
+use Rattle.std.specs.Ordering.{nat_cmp}
+use Rattle.std.specs.FinMap as finite
+use Rattle.std.specs.FinMap.{FinMap}
+use Rattle.base.specs.declared.names.ObjectId.{ObjectId}
+use Rattle.base.specs.formats.Fields.{no_pointer, pointer_in}
+use Rattle.base.specs.formats.Blocks.{IsBlock}
+use Rattle.base.specs.tree.Places.{Place}
+use Rattle.base.specs.tree.Places.Place.{Indirect, Data}
+use Rattle.base.specs.tree.PlacedTrees.{padded_record}
+use Rattle.base.specs.tree.PlannedTrees.{NewBlock}
+use Rattle.tree_plans.specs.declared.changes.ObjectChanges.{ObjectChanges}
+use Rattle.tree_plans.specs.declared.planner.TreePlan.{TreePlan}
+use Rattle.tree_plans.specs.declared.walk.PlanSource.{PlanSource}
+use Rattle.tree_plans.specs.Changes.{AreChanges, AreTreePointers, IsCoveredBy}
+use Rattle.tree_plans.specs.Plans.{new_block}
+use Rattle.tree_plans.specs.Pointers.{planned_pointers, pointers_before}
+
+-- the changes say all that differs from objects before, and fit the objects after and the pointers of the tree
+pub record IsScene (source : PlanSource) (after : FinMap nat_cmp (List ℕ)) (objects : List (ObjectId × ObjectChanges)) (before : FinMap nat_cmp (List ℕ)) : Type 0 where
+  pub covered : IsCoveredBy objects (pointers_before source.tree.now) before after
+  pub changes : AreChanges objects after
+  pub pointers : AreTreePointers objects (pointers_before source.tree.now) after
+
+-- the plan has another block at this place than the tree
+pub record IsNewPlace (source : PlanSource) (plan : TreePlan) (place : Place) : Type 0 where
+  pub there : planned_pointers source.tree.now plan place ≢ no_pointer
+  pub other : planned_pointers source.tree.now plan place ≢ pointers_before source.tree.now place
+
+-- one of the plan's blocks is of this pool and group, and has this kind, number and payload
+pub record HasBlockOf (source : PlanSource) (plan : TreePlan) (kind number : ℕ) (payload : List ℕ) : Type 0 where
+  pub index : ℕ
+  pub block : NewBlock
+  pub found : slice_get (map new_block plan.blocks.items) index ≡ Some block
+  pub sealed : IsBlock block.content kind source.guid source.group.0 number payload
+
+-- a new block at record 2 of object 7 has that record's bytes
+abbrev pub HasNewRecord : PlanSource → FinMap nat_cmp (List ℕ) → List (ObjectId × ObjectChanges) → TreePlan → Type 0
+HasNewRecord source after objects plan = (before : FinMap nat_cmp (List ℕ)) (bytes : List ℕ) → IsScene source after objects before
+    → finite.get after 7 ≡ Some bytes → IsNewPlace source plan (Data 7 2) → HasBlockOf source plan 5 590 (padded_record 2 bytes)
+
+-- a new indirect block of object 7 has the pointers to its records
+abbrev pub HasNewIndirect : PlanSource → FinMap nat_cmp (List ℕ) → List (ObjectId × ObjectChanges) → TreePlan → Type 0
+HasNewIndirect source after objects plan = (before : FinMap nat_cmp (List ℕ)) → IsScene source after objects before
+    → IsNewPlace source plan (Indirect 7)
+    → (payload : List ℕ) × HasBlockOf source plan 4 7 payload × ((r : ℕ) → r < 84 → pointer_in payload r ≡ planned_pointers source.tree.now plan (Data 7 r))

@@ -1,0 +1,214 @@
+//! What callers rest on: one function for each promise of this crate's calls, proved from the contract of the call alone. So it
+//! is refused as soon as that contract says less.
+
+ghost use Rattle.std.specs.Prelude.{◌≡◌, ◌<◌, ◌≤◌, ◌∷◌, [], ℕ, All, IfErr, IfOk, None, Ok, Some, false, is_some, length, map, true};
+ghost use Rattle.std.specs.FinMap as finite;
+ghost use Rattle.base.specs.declared.error.PoolError.{PoolError};
+ghost use Rattle.base.specs.declared.error.PoolError.TheVariants as error;
+ghost use Rattle.base.specs.declared.operation.Op.TheVariants as op;
+ghost use Rattle.base.specs.declared.record_state.RecordState.TheVariants as state;
+ghost use Rattle.base.specs.formats.Geometry.{block_count};
+ghost use Rattle.base.specs.history.Contents.{Contents, length_of};
+ghost use Rattle.base.specs.history.History.{apply_all};
+ghost use Rattle.base.specs.tree.Syncs.{is_dirty};
+ghost use Rattle.object_maps.specs.Lengths.{lengths_of, map_length};
+ghost use Rattle.tree_plans.specs.declared.planner.Committed.{Committed};
+ghost use Rattle.tree_plans.specs.Changes.{AreBornBefore, AreInRange, is_changed_in, state_at, state_in};
+ghost use Rattle.tree_plans.specs.NewBlocks.{HasNewIndirect, HasNewRecord};
+ghost use Rattle.tree_plans.specs.Marks.{pending_ops};
+ghost use Rattle.tree_plans.specs.Plans.{IsAmong, address_of};
+ghost use Rattle.tree_plans.specs.Pointers.{entry_of, planned_lengths, pointers_before};
+ghost use Rattle.tree_plans.specs.TreePlans.{free_addresses, places_written};
+ghost use Rattle.tree_plans.specs.Walks.{is_any_touched};
+
+use crate::changes::{ObjectChanges, changed_objects};
+use crate::planner::{Committed, TreePlan};
+use crate::walk::{PlanSource, plan};
+use base::{Group, ObjectId, PoolError};
+use object_maps::{ObjectMap, ObjectSource};
+use std::alloc::Global;
+use std::collections::BTreeMap;
+
+// A write of one byte makes its own record dirty, and no other.
+fn a_write_makes_its_own_record_dirty() -> ObjectChanges
+    ensures before { state_at result 0 ≡ state.Unchanged }
+    ensures here { state_at result 1 ≡ state.Dirty }
+    ensures changed { result.is_changed ≡ true }
+    ensures length { result.length ≡ 4033 }
+{
+    let mut changes = ObjectChanges::none(0);
+    changes.write(4_032, 1);
+    changes
+}
+
+// A cut to 5,000 bytes keeps record 0, goes into record 1 and leaves nothing of record 2.
+fn a_cut_makes_the_record_that_it_goes_into_dirty() -> ObjectChanges
+    ensures before { state_at result 0 ≡ state.Unchanged }
+    ensures here { state_at result 1 ≡ state.Dirty }
+    ensures behind { state_at result 2 ≡ state.Hole }
+    ensures length { result.length ≡ 5000 }
+{
+    let mut changes = ObjectChanges::none(12_096);
+    changes.set_length(5_000);
+    changes
+}
+
+// A removed object has only holes, even if it was written before.
+fn a_removed_object_has_holes_alone() -> ObjectChanges
+    ensures first { state_at result 0 ≡ state.Hole }
+    ensures last { state_at result 83 ≡ state.Hole }
+    ensures length { result.length ≡ 0 }
+{
+    let mut changes = ObjectChanges::none(0);
+    changes.write(0, 5);
+    changes.clear();
+    changes
+}
+
+// Operations of group 5 change nothing in group 6.
+fn operations_of_another_group_are_left_out(
+    alloc: Global,
+    maps: &[ObjectMap],
+    pending: &[Committed],
+) -> Result<BTreeMap<ObjectId, ObjectChanges>, PoolError>
+    requires { All (λ (c : Committed). c.group.0 ≡ 5) pending.now }
+    ensures { IfOk result (λ objects. (n : ℕ) → entry_of objects.entries n ≡ None) }
+{
+    changed_objects(alloc, maps, pending, Group(6))
+}
+
+// If the tree has 12,096 bytes, a new length of 5,000 is a cut: record 2 becomes a hole.
+fn a_length_is_cut_from_that_of_the_tree(
+    alloc: Global,
+    maps: &[ObjectMap],
+    pending: &[Committed],
+) -> Result<BTreeMap<ObjectId, ObjectChanges>, PoolError>
+    requires ops { pending_ops 5 pending.now ≡ op.SetLength (record { 0 = 7 }) 5000 ∷ [] }
+    requires length { map_length maps.now 7 ≡ Some 12096 }
+    ensures there { IfOk result (λ objects. is_some (entry_of objects.entries 7) ≡ true) }
+    ensures cut { IfOk result (λ objects. (before after : Contents)
+        → apply_all (pending_ops 5 pending.now) before ≡ Ok after
+        → length_of before 7 ≡ Some 12096 → state_in objects.entries 7 2 ≡ state.Hole) }
+    ensures refused { IfErr result (λ e. e ≡ error.NoMemory) }
+{
+    changed_objects(alloc, maps, pending, Group(5))
+}
+
+// Blocks 0, 1 and 4 are free: a plan of two blocks takes blocks 0 and 1.
+fn a_plan_takes_the_lowest_free_blocks<O: ObjectSource>(
+    source: &PlanSource<'_>,
+    after: &mut O,
+    objects: &BTreeMap<ObjectId, ObjectChanges>,
+) -> Result<TreePlan, PoolError>
+    requires sized { source.now.free.now.blocks ≡ block_count source.now.geometry }
+    requires free { free_addresses source.now ≡ 4194304 ∷ 4198400 ∷ 4210688 ∷ [] }
+    ensures { IfOk result (λ p. length p.blocks.items ≡ 2
+        → map address_of p.blocks.items ≡ 4194304 ∷ 4198400 ∷ []) }
+{
+    plan(source, after, objects)
+}
+
+// A group that leaves no record dirty, writes no object, sets no length and leaves no object takes no block.
+fn what_is_unchanged_is_not_written<O: ObjectSource>(
+    source: &PlanSource<'_>,
+    after: &mut O,
+    objects: &BTreeMap<ObjectId, ObjectChanges>,
+) -> Result<TreePlan, PoolError>
+    requires sized { source.now.free.now.blocks ≡ block_count source.now.geometry }
+    requires in_range { AreInRange objects.now.entries }
+    ensures { IfOk result (λ p.
+        ((n r : ℕ) → is_dirty (state_in objects.now.entries n r) ≡ false)
+        → ((n : ℕ) → is_changed_in objects.now.entries n ≡ false)
+        → ((n : ℕ) → finite.get (O.objects after.old) n ≡ None) → p.blocks.items ≡ []) }
+{
+    plan(source, after, objects)
+}
+
+// A new block at record 2 of object 7 is data block 590 and holds that record.
+fn a_new_data_block_has_its_record<O: ObjectSource>(
+    source: &PlanSource<'_>,
+    after: &mut O,
+    objects: &BTreeMap<ObjectId, ObjectChanges>,
+) -> Result<TreePlan, PoolError>
+    requires sized { source.now.free.now.blocks ≡ block_count source.now.geometry }
+    ensures { IfOk result
+        (HasNewRecord source.now (O.objects after.old) objects.now.entries) }
+{
+    plan(source, after, objects)
+}
+
+// A new indirect block of object 7 has number 7 and holds the pointers to its records.
+fn a_new_indirect_block_has_the_number_of_its_object<O: ObjectSource>(
+    source: &PlanSource<'_>,
+    after: &mut O,
+    objects: &BTreeMap<ObjectId, ObjectChanges>,
+) -> Result<TreePlan, PoolError>
+    requires sized { source.now.free.now.blocks ≡ block_count source.now.geometry }
+    ensures { IfOk result
+        (HasNewIndirect source.now (O.objects after.old) objects.now.entries) }
+{
+    plan(source, after, objects)
+}
+
+// If object 7 has three bytes after the group, the planned tree has that length. Object 8 keeps its own.
+fn a_planned_object_has_its_new_length<O: ObjectSource>(
+    source: &PlanSource<'_>,
+    after: &mut O,
+    objects: &BTreeMap<ObjectId, ObjectChanges>,
+) -> Result<TreePlan, PoolError>
+    requires sized { source.now.free.now.blocks ≡ block_count source.now.geometry }
+    requires object { finite.get (O.objects after.old) 7 ≡ Some (1 ∷ 2 ∷ 3 ∷ []) }
+    requires touched { is_some (entry_of objects.now.entries 7) ≡ true }
+    requires untouched { entry_of objects.now.entries 8 ≡ None }
+    ensures new { IfOk result (λ p. planned_lengths source.now.tree.now p 7 ≡ Some 3) }
+    ensures kept { IfOk result (λ p. planned_lengths source.now.tree.now p 8
+        ≡ lengths_of source.now.tree.now 8) }
+{
+    plan(source, after, objects)
+}
+
+// A plan does not change the objects that it reads: a second plan has the same length of object 7.
+fn a_second_plan_sees_the_same_objects<O: ObjectSource>(
+    source: &PlanSource<'_>,
+    after: &mut O,
+    objects: &BTreeMap<ObjectId, ObjectChanges>,
+) -> Result<TreePlan, PoolError>
+    requires sized { source.now.free.now.blocks ≡ block_count source.now.geometry }
+    requires object { finite.get (O.objects after.old) 7 ≡ Some (1 ∷ 2 ∷ 3 ∷ []) }
+    requires touched { is_some (entry_of objects.now.entries 7) ≡ true }
+    ensures { IfOk result (λ p. planned_lengths source.now.tree.now p 7 ≡ Some 3) }
+{
+    let _first = plan(source, after, objects)?;
+    plan(source, after, objects)
+}
+
+// If an operation is on an object, the block of the old root comes back.
+fn a_replaced_root_comes_back<O: ObjectSource>(
+    source: &PlanSource<'_>,
+    after: &mut O,
+    objects: &BTreeMap<ObjectId, ObjectChanges>,
+) -> Result<TreePlan, PoolError>
+    requires sized { source.now.free.now.blocks ≡ block_count source.now.geometry }
+    requires touched { is_any_touched objects.now.entries ≡ true }
+    requires root { source.now.tree.now.root.address ≡ 4194304 }
+    ensures { IfOk result (λ p.
+        AreBornBefore source.now.group.0 (pointers_before source.now.tree.now)
+        → IsAmong p.freed.items 4194304) }
+{
+    plan(source, after, objects)
+}
+
+// If enough blocks are free and no read is refused, a plan may be refused only for memory.
+fn free_blocks_suffice_for_the_places_written<O: ObjectSource>(
+    source: &PlanSource<'_>,
+    after: &mut O,
+    objects: &BTreeMap<ObjectId, ObjectChanges>,
+) -> Result<TreePlan, PoolError>
+    requires sized { source.now.free.now.blocks ≡ block_count source.now.geometry }
+    requires in_range { AreInRange objects.now.entries }
+    requires room { length (places_written source.now (O.objects after.old) objects.now.entries)
+        ≤ length (free_addresses source.now) }
+    ensures { IfErr result (λ e. ((x : PoolError) → O.may_refuse x → ⊥) → e ≡ error.NoMemory) }
+{
+    plan(source, after, objects)
+}
