@@ -1,4 +1,2 @@
-pub mod Copies
 mod PoolSteps
-mod Zips
 pub mod Kept
