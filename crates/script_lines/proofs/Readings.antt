@@ -1,6 +1,6 @@
 -- A line of one word is the command of that word, and the words of a commit have their bytes.
-use Rattle.std.proofs.Common.{◌≡◌, ◌≢◌, ◌∷◌, [], ℕ, List, inl, inr, refl, sym, ap, subst, rules, arith}
-use Rattle.std.specs.Prelude.{◌⊎◌, Result, Ok, Err, IfErr, IfOk, IsOk, codes, map}
+use Rattle.std.proofs.Common.{◌≡◌, ◌∷◌, [], ℕ, List, inl, inr, refl, sym, subst, rules, arith}
+use Rattle.std.specs.Prelude.{◌⊎◌, Result, Ok, Err, codes, map}
 use Rattle.std.specs.Borrow.{Bor}
 use Rattle.std.specs.Global.{Vec}
 use Rattle.base.specs.declared.names.TxId.{TxId}
@@ -11,7 +11,7 @@ use Rattle.script_lines.specs.Words.{HasForm, Words}
 use Rattle.script_lines.specs.declared.command.Command.{Command}
 use Rattle.script_lines.specs.declared.command.Command.TheVariants.{Pool}
 use Rattle.script_lines.specs.declared.command.LineError.{LineError}
-use Rattle.script_lines.specs.declared.command.LineError.TheVariants.{BadCommand, NoMemory}
+use Rattle.script_lines.specs.declared.command.LineError.TheVariants.{NoMemory}
 use Rattle.script_lines.specs.declared.command.PoolCommand.{PoolCommand}
 use Rattle.script_lines.specs.declared.command.PoolCommand.TheVariants as pool
 

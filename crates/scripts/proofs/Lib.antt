@@ -1,2 +1,4 @@
-mod PoolSteps
+mod CloseLines
 pub mod Kept
+mod PoolSteps
+mod Refusals

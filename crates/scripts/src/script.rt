@@ -122,7 +122,7 @@ fn prints_nothing(line: &[u8]) -> bool
 }
 
 // The answer to a line, if it has one.
-fn run_line<S: CommandRunner>(
+pub(crate) fn run_line<S: CommandRunner>(
     alloc: Global,
     session: &mut S,
     line: &[u8],
