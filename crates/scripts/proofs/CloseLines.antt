@@ -1,6 +1,6 @@
 -- The line of a close makes that step of the pool that is there, and a bad one leaves what is there.
-use Rattle.std.proofs.Common.{◌≡◌, ◌∙◌, inl, inr, refl, sym, ap, subst, rules}
-use Rattle.std.specs.Prelude.{◌⊎◌, true, false, None, Option, Some, Result, Ok, Err, IfErr, IfOk, IfSome, IsErr, IsOk, codes, is_ok}
+use Rattle.std.proofs.Common.{◌≡◌, ◌∙◌, inl, inr, refl, ap, subst, rules}
+use Rattle.std.specs.Prelude.{◌⊎◌, true, false, None, Option, Some, Result, Ok, Err, IfErr, IfOk, IfSome, IsErr, IsOk, codes}
 use Rattle.std.specs.Str.{IsUtf8}
 use Rattle.std.proofs.lemmas.Bool.{false≢true}
 use Rattle.base.specs.declared.error.PoolError.TheVariants as error
@@ -25,28 +25,28 @@ use Rattle.scripts.specs.declared.session.Session.{Session}
 abbrev close : Command
 close = Pool (pool.Step CloseGroup)
 
-same_command : (asked : Command) → (Ok {B = LineError} asked ≡ Err NoMemory) ⊎ (Ok {B = LineError} asked ≡ Ok close) → asked ≡ close
-same_command asked (inl e) = search rules
-same_command asked (inr e) = cc
+same_command : (asked : Command) (r : Result Command LineError) → r ≡ Ok asked → (r ≡ Err NoMemory) ⊎ (r ≡ Ok close) → asked ≡ close
+same_command asked r is (inl none) = search rules
+same_command asked r is (inr read) = cc
 
 close_of : (asked : Command) → ReadsLine (codes "close") (Ok asked) → asked ≡ close
-close_of asked reads = same_command asked (close_read (Ok asked) reads)
+close_of asked reads = same_command asked (Ok asked) refl (close_read (Ok asked) reads)
 
-never_bad : (Err {A = Command} BadCommand ≡ Err NoMemory) ⊎ (Err {A = Command} BadCommand ≡ Ok close) → ⊥
-never_bad (inl e) = search rules
-never_bad (inr e) = search rules
+never_bad : (r : Result Command LineError) → r ≡ Err BadCommand → (r ≡ Err NoMemory) ⊎ (r ≡ Ok close) → ⊥
+never_bad r is (inl none) = search rules
+never_bad r is (inr read) = search rules
 
 is_text : IsUtf8 (codes "close")
-is_text = (codes "close", refl, refl)
+unfolding lib.Utf8.encode
+is_text = (codes "close", (refl, refl))
 
 module _ (old new : Session) where
   -- where there is a pool, it is no bad line
   pub close_is_good : (e : bad_command.BadCommand) → has_pool old.place ≡ true → RunsBadLine Runs (codes "close") old e new → ⊥
   close_is_good e there (inl (inl no_text, same)) = no_text is_text
-  close_is_good e there (inl (inr reads, same)) = never_bad (close_read (Err BadCommand) reads)
+  close_is_good e there (inl (inr reads, same)) = never_bad (Err BadCommand) refl (close_read (Err BadCommand) reads)
   close_is_good e there (inr (asked, reads, runs)) =
-      let answered : is_ok {A = Answer} (Err e) ≡ has_pool old.place =
-          subst (λ a. is_crash a ≡ false → is_ok {A = Answer} (Err e) ≡ has_what_it_needs a old.place) (close_of asked reads) runs.answered refl in
+      let answered : false ≡ has_pool old.place = subst (λ a. is_crash a ≡ false → false ≡ has_what_it_needs a old.place) (close_of asked reads) runs.answered refl in
       false≢true (answered ∙ there)
 
   pub close_closes : (told : Answer) → RunsLine Runs (codes "close") old told new
@@ -55,7 +55,7 @@ module _ (old new : Session) where
   close_closes told (inr (asked, reads, runs)) = inr (subst (λ a. Does a old (Ok told) new) (close_of asked reads) runs.done)
 
   pub bad_close_leaves : (e : bad_command.BadCommand) → RunsBadLine Runs (codes "close") old e new → new.place ≡ old.place
-  bad_close_leaves e (inl (no, same)) = ap (λ s. s.place) same
+  bad_close_leaves e (inl (bad, same)) = ap (λ s. s.place) same
   bad_close_leaves e (inr (asked, reads, runs)) = subst (λ a. Does a old (Err e) new) (close_of asked reads) runs.done
 
   pub good_line : (told : Result (Option Answer) bad_command.BadCommand) → has_pool old.place ≡ true → IfErr told (λ e. RunsBadLine Runs (codes "close") old e new) → IsOk told

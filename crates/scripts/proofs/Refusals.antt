@@ -1,6 +1,6 @@
 -- A create of a good size and name is refused by the device alone, and an import has the limit that it was given.
 use Rattle.std.proofs.Common.{◌≡◌, ◌∙◌, ℕ, List, inl, inr, refl, sym, ap, subst, rules}
-use Rattle.std.specs.Prelude.{◌⊎◌, true, false, Result, Ok, Err, IfSome, is_ok}
+use Rattle.std.specs.Prelude.{◌⊎◌, true, Result, Ok, Err, IfSome, is_ok}
 use Rattle.std.proofs.lemmas.Bool.{false≢true}
 use Rattle.base.specs.declared.error.PoolError.{PoolError}
 use Rattle.base.specs.declared.error.PoolError.TheVariants.{Write, Flush, BadGeometry, BadRange}

@@ -63,7 +63,7 @@ fn a_close_line_closes_the_group(
     ensures closes { IfOk result (λ told. IfSome told (λ answer.
         ((answer ≡ Answer.Reply (reply.Refused error.NoMemory)) × (session.new ≡ session.old))
         ⊎ AsksIn (λ reply old new. IsStepOf CloseGroup reply old new)
-            session.old.place answer session.new.place)) }
+        session.old.place answer session.new.place)) }
 {
     run_line(alloc, session, b"close")
 }

@@ -57,7 +57,7 @@ module _ {W : Type 0} where
     pub fail_takes_one : (fault : Fault) (n : ℕ) (told : Result Answer BadCommand) → Does (command.Fail fault n) s told new → OneTurn old_pool new_pool
     fail_takes_one fault n (Ok told) plans =
         let at : PlansFault LooksAt fault n (Pool old_pool) told (Pool new_pool) =
-            subst (λ (p : SharedPlace). PlansFault LooksAt fault n p told (Pool new_pool)) was
-            (subst (λ (p : SharedPlace). PlansFault LooksAt fault n s.place told p) is plans) in
+        subst (λ (p : SharedPlace). PlansFault LooksAt fault n p told (Pool new_pool)) was
+        (subst (λ (p : SharedPlace). PlansFault LooksAt fault n s.place told p) is plans) in
         looked at.1.looked
     fail_takes_one fault n (Err e) none = absurd (false≢true (sym none.0 ∙ ap (λ (p : SharedPlace). has_device p) was))

@@ -82,7 +82,7 @@ fn a_crash_has_its_letters<'r, W: Wait>(
     session.run(Command::Crash(pieces))
 }
 
-// An import with no limit is refused so, or for want of memory.
+// A limit of 0 bytes is a bad range, or there is no memory.
 fn an_import_without_a_limit_is_a_bad_range<'r, W: Wait>(
     session: &mut SharedSession<'r, W>,
 ) -> Result<Answer, BadCommand>
@@ -93,8 +93,8 @@ fn an_import_without_a_limit_is_a_bad_range<'r, W: Wait>(
     session.run(Command::Import { dirty_max: 0 })
 }
 
-// A pool that is imported follows the crash rule behind its device, and its import has the session's moment.
-fn an_import_goes_on_behind_its_device<'r, W: Wait>(
+// An imported pool follows the crash rule of what its device held, and its import writes the session's moment.
+fn an_import_keeps_the_crash_rule_and_the_moment<'r, W: Wait>(
     session: &mut SharedSession<'r, W>,
 ) -> Result<Answer, BadCommand>
     requires { session.old.moment ≡ 77 }
