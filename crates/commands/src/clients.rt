@@ -90,11 +90,7 @@ fn a_script_that_is_not_opened_has_status_3<
     R: Read + Drop,
     W: Write + Drop,
     E: Write,
->(
-    rt: &H,
-    out: W,
-    errors: &mut E,
-) -> u8
+>(rt: &H, out: W, errors: &mut E) -> u8
     ensures { result ≡ 3 }
 {
     let arguments = ScriptArguments {

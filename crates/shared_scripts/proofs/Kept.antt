@@ -8,7 +8,6 @@ use Rattle.base.specs.disk.Crashes.{crash_image}
 use Rattle.base.specs.disk.Disk.{Disk, MayLeave}
 use Rattle.base.specs.history.Past.{Grows, Past, new_past}
 use Rattle.device_model.specs.MemState.{MemState}
-use Rattle.device_model.specs.Plans.{with_plan}
 use Rattle.device_model.specs.declared.fault.Fault.{Fault}
 use Rattle.pool_threads.specs.Handles.{OpensBehind, opening_view, view_seen}
 use Rattle.pool_threads.specs.Views.{CrashRule, GrowsTo, IsFollowed, SeenPool, grows_same, since, viewed_state}

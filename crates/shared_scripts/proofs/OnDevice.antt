@@ -1,6 +1,6 @@
 -- What a crash and an import make of a session that has a device and no pool.
-use Rattle.std.proofs.Common.{◌≡◌, ◌∙◌, ◌<◌, ◌∷◌, [], ℕ, List, length, inl, inr, refl, sym, ap, subst, rules, arith}
-use Rattle.std.specs.Prelude.{◌⊎◌, None, Option, Some, Result, Ok, Err, IsErr}
+use Rattle.std.proofs.Common.{◌≡◌, ◌∙◌, ◌∷◌, [], ℕ, List, length, inl, inr, refl, sym, ap, subst, rules, arith}
+use Rattle.std.specs.Prelude.{◌⊎◌, None, Option, Some, Result, Ok, Err}
 use Rattle.std.proofs.lemmas.Bool.{false≢true}
 use Rattle.base.specs.declared.error.PoolError.{PoolError}
 use Rattle.base.specs.declared.error.PoolError.TheVariants.{BadGeometry, BadRange, NoMemory}
@@ -16,11 +16,11 @@ use Rattle.script_lines.specs.declared.answer.Answer.{Answer}
 use Rattle.script_lines.specs.declared.answer.Answer.TheVariants as answer
 use Rattle.script_lines.specs.declared.command.Command.TheVariants as command
 use Rattle.scripts.specs.Devices.{IsImportRun, IsLeftByImport}
-use Rattle.scripts.specs.Places.{CrashesOn}
+use Rattle.scripts.specs.Places.{CrashesOn, has_pool}
 use Rattle.scripts.specs.declared.place.Place.TheVariants.{Nothing, Device, Pool}
 use Rattle.scripts.specs.declared.session.BadCommand.{BadCommand}
 use Rattle.shared_scripts.specs.Places.{IsTakenFrom, SharedPlace}
-use Rattle.shared_scripts.specs.Sessions.{CrashesShared, Does, ImportsShared, IsMountShared}
+use Rattle.shared_scripts.specs.Sessions.{CrashesShared, Does, ImportsShared, IsImportShared, IsMountShared}
 use Rattle.shared_scripts.specs.declared.session.SharedSession.{SharedSession}
 use Rattle.shared_scripts.specs.declared.shared_pool.SharedPool.{SharedPool}
 
@@ -46,6 +46,17 @@ module _ (place : SharedPlace) (device : MemState) (was : place ≡ Device devic
       crashed told new one
       (subst (λ (d : MemState). CrashesOn (Lose ∷ []) d told new) (same_device taken from) (subst (λ ps. CrashesOn ps taken told new) one_piece crashes))
   lost pieces told new one_piece one (inr (bad, found)) = absurd (one_is_found found.0)
+
+abbrev pool_or : SharedPool → SharedPlace → SharedPool
+pool_or other Nothing = other
+pool_or other (Device device) = other
+pool_or other (Pool shared) = shared
+
+same_pool : (place : SharedPlace) (a b : SharedPool) → place ≡ Pool a → place ≡ Pool b → a ≡ b
+same_pool place a b one other = ap (λ (p : SharedPlace). pool_or a p) (sym one ∙ other)
+
+no_pool : (place : SharedPlace) (device : MemState) (shared : SharedPool) → place ≡ Device device → place ≡ Pool shared → ⊥
+no_pool place device shared one other = false≢true (ap (λ (p : SharedPlace). has_pool p) (sym one ∙ other))
 
 -- a limit of no bytes is none
 no_limit : (size : ℕ) (e : PoolError) → IsGeometry size → IsImportRefusal size 0 e → e ≡ BadRange
@@ -79,11 +90,17 @@ module _ {W : Type 0} (s new : SharedSession W) (device : MemState) (was : s.pla
       imports_refused s.moment device e new.place sized
       (subst (λ (d : MemState). ImportsShared 0 s.moment d (answer.Reply (Refused e)) new.place) (same_device s.place device was taken.0 taken.1) taken.2)
 
+  of_shared : (dirty_max : ℕ) (told : Answer) (shared : SharedPool) → new.place ≡ Pool shared → IsImportShared dirty_max s.moment device told new.place → IsMount s dirty_max device shared
+  of_shared dirty_max told shared is i = record {
+    left = i.device;
+    mounted = i.mounted;
+    run = i.imported;
+    shares = subst (λ (p : SharedPool). IsMountShared device.disk i.mounted s.moment p) (same_pool new.place i.shares.0 shared i.shares.1 is) i.shares.3;
+  }
+
   mount_of : (dirty_max : ℕ) (told : Answer) (shared : SharedPool) → new.place ≡ Pool shared → ImportsShared dirty_max s.moment device told new.place → IsMount s dirty_max device shared
-  mount_of dirty_max told shared is (inl i) =
-      let same : i.shares.0 ≡ shared = let there = i.shares.1 in cc in
-      record { left = i.device; mounted = i.mounted; run = i.imported; shares = subst (λ (p : SharedPool). IsMountShared device.disk i.mounted s.moment p) same i.shares.3 }
-  mount_of dirty_max told shared is (inr i) = let there = i.place_is in search rules
+  mount_of dirty_max told shared is (inl i) = of_shared dirty_max told shared is i
+  mount_of dirty_max told shared is (inr i) = absurd (no_pool new.place i.device shared i.place_is is)
 
   -- where a pool is there after an import, it is what the import mounted
   pub mount_found : (dirty_max : ℕ) (told : Result Answer BadCommand) (shared : SharedPool) → new.place ≡ Pool shared → Does (command.Import dirty_max) s told new → IsMount s dirty_max device shared

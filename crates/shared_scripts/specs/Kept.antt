@@ -1,5 +1,5 @@
 -- What a session on a shared pool keeps of its run over creates, imports, crashes and commands, whatever moment the power goes.
-use Rattle.std.specs.Prelude.{ℕ, ◌≡◌, ◌⊎◌, List, None, Some, Result, Ok, Err, IsOk, IsTrue}
+use Rattle.std.specs.Prelude.{ℕ, ◌≡◌, ◌⊎◌, List, Some, Result, Ok, Err, IsOk, IsTrue}
 use Rattle.base.specs.declared.piece.Piece.{Piece}
 use Rattle.base.specs.declared.step.Reply.TheVariants.{Done}
 use Rattle.base.specs.disk.Disk.{moments}
