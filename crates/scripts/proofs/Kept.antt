@@ -26,9 +26,9 @@ use Rattle.round_trip.proofs.CrashRounds.{found, import_left, left_crashed, run_
 use Rattle.round_trip.specs.Crashes.{IsLeft}
 use Rattle.scripts.specs.Devices.{IfPool, IsImportedPool}
 use Rattle.scripts.specs.Places.{AsksIn, CrashesOn}
-use Rattle.scripts.specs.declared.answer.Answer.{Answer}
-use Rattle.scripts.specs.declared.answer.Answer.TheVariants as answer
-use Rattle.scripts.specs.declared.command.Command.TheVariants as asked_command
+use Rattle.script_lines.specs.declared.answer.Answer.{Answer}
+use Rattle.script_lines.specs.declared.answer.Answer.TheVariants as answer
+use Rattle.script_lines.specs.declared.command.Command.TheVariants as asked_command
 use Rattle.scripts.specs.declared.session.BadCommand.{BadCommand}
 use Rattle.scripts.specs.declared.place.Place.TheVariants.{Nothing, Device, Pool}
 use Rattle.scripts.specs.declared.session.Session.{Session}
@@ -37,8 +37,8 @@ use Rattle.pool_core.specs.KeptSafe.{IsKeptSafe, IsSafeStep, OnDisk, on_disk}
 use Rattle.scripts.specs.Kept.{BeginsKept, BeginsRun, FindsLeft, GoesOnSafely, IsFairCrash, IsLastRunIn, IsMadeSafely, KeepsCuts}
 use Rattle.scripts.specs.Pools.{IsStepOf, MemPlace, MemPool, device_in, open_plan}
 use Rattle.scripts.specs.PoolSteps.{Asks, CommitsOps, Finishes, MakesSteps, Then}
-use Rattle.scripts.specs.declared.command.PoolCommand.{PoolCommand}
-use Rattle.scripts.specs.declared.command.PoolCommand.TheVariants as command
+use Rattle.script_lines.specs.declared.command.PoolCommand.{PoolCommand}
+use Rattle.script_lines.specs.declared.command.PoolCommand.TheVariants as command
 
 many_more : (ss tt : List declared_step.Step) (rs us : List declared_reply.Reply) (a b c : OnDisk) → Run IsSafeStep ss rs a b → Run IsSafeStep tt us b c → Run IsSafeStep (ss ++ tt) (rs ++ us) a c
 many_more [] tt [] us a b c same rest = subst (λ (x : OnDisk). Run IsSafeStep tt us x c) same rest

@@ -1,4 +1,4 @@
-pub mod Copies
-mod PoolSteps
-mod Zips
+mod CloseLines
 pub mod Kept
+mod PoolSteps
+mod Refusals

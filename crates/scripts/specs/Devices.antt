@@ -1,5 +1,5 @@
 -- What a create and an import make of the device, and what a refused one leaves of it.
-use Rattle.std.specs.Prelude.{ℕ, ◌≡◌, ◌⊎◌, ◌+◌, ◌*◌, ◌/◌, false, List, unwrap_or}
+use Rattle.std.specs.Prelude.{ℕ, ◌≡◌, ◌⊎◌, ◌*◌, ◌/◌, false, List, unwrap_or}
 use Rattle.base.specs.declared.error.PoolError.{PoolError}
 use Rattle.base.specs.declared.error.PoolError.TheVariants.{BadGeometry, BadRange, NoMemory}
 use Rattle.base.specs.declared.step.Reply.TheVariants.{Done, Refused}
@@ -17,8 +17,9 @@ use Rattle.import_replay.specs.declared.mounted.Mounted.{Mounted}
 use Rattle.pool_core.specs.States.{device_of, shown}
 use Rattle.scripts.specs.Places.{has_device}
 use Rattle.scripts.specs.Pools.{MemPlace, MemPool, device_in}
-use Rattle.scripts.specs.declared.answer.Answer.{Answer}
-use Rattle.scripts.specs.declared.answer.Answer.TheVariants as answer
+use Rattle.script_lines.specs.Answers.{imported_answer}
+use Rattle.script_lines.specs.declared.answer.Answer.{Answer}
+use Rattle.script_lines.specs.declared.answer.Answer.TheVariants as answer
 use Rattle.scripts.specs.declared.place.Place.{Place}
 use Rattle.scripts.specs.declared.place.Place.TheVariants.{Nothing, Device, Pool}
 use Rattle.scripts.specs.declared.session.Session.{Session}
@@ -74,10 +75,6 @@ pub record IsLeftByImport (dirty_max moment : ℕ) (old : MemState) (e : PoolErr
   pub untouched : (e ≡ BadGeometry) ⊎ (e ≡ BadRange) → new ≡ old
   pub unchanged : IsReadingRefusal e → new.disk ≡ certain (bytes_of old.disk.now) old.disk
   pub stopped : IsSyncRefusal e → IsImportStopped old.disk new.disk moment e
-
--- what is told of an imported pool
-abbrev pub imported_answer : Mounted → Answer
-imported_answer m = answer.Imported m.group (record { 0 = m.group.0 + 1 }) 0
 
 -- a pool stands on this device, and is shown as what was mounted
 pub record IsImportedPool (device : MemState) (mounted : Mounted) (pool : MemPool) : Type 0 where

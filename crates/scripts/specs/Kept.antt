@@ -17,10 +17,10 @@ use Rattle.pool_core.specs.KeptSafe.{BeginsSafe, IsKeptSafe, IsSafeStep, on_disk
 use Rattle.pool_core.specs.NewStates.{IsHeldAtFirst}
 use Rattle.pool_core.specs.States.{shown, told}
 use Rattle.round_trip.specs.Crashes.{IsLeft}
-use Rattle.scripts.specs.declared.answer.Answer.{Answer}
-use Rattle.scripts.specs.declared.answer.Answer.TheVariants as answer
-use Rattle.scripts.specs.declared.command.Command.{Command}
-use Rattle.scripts.specs.declared.command.Command.TheVariants as command
+use Rattle.script_lines.specs.declared.answer.Answer.{Answer}
+use Rattle.script_lines.specs.declared.answer.Answer.TheVariants as answer
+use Rattle.script_lines.specs.declared.command.Command.{Command}
+use Rattle.script_lines.specs.declared.command.Command.TheVariants as command
 use Rattle.scripts.specs.declared.session.BadCommand.{BadCommand}
 use Rattle.scripts.specs.declared.place.Place.{Place}
 use Rattle.scripts.specs.declared.place.Place.TheVariants.{Nothing, Device, Pool}

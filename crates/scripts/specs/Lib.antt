@@ -1,15 +1,9 @@
-pub mod Commands
-pub mod Copies
 pub mod Devices
 pub mod Endings
 pub mod Fillings
 pub mod Kept
-pub mod Letters
 pub mod Lines
-pub mod Numbers
 pub mod Places
 pub mod PoolSteps
 pub mod Pools
 pub mod Sessions
-pub mod Shapes
-pub mod Words

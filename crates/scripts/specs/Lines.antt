@@ -3,12 +3,12 @@ use Rattle.std.specs.Prelude.{ℕ, ◌≡◌, ◌⊎◌, List, Result, Err, Ok}
 use Rattle.std.specs.Str.{IsUtf8}
 use Rattle.base.specs.declared.error.PoolError.TheVariants.{NoMemory}
 use Rattle.base.specs.declared.step.Reply.TheVariants.{Refused}
-use Rattle.scripts.specs.declared.answer.Answer.{Answer}
-use Rattle.scripts.specs.declared.answer.Answer.TheVariants as answer
-use Rattle.scripts.specs.declared.command.Command.{Command}
-use Rattle.scripts.specs.declared.command.LineError.TheVariants as line_error
+use Rattle.script_lines.specs.declared.answer.Answer.{Answer}
+use Rattle.script_lines.specs.declared.answer.Answer.TheVariants as answer
+use Rattle.script_lines.specs.declared.command.Command.{Command}
+use Rattle.script_lines.specs.declared.command.LineError.TheVariants as line_error
 use Rattle.scripts.specs.declared.session.BadCommand.{BadCommand}
-use Rattle.scripts.specs.Commands.{ReadsLine}
+use Rattle.script_lines.specs.Commands.{ReadsLine}
 
 -- What a line asks for is run and answered. For want of memory it is refused, and all is as it was.
 abbrev pub RunsLine : {S : Type 0} → (Command → S → Result Answer BadCommand → S → Type 0) → List ℕ → S → Answer → S → Type 0

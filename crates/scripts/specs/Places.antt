@@ -6,10 +6,10 @@ use Rattle.base.specs.declared.step.Reply.TheVariants.{Done}
 use Rattle.device_model.specs.declared.fault.Fault.{Fault}
 use Rattle.device_model.specs.MemState.{MemState, after_crash}
 use Rattle.device_model.specs.Plans.{with_plan}
-use Rattle.scripts.specs.declared.answer.Answer.{Answer}
-use Rattle.scripts.specs.declared.answer.Answer.TheVariants.{Crashed, Reply}
-use Rattle.scripts.specs.declared.command.Command.{Command}
-use Rattle.scripts.specs.declared.command.Command.TheVariants as command
+use Rattle.script_lines.specs.declared.answer.Answer.{Answer}
+use Rattle.script_lines.specs.declared.answer.Answer.TheVariants.{Crashed, Reply}
+use Rattle.script_lines.specs.declared.command.Command.{Command}
+use Rattle.script_lines.specs.declared.command.Command.TheVariants as command
 use Rattle.scripts.specs.declared.place.Place.{Place}
 use Rattle.scripts.specs.declared.place.Place.TheVariants.{Nothing, Device, Pool}
 use Rattle.scripts.specs.declared.session.BadCommand.{BadCommand}

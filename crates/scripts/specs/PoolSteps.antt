@@ -9,8 +9,8 @@ use Rattle.base.specs.declared.step.Step.TheVariants as step
 use Rattle.base.specs.declared.step.Reply.{Reply}
 use Rattle.base.specs.declared.step.Reply.TheVariants.{More, Refused}
 use Rattle.scripts.specs.Fillings.{ops_of}
-use Rattle.scripts.specs.declared.command.PoolCommand.{PoolCommand}
-use Rattle.scripts.specs.declared.command.PoolCommand.TheVariants as command
+use Rattle.script_lines.specs.declared.command.PoolCommand.{PoolCommand}
+use Rattle.script_lines.specs.declared.command.PoolCommand.TheVariants as command
 
 abbrev pub is_refused : Reply → Bool
 is_refused (Refused e) = true

@@ -7,9 +7,9 @@ use Rattle.scripts.specs.Kept.{KeepsCuts}
 use Rattle.scripts.specs.Places.{AsksIn, CrashesOn, PlansFault, has_device, has_pool, has_what_it_needs, is_crash}
 use Rattle.scripts.specs.PoolSteps.{Asks}
 use Rattle.scripts.specs.Pools.{IsPlannedOn, IsStepOf, MemPlace, device_in, open_plan}
-use Rattle.scripts.specs.declared.answer.Answer.{Answer}
-use Rattle.scripts.specs.declared.command.Command.{Command}
-use Rattle.scripts.specs.declared.command.Command.TheVariants as command
+use Rattle.script_lines.specs.declared.answer.Answer.{Answer}
+use Rattle.script_lines.specs.declared.command.Command.{Command}
+use Rattle.script_lines.specs.declared.command.Command.TheVariants as command
 use Rattle.scripts.specs.declared.place.Place.TheVariants.{Nothing}
 use Rattle.scripts.specs.declared.session.BadCommand.{BadCommand}
 use Rattle.scripts.specs.declared.session.Session.{Session}

@@ -1,13 +1,12 @@
 //! What runs the commands of a script.
 
 ghost use Rattle.std.specs.Prelude.{Result};
-ghost use Rattle.scripts.specs.declared.answer.Answer.{Answer};
-ghost use Rattle.scripts.specs.declared.command.Command.{Command};
+ghost use Rattle.script_lines.specs.declared.answer.Answer.{Answer};
+ghost use Rattle.script_lines.specs.declared.command.Command.{Command};
 ghost use Rattle.scripts.specs.declared.session.BadCommand.{BadCommand};
 
-use crate::answer::Answer;
-use crate::command::Command;
 use crate::session::BadCommand;
+use script_lines::{Answer, Command};
 
 /// What runs the commands of a script, one after the other. `Session` is one.
 pub trait CommandRunner {

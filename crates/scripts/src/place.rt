@@ -4,11 +4,11 @@ ghost use Rattle.std.specs.Prelude.{◌≡◌, IsOk, false, true};
 ghost use Rattle.base.specs.disk.Crashes.{crash_image};
 ghost use Rattle.base.specs.disk.Disk.{MayLeave};
 
-use crate::answer::Answer;
 use crate::session::BadCommand;
 use base::{Piece, PoolError, Reply};
 use device_model::MemDevice;
 use import_replay::create;
+use script_lines::Answer;
 
 /// What a session has so far.
 #[derive(Debug, Drop)]

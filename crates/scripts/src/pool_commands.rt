@@ -6,9 +6,9 @@ ghost use Rattle.scripts.specs.Fillings.{op_of, ops_of, taken_by};
 ghost use Rattle.scripts.specs.PoolSteps as asked;
 ghost use Rattle.scripts.specs.PoolSteps.{Asks, CommitsOps, Finishes, Syncs, ops_for};
 
-use crate::command::PoolCommand;
 use crate::stepped_pool::SteppedPool;
 use base::{Bytes, Op, Ops, PoolError, Reply, Shape, Step, TxId};
+use script_lines::PoolCommand;
 use std::alloc::{AllocError, Global};
 use std::vec::IntoIter;
 

@@ -2,14 +2,13 @@
 
 ghost use Rattle.std.specs.Prelude.{◌≡◌, ◌≢◌, ◌≤◌, ◌↔◌, IfErr, IfOk, IfSome, IsTrue, None, Ok};
 ghost use Rattle.scripts.specs.Endings.{status_number};
-ghost use Rattle.scripts.specs.Letters.{is_silent};
+ghost use Rattle.script_lines.specs.Letters.{is_silent};
 ghost use Rattle.scripts.specs.Lines.{RunsBadLine, RunsLine};
 
-use crate::answer::Answer;
-use crate::command::{LineError, parse_command};
 use crate::command_runner::CommandRunner;
 use crate::session::{BadCommand, Session};
 use base::PoolError;
+use script_lines::{Answer, LineError, parse_command};
 use std::alloc::Global;
 use std::io::{self, BufRead, BufReader, BufWriter, Read, Write};
 
@@ -123,7 +122,7 @@ fn prints_nothing(line: &[u8]) -> bool
 }
 
 // The answer to a line, if it has one.
-fn run_line<S: CommandRunner>(
+pub(crate) fn run_line<S: CommandRunner>(
     alloc: Global,
     session: &mut S,
     line: &[u8],

@@ -6,8 +6,6 @@ ghost use Rattle.base.specs.history.Past.{Past};
 ghost use Rattle.device_model.specs.MemState.{new_state};
 ghost use Rattle.scripts.specs.Devices.{IsNewDeviceRefusal};
 
-use crate::answer::Answer;
-use crate::command::{Command, PoolCommand};
 use crate::command_runner::CommandRunner;
 use crate::place::Place;
 use crate::pool_commands::run_pool_command;
@@ -16,6 +14,7 @@ use device_model::{Fault, MemDevice};
 use import_replay::{Imported, import};
 use labels::{Geometry, SECTOR_SIZE};
 use pool_core::PoolState;
+use script_lines::{Answer, Command, PoolCommand};
 use std::alloc::Global;
 use std::mem;
 
@@ -33,7 +32,8 @@ pub struct Session {
 }
 
 impl Session {
-    ghost use Rattle.scripts.specs.Devices.{Creates, IfPool, Imports, IsImportedPool, device_for, imported_answer};
+    ghost use Rattle.script_lines.specs.Answers.{imported_answer};
+    ghost use Rattle.scripts.specs.Devices.{Creates, IfPool, Imports, IsImportedPool, device_for};
     ghost use Rattle.scripts.specs.Kept.{BeginsKept, FindsLeft, IsFairCrash, IsLastRunIn, KeepsCuts, StartsKept};
     ghost use Rattle.scripts.specs.Places.{AsksIn, PlansFault, has_device, has_pool, has_what_it_needs, is_crash};
     ghost use Rattle.scripts.specs.PoolSteps.{Asks};

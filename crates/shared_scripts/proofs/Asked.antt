@@ -15,8 +15,8 @@ use Rattle.device_model.specs.MemState.{MemState}
 use Rattle.device_model.specs.contracts.memory.MemDeviceSectorDevice.TheImpl.{ghosts}
 use Rattle.pool_threads.proofs.Made.{grows_by_made}
 use Rattle.scripts.specs.PoolSteps.{Asks, CommitsOps, Finishes, MakesSteps, Then}
-use Rattle.scripts.specs.declared.command.PoolCommand.{PoolCommand}
-use Rattle.scripts.specs.declared.command.PoolCommand.TheVariants as command
+use Rattle.script_lines.specs.declared.command.PoolCommand.{PoolCommand}
+use Rattle.script_lines.specs.declared.command.PoolCommand.TheVariants as command
 use Rattle.shared_scripts.specs.Callers.{CallsStep, plan_begun}
 use Rattle.shared_scripts.specs.Pools.{LastOfMem, SharedMemPool}
 use Rattle.shared_scripts.specs.declared.pool_caller.PoolCaller.{PoolCaller}

@@ -6,7 +6,7 @@ use Rattle.device_model.specs.MemState.{MemState}
 use Rattle.import_replay.specs.declared.mounted.Mounted.{Mounted}
 use Rattle.pool_threads.specs.Handles.{LeavesSame}
 use Rattle.scripts.specs.Devices.{IsImportRun}
-use Rattle.scripts.specs.declared.answer.Answer.{Answer}
+use Rattle.script_lines.specs.declared.answer.Answer.{Answer}
 use Rattle.shared_scripts.specs.Places.{SharedPlace}
 use Rattle.shared_scripts.specs.Sessions.{ImportsShared, IsGivenBack, SharesMounted}
 

@@ -8,7 +8,6 @@ use Rattle.base.specs.disk.Crashes.{crash_image}
 use Rattle.base.specs.disk.Disk.{Disk, MayLeave}
 use Rattle.base.specs.history.Past.{Grows, Past, new_past}
 use Rattle.device_model.specs.MemState.{MemState}
-use Rattle.device_model.specs.Plans.{with_plan}
 use Rattle.device_model.specs.declared.fault.Fault.{Fault}
 use Rattle.pool_threads.specs.Handles.{OpensBehind, opening_view, view_seen}
 use Rattle.pool_threads.specs.Views.{CrashRule, GrowsTo, IsFollowed, SeenPool, grows_same, since, viewed_state}
@@ -18,10 +17,10 @@ use Rattle.round_trip.specs.Crashes.{IsLeft}
 use Rattle.scripts.proofs.Kept.{plan_disk}
 use Rattle.scripts.specs.Kept.{IsFairCrash}
 use Rattle.scripts.specs.Places.{AsksIn, CrashesOn, PlansFault}
-use Rattle.scripts.specs.declared.answer.Answer.{Answer}
-use Rattle.scripts.specs.declared.answer.Answer.TheVariants as answer
-use Rattle.scripts.specs.declared.command.Command.TheVariants as command
-use Rattle.scripts.specs.declared.command.PoolCommand.{PoolCommand}
+use Rattle.script_lines.specs.declared.answer.Answer.{Answer}
+use Rattle.script_lines.specs.declared.answer.Answer.TheVariants as answer
+use Rattle.script_lines.specs.declared.command.Command.TheVariants as command
+use Rattle.script_lines.specs.declared.command.PoolCommand.{PoolCommand}
 use Rattle.scripts.specs.declared.session.BadCommand.{BadCommand}
 use Rattle.shared_scripts.specs.Kept.{BeginsShared, FindsRun, GoesOnIn, IsRunIn, IsRunOf, KeepsOn, KeepsOverCrash, KeepsOverImport, KeepsRun, TakesFromRun}
 use Rattle.shared_scripts.specs.Places.{IsTakenFrom, SharedPlace}

@@ -1,4 +1,6 @@
 mod Asked
 mod Imported
 mod Kept
+mod OnDevice
+mod OneTurn
 mod Taken

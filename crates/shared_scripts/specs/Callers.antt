@@ -9,7 +9,7 @@ use Rattle.pool_threads.specs.Handles.{IsBackIn, IsLeftBehind, moment_of}
 use Rattle.pool_threads.specs.Turns.{dated}
 use Rattle.pool_threads.specs.Views.{GrowsTo}
 use Rattle.scripts.specs.PoolSteps.{Asks}
-use Rattle.scripts.specs.declared.command.PoolCommand.{PoolCommand}
+use Rattle.script_lines.specs.declared.command.PoolCommand.{PoolCommand}
 use Rattle.shared_scripts.specs.Plans.{plan_named}
 use Rattle.shared_scripts.specs.Pools.{LastOfMem, SharedMemPool}
 use Rattle.shared_scripts.specs.declared.begun_plans.BegunPlan.{BegunPlan}

@@ -1,5 +1,5 @@
 -- What a session on a shared pool keeps of its run over creates, imports, crashes and commands, whatever moment the power goes.
-use Rattle.std.specs.Prelude.{ℕ, ◌≡◌, ◌⊎◌, List, None, Some, Result, Ok, Err, IsOk, IsTrue}
+use Rattle.std.specs.Prelude.{ℕ, ◌≡◌, ◌⊎◌, List, Some, Result, Ok, Err, IsOk, IsTrue}
 use Rattle.base.specs.declared.piece.Piece.{Piece}
 use Rattle.base.specs.declared.step.Reply.TheVariants.{Done}
 use Rattle.base.specs.disk.Disk.{moments}
@@ -13,10 +13,10 @@ use Rattle.pool_threads.specs.Views.{IsFollowed, since, viewed_state}
 use Rattle.round_trip.specs.Crashes.{IsLeft}
 use Rattle.scripts.specs.Kept.{IsFairCrash, LeavesNew}
 use Rattle.scripts.specs.Places.{has_what_it_needs}
-use Rattle.scripts.specs.declared.answer.Answer.{Answer}
-use Rattle.scripts.specs.declared.answer.Answer.TheVariants as answer
-use Rattle.scripts.specs.declared.command.Command.{Command}
-use Rattle.scripts.specs.declared.command.Command.TheVariants as command
+use Rattle.script_lines.specs.declared.answer.Answer.{Answer}
+use Rattle.script_lines.specs.declared.answer.Answer.TheVariants as answer
+use Rattle.script_lines.specs.declared.command.Command.{Command}
+use Rattle.script_lines.specs.declared.command.Command.TheVariants as command
 use Rattle.scripts.specs.declared.session.BadCommand.{BadCommand}
 use Rattle.scripts.specs.declared.place.Place.TheVariants.{Nothing, Device, Pool}
 use Rattle.shared_scripts.specs.Places.{IsTakenFrom, SharedPlace}

@@ -8,8 +8,8 @@ use Rattle.base.specs.declared.operation.Shape.{Shape}
 use Rattle.base.specs.declared.step.Step.TheVariants as step
 use Rattle.base.specs.declared.step.Reply.{Reply}
 use Rattle.base.specs.declared.step.Reply.TheVariants as reply
-use Rattle.scripts.specs.declared.command.PoolCommand.{PoolCommand}
-use Rattle.scripts.specs.declared.command.PoolCommand.TheVariants as command
+use Rattle.script_lines.specs.declared.command.PoolCommand.{PoolCommand}
+use Rattle.script_lines.specs.declared.command.PoolCommand.TheVariants as command
 use Rattle.shared_scripts.specs.declared.begun_plans.BegunPlan.{BegunPlan}
 use Rattle.shared_scripts.specs.declared.begun_plans.PlanChange.{PlanChange}
 use Rattle.shared_scripts.specs.declared.begun_plans.PlanChange.TheVariants.{Nothing, Begins, Ends}

@@ -11,13 +11,14 @@ use Rattle.import_replay.specs.Mounts.{shown_of_import}
 use Rattle.import_replay.specs.declared.mounted.Mounted.{Mounted}
 use Rattle.pool_threads.specs.Handles.{LeavesSame, OpensBehind, opening_view}
 use Rattle.pool_threads.specs.Views.{GrowsTo, viewed_state}
-use Rattle.scripts.specs.Devices.{CreatesOn, IsImportRun, IsLeftByImport, MakesNoDevice, imported_answer}
+use Rattle.scripts.specs.Devices.{CreatesOn, IsImportRun, IsLeftByImport, MakesNoDevice}
 use Rattle.scripts.specs.Places.{AsksIn, CrashesOn, PlansFault, has_device, has_pool}
-use Rattle.scripts.specs.declared.answer.Answer.{Answer}
-use Rattle.scripts.specs.declared.answer.Answer.TheVariants as answer
-use Rattle.scripts.specs.declared.command.Command.{Command}
-use Rattle.scripts.specs.declared.command.Command.TheVariants as command
-use Rattle.scripts.specs.declared.command.PoolCommand.{PoolCommand}
+use Rattle.script_lines.specs.Answers.{imported_answer}
+use Rattle.script_lines.specs.declared.answer.Answer.{Answer}
+use Rattle.script_lines.specs.declared.answer.Answer.TheVariants as answer
+use Rattle.script_lines.specs.declared.command.Command.{Command}
+use Rattle.script_lines.specs.declared.command.Command.TheVariants as command
+use Rattle.script_lines.specs.declared.command.PoolCommand.{PoolCommand}
 use Rattle.scripts.specs.declared.place.Place.TheVariants.{Nothing, Device, Pool}
 use Rattle.scripts.specs.declared.session.BadCommand.{BadCommand}
 use Rattle.shared_scripts.specs.Places.{IsTakenFrom, SharedPlace}

@@ -3,7 +3,7 @@ use Rattle.std.specs.Prelude.{ℕ, ◌≡◌, ◌⊎◌, true}
 use Rattle.base.specs.declared.error.PoolError.TheVariants.{NoMemory}
 use Rattle.base.specs.declared.step.Reply.{Reply}
 use Rattle.base.specs.declared.step.Reply.TheVariants.{Refused}
-use Rattle.scripts.specs.declared.command.PoolCommand.{PoolCommand}
+use Rattle.script_lines.specs.declared.command.PoolCommand.{PoolCommand}
 use Rattle.shared_scripts.specs.Callers.{AsksByHandle}
 use Rattle.shared_scripts.specs.Plans.{is_begin}
 use Rattle.shared_scripts.specs.declared.shared_pool.SharedPool.{SharedPool}

@@ -4,6 +4,7 @@
 #![tactic(auto)]
 
 mod begun_plans;
+mod clients;
 mod pool_caller;
 mod session;
 mod shared_pool;

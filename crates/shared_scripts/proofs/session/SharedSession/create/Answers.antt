@@ -1,4 +1,4 @@
-use Rattle.std.proofs.Common.{inl, inr}
+use Rattle.std.proofs.Common.{inl}
 use Rattle.shared_scripts.proofs.session.SharedSession.create.Goals as goal
 
 pub returns-in-Ok-clause-creates : goal.returns-in-Ok-clause-creates

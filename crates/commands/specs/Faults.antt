@@ -1,0 +1,24 @@
+-- How a command on a pool in a file ends.
+use Rattle.std.specs.Prelude.{ℕ, ◌≡◌, ◌*◌, ◌/◌, false, List, Result, Ok, Err}
+use Rattle.base.specs.declared.error.PoolError.{PoolError}
+use Rattle.base.specs.declared.error.PoolError.TheVariants.{BadGeometry, BadRange}
+use Rattle.base.specs.formats.Geometry.{IsGeometry, is_geometry}
+use Rattle.base.specs.formats.Names.{is_name}
+use Rattle.commands.specs.declared.fault.Fault.{Fault}
+use Rattle.commands.specs.declared.fault.Fault.TheVariants.{Refused, Unusable, Unwritten}
+
+-- the status of a fault
+abbrev pub fault_status : Fault → ℕ
+fault_status (Refused refusal) = 1
+fault_status Unusable = 3
+fault_status Unwritten = 3
+
+-- the bytes of the whole sectors of a file of so many bytes
+abbrev pub sector_bytes : ℕ → ℕ
+sector_bytes size = 512 * (size / 512)
+
+-- what is given for a new pool is refused: the size comes first, then the name
+abbrev pub IsNewPoolRefusal : ℕ → List ℕ → PoolError → Type 0
+IsNewPoolRefusal size name BadGeometry = is_geometry (sector_bytes size) ≡ false
+IsNewPoolRefusal size name BadRange = IsGeometry (sector_bytes size) × (is_name name ≡ false)
+IsNewPoolRefusal size name _ = ⊥

@@ -1,0 +1,103 @@
+//! What callers rest on: one function for each promise of this crate's calls, proved from the contract of the call alone. So
+//! it is refused as soon as that contract says less.
+
+ghost use Rattle.std.specs.Prelude.{◌≡◌};
+
+use crate::arguments::{CreateArguments, ScriptArguments};
+use crate::fault::{Fault, tell_fault};
+use crate::pool_files::{run_create, run_show};
+use crate::program::run_opened;
+use base::PoolError;
+use std::alloc::Global;
+use std::fs::OpenFile;
+use std::io::{self, ErrorKind, Read, Write};
+use std::os::unix::fs::FileExt;
+use std::rt::Files;
+use std::sync::Wait;
+
+// A refusal of the engine is told as status 1.
+fn a_refusal_has_status_1<E: Write>(errors: &mut E) -> u8
+    ensures { result ≡ 1 }
+{
+    tell_fault(Fault::Refused(PoolError::NoMemory), "tank.pool", errors)
+}
+
+fn a_file_that_cannot_be_used_has_status_3<E: Write>(errors: &mut E) -> u8
+    ensures { result ≡ 3 }
+{
+    tell_fault(Fault::Unusable, "tank.pool", errors)
+}
+
+fn an_output_that_is_not_written_has_status_3<E: Write>(errors: &mut E) -> u8
+    ensures { result ≡ 3 }
+{
+    tell_fault(Fault::Unwritten, "tank.pool", errors)
+}
+
+// A file of less than 6 MiB can hold no pool.
+fn a_pool_in_a_small_file_has_status_1<R: Files, W: Write, E: Write>(
+    files: &R,
+    out: &mut W,
+    errors: &mut E,
+) -> u8
+where
+    R::File: FileExt,
+    ensures { result ≡ 1 }
+{
+    let arguments = CreateArguments {
+        file: "tank.pool",
+        name: "tank",
+        guid: 77,
+        size: 6_291_455,
+        moment: 0,
+    };
+    run_create(files, arguments, out, errors)
+}
+
+// A name begins with a letter.
+fn a_pool_named_by_a_digit_has_status_1<R: Files, W: Write, E: Write>(
+    files: &R,
+    out: &mut W,
+    errors: &mut E,
+) -> u8
+where
+    R::File: FileExt,
+    ensures { result ≡ 1 }
+{
+    let arguments = CreateArguments {
+        file: "tank.pool",
+        name: "4tank",
+        guid: 77,
+        size: 8_388_608,
+        moment: 0,
+    };
+    run_create(files, arguments, out, errors)
+}
+
+fn a_pool_that_is_not_opened_shows_status_3<F: FileExt + OpenFile + Drop, W: Write, E: Write>(
+    alloc: Global,
+    out: &mut W,
+    errors: &mut E,
+) -> u8
+    ensures { result ≡ 3 }
+{
+    let opened: io::Result<F> = Err(io::Error::from(ErrorKind::NotFound));
+    run_show(alloc, "tank.pool", opened, out, errors)
+}
+
+fn a_script_that_is_not_opened_has_status_3<
+    H: Wait + AllocGlobal,
+    R: Read + Drop,
+    W: Write + Drop,
+    E: Write,
+>(rt: &H, out: W, errors: &mut E) -> u8
+    ensures { result ≡ 3 }
+{
+    let arguments = ScriptArguments {
+        size: 8_388_608,
+        script: "no/script",
+        moment: 0,
+    };
+    let opened: io::Result<R> = Err(io::Error::from(ErrorKind::NotFound));
+    run_opened(rt, arguments, opened, out, errors)
+}

@@ -1,0 +1,14 @@
+//! The commands of the program `ztxg`: a script on a pool in memory, and a pool in a file, which is made or shown.
+//!
+//! The crate knows no command line: `ztxg` reads its words into `Arguments`, and `run` does what they ask for.
+#![tactic(auto)]
+
+mod arguments;
+mod clients;
+mod fault;
+mod pool_files;
+mod program;
+
+pub use arguments::{Arguments, CreateArguments, ScriptArguments};
+pub use pool_files::{run_create, run_show};
+pub use program::{run, run_opened};

@@ -1,0 +1,3 @@
+mod Copies
+pub mod Readings
+mod Zips

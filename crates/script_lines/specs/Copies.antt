@@ -1,0 +1,19 @@
+-- The bytes that the words of a commit stand for.
+use Rattle.std.specs.Prelude.{◌≡◌, ◌≢◌, ◌<◌, ◌++◌, ◌∷◌, [], ℕ, List, replicate}
+use Rattle.std.specs.Borrow.{Bor}
+use Rattle.std.specs.List.{AllZip}
+use Rattle.script_lines.specs.Numbers.{IsNumberBelow, spelled_number}
+
+-- `COUNT:C` (58 is the colon) stands for 1 to 338,688 copies of the character C
+abbrev pub AreCopies : List ℕ → List ℕ → Type 0
+AreCopies copies bytes = (count : List ℕ) × (character : ℕ) × (copies ≡ count ++ 58 ∷ character ∷ [])
+    × IsNumberBelow 338689 count × (0 < spelled_number count) × (bytes ≡ replicate (spelled_number count) character)
+
+-- copies behind `@` (64), else the word's own bytes
+abbrev pub IsContentOf : List ℕ → List ℕ → Type 0
+IsContentOf [] bytes = bytes ≡ []
+IsContentOf (first ∷ rest) bytes = (first ≡ 64 → AreCopies rest bytes) × (first ≢ 64 → bytes ≡ first ∷ rest)
+
+-- the bytes of each word, in order
+abbrev pub AreContentsOf : List (Bor (List ℕ)) → List (List ℕ) → Type 0
+AreContentsOf words contents = AllZip (λ word bytes. IsContentOf word.now bytes) words contents

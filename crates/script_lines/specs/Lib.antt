@@ -1,0 +1,7 @@
+pub mod Answers
+pub mod Commands
+pub mod Copies
+pub mod Letters
+pub mod Numbers
+pub mod Shapes
+pub mod Words

@@ -1,0 +1,134 @@
+//! What a script prints for a command.
+
+ghost use Rattle.std.specs.Prelude.{◌≡◌};
+
+use base::{Bytes, Group, PoolError, PoolName, Reply, Status};
+use device_model::MemDevice;
+use import_replay::Imported;
+use std::fmt;
+
+/// The answer to a command, one line of text.
+#[derive(Debug, PartialEq, Eq, Drop)]
+pub enum Answer {
+    /// The pool that an import mounted: the group that it synced. The one behind it is open.
+    Imported {
+        synced: Group,
+        open: Group,
+        records: u64,
+    },
+    /// What a crash found: the number of writes since the last good flush.
+    Crashed(usize),
+    /// What the pool answered.
+    Reply(Reply),
+}
+
+impl Answer {
+    ghost use Rattle.script_lines.specs.Answers.{imported_answer};
+
+    /// What is told of an imported pool: the group that its import synced, the open one behind it, and its log records.
+    pub fn imported(imported: &Imported<MemDevice>) -> Answer
+        ensures { result ≡ imported_answer imported.now.mounted }
+    {
+        let synced = imported.group();
+        Answer::Imported {
+            synced,
+            open: Group(synced.0.saturating_add(1)),
+            records: imported.records(),
+        }
+    }
+
+    /// The answer that a command is refused.
+    pub fn refused(error: PoolError) -> Answer
+        ensures { result ≡ Answer.Reply (Reply.Refused error) }
+    {
+        Answer::Reply(Reply::Refused(error))
+    }
+}
+
+impl fmt::Display for Answer {
+    fn fmt<W: fmt::Write>(&self, f: &mut fmt::Formatter<W>) -> fmt::Result {
+        match self {
+            Answer::Imported {
+                synced,
+                open,
+                records,
+            } => { write!(f, "synced {} open {} records {records}", synced.0, open.0) }
+            Answer::Crashed(unflushed) => write!(f, "crashed {unflushed}"),
+            Answer::Reply(reply) => write_reply(reply, f),
+        }
+    }
+}
+
+fn write_reply<W: fmt::Write>(reply: &Reply, f: &mut fmt::Formatter<W>) -> fmt::Result {
+    match reply {
+        Reply::Refused(error) => write!(f, "refused {} {error}", error.number()),
+        Reply::Done => write!(f, "ok"),
+        Reply::Locked(id) => write!(f, "lock {}", id.0),
+        Reply::Appended(id, range) => write!(f, "lock {} {} {}", id.0, range.low, range.high),
+        Reply::Began(tx, group) => write!(f, "tx {} group {}", tx.0, group.0),
+        Reply::Committed(receipt) => write!(
+            f,
+            "entry {} group {}",
+            receipt.ordinal.0, receipt.group.0
+        ),
+        Reply::Bytes(bytes) => write_bytes(bytes, f),
+        Reply::Length(length) => write!(f, "length {length}"),
+        Reply::Digest(digest) => write_digest(digest, f),
+        Reply::Name(name) => write_name(name, f),
+        Reply::Status(status) => write_status(status, f),
+        Reply::Opened(group) => write!(f, "open {}", group.0),
+        Reply::Quiesced(group) => write!(f, "quiesced {}", group.0),
+        Reply::Syncing(group) => write!(f, "syncing {}", group.0),
+        Reply::More => write!(f, "more"),
+        Reply::Synced(group) => write!(f, "synced {}", group.0),
+    }
+}
+
+// The number of the bytes, and where there are any, each as two hexadecimal digits.
+fn write_bytes<W: fmt::Write>(bytes: &Bytes, f: &mut fmt::Formatter<W>) -> fmt::Result {
+    write!(f, "bytes {}", bytes.len())?;
+    if bytes.is_empty() {
+        return Ok(());
+    }
+    write!(f, " ")?;
+    for byte in bytes.as_slice() {
+        write!(f, "{byte:02x}")?;
+    }
+    Ok(())
+}
+
+// Two hexadecimal digits for each byte.
+fn write_digest<W: fmt::Write>(digest: &[u8; 32], f: &mut fmt::Formatter<W>) -> fmt::Result {
+    write!(f, "digest ")?;
+    for byte in digest {
+        write!(f, "{byte:02x}")?;
+    }
+    Ok(())
+}
+
+// The name, all of whose bytes are ASCII.
+fn write_name<W: fmt::Write>(name: &PoolName, f: &mut fmt::Formatter<W>) -> fmt::Result {
+    write!(f, "name ")?;
+    for byte in name.as_slice() {
+        write!(f, "{}", *byte as char)?;
+    }
+    Ok(())
+}
+
+// The groups and the sums of a pool.
+fn write_status<W: fmt::Write>(status: &Status, f: &mut fmt::Formatter<W>) -> fmt::Result {
+    write!(f, "synced {} syncing ", status.synced.0)?;
+    write_group(status.syncing, f)?;
+    write!(f, " middle ")?;
+    write_group(status.middle, f)?;
+    write!(f, " open {} dirty {}", status.open_group.0, status.dirty)?;
+    write!(f, " free {} available {}", status.free, status.available)
+}
+
+// The group, or `-` where there is none.
+fn write_group<W: fmt::Write>(group: Option<Group>, f: &mut fmt::Formatter<W>) -> fmt::Result {
+    match group {
+        Some(group) => write!(f, "{}", group.0),
+        None => write!(f, "-"),
+    }
+}

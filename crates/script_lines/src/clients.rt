@@ -1,0 +1,47 @@
+//! What callers rest on: one function for each promise of this crate's calls, proved from the contract of the call alone. So
+//! it is refused as soon as that contract says less.
+
+ghost use Rattle.std.specs.Prelude.{◌≡◌, ◌∷◌, [], IfErr, IfOk, IfSome, codes};
+ghost use Rattle.base.specs.declared.error.PoolError.TheVariants.{Throttled};
+ghost use Rattle.base.specs.declared.step.Reply.TheVariants.{Refused};
+ghost use Rattle.base.specs.declared.step.Step.TheVariants.{CloseGroup};
+
+use crate::answer::Answer;
+use crate::command::{Command, LineError, PoolCommand, parse_command};
+use base::{Bytes, PoolError};
+use device_model::MemDevice;
+use import_replay::Imported;
+use std::alloc::Global;
+
+// The line of a close asks for it, and is refused only for want of memory.
+fn a_close_is_read_as_a_close(alloc: Global) -> Result<Command, LineError>
+    ensures read { IfOk result (λ command.
+        command ≡ Command.Pool (PoolCommand.Step CloseGroup)) }
+    ensures refused { IfErr result (λ e. e ≡ LineError.NoMemory) }
+{
+    parse_command(alloc, "close")
+}
+
+// A commit has the bytes of each of its words, in order.
+fn each_word_of_a_commit_has_its_bytes(alloc: Global) -> Option<Vec<Bytes>>
+    ensures { IfSome result (λ contents. contents.items ≡ codes "ab" ∷ codes "c" ∷ []) }
+{
+    match parse_command(alloc, "commit 1 ab c") {
+        Ok(Command::Pool(PoolCommand::Commit(_, contents))) => Some(contents),
+        _ => None,
+    }
+}
+
+// The group behind the mounted one is open, and there are no log records.
+fn an_import_tells_its_group_and_the_next(imported: &Imported<MemDevice>) -> Answer
+    requires { imported.now.mounted.group.0 ≡ 8 }
+    ensures { result ≡ Answer.Imported (record { 0 = 8 }) (record { 0 = 9 }) 0 }
+{
+    Answer::imported(imported)
+}
+
+fn a_refusal_is_told_as_it_is() -> Answer
+    ensures { result ≡ Answer.Reply (Refused Throttled) }
+{
+    Answer::refused(PoolError::Throttled)
+}

@@ -1,0 +1,10 @@
+//! The lines of a script and its answers: a line is read as the command that it asks for, and an answer is printed as a line.
+#![tactic(auto)]
+
+mod answer;
+mod clients;
+mod command;
+mod number;
+
+pub use answer::Answer;
+pub use command::{Command, LineError, PoolCommand, parse_command};

@@ -1,6 +1,0 @@
-use Rattle.std.proofs.Common.{◌≡◌, map, take, Some}
-use Rattle.scripts.specs.Letters.{piece_of}
-use Rattle.scripts.proofs.command.parse_pieces.Given as goal
-
-abbrev pub invariant-loop-letter : goal.invariant-loop-letter
-invariant-loop-letter l = map Some l.pieces.items ≡ map piece_of (take l.letter-index l.letters)

@@ -1,0 +1,139 @@
+//! What callers rest on: one function for each promise of this crate's calls, proved from the contract of the call alone. So
+//! it is refused as soon as that contract says less.
+
+ghost use Rattle.std.specs.Prelude.{ℕ, ◌≡◌, ◌≢◌, ◌⊎◌, ◌∷◌, ◌-◌, ◌^◌, [], true, false, None, Some, Err, Ok, IfOk, IfSome, IsErr, IsOk, length};
+ghost use Rattle.base.specs.declared.error.PoolError.TheVariants as error;
+ghost use Rattle.base.specs.declared.operation.Op.TheVariants as op;
+ghost use Rattle.base.specs.declared.operation.Shape.TheVariants as shape;
+ghost use Rattle.base.specs.declared.step.Reply.TheVariants as reply;
+ghost use Rattle.base.specs.declared.step.Step.TheVariants.{CloseGroup, StartSync};
+ghost use Rattle.base.specs.disk.Disk.{disk_size};
+ghost use Rattle.base.specs.formats.Geometry.{IsGeometry};
+ghost use Rattle.device_model.specs.MemState.{after_crash};
+ghost use Rattle.pool_core.specs.States.{shown};
+ghost use Rattle.scripts.specs.Places.{AsksIn, has_device, has_pool};
+ghost use Rattle.scripts.specs.PoolSteps.{CommitsOps, MakesSteps};
+ghost use Rattle.scripts.specs.Pools.{IsStepOf, MemPool};
+
+use crate::place::Place;
+use crate::pool_commands::run_pool_command;
+use crate::script::run_line;
+use crate::session::{BadCommand, Session, new_device};
+use crate::stepped_pool::SteppedPool;
+use base::{Bytes, Piece, PoolError, Reply, TxId};
+use device_model::MemDevice;
+use script_lines::{Answer, Command, PoolCommand};
+use std::alloc::Global;
+
+// A command of a pool is a bad one where there is no pool, and leaves what is there.
+fn a_bad_command_leaves_the_device(session: &mut Session) -> Result<Answer, BadCommand>
+    requires { has_pool session.old.place ≡ false }
+    ensures bad { IsErr result }
+    ensures unchanged { session.new.place ≡ session.old.place }
+{
+    session.run(Command::Pool(PoolCommand::Start))
+}
+
+fn a_new_session_has_no_pool(alloc: Global) -> Result<Answer, BadCommand>
+    ensures { IsErr result }
+{
+    let mut session = Session::new(alloc, 8_388_608, 77);
+    session.run(Command::Pool(PoolCommand::Start))
+}
+
+// An import has the limit of its line, however large.
+fn an_import_has_its_limit(session: &mut Session) -> Result<Answer, BadCommand>
+    requires { has_device session.old.place ≡ true }
+    ensures { (pool : MemPool) → session.new.place ≡ Place.Pool pool
+        → (shown pool).dirty_max ≡ 2097152 }
+{
+    session.run(Command::Import {
+        dirty_max: 2_097_152,
+    })
+}
+
+// The line of a close makes that step of the session's pool and no other, or there is no memory for the line.
+fn a_close_line_closes_the_group(
+    alloc: Global,
+    session: &mut Session,
+) -> Result<Option<Answer>, BadCommand>
+    requires { has_pool session.old.place ≡ true }
+    ensures good { IsOk result }
+    ensures answered { result ≢ Ok None }
+    ensures closes { IfOk result (λ told. IfSome told (λ answer.
+        ((answer ≡ Answer.Reply (reply.Refused error.NoMemory)) × (session.new ≡ session.old))
+        ⊎ AsksIn (λ reply old new. IsStepOf CloseGroup reply old new)
+        session.old.place answer session.new.place)) }
+{
+    run_line(alloc, session, b"close")
+}
+
+// Where the same line is a bad one, it leaves what is there.
+fn a_bad_line_leaves_the_device(
+    alloc: Global,
+    session: &mut Session,
+) -> Result<Option<Answer>, BadCommand>
+    ensures { IsErr result → session.new.place ≡ session.old.place }
+{
+    run_line(alloc, session, b"close")
+}
+
+// A device of less than 6 MiB is none of a pool.
+fn a_small_device_is_refused(alloc: Global) -> Result<MemDevice, PoolError>
+    ensures { result ≡ Err error.BadGeometry }
+{
+    new_device(alloc, 6_291_455)
+}
+
+// A create of a good size and name is refused by the device alone.
+fn a_good_create_is_refused_by_the_device<P: Drop>(
+    place: &mut Place<P>,
+    device: MemDevice,
+) -> Answer
+    requires { IsGeometry (disk_size device.disk) }
+    ensures { (result ≡ Answer.Reply reply.Done)
+        ⊎ ((result ≡ Answer.Reply (reply.Refused error.Write))
+        ⊎ (result ≡ Answer.Reply (reply.Refused error.Flush))) }
+{
+    place.create(device, b"tank", 77, 0)
+}
+
+// A crash that loses the one unflushed write does so.
+fn a_crash_leaves_its_pieces<P: Drop>(
+    place: &mut Place<P>,
+    device: MemDevice,
+) -> Result<Answer, BadCommand>
+    requires { length device.disk.now.unflushed ≡ 1 }
+    ensures told { result ≡ Ok (Answer.Crashed 1) }
+    ensures left { place.new ≡ Place.Device (after_crash (Piece.Lose ∷ []) device) }
+{
+    place.crash(device, &[Piece::Lose])
+}
+
+// A finish that tells that there are more steps made as many as it may.
+fn a_finish_goes_on_to_its_end<P: SteppedPool>(alloc: Global, pool: &mut P) -> Reply
+    ensures { result ≡ reply.More → MakesSteps P.makes (2 ^ 64 - 1) pool.old pool.new }
+{
+    run_pool_command(alloc, pool, 77, PoolCommand::Finish)
+}
+
+fn a_started_sync_has_its_moment<P: SteppedPool>(alloc: Global, pool: &mut P) -> Reply
+    ensures { P.makes (StartSync 77) result pool.old pool.new }
+{
+    run_pool_command(alloc, pool, 77, PoolCommand::Start)
+}
+
+// A commit has the operations of its own transaction's plan.
+fn a_commit_fills_its_own_plan<P: SteppedPool>(
+    alloc: Global,
+    pool: &mut P,
+    contents: Vec<Bytes>,
+) -> Reply
+    requires plan { P.plan_in (record { 0 = 5 }) pool.old
+        ≡ Some (shape.Write (record { 0 = 3 }) 0 2 ∷ []) }
+    requires bytes { contents.items ≡ (97 ∷ 98 ∷ []) ∷ [] }
+    ensures { CommitsOps P.makes (record { 0 = 5 })
+        (op.Write (record { 0 = 3 }) 0 (97 ∷ 98 ∷ []) ∷ []) result pool.old pool.new }
+{
+    run_pool_command(alloc, pool, 77, PoolCommand::Commit(TxId(5), contents))
+}
