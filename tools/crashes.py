@@ -27,7 +27,9 @@ import sys
 import tempfile
 import time
 
-from serial_pool import TOP, Entry, apply, count_blocks, digest, is_cut, replay, tree_blocks, up_to
+sys.dont_write_bytecode = True
+
+from serial_pool import TOP, Entry, apply, count_blocks, digest, is_cut, replay, tree_blocks, up_to  # noqa: E402
 
 SIZE = 6 * 2**20
 DIRTY_MAX = 2**40

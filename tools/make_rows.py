@@ -8,7 +8,8 @@ A row is a script with a title, the size of its device and the moment of its ube
 
 - those of the files `tools/rows/*.rows`, written by hand, each line beside its answer ("read_rows" has the form);
 - lines that are no commands, and comments, which some bytes make hard to write in a file (`bad_lines`, `silent_lines`);
-- rows with many lines of one kind (`whole_uberblocks`, `eighth_steps`, `many_groups`, `many_objects`, `many_locks`);
+- rows with many lines of one kind (`whole_uberblocks`, `eighth_steps`, `many_groups`, `many_objects`, `many_locks`,
+  `many_shapes`);
 - crashes of whole pools: rounds of transactions, a sync or an import that is stopped after each of its device calls, each
   string of kept, lost and torn writes, and the next import (`stopped_syncs`, `stopped_imports`).
 
@@ -286,7 +287,9 @@ def many_objects():
         row.say(f"unlock {owner} {number}", "ok")
     for number in range(100):
         row.say(f"length {number}", "length 0")
+    # each creation is charged two blocks
     row.say_all("""
+status -> synced 8 syncing - middle - open 9 dirty 819200 free 895 available 695
 lock 1 0 w 0 4 -> lock 100
 unlock 1 100 -> ok
 begin 1 c:100 -> refused 13 NotLocked
@@ -311,6 +314,22 @@ unlock 2 8 -> refused 21 NoSuchLock
 lock 1 1 r 0 4 -> lock 256
 """)
     yield row
+
+
+def many_shapes():
+    """A transaction has at most so many bytes: 797 creations and removals fit, and one more does not. They are charged more
+    blocks than a pool of 8 MiB has, and more than the least limit of dirty bytes allows."""
+    for shapes, limit, refusal in [
+        (797, 16 * MIB, "refused 16 NoSpace"),
+        (797, MIB, "refused 17 Throttled"),
+        (798, MIB, "refused 18 TooLarge"),
+    ]:
+        row = Row(f"a plan of {shapes} shapes and a limit of {limit} dirty bytes: {refusal}")
+        row.say("create tank 77", "ok")
+        row.say(f"import {limit}", "synced 8 open 9 records 0")
+        row.say(f"lock 1 1 w 0 {TOP}", "lock 0")
+        row.say("begin 1 " + " ".join(["c:1 d:1"] * (shapes // 2) + ["c:1"] * (shapes % 2)), refusal)
+        yield row
 
 
 class Book(Row):
@@ -538,6 +557,7 @@ def all_rows():
         many_groups,
         many_objects,
         many_locks,
+        many_shapes,
         stopped_syncs,
         stopped_imports,
     ]:
