@@ -43,9 +43,9 @@ class Row:
         self.lines = []
 
     def say(self, line, answer=None):
-        """A line, and what it prints. Without an answer it prints nothing: it is empty, a comment, or after a bad command."""
+        """A line, and what it prints: nothing if it is empty, a comment, or after a bad command."""
         line = line if isinstance(line, bytes) else line.encode()
-        is_silent = line in (b"", b"#") or line.startswith(b"#") or self.is_ended()
+        is_silent = line == b"" or line.startswith(b"#") or self.is_ended()
         assert (answer is None) == is_silent and not line.startswith(b"== ") and b"\n" not in line, (self.head, line)
         self.lines.append((line, answer))
 
@@ -318,7 +318,7 @@ lock 1 1 r 0 4 -> lock 256
 
 def many_shapes():
     """A transaction has at most so many bytes: 797 creations and removals fit, and one more does not. They are charged more
-    blocks than a pool of 8 MiB has, and more than the least limit of dirty bytes allows."""
+    blocks than a pool of 8 MiB has, and more than a limit of 1 MiB of dirty bytes allows."""
     for shapes, limit, refusal in [
         (797, 16 * MIB, "refused 16 NoSpace"),
         (797, MIB, "refused 17 Throttled"),
