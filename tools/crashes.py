@@ -4,8 +4,8 @@
     python3 tools/crashes.py PROGRAM [SECONDS [SEED]]
 
 PROGRAM is a built `ztxg`. For SECONDS (60) it makes scripts by chance (docs/FORMATS.md, "The script"), runs each, and compares
-all answers with those that it worked out before. The answers come from a list of entries, a map of objects and the rules of
-what is written when; nothing is taken from the program.
+all answers with those that it worked out before. The answers come from a list of entries, a map of objects (`serial_pool.py`)
+and the rules of what is written when; nothing is taken from the program.
 
 - A pool of 6 MiB gets rounds, one upon the other. A round is an import, transactions in up to three groups at once, of which
   one may be committed behind entries of a newer group, and a sync that is stopped behind any of its device calls: by a
@@ -21,123 +21,22 @@ many of the strings over up to six unflushed writes of a sync came.
 """
 
 import collections
-import hashlib
-import itertools
 import random
-import struct
 import subprocess
 import sys
 import tempfile
 import time
 
+sys.dont_write_bytecode = True
+
+from serial_pool import TOP, Entry, apply, count_blocks, digest, is_cut, replay, tree_blocks, up_to  # noqa: E402
+
 SIZE = 6 * 2**20
 DIRTY_MAX = 2**40
-TOP = 338_688
-RECORD = 4_032
 OBJECTS = [0, 1, 2, 62, 63, 5_291]
-IN_DIRECTORY = 63
 FEW = 6
 POINTS = sum(3**writes for writes in range(FEW + 1)) + sum(3**writes for writes in range(5)) + 1
 ROUNDS = 40
-
-# An entry is a committed transaction: its group, and its operations as (kind, object, place or length, bytes).
-Entry = collections.namedtuple("Entry", "group ops")
-
-
-def apply(objects, ops):
-    """The operations of a transaction on a map of objects, or None where one of them is refused."""
-    objects = dict(objects)
-    for kind, number, place, content in ops:
-        if (kind == "c") == (number in objects):
-            return None
-        if kind == "c":
-            objects[number] = b""
-        elif kind == "d":
-            del objects[number]
-        elif kind == "l":
-            objects[number] = objects[number][:place].ljust(place, b"\0")
-        else:
-            old = objects[number].ljust(place, b"\0")
-            objects[number] = old[:place] + content + old[place + len(content) :]
-    return objects
-
-
-def replay(objects, entries):
-    for entry in entries:
-        objects = apply(objects, entry.ops)
-        assert objects is not None
-    return objects
-
-
-def digest(objects):
-    name = b"tank"
-    parts = [struct.pack("<I", len(name)), name, struct.pack("<I", len(objects))]
-    for number, content in sorted(objects.items()):
-        parts += [struct.pack("<IQ", number, len(content)), content]
-    return hashlib.sha256(b"".join(parts)).hexdigest()
-
-
-def conflict(one, other):
-    """Whether two transactions conflict: they touch a common byte of an object."""
-    for kind, number, place, content in one.ops:
-        low, high = (place, place + len(content)) if kind == "w" else (0, TOP)
-        for kind2, number2, place2, content2 in other.ops:
-            low2, high2 = (place2, place2 + len(content2)) if kind2 == "w" else (0, TOP)
-            if number == number2 and low < high2 and low2 < high:
-                return True
-    return False
-
-
-def is_cut(entries, group):
-    """Whether the entries up to a group leave out none that conflicts with a later one of them."""
-    return not any(
-        early.group > group >= late.group and conflict(early, late)
-        for early, late in itertools.combinations(entries, 2)
-    )
-
-
-def count_blocks(objects, records, entries):
-    """The number of blocks that a sync of these entries writes, over objects and the records of each that are no holes, and
-    the records that are no holes behind it."""
-    objects, records = dict(objects), {number: set(some) for number, some in records.items()}
-    dirty, moved, touched = {}, set(), set()
-    for entry in entries:
-        for op in entry.ops:
-            kind, number, place, content = op
-            touched.add(number)
-            old = len(objects.get(number, b""))
-            objects = apply(objects, [op])
-            some, marks = records.setdefault(number, set()), dirty.setdefault(number, set())
-            if kind in "cd":
-                some.clear()
-                marks.clear()
-                moved.discard(number)
-            elif kind == "w":
-                moved.add(number)
-                marks |= set(range(place // RECORD, (place + len(content) - 1) // RECORD + 1))
-            else:
-                moved.add(number)
-                beyond = {record for record in some | marks if record * RECORD >= place}
-                some -= beyond
-                marks -= beyond
-                if place < old and place % RECORD:
-                    marks.add(place // RECORD)
-    blocks = 0
-    for number in touched:
-        records[number] |= dirty[number]
-        blocks += len(dirty[number])
-        blocks += number in moved and bool(records[number])
-    directories = {number // IN_DIRECTORY for number in touched}
-    blocks += sum(any(n // IN_DIRECTORY == one for n in objects) for one in directories)
-    blocks += bool(directories) and bool(objects)
-    return blocks, {number: some for number, some in records.items() if number in objects}
-
-
-def tree_blocks(objects, records):
-    """The number of blocks of a tree."""
-    data = sum(map(len, records.values()))
-    indirect = sum(map(bool, records.values()))
-    return data + indirect + len({n // IN_DIRECTORY for n in objects}) + bool(objects)
 
 
 class Pool:
@@ -235,7 +134,7 @@ class Pool:
         """The sync of the oldest group starts: the number of its blocks, and the records behind it."""
         group = self.active + 1
         self.say("start", f"syncing {group}")
-        before = replay(self.objects, [entry for entry in self.entries if entry.group < group])
+        before = replay(self.objects, up_to(self.entries, group - 1))
         return count_blocks(before, self.records, [entry for entry in self.entries if entry.group == group])
 
     def finish(self, records):
@@ -251,7 +150,7 @@ class Pool:
     def end_run(self, group, records):
         """What is left of a run is what was committed up to a group."""
         assert group >= self.active and is_cut(self.entries, group)
-        self.objects = replay(self.objects, [entry for entry in self.entries if entry.group <= group])
+        self.objects = replay(self.objects, up_to(self.entries, group))
         self.active, self.records, self.entries = group, records, []
 
     def stop_sync(self, blocks, records):
