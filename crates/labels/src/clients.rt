@@ -2,7 +2,7 @@
 //! is refused as soon as that contract says less.
 
 ghost use Rattle.std.specs.Prelude.{◌≡◌, ◌≤◌, ◌∷◌, [], IfOk, IfSome, IsErrOf, IsOk, Some, slice_get};
-ghost use Rattle.base.specs.formats.Labels.{Config, HasNoCandidate};
+ghost use Rattle.base.specs.formats.Labels.{HasNoCandidate};
 
 use crate::choice::{choose, is_kept_in_odd};
 use crate::config::LabelConfig;
