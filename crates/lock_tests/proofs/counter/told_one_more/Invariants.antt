@@ -1,5 +1,5 @@
 use Rattle.std.proofs.Common.{◌+◌}
-use Rattle.word_lock.proofs.tests.told_one_more.Given as goal
+use Rattle.lock_tests.proofs.counter.told_one_more.Given as goal
 
 -- the view with one addition more
 abbrev pub ghost-of : goal.ghost-of
