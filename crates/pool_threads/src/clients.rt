@@ -12,7 +12,7 @@ ghost use Rattle.word_lock.specs.Seats.{seen};
 ghost use Rattle.word_lock.specs.Turns.{turn};
 
 use crate::{Handle, LastSeen, Pool};
-use base::{Bytes, LockId, Mode, ObjectId, Owner, Plan, PoolError, Range, Reply, Step};
+use base::{Bytes, LockId, Mode, ObjectId, Owner, PoolError, Range, Reply, Step};
 use device_model::{Fault, MemDevice, SectorDevice};
 use pool_core::PoolState;
 use std::alloc::Global;
@@ -49,19 +49,6 @@ fn an_append_lock_is_one_of_its_owner<D: SectorDevice, W: Wait>(
         handle.old handle.new) }
 {
     handle.lock_append(rt, Owner(3), ObjectId(5))
-}
-
-// Its charge is 0, and so never above the limit.
-fn a_plan_of_nothing_is_never_throttled<D: SectorDevice, W: Wait>(
-    rt: &W,
-    handle: &mut Handle<'_, D>,
-    owner: Owner,
-    plan: Plan,
-) -> bool
-    requires { plan ≡ [] }
-    ensures { result ≡ false }
-{
-    matches!(handle.begin(rt, owner, plan), Err(PoolError::Throttled))
 }
 
 fn a_read_has_the_bytes_of_its_range<D: SectorDevice, W: Wait>(
