@@ -2,6 +2,7 @@
 #![tactic(auto)]
 
 mod calls;
+mod clients;
 mod handle;
 mod pool;
 mod replies;

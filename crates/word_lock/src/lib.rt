@@ -5,13 +5,12 @@
 //! What the value has been through is a *view*, which exists in the proofs alone. A `LockRule` says which value a view explains, and which view goes on from which. Each `Seat` has seen a view, and a thread that takes the lock gets the value with a view that explains it and goes on from what its seat has seen. A seat also knows the turns that it has had, so that a contract can say that a call is one turn and adds nothing else.
 #![tactic(auto)]
 
+mod clients;
 mod guard;
 mod lock;
 mod plays;
 mod rule;
 mod seat;
-#[cfg(test)]
-mod tests;
 mod told;
 mod word;
 

@@ -108,6 +108,12 @@ impl<T, R: LockRule<T>, A: Allocator> WordLock<T, R, A> {
         Seat { inside }
     }
 
+    /// The lock's word as it is at this moment, for a monitor: bit 0 says that the lock is held, bit 1 that a seat waits, and the
+    /// bits above count the releases. It never waits, and no clause rests on it.
+    pub fn word(&self) -> u64 {
+        self.table.shared.peek(0)
+    }
+
     /// The value, with a view that explains it and goes on from the one that the lock opened with. `None` only where the word stands held: a guard was never released.
     pub fn close(self) -> Option<T>
     where

@@ -1,0 +1,140 @@
+//! What callers rest on: one function for each promise of this crate's calls, proved from the contract of the call alone. So it
+//! is refused as soon as that contract says less.
+//!
+//! The lock is one over a number that may only rise, and whose view is the number itself. Once 255 was put back, a seat that
+//! knows of it finds nothing else.
+ghost use Rattle.std.specs.Prelude.{◌≡◌, [], ◌∷◌, ◌++◌, ◌≤◌, IfErr, IfOk, IfSome};
+ghost use Rattle.std.proofs.Math.Nat.{le_refl, le_trans};
+ghost use Rattle.word_lock.specs.Seats.{lock_table, seat_table, seen, turns, IsIdle};
+ghost use Rattle.word_lock.specs.Turns.{turn};
+
+use crate::{Held, LockRule, Seat, Told, WordLock, release};
+use std::alloc::Global;
+use std::sync::Wait;
+
+// A number may stay or rise.
+struct Rising;
+
+impl LockRule<u8> for Rising {
+    type View = u8;
+
+    ghost explains = { λ n x. x ≡ n };
+
+    ghost grows = { λ n m. n ≤ m };
+
+    ghost blank = { 0 };
+
+    ghost same = { le_refl };
+
+    ghost onward = { λ a b c x y. le_trans x y };
+}
+
+type Lock = WordLock<u8, Rising>;
+
+fn told_255() -> Told<u8>
+    ensures { result.value ≡ 255 }
+{
+    Told::of(&255u8)
+}
+
+// What a holder has becomes 255, and is what it was.
+fn raise(held: &mut Held<u8, u8>) -> u8
+    ensures value { held.new.value ≡ 255 }
+    ensures view { held.new.view.value ≡ 255 }
+    ensures found { result ≡ held.old.value }
+{
+    let found = held.value;
+    held.value = 255;
+    held.view = told_255();
+    found
+}
+
+// An acquire and a release are one turn, from what the seat took to what it left, and the seat may ask again.
+fn a_turn_is_from_what_was_taken_to_what_was_left<W: Wait>(
+    rt: &W,
+    seat: &mut Seat<u8, Rising>,
+    lock: &Lock,
+) -> u8
+    requires own { seat_table seat.old ≡ lock_table lock.now }
+    requires idle { IsIdle seat.old }
+    ensures own { seat_table seat.new ≡ seat_table seat.old }
+    ensures idle { IsIdle seat.new }
+    ensures onward { seen seat.old ≤ result }
+    ensures seen { seen seat.new ≡ 255 }
+    ensures turn { turns seat.new ≡ turns seat.old ++ turn result 255 ∷ [] }
+{
+    let mut guard = seat.acquire(rt, lock);
+    let found = raise(&mut guard.held);
+    release(guard);
+    found
+}
+
+fn what_was_released_is_taken_next<W: Wait>(rt: &W, seat: &mut Seat<u8, Rising>, lock: &Lock) -> u8
+    requires own { seat_table seat.old ≡ lock_table lock.now }
+    requires idle { IsIdle seat.old }
+    ensures { result ≡ 255 }
+{
+    a_turn_is_from_what_was_taken_to_what_was_left(rt, seat, lock);
+    a_turn_is_from_what_was_taken_to_what_was_left(rt, seat, lock)
+}
+
+// It finds what the first seat left, and its one turn is its own.
+fn a_seat_that_was_split_off_knows_the_same<W: Wait>(
+    rt: &W,
+    seat: &mut Seat<u8, Rising>,
+    lock: &Lock,
+) -> (u8, Seat<u8, Rising>)
+    requires own { seat_table seat.old ≡ lock_table lock.now }
+    requires idle { IsIdle seat.old }
+    ensures found { result.0 ≡ 255 }
+    ensures turn { turns result.1 ≡ turn 255 255 ∷ [] }
+{
+    a_turn_is_from_what_was_taken_to_what_was_left(rt, seat, lock);
+    let mut other = seat.split(lock);
+    let found = a_turn_is_from_what_was_taken_to_what_was_left(rt, &mut other, lock);
+    (found, other)
+}
+
+// It finds what the other seat left, and its one turn more is its own.
+fn a_joined_seat_knows_what_the_other_knew<W: Wait>(
+    rt: &W,
+    seat: &mut Seat<u8, Rising>,
+    other: Seat<u8, Rising>,
+    lock: &Lock,
+) -> u8
+    requires own { seat_table seat.old ≡ lock_table lock.now }
+    requires same_lock { seat_table other ≡ lock_table lock.now }
+    requires idle { IsIdle seat.old × IsIdle other }
+    ensures found { result ≡ 255 }
+    ensures turn { turns seat.new ≡ turns seat.old ++ turn 255 255 ∷ [] }
+{
+    let mut other = other;
+    a_turn_is_from_what_was_taken_to_what_was_left(rt, &mut other, lock);
+    seat.join(lock, other);
+    a_turn_is_from_what_was_taken_to_what_was_left(rt, seat, lock)
+}
+
+fn a_lock_closes_with_what_its_last_seat_left<W: Wait>(
+    rt: &W,
+    lock: Lock,
+    seat: Seat<u8, Rising>,
+) -> Option<u8>
+    requires own { seat_table seat ≡ lock_table lock }
+    requires idle { IsIdle seat }
+    ensures { IfSome result (λ x. x ≡ 255) }
+{
+    let mut seat = seat;
+    a_turn_is_from_what_was_taken_to_what_was_left(rt, &mut seat, &lock);
+    lock.close_with(seat)
+}
+
+// A lock that cannot be made gives the value back.
+fn a_lock_that_opened_with_255_closes_with_it(alloc: Global) -> Result<Option<u8>, u8>
+    ensures closed { IfOk result (λ last. IfSome last (λ x. x ≡ 255)) }
+    ensures given_back { IfErr result (λ x. x ≡ 255) }
+{
+    match Lock::new(alloc, 255, &told_255()) {
+        Ok((lock, _seat)) => Ok(lock.close()),
+        Err((_, value)) => Err(value),
+    }
+}
