@@ -1,7 +1,8 @@
 //! A memory device: what is stored outlives a crash, planned refusals, counts and pieces of a crash.
 
-ghost use Rattle.std.specs.Prelude.{◌≡◌, length, IsTrue, OnOk};
+ghost use Rattle.std.specs.Prelude.{◌≡◌, ◌*◌, length, IfOk, IsTrue, OnOk};
 ghost use Rattle.base.specs.disk.Calls.{IsOnDevice};
+ghost use Rattle.base.specs.disk.Disk.{disk_size};
 ghost use Rattle.device_model.specs.Certain.{IsCertain};
 
 use base::{Piece, PoolError};
@@ -19,254 +20,278 @@ fn store<D: SectorDevice>(device: &mut D, at: u64, bytes: &[u8]) -> Result<(), P
     device.flush()
 }
 
-// A device with a stored sector and a written one.
-fn stored_and_written(alloc: Global) -> Result<MemDevice, PoolError> {
-    let mut device = MemDevice::new(alloc, 4)?;
-    store(&mut device, 512, &[5; 512])?;
-    device.write(1024, &[6; 512])?;
-    Ok(device)
+// A call on a device with the answer that is wanted.
+#[derive(Clone, Copy)]
+enum Row {
+    Sectors(u64),
+    // a write from a sector on, of so many sectors of this byte
+    Write(u64, usize, u8, Result<(), PoolError>),
+    // the same, made certain
+    Store(u64, usize, u8),
+    // a write of sectors 4 and 5, whose bytes are not all the same: byte 700 is 10, and the others are 9
+    WriteMixed,
+    Flush(Result<(), PoolError>),
+    // the n-th such call fails
+    Fail(Fault, u64),
+    // the first byte of a sector
+    Read(u64, Result<u8, PoolError>),
+    // the byte at a place, from a read of all sectors
+    Byte(usize, u8),
+    // how many writes are unflushed, and how many of these are unnoted
+    Unflushed(usize),
+    Unnoted(u64),
 }
 
-// The first and last bytes of the stored sector, those beside it, and one behind the written sector.
-fn bytes_of_four_sectors(device: &mut MemDevice) -> Result<[u8; 5], PoolError> {
-    if device.sectors() != 4 {
-        return Err(PoolError::BadGeometry);
-    }
-    let mut all = [1; 2048];
-    device.read(0, &mut all)?;
-    Ok([all[511], all[512], all[1023], all[1024], all[1536]])
-}
-
-// These bytes before a crash and behind it.
-fn bytes_about_a_crash(alloc: Global) -> Result<[[u8; 5]; 2], PoolError> {
-    let mut device = stored_and_written(alloc)?;
-    let before = bytes_of_four_sectors(&mut device)?;
-    let mut after = device.crash(&[Piece::Lose]);
-    Ok([before, bytes_of_four_sectors(&mut after)?])
-}
-
-#[test]
-fn what_is_stored_outlives_a_crash(rt: HostRuntime) {
-    assert_eq!(rt;
-        bytes_about_a_crash(rt.alloc()),
-        Ok([[0, 5, 5, 6, 0], [0, 5, 5, 0, 0]])
-    );
-}
-
-// Writes a sector of this byte.
-fn write_sector(device: &mut MemDevice, sector: u64, byte: u8) -> Result<(), PoolError> {
-    if sector >= 8 || sector >= device.sectors() {
+// Where sectors lie, if they are on the device.
+fn place_of(device: &MemDevice, sector: u64, count: u64) -> Result<u64, PoolError>
+    ensures { IfOk result (λ place. IsOnDevice (disk_size device.now.disk) place (512 * count)) }
+{
+    if sector > 16 || count > 16 || sector + count > device.sectors() {
         return Err(PoolError::BadRange);
     }
-    device.write(512 * sector, &[byte; 512])
+    Ok(512 * sector)
+}
+
+// Writes so many sectors of this byte.
+fn write(device: &mut MemDevice, sector: u64, count: usize, byte: u8) -> Result<(), PoolError> {
+    if count > 8 {
+        return Err(PoolError::BadRange);
+    }
+    let place = place_of(device, sector, count as u64)?;
+    device.write(place, &[byte; 4096][..512 * count])
+}
+
+// Writes them and makes them certain.
+fn write_and_store(
+    device: &mut MemDevice,
+    sector: u64,
+    count: usize,
+    byte: u8,
+) -> Result<(), PoolError> {
+    if count > 8 {
+        return Err(PoolError::BadRange);
+    }
+    let place = place_of(device, sector, count as u64)?;
+    store(device, place, &[byte; 4096][..512 * count])
+}
+
+// Writes two sectors whose bytes are not all the same.
+fn write_mixed(device: &mut MemDevice) -> Result<(), PoolError> {
+    let place = place_of(device, 4, 2)?;
+    let mut mixed = [9; 1024];
+    mixed[700] = 10;
+    device.write(place, &mixed)
 }
 
 // The first byte of a sector.
 fn read_sector(device: &mut MemDevice, sector: u64) -> Result<u8, PoolError> {
-    if sector >= 8 || sector >= device.sectors() {
-        return Err(PoolError::BadRange);
-    }
+    let place = place_of(device, sector, 1)?;
     let mut bytes = [0; 512];
-    device.read(512 * sector, &mut bytes)?;
+    device.read(place, &mut bytes)?;
     Ok(bytes[0])
 }
 
-// A device whose eight sectors have this byte.
-fn filled(alloc: Global, byte: u8) -> Result<MemDevice, PoolError> {
-    let mut device = MemDevice::new(alloc, 8)?;
-    device.write(0, &[byte; 4096])?;
-    device.flush()?;
-    Ok(device)
+// The byte at a place, from a read of all sectors.
+fn read_byte(device: &mut MemDevice, place: usize) -> Result<u8, PoolError> {
+    let count = device.sectors();
+    if count > 16 || place >= 8192 {
+        return Err(PoolError::BadGeometry);
+    }
+    let mut all = [1; 8192];
+    device.read(0, &mut all[..512 * count as usize])?;
+    Ok(all[place])
 }
 
-// Writes a sector, and the device refuses it.
-fn fail_to_write(device: &mut MemDevice, sector: u64, byte: u8) -> Result<(), PoolError> {
-    device.fail(Fault::Write, 1);
-    write_sector(device, sector, byte)
+// Whether a call has the answer of its row.
+fn holds(device: &mut MemDevice, row: Row) -> bool {
+    match row {
+        Row::Sectors(count) => device.sectors() == count,
+        Row::Write(sector, count, byte, told) => write(device, sector, count, byte) == told,
+        Row::Store(sector, count, byte) => write_and_store(device, sector, count, byte) == Ok(()),
+        Row::WriteMixed => write_mixed(device) == Ok(()),
+        Row::Flush(told) => device.flush() == told,
+        Row::Fail(fault, n) => {
+            device.fail(fault, n);
+            true
+        }
+        Row::Read(sector, told) => read_sector(device, sector) == told,
+        Row::Byte(place, byte) => read_byte(device, place) == Ok(byte),
+        Row::Unflushed(count) => device.unflushed() == count,
+        Row::Unnoted(count) => device.unnoted() == count,
+    }
 }
 
-// The answers to seven writes, of which the device refuses three.
-fn write_seven(device: &mut MemDevice) -> [Result<(), PoolError>; 7] {
-    [
-        write_sector(device, 0, 2),
-        write_sector(device, 1, 2),
-        write_sector(device, 2, 2),
-        fail_to_write(device, 3, 2),
-        fail_to_write(device, 4, 2),
-        fail_to_write(device, 5, 2),
-        write_sector(device, 6, 2),
-    ]
+// How many rows hold before the first that does not.
+fn count_held(device: &mut MemDevice, rows: &[Row]) -> usize {
+    for index in 0..rows.len() {
+        if !holds(device, rows[index]) {
+            return index;
+        }
+    }
+    rows.len()
 }
 
-// How many writes are unflushed on a filled device, behind seven writes, and how many of these are unnoted.
-fn count_writes(alloc: Global) -> Result<(usize, usize, u64), PoolError> {
-    let mut device = filled(alloc, 1)?;
-    let flushed = device.unflushed();
-    let _ = write_seven(&mut device);
-    Ok((flushed, device.unflushed(), device.unnoted()))
+// How many rows hold on a new device of one sector.
+fn count_on_one_sector(alloc: Global, rows: &[Row]) -> Result<usize, PoolError> {
+    Ok(count_held(&mut MemDevice::new(alloc, 1)?, rows))
 }
 
-// Seven writes are kept, lost, filled, and three failed ones kept, lost and filled. The last has no piece.
-fn crash_in_pieces(alloc: Global) -> Result<MemDevice, PoolError> {
-    let mut device = filled(alloc, 1)?;
-    let _ = write_seven(&mut device);
-    Ok(device.crash(&[
+// How many rows hold on a new device before a crash that leaves these pieces, and how many after it.
+fn count_about_a_crash(
+    alloc: Global,
+    sectors: u64,
+    before: &[Row],
+    pieces: &[Piece],
+    after: &[Row],
+) -> Result<[usize; 2], PoolError> {
+    let mut device = MemDevice::new(alloc, sectors)?;
+    let held = count_held(&mut device, before);
+    Ok([held, count_held(&mut device.crash(pieces), after)])
+}
+
+#[test]
+fn what_is_stored_outlives_a_crash(rt: HostRuntime) {
+    // the first and last bytes of the stored sector, those beside it, and one behind the written sector
+    let before = [
+        Row::Sectors(4),
+        Row::Store(1, 1, 5),
+        Row::Write(2, 1, 6, Ok(())),
+        Row::Byte(511, 0),
+        Row::Byte(512, 5),
+        Row::Byte(1023, 5),
+        Row::Byte(1024, 6),
+        Row::Byte(1536, 0),
+    ];
+    let after = [
+        Row::Sectors(4),
+        Row::Byte(511, 0),
+        Row::Byte(512, 5),
+        Row::Byte(1023, 5),
+        Row::Byte(1024, 0),
+        Row::Byte(1536, 0),
+    ];
+    assert_eq!(rt;
+        count_about_a_crash(rt.alloc(), 4, &before, &[Piece::Lose], &after),
+        Ok([8, 6])
+    );
+}
+
+#[test]
+fn a_crash_leaves_pieces(rt: HostRuntime) {
+    let refused = Err(PoolError::Write);
+    let before = [
+        Row::Write(0, 8, 1, Ok(())),
+        Row::Flush(Ok(())),
+        Row::Unflushed(0),
+        // seven writes, of which the device refuses three
+        Row::Write(0, 1, 2, Ok(())),
+        Row::Write(1, 1, 2, Ok(())),
+        Row::Write(2, 1, 2, Ok(())),
+        Row::Fail(Fault::Write, 1),
+        Row::Write(3, 1, 2, refused),
+        Row::Fail(Fault::Write, 1),
+        Row::Write(4, 1, 2, refused),
+        Row::Fail(Fault::Write, 1),
+        Row::Write(5, 1, 2, refused),
+        Row::Write(6, 1, 2, Ok(())),
+        Row::Unflushed(7),
+        Row::Unnoted(0),
+    ];
+    // they are kept, lost, filled, and the failed ones kept, lost and filled; the last has no piece
+    let pieces = [
         Piece::Keep,
         Piece::Lose,
         Piece::Fill(7),
         Piece::Keep,
         Piece::Lose,
         Piece::Fill(8),
-    ]))
-}
-
-// How many writes are unflushed behind the crash, and what each sector has.
-fn left_behind(alloc: Global) -> Result<(usize, [u8; 8]), PoolError> {
-    let mut device = crash_in_pieces(alloc)?;
-    let mut firsts = [0; 8];
-    for (sector, first) in firsts.iter_mut().enumerate() {
-        *first = read_sector(&mut device, sector as u64)?;
-    }
-    Ok((device.unflushed(), firsts))
-}
-
-// What the seven writes are told.
-fn write_answers(alloc: Global) -> Result<[Result<(), PoolError>; 7], PoolError> {
-    Ok(write_seven(&mut filled(alloc, 1)?))
-}
-
-#[test]
-fn a_crash_leaves_pieces(rt: HostRuntime) {
-    let refused = Err(PoolError::Write);
-    let told = [Ok(()), Ok(()), Ok(()), refused, refused, refused, Ok(())];
-    assert_eq!(rt; write_answers(rt.alloc()), Ok(told));
-    assert_eq!(rt; count_writes(rt.alloc()), Ok((0, 7, 0)));
-    assert_eq!(rt; left_behind(rt.alloc()), Ok((0, [2, 1, 7, 1, 1, 8, 2, 1])));
-}
-
-// Three reads, and the later of two plans says which one fails.
-fn reads_as_planned(device: &mut MemDevice) -> [Result<u8, PoolError>; 3] {
-    device.fail(Fault::Read, 5);
-    device.fail(Fault::Read, 2);
-    [
-        read_sector(device, 0),
-        read_sector(device, 0),
-        read_sector(device, 0),
-    ]
-}
-
-// Two writes, of which the second fails, and what is read behind them.
-fn writes_as_planned(
-    device: &mut MemDevice,
-) -> ([Result<(), PoolError>; 2], Result<u8, PoolError>) {
-    device.fail(Fault::Write, 2);
-    let told = [write_sector(device, 0, 1), write_sector(device, 0, 2)];
-    (told, read_sector(device, 0))
-}
-
-// Two flushes, of which the first fails, and how many writes are unflushed behind each.
-fn flushes_as_planned(device: &mut MemDevice) -> [(Result<(), PoolError>, usize); 2] {
-    device.fail(Fault::Flush, 1);
-    [
-        (device.flush(), device.unflushed()),
-        (device.flush(), device.unflushed()),
-    ]
-}
-
-// A device of one sector.
-fn one_sector(alloc: Global) -> Result<MemDevice, PoolError> {
-    MemDevice::new(alloc, 1)
-}
-
-// Reads on a new device.
-fn planned_reads(alloc: Global) -> Result<[Result<u8, PoolError>; 3], PoolError> {
-    Ok(reads_as_planned(&mut one_sector(alloc)?))
-}
-
-// Writes on a new device.
-fn planned_writes(
-    alloc: Global,
-) -> Result<([Result<(), PoolError>; 2], Result<u8, PoolError>), PoolError> {
-    Ok(writes_as_planned(&mut one_sector(alloc)?))
-}
-
-// Flushes behind two writes, of which the second fails.
-fn planned_flushes(alloc: Global) -> Result<[(Result<(), PoolError>, usize); 2], PoolError> {
-    let mut device = one_sector(alloc)?;
-    let _ = writes_as_planned(&mut device);
-    Ok(flushes_as_planned(&mut device))
-}
-
-// Each call once, on a device that crashed while each was planned to fail.
-fn calls_behind_a_crash(
-    alloc: Global,
-) -> Result<(Result<u8, PoolError>, [Result<(), PoolError>; 2]), PoolError> {
-    let mut device = one_sector(alloc)?;
-    device.fail(Fault::Read, 1);
-    device.fail(Fault::Write, 1);
-    device.fail(Fault::Flush, 1);
-    let mut after = device.crash(&[]);
-    let read = read_sector(&mut after, 0);
-    Ok((read, [write_sector(&mut after, 0, 3), after.flush()]))
+    ];
+    let after = [
+        Row::Unflushed(0),
+        Row::Read(0, Ok(2)),
+        Row::Read(1, Ok(1)),
+        Row::Read(2, Ok(7)),
+        Row::Read(3, Ok(1)),
+        Row::Read(4, Ok(1)),
+        Row::Read(5, Ok(8)),
+        Row::Read(6, Ok(2)),
+        Row::Read(7, Ok(1)),
+    ];
+    assert_eq!(rt;
+        count_about_a_crash(rt.alloc(), 8, &before, &pieces, &after),
+        Ok([15, 9])
+    );
 }
 
 #[test]
 fn calls_fail_as_planned(rt: HostRuntime) {
-    assert_eq!(rt;
-        planned_reads(rt.alloc()),
-        Ok([Ok(0), Err(PoolError::Read), Ok(0)])
-    );
-    assert_eq!(rt;
-        planned_writes(rt.alloc()),
-        Ok(([Ok(()), Err(PoolError::Write)], Ok(1)))
-    );
-    assert_eq!(rt;
-        planned_flushes(rt.alloc()),
-        Ok([(Err(PoolError::Flush), 2), (Ok(()), 0)])
-    );
-    // a crash clears every plan
-    assert_eq!(rt;
-        calls_behind_a_crash(rt.alloc()),
-        Ok((Ok(0), [Ok(()), Ok(())]))
-    );
+    // the later of two plans says which read fails
+    let reads = [
+        Row::Fail(Fault::Read, 5),
+        Row::Fail(Fault::Read, 2),
+        Row::Read(0, Ok(0)),
+        Row::Read(0, Err(PoolError::Read)),
+        Row::Read(0, Ok(0)),
+    ];
+    assert_eq!(rt; count_on_one_sector(rt.alloc(), &reads), Ok(5));
+    // a write that fails leaves what was there, and both writes are unflushed until a flush that does not fail
+    let writes = [
+        Row::Fail(Fault::Write, 2),
+        Row::Write(0, 1, 1, Ok(())),
+        Row::Write(0, 1, 2, Err(PoolError::Write)),
+        Row::Read(0, Ok(1)),
+        Row::Fail(Fault::Flush, 1),
+        Row::Flush(Err(PoolError::Flush)),
+        Row::Unflushed(2),
+        Row::Flush(Ok(())),
+        Row::Unflushed(0),
+    ];
+    assert_eq!(rt; count_on_one_sector(rt.alloc(), &writes), Ok(9));
 }
 
-// Zeros over the middle of eight sectors that are stored, and bytes that are not all the same behind them.
-fn write_runs(device: &mut MemDevice) -> Result<(), PoolError> {
-    if device.sectors() != 16 {
-        return Err(PoolError::BadGeometry);
-    }
-    store(device, 0, &[7; 4096])?;
-    device.write(1024, &[0; 2048])?;
-    let mut mixed = [9; 1024];
-    mixed[700] = 10;
-    device.write(2048, &mixed)
-}
-
-// The bytes at the ends of these runs.
-fn ends_of_runs(device: &mut MemDevice) -> Result<[u8; 9], PoolError> {
-    if device.sectors() != 16 {
-        return Err(PoolError::BadGeometry);
-    }
-    let mut all = [1; 8192];
-    device.read(0, &mut all)?;
-    Ok([
-        all[1023], all[1024], all[2047], all[2048], all[2747], all[2748], all[2749], all[3072],
-        all[4096],
-    ])
-}
-
-// They, behind a crash that loses the zeros and keeps what was written behind them.
-fn runs_behind_a_crash(alloc: Global) -> Result<[u8; 9], PoolError> {
-    let mut device = MemDevice::new(alloc, 16)?;
-    write_runs(&mut device)?;
-    ends_of_runs(&mut device.crash(&[Piece::Lose, Piece::Keep]))
+#[test]
+fn a_crash_clears_every_plan(rt: HostRuntime) {
+    let planned = [
+        Row::Fail(Fault::Read, 1),
+        Row::Fail(Fault::Write, 1),
+        Row::Fail(Fault::Flush, 1),
+    ];
+    let calls = [
+        Row::Read(0, Ok(0)),
+        Row::Write(0, 1, 3, Ok(())),
+        Row::Flush(Ok(())),
+    ];
+    assert_eq!(rt;
+        count_about_a_crash(rt.alloc(), 1, &planned, &[], &calls),
+        Ok([3, 3])
+    );
 }
 
 #[test]
 fn a_run_of_one_byte_and_its_neighbours_come_back(rt: HostRuntime) {
+    // zeros over the middle of eight sectors that are stored, and bytes that are not all the same beside them
+    let before = [
+        Row::Sectors(16),
+        Row::Store(0, 8, 7),
+        Row::Write(2, 4, 0, Ok(())),
+        Row::WriteMixed,
+    ];
+    // the crash loses the zeros, and keeps what was written after them
+    let pieces = [Piece::Lose, Piece::Keep];
+    let after = [
+        Row::Sectors(16),
+        Row::Byte(1023, 7),
+        Row::Byte(1024, 7),
+        Row::Byte(2047, 7),
+        Row::Byte(2048, 9),
+        Row::Byte(2747, 9),
+        Row::Byte(2748, 10),
+        Row::Byte(2749, 9),
+        Row::Byte(3072, 7),
+        Row::Byte(4096, 0),
+    ];
     assert_eq!(rt;
-        runs_behind_a_crash(rt.alloc()),
-        Ok([7, 7, 7, 9, 9, 10, 9, 7, 0])
+        count_about_a_crash(rt.alloc(), 16, &before, &pieces, &after),
+        Ok([4, 10])
     );
 }

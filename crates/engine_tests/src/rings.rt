@@ -35,39 +35,45 @@ fn uberblock(guid: u64, group: u64) -> Uberblock
 }
 
 /// The 112 bytes of the fields of group 208, written by hand.
-const FIELDS: [u8; 112] = [
-    0x0c, 0xb1, 0xba, 0x00, 0x00, 0x00, 0x00, 0x00, 0x01, 0x00, 0x00, 0x00, 0x00, 0x00, 0x00, 0x00,
-    0xd0, 0x00, 0x00, 0x00, 0x00, 0x00, 0x00, 0x00, 0x4d, 0x00, 0x00, 0x00, 0x00, 0x00, 0x00, 0x00,
-    0x00, 0xf1, 0x53, 0x65, 0x00, 0x00, 0x00, 0x00, 0x00, 0x10, 0x40, 0x00, 0x00, 0x00, 0x00, 0x00,
-    0xd0, 0x00, 0x00, 0x00, 0x00, 0x00, 0x00, 0x00, 0x00, 0x01, 0x02, 0x03, 0x04, 0x05, 0x06, 0x07,
-    0x08, 0x09, 0x0a, 0x0b, 0x0c, 0x0d, 0x0e, 0x0f, 0x10, 0x11, 0x12, 0x13, 0x14, 0x15, 0x16, 0x17,
-    0x18, 0x19, 0x1a, 0x1b, 0x1c, 0x1d, 0x1e, 0x1f, 0x01, 0x00, 0x00, 0x00, 0x00, 0x00, 0x00, 0x00,
-    0x00, 0x50, 0x40, 0x00, 0x00, 0x00, 0x00, 0x00, 0x05, 0x00, 0x00, 0x00, 0x00, 0x00, 0x00, 0x00,
-];
+fn fields() -> [u8; 112] {
+    [
+        0x0c, 0xb1, 0xba, 0x00, 0x00, 0x00, 0x00, 0x00, 0x01, 0x00, 0x00, 0x00, 0x00, 0x00, 0x00,
+        0x00, 0xd0, 0x00, 0x00, 0x00, 0x00, 0x00, 0x00, 0x00, 0x4d, 0x00, 0x00, 0x00, 0x00, 0x00,
+        0x00, 0x00, 0x00, 0xf1, 0x53, 0x65, 0x00, 0x00, 0x00, 0x00, 0x00, 0x10, 0x40, 0x00, 0x00,
+        0x00, 0x00, 0x00, 0xd0, 0x00, 0x00, 0x00, 0x00, 0x00, 0x00, 0x00, 0x00, 0x01, 0x02, 0x03,
+        0x04, 0x05, 0x06, 0x07, 0x08, 0x09, 0x0a, 0x0b, 0x0c, 0x0d, 0x0e, 0x0f, 0x10, 0x11, 0x12,
+        0x13, 0x14, 0x15, 0x16, 0x17, 0x18, 0x19, 0x1a, 0x1b, 0x1c, 0x1d, 0x1e, 0x1f, 0x01, 0x00,
+        0x00, 0x00, 0x00, 0x00, 0x00, 0x00, 0x00, 0x50, 0x40, 0x00, 0x00, 0x00, 0x00, 0x00, 0x05,
+        0x00, 0x00, 0x00, 0x00, 0x00, 0x00, 0x00,
+    ]
+}
 
 /// The SHA-256 of these bytes and 880 zeros, as Python's hashlib has it.
-const CHECK: [u8; 32] = [
-    0xab, 0x67, 0x49, 0x2c, 0x1f, 0xd7, 0xa3, 0x98, 0x71, 0x6e, 0xfb, 0x6f, 0x77, 0x65, 0x28, 0xf9,
-    0x6d, 0x35, 0x36, 0xb5, 0xf8, 0x99, 0x20, 0x73, 0x0d, 0xd5, 0xf6, 0xc7, 0xbe, 0x74, 0x2b, 0xa3,
-];
-
-/// Whether the fields of an uberblock have their bytes, all behind them are zeros, and the check has its bytes.
-fn encodes_parts() -> [bool; 3] {
-    let bytes = uberblock(77, 208).encode();
-    let (fields, rest) = bytes.split_at(112);
-    let (zeros, check) = rest.split_at(880);
+fn check() -> [u8; 32] {
     [
-        fields == FIELDS.as_slice(),
+        0xab, 0x67, 0x49, 0x2c, 0x1f, 0xd7, 0xa3, 0x98, 0x71, 0x6e, 0xfb, 0x6f, 0x77, 0x65, 0x28,
+        0xf9, 0x6d, 0x35, 0x36, 0xb5, 0xf8, 0x99, 0x20, 0x73, 0x0d, 0xd5, 0xf6, 0xc7, 0xbe, 0x74,
+        0x2b, 0xa3,
+    ]
+}
+
+/// Whether the fields of an uberblock have their bytes, all behind them are zeros, the check has its bytes, and the uberblock is
+/// read from them.
+fn encodes_parts() -> [bool; 4] {
+    let bytes = uberblock(77, 208).encode();
+    let (front, rest) = bytes.split_at(112);
+    let (zeros, last) = rest.split_at(880);
+    [
+        front == fields().as_slice(),
         zeros.iter().all(|byte| *byte == 0),
-        check == CHECK.as_slice(),
+        last == check().as_slice(),
+        Uberblock::decode(&bytes) == Some(uberblock(77, 208)),
     ]
 }
 
 #[test]
 fn encodes(rt: HostRuntime) {
-    assert_eq!(rt; encodes_parts(), [true; 3]);
-    let decoded = Uberblock::decode(&uberblock(77, 208).encode());
-    assert_eq!(rt; decoded, Some(uberblock(77, 208)));
+    assert_eq!(rt; encodes_parts(), [true; 4]);
 }
 
 /// Whether a slot with one byte changed is an uberblock, as it is and with the check of its other bytes.
@@ -82,10 +88,22 @@ fn decodes_with(place: usize, value: u8) -> [bool; 2] {
     [torn, Uberblock::decode(&slot).is_some()]
 }
 
+/// How many rows hold before the first that does not: with this byte at a place a slot is no uberblock, and is one or not once its
+/// check agrees.
+fn count_damaged(rows: &[(usize, u8, bool)]) -> usize {
+    for index in 0..rows.len() {
+        let (place, value, is_valid) = rows[index];
+        if decodes_with(place, value) != [false, is_valid] {
+            return index;
+        }
+    }
+    rows.len()
+}
+
 #[test]
 fn decodes_no_damaged_slot(rt: HostRuntime) {
-    // a byte of each field and of the check, and whether the slot is an uberblock where its check agrees
-    for (place, value, is_valid) in [
+    // a byte of each field and of the check
+    let rows = [
         (0, 0x0d, false),
         (8, 2, false),
         (15, 1, false),
@@ -102,8 +120,27 @@ fn decodes_no_damaged_slot(rt: HostRuntime) {
         (112, 1, false),
         (991, 1, false),
         (1023, 0, true),
-    ] {
-        assert_eq!(rt; decodes_with(place, value), [false, is_valid], "at {place}");
+    ];
+    assert_eq!(rt; count_damaged(&rows), 16);
+}
+
+/// What a slot of a label is filled with.
+#[derive(Clone, Copy)]
+enum Content {
+    /// The uberblock of a pool and group.
+    Of208,
+    Of209,
+    /// That of another pool.
+    OtherOf209,
+    Torn,
+}
+
+fn bytes_of(content: Content) -> [u8; SLOT_SIZE] {
+    match content {
+        Content::Of208 => uberblock(77, 208).encode(),
+        Content::Of209 => uberblock(77, 209).encode(),
+        Content::OtherOf209 => uberblock(78, 209).encode(),
+        Content::Torn => [0xaa; SLOT_SIZE],
     }
 }
 
@@ -117,54 +154,60 @@ fn store(ring: &mut [u8], label: usize, slot: usize, bytes: &[u8; SLOT_SIZE])
     ring[place..place + SLOT_SIZE].copy_from_slice(bytes);
 }
 
-/// What is active once a slot has these bytes.
-fn active_with(
-    ring: &mut [u8],
-    label: usize,
-    slot: usize,
-    bytes: &[u8; SLOT_SIZE],
-) -> Option<Uberblock>
-    requires size { length ring.old ≡ 4 * 131072 }
-    requires label { label < 4 }
-    requires slot { slot < 128 }
+/// Whether the uberblock of this pool and group is active.
+fn is_active(ring: &[u8], guid: u64, group: u64) -> bool
+    requires { length ring.now ≡ 4 * 131072 }
 {
-    store(ring, label, slot, bytes);
-    active(ring)
+    active(ring) == Some(uberblock(guid, group))
 }
 
-/// What is active in a ring of zeros as slots are filled, and then torn.
-fn actives(ring: &mut [u8]) -> [Option<Uberblock>; 8]
+/// How many rows hold before the first that does not: a slot of a label is filled, and then this pool and group are active.
+fn count_active(ring: &mut [u8], rows: &[(usize, usize, Content, (u64, u64))]) -> usize
     requires { length ring.old ≡ 4 * 131072 }
 {
-    let torn = [0xaa; SLOT_SIZE];
-    [
-        active(ring),
-        active_with(ring, 2, 80, &uberblock(77, 208).encode()),
-        // in another slot than that of its group it does not count
-        active_with(ring, 0, 80, &uberblock(77, 209).encode()),
-        // the highest group
-        active_with(ring, 3, 81, &uberblock(77, 209).encode()),
-        // of the labels that have this group, the lowest
-        active_with(ring, 1, 81, &uberblock(78, 209).encode()),
-        active_with(ring, 1, 81, &torn),
-        active_with(ring, 3, 81, &torn),
-        active_with(ring, 2, 80, &torn),
-    ]
+    for index in 0..rows.len() {
+        let (label, slot, content, (guid, group)) = rows[index];
+        if label >= 4 || slot >= 128 {
+            return index;
+        }
+        store(ring, label, slot, &bytes_of(content));
+        if !is_active(ring, guid, group) {
+            return index;
+        }
+    }
+    rows.len()
 }
 
-/// They, in a new ring.
-fn actives_of_new(alloc: Global) -> Result<[Option<Uberblock>; 8], AllocError> {
+/// Whether none is active in a ring of zeros, how many rows hold as its slots are filled, and whether none is active once the last
+/// slot that counts is torn.
+fn fill(ring: &mut [u8]) -> (bool, usize, bool)
+    requires { length ring.old ≡ 4 * 131072 }
+{
+    let is_none = active(ring).is_none();
+    let rows = [
+        (2, 80, Content::Of208, (77, 208)),
+        // in another slot than that of its group it does not count
+        (0, 80, Content::Of209, (77, 208)),
+        // the highest group
+        (3, 81, Content::Of209, (77, 209)),
+        // of the labels that have this group, the lowest
+        (1, 81, Content::OtherOf209, (78, 209)),
+        (1, 81, Content::Torn, (77, 209)),
+        (3, 81, Content::Torn, (77, 208)),
+    ];
+    let count = count_active(ring, &rows);
+    store(ring, 2, 80, &bytes_of(Content::Torn));
+    (is_none, count, active(ring).is_none())
+}
+
+/// They, of a new ring.
+fn fill_new(alloc: Global) -> Result<(bool, usize, bool), AllocError> {
     let mut ring = vec![in alloc; 0u8; LABEL_COUNT * ARRAY_SIZE]?;
-    Ok(actives(&mut ring))
+    Ok(fill(&mut ring))
 }
 
 #[test]
 fn finds_the_active_one(rt: HostRuntime) {
     assert_eq!(rt; slot(Group(208)), 80);
-    let (older, newer) = (Some(uberblock(77, 208)), Some(uberblock(77, 209)));
-    let lowest = Some(uberblock(78, 209));
-    assert_eq!(rt;
-        actives_of_new(rt.alloc()),
-        Ok([None, older, older, newer, lowest, newer, older, None])
-    );
+    assert_eq!(rt; fill_new(rt.alloc()), Ok((true, 6, true)));
 }

@@ -97,7 +97,7 @@ pub fn go_round(
     }
 }
 
-fn plan_fault(device: &mut MemDevice, fault: Option<(Fault, u64)>)
+pub(crate) fn plan_fault(device: &mut MemDevice, fault: Option<(Fault, u64)>)
     ensures device { device.new ≡ with_fault fault device.old }
     ensures disk { device.new.disk ≡ device.old.disk }
     ensures refused { device.new.refused ≡ device.old.refused }

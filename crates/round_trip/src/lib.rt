@@ -18,6 +18,7 @@ ghost use Rattle.object_maps.specs.ContentsShown.{contents_of};
 ghost use Rattle.round_trip.specs.Crashes.{GoesOnFrom};
 ghost use Rattle.round_trip.specs.Rounds.{GoesRound, HoldsNew, IsFoundAfter, IsOpened, IsPlayRefusal, KeepsNoLog, ShowsHeld};
 
+mod clients;
 mod crashes;
 
 use base::{PoolError, Reply, Step};
