@@ -6,75 +6,53 @@ use base::{
 };
 use std::alloc::{AllocError, Global};
 
-// Whether a slot with bytes in front and a number after them has its bytes, and what is read at 8 and at 0.
-fn write_fields() -> (bool, u64, u64) {
+// A slot with bytes in front and a number behind them, and what is read at 8 and at 0.
+fn write_fields() -> ([u8; 24], u64, u64) {
     let mut slot = [0u8; 24];
     write_u64(&mut slot, 8, 0x00ba_b10c);
     write_bytes(&mut slot, 0, &[1, 2]);
-    (slot == slot_bytes(), read_u64(&slot, 8), read_u64(&slot, 0))
-}
-
-fn slot_bytes() -> [u8; 24] {
-    [
-        1, 2, 0, 0, 0, 0, 0, 0, 0x0c, 0xb1, 0xba, 0, 0, 0, 0, 0, 0, 0, 0, 0, 0, 0, 0, 0,
-    ]
+    (slot, read_u64(&slot, 8), read_u64(&slot, 0))
 }
 
 #[test]
 fn fields_are_little_endian(rt: HostRuntime) {
-    assert_eq!(rt; write_fields(), (true, 0x00ba_b10c, 513));
+    let slot = [
+        1, 2, 0, 0, 0, 0, 0, 0, 0x0c, 0xb1, 0xba, 0, 0, 0, 0, 0, 0, 0, 0, 0, 0, 0, 0, 0,
+    ];
+    assert_eq!(rt; write_fields(), (slot, 0x00ba_b10c, 513));
 }
 
-fn pointer() -> Pointer {
-    Pointer {
-        address: 4_198_400,
-        birth: 9,
-        check: [7; 32],
-    }
-}
+const POINTER: Pointer = Pointer {
+    address: 4_198_400,
+    birth: 9,
+    check: [7; 32],
+};
 
 // The 16 bytes before it and its own.
-fn pointer_bytes() -> [u8; 64] {
-    [
-        0, 0, 0, 0, 0, 0, 0, 0, 0, 0, 0, 0, 0, 0, 0, 0, 0x00, 0x10, 0x40, 0, 0, 0, 0, 0, 9, 0, 0,
-        0, 0, 0, 0, 0, 7, 7, 7, 7, 7, 7, 7, 7, 7, 7, 7, 7, 7, 7, 7, 7, 7, 7, 7, 7, 7, 7, 7, 7, 7,
-        7, 7, 7, 7, 7, 7, 7,
-    ]
-}
+const POINTER_BYTES: [u8; 64] = [
+    0, 0, 0, 0, 0, 0, 0, 0, 0, 0, 0, 0, 0, 0, 0, 0, 0x00, 0x10, 0x40, 0, 0, 0, 0, 0, 9, 0, 0, 0, 0,
+    0, 0, 0, 7, 7, 7, 7, 7, 7, 7, 7, 7, 7, 7, 7, 7, 7, 7, 7, 7, 7, 7, 7, 7, 7, 7, 7, 7, 7, 7, 7, 7,
+    7, 7, 7,
+];
 
-fn zeros() -> [u8; 64] {
-    [0; 64]
-}
-
-// Whether a pointer is written and read as its bytes, whether it is none, and whether one of zeros is.
-fn write_and_read() -> [bool; 4] {
-    let bytes = pointer_bytes();
-    let mut block = zeros();
-    write_pointer(&mut block, 16, &pointer());
-    let read = read_pointer(&bytes, 16);
-    let none = read_pointer(&zeros(), 16);
-    [
-        block == bytes,
-        read == pointer(),
-        pointer().is_none(),
-        none.is_none(),
-    ]
+// Zeros with a pointer behind the first 16 of them.
+fn with_pointer() -> [u8; 64] {
+    let mut block = [0; 64];
+    write_pointer(&mut block, 16, &POINTER);
+    block
 }
 
 #[test]
 fn a_pointer_has_48_bytes(rt: HostRuntime) {
-    assert_eq!(rt; write_and_read(), [true, true, false, true]);
+    assert!(rt; with_pointer() == POINTER_BYTES);
+    assert_eq!(rt; read_pointer(&POINTER_BYTES, 16), POINTER);
+    let pointers = [POINTER, read_pointer(&[0; 64], 16)];
+    assert_eq!(rt; pointers.map(|pointer| pointer.is_none()), [false, true]);
 }
 
-// How many rows hold before the first that does not: whether bytes are a name, as a question and as a name that is made of them.
-fn count_names(rows: &[(&[u8], bool)]) -> usize {
-    for index in 0..rows.len() {
-        let (bytes, told) = rows[index];
-        if is_name(bytes) != told || PoolName::new(bytes).is_some() != told {
-            return index;
-        }
-    }
-    rows.len()
+// Whether bytes are a name, as a question and as a name that is made of them.
+fn is_taken(bytes: &[u8]) -> [bool; 2] {
+    [is_name(bytes), PoolName::new(bytes).is_some()]
 }
 
 // Whether a name and its copy have the bytes that it was made of.
@@ -86,26 +64,21 @@ fn keeps_bytes(bytes: &[u8]) -> Result<bool, PoolError> {
     Ok(name.as_slice() == bytes && copy.as_slice() == bytes)
 }
 
-// 65 times the letter a.
-fn long_name() -> [u8; 65] {
-    [b'a'; 65]
-}
-
 #[test]
 fn names_have_their_grammar(rt: HostRuntime) {
-    let long = long_name();
-    let rows = [
-        (&b"tank"[..], true),
-        (b"T-1_a.b", true),
-        (&long[..64], true),
-        (b"", false),
-        (b"4tank", false),
-        (b"-tank", false),
-        (b"ta nk", false),
-        (b"tank\n", false),
-        (&long, false),
-    ];
-    assert_eq!(rt; count_names(&rows), 9);
+    for good in [&b"tank"[..], b"T-1_a.b", &[b'a'; 64]] {
+        assert_eq!(rt; is_taken(good), [true, true]);
+    }
+    for bad in [
+        &b""[..],
+        b"4tank",
+        b"-tank",
+        b"ta nk",
+        b"tank\n",
+        &[b'a'; 65],
+    ] {
+        assert_eq!(rt; is_taken(bad), [false, false]);
+    }
     assert_eq!(rt; keeps_bytes(b"tank"), Ok(true));
 }
 
@@ -114,31 +87,22 @@ fn has_text(alloc: Global, refusal: PoolError, text: &str) -> Result<bool, PoolE
     Ok(refusal.to_string(alloc)?.as_str() == text)
 }
 
-// How many refusals have these numbers and texts before the first that does not.
-fn count_texts(alloc: Global, rows: &[(PoolError, u8, &str)]) -> usize {
-    for index in 0..rows.len() {
-        let (refusal, number, text) = rows[index];
-        if refusal.number() != number || has_text(alloc, refusal, text) != Ok(true) {
-            return index;
-        }
-    }
-    rows.len()
-}
-
 #[test]
 fn refusals_have_numbers_and_texts(rt: HostRuntime) {
     let damaged = PoolError::Damaged {
         kind: 3,
         address: 4_206_592,
     };
-    let rows = [
+    for (refusal, number, text) in [
         (PoolError::NoMemory, 1, "NoMemory"),
         (PoolError::Suspended, 5, "Suspended"),
         (PoolError::NotReady, 20, "NotReady"),
         (PoolError::NoLogSpace, 23, "NoLogSpace"),
         (damaged, 7, "Damaged 3 4206592"),
-    ];
-    assert_eq!(rt; count_texts(rt.alloc(), &rows), 5);
+    ] {
+        assert_eq!(rt; refusal.number(), number);
+        assert_eq!(rt; has_text(rt.alloc(), refusal, text), Ok(true));
+    }
     assert_eq!(rt; PoolError::from(AllocError), PoolError::NoMemory);
 }
 
@@ -160,24 +124,12 @@ fn make_plan(alloc: Global) -> Result<(bool, usize), PoolError> {
     Ok((is_same, plan.into_vec().len()))
 }
 
-// A create and a write of three bytes.
-fn two_ops(alloc: Global) -> Result<Ops, PoolError> {
-    let bytes = Bytes::from_slice(alloc, b"abc")?;
-    let write = Op::Write(ObjectId(1), 7, bytes);
-    Ok(Ops::new(vec![in alloc; Op::Create(ObjectId(1)), write]?))
-}
-
-// Whether operations have the plan of their shapes.
-fn has_plan(alloc: Global, ops: &Ops) -> Result<bool, PoolError> {
-    let shapes = [Shape::Create(ObjectId(1)), Shape::Write(ObjectId(1), 7, 3)];
-    let plan = Plan::new(Vec::from_slice(alloc, &shapes)?);
-    Ok(Plan::of(alloc, ops)? == plan)
-}
-
 // Whether operations have the plan of their shapes, and how many they are and give back.
 fn make_ops(alloc: Global) -> Result<(bool, usize, usize), PoolError> {
-    let ops = two_ops(alloc)?;
-    let is_same = has_plan(alloc, &ops)?;
+    let write = Op::Write(ObjectId(1), 7, Bytes::from_slice(alloc, b"abc")?);
+    let ops = Ops::new(vec![in alloc; Op::Create(ObjectId(1)), write]?);
+    let shapes = [Shape::Create(ObjectId(1)), Shape::Write(ObjectId(1), 7, 3)];
+    let is_same = Plan::of(alloc, &ops)? == Plan::new(Vec::from_slice(alloc, &shapes)?);
     let count = ops.as_slice().len();
     Ok((is_same, count, ops.into_vec().len()))
 }

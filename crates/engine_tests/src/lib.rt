@@ -2,7 +2,8 @@
 //! each device call that is refused in turn. What a clause says has no test here.
 //!
 //! The tests of all crates below the program stand in this one crate, so that a gate proves each crate once and not once
-//! more beside its tests. `word_lock` has its own, which know its inside, and the program's are script rows.
+//! more beside its tests. Those of `word_lock` stand in `lock_tests`, those of threads and commands in
+//! `thread_tests`, and whole scripts are data of `script_rows`.
 #![tactic(auto)]
 
 #[cfg(test)]

@@ -1,10 +1,14 @@
 //! Threads over one pool: each has a handle of its own, and what they do together is one run of the pool. What is expected
 //! is told by the rules of the pool: ordinals count the commits, a pool that was created and imported has group 9 open, and
 //! a history replayed on plain bytes is what the pool reads.
+//!
+//! Beside them stand the tests of crates above the pool: commands on a file, and scripts whose reader or writer fails.
 #![tactic(auto)]
 
 #[cfg(test)]
 mod each_call;
+#[cfg(test)]
+mod file_commands;
 #[cfg(test)]
 mod fixture;
 #[cfg(test)]
@@ -15,5 +19,7 @@ mod load;
 mod lock_calls;
 #[cfg(test)]
 mod replay;
+#[cfg(test)]
+mod script_readers;
 #[cfg(test)]
 mod syncs;

@@ -1,0 +1,147 @@
+//! What is printed where a script can't be opened, and the commands on a pool in a file, on a file of their own.
+
+use commands::{CreateArguments, ScriptArguments, run_create, run_opened, run_show};
+use std::fs::{self, File};
+use std::io::{self, ErrorKind};
+use std::test::Fail;
+
+#[test]
+fn tells_of_a_script_that_is_not_opened(rt: HostRuntime) -> Result<(), Fail> {
+    let arguments = ScriptArguments {
+        size: 8_388_608,
+        script: "no/script",
+        moment: 0,
+    };
+    let opened: io::Result<&[u8]> = Err(io::Error::from(ErrorKind::NotFound));
+    let mut out = Vec::new(rt.alloc());
+    let mut errors = Vec::new(rt.alloc());
+    let status = run_opened(&rt, arguments, opened, &mut out, &mut errors);
+    assert_eq!(rt; status, 3);
+    assert!(rt; out.is_empty());
+    assert!(rt; errors.as_slice() == b"ztxg: cannot use no/script\n".as_slice());
+    Ok(())
+}
+
+// What the command is given for a pool of 8 MiB.
+fn tank<'a>(file: &'a str) -> CreateArguments<'a> {
+    CreateArguments {
+        file,
+        name: "tank",
+        guid: 77,
+        size: 8_388_608,
+        moment: 0,
+    }
+}
+
+#[test]
+fn a_pool_is_made_in_a_file(rt: HostRuntime) -> Result<(), Fail> {
+    let mut out = Vec::new(rt.alloc());
+    let mut errors = Vec::new(rt.alloc());
+    let status = run_create(&rt, tank("made.pool"), &mut out, &mut errors);
+    assert_eq!(rt; status, 0);
+    assert!(rt; out.as_slice() == b"created tank 896 blocks\n".as_slice());
+    assert!(rt; errors.is_empty());
+    assert_eq!(rt; fs::metadata(&rt, "made.pool")?.len(), 8_388_608);
+
+    out.clear();
+    let status = run_show(
+        rt.alloc(),
+        "made.pool",
+        File::open(&rt, "made.pool"),
+        &mut out,
+        &mut errors,
+    );
+    assert_eq!(rt; status, 0);
+    let shown = b"name tank\nguid 77\ngroup 4\nimport 0\nblocks 896 used 0\nrecords 0\nobjects 0\n";
+    assert!(rt; out.as_slice() == shown.as_slice());
+    assert!(rt; errors.is_empty());
+
+    // It is resized, also to a size that is no number of sectors.
+    let smaller = CreateArguments {
+        size: 6_291_500,
+        name: "pond",
+        ..tank("made.pool")
+    };
+    out.clear();
+    assert_eq!(rt; run_create(&rt, smaller, &mut out, &mut errors), 0);
+    assert!(rt; out.as_slice() == b"created pond 384 blocks\n".as_slice());
+    assert_eq!(rt; fs::metadata(&rt, "made.pool")?.len(), 6_291_500);
+    fs::remove_file(&rt, "made.pool")?;
+    Ok(())
+}
+
+#[test]
+fn a_refused_size_or_name_leaves_the_file(rt: HostRuntime) -> Result<(), Fail> {
+    fs::write(&rt, "left.pool", "as it is")?;
+    for file in ["left.pool", "none.pool", "."] {
+        for (size, name, text) in [
+            (6_291_455, "tank", "ztxg: refused 8 BadGeometry\n"),
+            (0, "4tank", "ztxg: refused 8 BadGeometry\n"),
+            (8_388_608, "4tank", "ztxg: refused 11 BadRange\n"),
+            (8_388_608, "", "ztxg: refused 11 BadRange\n"),
+        ] {
+            let given = CreateArguments {
+                size,
+                name,
+                ..tank(file)
+            };
+            let mut out = Vec::new(rt.alloc());
+            let mut errors = Vec::new(rt.alloc());
+            assert_eq!(rt; run_create(&rt, given, &mut out, &mut errors), 1);
+            assert!(rt; out.is_empty());
+            assert!(rt; errors.as_slice() == text.as_bytes());
+        }
+    }
+    assert!(rt; fs::read_to_string(&rt, "left.pool")?.as_str() == "as it is");
+    assert!(rt; !fs::exists(&rt, "none.pool")?);
+    fs::remove_file(&rt, "left.pool")?;
+    Ok(())
+}
+
+#[test]
+fn tells_of_a_file_that_holds_no_pool(rt: HostRuntime) -> Result<(), Fail> {
+    for file in [".", "no/file", "/dev/full"] {
+        let mut out = Vec::new(rt.alloc());
+        let mut errors = Vec::new(rt.alloc());
+        assert_eq!(rt; run_create(&rt, tank(file), &mut out, &mut errors), 3);
+        assert!(rt; out.is_empty());
+        let text = format!(in rt.alloc(); "ztxg: cannot use {file}\n")?;
+        assert!(rt; errors.as_slice() == text.as_bytes());
+    }
+    Ok(())
+}
+
+#[test]
+fn tells_of_a_file_that_shows_no_pool(rt: HostRuntime) -> Result<(), Fail> {
+    for (size, text) in [
+        (0, "ztxg: refused 8 BadGeometry\n"),
+        (6_291_455, "ztxg: refused 8 BadGeometry\n"),
+        (6_291_456, "ztxg: refused 6 NoPool\n"),
+    ] {
+        File::create(&rt, "zeros.pool")?.set_len(size)?;
+        let opened = File::open(&rt, "zeros.pool");
+        let mut out = Vec::new(rt.alloc());
+        let mut errors = Vec::new(rt.alloc());
+        let status = run_show(rt.alloc(), "zeros.pool", opened, &mut out, &mut errors);
+        assert_eq!(rt; status, 1);
+        assert!(rt; out.is_empty());
+        assert!(rt; errors.as_slice() == text.as_bytes());
+    }
+    fs::remove_file(&rt, "zeros.pool")?;
+    for file in [".", "no/file"] {
+        let mut out = Vec::new(rt.alloc());
+        let mut errors = Vec::new(rt.alloc());
+        let status = run_show(
+            rt.alloc(),
+            file,
+            File::open(&rt, file),
+            &mut out,
+            &mut errors,
+        );
+        assert_eq!(rt; status, 3);
+        assert!(rt; out.is_empty());
+        let text = format!(in rt.alloc(); "ztxg: cannot use {file}\n")?;
+        assert!(rt; errors.as_slice() == text.as_bytes());
+    }
+    Ok(())
+}
