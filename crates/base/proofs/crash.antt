@@ -12,3 +12,4 @@ pub mod SyncPaths
 pub mod OwnDisks
 pub mod NewViews
 pub mod NewDisks
+pub mod MountLaws

@@ -6,3 +6,4 @@ pub mod CheckedPlaces
 pub mod WrittenBlocks
 pub mod WrittenLabels
 pub mod FairBytes
+pub mod EarlierWrites

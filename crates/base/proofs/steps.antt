@@ -22,3 +22,4 @@ pub mod SyncEnds
 pub mod SeenStates
 pub mod SeenGroups
 pub mod SeenRefusals
+pub mod KeptReaders

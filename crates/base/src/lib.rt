@@ -54,7 +54,8 @@ pub use status::Status;
 pub use step::{Reply, Step};
 pub use step_laws::{
     busy_is_unsound, held_pools_mount, idle_pools_mount, log_steps_keep_tables, mounts_agree,
-    new_pools_are_explained, pasts_are_told, pasts_grow, runs_keep_tables, steps_keep_tables,
-    steps_write_no_log, suspended_pools_refuse, suspended_pools_stay, syncs_end_on_time,
+    new_pools_are_explained, own_disks_mount, pasts_are_told, pasts_grow, readers_are_kept,
+    runs_keep_tables, steady_imports_mount, steps_keep_tables, steps_write_no_log,
+    suspended_pools_refuse, suspended_pools_stay, syncs_end_on_time,
 };
 pub use version::Version;

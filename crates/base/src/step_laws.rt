@@ -1,8 +1,10 @@
 //! What each step keeps of a pool: each function's contract is a law, and its body does nothing.
 
+ghost use Rattle.base.specs.crash.CrashRule.{OwnDisksMount, SteadyImportsMount};
 ghost use Rattle.base.specs.steps.Additions.{PastsAreTold, PastsGrow};
 ghost use Rattle.base.specs.steps.Locks.{BusyIsUnsound};
 ghost use Rattle.base.specs.steps.ExactNow.{StepsKeepTables, RunsKeepTables, LogStepsKeepTables, NewPoolsAreExplained};
+ghost use Rattle.base.specs.steps.Readers.{ReadersAreKept};
 ghost use Rattle.base.specs.stored.HeldMounts.{MountsAgree, HeldMounts, IdleMounts, StepsWriteNoLog};
 ghost use Rattle.base.specs.steps.SyncEnds.{SuspendedPoolsRefuse, SuspendedPoolsStay, SyncsEndOnTime};
 
@@ -77,4 +79,22 @@ pub fn steps_write_no_log()
 /// A lock is refused as busy exactly where granting it would leave the held locks unsound (`zfs_rlock.c`).
 pub fn busy_is_unsound()
     ensures { BusyIsUnsound }
+{}
+
+/// No step changes the bytes under a lock that a reader held before it: those of an object's range, or of the pool's name.
+/// So a reader sees one state in all of its reads until it unlocks (`zfs_rlock.c`).
+pub fn readers_are_kept()
+    ensures { ReadersAreKept }
+{}
+
+/// An import of a disk that its pool alone wrote mounts the same at each of its moments since the first good flush: each
+/// fair image that a crash then leaves mounts the contents that the disk mounted before.
+pub fn steady_imports_mount()
+    ensures { SteadyImportsMount }
+{}
+
+/// A disk that its pool alone wrote, as a create or an import leaves it, mounts the pool's contents. So does each fair image
+/// that a crash leaves of it.
+pub fn own_disks_mount()
+    ensures { OwnDisksMount }
 {}

@@ -4,6 +4,7 @@ use Rattle.std.specs.FinMap as map
 use Rattle.base.specs.crash.Own.{AreFirstWrites}
 use Rattle.base.specs.crash.Views.{View}
 use Rattle.base.specs.disk.Disk.{Disk, HandedSince, bytes_of, handed, moments}
+pub use Rattle.base.specs.disk.Disk.{HasEarlierWrites}
 use Rattle.base.specs.formats.Fields.{no_pointer, part}
 use Rattle.base.specs.formats.Geometry.{block_size, config_place, slot_of, slot_place}
 use Rattle.base.specs.formats.Limits.{first_group}
@@ -12,10 +13,6 @@ use Rattle.base.specs.history.Contents.{Contents}
 use Rattle.labels.specs.Configs.{config_block}
 use Rattle.uberblocks.specs.Slots.{slot_bytes}
 use Rattle.import_replay.specs.Creations.{first_config, first_uberblock}
-
--- each write that counts was handed at an earlier moment than the disk has now, as on a disk that began with none
-abbrev pub HasEarlierWrites : Disk → Type 0
-HasEarlierWrites disk = (place : ℕ) (content : List ℕ) → HandedSince (moments disk) (handed disk.now) place content → ⊥
 
 -- the contents of a new pool of this name: no objects
 abbrev pub first_contents : List ℕ → Contents

@@ -64,6 +64,16 @@ IsImportKept old new created guid contents = (new ≡ old) ⊎ IsSteady old new 
 abbrev pub KeepsOwn : Disk → Disk → Type 0
 KeepsOwn old new = (created guid : ℕ) (contents : Contents) → IsOwnOnceFlushed old created guid contents → IsImportKept old new created guid contents
 
+-- What is steady mounts: a crash at any moment since the first good flush leaves only fair images that mount these contents.
+abbrev pub SteadyImportsMount : Type 0
+SteadyImportsMount = (old new : Disk) (created guid : ℕ) (contents : Contents) → IsSteady old new created guid contents
+    → AllMountTo (certain (bytes_of old.now) old) new created contents
+
+-- And so does what a pool alone wrote: each fair image that a crash leaves of it, and what a read gives.
+abbrev pub OwnDisksMount : Type 0
+OwnDisksMount = (disk : Disk) (created guid : ℕ) (contents : Contents) → IsOwnWith disk created guid contents
+    → LeavesFairNow disk created (λ image. MountsTo image contents) × MountsTo (bytes_of disk.now) contents
+
 -- a step of a run: at each of its moments the disk is kept for what was shown before, or for what is shown after
 abbrev pub IsStepKept : Disk → Disk → Shown → Shown → Past → Past → Type 0
 IsStepKept before after s t old new =

@@ -73,6 +73,10 @@ abbrev pub HandedSince : ℕ → List Write → ℕ → List ℕ → Type 0
 HandedSince t [] place content = ⊥
 HandedSince t (w ∷ ws) place content = ((t ≤ w.moment) × (w.place ≡ place) × (w.content ≡ content)) ⊎ HandedSince t ws place content
 
+-- each write that counts was handed at an earlier moment than the disk has now
+abbrev pub HasEarlierWrites : Disk → Type 0
+HasEarlierWrites disk = (place : ℕ) (content : List ℕ) → HandedSince (moments disk) (handed disk.now) place content → ⊥
+
 -- the moment after a write of these bytes
 abbrev pub wrote : ℕ → ℕ → List ℕ → Bool → Moment → Moment
 wrote t place content done m = record {

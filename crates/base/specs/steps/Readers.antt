@@ -5,7 +5,11 @@ use Rattle.base.specs.declared.range.Mode.TheVariants.{Reader}
 use Rattle.base.specs.formats.Limits.{name_number}
 use Rattle.base.specs.history.Contents.{Contents, resize}
 use Rattle.base.specs.history.Plans.{NumberRange}
+use Rattle.base.specs.declared.step.Step as declared_step
+use Rattle.base.specs.declared.step.Reply as declared_reply
+use Rattle.base.specs.steps.ExactNow.{IsExplainedNow}
 use Rattle.base.specs.steps.Locks.{Grant}
+use Rattle.base.specs.steps.Runs.{Step}
 use Rattle.base.specs.steps.Steps.{State, bytes_in}
 
 -- the bytes that a lock's number stands for: an object's, none where it is absent, or the name's
@@ -20,3 +24,8 @@ bytes_under range c = resize (range.high - range.low) (bytes_in range (bytes_of_
 abbrev pub KeepsReaders : State → State → Type 0
 KeepsReaders old new = (i : ℕ) (g : Grant) → slice_get old.shown.locks i ≡ Some g → g.mode ≡ Reader
     → bytes_under g.range new.shown.contents ≡ bytes_under g.range old.shown.contents
+
+-- and each step of a pool that a past explains keeps them, over whichever device
+abbrev pub ReadersAreKept : Type 0
+ReadersAreKept = (now : List ℕ) (step : declared_step.Step) (reply : declared_reply.Reply) (old new : State) → Step ⊥ now step reply old new
+    → IsExplainedNow old.shown old.past → KeepsReaders old new
