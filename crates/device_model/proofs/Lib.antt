@@ -5,3 +5,4 @@ pub mod Tracks
 pub mod Sound
 pub mod Left
 pub mod AfterCalls
+pub mod ShownDisks

@@ -9,9 +9,10 @@ use Rattle.base.specs.declared.piece.Piece.{Piece}
 use Rattle.base.specs.declared.piece.Piece.TheVariants.{Keep, Lose, Fill}
 use Rattle.device_model.specs.declared.notes.Note.{Note}
 use Rattle.base.specs.formats.Fields.{part}
-use Rattle.base.specs.disk.Disk.{Write, Disk, put, bytes_after, bytes_of, written, next, settled, certain, certain_with}
+use Rattle.base.specs.disk.Disk.{Write, Disk, HasEarlierWrites, put, bytes_after, bytes_of, written, next, settled, certain, certain_with}
 use Rattle.base.specs.disk.Crashes.{left, piece_at, image_after, crash_image}
 use Rattle.device_model.specs.Notes.{Track, left_of, noted, ended_track, after_note, tracked, replayed, undone, with_piece, with_pieces, ended, IsOpen, Recall, LeadTo, AddsNote, TellSame, Closes}
+use Rattle.base.proofs.disk.EarlierWrites.{earlier_settled, earlier_written}
 use Rattle.base.proofs.disk.Put.{length-put, put-put_part, put-part}
 
 -- no good flush or crash came behind it
@@ -331,3 +332,15 @@ module _ (first : Track) (k : ℕ) (notes marked : List Note) (bytes : List ℕ)
 
 pub with_pieces_all_fit : (size : ℕ) (pieces : List Piece) (ns : List Note) → All (λ n. n.place + length n.content ≤ size) ns → All (λ n. n.place + length n.content ≤ size) (with_pieces pieces 0 ns)
 with_pieces_all_fit size pieces ns each = All-from_recursion (Fits size) (with_pieces pieces 0 ns) (with_pieces_fits size pieces 0 ns (recursion_from_All (Fits size) ns each))
+
+-- each write that counts is earlier than the disk now, whatever the notes are
+earlier_note : (t : Track) (n : Note) → HasEarlierWrites t.disk → HasEarlierWrites (after_note t n).disk
+earlier_note t n earlier = by_last n.last (earlier_written n.place n.content n.done t.disk earlier)
+  where
+    by_last : (last : Bool) → HasEarlierWrites (noted t n).disk → HasEarlierWrites (ended_track last (noted t n)).disk
+    by_last true noted_earlier = earlier_settled (noted t n).image (noted t n).disk noted_earlier
+    by_last false noted_earlier = noted_earlier
+
+pub tracked_earlier : (t : Track) (ns : List Note) → HasEarlierWrites t.disk → HasEarlierWrites (tracked t ns).disk
+tracked_earlier t [] earlier = earlier
+tracked_earlier t (n ∷ ns) earlier = tracked_earlier (after_note t n) ns (earlier_note t n earlier)

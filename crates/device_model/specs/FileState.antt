@@ -1,6 +1,6 @@
 -- What callers see of a device on a file.
-use Rattle.std.specs.Prelude.{ℕ, Bool, true, false}
-use Rattle.base.specs.disk.Disk.{Disk, disk_size}
+use Rattle.std.specs.Prelude.{◌≡◌, ℕ, ◌*◌, Bool, true, false}
+use Rattle.base.specs.disk.Disk.{Disk, HasEarlierWrites, disk_size}
 use Rattle.base.specs.declared.refused.RefusedCalls.{RefusedCalls}
 use Rattle.device_model.specs.MemState.{blank}
 
@@ -22,3 +22,8 @@ no_disk = blank 0
 abbrev pub size_of : Bool → FileState → ℕ
 size_of true s = disk_size s.disk
 size_of false s = s.size
+
+-- A file that keeps the model shows a disk of so many sectors. Each write that counts on it was handed at an earlier moment.
+pub record ShowsDisk (sectors : ℕ) (disk : Disk) : Type 0 where
+  pub size : disk_size disk ≡ 512 * sectors
+  pub earlier : HasEarlierWrites disk

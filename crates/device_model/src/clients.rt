@@ -3,7 +3,7 @@
 
 ghost use Rattle.std.specs.Prelude.{◌≡◌, ◌∷◌, [], IfOk, IsErrOf, IsTrue, OnErr, OnOk, length, true};
 ghost use Rattle.base.specs.disk.Calls.{IsOnDevice};
-ghost use Rattle.base.specs.disk.Disk.{bytes_of, disk_size};
+ghost use Rattle.base.specs.disk.Disk.{HasEarlierWrites, bytes_of, disk_size};
 ghost use Rattle.device_model.specs.MemState.{blank, zeros};
 
 use crate::device::SectorDevice;
@@ -95,6 +95,23 @@ fn a_crash_loses_what_was_not_flushed(device: MemDevice, content: &[u8]) -> MemD
     ensures { bytes_of result.disk.now ≡ device.disk.now.flushed }
 {
     device.crash(&[Piece::Lose])
+}
+
+fn what_counts_after_a_crash_was_handed_earlier(device: MemDevice) -> MemDevice
+    ensures { HasEarlierWrites result.disk }
+{
+    let device = device.crash(&[Piece::Lose]);
+    let _sectors = device.sectors();
+    device
+}
+
+fn what_counts_on_a_devices_file_was_handed_earlier<F: SectorFile + Drop>(
+    device: &FileDevice<F>,
+) -> u64
+    requires { IsTrue F.keeps_model }
+    ensures { HasEarlierWrites device.now.disk }
+{
+    device.sectors()
 }
 
 fn a_device_shows_its_files_disk<F: SectorFile + Drop>(file: F) -> Result<FileDevice<F>, PoolError>

@@ -6,7 +6,7 @@
 
 ghost use Rattle.std.specs.Prelude.{◌≡◌, ℕ, ◌*◌, Bool, IfErr, IsTrue, length, OnOk};
 ghost use Rattle.base.specs.formats.Fields.{part};
-ghost use Rattle.base.specs.disk.Disk.{Disk, bytes_of, disk_size};
+ghost use Rattle.base.specs.disk.Disk.{Disk, HasEarlierWrites, bytes_of, disk_size};
 ghost use Rattle.base.specs.disk.Calls.{IsOnDevice, Writes, Flushes, counted};
 ghost use Rattle.base.specs.declared.refused.RefusedCalls.{RefusedCalls};
 
@@ -31,9 +31,10 @@ pub trait SectorDevice {
     /// The disk: what a read gives, and what a crash may leave, at each moment so far.
     ghost disk: { Self → Disk };
 
-    /// How many sectors of 512 bytes it has.
+    /// How many sectors of 512 bytes it has. On its disk each write that counts was handed at an earlier moment.
     fn sectors(&self) -> u64
-        ensures { 512 * result ≡ size self.now };
+        ensures size { 512 * result ≡ size self.now }
+        ensures earlier { IsTrue keeps_model → HasEarlierWrites (disk self.now) };
 
     /// Reads whole sectors from byte place `at`. Refused with `Read`, where the device fails; `into` may then hold
     /// anything.

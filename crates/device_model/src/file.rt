@@ -32,9 +32,8 @@ pub struct FileDevice<F: SectorFile + Drop = File> {
 }
 
 impl<F: SectorFile + Drop> Model for FileDevice<F> {
-    ghost use Rattle.std.specs.Prelude.{◌≡◌, ◌*◌, IsTrue};
-    ghost use Rattle.base.specs.disk.Disk.{disk_size};
-    ghost use Rattle.device_model.specs.FileState.{FileState};
+    ghost use Rattle.std.specs.Prelude.{◌*◌, IsTrue};
+    ghost use Rattle.device_model.specs.FileState.{FileState, ShowsDisk};
 
     ghost Value = { FileState };
 
@@ -45,7 +44,7 @@ impl<F: SectorFile + Drop> Model for FileDevice<F> {
     } };
 
     ghost invariant = { λ device. IsTrue F.keeps_model
-        → disk_size (F.disk device.file) ≡ 512 * device.sectors };
+        → ShowsDisk device.sectors (F.disk device.file) };
 }
 
 impl<F: SectorFile + Drop> FileDevice<F> {

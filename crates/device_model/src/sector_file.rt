@@ -7,7 +7,7 @@
 
 ghost use Rattle.std.specs.Prelude.{◌≡◌, ◌+◌, ◌*◌, ◌<◌, ◌≤◌, Bool, IsTrue, IfErr, IfSome, OnOk, false, length};
 ghost use Rattle.base.specs.formats.Fields.{part};
-ghost use Rattle.base.specs.disk.Disk.{Disk, bytes_of, disk_size};
+ghost use Rattle.base.specs.disk.Disk.{Disk, HasEarlierWrites, bytes_of, disk_size};
 ghost use Rattle.base.specs.disk.Calls.{Flushes, IsOnDevice, Writes};
 ghost use Rattle.device_model.specs.FileState.{no_disk};
 
@@ -28,10 +28,12 @@ pub trait SectorFile {
     /// The disk: what a read gives, and what a crash may leave, at each moment so far.
     ghost disk: { Self → Disk };
 
-    /// How many whole sectors of 512 bytes the file has now. None where it doesn't tell its length, or is a directory.
+    /// How many whole sectors of 512 bytes the file has now. None where it doesn't tell its length, or is a directory. On its
+    /// disk each write that counts was handed at an earlier moment.
     fn sectors(&self) -> Option<u64>
         ensures size { IsTrue keeps_model
-            → IfSome result (λ count. disk_size (disk self.now) ≡ 512 * count) };
+            → IfSome result (λ count. disk_size (disk self.now) ≡ 512 * count) }
+        ensures earlier { IsTrue keeps_model → HasEarlierWrites (disk self.now) };
 
     /// Reads whole sectors from byte place `at`. Refused with `Read` where the file can't be read there, or ends before
     /// the last of these bytes; `into` may then hold anything.

@@ -13,7 +13,7 @@ use Rattle.import_replay.proofs.creation.create.Goals as goal
 pub returns-in-Ok-initialize-clause-created : goal.returns-in-Ok-initialize-clause-created
 returns-in-Ok-initialize-clause-created g c = λ keeps.
     created_from c.in-Ok.geometry _ c.args.name.now c.args.guid c.args.moment (subst IsGeometry (sym c.in-Ok.ensures.size) (c.in-Ok.ensures.ok.0 refl))
-    (g.met.D.SectorDevice.sized keeps c.initialize.new.device ∙ c.initialize.ensures.calls.size ∙ sym c.sectors.ensures ∙ sym c.in-Ok.ensures.size)
+    (g.met.D.SectorDevice.sized keeps c.initialize.new.device ∙ c.initialize.ensures.calls.size ∙ sym c.sectors.ensures.size ∙ sym c.in-Ok.ensures.size)
     (subst (λ (l : List ℕ). IsLabelled c.in-Ok.geometry l c.args.guid c.args.moment (bytes_of (g.D.SectorDevice.disk c.initialize.new.device).now)) c.in-Some.ensures.name.0 (c.in-Ok-initialize.ensures.labels keeps))
 
 pub returns-in-Ok-initialize-clause-settled : goal.returns-in-Ok-initialize-clause-settled
@@ -24,7 +24,7 @@ pub returns-in-Ok-initialize-clause-written : goal.returns-in-Ok-initialize-clau
 returns-in-Ok-initialize-clause-written g c = λ keeps.
     settled_from (λ (image : List ℕ). IsNewPool image c.args.name.now c.args.guid c.args.moment) (g.D.SectorDevice.disk c.initialize.new.device).now (c.in-Ok-initialize.ensures.settled keeps)
     (new_pool_from c.in-Ok.geometry _ c.args.name.now c.args.guid c.args.moment (subst IsGeometry (sym c.in-Ok.ensures.size) (c.in-Ok.ensures.ok.0 refl))
-    (g.met.D.SectorDevice.sized keeps c.initialize.new.device ∙ c.initialize.ensures.calls.size ∙ sym c.sectors.ensures ∙ sym c.in-Ok.ensures.size)
+    (g.met.D.SectorDevice.sized keeps c.initialize.new.device ∙ c.initialize.ensures.calls.size ∙ sym c.sectors.ensures.size ∙ sym c.in-Ok.ensures.size)
     (subst (λ (l : List ℕ). IsLabelled c.in-Ok.geometry l c.args.guid c.args.moment (bytes_of (g.D.SectorDevice.disk c.initialize.new.device).now)) c.in-Some.ensures.name.0 (c.in-Ok-initialize.ensures.labels keeps)))
 
 pub returns-in-Ok-initialize-clause-own : goal.returns-in-Ok-initialize-clause-own
@@ -33,7 +33,7 @@ returns-in-Ok-initialize-clause-own g c = λ keeps earlier.
     let size : ℕ = c.in-Ok.geometry in
     let t : ℕ = moments (g.D.SectorDevice.disk c.args.device) in
     own_from size t c.args.guid c.args.moment c.args.name.now now (subst IsGeometry (sym c.in-Ok.ensures.size) (c.in-Ok.ensures.ok.0 refl))
-    (g.met.D.SectorDevice.sized keeps c.initialize.new.device ∙ c.initialize.ensures.calls.size ∙ sym c.sectors.ensures ∙ sym c.in-Ok.ensures.size) (c.in-Ok-initialize.ensures.settled keeps)
+    (g.met.D.SectorDevice.sized keeps c.initialize.new.device ∙ c.initialize.ensures.calls.size ∙ sym c.sectors.ensures.size ∙ sym c.in-Ok.ensures.size) (c.in-Ok-initialize.ensures.settled keeps)
     (subst (λ (l : List ℕ). IsLabelled size l c.args.guid c.args.moment (bytes_of now.now)) c.in-Some.ensures.name.0 (c.in-Ok-initialize.ensures.labels keeps))
     (subst (λ (l : List ℕ). IsFirstDisk size t (first_view l c.args.guid c.args.moment size) now) c.in-Some.ensures.name.0 (c.in-Ok-initialize.ensures.handed keeps earlier))
 
@@ -41,4 +41,4 @@ pub returns-in-Ok-initialize-clause-outside : goal.returns-in-Ok-initialize-clau
 returns-in-Ok-initialize-clause-outside g c = λ keeps.
     let start = g.D.SectorDevice.disk c.args.device in
     let now = g.D.SectorDevice.disk c.initialize.new.device in
-    subst (λ (n : ℕ). WritesPoolBytes n start now) (c.in-Ok.ensures.size ∙ c.sectors.ensures) (c.initialize.ensures.outside keeps start (none_outside c.in-Ok.geometry start))
+    subst (λ (n : ℕ). WritesPoolBytes n start now) (c.in-Ok.ensures.size ∙ c.sectors.ensures.size) (c.initialize.ensures.outside keeps start (none_outside c.in-Ok.geometry start))
