@@ -57,8 +57,8 @@ pub fn create<D: SectorDevice>(
         → CrashLeaves (λ image. IsCreatedOn image name.now guid) (D.disk d).now) }
     ensures written { IfOk result (λ d. IsTrue D.keeps_model
         → CrashLeaves (λ image. IsNewPool image name.now guid moment) (D.disk d).now) }
-    // After any crash only this pool has written it, where all that was written before counts as earlier.
-    ensures own { IsTrue D.keeps_model → HasEarlierWrites (D.disk device) → IfOk result
+    // After any crash only this pool has written it: all that was written before is earlier.
+    ensures own { IsTrue D.keeps_model → IfOk result
         (λ d. IsOwnWith (D.disk d) (moments (D.disk device)) guid (first_contents name.now)) }
     ensures outside { IsTrue D.keeps_model → MatchResult result
         (λ d. WritesPoolBytes (D.size device) (D.disk device) (D.disk d))

@@ -1,5 +1,6 @@
 pub mod ViewsKept
 pub mod SafeMoments
+pub mod ExplainedPools
 pub mod OwnMoments
 pub mod SafeCalls
 pub mod SafeSteps

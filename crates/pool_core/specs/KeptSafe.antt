@@ -7,12 +7,12 @@ use Rattle.base.specs.crash.Layout.{header_now}
 use Rattle.base.specs.crash.Own.{IsOwnImage}
 use Rattle.base.specs.crash.PoolViews.{IsPoolDisk, IsViewOf}
 use Rattle.base.specs.crash.Views.{AreConfigsUpTo}
-use Rattle.base.specs.disk.Disk.{Disk, EachMoment, Moment, disk_size, handed, moments}
+use Rattle.base.specs.disk.Disk.{Disk, EachMoment, Moment, bytes_of, disk_size, handed, moments}
 use Rattle.base.specs.disk.Fairness.{HasFairBytes, LeavesFair}
 use Rattle.base.specs.history.Contents.{Contents}
 use Rattle.base.specs.history.Past.{Past}
 use Rattle.base.specs.steps.Additions.{past_after}
-use Rattle.base.specs.steps.Explains.{AreSafe, IsLeftBy, WereSafe}
+use Rattle.base.specs.steps.Explains.{AreSafe, Explains, IsLeftBy, WereSafe}
 use Rattle.base.specs.steps.Runs.{Run}
 use Rattle.base.specs.steps.Shown.{Shown, SyncPlan}
 use Rattle.base.specs.stored.Stored.{Held, IsHeld}
@@ -56,10 +56,11 @@ abbrev pub IsDiskKept : Option SyncRun → Disk → Shown → Past → Type 0
 IsDiskKept None disk s past = IsPoolDisk (disk_size disk) disk.now s past
 IsDiskKept (Some run) disk s past = IsSyncOnDisk run disk s past
 
--- The crash rule of a pool with its past: the device holds what it should, and its disk, on which the create of the pool began at a moment of
--- the past, is kept.
+-- The crash rule of a pool with its past: the device holds what it should, a read of its disk gives these bytes, and this disk, on which the
+-- create of the pool began at a moment of the past, is kept.
 pub record IsKeptSafe (x : OnDisk) : Type 0 where
   pub held : IsHeld x.held
+  pub same_bytes : x.held.now ≡ bytes_of x.disk.now
   pub began : x.held.state.past.created ≤ moments x.disk
   pub kept : IsDiskKept x.run x.disk x.held.state.shown x.held.state.past
 
@@ -109,6 +110,11 @@ module _ {Dev : Type 0} {G : Ghosts Dev} where
   BeginsSafe state = (created : ℕ) → IsHeldAtFirst (told state) → created ≤ moments (disk_of state)
       → IsPoolDisk (disk_size (disk_of state)) (disk_of state).now (shown state) (first_past (shown state) created)
       → IsKeptSafe (on_disk state (first_past (shown state) created))
+
+-- What the crash rule comes to: the past explains the pool, now and after a crash. The pool is exact, its entries are a history that leads to its
+-- contents, the disk holds the synced tree and free blocks as they are shown, and every fair image mounts to a cut with every acknowledged entry.
+abbrev pub KeptPoolsAreExplained : Type 0
+KeptPoolsAreExplained = (x : OnDisk) → IsKeptSafe x → Explains (Unit {0}) x.disk x.held.state.shown x.held.state.past
 
 -- what the crash rule says of crashes: now every fair image mounts to a cut with every acknowledged entry
 abbrev pub KeptPoolsAreSafe : Type 0

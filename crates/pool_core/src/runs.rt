@@ -22,7 +22,8 @@ impl<D: SectorDevice> PoolState<D> {
     /// Makes one step. Of the steps only that of a sync calls the device: it makes the next call of its sync.
     ///
     /// Over a device that keeps the model it keeps the crash rule, whatever the device answers: from each past with which a
-    /// crash leaves a cut of the entries, at each moment of the step and after it a crash still does.
+    /// crash leaves a cut of the entries, at each moment of the step and after it a crash still does. What the crash rule
+    /// comes to is a law, `kept_pools_are_explained`: the past explains all that is shown, and what each crash leaves.
     pub fn step(&mut self, step: Step) -> Reply
         ensures replied { StepReplies step result (shown self.old) (shown self.new) }
         ensures turns { Turns step result self.old self.new }
@@ -78,7 +79,7 @@ fn progress_reply(progress: Progress) -> Reply
 }
 
 /// Makes steps one after another, and answers each. It takes the room for all replies first, and makes no device call but
-/// those of the steps of a sync.
+/// those of the steps of a sync. After each step the past still explains the pool, as the law `kept_pools_are_explained` says.
 ///
 /// # Errors
 /// `NoMemory` where there is none for the replies, and then no step was made.

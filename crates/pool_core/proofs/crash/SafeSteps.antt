@@ -176,11 +176,13 @@ module _ (x : OnDisk) (safe : IsKeptSafe x) where
   p = x.held.state.past
 
   -- a step that makes no call, and neither starts a sync nor ends one
-  pub still_safe : (st : declared_step.Step) (r : declared_reply.Reply) (h : Held) → IsStepOver st r x.held h → is_turn r ≡ false → IsHeld h → IsSafeStep st r x (record x { held = h })
-  still_safe st r h step off held =
+  pub still_safe : (st : declared_step.Step) (r : declared_reply.Reply) (h : Held) → h.now ≡ bytes_of x.disk.now → IsStepOver st r x.held h → is_turn r ≡ false → IsHeld h
+      → IsSafeStep st r x (record x { held = h })
+  still_safe st r h same_bytes step off held =
       let same : SameSyncing s h.state.shown p h.state.past = step_leaves (Unit {0}) x.held.now st r x.held.state h.state step off safe.held.explained in
       let kept : IsKeptSafe (record x { held = h }) = record {
         held = held;
+        same_bytes = same_bytes;
         began = subst (λ (c : ℕ). c ≤ moments x.disk) (sym same.synced.created) safe.began;
         kept = disk_stays s h.state.shown p h.state.past safe.held.kept.stored.no_log held.kept.stored.no_log safe.held.explained same x.run x.disk safe.kept;
       } in
@@ -225,13 +227,14 @@ module _ (x : OnDisk) (safe : IsKeptSafe x) where
     start_safe =
         let kept : IsKeptSafe (record { held = h; disk = x.disk; run = Some run }) = record {
           held = held;
+          same_bytes = same_bytes;
           began = subst (λ (c : ℕ). c ≤ moments x.disk) (sym same.created) safe.began;
           kept = sync_kept pool.laid;
         } in
         record { step = made; kept = kept; were = stood_safe x.disk p q same.acknowledged (kept_safe (record { held = h; disk = x.disk; run = Some run }) kept); own = stood_own (record { held = h; disk = x.disk; run = Some run }) p same.acknowledged kept }
 
   -- a call of a sync
-  module _ (h : Held) (after : Disk) (run next : SyncRun) (is : x.run ≡ Some run) (tries : TriesNext run next x.disk after) (held : IsHeld h) where
+  module _ (h : Held) (after : Disk) (same_bytes : h.now ≡ bytes_of after.now) (run next : SyncRun) (is : x.run ≡ Some run) (tries : TriesNext run next x.disk after) (held : IsHeld h) where
     before : IsSyncOnDisk run x.disk s p
     before = subst (λ (o : Option SyncRun). IsDiskKept o x.disk s p) is safe.kept
 
@@ -254,6 +257,7 @@ module _ (x : OnDisk) (safe : IsKeptSafe x) where
           step = made;
           kept = record {
             held = held;
+            same_bytes = same_bytes;
             began = omega (arith, created, safe.began, later);
             kept = call_kept run next x.disk after s p safe.began before tries h.state.shown h.state.past safe.held.kept.stored.no_log held.kept.stored.no_log same left;
           };
@@ -272,6 +276,7 @@ module _ (x : OnDisk) (safe : IsKeptSafe x) where
           step = made;
           kept = record {
             held = held;
+            same_bytes = same_bytes;
             began = omega (arith, created, safe.began, later);
             kept = subst (λ (u : State). IsPoolDisk (disk_size after) after.now u.shown u.past) (sym over.4)
                 (last_call_kept run next x.disk after s p safe.began before tries over.0 over.1 over.2 over.3 safe.held.kept.stored.no_log header safe.held.explained all);

@@ -28,14 +28,14 @@ returns-in-Ok-initialize-clause-written g c = λ keeps.
     (subst (λ (l : List ℕ). IsLabelled c.in-Ok.geometry l c.args.guid c.args.moment (bytes_of (g.D.SectorDevice.disk c.initialize.new.device).now)) c.in-Some.ensures.name.0 (c.in-Ok-initialize.ensures.labels keeps)))
 
 pub returns-in-Ok-initialize-clause-own : goal.returns-in-Ok-initialize-clause-own
-returns-in-Ok-initialize-clause-own g c = λ keeps earlier.
+returns-in-Ok-initialize-clause-own g c = λ keeps.
     let now = g.D.SectorDevice.disk c.initialize.new.device in
     let size : ℕ = c.in-Ok.geometry in
     let t : ℕ = moments (g.D.SectorDevice.disk c.args.device) in
     own_from size t c.args.guid c.args.moment c.args.name.now now (subst IsGeometry (sym c.in-Ok.ensures.size) (c.in-Ok.ensures.ok.0 refl))
     (g.met.D.SectorDevice.sized keeps c.initialize.new.device ∙ c.initialize.ensures.calls.size ∙ sym c.sectors.ensures.size ∙ sym c.in-Ok.ensures.size) (c.in-Ok-initialize.ensures.settled keeps)
     (subst (λ (l : List ℕ). IsLabelled size l c.args.guid c.args.moment (bytes_of now.now)) c.in-Some.ensures.name.0 (c.in-Ok-initialize.ensures.labels keeps))
-    (subst (λ (l : List ℕ). IsFirstDisk size t (first_view l c.args.guid c.args.moment size) now) c.in-Some.ensures.name.0 (c.in-Ok-initialize.ensures.handed keeps earlier))
+    (subst (λ (l : List ℕ). IsFirstDisk size t (first_view l c.args.guid c.args.moment size) now) c.in-Some.ensures.name.0 (c.in-Ok-initialize.ensures.handed keeps (c.sectors.ensures.earlier keeps)))
 
 pub returns-in-Ok-initialize-clause-outside : goal.returns-in-Ok-initialize-clause-outside
 returns-in-Ok-initialize-clause-outside g c = λ keeps.

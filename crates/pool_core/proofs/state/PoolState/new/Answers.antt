@@ -1,4 +1,4 @@
-use Rattle.std.proofs.Common.{◌≡◌, ◌∙◌, ℕ, List, ap, sym}
+use Rattle.std.proofs.Common.{◌≡◌, ◌∙◌, ℕ, List, ap, refl, sym}
 use Rattle.std.proofs.Math.Logic.{∥∥₁_elim, ∥∥₁_map, ∥∥₁_prop}
 use Rattle.base.specs.disk.Disk.{bytes_of}
 use Rattle.base.specs.formats.Geometry.{block_count}
@@ -30,4 +30,4 @@ pub returns-clause-safe : goal.returns-clause-safe
 returns-clause-safe g c = λ created held began kept.
     let shown : Shown = pool_shown c.new.result in
     let none : run_in c.new.result ≡ None = ap (λ (o : Option RunningSync). option_map (λ (r : RunningSync). r.run) o) c.new.ensures.idle in
-    record { held = held created; began = began; kept = idle_kept (run_in c.new.result) (g.D.SectorDevice.disk c.args.imported.device) shown (first_past shown created) none kept }
+    record { held = held created; same_bytes = refl; began = began; kept = idle_kept (run_in c.new.result) (g.D.SectorDevice.disk c.args.imported.device) shown (first_past shown created) none kept }
