@@ -468,16 +468,12 @@ module _ {T V : Type 0} (explains : V → T → Type 0) (grows : V → V → Typ
       subst (λ (p : std.Option T). IfSome p (λ x. (h : V) × explains h x × grows first h)) (sym same_value) (r.truth, x.2, line_grows grows same onward first r.turns r.truth r.line)
 
   -- and one that is the only seat closes a free table
-  pub only_closes : (id : ℕ) (d : Sight V) (v : V) (ts us : List (Turn V)) (k : ℕ) (ws : List ℕ) (xs : List (std.Option T)) (n : ℕ) → d ≡ away v ts us k → Final (Seen (Kept explains grows first first_kin) id d) ws xs
+  pub only_closes : ((a : V) → grows a a) → ((a b c : V) → grows a b → grows b c → grows a c) → (id : ℕ) (d : Sight V) (v : V) (ts us : List (Turn V)) (k : ℕ) (ws : List ℕ) (xs : List (std.Option T)) (n : ℕ) → d ≡ away v ts us k → Final (Seen (Kept explains grows first first_kin) id d) ws xs
       → get_elem? ws 0 ≡ some n → n % 2 ≡ 1 → d.kin ≡ 0 → ⊥
-  only_closes id d v ts us k ws xs n is f at odd nk =
-      let r : Kept explains grows first first_kin f.0 = f.1.0 in
+  only_closes same onward id d v ts us k ws xs n is f at odd nk =
       let word : get_or f.0.words 0 0 ≡ n = ap (λ (l : List ℕ). get_or l 0 0) f.2 ∙ at_first ws n at in
-      let o = r.out (ap (λ (z : ℕ). z % 2) word ∙ odd) in
-      let same : r.holder ≡ id = r.alone id r.holder d o.0 f.1.1 o.1 nk in
-      let here : get_elem? f.0.views id ≡ some o.0 = subst (λ (z : ℕ). get_elem? f.0.views z ≡ some o.0) same o.1 in
-      let e : d ≡ o.0 = some-injective d o.0 (sym f.1.1 ∙ here) in
-      let stage : Away ≡ Holding = ap (λ (x : Sight V). x.stage) (sym is) ∙ ap (λ (x : Sight V). x.stage) e ∙ o.2 in absurd (cc)
+      let here : get_elem? f.0.views id ≡ some (away v ts us k) = f.1.1 ∙ ap (λ (x : Sight V). some x) is in
+      not_alone grows same onward explains first first_kin f.0 f.1.0 id v ts us k here (ap (λ (z : ℕ). z % 2) word ∙ odd) (ap (λ (x : Sight V). x.kin) (sym is) ∙ nk)
 
   -- a free table has its value
   pub closes_full : (id : ℕ) (d : Sight V) (ws : List ℕ) (xs : List (std.Option T)) (n : ℕ) (o : std.Option T) → Final (Seen (Kept explains grows first first_kin) id d) ws xs

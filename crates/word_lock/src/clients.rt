@@ -72,7 +72,10 @@ fn a_turn_is_from_what_was_taken_to_what_was_left<W: Wait>(
 }
 
 // One turn of the seat itself, for which no other seat had one. The only seat of a lock always gets it and finds what it left.
-fn the_only_seat_finds_what_it_left(seat: &mut Seat<u8, Rising>, lock: &Lock) -> Option<u8>
+fn a_try_is_one_turn_and_the_only_seat_finds_what_it_left(
+    seat: &mut Seat<u8, Rising>,
+    lock: &Lock,
+) -> Option<u8>
     requires own { seat_table seat.old ≡ lock_table lock.now }
     requires idle { IsIdle seat.old }
     ensures same { (seat_table seat.new ≡ seat_table seat.old) × IsIdle seat.new }
@@ -200,6 +203,6 @@ fn a_seat_from_a_source_starts_anew(
     ensures number { (kin result.1 ≡ 1) × (taken result.1 ≡ []) }
 {
     let mut seat = source.seat(lock);
-    let found = the_only_seat_finds_what_it_left(&mut seat, lock);
+    let found = a_try_is_one_turn_and_the_only_seat_finds_what_it_left(&mut seat, lock);
     (found, seat)
 }
