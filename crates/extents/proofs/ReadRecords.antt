@@ -62,6 +62,11 @@ or_true : (b : Bool) → (b || true) ≡ true
 or_true true = refl
 or_true false = refl
 
+seen_alone : (b shows : Bool) → (b || not shows) ≡ true → shows ≡ true → b ≡ true
+seen_alone true shows either is = refl
+seen_alone false true either is = either
+seen_alone false false either is = is
+
 -- Bytes of the record that were written, or that don't show, hide those below.
 module _ (basis : Basis) (written : ℕ → Option ℕ) (index start shown count size : ℕ)
     (tells : (k : ℕ) → k < 4032 → nat_lt k shown ≡ is_shown basis (4032 * index + k)) (is_count : count ≡ min (shown - start) size) (within : start + size ≤ 4032) where
@@ -75,6 +80,14 @@ module _ (basis : Basis) (written : ℕ → Option ℕ) (index start shown count
           → (is_some (written (4032 * index + (start + k))) || not (is_shown basis (4032 * index + (start + k)))) ≡ true
       go (inl l) shows = rw (covers k l) refl
       go (inr g) shows = rw (sym shows, le-ltb k count g) (or_true (is_some (written (4032 * index + (start + k)))))
+
+  -- and where those below are hidden, each byte that shows was written
+  pub written_where_hidden : HidesBelow (record { basis = basis; written = written }) (4032 * index + start) size → (k : ℕ) → k < count → is_some (written (4032 * index + (start + k))) ≡ true
+  written_where_hidden hides k low =
+      let inside : k < size = omega (arith, is_count, low) in
+      let same : 4032 * index + start + k ≡ 4032 * index + (start + k) = omega arith in
+      let shows : is_shown basis (4032 * index + (start + k)) ≡ true = sym (tells (start + k) (omega (arith, within, inside))) ∙ sym (count_shown shown start size count k is_count inside) ∙ lt-ltb k count low in
+      seen_alone _ _ (subst (λ (j : ℕ). (is_some (written j) || not (is_shown basis j)) ≡ true) same (hides k inside)) shows
 
   pub shows_first : 0 < count → is_shown basis (4032 * index + start) ≡ true
   shows_first some = sym (tells start (omega arith)) ∙ lt-ltb start shown (omega arith)

@@ -1,5 +1,5 @@
 -- The patches of a group, by the numbers of objects.
-use Rattle.std.specs.Prelude.{ℕ, ◌≡◌, ◌≢◌, List, length, All, Option, Some, IfSome, IsSome, IsSomeAnd, nat_eq}
+use Rattle.std.specs.Prelude.{ℕ, ◌≡◌, ◌≢◌, ◌<◌, List, length, All, Option, Some, IfSome, IsSome, IsSomeAnd, nat_eq}
 use Rattle.std.specs.Option.{option_map_or}
 use Rattle.std.specs.HashMap.{get}
 use Rattle.base.specs.declared.operation.Op.{Op}
@@ -7,7 +7,7 @@ use Rattle.base.specs.declared.operation.Op.TheVariants.{Create, Remove, Write, 
 use Rattle.extents.specs.declared.object.ObjectPatch.{ObjectPatch}
 use Rattle.extents.specs.declared.extents.Extents.{Extents}
 use Rattle.extents.specs.Patches.{Patch, Patches, no_patch, with_ops}
-use Rattle.extents.specs.Objects.{HasRoomFrom, KeepsRoom, patch_of}
+use Rattle.extents.specs.Objects.{HasRoomFrom, HidesBelow, KeepsRoom, patch_of}
 
 -- the entry of an object
 abbrev pub entry_at : Extents → ℕ → Option ObjectPatch
@@ -66,3 +66,7 @@ CanStillApply old new = (ops : List Op) → CanApplyAll old ops → CanApplyAll 
 -- the new changes are those of before with these operations
 abbrev pub AppliesOps : List Op → Extents → Extents → Type 0
 AppliesOps ops old new = (n : ℕ) → IsSame (patches_of new n) (with_ops ops (patches_of old) n)
+
+-- there are bytes, so many from an offset of object n on, and none of the object below is seen among them
+abbrev pub SeesNone : Extents → ℕ → ℕ → ℕ → Type 0
+SeesNone e n offset count = (0 < count) × HidesBelow (patches_of e n) offset count

@@ -4,8 +4,12 @@
 //! seen: so a read of bytes that the group wrote asks nothing below. Groups that follow one another are laid one over the
 //! other, the oldest first, and a read comes to the newest first.
 
+ghost use Rattle.std.specs.Prelude.{◌≡◌, ◌<◌, ◌≤◌, ◌+◌, ◌*◌, IfErr, IsOk, OnOk, is_some, length, true};
+ghost use Rattle.std.specs.FinMap as finite;
+ghost use Rattle.base.specs.disk.Calls.{counted};
+ghost use Rattle.object_maps.specs.Sources.{AreBytesFrom, object_bytes};
 ghost use Rattle.extents.specs.Patches.{laid_over};
-ghost use Rattle.extents.specs.Tables.{patches_of};
+ghost use Rattle.extents.specs.Tables.{SeesNone, patches_of};
 
 use crate::extents::Extents;
 use base::{OBJECT_COUNT, ObjectId, PoolError};
@@ -19,8 +23,6 @@ pub struct Laid<'a, O> {
 }
 
 impl<'a, O: ObjectSource> Laid<'a, O> {
-    ghost use Rattle.std.specs.Prelude.{◌≡◌};
-
     /// The changes laid over a source. It takes no memory.
     pub fn new(extents: &'a Extents, below: O) -> Self
         ensures { ⟦<Laid<'a, O> as ObjectSource>⟧.objects result
@@ -35,6 +37,8 @@ impl<'a, O: ObjectSource> ObjectSource for Laid<'a, O> {
     ghost objects = { λ l. laid_over (patches_of l.extents.now) (O.objects l.below) };
 
     ghost may_refuse = { O.may_refuse };
+
+    ghost refused = { λ l. O.refused l.below };
 
     ghost takes_no_blocks = { O.takes_no_blocks };
 
@@ -52,7 +56,23 @@ impl<'a, O: ObjectSource> ObjectSource for Laid<'a, O> {
         index: usize,
         start: usize,
         into: &mut [u8],
-    ) -> Result<(), PoolError> {
+    ) -> Result<(), PoolError>
+        requires there { is_some (finite.get
+            (⟦<Laid<'a, O> as ObjectSource>⟧.objects self.old) id.0) ≡ true }
+        requires index { index < 84 }
+        requires within { start + length into.old ≤ 4032 }
+        ensures kept { ⟦<Laid<'a, O> as ObjectSource>⟧.objects self.new
+            ≡ ⟦<Laid<'a, O> as ObjectSource>⟧.objects self.old }
+        ensures size { length into.new ≡ length into.old }
+        ensures part { OnOk result (AreBytesFrom (4032 * index + start)
+            (object_bytes (⟦<Laid<'a, O> as ObjectSource>⟧.objects self.old) id.0) into.new) }
+        ensures refused { IfErr result O.may_refuse }
+        ensures counted { O.refused self.new.below ≡ counted result (O.refused self.old.below) }
+
+        // The source below is read only if some byte of it is seen.
+        ensures spared { SeesNone self.old.extents.now id.0 (4032 * index + start) (length into.old)
+            → IsOk result × (self.new.below ≡ self.old.below) }
+    {
         let Some(patch) = self.extents.patches.get(&id.0) else {
             return self.below.read_present(id, index, start, into);
         };

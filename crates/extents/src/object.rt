@@ -1,6 +1,6 @@
 //! What a group made of one object.
 
-ghost use Rattle.std.specs.Prelude.{ℕ, ◌≡◌, ◌<◌, ◌≤◌, ◌+◌, ◌*◌, None, false, true, cond, get_or, nat_lt, IfOk, OnOk, length, vec_len};
+ghost use Rattle.std.specs.Prelude.{ℕ, ◌≡◌, ◌<◌, ◌≤◌, ◌+◌, ◌*◌, ◌↔◌, None, false, true, cond, get_or, nat_lt, IfOk, IsTrue, OnOk, length, vec_len};
 ghost use Rattle.extents.specs.Patches.{IsSized, IsSized-prop, least_length};
 ghost use Rattle.extents.specs.Records.{patch_with};
 
@@ -211,8 +211,8 @@ impl ObjectPatch {
     pub(crate) fn hides(&self, index: usize, start: usize, count: usize) -> bool
         requires index { index < 84 }
         requires within { start + count ≤ 4032 }
-        ensures hidden { result ≡ true
-            → HidesBelow (patch_of self.now) (4032 * index + start) count }
+        ensures hidden { IsTrue result
+            ↔ HidesBelow (patch_of self.now) (4032 * index + start) count }
         ensures shown { result ≡ false → is_shown self.now.basis (4032 * index + start) ≡ true }
     {
         let shown = self.basis.shown_in(index).saturating_sub(start);

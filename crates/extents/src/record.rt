@@ -1,6 +1,6 @@
 //! What a group wrote into one record of an object.
 
-ghost use Rattle.std.specs.Prelude.{ℕ, ◌≡◌, ◌<◌, ◌≤◌, ◌+◌, true, false, All, None, IfOk, OnOk, get_or, is_some, length, replicate, unwrap_or, vec_len};
+ghost use Rattle.std.specs.Prelude.{ℕ, ◌≡◌, ◌<◌, ◌≤◌, ◌+◌, ◌↔◌, true, false, All, None, IfOk, IsTrue, OnOk, get_or, is_some, length, replicate, unwrap_or, vec_len};
 ghost use Rattle.base.specs.disk.Disk.{put};
 ghost use Rattle.extents.specs.Marks.{is_mark, is_room, laid_byte};
 
@@ -79,8 +79,8 @@ impl RecordPatch {
     /// Whether each of so many bytes from the offset `start` of the record on was written.
     pub fn covers(&self, start: usize, count: usize) -> bool
         requires { start + count ≤ 4032 }
-        ensures written { result ≡ true → (k : ℕ) → k < count
-            → is_some (bytes_written self.now (start + k)) ≡ true }
+        ensures written { IsTrue result
+            ↔ ((k : ℕ) → k < count → is_some (bytes_written self.now (start + k)) ≡ true) }
         ensures some { result ≡ false → 0 < count }
     {
         if self.mask.is_empty() {

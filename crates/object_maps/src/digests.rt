@@ -2,6 +2,7 @@
 
 ghost use Rattle.std.specs.Prelude.{◌≡◌, ◌≤◌, length, OnOk, IfOk, IfErr};
 ghost use Rattle.std.specs.FinMap as finite;
+ghost use Rattle.base.specs.disk.Calls.{counted};
 ghost use Rattle.base.specs.formats.Digest.{digest_of};
 ghost use Rattle.base.specs.formats.Limits.{max_length};
 ghost use Rattle.object_maps.specs.Digests.{Feeds, text_at};
@@ -20,6 +21,7 @@ pub fn digest<O: ObjectSource>(name: &PoolName, objects: &mut O) -> Result<[u8; 
     ensures kept { O.objects objects.new ≡ O.objects objects.old }
     ensures digest { IfOk result (λ d. d ≡ digest_of (with_name (O.objects objects.old) name.now)) }
     ensures refused { IfErr result O.may_refuse }
+    ensures counted { O.refused objects.new ≡ counted result (O.refused objects.old) }
 {
     let mut hasher = Sha256::new();
     let name = name.as_slice();
@@ -56,6 +58,7 @@ fn feed_object<O: ObjectSource>(
     ensures kept { O.objects objects.new ≡ O.objects objects.old }
     ensures fed { OnOk result (Feeds (text_at (O.objects objects.old) id.0) hasher.old hasher.new) }
     ensures refused { IfErr result O.may_refuse }
+    ensures counted { O.refused objects.new ≡ counted result (O.refused objects.old) }
 {
     let Some(length) = objects.length(id) else {
         return Ok(());
@@ -78,6 +81,7 @@ fn feed_bytes<O: ObjectSource>(
     ensures fed { OnOk result
         (Feeds (object_bytes (O.objects objects.old) id.0) hasher.old hasher.new) }
     ensures refused { IfErr result O.may_refuse }
+    ensures counted { O.refused objects.new ≡ counted result (O.refused objects.old) }
 {
     let mut record = [0; RECORD_SIZE];
     for index in 0..size.div_ceil(RECORD_SIZE) {

@@ -2,6 +2,7 @@
 
 ghost use Rattle.std.specs.Prelude.{◌≡◌, ◌+◌, ◌≤◌, ◌⊎◌, length, unwrap_or, OnOk, IfOk, IfErr};
 ghost use Rattle.base.specs.declared.error.PoolError.TheVariants as error;
+ghost use Rattle.base.specs.disk.Calls.{counted};
 ghost use Rattle.base.specs.formats.Fields.{part};
 ghost use Rattle.base.specs.formats.Limits.{max_length};
 ghost use Rattle.object_maps.specs.Sources.{object_bytes, object_length, range_in};
@@ -23,6 +24,7 @@ pub fn read_range<O: ObjectSource>(
     ensures kept { O.objects objects.new ≡ O.objects objects.old }
     ensures bytes { IfOk result (λ bytes. bytes ≡ range_in (O.objects objects.old) id range) }
     ensures refused { IfErr result (λ e. (e ≡ error.NoMemory) ⊎ O.may_refuse e) }
+    ensures counted { O.refused objects.new ≡ counted result (O.refused objects.old) }
 {
     let length = objects.length(id).unwrap_or(0);
     read_range_below(objects, alloc, id, range, length)
@@ -42,6 +44,7 @@ pub fn read_range_below<O: ObjectSource>(
     ensures kept { O.objects objects.new ≡ O.objects objects.old }
     ensures bytes { IfOk result (λ bytes. bytes ≡ range_in (O.objects objects.old) id range) }
     ensures refused { IfErr result (λ e. (e ≡ error.NoMemory) ⊎ O.may_refuse e) }
+    ensures counted { O.refused objects.new ≡ counted result (O.refused objects.old) }
 {
     let low = range.low.min(length) as usize;
     let high = range.high.min(length) as usize;
@@ -65,6 +68,7 @@ fn read_bytes<O: ObjectSource>(
     ensures bytes { OnOk result (into.new
         ≡ part (object_bytes (O.objects objects.old) id.0) low (length into.old)) }
     ensures refused { IfErr result O.may_refuse }
+    ensures counted { O.refused objects.new ≡ counted result (O.refused objects.old) }
 {
     let mut done = 0;
     while done < into.len() {

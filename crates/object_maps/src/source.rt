@@ -9,6 +9,8 @@ ghost use Rattle.std.specs.FinMap as finite;
 ghost use Rattle.std.specs.FinMap.{FinMap};
 ghost use Rattle.base.specs.declared.error.PoolError.{PoolError};
 ghost use Rattle.base.specs.declared.error.PoolError.TheVariants as error;
+ghost use Rattle.base.specs.declared.refused.RefusedCalls.{RefusedCalls};
+ghost use Rattle.base.specs.disk.Calls.{counted};
 ghost use Rattle.object_maps.specs.ContentsShown.{contents_of};
 ghost use Rattle.object_maps.specs.Sources.{AreBytesFrom, object_bytes, object_length, object_record};
 
@@ -22,6 +24,9 @@ pub trait ObjectSource {
 
     /// Why a read may be refused.
     ghost may_refuse: { PoolError → Type 0 };
+
+    /// The calls of a device that its reads were refused.
+    ghost refused: { Self → RefusedCalls };
 
     /// The length of an object in bytes, if it is there. It takes no memory.
     fn length(&self, id: ObjectId) -> Option<u64>
@@ -50,7 +55,8 @@ pub trait ObjectSource {
         ensures size { length into.new ≡ length into.old }
         ensures part { OnOk result (AreBytesFrom (4032 * index + start)
             (object_bytes (objects self.old) id.0) into.new) }
-        ensures refused { IfErr result may_refuse };
+        ensures refused { IfErr result may_refuse }
+        ensures counted { refused self.new ≡ counted result (refused self.old) };
 
     /// Reads bytes of a record of an object, from the offset `start` in it on, as many as `into` has, with zeros behind the
     /// object's end. An object that is not there has zeros. Where it is refused `into` may hold anything.
@@ -68,6 +74,7 @@ pub trait ObjectSource {
         ensures part { OnOk result (AreBytesFrom (4032 * index + start)
             (object_bytes (objects self.old) id.0) into.new) }
         ensures refused { IfErr result may_refuse }
+        ensures counted { refused self.new ≡ counted result (refused self.old) }
     {
         if !self.has(id) {
             into.fill(0);
@@ -85,6 +92,7 @@ pub trait ObjectSource {
         ensures size { length into.new ≡ 4032 }
         ensures record { OnOk result (into.new ≡ object_record (objects self.old) id.0 index) }
         ensures refused { IfErr result may_refuse }
+        ensures counted { refused self.new ≡ counted result (refused self.old) }
     {
         self.read_part(id, index, 0, into)
     }
@@ -98,6 +106,8 @@ impl ObjectSource for &Contents {
     ghost objects = { λ c. (contents_of c.now).objects };
 
     ghost may_refuse = { λ _. ⊥ };
+
+    ghost refused = { λ _. record { reads = 0; writes = 0; flushes = 0 } };
 
     ghost takes_no_blocks = { λ refused. refused };
 

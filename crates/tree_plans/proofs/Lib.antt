@@ -7,5 +7,6 @@ pub mod Marked
 pub mod Uses
 pub mod Order
 pub mod Room
+pub mod Once
 mod Parts
 pub mod Promises

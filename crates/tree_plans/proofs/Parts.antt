@@ -18,7 +18,7 @@ use Rattle.tree_plans.specs.declared.planner.PlannedBlock.{PlannedBlock}
 use Rattle.tree_plans.specs.declared.planner.Planner.{Planner}
 use Rattle.tree_plans.specs.Order.{Adds, address_if}
 use Rattle.tree_plans.specs.Parts.{ClearsPlace, ExtendsPlan, PlansDirectory, PlansIndirect, PlansRecord, PlansRoot, TakesBlock, blocks_of, directory_before, maps_before}
-use Rattle.tree_plans.specs.Plans.{FreesOnly, HasBecome, PlaceFrees, indirect_state, new_block, place_of, progress_of, state_above}
+use Rattle.tree_plans.specs.Plans.{FreesOnce, FreesOnly, HasBecome, IsOf, IsOfPlace, PlaceFrees, indirect_state, new_block, place_of, progress_of, state_above}
 use Rattle.tree_plans.specs.Walks.{AreEntriesWritten, has_object, has_objects, is_any_touched, root_state}
 use Rattle.tree_plans.specs.declared.changes.ObjectChanges.{ObjectChanges}
 use Rattle.tree_plans.specs.declared.walk.PlanSource.{PlanSource}
@@ -37,6 +37,7 @@ pub record IsDone (free : FreeSpace) (place : BlockPlace) (state : RecordState) 
   pub goes : ExtendsPlan free old new
   pub planned : HasBecome (progress_of new) (place_of place) state was pointer Fits
   pub frees : PlaceFrees old.freed.items new.freed.items state was
+  pub once : FreesOnce old.freed.items new.freed.items (IsOfPlace state was)
   pub uses : UsesOnly (blocks_of old) (blocks_of new) pointer.address
   pub adds : Adds (blocks_of old) (blocks_of new) (address_if (is_dirty state) pointer)
 
@@ -46,6 +47,7 @@ kept free place state was Fits is planner = record {
   goes = goes_nowhere _ _;
   planned = rw is refl;
   frees = λ address among. inl among;
+  once = λ fresh distinct. distinct;
   uses = λ address taken. inl taken;
   adds = adds_not _ _ was (rw is refl);
 }
@@ -59,6 +61,7 @@ cleared free place state was Fits is old new pointer done =
       goes = done.goes free;
       planned = rw is done.cleared;
       frees = frees_weaker _ _ _ state (rw is refl) done.frees;
+      once = λ fresh. done.once (λ address of. fresh address (rw is refl, of));
       uses = λ address taken. inl (rw same at taken);
       adds = rw (is, same) (adds_none (blocks_of old));
     }
@@ -70,6 +73,7 @@ taken free place state was Fits payload is fits old new pointer done = record {
   goes = done.goes;
   planned = rw is (padded payload, done.written, fits);
   frees = frees_weaker _ _ _ state (rw is refl) done.frees;
+  once = λ fresh. done.once (λ address of. fresh address (rw is refl, of));
   uses = done.uses;
   adds = adds_if _ _ _ pointer (rw is refl) done.adds;
 }
@@ -77,16 +81,16 @@ taken free place state was Fits payload is fits old new pointer done = record {
 -- a record of an object
 pub record_done : (free : FreeSpace) (place : RecordPlace) (bytes : List ℕ) (was : Pointer) (state : RecordState) (old new : Planner) (pointer : Pointer)
     → IsDone free (Data place.id place.index) state was (λ payload. payload ≡ padded_record place.index bytes) old new pointer → PlansRecord free place bytes was state old new pointer
-record_done free place bytes was state old new pointer done = record { goes = done.goes; planned = done.planned; frees = done.frees; uses = done.uses; adds = done.adds }
+record_done free place bytes was state old new pointer done = record { goes = done.goes; planned = done.planned; frees = done.frees; once = done.once; uses = done.uses; adds = done.adds }
 
 -- an indirect block
 abbrev pub FitsRecords : List Pointer → List ℕ → Type 0
 FitsRecords records payload = (r : ℕ) → r < 84 → pointer_in payload r ≡ slice_index_or records r no_pointer
 
 indirect_done : (free : FreeSpace) (id : ObjectId) (records : List Pointer) (was : Pointer) (is_changed : Bool) (old new : Planner) (pointer : Pointer)
-    → IsDone free (Indirect id) (indirect_state is_changed records) was (FitsRecords records) old new pointer → FreesOnly old.freed.items new.freed.items was
+    → IsDone free (Indirect id) (indirect_state is_changed records) was (FitsRecords records) old new pointer → FreesOnly old.freed.items new.freed.items was → FreesOnce old.freed.items new.freed.items (IsOf was)
     → PlansIndirect free id records was is_changed old new pointer
-indirect_done free id records was is_changed old new pointer done only = record { goes = done.goes; planned = done.planned; frees = only; uses = done.uses; adds = done.adds }
+indirect_done free id records was is_changed old new pointer done only once = record { goes = done.goes; planned = done.planned; frees = only; once = once; uses = done.uses; adds = done.adds }
 
 state_if : (b : Bool) (s t u : RecordState) → ((b ≡ true) × (s ≡ u)) ⊎ ((b ≡ false) × (t ≡ u)) → (if b then s else t) ≡ u
 state_if b s t u (inl h) = rw (h.0, h.1) refl
@@ -95,7 +99,7 @@ state_if b s t u (inr h) = rw (h.0, h.1) refl
 pub indirect_cleared : (free : FreeSpace) (id : ObjectId) (records : List Pointer) (was : Pointer) (is_changed : Bool) (old new : Planner) (pointer : Pointer) → (is_changed && list_any has_address records) ≡ false
     → ClearsPlace was old new pointer → PlansIndirect free id records was is_changed old new pointer
 indirect_cleared free id records was is_changed old new pointer no_block done =
-    indirect_done free id records was is_changed old new pointer (cleared _ (Indirect id) _ was (FitsRecords records) (state_if _ Dirty Hole Hole (inr (no_block, refl))) old new pointer done) done.frees
+    indirect_done free id records was is_changed old new pointer (cleared _ (Indirect id) _ was (FitsRecords records) (state_if _ Dirty Hole Hole (inr (no_block, refl))) old new pointer done) done.frees done.once
 
 -- the state of a place above the records, as it is computed
 pub state_told : (touched left found : Bool) (result state : RecordState) → result ≡ state_above touched found → found ≡ left → result ≡ state → state_above touched left ≡ state
@@ -106,7 +110,7 @@ pub directory_done : (source : PlanSource) (after : FinMap nat_cmp (List ℕ)) (
     → IsDone source.free.now (Directory index) (state_above touched (has_object after index)) was (AreEntriesWritten (maps_before source) maps.entries after index 63) old new pointer
     → PlansDirectory source after maps index touched old new pointer
 directory_done source after maps index touched was old new pointer is done =
-    record { goes = done.goes; planned = rw (← is) done.planned; frees = rw (← is) done.frees; uses = done.uses; adds = done.adds }
+    record { goes = done.goes; planned = rw (← is) done.planned; frees = rw (← is) done.frees; once = rw (← is) done.once; uses = done.uses; adds = done.adds }
 
 -- the root
 pub root_told : (objects : List (ObjectId × ObjectChanges)) (after : FinMap nat_cmp (List ℕ)) (empty found : Bool) (result state : RecordState) → result ≡ state_above (not empty) found
@@ -117,4 +121,4 @@ root_told objects after empty found result state computed none same is =
 pub root_done : (source : PlanSource) (after : FinMap nat_cmp (List ℕ)) (objects : BTreeMap ObjectId ObjectChanges) (directories : List Pointer) (old new : Planner) (pointer : Pointer)
     → IsDone source.free.now Root (root_state objects.entries after) source.tree.now.root (FitsRecords directories) old new pointer
     → PlansRoot source after objects directories old new pointer
-root_done source after objects directories old new pointer done = record { goes = done.goes; planned = done.planned; frees = done.frees; uses = done.uses; adds = done.adds }
+root_done source after objects directories old new pointer done = record { goes = done.goes; planned = done.planned; frees = done.frees; once = done.once; uses = done.uses; adds = done.adds }

@@ -8,6 +8,8 @@ use Rattle.std.specs.FinMap.{FinMap}
 use Rattle.std.proofs.Math.Bool.{and-false}
 use Rattle.base.specs.declared.error.PoolError.{PoolError}
 use Rattle.base.specs.declared.error.PoolError.TheVariants.{NoMemory, NoSpace}
+use Rattle.base.specs.declared.refused.RefusedCalls.{RefusedCalls}
+use Rattle.base.specs.disk.Calls.{counted, with_refusal}
 use Rattle.base.specs.declared.names.ObjectId.{ObjectId}
 use Rattle.base.specs.declared.operation.Op.{Op}
 use Rattle.base.specs.declared.operation.Op.TheVariants.{SetLength}
@@ -154,3 +156,10 @@ pub only_memory : (MayRefuse : PoolError → Type 0) (e : PoolError) (free place
 only_memory MayRefuse e free places room full (inl (inl no_space)) never = let less : free < places = full no_space in absurd (omega (arith, less, room))
 only_memory MayRefuse e free places room full (inl (inr no_memory)) never = no_memory
 only_memory MayRefuse e free places room full (inr read) never = absurd (never e read)
+
+-- a refusal for want of memory leaves the count of the calls that a device refused
+pub memory_is_not_counted : {T : Type 0} (result : Result T PoolError) (old new : RefusedCalls) → new ≡ counted result old → IfErr result (λ e. e ≡ NoMemory → new ≡ old)
+memory_is_not_counted (Ok x) old new is = tt
+memory_is_not_counted (Err e) old new is = λ no_memory.
+    let stays : with_refusal e old ≡ old = rw no_memory refl in
+    is ∙ stays

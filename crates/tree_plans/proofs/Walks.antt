@@ -30,7 +30,7 @@ push_cases [] a b (suc i) e = absurd (cc)
 push_cases (x ∷ xs) a b zero e = inl e
 push_cases (x ∷ xs) a b (suc i) e = push_cases xs a b i e
 
-some_either : {A : Type 0} (b : Bool) (a : A) (o : Option A) → (b ≡ true) ⊎ (is_some o ≡ true) → is_some (cond b (Some a) o) ≡ true
+pub some_either : {A : Type 0} (b : Bool) (a : A) (o : Option A) → (b ≡ true) ⊎ (is_some o ≡ true) → is_some (cond b (Some a) o) ≡ true
 some_either true a o e = refl
 some_either false a o (inl e) = absurd (cc)
 some_either false a o (inr e) = e

@@ -1,6 +1,7 @@
 -- What each part of a walk has done, from the plan before it (old) to the plan after it (new).
-use Rattle.std.specs.Prelude.{ℕ, ◌≡◌, ◌<◌, ◌==◌, ◌++◌, ◌∷◌, [], Bool, false, List, map, slice_index_or, Option, Some, None, unwrap_or, vec_len}
+use Rattle.std.specs.Prelude.{ℕ, ◌≡◌, ◌<◌, ◌==◌, ◌++◌, ◌∷◌, [], Bool, false, nat_eq, List, map, slice_index_or, Option, Some, None, unwrap_or, vec_len}
 use Rattle.std.specs.BTreeMap.{BTreeMap}
+use Rattle.std.specs.List.{IsDistinct}
 use Rattle.std.specs.Ordering.{nat_cmp}
 use Rattle.std.specs.FinMap.{FinMap}
 use Rattle.base.specs.declared.error.PoolError.{PoolError}
@@ -25,8 +26,8 @@ use Rattle.tree_plans.specs.declared.walk.NewTree.{NewTree}
 use Rattle.tree_plans.specs.declared.walk.PlanSource.{PlanSource}
 use Rattle.tree_plans.specs.Pointers.{entry_of, planned_map, pointers_before, pointers_from, record_in}
 use Rattle.tree_plans.specs.Changes.{AreInRange, changes_of_group}
-use Rattle.tree_plans.specs.Plans.{AreRecordsPlanned, FreesOnly, Goes, LosesBlock, IsIndirectPlanned, IsObjectPlanned, IsRecordPlanned, IsWritten, ObjectFrees, PlaceFrees, RecordsFree, indirect_state, is_dirty_in, is_indirect_written_in, new_block, place_of, progress_of, state_above}
-use Rattle.tree_plans.specs.Walks.{AreDirectoriesPlanned, AreObjectsPlanned, DirectoriesFree, IsDirectoryPlanned, IsRootPlanned, IsWalked, ObjectsFree, is_directory_dirty, has_object, root_state}
+use Rattle.tree_plans.specs.Plans.{AreRecordsPlanned, AreApart, FreesOnce, FreesOnly, Goes, IsApart, IsOf, IsOfMap, IsOfPlace, IsOfRecord, LosesBlock, IsIndirectPlanned, IsObjectPlanned, IsRecordPlanned, IsWritten, ObjectFrees, PlaceFrees, RecordsFree, indirect_state, is_dirty_in, is_indirect_written_in, new_block, place_of, progress_of, state_above}
+use Rattle.tree_plans.specs.Walks.{AreDirectoriesPlanned, AreObjectsPlanned, DirectoriesFree, IsDirectoryPlanned, IsOfDirectory, IsOfObject, IsRootPlanned, IsWalked, ObjectsFree, is_directory_dirty, has_object, root_state}
 use Rattle.tree_plans.specs.Uses.{ObjectUses, ObjectsUse, PointersUse, UsesOnly}
 use Rattle.tree_plans.specs.Order.{Adds, AreInOrder, address_if, addresses_of, addresses_where, all_addresses, object_addresses}
 use Rattle.tree_plans.specs.Room.{Lacks}
@@ -59,6 +60,7 @@ pub record TakesBlock (free : FreeSpace) (place : BlockPlace) (payload : List �
   pub goes : ExtendsPlan free old new
   pub written : IsWritten (progress_of new) (place_of place) replaced pointer (padded payload)
   pub frees : FreesOnly old.freed.items new.freed.items replaced
+  pub once : FreesOnce old.freed.items new.freed.items (IsOf replaced)
   pub uses : UsesOnly (blocks_of old) (blocks_of new) pointer.address
   pub adds : Adds (blocks_of old) (blocks_of new) (pointer.address ∷ [])
 
@@ -67,6 +69,7 @@ pub record ClearsPlace (replaced : Pointer) (old new : Planner) (pointer : Point
   pub goes : (free : FreeSpace) → ExtendsPlan free old new
   pub cleared : LosesBlock (progress_of new) replaced pointer
   pub frees : FreesOnly old.freed.items new.freed.items replaced
+  pub once : FreesOnce old.freed.items new.freed.items (IsOf replaced)
   pub none_taken : new.blocks ≡ old.blocks
 
 -- a record of an object: it takes a block where it is dirty, and has none where it is a hole
@@ -74,6 +77,7 @@ pub record PlansRecord (free : FreeSpace) (place : RecordPlace) (bytes : List �
   pub goes : ExtendsPlan free old new
   pub planned : IsRecordPlanned (progress_of new) place.id.0 place.index bytes state was pointer
   pub frees : PlaceFrees old.freed.items new.freed.items state was
+  pub once : FreesOnce old.freed.items new.freed.items (IsOfPlace state was)
   pub uses : UsesOnly (blocks_of old) (blocks_of new) pointer.address
   pub adds : Adds (blocks_of old) (blocks_of new) (address_if (is_dirty state) pointer)
 
@@ -82,6 +86,7 @@ pub record PlansRecords (free : FreeSpace) (id : ObjectId) (bytes : List ℕ) (w
   pub goes : ExtendsPlan free old new
   pub planned : AreRecordsPlanned (progress_of new) id.0 bytes changes was pointer_count records
   pub frees : RecordsFree old.freed.items new.freed.items changes was pointer_count
+  pub once : IsApart was → FreesOnce old.freed.items new.freed.items (IsOfRecord changes was pointer_count)
   pub uses : PointersUse (blocks_of old) (blocks_of new) records pointer_count
   pub adds : Adds (blocks_of old) (blocks_of new) (addresses_where (is_dirty_in changes) (pointer_of_list records) pointer_count)
 
@@ -90,6 +95,7 @@ pub record PlansIndirect (free : FreeSpace) (id : ObjectId) (records : List Poin
   pub goes : ExtendsPlan free old new
   pub planned : IsIndirectPlanned (progress_of new) id.0 is_changed records was pointer
   pub frees : FreesOnly old.freed.items new.freed.items was
+  pub once : FreesOnce old.freed.items new.freed.items (IsOf was)
   pub uses : UsesOnly (blocks_of old) (blocks_of new) pointer.address
   pub adds : Adds (blocks_of old) (blocks_of new) (address_if (is_dirty (indirect_state is_changed records)) pointer)
 
@@ -98,6 +104,7 @@ pub record PlansObject (free : FreeSpace) (id : ObjectId) (object : Option (List
   pub goes : ExtendsPlan free old new
   pub planned : IsObjectPlanned (progress_of new) id.0 (unwrap_or object []) changes was map
   pub frees : ObjectFrees old.freed.items new.freed.items changes was
+  pub once : IsApart was → FreesOnce old.freed.items new.freed.items (IsOfMap changes was)
   pub uses : ObjectUses (blocks_of old) (blocks_of new) map
   pub adds : Adds (blocks_of old) (blocks_of new)
       (addresses_where (is_dirty_in changes) (record_in map) pointer_count ++ address_if (is_indirect_written_in changes was) map.indirect)
@@ -111,6 +118,11 @@ pub record GoesOver (source : PlanSource) (after : FinMap nat_cmp (List ℕ)) (i
   pub frees : (objects : List (ObjectId × ObjectChanges)) (first : List ℕ) → entry_of objects id.0 ≡ Some changes
       → ObjectsFree first old.freed.items (maps_before source) objects maps
       → ObjectsFree first new.freed.items (maps_before source) objects planned_maps
+  pub once : (objects : List (ObjectId × ObjectChanges)) (first : List ℕ) → entry_of objects id.0 ≡ Some changes → entry_of maps id.0 ≡ None
+      → AreApart (pointers_before source.tree.now)
+      → ObjectsFree first old.freed.items (maps_before source) objects maps
+      → FreesOnce first old.freed.items (IsOfObject (maps_before source) objects maps)
+      → FreesOnce first new.freed.items (IsOfObject (maps_before source) objects planned_maps)
   pub uses : (first : List NewBlock) → entry_of maps id.0 ≡ None → ObjectsUse first (blocks_of old) maps → ObjectsUse first (blocks_of new) planned_maps
   pub others : (n : ℕ) → (id.0 == n) ≡ false → entry_of planned_maps n ≡ entry_of maps n
   pub adds : (objects : List (ObjectId × ObjectChanges)) → entry_of objects id.0 ≡ Some changes → id.0 < object_count
@@ -121,6 +133,8 @@ pub record PlansObjects (source : PlanSource) (after : FinMap nat_cmp (List ℕ)
   pub goes : ExtendsPlan source.free.now old new
   pub planned : AreObjectsPlanned (progress_of new) (maps_before source) after objects.entries objects.entries maps.entries
   pub frees : ObjectsFree old.freed.items new.freed.items (maps_before source) objects.entries maps.entries
+  pub once : AreApart (pointers_before source.tree.now)
+      → FreesOnce old.freed.items new.freed.items (IsOfObject (maps_before source) objects.entries maps.entries)
   pub uses : ObjectsUse (blocks_of old) (blocks_of new) maps.entries
   pub adds : AreInRange objects.entries → Adds (blocks_of old) (blocks_of new) (all_addresses (group_in source after objects.entries) (planned_map (maps_before source) maps.entries) object_count)
 
@@ -130,6 +144,7 @@ pub record PlansDirectory (source : PlanSource) (after : FinMap nat_cmp (List �
   pub planned : IsDirectoryPlanned (progress_of new) (maps_before source) maps.entries after index
       (state_above touched (has_object after index)) (directory_before source index) pointer
   pub frees : PlaceFrees old.freed.items new.freed.items (state_above touched (has_object after index)) (directory_before source index)
+  pub once : FreesOnce old.freed.items new.freed.items (IsOfPlace (state_above touched (has_object after index)) (directory_before source index))
   pub uses : UsesOnly (blocks_of old) (blocks_of new) pointer.address
   pub adds : Adds (blocks_of old) (blocks_of new) (address_if (is_dirty (state_above touched (has_object after index))) pointer)
 
@@ -138,6 +153,8 @@ pub record PlansDirectories (source : PlanSource) (after : FinMap nat_cmp (List 
   pub goes : ExtendsPlan source.free.now old new
   pub planned : AreDirectoriesPlanned (progress_of new) (maps_before source) maps.entries after objects.entries source.tree.now.directories.items pointer_count directories
   pub frees : DirectoriesFree old.freed.items new.freed.items objects.entries after source.tree.now.directories.items pointer_count
+  pub once : AreApart (pointers_before source.tree.now)
+      → FreesOnce old.freed.items new.freed.items (IsOfDirectory objects.entries after source.tree.now.directories.items pointer_count)
   pub uses : PointersUse (blocks_of old) (blocks_of new) directories pointer_count
   pub adds : Adds (blocks_of old) (blocks_of new) (addresses_where (is_directory_dirty objects.entries after) (pointer_of_list directories) pointer_count)
 
@@ -146,6 +163,7 @@ pub record PlansRoot (source : PlanSource) (after : FinMap nat_cmp (List ℕ)) (
   pub goes : ExtendsPlan source.free.now old new
   pub planned : IsRootPlanned (progress_of new) directories (root_state objects.entries after) source.tree.now.root root
   pub frees : PlaceFrees old.freed.items new.freed.items (root_state objects.entries after) source.tree.now.root
+  pub once : FreesOnce old.freed.items new.freed.items (IsOfPlace (root_state objects.entries after) source.tree.now.root)
   pub uses : UsesOnly (blocks_of old) (blocks_of new) root.address
   pub adds : Adds (blocks_of old) (blocks_of new) (address_if (is_dirty (root_state objects.entries after)) root)
 
@@ -160,4 +178,5 @@ pub record PlansTree (source : PlanSource) (after : FinMap nat_cmp (List ℕ)) (
   pub count : vec_len tree.directories ≡ pointer_count
   pub walked : IsWalked (progress_of new) source.tree.now after objects.entries tree.maps.entries tree.directories.items tree.root
   pub used : AreUsed (blocks_of new) (pointers_from tree.root tree.directories.items (planned_map (maps_before source) tree.maps.entries))
+  pub once : AreApart (pointers_before source.tree.now) → IsDistinct nat_eq new.freed.items
   pub order : AreInRange objects.entries → AreInOrder (addresses_of (blocks_of new)) (pointers_from tree.root tree.directories.items (planned_map (maps_before source) tree.maps.entries)) (group_in source after objects.entries)

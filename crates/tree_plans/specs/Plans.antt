@@ -1,6 +1,6 @@
 -- What a plan of a sync has done so far, and what its steps do.
-use Rattle.std.specs.Prelude.{ℕ, ◌≡◌, ◌≢◌, ◌<◌, ◌⊎◌, ◌++◌, ◌&&◌, Bool, true, false, List, length, map, slice_get, slice_index_or, Some, if◌then◌else◌}
-use Rattle.std.specs.List.{list_any}
+use Rattle.std.specs.Prelude.{ℕ, ◌≡◌, ◌≢◌, ◌<◌, ◌⊎◌, ◌++◌, ◌&&◌, Bool, true, false, nat_eq, List, length, map, slice_get, slice_index_or, Some, if◌then◌else◌}
+use Rattle.std.specs.List.{IsDistinct, list_any}
 use Rattle.std.specs.Ordering.{nat_cmp}
 use Rattle.std.specs.FinSet.{FinSet}
 use Rattle.base.specs.declared.error.PoolError.{PoolError}
@@ -13,7 +13,7 @@ use Rattle.base.specs.formats.Fields.{no_pointer, pointer_in}
 use Rattle.base.specs.formats.Geometry.{block_address, block_count, IsBlockAddress}
 use Rattle.base.specs.formats.Versions.{written_version}
 use Rattle.base.specs.formats.Blocks.{Frame}
-use Rattle.base.specs.tree.Places.{Place}
+use Rattle.base.specs.tree.Places.{Place, IsPlace}
 use Rattle.base.specs.tree.Places.Place.{Root as AtRoot, Directory as AtDirectory, Indirect as AtIndirect, Data as AtData}
 use Rattle.base.specs.tree.PlacedTrees.{padded_record}
 use Rattle.base.specs.tree.PlannedTrees.{NewBlock, IsNewAt}
@@ -91,6 +91,23 @@ IsOf pointer address = (pointer ≢ no_pointer) × (pointer.address ≡ address)
 abbrev pub FreesOnly : List ℕ → List ℕ → Pointer → Type 0
 FreesOnly old new replaced = (address : ℕ) → IsAmong new address → IsAmong old address ⊎ IsOf replaced address
 
+-- addresses come back once: where none of those that may come back has before, none is twice in the list if none was
+abbrev pub FreesOnce : List ℕ → List ℕ → (ℕ → Type 0) → Type 0
+FreesOnce old new MayComeBack = ((address : ℕ) → MayComeBack address → IsAmong old address → ⊥) → IsDistinct nat_eq old → IsDistinct nat_eq new
+
+-- no two of the first so many pointers name blocks at one address
+abbrev pub AreApartBelow : ℕ → (ℕ → Pointer) → Type 0
+AreApartBelow count pointers = (i j address : ℕ) → i < count → j < count → IsOf (pointers i) address → IsOf (pointers j) address → i ≡ j
+
+-- no two places of a tree have blocks at one address
+abbrev pub AreApart : (Place → Pointer) → Type 0
+AreApart pointers = (p q : Place) (address : ℕ) → IsPlace p → IsPlace q → IsOf (pointers p) address → IsOf (pointers q) address → p ≡ q
+
+-- no two of an object's records have blocks at one address, and none has the address of its indirect block
+pub record IsApart (map : ObjectMap) : Type 0 where
+  pub records : AreApartBelow pointer_count (record_in map)
+  pub indirect : (r address : ℕ) → r < pointer_count → IsOf (record_in map r) address → IsOf map.indirect address → ⊥
+
 -- a plan is refused for want of blocks or of memory
 abbrev pub IsWant : PoolError → Type 0
 IsWant e = (e ≡ error.NoSpace) ⊎ (e ≡ error.NoMemory)
@@ -116,9 +133,13 @@ replaces Unchanged = false
 replaces Dirty = true
 replaces Hole = true
 
+-- an address is that of the block that a place in this state loses
+abbrev pub IsOfPlace : RecordState → Pointer → ℕ → Type 0
+IsOfPlace state was address = (replaces state ≡ true) × IsOf was address
+
 -- of a place, nothing comes back unless it is replaced
 abbrev pub PlaceFrees : List ℕ → List ℕ → RecordState → Pointer → Type 0
-PlaceFrees old new state was = (address : ℕ) → IsAmong new address → IsAmong old address ⊎ ((replaces state ≡ true) × IsOf was address)
+PlaceFrees old new state was = (address : ℕ) → IsAmong new address → IsAmong old address ⊎ IsOfPlace state was address
 
 -- what becomes of a record of an object
 abbrev pub IsRecordPlanned : Progress → ℕ → ℕ → List ℕ → RecordState → Pointer → Pointer → Type 0
@@ -166,5 +187,9 @@ pub record IsObjectPlanned (s : Progress) (n : ℕ) (bytes : List ℕ) (changes 
   pub records : AreRecordsPlanned s n bytes changes old pointer_count new.records.items
   pub indirect : IsIndirectPlanned s n changes.is_changed new.records.items old.indirect new.indirect
 
+-- the address is that of a record of an object that is replaced, or of its indirect block
+abbrev pub IsOfMap : ObjectChanges → ObjectMap → ℕ → Type 0
+IsOfMap changes was address = IsOfRecord changes was pointer_count address ⊎ IsOf was.indirect address
+
 abbrev pub ObjectFrees : List ℕ → List ℕ → ObjectChanges → ObjectMap → Type 0
-ObjectFrees old new changes was = (address : ℕ) → IsAmong new address → IsAmong old address ⊎ (IsOfRecord changes was pointer_count address ⊎ IsOf was.indirect address)
+ObjectFrees old new changes was = (address : ℕ) → IsAmong new address → IsAmong old address ⊎ IsOfMap changes was address

@@ -1,6 +1,7 @@
 -- What a plan promises: the blocks that it takes, the tree that they make, and the blocks that come back.
-use Rattle.std.specs.Prelude.{ℕ, ◌≡◌, ◌<◌, ◌⊎◌, [], true, false, List, All, length, map, slice_get, take, Some, is_some, option_map, if◌then◌else◌}
+use Rattle.std.specs.Prelude.{ℕ, ◌≡◌, ◌<◌, ◌⊎◌, [], true, false, nat_eq, List, All, length, map, slice_get, take, Some, is_some, option_map, if◌then◌else◌}
 use Rattle.std.specs.BTreeMap.{BTreeMap}
+use Rattle.std.specs.List.{IsDistinct}
 use Rattle.std.specs.Ordering.{nat_cmp}
 use Rattle.std.specs.FinMap as finite
 use Rattle.std.specs.FinMap.{FinMap}
@@ -23,7 +24,7 @@ use Rattle.tree_plans.specs.declared.planner.TreePlan.{TreePlan}
 use Rattle.tree_plans.specs.declared.walk.PlanSource.{PlanSource}
 use Rattle.tree_plans.specs.Changes.{AreBornBefore, AreChanges, AreInRange, AreTreePointers, IsCoveredBy, written_frame}
 use Rattle.tree_plans.specs.Parts.{group_in}
-use Rattle.tree_plans.specs.Plans.{address_of, new_block}
+use Rattle.tree_plans.specs.Plans.{AreApart, address_of, new_block}
 use Rattle.tree_plans.specs.Pointers.{entry_of, planned_lengths, planned_pointers, pointers_before}
 use Rattle.tree_plans.specs.Walks.{is_any_touched}
 
@@ -59,10 +60,11 @@ abbrev pub HasLengths : PlanSource → FinMap nat_cmp (List ℕ) → BTreeMap Ob
 HasLengths source after objects plan = (n : ℕ) → n < object_count → planned_lengths source.tree.now plan n
     ≡ (if is_some (entry_of objects.entries n) then option_map length (finite.get after n) else lengths_of source.tree.now n)
 
--- the blocks that come back are in the area, and are those that the plan replaces or clears
+-- the blocks that come back are in the area, and are those that the plan replaces or clears, each once
 pub record GivesBack (source : PlanSource) (plan : TreePlan) : Type 0 where
   pub returned : ArePlaced (block_count source.geometry) (pointers_before source.tree.now) → All (λ address. IsBlockAddress (block_count source.geometry) address) plan.freed.items
   pub freed : AreBornBefore source.group.0 (pointers_before source.tree.now) → AreFreed (pointers_before source.tree.now) (planned_pointers source.tree.now plan) plan.freed.items
+  pub once : AreApart (pointers_before source.tree.now) → IsDistinct nat_eq plan.freed.items
 
 -- a plan that wants blocks, where each object that an operation is on has a number below the last one: fewer are free than there are places to write
 pub record TellsFull (source : PlanSource) (after : FinMap nat_cmp (List ℕ)) (objects : List (ObjectId × ObjectChanges)) (e : PoolError) : Type 0 where

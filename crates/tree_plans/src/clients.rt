@@ -1,8 +1,9 @@
 //! What callers rest on: one function for each promise of this crate's calls, proved from the contract of the call alone. So it
 //! is refused as soon as that contract says less.
 
-ghost use Rattle.std.specs.Prelude.{◌≡◌, ◌<◌, ◌≤◌, ◌∷◌, [], ℕ, All, IfErr, IfOk, None, Ok, Some, false, is_some, length, map, true};
+ghost use Rattle.std.specs.Prelude.{◌≡◌, ◌<◌, ◌≤◌, ◌∷◌, [], ℕ, All, IfErr, IfOk, None, Ok, Some, false, is_some, length, map, nat_eq, true};
 ghost use Rattle.std.specs.FinMap as finite;
+ghost use Rattle.std.specs.List.{IsDistinct};
 ghost use Rattle.base.specs.declared.error.PoolError.{PoolError};
 ghost use Rattle.base.specs.declared.error.PoolError.TheVariants as error;
 ghost use Rattle.base.specs.declared.operation.Op.TheVariants as op;
@@ -16,7 +17,7 @@ ghost use Rattle.tree_plans.specs.declared.planner.Committed.{Committed};
 ghost use Rattle.tree_plans.specs.Changes.{AreBornBefore, AreInRange, is_changed_in, state_at, state_in};
 ghost use Rattle.tree_plans.specs.NewBlocks.{HasNewIndirect, HasNewRecord};
 ghost use Rattle.tree_plans.specs.Marks.{pending_ops};
-ghost use Rattle.tree_plans.specs.Plans.{IsAmong, address_of};
+ghost use Rattle.tree_plans.specs.Plans.{AreApart, IsAmong, address_of};
 ghost use Rattle.tree_plans.specs.Pointers.{entry_of, planned_lengths, pointers_before};
 ghost use Rattle.tree_plans.specs.TreePlans.{free_addresses, places_written};
 ghost use Rattle.tree_plans.specs.Walks.{is_any_touched};
@@ -209,6 +210,31 @@ fn free_blocks_suffice_for_the_places_written<O: ObjectSource>(
     requires room { length (places_written source.now (O.objects after.old) objects.now.entries)
         ≤ length (free_addresses source.now) }
     ensures { IfErr result (λ e. ((x : PoolError) → O.may_refuse x → ⊥) → e ≡ error.NoMemory) }
+{
+    plan(source, after, objects)
+}
+
+// No block comes back twice, if no two places of the tree had blocks at one address.
+fn a_replaced_block_comes_back_once<O: ObjectSource>(
+    source: &PlanSource<'_>,
+    after: &mut O,
+    objects: &BTreeMap<ObjectId, ObjectChanges>,
+) -> Result<TreePlan, PoolError>
+    requires blocks { source.now.free.now.blocks ≡ block_count source.now.geometry }
+    requires apart { AreApart (pointers_before source.now.tree.now) }
+    ensures { IfOk result (λ p. IsDistinct nat_eq p.freed.items) }
+{
+    plan(source, after, objects)
+}
+
+// If a plan is refused for want of memory, no read of the objects was refused by a device.
+fn a_refused_read_of_a_plan_is_not_told_as_no_memory<O: ObjectSource>(
+    source: &PlanSource<'_>,
+    after: &mut O,
+    objects: &BTreeMap<ObjectId, ObjectChanges>,
+) -> Result<TreePlan, PoolError>
+    requires { source.now.free.now.blocks ≡ block_count source.now.geometry }
+    ensures { IfErr result (λ e. e ≡ error.NoMemory → O.refused after.new ≡ O.refused after.old) }
 {
     plan(source, after, objects)
 }

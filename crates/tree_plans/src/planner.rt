@@ -66,6 +66,7 @@ pub struct Planner {
 impl Planner {
     ghost use Rattle.std.specs.Prelude.{◌≤◌, ◌<◌, ◌+◌, [], length, IfOk, IfErr};
     ghost use Rattle.base.specs.declared.error.PoolError.TheVariants as error;
+    ghost use Rattle.base.specs.disk.Calls.{counted};
     ghost use Rattle.base.specs.tree.Places.{IsPlace};
     ghost use Rattle.object_maps.specs.Sources.{object_bytes, object_length};
     ghost use Rattle.std.specs.FinMap as finite;
@@ -139,6 +140,7 @@ impl Planner {
             (object_bytes (O.objects after.old) place.id.0) old.now state self.old self.new) }
         ensures full { IfErr result (TellsLack free.now self.old (count_if (is_dirty state))) }
         ensures refused { IfErr result (IsWantOr O.may_refuse) }
+        ensures counted { O.refused after.new ≡ counted result (O.refused after.old) }
     {
         match state {
             RecordState::Unchanged => Ok(*old),
@@ -171,6 +173,7 @@ impl Planner {
         ensures full { IfErr result
             (TellsLack free.now self.old (count_where (is_dirty_in changes.now) 84)) }
         ensures refused { IfErr result (IsWantOr O.may_refuse) }
+        ensures counted { O.refused after.new ≡ counted result (O.refused after.old) }
     {
         let mut records = Vec::with_capacity(self.alloc, POINTER_COUNT)?;
         for index in 0..POINTER_COUNT {
@@ -227,6 +230,7 @@ impl Planner {
         ensures full { IfErr result
             (TellsLack free.now self.old (needed_blocks changes.now old.now)) }
         ensures refused { IfErr result (IsWantOr O.may_refuse) }
+        ensures counted { O.refused after.new ≡ counted result (O.refused after.old) }
     {
         let length = after.length(id);
         let records = self.place_records(free, id, after, old, changes)?;

@@ -17,6 +17,7 @@
 ghost use Rattle.std.specs.Prelude.{◌≡◌, ◌<◌, ◌||◌, [], List, Some, false, length, vec_len, IfOk, IfErr, OnOk};
 ghost use Rattle.base.specs.declared.error.PoolError.TheVariants as error;
 ghost use Rattle.base.specs.declared.names.ObjectId.{ObjectId};
+ghost use Rattle.base.specs.disk.Calls.{counted};
 ghost use Rattle.base.specs.formats.Geometry.{block_count};
 ghost use Rattle.base.specs.tree.Syncs.{is_dirty};
 ghost use Rattle.tree_plans.specs.Changes.{AreInRange};
@@ -116,7 +117,9 @@ pub struct PlanSource<'a> {
 ///   (`AreTreePointers`). Each block is behind a pointer, and the root stays where no operation is on an object.
 /// - `lengths`: of each object that an operation is on, the tree has the length that it has after the group, and of any
 ///   other the one that it had.
-/// - `freed`: what comes back lies in the block area, and is what the plan replaces or clears.
+/// - `freed`: what comes back lies in the block area, and is what the plan replaces or clears, each once if no two
+///   places had blocks at one address (`AreApart`).
+/// - `counted`: a read of the objects that a device refused is told as that, and nothing else is.
 ///
 /// # Errors
 /// `NoSpace`, where each such object has a number below 5,292 only if fewer blocks are free than there are places to write
@@ -135,6 +138,7 @@ pub fn plan<O: ObjectSource>(
         (TellsFull source.now (O.objects after.old) objects.now.entries) }
     ensures kept { O.objects after.new ≡ O.objects after.old }
     ensures refused { IfErr result (IsWantOr O.may_refuse) }
+    ensures counted { O.refused after.new ≡ counted result (O.refused after.old) }
 {
     let mut planner = Planner {
         alloc: source.alloc,
@@ -182,6 +186,7 @@ fn place_tree<O: ObjectSource>(
     ensures kept { OnOk result (objects.now.entries ≡ [] → planner.new ≡ planner.old) }
     ensures same_objects { O.objects after.new ≡ O.objects after.old }
     ensures refused { IfErr result (IsWantOr O.may_refuse) }
+    ensures counted { O.refused after.new ≡ counted result (O.refused after.old) }
 {
     let maps = place_objects(planner, source, after, objects)?;
     let directories = place_directories(planner, source, after, objects, &maps)?;
@@ -246,6 +251,7 @@ fn place_objects<O: ObjectSource>(
     ensures kept { OnOk result (objects.now.entries ≡ [] → planner.new ≡ planner.old) }
     ensures same_objects { O.objects after.new ≡ O.objects after.old }
     ensures refused { IfErr result (IsWantOr O.may_refuse) }
+    ensures counted { O.refused after.new ≡ counted result (O.refused after.old) }
 {
     let mut maps = BTreeMap::new(source.alloc);
     for (id, changes) in objects.iter() {
@@ -275,6 +281,7 @@ fn place_changed<O: ObjectSource>(
         (object_blocks (group_in source.now (O.objects after.old) objects) id.0) e) }
     ensures same_objects { O.objects after.new ≡ O.objects after.old }
     ensures refused { IfErr result (IsWantOr O.may_refuse) }
+    ensures counted { O.refused after.new ≡ counted result (O.refused after.old) }
 {
     if id.0 >= OBJECT_COUNT {
         return Ok(());

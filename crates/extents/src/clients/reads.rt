@@ -1,13 +1,18 @@
 //! What callers rest on of objects with changes laid over them: written bytes, and bytes below as far as they show.
 
-ghost use Rattle.std.specs.Prelude.{ℕ, ◌≡◌, ◌∷◌, [], None, OnOk, Some, get_or, length};
+ghost use Rattle.std.specs.Prelude.{ℕ, ◌≡◌, ◌∷◌, [], IsOk, None, OnOk, Some, get_or, is_some, length, true};
 ghost use Rattle.std.specs.FinMap as finite;
 ghost use Rattle.object_maps.specs.ContentsShown.{contents_of};
+ghost use Rattle.extents.specs.Objects.{written_in};
+ghost use Rattle.extents.specs.Patches.{laid_over};
+ghost use Rattle.extents.specs.Records.{bytes_written};
 ghost use Rattle.extents.specs.Tables.{patches_of};
 ghost use Rattle.extents.specs.declared.basis.Basis.TheVariants as basis;
 
 use crate::extents::Extents;
 use crate::laid::Laid;
+use crate::object::ObjectPatch;
+use crate::record::RecordPatch;
 use base::{ObjectId, PoolError};
 use object_maps::{Contents, ObjectSource};
 use std::alloc::AllocError;
@@ -90,4 +95,35 @@ fn bytes_after_a_cut_do_not_come_back(
     extents.reserve_in(contents)?;
     extents.lay_into(contents);
     Ok(())
+}
+
+// A byte that was written into a record is covered.
+fn a_written_byte_is_covered(record: &RecordPatch) -> bool
+    requires { bytes_written record.now 5 ≡ Some 9 }
+    ensures { result ≡ true }
+{
+    record.covers(5, 1)
+}
+
+// A byte that the group wrote into record 1 hides the one below.
+fn a_written_byte_hides_the_one_below(object: &ObjectPatch) -> bool
+    requires { written_in object.now 4037 ≡ Some 9 }
+    ensures { result ≡ true }
+{
+    object.hides(1, 5, 1)
+}
+
+// A byte that the group wrote is read even if the source below refuses each read.
+fn a_written_byte_is_read_without_the_source_below<O: ObjectSource>(
+    laid: &mut Laid<'_, O>,
+    into: &mut [u8],
+) -> Result<(), PoolError>
+    requires written { (patches_of laid.old.extents.now 7).written 0 ≡ Some 9 }
+    requires there { is_some (finite.get
+        (laid_over (patches_of laid.old.extents.now) (O.objects laid.old.below)) 7) ≡ true }
+    requires size { length into.old ≡ 1 }
+    ensures answered { IsOk result }
+    ensures below { laid.new.below ≡ laid.old.below }
+{
+    laid.read_present(ObjectId(7), 0, 0, into)
 }

@@ -1,7 +1,8 @@
 //! What callers rest on of operations that are judged, and of digests.
 
-ghost use Rattle.std.specs.Prelude.{◌≡◌, ◌∷◌, [], IfOk, None, Some};
+ghost use Rattle.std.specs.Prelude.{◌≡◌, ◌∷◌, [], IfErr, IfOk, None, Some};
 ghost use Rattle.std.specs.FinMap as finite;
+ghost use Rattle.base.specs.disk.Calls.{one_more};
 ghost use Rattle.sha2.specs.Sha256.{sha256};
 ghost use Rattle.object_maps.specs.Sources.{AreWithin};
 
@@ -51,6 +52,18 @@ fn a_digest_has_the_last_objects_bytes<O: ObjectSource>(
         ∷ 171 ∷ 20 ∷ 0 ∷ 0
         ∷ 3 ∷ 0 ∷ 0 ∷ 0 ∷ 0 ∷ 0 ∷ 0 ∷ 0
         ∷ 1 ∷ 2 ∷ 3 ∷ [])) }
+{
+    digest(name, objects)
+}
+
+// If the device refuses no read, the digest is not refused as if it did.
+fn a_digest_is_refused_a_read_that_is_counted<O: ObjectSource>(
+    name: &PoolName,
+    objects: &mut O,
+) -> Result<[u8; 32], PoolError>
+    requires { AreWithin (O.objects objects.old) }
+    ensures { IfErr result (λ e. e ≡ PoolError.Read
+        → (O.refused objects.new).reads ≡ one_more (O.refused objects.old).reads) }
 {
     digest(name, objects)
 }

@@ -1,7 +1,8 @@
 //! What callers rest on of reads: each gives the bytes of the object that was asked for, at their places.
 
-ghost use Rattle.std.specs.Prelude.{◌≡◌, ◌∷◌, [], IfOk, None, OnOk, Some, get_or, length, option_map, slice_get, true};
+ghost use Rattle.std.specs.Prelude.{◌≡◌, ◌∷◌, [], IfErr, IfOk, None, OnOk, Some, get_or, length, option_map, slice_get, true};
 ghost use Rattle.std.specs.FinMap as finite;
+ghost use Rattle.base.specs.declared.error.PoolError.TheVariants as error;
 ghost use Rattle.object_maps.specs.ContentsShown.{contents_of};
 ghost use Rattle.object_maps.specs.declared.contents.Slot.{Slot};
 
@@ -92,6 +93,29 @@ fn a_range_below_a_length_ends_there<O: ObjectSource>(
 ) -> Result<Bytes, PoolError>
     requires { finite.get (O.objects objects.old) 7 ≡ Some (1 ∷ 2 ∷ 3 ∷ []) }
     ensures { IfOk result (λ bytes. bytes ≡ 2 ∷ 3 ∷ []) }
+{
+    read_range_below(objects, alloc, ObjectId(7), Range { low: 1, high: 10 }, 3)
+}
+
+// If a read of a range is refused for want of memory, no read of the source was refused by a device.
+fn a_refused_read_of_a_range_is_not_told_as_no_memory<O: ObjectSource>(
+    objects: &mut O,
+    alloc: Global,
+) -> Result<Bytes, PoolError>
+    ensures { IfErr result (λ e. e ≡ error.NoMemory
+        → O.refused objects.new ≡ O.refused objects.old) }
+{
+    read_range(objects, alloc, ObjectId(7), Range { low: 1, high: 10 })
+}
+
+// So it is if the length is known.
+fn nor_is_one_below_a_length<O: ObjectSource>(
+    objects: &mut O,
+    alloc: Global,
+) -> Result<Bytes, PoolError>
+    requires { finite.get (O.objects objects.old) 7 ≡ Some (1 ∷ 2 ∷ 3 ∷ []) }
+    ensures { IfErr result (λ e. e ≡ error.NoMemory
+        → O.refused objects.new ≡ O.refused objects.old) }
 {
     read_range_below(objects, alloc, ObjectId(7), Range { low: 1, high: 10 }, 3)
 }

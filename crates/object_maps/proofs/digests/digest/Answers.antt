@@ -20,6 +20,7 @@ loop-number-init g c =
     let whole = ap (λ (l : List ℕ). size ++ l ++ count) same ∙ text_so_far-start name objects size count first second in
     record {
       kept = refl;
+      counted = refl;
       text = subst (λ (l : List ℕ). Holds256 c.update-3.new.self l) whole (c.update-3.ensures _ (c.update-2.ensures _ (c.update.ensures [] c.new-hasher.ensures)));
     }
 
@@ -32,6 +33,7 @@ loop-number-preserved g c =
     let next = ap (λ o. text_so_far name objects n ++ text_at o n) so_far.kept ∙ text_so_far-next name objects n in
     record {
       kept = c.in_ok-feed_object.ensures.kept ∙ so_far.kept;
+      counted = c.in_ok-feed_object.ensures.counted ∙ so_far.counted;
       text = subst (λ (l : List ℕ). Holds256 c.feed_object.new.hasher l) next (c.in_ok-feed_object.ensures.fed (text_so_far name objects n) so_far.text);
     }
 

@@ -7,5 +7,6 @@ use Rattle.object_maps.proofs.digests.digest.Given as goal
 abbrev pub invariant-loop-number : goal.invariant-loop-number
 invariant-loop-number g l = record {
   kept : g.O.ObjectSource.objects l.objects ≡ g.O.ObjectSource.objects l.fn.objects;
+  counted : g.O.ObjectSource.refused l.objects ≡ g.O.ObjectSource.refused l.fn.objects;
   text : Holds256 l.hasher (text_so_far l.fn.name (g.O.ObjectSource.objects l.fn.objects) l.number);
 }

@@ -16,6 +16,7 @@ loop-index-preserved g c =
     c.in_ok-read_record.ensures.record ∙ ap (λ o. padded_record i (object_bytes o c.args.id.0)) so_far.kept in
     record {
       kept = c.in_ok-read_record.ensures.kept ∙ so_far.kept;
+      counted = c.in_ok-read_record.ensures.counted ∙ so_far.counted;
       fed = feeds_both (take (4032 * i) object) (take c.min-count.result c.read_record.new.into) (take (4032 * (i + 1)) object)
           c.args.hasher.now c.loop-index.hasher c.update.new.self so_far.fed c.update.ensures (records_more object c.read_record.new.into i c.min-count.result count is);
     }

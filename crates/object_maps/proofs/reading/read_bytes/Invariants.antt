@@ -8,6 +8,7 @@ invariant-loop-done g l = record {
   before : l.done ≤ length l.into;
   size : length l.into ≡ length l.initial.into;
   kept : g.O.ObjectSource.objects l.objects ≡ g.O.ObjectSource.objects l.initial.objects;
+  counted : g.O.ObjectSource.refused l.objects ≡ g.O.ObjectSource.refused l.initial.objects;
   read : (k : ℕ) → k < l.done → get_or l.into k 0 ≡ get_or (object_bytes (g.O.ObjectSource.objects l.initial.objects) l.id.0) (l.low + k) 0;
 }
 

@@ -5,6 +5,7 @@ use Rattle.tree_plans.specs.Parts.{group_in}
 use Rattle.tree_plans.specs.Pointers.{IsPut, pointers_before}
 use Rattle.tree_plans.proofs.Walks.{get_at, object_passed, object_put, objects_free_put, put_of}
 use Rattle.tree_plans.proofs.Uses.{objects_use_put, others_put}
+use Rattle.tree_plans.proofs.Once.{objects_once_put}
 use Rattle.tree_plans.proofs.Progress.{goes_nowhere}
 use Rattle.tree_plans.proofs.Order.{data_before, entry-indirect, entry-written, map_put, object_added}
 use Rattle.tree_plans.proofs.Room.{handed_on, object_needs}
@@ -15,6 +16,7 @@ returns-then-id-ge-OBJECT_COUNT-clause-planned g c = record {
   goes = goes_nowhere _ _;
   planned = λ objects done is planned. object_passed _ _ _ objects done _ c.args.id c.args.changes.now (λ low. absurd (omega arith)) planned;
   frees = λ objects first is frees. frees;
+  once = λ objects first is none apart frees once. once;
   uses = λ first none uses. uses;
   others = λ n other. refl;
   adds = λ objects is low. absurd (omega arith);
@@ -38,6 +40,8 @@ returns-clause-planned g c =
           (record { low = here; changes = c.args.changes.now; changes_are = is; old = c.index-old.result.now; old_is = was; planned = told.planned; length = c.in_ok-map.ensures.length }) planned;
       frees = λ objects first is frees.
           objects_free_put first _ _ maps objects c.args.maps.now.entries c.insert.new.self.entries c.args.id c.args.changes.now c.index-old.result.now map put here is was told.frees frees;
+      once = λ objects first is none apart frees once.
+          objects_once_put source.tree.now first _ _ objects c.args.maps.now.entries c.insert.new.self.entries c.args.id c.args.changes.now c.index-old.result.now map put here is was none apart frees once told.once;
       uses = λ first none uses. objects_use_put first _ _ c.args.maps.now.entries c.insert.new.self.entries c.args.id map put none here told.uses uses;
       others = others_put c.args.maps.now.entries c.insert.new.self.entries c.args.id map put;
       adds = λ objects is below. object_added (group_in source after objects) c.args.id.0 c.args.changes.now c.index-old.result.now map _ _ _ (map_put maps _ _ c.args.id map put)

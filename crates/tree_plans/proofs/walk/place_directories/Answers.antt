@@ -5,6 +5,7 @@ use Rattle.tree_plans.specs.Walks.{has_object, is_directory_dirty, is_directory_
 use Rattle.tree_plans.proofs.Progress.{goes_nowhere, goes_twice}
 use Rattle.tree_plans.proofs.Walks.{directories_push, directories_free_push}
 use Rattle.tree_plans.proofs.Uses.{pointers_use_push}
+use Rattle.tree_plans.proofs.Once.{directories_once_push}
 use Rattle.tree_plans.proofs.Order.{adds_begun, adds_push}
 use Rattle.tree_plans.proofs.Room.{handed_on, lacks_at}
 use Rattle.tree_plans.proofs.walk.place_directories.Goals as goal
@@ -18,6 +19,7 @@ loop-index-init g c = record {
   goes = goes_nowhere _ _;
   planned = λ r low. absurd (omega arith);
   frees = λ address among. inl among;
+  once = λ apart fresh distinct. distinct;
   uses = λ address taken. inl taken;
   adds = adds_begun _ _ _;
 }
@@ -38,6 +40,7 @@ loop-index-preserved g c =
       goes = goes_twice c.loop-index.invariant.goes c.in_ok-pointer.ensures.planned.goes;
       planned = rw c.push_reserved.ensures.items (directories_push _ _ after entries was _ _ _ _ c.in_ok-pointer.ensures.planned.goes long state c.loop-index.invariant.planned c.in_ok-pointer.ensures.planned.planned);
       frees = directories_free_push _ _ _ entries after was _ _ state c.loop-index.invariant.frees c.in_ok-pointer.ensures.planned.frees;
+      once = λ apart. directories_once_push c.args.source.now.tree.now _ _ _ entries after _ _ state c.loop-index-test.true apart c.loop-index.invariant.frees (c.loop-index.invariant.once apart) c.in_ok-pointer.ensures.planned.once;
       uses = rw c.push_reserved.ensures.items (pointers_use_push _ _ _ _ _ _ long c.loop-index.invariant.uses c.in_ok-pointer.ensures.planned.uses);
       adds = rw c.push_reserved.ensures.items (adds_push (is_directory_dirty entries after) _ _ _ _ _ _ _ long (ap is_dirty state) c.loop-index.invariant.adds c.in_ok-pointer.ensures.planned.adds);
     }
@@ -49,6 +52,7 @@ returns-clause-planned g c =
       goes = c.loop-index.invariant.goes;
       planned = rw done at c.loop-index.invariant.planned;
       frees = rw done at c.loop-index.invariant.frees;
+      once = rw done at c.loop-index.invariant.once;
       uses = rw done at c.loop-index.invariant.uses;
       adds = rw done at c.loop-index.invariant.adds;
     }

@@ -34,6 +34,8 @@ loop-id-preserved g c =
       split = split ∙ sym (append_assoc done (e ∷ []) rest);
       planned = told.planned all done found c.loop-id.invariant.planned;
       frees = told.frees all _ found c.loop-id.invariant.frees;
+      once = λ apart. told.once all _ found unplanned apart c.loop-id.invariant.frees (c.loop-id.invariant.once apart);
+      counted = c.in_ok-place_changed.ensures.counted ∙ c.loop-id.invariant.counted;
       are_of = are_of_more done e _ _ c.loop-id.invariant.are_of told.others;
       uses = told.uses _ unplanned c.loop-id.invariant.uses;
       adds = λ within. objects_added (group_in c.args.source.now (g.O.ObjectSource.objects c.args.after.now) all) _ _ _ _ _ _ done e new told.others (c.loop-id.invariant.adds within)
@@ -49,6 +51,7 @@ returns-clause-planned g c =
       goes = c.loop-id.invariant.goes;
       planned = rw whole at c.loop-id.invariant.planned;
       frees = c.loop-id.invariant.frees;
+      once = c.loop-id.invariant.once;
       uses = c.loop-id.invariant.uses;
       adds = λ within. all_added _ (λ a b. less_below a.0 b.0) 5292 (group_in c.args.source.now (g.O.ObjectSource.objects c.args.after.now) all) c.args.source.now.tree.now.maps.items c.loop-id.maps.entries all done _ _ whole c.iter-id-items.ensures.ordered within
           (λ n none. absent_addresses all (pointers_before c.args.source.now.tree.now) (g.O.ObjectSource.objects c.args.after.now) n _ none) (c.loop-id.invariant.adds within);

@@ -4,9 +4,9 @@ use Rattle.tree_plans.specs.declared.changes.ObjectChanges.{ObjectChanges}
 use Rattle.tree_plans.specs.Changes.{AreInRange}
 use Rattle.tree_plans.specs.Order.{Adds, object_addresses}
 use Rattle.tree_plans.specs.Parts.{group_in}
-use Rattle.tree_plans.specs.Pointers.{planned_map}
-use Rattle.tree_plans.specs.Plans.{Goes, progress_of}
-use Rattle.tree_plans.specs.Walks.{AreObjectsPlanned, ObjectsFree}
+use Rattle.tree_plans.specs.Pointers.{planned_map, pointers_before}
+use Rattle.tree_plans.specs.Plans.{AreApart, FreesOnce, Goes, progress_of}
+use Rattle.tree_plans.specs.Walks.{AreObjectsPlanned, IsOfObject, ObjectsFree}
 use Rattle.tree_plans.specs.Uses.{AreOf, ObjectsUse}
 use Rattle.tree_plans.proofs.walk.place_objects.Given as goal
 
@@ -22,6 +22,9 @@ invariant-loop-id g l = record {
   split : l.objects.entries ≡ done ++ l.id-iterator;
   planned : AreObjectsPlanned (progress_of l.planner) l.source.tree.now.maps.items (g.O.ObjectSource.objects l.fn.after) l.objects.entries done l.maps.entries;
   frees : ObjectsFree l.fn.planner.freed.items l.planner.freed.items l.source.tree.now.maps.items l.objects.entries l.maps.entries;
+  once : AreApart (pointers_before l.source.tree.now)
+      → FreesOnce l.fn.planner.freed.items l.planner.freed.items (IsOfObject l.source.tree.now.maps.items l.objects.entries l.maps.entries);
+  counted : g.O.ObjectSource.refused l.after ≡ g.O.ObjectSource.refused l.fn.after;
   are_of : AreOf done l.maps.entries;
   uses : ObjectsUse (progress_of l.fn.planner).blocks (progress_of l.planner).blocks l.maps.entries;
   adds : AreInRange l.objects.entries → Adds (progress_of l.fn.planner).blocks (progress_of l.planner).blocks

@@ -10,6 +10,7 @@ use Rattle.tree_plans.specs.Walks.{root_state}
 use Rattle.tree_plans.specs.Plans.{new_block, progress_of}
 use Rattle.tree_plans.specs.Pointers.{pointers_before}
 use Rattle.tree_plans.proofs.Uses.{tree_used}
+use Rattle.tree_plans.proofs.Once.{tree_once}
 use Rattle.tree_plans.proofs.Order.{tree_in_order}
 use Rattle.tree_plans.proofs.Room.{directories_lack, handed_on, objects_lack, root_lacks}
 use Rattle.tree_plans.proofs.walk.place_tree.Goals as goal
@@ -36,6 +37,7 @@ returns-clause-planned g c =
         frees = walk_frees _ _ _ _ tree.maps.items objects after planned tree.directories.items tree.root c.requires.begun.freed first.frees then.frees last.frees;
       };
       used = tree_used _ _ _ _ tree.maps.items planned directories _ begun first.uses then.uses last.uses;
+      once = λ apart. tree_once tree objects after planned _ _ _ _ c.requires.begun.freed apart first.frees (first.once apart) then.frees (then.once apart) last.once;
       order = λ within. tree_in_order objects (pointers_before tree) after tree.maps.items planned directories _ _ _ _ _ begun within (first.adds within) then.adds last.adds;
     }
 

@@ -70,6 +70,7 @@ returns-clause-freed g c =
           (freed_in_area s t after objects tree.maps.entries tree.directories.items tree.root told.walked);
       freed = subst (λ (f : Frame). AreBornBefore f.group (pointers_before t) → AreFreed (pointers_before t) new s.freed) told.goes.frame
           (all_freed s t after objects tree.maps.entries tree.directories.items tree.root told.walked);
+      once = told.once;
     }
 
 pub returns-in_err-tree-clause-full : goal.returns-in_err-tree-clause-full

@@ -7,5 +7,6 @@ returns-clause-cleared c = record {
   goes = λ free. goes_back _ _ _ _ _ _ (rw (← c.reserve.ensures.items) c.give_back.ensures.kept);
   cleared = record { none = refl; freed = c.give_back.ensures.added };
   frees = rw (← c.reserve.ensures.items) c.give_back.ensures.only;
+  once = rw (← c.reserve.ensures.items) c.give_back.ensures.once;
   none_taken = refl;
 }

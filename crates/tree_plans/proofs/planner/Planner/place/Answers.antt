@@ -28,6 +28,7 @@ returns-clause-taken c =
       written = written_at _ _ (new_block b) c.in-Some.index _ _ _ _ _ _ pushed refl (omega (arith, c.in-Some.ensures.within, c.requires.free)) c.block_address.ensures.address refl c.check.ensures
           c.kind.ensures c.number.ensures c.in_ok-block.ensures.block c.give_back.ensures.added;
       frees = rw (← c.reserve-2.ensures.items) c.give_back.ensures.only;
+      once = rw (← c.reserve-2.ensures.items) c.give_back.ensures.once;
       uses = uses_one _ _ (new_block b) _ pushed c.block_address.ensures.address;
       adds = adds_one _ _ (new_block b) _ pushed c.block_address.ensures.address;
     }

@@ -7,6 +7,7 @@ use Rattle.tree_plans.specs.Plans.{is_dirty_in, is_indirect_written_in, progress
 use Rattle.tree_plans.specs.Room.{count_if}
 use Rattle.tree_plans.proofs.Progress.{goes_twice, object_planned, object_frees}
 use Rattle.tree_plans.proofs.Uses.{object_uses}
+use Rattle.tree_plans.proofs.Once.{object_once}
 use Rattle.tree_plans.proofs.Order.{adds_twice, indirect-told}
 use Rattle.tree_plans.proofs.Room.{handed_on, lacks_behind, where_length}
 use Rattle.tree_plans.proofs.planner.Planner.place_object.Goals as goal
@@ -23,6 +24,7 @@ returns-clause-planned g c =
       goes = goes_twice records.goes indirect.goes;
       planned = object_planned c.args.id.0 bytes c.args.changes.now c.args.old.now _ indirect.goes long records.planned (rw c.deref.ensures.value at indirect.planned);
       frees = object_frees _ _ _ c.args.changes.now c.args.old.now records.frees indirect.frees;
+      once = λ apart. object_once _ _ _ c.args.changes.now c.args.old.now apart records.frees (records.once apart) indirect.once;
       uses = object_uses _ _ _ _ _ records.uses indirect.uses;
       adds = adds_twice _ _ _ _ _ records.adds (rw (c.deref.ensures.value, told) at indirect.adds);
     }

@@ -1,5 +1,6 @@
 use Rattle.std.proofs.Common.{◌≡◌, length, arith, inl, refl, rules, ◌∙◌}
 use Rattle.tree_plans.specs.Plans.{is_dirty_in}
+use Rattle.tree_plans.proofs.Once.{once_push}
 use Rattle.tree_plans.proofs.Order.{adds_begun, adds_push}
 use Rattle.tree_plans.proofs.Progress.{records_push, frees_push, goes_nowhere, goes_twice}
 use Rattle.tree_plans.proofs.Uses.{pointers_use_push}
@@ -15,6 +16,8 @@ loop-index-init g c = record {
   goes = goes_nowhere _ _;
   planned = λ r low. absurd (omega arith);
   frees = λ address among. inl among;
+  once = λ apart fresh distinct. distinct;
+  counted = refl;
   uses = λ address taken. inl taken;
   adds = adds_begun _ _ _;
 }
@@ -30,6 +33,8 @@ loop-index-preserved g c =
       goes = goes_twice c.loop-index.invariant.goes c.in_ok-pointer.ensures.planned.goes;
       planned = rw c.push_reserved.ensures.items (records_push _ _ c.args.changes.now c.args.old.now _ _ _ _ _ c.in_ok-pointer.ensures.planned.goes long c.record-was.ensures refl c.loop-index.invariant.planned (rw c.loop-index.invariant.same_objects at c.in_ok-pointer.ensures.planned.planned));
       frees = frees_push _ _ _ c.args.changes.now c.args.old.now _ _ _ c.record-was.ensures refl c.loop-index.invariant.frees c.in_ok-pointer.ensures.planned.frees;
+      once = λ apart. once_push _ _ _ c.args.changes.now c.args.old.now _ _ _ c.record-was.ensures refl c.loop-index-test.true apart c.loop-index.invariant.frees (c.loop-index.invariant.once apart) c.in_ok-pointer.ensures.planned.once;
+      counted = c.in_ok-pointer.ensures.counted ∙ c.loop-index.invariant.counted;
       uses = rw c.push_reserved.ensures.items (pointers_use_push _ _ _ _ _ _ long c.loop-index.invariant.uses c.in_ok-pointer.ensures.planned.uses);
       adds = rw c.push_reserved.ensures.items (adds_push (is_dirty_in c.args.changes.now) _ _ _ _ _ _ _ long refl c.loop-index.invariant.adds c.in_ok-pointer.ensures.planned.adds);
     }
@@ -41,6 +46,7 @@ returns-clause-planned g c =
       goes = c.loop-index.invariant.goes;
       planned = rw done at c.loop-index.invariant.planned;
       frees = rw done at c.loop-index.invariant.frees;
+      once = rw done at c.loop-index.invariant.once;
       uses = rw done at c.loop-index.invariant.uses;
       adds = rw done at c.loop-index.invariant.adds;
     }
