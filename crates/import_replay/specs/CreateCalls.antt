@@ -33,12 +33,20 @@ write_config size config label = Write (config_place size label) (config_block c
 abbrev pub write_uberblock : ℕ → Uberblock → ℕ → CreateCall
 write_uberblock size u label = Write (slot_place size label (slot_of u.group)) (slot_bytes u)
 
--- The ends of the four labels and then all blocks are cleared, and a flush; the four configs, and a flush; the four uberblocks, and a flush.
+-- one call for each label, 0 to 3
+abbrev pub each_label : (ℕ → CreateCall) → List CreateCall
+each_label f = map f (range_with_len 0 4)
+
+-- and one for each block, rising
+abbrev pub each_block : ℕ → (ℕ → CreateCall) → List CreateCall
+each_block size f = map f (range_with_len 0 (block_count size))
+
+-- The ends of the labels and then all blocks are cleared, and a flush; the config of each label, and a flush; the uberblock of each, and a flush.
 abbrev pub create_calls : (size : ℕ) (name : List ℕ) (guid moment : ℕ) → List CreateCall
 create_calls size name guid moment =
-    map (clear_tail size) (range_with_len 0 4) ++ map clear_block (range_with_len 0 (block_count size)) ++ Flush ∷ []
-    ++ map (write_config size (first_config name guid size)) (range_with_len 0 4) ++ Flush ∷ []
-    ++ map (write_uberblock size (first_uberblock guid moment)) (range_with_len 0 4) ++ Flush ∷ []
+    each_label (clear_tail size) ++ each_block size clear_block ++ Flush ∷ []
+    ++ each_label (write_config size (first_config name guid size)) ++ Flush ∷ []
+    ++ each_label (write_uberblock size (first_uberblock guid moment)) ++ Flush ∷ []
 
 -- the disk after a good call
 abbrev pub after_call : CreateCall → Disk → Disk

@@ -1,16 +1,15 @@
 //! A new pool.
 
-ghost use Rattle.std.specs.Prelude.{◌≡◌, ◌≤◌, ◌⊎◌, IfErr, IfOk, IsTrue, List, MatchResult, OnOk, [], map, ℕ};
-ghost use Rattle.std.specs.List.{range_with_len};
+ghost use Rattle.std.specs.Prelude.{◌≡◌, ◌≤◌, ◌⊎◌, IfErr, IfOk, IsTrue, List, MatchResult, OnOk, [], ℕ};
 ghost use Rattle.base.specs.disk.Calls.{with_refusal};
 ghost use Rattle.base.specs.crash.Own.{IsOwnWith};
 ghost use Rattle.base.specs.disk.Disk.{CrashLeaves, Disk, HasEarlierWrites, bytes_of, moments};
-ghost use Rattle.base.specs.formats.Geometry.{IsGeometry, block_count};
+ghost use Rattle.base.specs.formats.Geometry.{IsGeometry};
 ghost use Rattle.labels.specs.Configs.{config_block};
 ghost use Rattle.uberblocks.specs.Slots.{slot_bytes};
 ghost use Rattle.import_replay.specs.Cleared.{AreTailsCleared, IsCleared, zeros};
-ghost use Rattle.import_replay.specs.CreateCalls.{IsStoppedIn, MakesInOrder, after_calls, clear_block, clear_tail};
-ghost use Rattle.import_replay.specs.CreateCalls.{create_calls, write_config, write_uberblock};
+ghost use Rattle.import_replay.specs.CreateCalls.{IsStoppedIn, MakesInOrder, after_calls, create_calls};
+ghost use Rattle.import_replay.specs.CreateCalls.{clear_block, clear_tail, each_block, each_label, write_config, write_uberblock};
 ghost use Rattle.import_replay.specs.CreateRefusals.{CanCreate, IsCreateRefusal};
 ghost use Rattle.import_replay.specs.Creations.{IsCreatedOn, IsNewPool, first_config, first_uberblock};
 ghost use Rattle.import_replay.specs.ImportRefusals.{IsSyncRefusal};
@@ -33,14 +32,15 @@ const TAIL_SIZE: usize = 245_760;
 ///
 /// The name/value areas, the uberblock arrays and all blocks are cleared to zeros and flushed; then four configs of group
 /// 4 are written and flushed, and then uberblock 4, with no tree and no log, in each label (On-Disk Specification, chapter
-/// 1), which are flushed too. So a device that keeps the model of a disk then holds all this, whatever a crash makes of
-/// it, and mounts an empty pool. All bytes before the name/value areas and those between the labels and the blocks stay as
-/// they are at each moment, also in a create that is refused; of the other bytes a refused create promises nothing. It takes
-/// no memory.
+/// 1), which are flushed too. It makes just these calls in this order: one write for each label, 0 to 3, and one for each
+/// block, rising. So a device that keeps the model of a disk then holds all this, whatever a crash makes of it, and mounts
+/// an empty pool. All bytes before the name/value areas and those between the labels and the blocks stay as they are at
+/// each moment, also in a create that is refused. It takes no memory.
 ///
 /// # Errors
 /// `BadGeometry` where the device's size is none that a pool may have; `BadRange` where the name is none; before either no
-/// device call is made. `Write` and `Flush` exactly where the device refused such a call.
+/// device call is made. `Write` and `Flush` exactly where the device refused such a call: the calls before the refused one
+/// are then made, and none of those after it.
 pub fn create<D: SectorDevice>(
     mut device: D,
     name: &[u8],
@@ -126,7 +126,7 @@ fn clear_labels<D: SectorDevice>(device: &mut D, geometry: Geometry) -> Result<(
     requires geometry { IsGeometry geometry }
     ensures calls { WritesAndFlushes D.SectorDevice result device.old device.new }
     ensures ordered { IsTrue D.keeps_model
-        → MakesInOrder (map (clear_tail geometry) (range_with_len 0 4)) result
+        → MakesInOrder (each_label (clear_tail geometry)) result
         (D.disk device.old) (D.disk device.new) }
     ensures outside { IsTrue D.keeps_model → (start : Disk)
         → WritesPoolBytes geometry start (D.disk device.old)
@@ -154,7 +154,7 @@ fn clear_blocks<D: SectorDevice>(device: &mut D, geometry: Geometry) -> Result<(
     requires geometry { IsGeometry geometry }
     ensures calls { WritesAndFlushes D.SectorDevice result device.old device.new }
     ensures ordered { IsTrue D.keeps_model
-        → MakesInOrder (map clear_block (range_with_len 0 (block_count geometry))) result
+        → MakesInOrder (each_block geometry clear_block) result
         (D.disk device.old) (D.disk device.new) }
     ensures outside { IsTrue D.keeps_model → (start : Disk)
         → WritesPoolBytes geometry start (D.disk device.old)
@@ -182,8 +182,8 @@ fn write_configs<D: SectorDevice>(
     requires geometry { IsGeometry geometry }
     ensures calls { WritesAndFlushes D.SectorDevice result device.old device.new }
     ensures ordered { IsTrue D.keeps_model
-        → MakesInOrder (map (write_config geometry (first_config name guid geometry)) (range_with_len 0 4)) result
-        (D.disk device.old) (D.disk device.new) }
+        → MakesInOrder (each_label (write_config geometry (first_config name guid geometry)))
+        result (D.disk device.old) (D.disk device.new) }
     ensures outside { IsTrue D.keeps_model → (start : Disk)
         → WritesPoolBytes geometry start (D.disk device.old)
         → WritesPoolBytes geometry start (D.disk device.new) }
@@ -217,8 +217,8 @@ fn write_uberblocks<D: SectorDevice>(
     requires geometry { IsGeometry geometry }
     ensures calls { WritesAndFlushes D.SectorDevice result device.old device.new }
     ensures ordered { IsTrue D.keeps_model
-        → MakesInOrder (map (write_uberblock geometry (first_uberblock guid moment)) (range_with_len 0 4)) result
-        (D.disk device.old) (D.disk device.new) }
+        → MakesInOrder (each_label (write_uberblock geometry (first_uberblock guid moment)))
+        result (D.disk device.old) (D.disk device.new) }
     ensures outside { IsTrue D.keeps_model → (start : Disk)
         → WritesPoolBytes geometry start (D.disk device.old)
         → WritesPoolBytes geometry start (D.disk device.new) }

@@ -1,10 +1,8 @@
-use Rattle.std.proofs.Common.{ℕ, ◌≡◌, ◌<◌, List, [], ◌∷◌, ◌++◌, map, Ok, Err, refl}
-use Rattle.std.specs.List.{range_with_len}
+use Rattle.std.proofs.Common.{ℕ, ◌≡◌, ◌<◌, List, [], ◌∷◌, ◌++◌, Ok, Err, refl}
 use Rattle.base.specs.crash.Views.{View}
 use Rattle.base.specs.disk.Disk.{moments}
-use Rattle.base.specs.formats.Geometry.{block_count}
 use Rattle.import_replay.specs.Creations.{first_config, first_uberblock}
-use Rattle.import_replay.specs.CreateCalls.{CreateCall, after_calls, clear_block, clear_tail, write_config, write_uberblock}
+use Rattle.import_replay.specs.CreateCalls.{CreateCall, after_calls, clear_block, clear_tail, each_block, each_label, write_config, write_uberblock}
 use Rattle.import_replay.specs.CreateCalls.CreateCall.{Flush}
 use Rattle.import_replay.specs.Cleared.{IsCleared}
 use Rattle.import_replay.specs.Labelled.{HoldConfig, IsLabelled}
@@ -17,16 +15,16 @@ use Rattle.import_replay.proofs.creation.initialize.Goals as goal
 
 -- the stages of a create
 abbrev tails : ℕ → List CreateCall
-tails size = map (clear_tail size) (range_with_len 0 4)
+tails size = each_label (clear_tail size)
 
 abbrev blocks : ℕ → List CreateCall
-blocks size = map clear_block (range_with_len 0 (block_count size))
+blocks size = each_block size clear_block
 
 abbrev configs : ℕ → List ℕ → ℕ → List CreateCall
-configs size name guid = map (write_config size (first_config name guid size)) (range_with_len 0 4)
+configs size name guid = each_label (write_config size (first_config name guid size))
 
 abbrev uberblocks : ℕ → ℕ → ℕ → List CreateCall
-uberblocks size guid moment = map (write_uberblock size (first_uberblock guid moment)) (range_with_len 0 4)
+uberblocks size guid moment = each_label (write_uberblock size (first_uberblock guid moment))
 
 abbrev flush : List CreateCall
 flush = Flush ∷ []
