@@ -1,3 +1,4 @@
+pub mod CreateCalls
 pub mod LabelWrites
 pub mod NewLabels
 pub mod OutsideWrites

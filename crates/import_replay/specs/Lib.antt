@@ -2,6 +2,7 @@ pub mod CreateRefusals
 pub mod Cleared
 pub mod Creations
 pub mod OwnCreations
+pub mod CreateCalls
 pub mod Labelled
 pub mod Outside
 pub mod Found

@@ -3,16 +3,19 @@
 ghost use Rattle.std.specs.Prelude.{◌≡◌, ◌≤◌, ◌⊎◌, IfErr, IfOk, IsTrue, List, MatchResult, OnOk, [], ℕ};
 ghost use Rattle.base.specs.disk.Calls.{with_refusal};
 ghost use Rattle.base.specs.crash.Own.{IsOwnWith};
-ghost use Rattle.base.specs.disk.Disk.{CrashLeaves, Disk, bytes_of, moments};
+ghost use Rattle.base.specs.disk.Disk.{CrashLeaves, Disk, HasEarlierWrites, bytes_of, moments};
 ghost use Rattle.base.specs.formats.Geometry.{IsGeometry};
 ghost use Rattle.labels.specs.Configs.{config_block};
 ghost use Rattle.uberblocks.specs.Slots.{slot_bytes};
 ghost use Rattle.import_replay.specs.Cleared.{AreTailsCleared, IsCleared, zeros};
+ghost use Rattle.import_replay.specs.CreateCalls.{IsStoppedIn, MakesInOrder, after_calls, create_calls};
+ghost use Rattle.import_replay.specs.CreateCalls.{clear_block, clear_tail, each_block, each_label, write_config, write_uberblock};
 ghost use Rattle.import_replay.specs.CreateRefusals.{CanCreate, IsCreateRefusal};
 ghost use Rattle.import_replay.specs.Creations.{IsCreatedOn, IsNewPool, first_config, first_uberblock};
+ghost use Rattle.import_replay.specs.ImportRefusals.{IsSyncRefusal};
 ghost use Rattle.import_replay.specs.Labelled.{HoldConfig, IsLabelled};
 ghost use Rattle.import_replay.specs.OwnCreations.{AddsConfig, AddsSlot, AddsZeros, AreConfigsHanded, AreSlotsHanded};
-ghost use Rattle.import_replay.specs.OwnCreations.{HasEarlierWrites, IsFirstDisk, first_contents, first_view};
+ghost use Rattle.import_replay.specs.OwnCreations.{IsFirstDisk, first_contents, first_view};
 ghost use Rattle.import_replay.specs.Outside.{WritesAndFlushes, WritesPoolBytes};
 
 use base::{FIRST_GROUP, Group, Pointer, PoolError, PoolName, WRITTEN_VERSION};
@@ -29,24 +32,25 @@ const TAIL_SIZE: usize = 245_760;
 ///
 /// The name/value areas, the uberblock arrays and all blocks are cleared to zeros and flushed; then four configs of group
 /// 4 are written and flushed, and then uberblock 4, with no tree and no log, in each label (On-Disk Specification, chapter
-/// 1), which are flushed too. So a device that keeps the model of a disk then holds all this, whatever a crash makes of
-/// it, and mounts an empty pool. All bytes before the name/value areas and those between the labels and the blocks stay as
-/// they are at each moment, also in a create that is refused; of the other bytes a refused create promises nothing. It takes
-/// no memory.
+/// 1), which are flushed too. It makes just these calls in this order: one write for each label, 0 to 3, and one for each
+/// block, rising. So a device that keeps the model of a disk then holds all this, whatever a crash makes of it, and mounts
+/// an empty pool. All bytes before the name/value areas and those between the labels and the blocks stay as they are at
+/// each moment, also in a create that is refused. It takes no memory.
 ///
 /// # Errors
 /// `BadGeometry` where the device's size is none that a pool may have; `BadRange` where the name is none; before either no
-/// device call is made. `Write` and `Flush` exactly where the device refused such a call.
+/// device call is made. `Write` and `Flush` exactly where the device refused such a call: the calls before the refused one
+/// are then made, and none of those after it.
 pub fn create<D: SectorDevice>(
     mut device: D,
     name: &[u8],
     guid: u64,
     moment: u64,
 ) -> Result<D, (PoolError, D)>
-    ensures size { IfOk result (λ d. D.size d ≡ D.size device) }
+    ensures size { MatchResult result
+        (λ d. D.size d ≡ D.size device) (λ e. D.size e.1 ≡ D.size device) }
     ensures made { OnOk result (CanCreate (D.size device) name.now) }
     ensures count { IfOk result (λ d. D.refused d ≡ D.refused device) }
-    ensures given_back { IfErr result (λ e. D.size e.1 ≡ D.size device) }
     ensures untouched { IfErr result
         (λ e. (e.0 ≡ PoolError.BadGeometry) ⊎ (e.0 ≡ PoolError.BadRange) → e.1 ≡ device) }
     ensures refused { IfErr result (λ e. IsCreateRefusal (D.size device) name.now e.0) }
@@ -57,12 +61,19 @@ pub fn create<D: SectorDevice>(
         → CrashLeaves (λ image. IsCreatedOn image name.now guid) (D.disk d).now) }
     ensures written { IfOk result (λ d. IsTrue D.keeps_model
         → CrashLeaves (λ image. IsNewPool image name.now guid moment) (D.disk d).now) }
-    // After any crash only this pool has written it: all that was written before is earlier.
+    // After any crash only this pool has written it since.
     ensures own { IsTrue D.keeps_model → IfOk result
         (λ d. IsOwnWith (D.disk d) (moments (D.disk device)) guid (first_contents name.now)) }
     ensures outside { IsTrue D.keeps_model → MatchResult result
         (λ d. WritesPoolBytes (D.size device) (D.disk device) (D.disk d))
         (λ e. WritesPoolBytes (D.size device) (D.disk device) (D.disk e.1)) }
+
+    // Its calls are made in their order, and the first that the device refuses ends them.
+    ensures called { IsTrue D.keeps_model → IfOk result (λ d. D.disk d
+        ≡ after_calls (create_calls (D.size device) name.now guid moment) (D.disk device)) }
+    ensures stopped { IsTrue D.keeps_model → IfErr result (λ e. IsSyncRefusal e.0
+        → IsStoppedIn (create_calls (D.size device) name.now guid moment)
+        e.0 (D.disk device) (D.disk e.1)) }
 {
     let geometry = match Geometry::of(device.sectors()) {
         Ok(geometry) => geometry,
@@ -86,6 +97,7 @@ fn initialize<D: SectorDevice>(
 ) -> Result<(), PoolError>
     requires size { D.size device.old ≡ geometry }
     requires geometry { IsGeometry geometry }
+    requires earlier { IsTrue D.keeps_model → HasEarlierWrites (D.disk device.old) }
     ensures calls { WritesAndFlushes D.SectorDevice result device.old device.new }
     ensures outside { IsTrue D.keeps_model → (start : Disk)
         → WritesPoolBytes geometry start (D.disk device.old)
@@ -93,7 +105,10 @@ fn initialize<D: SectorDevice>(
     ensures labels { IsTrue D.keeps_model
         → OnOk result (IsLabelled geometry name guid moment (bytes_of (D.disk device.new).now)) }
     ensures settled { IsTrue D.keeps_model → OnOk result ((D.disk device.new).now.unflushed ≡ []) }
-    ensures handed { IsTrue D.keeps_model → HasEarlierWrites (D.disk device.old) → OnOk result
+    ensures ordered { IsTrue D.keeps_model
+        → MakesInOrder (create_calls geometry name guid moment) result
+        (D.disk device.old) (D.disk device.new) }
+    ensures handed { IsTrue D.keeps_model → OnOk result
         (IsFirstDisk geometry (moments (D.disk device.old)) (first_view name guid moment geometry)
         (D.disk device.new)) }
 {
@@ -110,6 +125,9 @@ fn clear_labels<D: SectorDevice>(device: &mut D, geometry: Geometry) -> Result<(
     requires size { D.size device.old ≡ geometry }
     requires geometry { IsGeometry geometry }
     ensures calls { WritesAndFlushes D.SectorDevice result device.old device.new }
+    ensures ordered { IsTrue D.keeps_model
+        → MakesInOrder (each_label (clear_tail geometry)) result
+        (D.disk device.old) (D.disk device.new) }
     ensures outside { IsTrue D.keeps_model → (start : Disk)
         → WritesPoolBytes geometry start (D.disk device.old)
         → WritesPoolBytes geometry start (D.disk device.new) }
@@ -135,6 +153,9 @@ fn clear_blocks<D: SectorDevice>(device: &mut D, geometry: Geometry) -> Result<(
     requires size { D.size device.old ≡ geometry }
     requires geometry { IsGeometry geometry }
     ensures calls { WritesAndFlushes D.SectorDevice result device.old device.new }
+    ensures ordered { IsTrue D.keeps_model
+        → MakesInOrder (each_block geometry clear_block) result
+        (D.disk device.old) (D.disk device.new) }
     ensures outside { IsTrue D.keeps_model → (start : Disk)
         → WritesPoolBytes geometry start (D.disk device.old)
         → WritesPoolBytes geometry start (D.disk device.new) }
@@ -160,6 +181,9 @@ fn write_configs<D: SectorDevice>(
     requires size { D.size device.old ≡ geometry }
     requires geometry { IsGeometry geometry }
     ensures calls { WritesAndFlushes D.SectorDevice result device.old device.new }
+    ensures ordered { IsTrue D.keeps_model
+        → MakesInOrder (each_label (write_config geometry (first_config name guid geometry)))
+        result (D.disk device.old) (D.disk device.new) }
     ensures outside { IsTrue D.keeps_model → (start : Disk)
         → WritesPoolBytes geometry start (D.disk device.old)
         → WritesPoolBytes geometry start (D.disk device.new) }
@@ -192,6 +216,9 @@ fn write_uberblocks<D: SectorDevice>(
     requires size { D.size device.old ≡ geometry }
     requires geometry { IsGeometry geometry }
     ensures calls { WritesAndFlushes D.SectorDevice result device.old device.new }
+    ensures ordered { IsTrue D.keeps_model
+        → MakesInOrder (each_label (write_uberblock geometry (first_uberblock guid moment)))
+        result (D.disk device.old) (D.disk device.new) }
     ensures outside { IsTrue D.keeps_model → (start : Disk)
         → WritesPoolBytes geometry start (D.disk device.old)
         → WritesPoolBytes geometry start (D.disk device.new) }

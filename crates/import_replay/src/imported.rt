@@ -49,6 +49,9 @@ use uberblocks::Uberblock;
 /// 1 or 3 has the chosen config, and labels 1 and 3 first otherwise. Group u + 5 is then open. All memory is taken before the
 /// first write.
 ///
+/// On a disk that its pool alone wrote, a crash at any moment since the first good flush leaves only fair images that mount
+/// the same contents (clause `own` with the law `steady_imports_mount` of `base`).
+///
 /// # Errors
 /// In this order: `BadGeometry`; `BadRange` where the limit is not 4,096 to 2^40 bytes; these two before any device call;
 /// `NoPool`; `Damaged` with the first fault of the tree; `TooMany` where u + 5 or i + 1 would pass 2^60; `NoSpace` where no
