@@ -107,7 +107,7 @@ fn has_text(alloc: Global, refusal: PoolError, text: &str) -> Result<bool, PoolE
 }
 
 // How many rows hold before the first that does not: a refusal has this number and this text.
-fn count_refusals(alloc: Global, rows: &[(PoolError, u64, &str)]) -> usize {
+fn count_refusals(alloc: Global, rows: &[(PoolError, u8, &str)]) -> usize {
     for index in 0..rows.len() {
         let (refusal, number, text) = rows[index];
         if refusal.number() != number || has_text(alloc, refusal, text) != Ok(true) {
