@@ -40,12 +40,12 @@ fn four_bytes(alloc: Global) -> Result<Ops, AllocError> {
 fn made(alloc: Global) -> Result<Vec<Step>, AllocError> {
     let ops = four_bytes(alloc)?;
     let plan = Plan::of(alloc, &ops)?;
-    vec![in alloc;
+    Ok(vec![in alloc;
         Step::Lock(OWNER, OBJECT, WHOLE, Mode::Writer),
         Step::Begin(OWNER, plan),
         Step::Commit(TxId(0), ops),
         Step::Unlock(OWNER, LockId(0)),
-    ]
+    ]?)
 }
 
 // They, and those of the sync of its group up to so many device calls.
@@ -205,12 +205,12 @@ fn an_inspection_tells_a_damaged_root(rt: HostRuntime) {
 // A lock, the begin of a create, a commit of nothing and a read.
 fn four_steps(alloc: Global) -> Result<Vec<Step>, AllocError> {
     let plan = Plan::new(vec![in alloc; Shape::Create(OBJECT)]?);
-    vec![in alloc;
+    Ok(vec![in alloc;
         Step::Lock(OWNER, OBJECT, WHOLE, Mode::Writer),
         Step::Begin(OWNER, plan),
         Step::Commit(TxId(0), Ops::new(Vec::new(alloc))),
         Step::Read(OWNER, OBJECT, WHOLE),
-    ]
+    ]?)
 }
 
 // Whether the replies are theirs.
