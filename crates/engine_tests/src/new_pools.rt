@@ -74,13 +74,14 @@ fn holds(rt: &HostRuntime, row: &Row) -> Result<bool, Fail> {
     Ok(refused == RefusedCalls::NONE && sum == row.sum)
 }
 
-// Whether both pools hold.
-fn hold(rt: &HostRuntime) -> Result<[bool; 2], Fail> {
-    Ok([holds(rt, &TANK)?, holds(rt, &POND)?])
+#[test]
+fn a_new_pool_has_the_bytes_of_the_formats(rt: HostRuntime) -> Result<(), Fail> {
+    assert!(rt; holds(&rt, &TANK)?);
+    Ok(())
 }
 
 #[test]
-fn a_new_pool_has_the_bytes_of_the_formats(rt: HostRuntime) -> Result<(), Fail> {
-    assert_eq!(rt; hold(&rt)?, [true, true]);
+fn the_least_new_pool_has_the_bytes_of_the_formats(rt: HostRuntime) -> Result<(), Fail> {
+    assert!(rt; holds(&rt, &POND)?);
     Ok(())
 }
