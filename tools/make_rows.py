@@ -11,7 +11,8 @@ A row is a script with a title, the size of its device and the moment of its ube
 - rows with many lines of one kind (`whole_uberblocks`, `eighth_steps`, `many_groups`, `many_objects`, `many_locks`,
   `many_shapes`);
 - crashes of whole pools: rounds of transactions, a sync or an import that is stopped after each of its device calls, each
-  string of kept, lost and torn writes, and the next import (`stopped_syncs`, `stopped_imports`).
+  string of kept, lost and torn writes, and the next import (`stopped_syncs`, `stopped_imports`); and the same of one sync on
+  the least device, where each unflushed write meets the same (`ten_crashes`, `lost_imports`).
 
 The answers to the crashes come from a plain serial pool (`serial_pool.py`) and from the rules of what is written when. Nothing
 is taken from the program.
@@ -546,6 +547,63 @@ def stopped_imports():
         yield book
 
 
+# On 6 MiB a transaction makes object 1, of four bytes, and its group is synced by its block, its map, the directory, the root,
+# a flush, four uberblocks and a flush.
+TEN_CALLS = """
+create tank 77 -> ok
+import 1048576 -> synced 8 open 9 records 0
+lock 1 1 w 0 338688 -> lock 0
+begin 1 c:1 w:1:0:4 -> tx 0 group 9
+commit 0 abcd -> entry 0 group 9
+unlock 1 0 -> ok
+close -> open 10
+quiesce -> quiesced 9
+start -> syncing 9
+"""
+
+
+def ten_steps(title, calls):
+    """The sync with so many of its calls."""
+    row = Row(title, 6 * MIB)
+    row.say_all(TEN_CALLS)
+    for call in range(calls):
+        row.say("step", "synced 9" if call == 9 else "more")
+    return row
+
+
+def crash_with(row, letter, unflushed):
+    """A crash that does the same with each unflushed write."""
+    row.say(" ".join(["crash"] + [letter * unflushed] * (unflushed > 0)), f"crashed {unflushed}")
+
+
+def import_behind(row, active):
+    """The import syncs four groups on, and finds the object if its group is synced."""
+    row.say(f"import {MIB}", f"synced {active + 4} open {active + 5} records 0")
+    row.say("length 1", "length 4" if active > 8 else "refused 9 NoObject")
+
+
+def ten_crashes():
+    """A crash after each number of calls. The group is found if the last flush came, or if the uberblocks are kept."""
+    for calls, letter in itertools.product(range(11), "klt"):
+        row = ten_steps(f"a crash after {calls} calls of a sync, and each unflushed write is {letter}", calls)
+        crash_with(row, letter, (calls if calls < 5 else calls - 5) if calls < 10 else 0)
+        import_behind(row, 9 if calls == 10 or (calls > 5 and letter == "k") else 8)
+        yield row
+
+
+def lost_imports():
+    """A synced pool is given up, and an import is stopped at each of its writes. What is unflushed is lost, and the next
+    import finds the object."""
+    for stop in WRITE_STOPS:
+        if stop.kind == "write":
+            row = ten_steps(f"an import that is stopped at write {stop.call}, and each unflushed write is lost", 10)
+            row.say(f"fail write {stop.call}", "ok")
+            row.say(f"import {MIB}", stop.refusal)
+            crash_with(row, "l", stop.unflushed)
+            import_behind(row, 13 if stop.is_after else 9)
+            yield row
+
+
 def all_rows():
     for path in sorted(TOOLS.glob("rows/*.rows")):
         yield from read_rows(path)
@@ -560,6 +618,8 @@ def all_rows():
         many_shapes,
         stopped_syncs,
         stopped_imports,
+        ten_crashes,
+        lost_imports,
     ]:
         yield from make()
 

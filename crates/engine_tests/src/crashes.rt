@@ -1,5 +1,5 @@
-//! What the import behind a crash finds, at each device call of a sync: the group that was synced last, or the one that a sync
-//! was writing.
+//! What the import behind rounds of a pool finds, if they end with a crash, or an import among them is stopped. More crashes are
+//! rows of `script_rows`.
 
 use crate::steps::{OBJECT, stored};
 use base::{Piece, PoolError};
@@ -23,7 +23,12 @@ fn round(
     })
 }
 
-// The bytes of the object that the import behind these rounds mounts, as their number: none where there is no object.
+// A crash that does the same with each unflushed write.
+fn crash_with(alloc: Global, piece: Piece) -> Result<End, PoolError> {
+    Ok(End::Crash(vec![in alloc; piece; 16]?))
+}
+
+// How many bytes has the object that the import behind these rounds mounts: none where there is no object.
 fn found_behind(alloc: Global, rounds: Vec<Round>) -> Result<Option<usize>, PoolError> {
     let device = MemDevice::new(alloc, 12_288)?;
     let (_, imported) = play_rounds(alloc, device, b"tank", 77, 1_048_576, 7, rounds)?;
@@ -31,48 +36,42 @@ fn found_behind(alloc: Global, rounds: Vec<Round>) -> Result<Option<usize>, Pool
     Ok(object.map(|bytes| bytes.len()))
 }
 
-// Behind a crash that does the same with each unflushed write, after so many calls of the sync.
+// Behind a crash after so many calls of the sync.
 fn found_with(alloc: Global, calls: usize, piece: Piece) -> Result<Option<usize>, PoolError> {
-    let pieces = vec![in alloc; piece; 16]?;
-    let only = round(alloc, calls, None, End::Crash(pieces))?;
+    let only = round(alloc, calls, None, crash_with(alloc, piece)?)?;
     found_behind(alloc, vec![in alloc; only]?)
 }
 
 #[test]
 fn a_crash_leaves_the_last_synced_group_or_the_one_that_is_written(rt: HostRuntime) {
     // four blocks and a flush, four uberblocks and a flush
-    for calls in 0..11 {
-        let synced = if calls == 10 { Some(4) } else { None };
-        let written = if calls > 5 { Some(4) } else { None };
-        for (piece, found) in [
-            (Piece::Keep, written),
-            (Piece::Lose, synced),
-            (Piece::Fill(0xa5), synced),
-        ] {
-            assert_eq!(rt;
-                found_with(rt.alloc(), calls, piece),
-                Ok(found),
-                "{calls} calls"
-            );
-        }
-    }
+    let alloc = rt.alloc();
+    assert_eq!(rt;
+        [
+            found_with(alloc, 5, Piece::Keep),
+            found_with(alloc, 6, Piece::Keep),
+            found_with(alloc, 9, Piece::Lose),
+            found_with(alloc, 9, Piece::Fill(0xa5)),
+            found_with(alloc, 10, Piece::Lose),
+        ],
+        [Ok(None), Ok(Some(4)), Ok(None), Ok(None), Ok(Some(4))]
+    );
 }
 
-// Behind a synced round, and one whose import fails at a write and whose unflushed writes are lost.
-fn found_behind_stopped(alloc: Global, n: u64) -> Result<Option<usize>, PoolError> {
+// Two rounds: a synced one, and one whose import fails at a write and whose unflushed writes are lost.
+fn stopped_rounds(alloc: Global, n: u64) -> Result<Vec<Round>, PoolError> {
     let synced = round(alloc, 10, None, End::GivenUp)?;
-    let pieces = vec![in alloc; Piece::Lose; 16]?;
-    let stopped = round(alloc, 10, Some((Fault::Write, n)), End::Crash(pieces))?;
-    found_behind(alloc, vec![in alloc; synced, stopped]?)
+    let end = crash_with(alloc, Piece::Lose)?;
+    let stopped = round(alloc, 10, Some((Fault::Write, n)), end)?;
+    Ok(vec![in alloc; synced, stopped]?)
+}
+
+// Behind them.
+fn found_behind_stopped(alloc: Global, n: u64) -> Result<Option<usize>, PoolError> {
+    found_behind(alloc, stopped_rounds(alloc, n)?)
 }
 
 #[test]
 fn what_was_acknowledged_is_found_behind_stopped_imports(rt: HostRuntime) {
-    for n in 1..8 {
-        assert_eq!(rt;
-            found_behind_stopped(rt.alloc(), n),
-            Ok(Some(4)),
-            "write {n}"
-        );
-    }
+    assert_eq!(rt; found_behind_stopped(rt.alloc(), 4), Ok(Some(4)));
 }

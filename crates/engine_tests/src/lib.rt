@@ -1,42 +1,18 @@
-//! The calls of the engine's crates, run: outside vectors, worked examples, each public call once with ample memory, and
-//! each device call that is refused in turn. What a clause says has no test here.
+//! Pools on a device, run: how a pool is made, imported and inspected, what its steps answer and write, and what an import
+//! finds after a crash. Each device call is refused in turn. What a clause says has no test here.
 //!
-//! The tests of all crates below the program stand in this one crate, so that a gate proves each crate once and not once
-//! more beside its tests. Those of `word_lock` stand in `lock_tests`, those of threads and commands in
-//! `thread_tests`, and whole scripts are data of `script_rows`.
+//! The tests of these crates stand in this one crate, so that a gate proves each crate once and not once more beside its
+//! tests. Those of the crates below stand in `part_tests`, those of `word_lock` in `lock_tests`, those of threads and
+//! commands in `thread_tests`, and whole scripts are data of `script_rows`.
 #![tactic(auto)]
 
 #[cfg(test)]
-mod blocks;
-#[cfg(test)]
-mod codec;
-#[cfg(test)]
 mod crashes;
-#[cfg(test)]
-mod devices;
-#[cfg(test)]
-mod dirty_bytes;
-#[cfg(test)]
-mod file_devices;
-#[cfg(test)]
-mod free_blocks;
-#[cfg(test)]
-mod group_lines;
-#[cfg(test)]
-mod held_ranges;
 #[cfg(test)]
 mod imports;
 #[cfg(test)]
-mod label_configs;
-#[cfg(test)]
-mod patches;
-#[cfg(test)]
-mod records;
-#[cfg(test)]
-mod rings;
+mod new_pools;
 #[cfg(test)]
 mod rounds;
 #[cfg(test)]
 mod steps;
-#[cfg(test)]
-mod trees;

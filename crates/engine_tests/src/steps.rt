@@ -1,14 +1,14 @@
 //! Steps on a memory device: replies in order, and the places where an import and a sync write, that no clause gives.
 
-use crate::imports::first_other;
+use crate::imports::{count_numbers, new_pool};
 use base::{
     Bytes, Group, LockId, Mode, ObjectId, Op, Ops, Owner, Plan, PoolError, Range, Reply, Shape,
     Step, TxId,
 };
 use device_model::{MemDevice, SectorDevice};
 use import_replay::inspect;
-use round_trip::{make, round};
-use std::alloc::Global;
+use round_trip::round;
+use std::alloc::{AllocError, Global};
 
 pub const OWNER: Owner = Owner(1);
 
@@ -19,46 +19,56 @@ pub const WHOLE: Range = Range {
     high: 338_688,
 };
 
-// The steps of a transaction that makes an object of 4 bytes, and of the sync of its group up to so many device calls.
-pub fn stored(alloc: Global, calls: usize) -> Result<Vec<Step>, PoolError> {
-    let write = Op::Write(OBJECT, 0, Bytes::from_slice(alloc, b"abcd")?);
-    let ops = Ops::new(vec![in alloc; Op::Create(OBJECT), write]?);
-    let mut steps = Vec::new(alloc);
-    steps.push(Step::Lock(OWNER, OBJECT, WHOLE, Mode::Writer))?;
-    steps.push(Step::Begin(OWNER, Plan::of(alloc, &ops)?))?;
-    steps.push(Step::Commit(TxId(0), ops))?;
-    steps.push(Step::Unlock(OWNER, LockId(0)))?;
+// Adds the steps of the sync of the open group, with so many device calls.
+fn add_sync(steps: &mut Vec<Step>, calls: usize) -> Result<(), AllocError> {
     steps.push(Step::CloseGroup)?;
     steps.push(Step::MarkQuiesced)?;
     steps.push(Step::StartSync(7))?;
     for _ in 0..calls {
         steps.push(Step::SyncStep)?;
     }
+    Ok(())
+}
+
+// The operations that make an object of 4 bytes.
+fn four_bytes(alloc: Global) -> Result<Ops, AllocError> {
+    let write = Op::Write(OBJECT, 0, Bytes::from_slice(alloc, b"abcd")?);
+    Ok(Ops::new(vec![in alloc; Op::Create(OBJECT), write]?))
+}
+
+// The steps of a transaction that makes it.
+fn made(alloc: Global) -> Result<Vec<Step>, AllocError> {
+    let ops = four_bytes(alloc)?;
+    let plan = Plan::of(alloc, &ops)?;
+    Ok(vec![in alloc;
+        Step::Lock(OWNER, OBJECT, WHOLE, Mode::Writer),
+        Step::Begin(OWNER, plan),
+        Step::Commit(TxId(0), ops),
+        Step::Unlock(OWNER, LockId(0)),
+    ]?)
+}
+
+// They, and those of the sync of its group up to so many device calls.
+pub fn stored(alloc: Global, calls: usize) -> Result<Vec<Step>, AllocError> {
+    let mut steps = made(alloc)?;
+    add_sync(&mut steps, calls)?;
     Ok(steps)
 }
 
-// The replies of a new pool named `tank` on 8 MiB, and its device behind the steps.
-fn replies(alloc: Global, steps: Vec<Step>) -> Result<(Vec<Reply>, MemDevice), PoolError> {
-    let device = make(MemDevice::new(alloc, 16_384)?, b"tank", 77, 5)?;
-    round(alloc, device, 1_048_576, 6, steps)
-}
-
-// Its device alone.
+// The device of a new pool on 8 MiB behind the steps.
 fn device_behind(alloc: Global, steps: Vec<Step>) -> Result<MemDevice, PoolError> {
-    let (_, device) = replies(alloc, steps)?;
+    let (_, device) = round(alloc, new_pool(alloc, 16_384)?, 1_048_576, 6, steps)?;
     Ok(device)
 }
 
-// How many writes are unflushed behind the steps, and the first of these places that has another number.
+// How many writes are unflushed behind the steps, and how many places have their numbers before the first that has not.
 fn numbers_behind(
     alloc: Global,
     steps: Vec<Step>,
     rows: &[(u64, u64)],
-) -> Result<(usize, Option<u64>), PoolError> {
+) -> Result<(usize, usize), PoolError> {
     let mut device = device_behind(alloc, steps)?;
-    let unflushed = device.unflushed();
-    let other = first_other(&mut device, 0, rows);
-    Ok((unflushed, other?))
+    Ok((device.unflushed(), count_numbers(&mut device, 0, rows)))
 }
 
 // They, behind so many syncs of empty groups.
@@ -66,15 +76,12 @@ fn numbers_behind_syncs(
     alloc: Global,
     count: usize,
     rows: &[(u64, u64)],
-) -> Result<(usize, Option<u64>), PoolError> {
+) -> Result<(usize, usize), PoolError> {
     numbers_behind(alloc, empty_syncs(alloc, count)?, rows)
 }
 
 // They, behind a transaction and its sync.
-fn numbers_behind_stored(
-    alloc: Global,
-    rows: &[(u64, u64)],
-) -> Result<(usize, Option<u64>), PoolError> {
+fn numbers_behind_stored(alloc: Global, rows: &[(u64, u64)]) -> Result<(usize, usize), PoolError> {
     numbers_behind(alloc, stored(alloc, 10)?, rows)
 }
 
@@ -94,7 +101,7 @@ fn an_import_syncs_four_groups_on(rt: HostRuntime) {
         // the config of label 1 has group 8
         (262_144 + 16_384 + 16, 8),
     ];
-    assert_eq!(rt; numbers_behind_syncs(rt.alloc(), 0, &rows), Ok((0, None)));
+    assert_eq!(rt; numbers_behind_syncs(rt.alloc(), 0, &rows), Ok((0, 9)));
 }
 
 #[test]
@@ -110,19 +117,14 @@ fn a_sync_takes_the_lowest_blocks_in_order(rt: HostRuntime) {
         (4_210_688, 2),
         (4_210_688 + 16, 9),
     ];
-    assert_eq!(rt; numbers_behind_stored(rt.alloc(), &rows), Ok((0, None)));
+    assert_eq!(rt; numbers_behind_stored(rt.alloc(), &rows), Ok((0, 8)));
 }
 
 // The steps of so many syncs of empty groups, each with a flush, four uberblocks and a flush.
-fn empty_syncs(alloc: Global, count: usize) -> Result<Vec<Step>, PoolError> {
+fn empty_syncs(alloc: Global, count: usize) -> Result<Vec<Step>, AllocError> {
     let mut steps = Vec::new(alloc);
     for _ in 0..count {
-        steps.push(Step::CloseGroup)?;
-        steps.push(Step::MarkQuiesced)?;
-        steps.push(Step::StartSync(7))?;
-        for _ in 0..6 {
-            steps.push(Step::SyncStep)?;
-        }
+        add_sync(&mut steps, 6)?;
     }
     Ok(steps)
 }
@@ -136,7 +138,7 @@ fn the_slots_go_round(rt: HostRuntime) {
         (211_968 + 16, 207),
         (214_016 + 16, 81),
     ];
-    assert_eq!(rt; numbers_behind_syncs(rt.alloc(), 200, &rows), Ok((0, None)));
+    assert_eq!(rt; numbers_behind_syncs(rt.alloc(), 200, &rows), Ok((0, 4)));
 }
 
 // The device behind four blocks, a flush, and four uberblocks that nothing flushes.
@@ -201,13 +203,14 @@ fn an_inspection_tells_a_damaged_root(rt: HostRuntime) {
 }
 
 // A lock, the begin of a create, a commit of nothing and a read.
-fn four_steps(alloc: Global) -> Result<Vec<Step>, PoolError> {
-    let mut steps = Vec::new(alloc);
-    steps.push(Step::Lock(OWNER, OBJECT, WHOLE, Mode::Writer))?;
-    steps.push(Step::Begin(OWNER, Plan::new(vec![in alloc; Shape::Create(OBJECT)]?)))?;
-    steps.push(Step::Commit(TxId(0), Ops::new(Vec::new(alloc))))?;
-    steps.push(Step::Read(OWNER, OBJECT, WHOLE))?;
-    Ok(steps)
+fn four_steps(alloc: Global) -> Result<Vec<Step>, AllocError> {
+    let plan = Plan::new(vec![in alloc; Shape::Create(OBJECT)]?);
+    Ok(vec![in alloc;
+        Step::Lock(OWNER, OBJECT, WHOLE, Mode::Writer),
+        Step::Begin(OWNER, plan),
+        Step::Commit(TxId(0), Ops::new(Vec::new(alloc))),
+        Step::Read(OWNER, OBJECT, WHOLE),
+    ]?)
 }
 
 // Whether the replies are theirs.
@@ -225,7 +228,8 @@ fn are_four(replies: &[Reply]) -> bool {
 
 // It, of a new pool.
 fn four_replies(alloc: Global) -> Result<bool, PoolError> {
-    let (replies, _) = replies(alloc, four_steps(alloc)?)?;
+    let device = new_pool(alloc, 16_384)?;
+    let (replies, _) = round(alloc, device, 1_048_576, 6, four_steps(alloc)?)?;
     Ok(are_four(replies.as_slice()))
 }
 

@@ -2,7 +2,6 @@
 
 ghost use Rattle.std.specs.Prelude.{◌≡◌, ◌*◌, length, IfOk, IsTrue, OnOk};
 ghost use Rattle.base.specs.disk.Calls.{IsOnDevice};
-ghost use Rattle.base.specs.disk.Disk.{disk_size};
 ghost use Rattle.device_model.specs.Certain.{IsCertain};
 
 use base::{Piece, PoolError};
@@ -43,10 +42,10 @@ enum Row {
 }
 
 // Where sectors lie, if they are on the device.
-fn place_of(device: &MemDevice, sector: u64, count: u64) -> Result<u64, PoolError>
-    ensures { IfOk result (λ place. IsOnDevice (disk_size device.now.disk) place (512 * count)) }
+pub fn place_of<D: SectorDevice>(device: &D, sector: u64, count: u64) -> Result<u64, PoolError>
+    ensures { IfOk result (λ place. IsOnDevice (D.size device.now) place (512 * count)) }
 {
-    if sector > 16 || count > 16 || sector + count > device.sectors() {
+    if sector > 1 << 20 || count > 16 || sector + count > device.sectors() {
         return Err(PoolError::BadRange);
     }
     Ok(512 * sector)

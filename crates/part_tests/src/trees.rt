@@ -1,5 +1,6 @@
 //! Trees on a device: each fault with its kind and address, a refused read, and the greatest object.
 
+use crate::devices::place_of;
 use base::{Group, Pointer, PoolError, Version, write_pointer, write_u64};
 use checked_blocks::{Frame, Kind, PAYLOAD_SIZE, seal};
 use device_model::{Fault, MemDevice, SectorDevice};
@@ -18,7 +19,7 @@ const ROOT: u64 = 4_210_688;
 const GUID: u64 = 77;
 
 // What is wrong with a tree of group 9 that holds object 1, of the 4 bytes `abcd`.
-#[derive(Clone, Copy, Debug, PartialEq, Eq)]
+#[derive(Clone, Copy)]
 enum Damage {
     None,
     RootNamesItself,
@@ -35,10 +36,10 @@ enum Damage {
     RecordPointerIsBehind,
     ByteIsBehind,
     LongEntryOverByteBehind,
-}
-
-fn device(alloc: Global) -> Result<MemDevice, PoolError> {
-    MemDevice::new(alloc, 12_288)
+    // the block at this address has other bytes
+    Torn(u64),
+    // there is no root
+    NoTree,
 }
 
 // Writes a sealed block, and gives the pointer to it.
@@ -59,13 +60,8 @@ fn store(
 }
 
 fn overwrite(device: &mut MemDevice, address: u64, bytes: &[u8; 4096]) -> Result<(), PoolError> {
-    if address % 512 != 0
-        || address > 1 << 30
-        || address + 4096 > 512 * device.sectors().min(1 << 30)
-    {
-        return Err(PoolError::BadRange);
-    }
-    device.write(address, bytes)
+    let place = place_of(device, address / 512, 8)?;
+    device.write(place, bytes)
 }
 
 // A pointer to nothing that is not all zeros.
@@ -76,12 +72,23 @@ fn pointer_without_address() -> Pointer {
     }
 }
 
-// Writes the tree with this damage, and gives the pointer to its root.
+// Writes the tree with this damage of its fields, and gives the pointer to its root.
 fn write_tree(device: &mut MemDevice, damage: Damage) -> Result<Pointer, PoolError> {
     let record = write_record(device, damage)?;
     let indirect = write_indirect(device, damage, &record)?;
     let directory = write_directory(device, damage, indirect)?;
     write_root(device, damage, &directory)
+}
+
+// Writes the tree with this damage, and gives the pointer to its root.
+fn write_damaged(device: &mut MemDevice, damage: Damage) -> Result<Pointer, PoolError> {
+    let root = write_tree(device, damage)?;
+    match damage {
+        Damage::Torn(address) => overwrite(device, address, &[0xAA; 4096])?,
+        Damage::NoTree => return Ok(pointer_without_address()),
+        _ => {}
+    }
+    Ok(root)
 }
 
 fn write_record(device: &mut MemDevice, damage: Damage) -> Result<Pointer, PoolError> {
@@ -160,26 +167,35 @@ fn write_root(
     store(device, Kind::Root, 0, ROOT, &payload)
 }
 
-// The refusal of a load of the tree with this damage.
-fn refusal_of(alloc: Global, damage: Damage) -> Option<PoolError> {
-    match try_load(alloc, damage) {
-        Ok(_) => None,
-        Err(error) => Some(error),
-    }
-}
-
-fn try_load(alloc: Global, damage: Damage) -> Result<Loaded, PoolError> {
-    let mut device = device(alloc)?;
-    let root = write_tree(&mut device, damage)?;
-    load_from(alloc, &mut device, root)
-}
-
 fn load_from(alloc: Global, device: &mut MemDevice, root: Pointer) -> Result<Loaded, PoolError> {
     if device.sectors() < 12_288 {
         return Err(PoolError::BadGeometry);
     }
     let frame = Frame::new(Version::One, GUID, 384, Group(9));
     load(alloc, device, &frame, root)
+}
+
+// Its refusal.
+fn refusal_from(alloc: Global, device: &mut MemDevice, root: Pointer) -> Option<PoolError> {
+    load_from(alloc, device, root).err()
+}
+
+// The refusal of a load of the tree with this damage.
+fn refusal_of(alloc: Global, damage: Damage) -> Result<Option<PoolError>, PoolError> {
+    let mut device = MemDevice::new(alloc, 12_288)?;
+    let root = write_damaged(&mut device, damage)?;
+    Ok(refusal_from(alloc, &mut device, root))
+}
+
+// How many trees have these refusals before the first that does not.
+fn count_refusals(alloc: Global, rows: &[(Damage, Option<PoolError>)]) -> usize {
+    for index in 0..rows.len() {
+        let (damage, told) = rows[index];
+        if refusal_of(alloc, damage) != Ok(told) {
+            return index;
+        }
+    }
+    rows.len()
 }
 
 fn damaged(kind: u64, address: u64) -> Option<PoolError> {
@@ -204,61 +220,13 @@ fn each_damage_is_told_with_its_kind_and_block(rt: HostRuntime) {
         (Damage::RecordPointerIsBehind, damaged(4, INDIRECT)),
         (Damage::ByteIsBehind, damaged(5, RECORD)),
         (Damage::LongEntryOverByteBehind, damaged(3, DIRECTORY)),
+        (Damage::Torn(ROOT), damaged(2, ROOT)),
+        (Damage::Torn(DIRECTORY), damaged(3, DIRECTORY)),
+        (Damage::Torn(INDIRECT), damaged(4, INDIRECT)),
+        (Damage::Torn(RECORD), damaged(5, RECORD)),
+        (Damage::NoTree, damaged(2, 0)),
     ];
-    for (damage, refusal) in rows {
-        assert_eq!(rt; refusal_of(rt.alloc(), damage), refusal);
-    }
-}
-
-// The load of the tree with its block at this address torn.
-fn try_load_torn(alloc: Global, address: u64) -> Result<Loaded, PoolError> {
-    let mut device = device(alloc)?;
-    let root = write_tree(&mut device, Damage::None)?;
-    overwrite(&mut device, address, &[0xAA; 4096])?;
-    load_from(alloc, &mut device, root)
-}
-
-// The load of no tree.
-fn try_load_nothing(alloc: Global) -> Result<Loaded, PoolError> {
-    load_from(alloc, &mut device(alloc)?, pointer_without_address())
-}
-
-// The refusals of both.
-fn torn_refusal(alloc: Global, address: u64) -> Option<PoolError> {
-    try_load_torn(alloc, address).err()
-}
-
-fn missing_refusal(alloc: Global) -> Option<PoolError> {
-    try_load_nothing(alloc).err()
-}
-
-#[test]
-fn a_torn_block_is_told(rt: HostRuntime) {
-    for (kind, address) in [(2, ROOT), (3, DIRECTORY), (4, INDIRECT), (5, RECORD)] {
-        assert_eq!(rt; torn_refusal(rt.alloc(), address), damaged(kind, address));
-    }
-    assert_eq!(rt; missing_refusal(rt.alloc()), damaged(2, 0));
-}
-
-// The refusal of a load whose so many-th read fails.
-fn refusal_at(
-    alloc: Global,
-    device: &mut MemDevice,
-    root: Pointer,
-    read: u64,
-) -> Option<PoolError> {
-    device.fail(Fault::Read, read);
-    load_from(alloc, device, root).err()
-}
-
-// The refusals of loads of one device, whose first read fails, then the second, and so on.
-fn read_refusals(alloc: Global, device: &mut MemDevice, root: Pointer) -> [Option<PoolError>; 4] {
-    [
-        refusal_at(alloc, device, root, 1),
-        refusal_at(alloc, device, root, 2),
-        refusal_at(alloc, device, root, 3),
-        refusal_at(alloc, device, root, 4),
-    ]
+    assert_eq!(rt; count_refusals(rt.alloc(), &rows), 20);
 }
 
 // Whether the objects 0 and 1 are there, and object 1 has these bytes.
@@ -271,20 +239,38 @@ fn holds(loaded: &Loaded, bytes: &[u8]) -> [bool; 3] {
     ]
 }
 
-// These refusals, and then what a load without a failure holds.
-fn loads_about_failures(alloc: Global) -> Result<([Option<PoolError>; 4], [bool; 3]), PoolError> {
-    let mut device = device(alloc)?;
-    let root = write_tree(&mut device, Damage::None)?;
-    let refusals = read_refusals(alloc, &mut device, root);
-    let loaded = load_from(alloc, &mut device, root)?;
-    Ok((refusals, holds(&loaded, b"abcd")))
+// How many loads of one device are refused, whose first read fails, then the second, and so on to the fourth, before one is not.
+fn count_failing(alloc: Global, device: &mut MemDevice, root: Pointer) -> usize {
+    for index in 0..4 {
+        device.fail(Fault::Read, index as u64 + 1);
+        if refusal_from(alloc, device, root) != Some(PoolError::Read) {
+            return index;
+        }
+    }
+    4
+}
+
+// It, and then what a load without a failure holds.
+fn load_about_failures(
+    alloc: Global,
+    device: &mut MemDevice,
+) -> Result<(usize, [bool; 3]), PoolError> {
+    let root = write_tree(device, Damage::None)?;
+    let count = count_failing(alloc, device, root);
+    let loaded = load_from(alloc, device, root)?;
+    Ok((count, holds(&loaded, b"abcd")))
+}
+
+// They, on a new device.
+fn load_new_about_failures(alloc: Global) -> Result<(usize, [bool; 3]), PoolError> {
+    load_about_failures(alloc, &mut MemDevice::new(alloc, 12_288)?)
 }
 
 #[test]
 fn each_read_that_fails_is_told(rt: HostRuntime) {
     assert_eq!(rt;
-        loads_about_failures(rt.alloc()),
-        Ok(([Some(PoolError::Read); 4], [false, true, true]))
+        load_new_about_failures(rt.alloc()),
+        Ok((4, [false, true, true]))
     );
 }
 
@@ -333,7 +319,7 @@ fn last_object(loaded: &Loaded) -> (usize, [Option<u8>; 4]) {
 
 // They, of the tree of this object.
 fn load_last_object(alloc: Global) -> Result<(usize, [Option<u8>; 4]), PoolError> {
-    let mut device = device(alloc)?;
+    let mut device = MemDevice::new(alloc, 12_288)?;
     let root = write_last_object(&mut device)?;
     Ok(last_object(&load_from(alloc, &mut device, root)?))
 }
