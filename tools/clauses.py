@@ -7,7 +7,8 @@
 
 Public are `pub fn`, the functions of a `pub trait`, and those of an `impl` of a trait. Read are README.md, docs/*.md
 and crates/*/README.md without code blocks. In brackets (`F`: `a`, `b`) says that F has the clauses a and b, and (`a`)
-that some public function has the clause a, or that a is the name of something in the code or in the definitions.
+that some public function has the clause a, or that a is the name of something in the code or in the definitions. A row
+of a table whose last column is "labels" says of the functions in its first column what (`F`: `a`, `b`) says.
 """
 import pathlib, re, sys
 
@@ -68,6 +69,16 @@ def brackets(text):
             yield line, text[start:at]
 
 
+def rows(text):
+    """The rows of the tables of labels, each as the text of a bracket, with the number of its line."""
+    inside = False
+    for number, line in enumerate(text.split("\n"), 1):
+        cells = [cell.strip() for cell in line.strip("|").split("|")]
+        inside = line.startswith("|") and (inside or cells[-1] == "labels")
+        if inside and cells[-1].startswith("`"):
+            yield number, f"{cells[0]}: {cells[-1]}".replace(";", ",")
+
+
 def unfold(name):
     """`A::{b, c}` as `A::b` and `A::c`."""
     if m := re.match(r"(.*)\{(.*)\}$", name):
@@ -84,7 +95,7 @@ def check():
     documents = [TOP / "README.md", *sorted((TOP / "docs").glob("*.md")), *sorted((TOP / "crates").glob("*/README.md"))]
     for path in documents:
         text = re.sub(r"(?ms)^```.*?^```", lambda m: "\n" * m[0].count("\n"), path.read_text())
-        for line, inside in brackets(text):
+        for line, inside in [*brackets(text), *rows(text)]:
             for part in inside.split(";"):
                 head, _, tail = part.partition("`: ") if "`: " in part else ("", "", part)
                 head += "`"
