@@ -1,14 +1,15 @@
 #!/usr/bin/env python3
 """The public functions of the crates with the labels of their clauses.
 
-  clauses.py [WORD ..]   a line for each function: crate, function, labels (those of its premises in round brackets);
-                         with words, only lines that have one of them
+  clauses.py [WORD ..]   a line for each function: crate, function, labels (those of its premises in round brackets,
+                         `-` for a clause without one); with words, only lines that have one of them
   clauses.py --check     fails if a document names, in brackets, a label that no public function has
 
 Public are `pub fn`, the functions of a `pub trait`, and those of an `impl` of a trait. Read are README.md, docs/*.md
-and crates/*/README.md without code blocks. In brackets (`F`: `a`, `b`) says that F has the clauses a and b, and (`a`)
-that some public function has the clause a, or that a is the name of something in the code or in the definitions. A row
-of a table whose last column is "labels" says of the functions in its first column what (`F`: `a`, `b`) says.
+and crates/*/README.md without code blocks. In brackets (`F`: `a`, `b`) says that F has the clauses a and b or that
+these are functions, and (`a`) that some public function has the clause a, or that the code, the definitions or the
+lemmas have the word a. A row of a table whose last column is "labels" says of the functions in its first column what
+(`F`: `a`, `b`) says.
 """
 import pathlib, re, sys
 
@@ -20,11 +21,10 @@ NAME = re.compile(r"`((?:[A-Za-z]\w*::)*(?:[a-z]\w*|\{[\w, ]+\}))`")
 
 
 def functions():
-    """Crate, function as its users call it, labels of its clauses and of its premises (`-` for one without)."""
+    """Crate, function as its users call it, labels of its clauses and of its premises."""
     found = []
     for path in sorted((TOP / "crates").glob("*/src/**/*.rt")):
-        crate = path.relative_to(TOP / "crates").parts[0]
-        home, shared, name, labels, premises = "", False, None, [], []
+        home, shared, labels, premises = "", False, [], []
         for line in path.read_text(errors="replace").split("\n"):
             if m := HOME.match(line):
                 rest = re.sub(r"<[^<>]*>", "", re.sub(r"<[^<>]*>", "", m[2]))
@@ -33,11 +33,10 @@ def functions():
             elif line == "}":
                 home, shared = "", False
             if m := FUNCTION.match(line):
-                public = m[2] == "pub " or (shared and m[1])
-                name = f"{home}::{m[3]}" if home and m[1] else m[3]
                 labels, premises = [], []
-                if public:
-                    found.append((crate, name, labels, premises))
+                if m[2] == "pub " or (shared and m[1]):
+                    name = f"{home}::{m[3]}" if home and m[1] else m[3]
+                    found.append((path.relative_to(TOP / "crates").parts[0], name, labels, premises))
             elif m := CLAUSE.match(line):
                 (labels if m[1] == "ensures" else premises).append(m[2] or "-")
     return found
@@ -46,26 +45,25 @@ def functions():
 def words():
     """Each name that the code, the definitions or the lemmas have, and those of crates and of their files."""
     found = {path.name for path in (TOP / "crates").glob("*/*")} | {path.name for path in (TOP / "crates").iterdir()}
-    for ending in ("rt", "antt"):
-        for path in (TOP / "crates").glob(f"*/*/**/*.{ending}"):
-            if "out" not in path.parts:
-                found.update(re.findall(r"[A-Za-z][\w-]*", path.read_text(errors="replace")))
+    for path in [*(TOP / "crates").glob("*/*/**/*.rt"), *(TOP / "crates").glob("*/*/**/*.antt")]:
+        if "out" not in path.parts:
+            found.update(re.findall(r"[A-Za-z][\w-]*", path.read_text(errors="replace")))
     return found
 
 
 def brackets(text):
     """Each text in round brackets, the innermost first, with the number of its line; code in back quotes has none."""
-    number, depth, code = 1, [], False
+    number, open_ones, code = 1, [], False
     for at, c in enumerate(text):
         number += c == "\n"
         if c == "`":
             code = not code
-        elif c == "\n" and text[at + 1 : at + 2] == "\n":
-            depth, code = [], False
+        elif text[at : at + 2] == "\n\n":
+            open_ones, code = [], False
         elif c == "(" and not code:
-            depth.append((at + 1, number))
-        elif c == ")" and not code and depth:
-            start, line = depth.pop()
+            open_ones.append((at + 1, number))
+        elif c == ")" and not code and open_ones:
+            start, line = open_ones.pop()
             yield line, text[start:at]
 
 
@@ -79,11 +77,11 @@ def rows(text):
             yield number, f"{cells[0]}: {cells[-1]}".replace(";", ",")
 
 
-def unfold(name):
-    """`A::{b, c}` as `A::b` and `A::c`."""
-    if m := re.match(r"(.*)\{(.*)\}$", name):
-        return [m[1] + part.strip() for part in m[2].split(",")]
-    return [name]
+def names(text):
+    """The names in back quotes, `A::{b, c}` as `A::b` and `A::c`."""
+    for name in NAME.findall(text):
+        m = re.match(r"(.*)\{(.*)\}$", name)
+        yield from [m[1] + part.strip() for part in m[2].split(",")] if m else [name]
 
 
 def check():
@@ -92,26 +90,18 @@ def check():
         labels.update(own, premises)
         for key in {name, name.split("::")[-1]}:
             owners.setdefault(key, set()).update(own, premises)
-    documents = [TOP / "README.md", *sorted((TOP / "docs").glob("*.md")), *sorted((TOP / "crates").glob("*/README.md"))]
-    for path in documents:
+    for path in [TOP / "README.md", *sorted((TOP / "docs").glob("*.md")), *sorted((TOP / "crates").glob("*/README.md"))]:
         text = re.sub(r"(?ms)^```.*?^```", lambda m: "\n" * m[0].count("\n"), path.read_text())
         for line, inside in [*brackets(text), *rows(text)]:
             for part in inside.split(";"):
                 head, _, tail = part.partition("`: ") if "`: " in part else ("", "", part)
-                head += "`"
-                asked = [key for name in NAME.findall(head) for key in unfold(name)]
-                having = [owners[k] for k in ((a if a in owners else a.split("::")[-1]) for a in asked) if k in owners]
-                for name in (n for found in NAME.findall(tail) for n in unfold(found)):
-                    if "::" in name:
-                        wrong = name not in owners and name.split("::")[-1] not in owners
-                    elif having:
-                        wrong = not any(name in own for own in having) and name not in owners
-                    else:
-                        wrong = name not in labels and name not in known
-                    if wrong:
+                having = [owners[n] for n in names(head + "`") if n in owners]
+                for name in names(tail):
+                    wrong = name not in owners and (not any(name in own for own in having) if having else name not in labels | known)
+                    if wrong or any("::" in n and n not in owners for n in [name, *names(head + "`")]):
                         bad += 1
                         print(f"{path.relative_to(TOP)}:{line}: `{name}` of ({part.strip()})")
-    print("clauses: each label in brackets is one of a public function" if not bad else f"clauses: {bad} wrong names")
+    print(f"clauses: {bad} wrong names" if bad else "clauses: each label in brackets is one of a public function")
     return bad > 0
 
 
