@@ -1,4 +1,5 @@
 pub mod CreateCalls
+pub mod CreateStages
 pub mod LabelWrites
 pub mod NewLabels
 pub mod OutsideWrites

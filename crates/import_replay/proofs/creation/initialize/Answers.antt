@@ -1,33 +1,16 @@
-use Rattle.std.proofs.Common.{ℕ, ◌≡◌, ◌<◌, List, [], ◌∷◌, ◌++◌, Ok, Err, refl}
+use Rattle.std.proofs.Common.{ℕ, ◌<◌, Err, refl}
 use Rattle.base.specs.crash.Views.{View}
 use Rattle.base.specs.disk.Disk.{moments}
-use Rattle.import_replay.specs.Creations.{first_config, first_uberblock}
-use Rattle.import_replay.specs.CreateCalls.{CreateCall, after_calls, clear_block, clear_tail, each_block, each_label, write_config, write_uberblock}
-use Rattle.import_replay.specs.CreateCalls.CreateCall.{Flush}
+use Rattle.import_replay.specs.Creations.{first_config}
 use Rattle.import_replay.specs.Cleared.{IsCleared}
 use Rattle.import_replay.specs.Labelled.{HoldConfig, IsLabelled}
 use Rattle.import_replay.specs.OwnCreations.{first_view}
-use Rattle.import_replay.proofs.CreateCalls.{flush_in_order, made_then, stops_early}
+use Rattle.import_replay.proofs.CreateCalls.{flush_in_order}
+use Rattle.import_replay.proofs.CreateStages.{blocks_made, configs_made, first_flush_made, last_flush_made, second_flush_made, stops_in_blocks, stops_in_configs, stops_in_first_flush, stops_in_second_flush, stops_in_tails, stops_in_uberblocks, uberblocks_made}
 use Rattle.import_replay.proofs.FirstWrites.{first_disk, first_flushed, handed_flushed, none_written}
 use Rattle.import_replay.proofs.LabelWrites.{after_flush, after_last_flush, settles}
 use Rattle.import_replay.proofs.OutsideWrites.{flushes_on}
 use Rattle.import_replay.proofs.creation.initialize.Goals as goal
-
--- the stages of a create
-abbrev tails : ℕ → List CreateCall
-tails size = each_label (clear_tail size)
-
-abbrev blocks : ℕ → List CreateCall
-blocks size = each_block size clear_block
-
-abbrev configs : ℕ → List ℕ → ℕ → List CreateCall
-configs size name guid = each_label (write_config size (first_config name guid size))
-
-abbrev uberblocks : ℕ → ℕ → ℕ → List CreateCall
-uberblocks size guid moment = each_label (write_uberblock size (first_uberblock guid moment))
-
-abbrev flush : List CreateCall
-flush = Flush ∷ []
 
 pub returns-clause-labels : goal.returns-clause-labels
 returns-clause-labels g c = λ keeps.
@@ -88,73 +71,68 @@ pub returns-in_err-clear_labels-clause-ordered : goal.returns-in_err-clear_label
 returns-in_err-clear_labels-clause-ordered g c = λ keeps.
     let disk = g.D.SectorDevice.disk in
     let start = disk c.args.device.now in
-    let x = c.in_err-clear_labels.field-0.0 in
-    stops_early ((tails c.args.geometry)) ((blocks c.args.geometry) ∷ flush ∷ (configs c.args.geometry c.args.name c.args.guid) ∷ flush ∷ (uberblocks c.args.geometry c.args.guid c.args.moment) ∷ flush ∷ []) c.from_residual.result x start (disk c.clear_labels.new.device) c.from_residual.ensures.1
+    stops_in_tails c.args.geometry c.args.name c.args.guid c.args.moment start start (disk c.clear_labels.new.device) c.from_residual.result c.in_err-clear_labels.field-0.0 c.from_residual.ensures.1
     (c.in_err-clear_labels.ensures.ordered keeps)
 
 pub returns-in_err-clear_blocks-clause-ordered : goal.returns-in_err-clear_blocks-clause-ordered
 returns-in_err-clear_blocks-clause-ordered g c = λ keeps.
     let disk = g.D.SectorDevice.disk in
     let start = disk c.args.device.now in
-    let x = c.in_err-clear_blocks.field-0.0 in
-    let labels : disk c.clear_labels.new.device ≡ after_calls (tails c.args.geometry) start = c.in_ok-clear_labels.ensures.ordered keeps in
-    stops_early ((tails c.args.geometry) ++ (blocks c.args.geometry)) (flush ∷ (configs c.args.geometry c.args.name c.args.guid) ∷ flush ∷ (uberblocks c.args.geometry c.args.guid c.args.moment) ∷ flush ∷ []) c.from_residual-in_err-clear_blocks.result x start (disk c.clear_blocks.new.device) c.from_residual-in_err-clear_blocks.ensures.1
-    (made_then ((tails c.args.geometry)) (blocks c.args.geometry) (Err x) start (disk c.clear_labels.new.device) (disk c.clear_blocks.new.device) labels (c.in_err-clear_blocks.ensures.ordered keeps))
+    let labels = c.in_ok-clear_labels.ensures.ordered keeps in
+    stops_in_blocks c.args.geometry c.args.name c.args.guid c.args.moment start (disk c.clear_labels.new.device) (disk c.clear_blocks.new.device) c.from_residual-in_err-clear_blocks.result c.in_err-clear_blocks.field-0.0 c.from_residual-in_err-clear_blocks.ensures.1 labels
+    (c.in_err-clear_blocks.ensures.ordered keeps)
 
 pub returns-in_err-flush-clause-ordered : goal.returns-in_err-flush-clause-ordered
 returns-in_err-flush-clause-ordered g c = λ keeps.
     let disk = g.D.SectorDevice.disk in
     let start = disk c.args.device.now in
-    let x = c.in_err-flush.field-0.0 in
-    let labels : disk c.clear_labels.new.device ≡ after_calls (tails c.args.geometry) start = c.in_ok-clear_labels.ensures.ordered keeps in
-    let cleared : disk c.clear_blocks.new.device ≡ after_calls ((tails c.args.geometry) ++ (blocks c.args.geometry)) start = made_then ((tails c.args.geometry)) (blocks c.args.geometry) (Ok tt) start (disk c.clear_labels.new.device) (disk c.clear_blocks.new.device) labels (c.in_ok-clear_blocks.ensures.ordered keeps) in
-    stops_early ((tails c.args.geometry) ++ (blocks c.args.geometry) ++ flush) ((configs c.args.geometry c.args.name c.args.guid) ∷ flush ∷ (uberblocks c.args.geometry c.args.guid c.args.moment) ∷ flush ∷ []) c.from_residual-in_err-flush.result x start (disk c.flush.new.self) c.from_residual-in_err-flush.ensures.1
-    (made_then ((tails c.args.geometry) ++ (blocks c.args.geometry)) flush (Err x) start (disk c.clear_blocks.new.device) (disk c.flush.new.self) cleared (flush_in_order (Err x) (disk c.clear_blocks.new.device) (disk c.flush.new.self) c.in_err-flush.ensures.refusal (c.in_err-flush.ensures.disk keeps)))
+    let labels = c.in_ok-clear_labels.ensures.ordered keeps in
+    let cleared = blocks_made c.args.geometry c.args.name c.args.guid c.args.moment start (disk c.clear_labels.new.device) (disk c.clear_blocks.new.device) labels (c.in_ok-clear_blocks.ensures.ordered keeps) in
+    stops_in_first_flush c.args.geometry c.args.name c.args.guid c.args.moment start (disk c.clear_blocks.new.device) (disk c.flush.new.self) c.from_residual-in_err-flush.result c.in_err-flush.field-0.0 c.from_residual-in_err-flush.ensures.1 cleared
+    (flush_in_order (Err c.in_err-flush.field-0.0) (disk c.clear_blocks.new.device) (disk c.flush.new.self) c.in_err-flush.ensures.refusal (c.in_err-flush.ensures.disk keeps))
 
 pub returns-in_err-write_configs-clause-ordered : goal.returns-in_err-write_configs-clause-ordered
 returns-in_err-write_configs-clause-ordered g c = λ keeps.
     let disk = g.D.SectorDevice.disk in
     let start = disk c.args.device.now in
-    let x = c.in_err-write_configs.field-0.0 in
-    let labels : disk c.clear_labels.new.device ≡ after_calls (tails c.args.geometry) start = c.in_ok-clear_labels.ensures.ordered keeps in
-    let cleared : disk c.clear_blocks.new.device ≡ after_calls ((tails c.args.geometry) ++ (blocks c.args.geometry)) start = made_then ((tails c.args.geometry)) (blocks c.args.geometry) (Ok tt) start (disk c.clear_labels.new.device) (disk c.clear_blocks.new.device) labels (c.in_ok-clear_blocks.ensures.ordered keeps) in
-    let flushed : disk c.flush.new.self ≡ after_calls ((tails c.args.geometry) ++ (blocks c.args.geometry) ++ flush) start = made_then ((tails c.args.geometry) ++ (blocks c.args.geometry)) flush (Ok tt) start (disk c.clear_blocks.new.device) (disk c.flush.new.self) cleared (c.in_ok-flush.ensures.disk keeps) in
-    stops_early ((tails c.args.geometry) ++ (blocks c.args.geometry) ++ flush ++ (configs c.args.geometry c.args.name c.args.guid)) (flush ∷ (uberblocks c.args.geometry c.args.guid c.args.moment) ∷ flush ∷ []) c.from_residual-in_err-write_configs.result x start (disk c.write_configs.new.device) c.from_residual-in_err-write_configs.ensures.1
-    (made_then ((tails c.args.geometry) ++ (blocks c.args.geometry) ++ flush) (configs c.args.geometry c.args.name c.args.guid) (Err x) start (disk c.flush.new.self) (disk c.write_configs.new.device) flushed (c.in_err-write_configs.ensures.ordered keeps))
+    let labels = c.in_ok-clear_labels.ensures.ordered keeps in
+    let cleared = blocks_made c.args.geometry c.args.name c.args.guid c.args.moment start (disk c.clear_labels.new.device) (disk c.clear_blocks.new.device) labels (c.in_ok-clear_blocks.ensures.ordered keeps) in
+    let certain = first_flush_made c.args.geometry c.args.name c.args.guid c.args.moment start (disk c.clear_blocks.new.device) (disk c.flush.new.self) cleared (c.in_ok-flush.ensures.disk keeps) in
+    stops_in_configs c.args.geometry c.args.name c.args.guid c.args.moment start (disk c.flush.new.self) (disk c.write_configs.new.device) c.from_residual-in_err-write_configs.result c.in_err-write_configs.field-0.0 c.from_residual-in_err-write_configs.ensures.1 certain
+    (c.in_err-write_configs.ensures.ordered keeps)
 
 pub returns-in_err-flush-2-clause-ordered : goal.returns-in_err-flush-2-clause-ordered
 returns-in_err-flush-2-clause-ordered g c = λ keeps.
     let disk = g.D.SectorDevice.disk in
     let start = disk c.args.device.now in
-    let x = c.in_err-flush-2.field-0.0 in
-    let labels : disk c.clear_labels.new.device ≡ after_calls (tails c.args.geometry) start = c.in_ok-clear_labels.ensures.ordered keeps in
-    let cleared : disk c.clear_blocks.new.device ≡ after_calls ((tails c.args.geometry) ++ (blocks c.args.geometry)) start = made_then ((tails c.args.geometry)) (blocks c.args.geometry) (Ok tt) start (disk c.clear_labels.new.device) (disk c.clear_blocks.new.device) labels (c.in_ok-clear_blocks.ensures.ordered keeps) in
-    let flushed : disk c.flush.new.self ≡ after_calls ((tails c.args.geometry) ++ (blocks c.args.geometry) ++ flush) start = made_then ((tails c.args.geometry) ++ (blocks c.args.geometry)) flush (Ok tt) start (disk c.clear_blocks.new.device) (disk c.flush.new.self) cleared (c.in_ok-flush.ensures.disk keeps) in
-    let with_configs : disk c.write_configs.new.device ≡ after_calls ((tails c.args.geometry) ++ (blocks c.args.geometry) ++ flush ++ (configs c.args.geometry c.args.name c.args.guid)) start = made_then ((tails c.args.geometry) ++ (blocks c.args.geometry) ++ flush) (configs c.args.geometry c.args.name c.args.guid) (Ok tt) start (disk c.flush.new.self) (disk c.write_configs.new.device) flushed (c.in_ok-write_configs.ensures.ordered keeps) in
-    stops_early ((tails c.args.geometry) ++ (blocks c.args.geometry) ++ flush ++ (configs c.args.geometry c.args.name c.args.guid) ++ flush) ((uberblocks c.args.geometry c.args.guid c.args.moment) ∷ flush ∷ []) c.from_residual-in_err-flush-2.result x start (disk c.flush-2.new.self) c.from_residual-in_err-flush-2.ensures.1
-    (made_then ((tails c.args.geometry) ++ (blocks c.args.geometry) ++ flush ++ (configs c.args.geometry c.args.name c.args.guid)) flush (Err x) start (disk c.write_configs.new.device) (disk c.flush-2.new.self) with_configs (flush_in_order (Err x) (disk c.write_configs.new.device) (disk c.flush-2.new.self) c.in_err-flush-2.ensures.refusal (c.in_err-flush-2.ensures.disk keeps)))
+    let labels = c.in_ok-clear_labels.ensures.ordered keeps in
+    let cleared = blocks_made c.args.geometry c.args.name c.args.guid c.args.moment start (disk c.clear_labels.new.device) (disk c.clear_blocks.new.device) labels (c.in_ok-clear_blocks.ensures.ordered keeps) in
+    let certain = first_flush_made c.args.geometry c.args.name c.args.guid c.args.moment start (disk c.clear_blocks.new.device) (disk c.flush.new.self) cleared (c.in_ok-flush.ensures.disk keeps) in
+    let with_configs = configs_made c.args.geometry c.args.name c.args.guid c.args.moment start (disk c.flush.new.self) (disk c.write_configs.new.device) certain (c.in_ok-write_configs.ensures.ordered keeps) in
+    stops_in_second_flush c.args.geometry c.args.name c.args.guid c.args.moment start (disk c.write_configs.new.device) (disk c.flush-2.new.self) c.from_residual-in_err-flush-2.result c.in_err-flush-2.field-0.0 c.from_residual-in_err-flush-2.ensures.1 with_configs
+    (flush_in_order (Err c.in_err-flush-2.field-0.0) (disk c.write_configs.new.device) (disk c.flush-2.new.self) c.in_err-flush-2.ensures.refusal (c.in_err-flush-2.ensures.disk keeps))
 
 pub returns-in_err-write_uberblocks-clause-ordered : goal.returns-in_err-write_uberblocks-clause-ordered
 returns-in_err-write_uberblocks-clause-ordered g c = λ keeps.
     let disk = g.D.SectorDevice.disk in
     let start = disk c.args.device.now in
-    let x = c.in_err-write_uberblocks.field-0.0 in
-    let labels : disk c.clear_labels.new.device ≡ after_calls (tails c.args.geometry) start = c.in_ok-clear_labels.ensures.ordered keeps in
-    let cleared : disk c.clear_blocks.new.device ≡ after_calls ((tails c.args.geometry) ++ (blocks c.args.geometry)) start = made_then ((tails c.args.geometry)) (blocks c.args.geometry) (Ok tt) start (disk c.clear_labels.new.device) (disk c.clear_blocks.new.device) labels (c.in_ok-clear_blocks.ensures.ordered keeps) in
-    let flushed : disk c.flush.new.self ≡ after_calls ((tails c.args.geometry) ++ (blocks c.args.geometry) ++ flush) start = made_then ((tails c.args.geometry) ++ (blocks c.args.geometry)) flush (Ok tt) start (disk c.clear_blocks.new.device) (disk c.flush.new.self) cleared (c.in_ok-flush.ensures.disk keeps) in
-    let with_configs : disk c.write_configs.new.device ≡ after_calls ((tails c.args.geometry) ++ (blocks c.args.geometry) ++ flush ++ (configs c.args.geometry c.args.name c.args.guid)) start = made_then ((tails c.args.geometry) ++ (blocks c.args.geometry) ++ flush) (configs c.args.geometry c.args.name c.args.guid) (Ok tt) start (disk c.flush.new.self) (disk c.write_configs.new.device) flushed (c.in_ok-write_configs.ensures.ordered keeps) in
-    let certain : disk c.flush-2.new.self ≡ after_calls ((tails c.args.geometry) ++ (blocks c.args.geometry) ++ flush ++ (configs c.args.geometry c.args.name c.args.guid) ++ flush) start = made_then ((tails c.args.geometry) ++ (blocks c.args.geometry) ++ flush ++ (configs c.args.geometry c.args.name c.args.guid)) flush (Ok tt) start (disk c.write_configs.new.device) (disk c.flush-2.new.self) with_configs (c.in_ok-flush-2.ensures.disk keeps) in
-    stops_early ((tails c.args.geometry) ++ (blocks c.args.geometry) ++ flush ++ (configs c.args.geometry c.args.name c.args.guid) ++ flush ++ (uberblocks c.args.geometry c.args.guid c.args.moment)) (flush ∷ []) c.from_residual-in_err-write_uberblocks.result x start (disk c.write_uberblocks.new.device) c.from_residual-in_err-write_uberblocks.ensures.1
-    (made_then ((tails c.args.geometry) ++ (blocks c.args.geometry) ++ flush ++ (configs c.args.geometry c.args.name c.args.guid) ++ flush) (uberblocks c.args.geometry c.args.guid c.args.moment) (Err x) start (disk c.flush-2.new.self) (disk c.write_uberblocks.new.device) certain (c.in_err-write_uberblocks.ensures.ordered keeps))
+    let labels = c.in_ok-clear_labels.ensures.ordered keeps in
+    let cleared = blocks_made c.args.geometry c.args.name c.args.guid c.args.moment start (disk c.clear_labels.new.device) (disk c.clear_blocks.new.device) labels (c.in_ok-clear_blocks.ensures.ordered keeps) in
+    let certain = first_flush_made c.args.geometry c.args.name c.args.guid c.args.moment start (disk c.clear_blocks.new.device) (disk c.flush.new.self) cleared (c.in_ok-flush.ensures.disk keeps) in
+    let with_configs = configs_made c.args.geometry c.args.name c.args.guid c.args.moment start (disk c.flush.new.self) (disk c.write_configs.new.device) certain (c.in_ok-write_configs.ensures.ordered keeps) in
+    let certain_configs = second_flush_made c.args.geometry c.args.name c.args.guid c.args.moment start (disk c.write_configs.new.device) (disk c.flush-2.new.self) with_configs (c.in_ok-flush-2.ensures.disk keeps) in
+    stops_in_uberblocks c.args.geometry c.args.name c.args.guid c.args.moment start (disk c.flush-2.new.self) (disk c.write_uberblocks.new.device) c.from_residual-in_err-write_uberblocks.result c.in_err-write_uberblocks.field-0.0 c.from_residual-in_err-write_uberblocks.ensures.1 certain_configs
+    (c.in_err-write_uberblocks.ensures.ordered keeps)
 
 pub returns-clause-ordered : goal.returns-clause-ordered
 returns-clause-ordered g c = λ keeps.
     let disk = g.D.SectorDevice.disk in
     let start = disk c.args.device.now in
-    let labels : disk c.clear_labels.new.device ≡ after_calls (tails c.args.geometry) start = c.in_ok-clear_labels.ensures.ordered keeps in
-    let cleared : disk c.clear_blocks.new.device ≡ after_calls ((tails c.args.geometry) ++ (blocks c.args.geometry)) start = made_then ((tails c.args.geometry)) (blocks c.args.geometry) (Ok tt) start (disk c.clear_labels.new.device) (disk c.clear_blocks.new.device) labels (c.in_ok-clear_blocks.ensures.ordered keeps) in
-    let flushed : disk c.flush.new.self ≡ after_calls ((tails c.args.geometry) ++ (blocks c.args.geometry) ++ flush) start = made_then ((tails c.args.geometry) ++ (blocks c.args.geometry)) flush (Ok tt) start (disk c.clear_blocks.new.device) (disk c.flush.new.self) cleared (c.in_ok-flush.ensures.disk keeps) in
-    let with_configs : disk c.write_configs.new.device ≡ after_calls ((tails c.args.geometry) ++ (blocks c.args.geometry) ++ flush ++ (configs c.args.geometry c.args.name c.args.guid)) start = made_then ((tails c.args.geometry) ++ (blocks c.args.geometry) ++ flush) (configs c.args.geometry c.args.name c.args.guid) (Ok tt) start (disk c.flush.new.self) (disk c.write_configs.new.device) flushed (c.in_ok-write_configs.ensures.ordered keeps) in
-    let certain : disk c.flush-2.new.self ≡ after_calls ((tails c.args.geometry) ++ (blocks c.args.geometry) ++ flush ++ (configs c.args.geometry c.args.name c.args.guid) ++ flush) start = made_then ((tails c.args.geometry) ++ (blocks c.args.geometry) ++ flush ++ (configs c.args.geometry c.args.name c.args.guid)) flush (Ok tt) start (disk c.write_configs.new.device) (disk c.flush-2.new.self) with_configs (c.in_ok-flush-2.ensures.disk keeps) in
-    let with_uberblocks : disk c.write_uberblocks.new.device ≡ after_calls ((tails c.args.geometry) ++ (blocks c.args.geometry) ++ flush ++ (configs c.args.geometry c.args.name c.args.guid) ++ flush ++ (uberblocks c.args.geometry c.args.guid c.args.moment)) start = made_then ((tails c.args.geometry) ++ (blocks c.args.geometry) ++ flush ++ (configs c.args.geometry c.args.name c.args.guid) ++ flush) (uberblocks c.args.geometry c.args.guid c.args.moment) (Ok tt) start (disk c.flush-2.new.self) (disk c.write_uberblocks.new.device) certain (c.in_ok-write_uberblocks.ensures.ordered keeps) in
-    made_then ((tails c.args.geometry) ++ (blocks c.args.geometry) ++ flush ++ (configs c.args.geometry c.args.name c.args.guid) ++ flush ++ (uberblocks c.args.geometry c.args.guid c.args.moment)) flush c.flush-3.result start (disk c.write_uberblocks.new.device) (disk c.flush-3.new.self) with_uberblocks (flush_in_order c.flush-3.result (disk c.write_uberblocks.new.device) (disk c.flush-3.new.self) c.flush-3.ensures.refusal (c.flush-3.ensures.disk keeps))
+    let labels = c.in_ok-clear_labels.ensures.ordered keeps in
+    let cleared = blocks_made c.args.geometry c.args.name c.args.guid c.args.moment start (disk c.clear_labels.new.device) (disk c.clear_blocks.new.device) labels (c.in_ok-clear_blocks.ensures.ordered keeps) in
+    let certain = first_flush_made c.args.geometry c.args.name c.args.guid c.args.moment start (disk c.clear_blocks.new.device) (disk c.flush.new.self) cleared (c.in_ok-flush.ensures.disk keeps) in
+    let with_configs = configs_made c.args.geometry c.args.name c.args.guid c.args.moment start (disk c.flush.new.self) (disk c.write_configs.new.device) certain (c.in_ok-write_configs.ensures.ordered keeps) in
+    let certain_configs = second_flush_made c.args.geometry c.args.name c.args.guid c.args.moment start (disk c.write_configs.new.device) (disk c.flush-2.new.self) with_configs (c.in_ok-flush-2.ensures.disk keeps) in
+    let with_uberblocks = uberblocks_made c.args.geometry c.args.name c.args.guid c.args.moment start (disk c.flush-2.new.self) (disk c.write_uberblocks.new.device) certain_configs (c.in_ok-write_uberblocks.ensures.ordered keeps) in
+    last_flush_made c.args.geometry c.args.name c.args.guid c.args.moment start (disk c.write_uberblocks.new.device) (disk c.flush-3.new.self) c.flush-3.result with_uberblocks
+    (flush_in_order c.flush-3.result (disk c.write_uberblocks.new.device) (disk c.flush-3.new.self) c.flush-3.ensures.refusal (c.flush-3.ensures.disk keeps))
