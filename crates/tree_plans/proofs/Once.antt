@@ -1,4 +1,4 @@
--- What comes back comes back once, where no two places of the tree before have blocks at one address.
+-- What comes back comes back once, if no two places of the tree before have blocks at one address.
 use Rattle.std.proofs.Common.{◌≡◌, ◌≢◌, ◌==◌, ℕ, zero, suc, ◌+◌, ◌<◌, ◌⊎◌, inl, inr, Bool, true, false, List, [], ◌∷◌, ◌++◌, nat_eq, Option, Some, None, refl, sym, ◌∙◌, ap, subst, arith}
 use Rattle.std.specs.Prelude.{slice_get, slice_index_or, is_some}
 use Rattle.std.specs.List.{IsDistinct, list_any}
@@ -24,7 +24,7 @@ use Rattle.tree_plans.specs.Plans.{AreApart, FreesOnce, IsAmong, IsApart, IsOf, 
 use Rattle.tree_plans.specs.Walks.{DirectoriesFree, IsOfDirectory, IsOfObject, ObjectsFree, directory_state, root_state}
 use Rattle.tree_plans.proofs.Walks.{some_either}
 
--- an address that no list has is told as such
+-- a list has no element equal to an address that is not in it
 absent : (xs : List ℕ) (y : ℕ) → (IsAmong xs y → ⊥) → list_any (nat_eq y) xs ≡ false
 absent [] y none = refl
 absent (x ∷ xs) y none = go (nat_eq y x) refl (absent xs y (λ more. none (suc more.0, more.1)))

@@ -91,7 +91,7 @@ IsOf pointer address = (pointer ≢ no_pointer) × (pointer.address ≡ address)
 abbrev pub FreesOnly : List ℕ → List ℕ → Pointer → Type 0
 FreesOnly old new replaced = (address : ℕ) → IsAmong new address → IsAmong old address ⊎ IsOf replaced address
 
--- addresses come back once: where none of those that may come back has before, none is twice in the list if none was
+-- addresses come back once: if none that may come back has come back before, and none was twice in the list, none is
 abbrev pub FreesOnce : List ℕ → List ℕ → (ℕ → Type 0) → Type 0
 FreesOnce old new MayComeBack = ((address : ℕ) → MayComeBack address → IsAmong old address → ⊥) → IsDistinct nat_eq old → IsDistinct nat_eq new
 
