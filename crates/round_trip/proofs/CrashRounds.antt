@@ -197,6 +197,8 @@ module _ {Dev : Type 0} {G : Ghosts Dev} (keep : IsTrue G.keeps_model) (dirty_ma
               base = found.contents;
               left = found.left;
               start = on_disk state first;
+              began_on = left_then.goes_on;
+              kept = safe_first;
               opened = opened;
               at_first = record { mounted = m; shown_is = shows };
               begins = of_found;

@@ -3,15 +3,17 @@ use Rattle.std.proofs.Common.{◌≡◌, ◌∙◌, ◌⊎◌, inl, inr, ℕ, su
 use Rattle.std.specs.Coded.{Coded-set, coded_ℕ}
 use Rattle.std.proofs.lemmas.List.Elements.{All-head, All-tail}
 use Rattle.std.specs.Prelude.{◌≢◌, All, IfErr, IfOk, Ok, Err}
-use Rattle.std.proofs.Math.Logic.{∥∥₁_elim}
+use Rattle.std.proofs.Math.Logic.{∥∥₁_elim, ∥∥₁_map}
 use Rattle.base.specs.declared.step.Step as declared_step
 use Rattle.base.specs.declared.step.Reply as declared_reply
 use Rattle.base.specs.declared.error.PoolError.{PoolError}
 use Rattle.base.specs.declared.error.PoolError.TheVariants.{NoMemory, NoPool}
-use Rattle.base.specs.disk.Disk.{Disk}
+use Rattle.base.specs.disk.Disk.{Disk, bytes_of}
 use Rattle.base.specs.history.Past.{Past}
 use Rattle.base.specs.steps.Runs.{Run}
-use Rattle.round_trip.specs.Crashes.{Answer, ComesTo, ComesToOfNew, IsFairEnd, IsLeft, IsOverFor, IsRefusedFrom, Outcome}
+use Rattle.pool_core.specs.KeptSafe.{IsSafeStep, OnDisk}
+use Rattle.round_trip.specs.Rounds.{HasMoment}
+use Rattle.round_trip.specs.Crashes.{Answer, ComesTo, ComesToOfNew, GoesOnFrom, IsFairEnd, IsLeft, IsOverFor, IsRefusedFrom, Outcome}
 use Rattle.round_trip.specs.declared.crashes.End.{End}
 use Rattle.round_trip.specs.declared.crashes.End.TheVariants.{GivenUp}
 use Rattle.round_trip.specs.declared.crashes.Round.{Round}
@@ -29,6 +31,15 @@ pub length-over : (dirty_max moment : ℕ) (ss : List declared_step.Step) (answe
 length-over dirty_max moment ss (Ok replies) past disk ended over =
     ∥∥₁_elim over (Coded-set coded_ℕ (length replies.items) (length ss)) (λ o. length-run _ ss replies.items _ _ o.1.steps.made)
 length-over dirty_max moment ss (Err e) past disk ended over = tt
+
+-- and they begin on the disk that its import left
+pub begin_on_import : (dirty_max moment : ℕ) (ss : List declared_step.Step) (answer : Answer) (past : Past) (disk ended : Disk) → IsOverFor dirty_max moment ss answer past disk ended
+    → IfOk answer (λ replies. ∥ ((first : OnDisk) × (last : OnDisk) × GoesOnFrom disk first.disk × HasMoment (bytes_of first.disk.now) moment × Run IsSafeStep ss replies.items first last × (last.disk ≡ ended)) ∥₁)
+begin_on_import dirty_max moment ss (Ok replies) past disk ended over = ∥∥₁_map over (λ o.
+    let s = o.1.steps in
+    let has : HasMoment (bytes_of s.start.disk.now) moment = subst (λ (now : List ℕ). HasMoment now moment) s.kept.same_bytes s.opened.after in
+    (s.start, s.end, s.began_on, has, s.made, s.disk_is))
+begin_on_import dirty_max moment ss (Err e) past disk ended over = tt
 
 -- and a refused one is not refused for want of a pool
 pub pool_found : (dirty_max moment : ℕ) (ss : List declared_step.Step) (answer : Answer) (past : Past) (disk ended : Disk) → IsOverFor dirty_max moment ss answer past disk ended

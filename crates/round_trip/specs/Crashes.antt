@@ -22,7 +22,7 @@ use Rattle.import_replay.specs.CreateRefusals.{CanCreate, IsCreateRefusal}
 use Rattle.import_replay.specs.Creations.{IsNewPool}
 use Rattle.import_replay.specs.ImportRefusals.{IsImportRefusal, IsOfSoundPool, IsReason}
 use Rattle.pool_core.specs.Calls.{counted_in_turn}
-use Rattle.pool_core.specs.KeptSafe.{IsSafeStep, OnDisk}
+use Rattle.pool_core.specs.KeptSafe.{IsKeptSafe, IsSafeStep, OnDisk}
 use Rattle.round_trip.specs.declared.crashes.End.{End}
 use Rattle.round_trip.specs.declared.crashes.End.TheVariants.{Crash, GivenUp}
 use Rattle.round_trip.specs.declared.crashes.Round.{Round}
@@ -51,12 +51,14 @@ abbrev pub IsLeft : Past → Disk → Type 0
 IsLeft past disk = (guid : ℕ) × IsRunLeft disk past guid
 
 -- Steps with these replies, of a pool that was imported from a disk at a moment, with contents that the earlier run left: the replay of a cut of
--- its entries with every acknowledged one. They begin with no step made and a past in which nothing happened, and lead to the later one; each is a step of the definitions, at each
--- of whose moments the disk was safe; and they end on this disk.
+-- its entries with every acknowledged one. They begin on the disk that the import left, with no step made and a past in which nothing happened, and
+-- lead to the later one. Each is a step of the definitions, at each of whose moments the disk was safe; and they end on this disk.
 pub record AreStepsFrom (dirty_max moment : ℕ) (ss : List declared_step.Step) (rs : List declared_reply.Reply) (earlier later : Past) (disk ended : Disk) : Type 0 where
   pub base : Contents
   pub left : IsLeftBy earlier base
   pub start : OnDisk
+  pub began_on : GoesOnFrom disk start.disk
+  pub kept : IsKeptSafe start
   pub opened : IsOpened (bytes_of disk.now) start.held.now moment
   pub at_first : IsJustMounted start.held.state.shown
   pub begins : start.held.state.past ≡ new_past base earlier.created dirty_max

@@ -8,8 +8,9 @@ ghost use Rattle.base.specs.formats.Uberblocks.{IsActive};
 ghost use Rattle.base.specs.history.Contents.{Contents};
 ghost use Rattle.base.specs.history.Past.{Past};
 ghost use Rattle.import_replay.specs.Creations.{first_uberblock};
-ghost use Rattle.import_replay.specs.OwnCreations.{HasEarlierWrites};
-ghost use Rattle.round_trip.specs.Crashes.{IsLeft};
+ghost use Rattle.base.specs.steps.Runs.{Run};
+ghost use Rattle.pool_core.specs.KeptSafe.{IsSafeStep, OnDisk};
+ghost use Rattle.round_trip.specs.Crashes.{GoesOnFrom, IsLeft};
 ghost use Rattle.round_trip.specs.declared.crashes.End.TheVariants.{GivenUp};
 ghost use Rattle.round_trip.specs.Rounds.{HasMoment, HoldsContents};
 
@@ -74,6 +75,21 @@ fn what_a_run_left_is_run_on(
     import_and_run(alloc, device, 1_048_576, 7, steps)
 }
 
+// The steps of a round are made on the device's own disk, and begin on what the import at moment 7 left there.
+fn the_steps_of_a_round_begin_on_what_its_import_left(
+    alloc: Global,
+    device: MemDevice,
+    steps: Vec<Step>,
+) -> (Answer, MemDevice)
+    ensures { (past : Past) → IsLeft past device.disk → IfOk result.0 (λ replies.
+        ∥ ((first : OnDisk) × (last : OnDisk) × GoesOnFrom device.disk first.disk
+        × HasMoment (bytes_of first.disk.now) 7
+        × Run IsSafeStep steps.items replies.items first last
+        × (last.disk ≡ result.1.disk)) ∥₁) }
+{
+    import_and_run(alloc, device, 1_048_576, 7, steps)
+}
+
 // A crash at the end of a round leaves its pieces.
 fn a_crash_leaves_its_pieces(
     alloc: Global,
@@ -112,8 +128,7 @@ fn each_round_has_an_answer(
     rounds: Vec<Round>,
 ) -> Result<(Vec<Answer>, Imported<MemDevice>), PoolError>
     requires given_up { All (λ (r : Round). r.end ≡ GivenUp) rounds.items }
-    ensures { HasEarlierWrites device.disk
-        → IfOk result (λ r. length r.0.items ≡ length rounds.items) }
+    ensures { IfOk result (λ r. length r.0.items ≡ length rounds.items) }
 {
     play_rounds(alloc, device, b"tank", 77, 1_048_576, 7, rounds)
 }

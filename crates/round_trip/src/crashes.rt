@@ -11,7 +11,6 @@ ghost use Rattle.base.specs.history.Past.{Past};
 ghost use Rattle.object_maps.specs.ContentsShown.{contents_of};
 ghost use Rattle.import_replay.specs.CreateRefusals.{IsCreateRefusal};
 ghost use Rattle.import_replay.specs.ImportRefusals.{IsImportRefusal};
-ghost use Rattle.import_replay.specs.OwnCreations.{HasEarlierWrites};
 ghost use Rattle.round_trip.specs.Crashes.{FindsCutsFrom, FindsCutsOfNew, IsLeft, IsOverFor, IsRefusedFrom, IsRefusedOfNew, IsRound, IsRoundsOfNewRefusal, IsRoundsRefusal, counted_in, with_fault};
 ghost use Rattle.round_trip.specs.Rounds.{HasMoment};
 
@@ -149,14 +148,14 @@ pub fn play_rounds(
     moment: u64,
     rounds: Vec<Round>,
 ) -> Result<(Vec<Result<Vec<Reply>, PoolError>>, Imported<MemDevice>), PoolError>
-    ensures found { HasEarlierWrites device.disk → IfOk result (λ r.
+    ensures found { IfOk result (λ r.
         FindsCutsOfNew name.now guid moment rounds.items r.0.items device.disk
         (contents_of r.1.mounted.contents) r.1.device.disk) }
     ensures opened { IfOk result (λ r. HasMoment (bytes_of r.1.device.disk.now) moment) }
     ensures limit { IfOk result (λ r. r.1.mounted.dirty_max ≡ dirty_max) }
     ensures refusal { IfErr result
         (λ e. IsRoundsOfNewRefusal (disk_size device.disk) name.now dirty_max e) }
-    ensures reason { HasEarlierWrites device.disk → IfErr result
+    ensures reason { IfErr result
         (λ e. IsCreateRefusal (disk_size device.disk) name.now e
         ⊎ IsRefusedOfNew name.now guid moment rounds.items device.disk e) }
 {

@@ -12,7 +12,7 @@ ghost use Rattle.base.specs.disk.Disk.{bytes_of, moments};
 ghost use Rattle.import_replay.specs.CreateRefusals.{CanCreate, IsCreateRefusal};
 ghost use Rattle.import_replay.specs.Creations.{IsNewPool};
 ghost use Rattle.import_replay.specs.ImportRefusals.{CanImport, FindsOwn, IsImportRefusal, IsReason};
-ghost use Rattle.import_replay.specs.OwnCreations.{HasEarlierWrites, first_contents};
+ghost use Rattle.import_replay.specs.OwnCreations.{first_contents};
 ghost use Rattle.import_replay.specs.RunStarts.{StartsRun};
 ghost use Rattle.object_maps.specs.ContentsShown.{contents_of};
 ghost use Rattle.round_trip.specs.Crashes.{GoesOnFrom};
@@ -42,7 +42,7 @@ pub fn make<D: SectorDevice + Drop>(
         → IfOk result (λ d. HoldsNew (bytes_of (D.disk d).now) name.now) }
     ensures written { IsTrue D.keeps_model
         → IfOk result (λ d. IsNewPool (bytes_of (D.disk d).now) name.now guid moment) }
-    ensures own { IsTrue D.keeps_model → HasEarlierWrites (D.disk device) → IfOk result
+    ensures own { IsTrue D.keeps_model → IfOk result
         (λ d. IsOwnWith (D.disk d) (moments (D.disk device)) guid (first_contents name.now)) }
     ensures goes_on { IsTrue D.keeps_model
         → IfOk result (λ d. GoesOnFrom (D.disk device) (D.disk d)) }
