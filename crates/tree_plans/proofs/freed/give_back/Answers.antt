@@ -1,6 +1,5 @@
-use Rattle.std.proofs.Common.{◌≡◌, ◌≢◌, rules}
+use Rattle.std.proofs.Common.{◌≢◌, rules}
 use Rattle.base.specs.formats.Fields.{no_pointer}
-use Rattle.tree_plans.specs.Plans.{FreesOnce, IsOf}
 use Rattle.tree_plans.proofs.Once.{once_pushed}
 use Rattle.tree_plans.proofs.freed.give_back.Goals as goal
 
