@@ -12,7 +12,7 @@ use Rattle.base.specs.history.Past.{Past, new_past}
 use Rattle.base.specs.steps.Explains.{IsLeftBy}
 use Rattle.base.specs.steps.Runs.{Run}
 use Rattle.device_model.specs.MemState.{MemState}
-use Rattle.import_replay.specs.OwnCreations.{HasEarlierWrites, first_contents}
+use Rattle.import_replay.specs.OwnCreations.{first_contents}
 use Rattle.pool_core.specs.KeptSafe.{BeginsSafe, IsKeptSafe, IsSafeStep, on_disk}
 use Rattle.pool_core.specs.NewStates.{IsHeldAtFirst}
 use Rattle.pool_core.specs.States.{shown, told}
@@ -77,9 +77,9 @@ module _ {P : Type 0} where
   LeavesNew name created (Device device) = IsLeft (new_past (first_contents name) created 0) device.disk
   LeavesNew name created place = ⊥
 
-  -- a create that was answered Ok leaves a new pool, where no write of before counts as one of its own: as on a new device
+  -- a create that was answered Ok leaves a new pool, whatever was written to the device before
   abbrev pub StartsKept : List ℕ → MemState → Answer → Place P → Type 0
-  StartsKept name old told new = told ≡ answer.Reply Done → HasEarlierWrites old.disk → LeavesNew name (moments old.disk) new
+  StartsKept name old told new = told ≡ answer.Reply Done → LeavesNew name (moments old.disk) new
 
 -- What a command keeps, from each past with which there is something to keep. A crash keeps it where it is fair.
 abbrev pub KeepsCuts : Command → Session → Result Answer BadCommand → Session → Type 0

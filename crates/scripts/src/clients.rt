@@ -7,10 +7,11 @@ ghost use Rattle.base.specs.declared.operation.Op.TheVariants as op;
 ghost use Rattle.base.specs.declared.operation.Shape.TheVariants as shape;
 ghost use Rattle.base.specs.declared.step.Reply.TheVariants as reply;
 ghost use Rattle.base.specs.declared.step.Step.TheVariants.{CloseGroup, StartSync};
-ghost use Rattle.base.specs.disk.Disk.{disk_size};
+ghost use Rattle.base.specs.disk.Disk.{disk_size, moments};
 ghost use Rattle.base.specs.formats.Geometry.{IsGeometry};
 ghost use Rattle.device_model.specs.MemState.{after_crash};
 ghost use Rattle.pool_core.specs.States.{shown};
+ghost use Rattle.scripts.specs.Kept.{LeavesNew};
 ghost use Rattle.scripts.specs.Places.{AsksIn, has_device, has_pool};
 ghost use Rattle.scripts.specs.PoolSteps.{CommitsOps, MakesSteps};
 ghost use Rattle.scripts.specs.Pools.{IsStepOf, MemPool};
@@ -94,6 +95,17 @@ fn a_good_create_is_refused_by_the_device<P: Drop>(
     ensures { (result ≡ Answer.Reply reply.Done)
         ⊎ ((result ≡ Answer.Reply (reply.Refused error.Write))
         ⊎ (result ≡ Answer.Reply (reply.Refused error.Flush))) }
+{
+    place.create(device, b"tank", 77, 0)
+}
+
+// A create leaves a new pool on a device that was written to before, too.
+fn a_create_on_a_used_device_leaves_a_new_pool<P: Drop>(
+    place: &mut Place<P>,
+    device: MemDevice,
+) -> Answer
+    ensures { result ≡ Answer.Reply reply.Done
+        → LeavesNew (116 ∷ 97 ∷ 110 ∷ 107 ∷ []) (moments device.disk) place.new }
 {
     place.create(device, b"tank", 77, 0)
 }
