@@ -29,17 +29,18 @@ pub struct PoolRule<D> {
 }
 
 impl<D: SectorDevice> LockRule<Box<PoolState<D>>> for PoolRule<D> {
+    ghost use Rattle.std.specs.Prelude.{IsTrue};
     ghost use Rattle.pool_threads.specs.Views.{Explains, GrowsTo, blank_view, grows_onward, grows_same};
 
     type View = PoolView;
 
     ghost explains = { λ v b. Explains b.value v };
 
-    ghost grows = { GrowsTo };
+    ghost grows = { GrowsTo (IsTrue D.keeps_model) };
 
     ghost blank = { blank_view };
 
-    ghost same = { grows_same };
+    ghost same = { grows_same (IsTrue D.keeps_model) };
 
-    ghost onward = { grows_onward };
+    ghost onward = { grows_onward (IsTrue D.keeps_model) };
 }
