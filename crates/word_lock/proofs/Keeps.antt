@@ -4,7 +4,7 @@ use Rattle.std.specs.Prelude as std
 use Rattle.std.proofs.lemmas.Nat.Bits.{bit_at_or, bit_at_lowest}
 use Rattle.std.proofs.lemmas.Bool.{eq-eqb, ne_eqb}
 use Rattle.std.specs.Bool.{IsTrue}
-use Rattle.std.specs.Prelude.{IfSome}
+use Rattle.std.specs.Prelude.{IfSome, IsSome}
 use mathlib.Core.Logic.{dite, ◌↔◌}
 use mathlib.Core.Option.{Option, none, some, some-injective, some-ne-none}
 use native.Mathlib.Decide.{ℕ_discrete}
@@ -17,7 +17,7 @@ use Rattle.word_lock.specs.declared.rule.Stage.{Stage}
 use Rattle.word_lock.specs.declared.rule.Stage.TheVariants.{Away, Met, Holding, Spent}
 use Rattle.word_lock.specs.declared.rule.Turn.{Turn}
 use Rattle.word_lock.specs.Turns.{turn, turns_of, IsTurnLine, IsTurnHistory}
-use Rattle.word_lock.specs.Kept.{Knows, Kept, Mine, away, holding, met, spent, tried, stays, noted, freed, settled, sat}
+use Rattle.word_lock.specs.Kept.{Knows, Kept, Mine, away, holding, met, spent, tried, stays, noted, freed, settled, sat, with_split}
 
 -- ---- the held bit
 
@@ -116,8 +116,45 @@ module _ {V : Type 0} (grows : V → V → Type 0) (same : (a : V) → grows a a
   same_bit a n m h j e v Spent x = tt
 
   -- the truth goes on from what a seat that is away has seen
-  seen_grows : (t : V) (n h j : ℕ) (d : Sight V) (v : V) (ts : List (Turn V)) → d ≡ away v ts → K t n h j d → grows d.seen t
-  seen_grows t n h j d v ts is = subst (λ (e : Sight V). K t n h j e → grows e.seen t) (sym is) (λ x. x)
+  seen_grows : (t : V) (n h j : ℕ) (d : Sight V) (v : V) (ts us : List (Turn V)) (k : ℕ) → d ≡ away v ts us k → K t n h j d → grows d.seen t
+  seen_grows t n h j d v ts us k is = subst (λ (e : Sight V). K t n h j e → grows e.seen t) (sym is) (λ x. x)
+
+  -- a seat with the number 0 is the only one, and has seen the truth
+  abbrev Alone : List (Sight V) → Type 0
+  Alone vs = (i j : ℕ) (d e : Sight V) → get_elem? vs i ≡ some d → get_elem? vs j ≡ some e → d.kin ≡ 0 → j ≡ i
+
+  abbrev Sees : V → ℕ → Sight V → Type 0
+  Sees t j d = d.kin ≡ 0 → d.seen ≡ t
+
+  -- no seat has the number 0
+  abbrev HasKin : ℕ → Sight V → Type 0
+  HasKin j d = d.kin ≢ 0
+
+  abbrev AllKin : List (Sight V) → Type 0
+  AllKin vs = (j : ℕ) (d : Sight V) → get_elem? vs j ≡ some d → HasKin j d
+
+  was : (vs : List (Sight V)) (id : ℕ) (b w : Sight V) → get_elem? vs id ≡ some b → w.kin ≡ b.kin → (k : ℕ) (x : Sight V) → get_elem? (set vs id w) k ≡ some x
+      → (y : Sight V) × (get_elem? vs k ≡ some y) × (y.kin ≡ x.kin)
+  was vs id b w at kin k x h =
+      ⊎_elim {C = (y : Sight V) × (get_elem? vs k ≡ some y) × (y.kin ≡ x.kin)}
+      (λ (t : (k ≡ id) × (w ≡ x)). (b, subst (λ (z : ℕ). get_elem? vs z ≡ some b) (sym t.0) at, sym kin ∙ ap (λ (y : Sight V). y.kin) t.1))
+      (λ (t : (k ≢ id) × (get_elem? vs k ≡ some x)). (x, t.1, refl))
+      (at_set vs id k w x h)
+
+  alone_set : (vs : List (Sight V)) (id : ℕ) (b w : Sight V) → get_elem? vs id ≡ some b → w.kin ≡ b.kin → Alone vs → Alone (set vs id w)
+  alone_set vs id b w at kin a i j d e hi hj nk =
+      let x = was vs id b w at kin i d hi in
+      let y = was vs id b w at kin j e hj in
+      a i j x.0 y.0 x.1 y.1 (x.2 ∙ nk)
+
+  alone_none : (vs : List (Sight V)) → AllKin vs → Alone vs
+  alone_none vs kinned i j d e hi hj nk = absurd (kinned i d hi nk)
+
+  sees_none : (t : V) (vs : List (Sight V)) → AllKin vs → (j : ℕ) (d : Sight V) → get_elem? vs j ≡ some d → Sees t j d
+  sees_none t vs kinned j d at nk = absurd (kinned j d at nk)
+
+  apart_set : (vs : List (Sight V)) (id : ℕ) (b w : Sight V) → get_elem? vs id ≡ some b → w.kin ≡ b.kin → AllKin vs → AllKin (set vs id w)
+  apart_set vs id b w at kin old = each HasKin vs id w (λ nk. old id b at (sym kin ∙ nk)) (λ j d _ there. old j d there)
 
   -- the seat's turns are all that the line has of it
   abbrev Own : List (ℕ × Turn V) → ℕ → Sight V → Type 0
@@ -133,9 +170,9 @@ module _ {V : Type 0} (grows : V → V → Type 0) (same : (a : V) → grows a a
   unborn_more : (all : List (ℕ × Turn V)) (vs : List (Sight V)) (w : Sight V) → Unborn all vs → Unborn all (vs ++ w ∷ [])
   unborn_more all vs w yet j h = let n : length (vs ++ w ∷ []) ≡ length vs + 1 = length-append vs (w ∷ []) in yet j (omega arith)
 
-  module _ {T : Type 0} (explains : V → T → Type 0) (first : V) where
+  module _ {T : Type 0} (explains : V → T → Type 0) (first : V) (first_kin : ℕ) where
     abbrev Rule : State (std.Option T) (Sight V) → Type 0
-    Rule = Kept explains grows first
+    Rule = Kept explains grows first first_kin
 
     abbrev word : State (std.Option T) (Sight V) → ℕ
     word s = get_or s.words 0 0
@@ -145,8 +182,8 @@ module _ {V : Type 0} (grows : V → V → Type 0) (same : (a : V) → grows a a
 
     -- a step that keeps the held bit, the truth and the slot
     unmoved : (s : State (std.Option T) (Sight V)) (r : Rule s) (n id : ℕ) (c : List (ℕ × std.Option T)) (b w : Sight V) → get_elem? s.views id ≡ some b → (b.stage ≡ Holding → w.stage ≡ Holding) → n % 2 ≡ word s % 2 → K r.truth (word s) r.holder id w → Own r.turns id w
-        → Rule (stepped s 0 n id c w keeps)
-    unmoved s r n id c b w at keep bit mine its =
+        → w.kin ≡ b.kin → Sees r.truth id w → Rule (stepped s 0 n id c w keeps)
+    unmoved s r n id c b w at keep bit mine its kin sees =
         let now = now_word s r n in
         let still : get_or (set s.words 0 n) 0 0 % 2 ≡ word s % 2 = ap (λ (z : ℕ). z % 2) now ∙ bit in record {
           truth = r.truth;
@@ -159,17 +196,29 @@ module _ {V : Type 0} (grows : V → V → Type 0) (same : (a : V) → grows a a
           each_seat = each (K r.truth (get_or (set s.words 0 n) 0 0) r.holder) s.views id w (same_bit r.truth (word s) _ r.holder id still w.seen w.stage mine)
               (λ j d _ at. same_bit r.truth (word s) _ r.holder j still d.seen d.stage (r.each_seat j d at));
           own = each (Own r.turns) s.views id w its (λ j d _ at. r.own j d at);
+          alone = alone_set s.views id b w at kin r.alone;
+          apart = λ many. apart_set s.views id b w at kin (r.apart many);
+          sees = each (Sees r.truth) s.views id w sees (λ j d _ at. r.sees j d at);
           unborn = unborn_set r.turns s.views id w r.unborn;
         }
 
     pub stays_put : (slots id : ℕ) (me : Mine T V) (f : ℕ → ℕ) (k : ℕ) → ((n : ℕ) → f n % 2 ≡ n % 2) → Allows Rule slots id me 0 f (stays (step slots 0 k 0 none) me)
-    stays_put slots id me f k bit s r _ at _ = (me.0, keeps, tt, unmoved s r (f (word s)) id me.1 me.0 me.0 at (λ h. h) (bit (word s)) (r.each_seat id me.0 at) (r.own id me.0 at), refl)
+    stays_put slots id me f k bit s r _ at _ = (me.0, keeps, tt, unmoved s r (f (word s)) id me.1 me.0 me.0 at (λ h. h) (bit (word s)) (r.each_seat id me.0 at) (r.own id me.0 at) refl (r.sees id me.0 at), refl)
 
-    tries_away : (slots id : ℕ) (v : V) (ts : List (Turn V)) → Allows Rule slots id (away v ts, []) 0 (λ n. bit_or n 1) (tried explains grows (step slots 0 1 0 none) (away v ts, []))
-    tries_away slots id v ts s r _ at _ =
+    -- while the word is odd another seat has the lock, so this one is not the only one
+    not_alone : (s : State (std.Option T) (Sight V)) (r : Rule s) (id : ℕ) (v : V) (ts us : List (Turn V)) (k : ℕ) → get_elem? s.views id ≡ some (away v ts us k) → word s % 2 ≡ 1 → k ≡ 0 → ⊥
+    not_alone s r id v ts us k at odd nk =
+        let o = r.out odd in
+        let is : r.holder ≡ id = r.alone id r.holder (away v ts us k) o.0 at o.1 nk in
+        let here : get_elem? s.views id ≡ some o.0 = subst (λ (z : ℕ). get_elem? s.views z ≡ some o.0) is o.1 in
+        let e : away v ts us k ≡ o.0 = some-injective (away v ts us k) o.0 (sym at ∙ here) in
+        let stage : Away ≡ Holding = ap (λ (d : Sight V). d.stage) e ∙ o.2 in absurd (cc)
+
+    tries_away : (slots id : ℕ) (v : V) (ts us : List (Turn V)) (k : ℕ) → Allows Rule slots id (away v ts us k, []) 0 (λ n. bit_or n 1) (tried explains grows (step slots 0 1 0 none) (away v ts us k, []))
+    tries_away slots id v ts us k s r _ at _ =
         let n : ℕ = word s in
         dite (ℕ_discrete (n % 2) 0)
-        (λ even. let x = r.free even in let w : Sight V = holding r.truth ts in let m : ℕ = bit_or n 1 in let now = now_word s r m in (
+        (λ even. let x = r.free even in let w : Sight V = holding r.truth ts us k in let m : ℕ = bit_or n 1 in let now = now_word s r m in (
           w,
           takes 0 (Some x.0),
           ap (λ (l : List (Option (std.Option T))). get_elem? l 0) x.1,
@@ -180,26 +229,29 @@ module _ {V : Type 0} (grows : V → V → Type 0) (same : (a : V) → grows a a
             line = r.line;
             one_word = length-set s.words 0 m ∙ r.one_word;
             free = λ e. let odd : get_or (set s.words 0 m) 0 0 % 2 ≡ 1 = ap (λ (z : ℕ). z % 2) now ∙ or_held n in absurd (omega arith);
-            out = λ _. (w, set_here s.views id w (below s.views id (away v ts) at), refl);
+            out = λ _. (w, set_here s.views id w (below s.views id (away v ts us k) at), refl);
             each_seat = each (K r.truth (get_or (set s.words 0 m) 0 0) id) s.views id w (refl, ap (λ (z : ℕ). z % 2) now ∙ or_held n, refl)
                 (λ j d _ there. goes_on r.truth r.truth n (get_or (set s.words 0 m) 0 0) r.holder id j (same r.truth) (λ _ odd. absurd (omega arith)) d.seen d.stage (r.each_seat j d there));
-            own = each (Own r.turns) s.views id w (λ _. r.own id (away v ts) at (λ e. absurd (cc))) (λ j d _ there. r.own j d there);
+            own = each (Own r.turns) s.views id w (λ _. r.own id (away v ts us k) at (λ e. absurd (cc))) (λ j d _ there. r.own j d there);
+            alone = alone_set s.views id (away v ts us k) w at refl r.alone;
+            apart = λ many. apart_set s.views id (away v ts us k) w at refl (r.apart many);
+            sees = each (Sees r.truth) s.views id w (λ _. refl) (λ j d _ there. r.sees j d there);
             unborn = unborn_set r.turns s.views id w r.unborn;
           },
-          ((λ odd. absurd (omega arith)), (λ _. (x.0, refl, r.each_seat id (away v ts) at, x.2))),
+          ((λ odd. absurd (omega arith)), (λ _. (x.0, refl, r.each_seat id (away v ts us k) at, x.2, λ nk. sym (r.sees id (away v ts us k) at nk)))),
         ))
         (λ odd. let one : n % 2 ≡ 1 = omega arith in
-        (away v ts, keeps, tt, unmoved s r (bit_or n 1) id [] (away v ts) (away v ts) at (λ h. h) (or_held n ∙ sym one) (r.each_seat id (away v ts) at) (r.own id (away v ts) at), ((λ _. refl), (λ even. absurd (odd even)))))
+        (away v ts us k, keeps, tt, unmoved s r (bit_or n 1) id [] (away v ts us k) (away v ts us k) at (λ h. h) (or_held n ∙ sym one) (r.each_seat id (away v ts us k) at) (r.own id (away v ts us k) at) refl (r.sees id (away v ts us k) at), ((λ one_now. (refl, not_alone s r id v ts us k at one)), (λ even. absurd (odd even)))))
 
-    pub tries : (slots id : ℕ) (me : Mine T V) (v : V) (ts : List (Turn V)) → me ≡ (away v ts, []) → Allows Rule slots id me 0 (λ n. bit_or n 1) (tried explains grows (step slots 0 1 0 none) me)
-    tries slots id me v ts is = subst (λ (m : Mine T V). Allows Rule slots id m 0 (λ n. bit_or n 1) (tried explains grows (step slots 0 1 0 none) m)) (sym is) (tries_away slots id v ts)
+    pub tries : (slots id : ℕ) (me : Mine T V) (v : V) (ts us : List (Turn V)) (k : ℕ) → me ≡ (away v ts us k, []) → Allows Rule slots id me 0 (λ n. bit_or n 1) (tried explains grows (step slots 0 1 0 none) me)
+    tries slots id me v ts us k is = subst (λ (m : Mine T V). Allows Rule slots id m 0 (λ n. bit_or n 1) (tried explains grows (step slots 0 1 0 none) m)) (sym is) (tries_away slots id v ts us k)
 
-    notes_holding : (code : V → Gv) (slots id : ℕ) (v next : V) (ts : List (Turn V)) (c : List (ℕ × std.Option T)) → grows v next
-        → Allows Rule slots id (holding v ts, c) 0 (λ n. bit_or n 0) (noted code (code next) (step slots 0 0 0 none) (holding v ts, c))
-    notes_holding code slots id v next ts c more s r _ at _ =
+    notes_holding : (code : V → Gv) (slots id : ℕ) (v next : V) (ts us : List (Turn V)) (k : ℕ) (c : List (ℕ × std.Option T)) → grows v next
+        → Allows Rule slots id (holding v ts us k, c) 0 (λ n. bit_or n 0) (noted code (code next) (step slots 0 0 0 none) (holding v ts us k, c))
+    notes_holding code slots id v next ts us k c more s r _ at _ =
         let n : ℕ = word s in
-        let mine = r.each_seat id (holding v ts) at in
-        let w : Sight V = holding next (ts ++ turn v next ∷ []) in
+        let mine = r.each_seat id (holding v ts us k) at in
+        let w : Sight V = holding next (ts ++ turn v next ∷ []) us k in
         let all : List (ℕ × Turn V) = r.turns ++ (id, turn v next) ∷ [] in
         let m : ℕ = bit_or n 0 in
         let now = now_word s r m in
@@ -214,25 +266,28 @@ module _ {V : Type 0} (grows : V → V → Type 0) (same : (a : V) → grows a a
             line = line_on grows first r.turns v next id (subst (IsTurnLine grows first r.turns) (sym mine.2) r.line) more;
             one_word = length-set s.words 0 m ∙ r.one_word;
             free = λ e. absurd (omega arith);
-            out = λ _. (w, set_here s.views id w (below s.views id (holding v ts) at), refl);
+            out = λ _. (w, set_here s.views id w (below s.views id (holding v ts us k) at), refl);
             each_seat = each (K next (get_or (set s.words 0 m) 0 0) id) s.views id w (refl, bit, refl)
                 (λ j d other there. goes_on r.truth next n (get_or (set s.words 0 m) 0 0) r.holder id j (subst (λ (t : V). grows t next) mine.2 more) (λ h _. other (h ∙ sym mine.0)) d.seen d.stage (r.each_seat j d there));
             own = each (Own all) s.views id w
-                (λ _. ap (λ (l : List (Turn V)). l ++ turn v next ∷ []) (r.own id (holding v ts) at (λ e. absurd (cc))) ∙ sym (turns_of-mine id r.turns (turn v next)))
+                (λ _. ap (λ (l : List (Turn V)). l ++ turn v next ∷ []) (r.own id (holding v ts us k) at (λ e. absurd (cc))) ∙ sym (turns_of-mine id r.turns (turn v next)))
                 (λ j d other there not. r.own j d there not ∙ sym (turns_of-other j id r.turns (turn v next) other));
-            unborn = unborn_set all s.views id w (λ j h. let b = below s.views id (holding v ts) at in turns_of-other j id r.turns (turn v next) (λ e. absurd (omega arith)) ∙ r.unborn j h);
+            alone = alone_set s.views id (holding v ts us k) w at refl r.alone;
+            apart = λ many. apart_set s.views id (holding v ts us k) w at refl (r.apart many);
+            sees = each (Sees next) s.views id w (λ _. refl) (λ j d other there nk. absurd (other (sym (r.alone j id d (holding v ts us k) there at nk))));
+            unborn = unborn_set all s.views id w (λ j h. let b = below s.views id (holding v ts us k) at in turns_of-other j id r.turns (turn v next) (λ e. absurd (omega arith)) ∙ r.unborn j h);
           },
           (refl, refl),
         )
 
-    pub notes : (code : V → Gv) (slots id : ℕ) (me : Mine T V) (v next : V) (ts : List (Turn V)) (named : Gv) → me.0 ≡ holding v ts → named ≡ code next → grows v next → Allows Rule slots id me 0 (λ n. bit_or n 0) (noted code named (step slots 0 0 0 none) me)
-    notes code slots id me v next ts named is same_name more = subst (λ (x : Sight V × Gv). Allows Rule slots id (x.0, me.1) 0 (λ n. bit_or n 0) (noted code x.1 (step slots 0 0 0 none) (x.0, me.1))) (λ i. (sym is i, sym same_name i)) (notes_holding code slots id v next ts me.1 more)
+    pub notes : (code : V → Gv) (slots id : ℕ) (me : Mine T V) (v next : V) (ts us : List (Turn V)) (k : ℕ) (named : Gv) → me.0 ≡ holding v ts us k → named ≡ code next → grows v next → Allows Rule slots id me 0 (λ n. bit_or n 0) (noted code named (step slots 0 0 0 none) me)
+    notes code slots id me v next ts us k named is same_name more = subst (λ (x : Sight V × Gv). Allows Rule slots id (x.0, me.1) 0 (λ n. bit_or n 0) (noted code x.1 (step slots 0 0 0 none) (x.0, me.1))) (λ i. (sym is i, sym same_name i)) (notes_holding code slots id v next ts us k me.1 more)
 
-    frees_holding : (slots id : ℕ) (v : V) (ts : List (Turn V)) (x : T) (n k : ℕ) → slots ≡ 1 → n % 2 ≡ 0 → explains v x
-        → Allows Rule slots id (holding v ts, (0, Some x) ∷ []) 0 (λ _. n) (freed (step slots 0 k 0 none) (holding v ts, (0, Some x) ∷ []))
-    frees_holding slots id v ts x n k one even is s r wide at _ =
-        let mine = r.each_seat id (holding v ts) at in
-        let w : Sight V = away v ts in
+    frees_holding : (slots id : ℕ) (v : V) (ts us : List (Turn V)) (k : ℕ) (x : T) (n put : ℕ) → slots ≡ 1 → n % 2 ≡ 0 → explains v x
+        → Allows Rule slots id (holding v ts us k, (0, Some x) ∷ []) 0 (λ _. n) (freed (step slots 0 put 0 none) (holding v ts us k, (0, Some x) ∷ []))
+    frees_holding slots id v ts us k x n put one even is s r wide at _ =
+        let mine = r.each_seat id (holding v ts us k) at in
+        let w : Sight V = away v ts us k in
         let now = now_word s r n in (
           w,
           gives,
@@ -247,7 +302,10 @@ module _ {V : Type 0} (grows : V → V → Type 0) (same : (a : V) → grows a a
             out = λ odd. let now_even : get_or (set s.words 0 n) 0 0 % 2 ≡ 0 = ap (λ (z : ℕ). z % 2) now ∙ even in absurd (omega arith);
             each_seat = each (K v (get_or (set s.words 0 n) 0 0) id) s.views id w (same v)
                 (λ j d other there. goes_on r.truth v (word s) (get_or (set s.words 0 n) 0 0) r.holder id j (subst (λ (t : V). grows t v) mine.2 (same v)) (λ h _. other (h ∙ sym mine.0)) d.seen d.stage (r.each_seat j d there));
-            own = each (Own r.turns) s.views id w (λ _. r.own id (holding v ts) at (λ e. absurd (cc))) (λ j d _ there. r.own j d there);
+            own = each (Own r.turns) s.views id w (λ _. r.own id (holding v ts us k) at (λ e. absurd (cc))) (λ j d _ there. r.own j d there);
+            alone = alone_set s.views id (holding v ts us k) w at refl r.alone;
+            apart = λ many. apart_set s.views id (holding v ts us k) w at refl (r.apart many);
+            sees = each (Sees v) s.views id w (λ _. refl) (λ j d other there nk. absurd (other (sym (r.alone j id d (holding v ts us k) there at nk))));
             unborn = unborn_set r.turns s.views id w r.unborn;
           },
           refl,
@@ -258,11 +316,15 @@ module _ {V : Type 0} (grows : V → V → Type 0) (same : (a : V) → grows a a
         one_set (z ∷ []) y e = refl
         one_set (z ∷ z' ∷ zs) y e = absurd (omega arith)
 
-    pub frees : (slots id : ℕ) (me : Mine T V) (v : V) (ts : List (Turn V)) (x : T) (n : ℕ) → slots ≡ 1 → me ≡ (holding v ts, (0, Some x) ∷ []) → n % 2 ≡ 0 → explains v x → Allows Rule slots id me 0 (λ _. n) (freed (step slots 0 n 0 none) me)
-    frees slots id me v ts x n one is even told = subst (λ (m : Mine T V). Allows Rule slots id m 0 (λ _. n) (freed (step slots 0 n 0 none) m)) (sym is) (frees_holding slots id v ts x n n one even told)
+    pub frees : (slots id : ℕ) (me : Mine T V) (v : V) (ts us : List (Turn V)) (k : ℕ) (x : T) (n : ℕ) → slots ≡ 1 → me ≡ (holding v ts us k, (0, Some x) ∷ []) → n % 2 ≡ 0 → explains v x → Allows Rule slots id me 0 (λ _. n) (freed (step slots 0 n 0 none) me)
+    frees slots id me v ts us k x n one is even told = subst (λ (m : Mine T V). Allows Rule slots id m 0 (λ _. n) (freed (step slots 0 n 0 none) m)) (sym is) (frees_holding slots id v ts us k x n n one even told)
+
+    only_one : (w : Sight V) (i : ℕ) (d : Sight V) → get_elem? (w ∷ []) i ≡ some d → i ≡ 0
+    only_one w zero d e = refl
+    only_one w (suc i) d e = absurd (some-ne-none d (sym e))
 
     -- the lock opens
-    pub opens : (x : T) → explains first x → Rule record { words = 0 ∷ []; homes = some (Some x) ∷ []; views = away first [] ∷ [] }
+    pub opens : (x : T) → explains first x → Rule record { words = 0 ∷ []; homes = some (Some x) ∷ []; views = away first [] [] first_kin ∷ [] }
     opens x is = record {
       truth = first;
       holder = 0;
@@ -271,15 +333,18 @@ module _ {V : Type 0} (grows : V → V → Type 0) (same : (a : V) → grows a a
       one_word = refl;
       free = λ _. (x, refl, is);
       out = λ odd. absurd (omega arith);
-      each_seat = one_more (K first 0 0) [] (away first []) (λ j d at. absurd (some-ne-none d (sym at))) (same first);
-      own = one_more (Own []) [] (away first []) (λ j d at. absurd (some-ne-none d (sym at))) (λ _. refl);
+      each_seat = one_more (K first 0 0) [] (away first [] [] first_kin) (λ j d at. absurd (some-ne-none d (sym at))) (same first);
+      own = one_more (Own []) [] (away first [] [] first_kin) (λ j d at. absurd (some-ne-none d (sym at))) (λ _. refl);
+      alone = λ i j d e hi hj _. only_one (away first [] [] first_kin) j e hj ∙ sym (only_one (away first [] [] first_kin) i d hi);
+      sees = one_more (Sees first) [] (away first [] [] first_kin) (λ j d at. absurd (some-ne-none d (sym at))) (λ _. refl);
+      apart = λ many. one_more HasKin [] (away first [] [] first_kin) (λ j d at. absurd (some-ne-none d (sym at))) many;
       unborn = λ j h. refl;
     }
 
     -- a step that changes the views alone
     reseated : (s : State (std.Option T) (Sight V)) (r : Rule s) (vs : List (Sight V)) → (Out s.views r.holder → Out vs r.holder) → ((j : ℕ) (d : Sight V) → get_elem? vs j ≡ some d → K r.truth (word s) r.holder j d × Own r.turns j d) → Unborn r.turns vs
-        → Rule record { words = s.words; homes = s.homes; views = vs }
-    reseated s r vs out each_one yet = record {
+        → AllKin vs → Rule record { words = s.words; homes = s.homes; views = vs }
+    reseated s r vs out each_one yet kinned = record {
       truth = r.truth;
       holder = r.holder;
       turns = r.turns;
@@ -289,56 +354,64 @@ module _ {V : Type 0} (grows : V → V → Type 0) (same : (a : V) → grows a a
       out = λ odd. out (r.out odd);
       each_seat = λ j d at. (each_one j d at).0;
       own = λ j d at. (each_one j d at).1;
+      alone = alone_none vs kinned;
+      sees = sees_none r.truth vs kinned;
+      apart = λ _. kinned;
       unborn = yet;
     }
 
-    -- a new seat comes
-    pub sits : (slots : ℕ) → Enters Rule slots 0 (λ n w. sat {T = T} grows (step slots 0 0 0 none) (away first [], []) n (w, []))
-    sits slots s r _ _ =
+    -- a new seat comes from the source
+    pub sits : (slots : ℕ) → first_kin ≢ 0 → Enters Rule slots 0 (λ n w. sat {T = T} grows (step slots 0 0 0 none) (away first [] [] first_kin, []) n (w, []))
+    sits slots many s r _ _ =
         let P : ℕ → Sight V → Type 0 = λ j d. K r.truth (word s) r.holder j d × Own r.turns j d in
-        let w : Sight V = away r.truth [] in (
+        let w : Sight V = away r.truth [] [] 1 in (
           w,
           reseated s r (s.views ++ w ∷ []) (λ o. (o.0, at_longer s.views (w ∷ []) r.holder o.0 o.1, o.2))
               (one_more P s.views w (λ j d at. (r.each_seat j d at, r.own j d at)) (same r.truth, λ _. sym (r.unborn (length s.views) (omega arith))))
-              (unborn_more r.turns s.views w r.unborn),
+              (unborn_more r.turns s.views w r.unborn)
+              (one_more HasKin s.views w (r.apart many) (λ nk. absurd (omega (arith, nk)))),
           (refl, line_grows grows same onward first r.turns r.truth r.line),
         )
 
     -- a new seat has seen as much
-    pub splits : (id : ℕ) (d : Sight V) (v : V) (ts : List (Turn V)) → d ≡ away v ts → Splits Rule id d d (away d.seen [])
-    splits id d v ts is s r at =
+    pub splits : (id : ℕ) (d : Sight V) (v : V) (ts us : List (Turn V)) (k : ℕ) → d ≡ away v ts us k → Splits Rule id d (with_split d) (away d.seen [] [] 1)
+    splits id d v ts us k is s r at =
         let P : ℕ → Sight V → Type 0 = λ j d. K r.truth (word s) r.holder j d × Own r.turns j d in
-        let w : Sight V = away d.seen [] in
-        let vs : List (Sight V) = set s.views id d in
-        let whole : length vs ≡ length s.views = length-set s.views id d in
-        let new : grows d.seen r.truth = seen_grows r.truth (word s) r.holder id d v ts is (r.each_seat id d at) in
-        reseated s r (vs ++ w ∷ []) (λ h. let o = out_set s.views r.holder id d d at (λ h. h) h in (o.0, at_longer vs (w ∷ []) r.holder o.0 o.1, o.2))
-        (one_more P vs w (each P s.views id d (r.each_seat id d at, r.own id d at) (λ j x _ h. (r.each_seat j x h, r.own j x h))) (new, λ _. sym (r.unborn (length vs) (omega (arith, whole)))))
-        (unborn_more r.turns vs w (unborn_set r.turns s.views id d r.unborn))
+        let w : Sight V = away d.seen [] [] 1 in
+        let b : Sight V = with_split d in
+        let vs : List (Sight V) = set s.views id b in
+        let whole : length vs ≡ length s.views = length-set s.views id b in
+        let new : grows d.seen r.truth = seen_grows r.truth (word s) r.holder id d v ts us k is (r.each_seat id d at) in
+        reseated s r (vs ++ w ∷ []) (λ h. let o = out_set s.views r.holder id d b at (λ h. h) h in (o.0, at_longer vs (w ∷ []) r.holder o.0 o.1, o.2))
+        (one_more P vs w (each P s.views id b (r.each_seat id d at, r.own id d at) (λ j x _ h. (r.each_seat j x h, r.own j x h))) (new, λ _. sym (r.unborn (length vs) (omega (arith, whole)))))
+        (unborn_more r.turns vs w (unborn_set r.turns s.views id b r.unborn))
+        (one_more HasKin vs w (each HasKin s.views id b (λ nk. absurd (omega (arith, nk))) (λ j x other there nk. other (sym (r.alone j id x d there at nk)))) (λ nk. absurd (omega (arith, nk))))
 
     -- a seat meets another, which is spent
-    pub joins : (id : ℕ) (d : Sight V) (other : ℕ) (e : Sight V) (v u blank : V) (ts us : List (Turn V)) → d ≡ away v ts → e ≡ away u us → Joins Rule id d other e (met d.seen e.seen d.turns) (spent blank)
-    joins id d other e v u blank ts us is that s r at apart there =
+    pub joins : (id : ℕ) (d : Sight V) (other : ℕ) (e : Sight V) (v u blank : V) (ts xs us ys : List (Turn V)) (k l : ℕ) → d ≡ away v ts xs k → e ≡ away u us ys l → Joins Rule id d other e (met d.seen e.seen d.turns (d.taken ++ e.taken ++ e.turns) d.kin) (spent blank)
+    joins id d other e v u blank ts xs us ys k l is that s r at apart there =
         let P : ℕ → Sight V → Type 0 = λ j d. K r.truth (word s) r.holder j d × Own r.turns j d in
-        let w : Sight V = met d.seen e.seen d.turns in
+        let w : Sight V = met d.seen e.seen d.turns (d.taken ++ e.taken ++ e.turns) d.kin in
         let vs : List (Sight V) = set s.views id w in
-        let here : d.stage ≢ Spent = λ x. let no : away v ts ≡ d = sym is in absurd (cc) in
-        let mine : grows d.seen r.truth = seen_grows r.truth (word s) r.holder id d v ts is (r.each_seat id d at) in
+        let here : d.stage ≢ Spent = λ x. let no : away v ts xs k ≡ d = sym is in absurd (cc) in
+        let mine : grows d.seen r.truth = seen_grows r.truth (word s) r.holder id d v ts xs k is (r.each_seat id d at) in
         let at_other = ⊎_elim {C = get_elem? s.views other ≡ some e} (λ (t : (other ≡ id) × (w ≡ e)). absurd (apart t.0)) (λ (t : (other ≢ id) × (get_elem? s.views other ≡ some e)). t.1) (at_set s.views id other w e there) in
-        let theirs : grows e.seen r.truth = seen_grows r.truth (word s) r.holder other e u us that (r.each_seat other e at_other) in
+        let theirs : grows e.seen r.truth = seen_grows r.truth (word s) r.holder other e u us ys l that (r.each_seat other e at_other) in
         reseated s r (set vs other (spent blank))
-        (λ h. out_set vs r.holder other e (spent blank) there (λ x. let no : away u us ≡ e = sym that in absurd (cc)) (out_set s.views r.holder id d w at (λ x. let no : away v ts ≡ d = sym is in absurd (cc)) h))
+        (λ h. out_set vs r.holder other e (spent blank) there (λ x. let no : away u us ys l ≡ e = sym that in absurd (cc)) (out_set s.views r.holder id d w at (λ x. let no : away v ts xs k ≡ d = sym is in absurd (cc)) h))
         (each P vs other (spent blank) (tt, λ not. absurd (not refl)) (λ j x _ h. each P s.views id w ((mine, theirs), λ _. r.own id d at here) (λ i y _ k. (r.each_seat i y k, r.own i y k)) j x h))
         (unborn_set r.turns vs other (spent blank) (unborn_set r.turns s.views id w r.unborn))
+        (each HasKin vs other (spent blank) (λ nk. absurd (omega (arith, nk)))
+        (λ j x _ h. each HasKin s.views id w (λ nk. apart (r.alone id other d e at at_other nk)) (λ i y not k nk. not (sym (r.alone i id y d k at nk))) j x h))
 
-    settles_met : (slots id : ℕ) (v u : V) (ts : List (Turn V)) (c : List (ℕ × std.Option T)) → Allows Rule slots id (met v u ts, c) 0 (λ n. n) (settled grows (step slots 0 0 0 none) (met v u ts, c))
-    settles_met slots id v u ts c s r _ at _ =
-        let mine = r.each_seat id (met v u ts) at in (
-          away r.truth ts,
+    settles_met : (slots id : ℕ) (v u : V) (ts us : List (Turn V)) (k : ℕ) (c : List (ℕ × std.Option T)) → Allows Rule slots id (met v u ts us k, c) 0 (λ n. n) (settled grows (step slots 0 0 0 none) (met v u ts us k, c))
+    settles_met slots id v u ts us k c s r _ at _ =
+        let mine = r.each_seat id (met v u ts us k) at in (
+          away r.truth ts us k,
           keeps,
           tt,
-          unmoved s r (word s) id c (met v u ts) (away r.truth ts) at (λ h. absurd (cc)) refl (same r.truth) (λ _. r.own id (met v u ts) at (λ e. absurd (cc))),
-          (refl, λ v' u' ts' e. (subst (λ (x : V). grows x r.truth) (ap (λ (d : Sight V). d.seen) e) mine.0, subst (λ (x : V). grows x r.truth) (ap (other_of u) e) mine.1)),
+          unmoved s r (word s) id c (met v u ts us k) (away r.truth ts us k) at (λ h. absurd (cc)) refl (same r.truth) (λ _. r.own id (met v u ts us k) at (λ e. absurd (cc))) refl (λ _. refl),
+          (refl, λ v' u' ts' us' k' e. (subst (λ (x : V). grows x r.truth) (ap (λ (d : Sight V). d.seen) e) mine.0, subst (λ (x : V). grows x r.truth) (ap (other_of u) e) mine.1)),
         )
       where
         other_of : V → Sight V → V
@@ -348,8 +421,8 @@ module _ {V : Type 0} (grows : V → V → Type 0) (same : (a : V) → grows a a
             go (Met x) = x
             go _ = u
 
-    pub settles : (slots id : ℕ) (me : Mine T V) (v u : V) (ts : List (Turn V)) → me.0 ≡ met v u ts → Allows Rule slots id me 0 (λ n. n) (settled grows (step slots 0 0 0 none) me)
-    settles slots id me v u ts is = subst (λ (d : Sight V). Allows Rule slots id (d, me.1) 0 (λ n. n) (settled grows (step slots 0 0 0 none) (d, me.1))) (sym is) (settles_met slots id v u ts me.1)
+    pub settles : (slots id : ℕ) (me : Mine T V) (v u : V) (ts us : List (Turn V)) (k : ℕ) → me.0 ≡ met v u ts us k → Allows Rule slots id me 0 (λ n. n) (settled grows (step slots 0 0 0 none) me)
+    settles slots id me v u ts us k is = subst (λ (d : Sight V). Allows Rule slots id (d, me.1) 0 (λ n. n) (settled grows (step slots 0 0 0 none) (d, me.1))) (sym is) (settles_met slots id v u ts us k me.1)
 
 -- ---- for the functions
 
@@ -360,32 +433,61 @@ pub only_slot : {S : Type 0} (l : List (ℕ × S)) (k : ℕ) (x : S) → l ≡ (
 only_slot {S} l k x e = subst (λ (m : List (ℕ × S)). m ≡ (k, x) ∷ rest m) (sym e) refl
 
 -- a seat that holds no slot, told by its view and its turns
-pub as_idle : {T V : Type 0} (me : Mine T V) (v : V) (ts : List (Turn V)) (c : List (ℕ × std.Option T)) → me ≡ (away v ts, c) → c ≡ [] → me ≡ (away me.0.seen me.0.turns, [])
-as_idle {T} {V} me v ts c is empty = subst (λ (m : Mine T V). m ≡ (away m.0.seen m.0.turns, [])) (sym is) (ap (λ (l : List (ℕ × std.Option T)). (away v ts, l)) empty)
+pub as_idle : {T V : Type 0} (me : Mine T V) (v : V) (ts us : List (Turn V)) (k : ℕ) (c : List (ℕ × std.Option T)) → me ≡ (away v ts us k, c) → c ≡ [] → me ≡ (away me.0.seen me.0.turns me.0.taken me.0.kin, [])
+as_idle {T} {V} me v ts us k c is empty = subst (λ (m : Mine T V). m ≡ (away m.0.seen m.0.turns m.0.taken m.0.kin, [])) (sym is) (ap (λ (l : List (ℕ × std.Option T)). (away v ts us k, l)) empty)
 
 -- the holder that noted its view and put the value into the slot
 pub filled : {T V : Type 0} (before out after : Mine T V) (d e : Sight V) (y x : std.Option T) → before ≡ (d, (0, y) ∷ []) → out ≡ (e, before.1) → after ≡ (out.0, (0, x) ∷ rest out.1) → after ≡ (e, (0, x) ∷ [])
 filled {T} {V} before out after d e y x was noted_so put = put ∙ ap (λ (m : Mine T V). (m.0, (0, x) ∷ rest m.1)) (noted_so ∙ ap (λ (m : Mine T V). (e, m.1)) was)
 
-module _ {T V : Type 0} (explains : V → T → Type 0) (grows : V → V → Type 0) (first : V) where
+module _ {T V : Type 0} (explains : V → T → Type 0) (grows : V → V → Type 0) (first : V) (first_kin : ℕ) where
   at_first : (l : List ℕ) (m : ℕ) → get_elem? l 0 ≡ some m → get_or l 0 0 ≡ m
   at_first [] m e = absurd (some-ne-none m (sym e))
   at_first (y ∷ ys) m e = some-injective y m e
 
   -- a table that was closed while the word was even, and the last view of one of its seats
-  pub closes : (id : ℕ) (d : Sight V) (v : V) (ts : List (Turn V)) (ws : List ℕ) (xs : List (std.Option T)) (n : ℕ) (o : std.Option T) → d ≡ away v ts → Final (Seen (Kept explains grows first) id d) ws xs
-      → get_elem? ws 0 ≡ some n → n % 2 ≡ 0 → get_elem? xs 0 ≡ some o → IfSome o (λ x. (h : V) × explains h x × grows d.seen h × IsTurnHistory grows first id d.turns h)
-  closes id d v ts ws xs n o is f at even there =
-      let r : Kept explains grows first f.0 = f.1.0 in
+  pub closes : (id : ℕ) (d : Sight V) (v : V) (ts us : List (Turn V)) (k : ℕ) (ws : List ℕ) (xs : List (std.Option T)) (n : ℕ) (o : std.Option T) → d ≡ away v ts us k → Final (Seen (Kept explains grows first first_kin) id d) ws xs
+      → get_elem? ws 0 ≡ some n → n % 2 ≡ 0 → get_elem? xs 0 ≡ some o → IfSome o (λ x. (h : V) × explains h x × grows d.seen h × IsTurnHistory grows first id d.turns h × (d.kin ≡ 0 → h ≡ d.seen))
+  closes id d v ts us k ws xs n o is f at even there =
+      let r : Kept explains grows first first_kin f.0 = f.1.0 in
       let word : get_or f.0.words 0 0 ≡ n = ap (λ (l : List ℕ). get_or l 0 0) f.2 ∙ at_first ws n at in
       let x = r.free (ap (λ (z : ℕ). z % 2) word ∙ even) in
       let same : o ≡ Some x.0 = some-injective o (Some x.0) (sym there ∙ f.4 0 (Some x.0) (ap (λ (l : List (Option (std.Option T))). get_elem? l 0) x.1)) in
       let more : grows d.seen r.truth = subst (λ (e : Sight V). Knows grows r.truth (get_or f.0.words 0 0) r.holder id e.seen e.stage → grows e.seen r.truth) (sym is) (λ k. k) (r.each_seat id d f.1.1) in
-      let its : d.turns ≡ turns_of id r.turns = r.own id d f.1.1 (λ e. let no : away v ts ≡ d = sym is in absurd (cc)) in
-      subst (λ (p : std.Option T). IfSome p (λ x. (h : V) × explains h x × grows d.seen h × IsTurnHistory grows first id d.turns h)) (sym same) (r.truth, x.2, more, (r.turns, r.line, its))
+      let its : d.turns ≡ turns_of id r.turns = r.own id d f.1.1 (λ e. let no : away v ts us k ≡ d = sym is in absurd (cc)) in
+      subst (λ (p : std.Option T). IfSome p (λ x. (h : V) × explains h x × grows d.seen h × IsTurnHistory grows first id d.turns h × (d.kin ≡ 0 → h ≡ d.seen))) (sym same) (r.truth, x.2, more, (r.turns, r.line, its), λ nk. sym (r.sees id d f.1.1 nk))
 
-  -- what goes on from a later view goes on from the first one
-  pub closes_onward : ((a b c : V) → grows a b → grows b c → grows a c) → (v : V) (id : ℕ) (mine : List (Turn V)) (o : std.Option T) → grows first v → IfSome o (λ x. (h : V) × explains h x × grows v h × IsTurnHistory grows first id mine h)
-      → IfSome o (λ x. (h : V) × explains h x × grows first h)
-  closes_onward onward v id mine std.None on p = tt
-  closes_onward onward v id mine (Some x) on p = (p.0, p.1, onward first v p.0 on p.2)
+  -- a table that was closed while the word was even
+  pub closes_first : ((a : V) → grows a a) → ((a b c : V) → grows a b → grows b c → grows a c) → (ws : List ℕ) (xs : List (std.Option T)) (n : ℕ) (o : std.Option T) → Final (Kept explains grows first first_kin) ws xs
+      → get_elem? ws 0 ≡ some n → n % 2 ≡ 0 → get_elem? xs 0 ≡ some o → IfSome o (λ x. (h : V) × explains h x × grows first h)
+  closes_first same onward ws xs n o f at even there =
+      let r : Kept explains grows first first_kin f.0 = f.1 in
+      let word : get_or f.0.words 0 0 ≡ n = ap (λ (l : List ℕ). get_or l 0 0) f.2 ∙ at_first ws n at in
+      let x = r.free (ap (λ (z : ℕ). z % 2) word ∙ even) in
+      let same_value : o ≡ Some x.0 = some-injective o (Some x.0) (sym there ∙ f.4 0 (Some x.0) (ap (λ (l : List (Option (std.Option T))). get_elem? l 0) x.1)) in
+      subst (λ (p : std.Option T). IfSome p (λ x. (h : V) × explains h x × grows first h)) (sym same_value) (r.truth, x.2, line_grows grows same onward first r.turns r.truth r.line)
+
+  -- and one that is the only seat closes a free table
+  pub only_closes : (id : ℕ) (d : Sight V) (v : V) (ts us : List (Turn V)) (k : ℕ) (ws : List ℕ) (xs : List (std.Option T)) (n : ℕ) → d ≡ away v ts us k → Final (Seen (Kept explains grows first first_kin) id d) ws xs
+      → get_elem? ws 0 ≡ some n → n % 2 ≡ 1 → d.kin ≡ 0 → ⊥
+  only_closes id d v ts us k ws xs n is f at odd nk =
+      let r : Kept explains grows first first_kin f.0 = f.1.0 in
+      let word : get_or f.0.words 0 0 ≡ n = ap (λ (l : List ℕ). get_or l 0 0) f.2 ∙ at_first ws n at in
+      let o = r.out (ap (λ (z : ℕ). z % 2) word ∙ odd) in
+      let same : r.holder ≡ id = r.alone id r.holder d o.0 f.1.1 o.1 nk in
+      let here : get_elem? f.0.views id ≡ some o.0 = subst (λ (z : ℕ). get_elem? f.0.views z ≡ some o.0) same o.1 in
+      let e : d ≡ o.0 = some-injective d o.0 (sym f.1.1 ∙ here) in
+      let stage : Away ≡ Holding = ap (λ (x : Sight V). x.stage) (sym is) ∙ ap (λ (x : Sight V). x.stage) e ∙ o.2 in absurd (cc)
+
+  -- a free table has its value
+  pub closes_full : (id : ℕ) (d : Sight V) (ws : List ℕ) (xs : List (std.Option T)) (n : ℕ) (o : std.Option T) → Final (Seen (Kept explains grows first first_kin) id d) ws xs
+      → get_elem? ws 0 ≡ some n → n % 2 ≡ 0 → get_elem? xs 0 ≡ some o → IsSome o
+  closes_full id d ws xs n o f at even there =
+      let r : Kept explains grows first first_kin f.0 = f.1.0 in
+      let word : get_or f.0.words 0 0 ≡ n = ap (λ (l : List ℕ). get_or l 0 0) f.2 ∙ at_first ws n at in
+      let x = r.free (ap (λ (z : ℕ). z % 2) word ∙ even) in
+      let same : o ≡ Some x.0 = some-injective o (Some x.0) (sym there ∙ f.4 0 (Some x.0) (ap (λ (l : List (Option (std.Option T))). get_elem? l 0) x.1)) in
+      subst (λ (p : std.Option T). IsSome p) (sym same) refl
+
+pub held_odd : (b : Bool) (n : ℕ) → (IsTrue b ↔ (n % 2 ≡ 1)) → b ≡ true → n % 2 ≡ 1
+held_odd b n is on = is.0 on

@@ -11,6 +11,7 @@ mod lock;
 mod plays;
 mod rule;
 mod seat;
+mod source;
 mod told;
 mod word;
 
@@ -18,4 +19,5 @@ pub use guard::{Guard, Held, release};
 pub use lock::WordLock;
 pub use rule::{LockRule, Turn};
 pub use seat::Seat;
+pub use source::SeatSource;
 pub use told::Told;

@@ -18,13 +18,14 @@
 //!
 //! `specs/Kept` is what holds between any two steps: the turns of all seats are one line from the view that the lock
 //! opened with to the view that explains the value; each idle seat has seen a view that this one goes on from; one seat
-//! at most has the lock; and a seat's own turns are all that the line has of it. Nothing is promised of who gets the lock
-//! next. The crate's root says how this lock stands to those of OpenZFS.
+//! at most has the lock; a seat's own turns are all that the line has of it; and a seat with the number 0 is the only one
+//! that the lock ever had, and has seen the view that explains the value. Nothing is promised of who gets the lock next.
+//! The crate's root says how this lock stands to those of OpenZFS.
 ghost use Rattle.std.specs.Prelude.{◌≡◌, [], ◌∷◌, Some, IfOk, IfErr};
 
-use crate::plays::Sit;
-use crate::rule::{Keeps, LockRule, Sight};
+use crate::rule::{Keeps, LockRule, Opening, Sight};
 use crate::seat::Seat;
+use crate::source::SeatSource;
 use crate::told::Told;
 use crate::word::{FREE, is_held};
 use atomic_table::{Refused, Table};
@@ -36,7 +37,7 @@ use std::alloc::{Allocator, Global};
 /// It is one word and one slot. While the word is free, a view explains the value in the slot, and that view goes on from what every seat has seen. While it is held, this is so of the holder's view and value.
 #[derive(Drop)]
 pub struct WordLock<T, R: LockRule<T>, A: Allocator = Global> {
-    pub(crate) table: Table<Option<T>, Sight<R::View>, Told<R::View>, Keeps<R>, A>,
+    pub(crate) table: Table<Option<T>, Sight<R::View>, Told<Opening<R::View>>, Keeps<R>, A>,
     ghost single: { (table.shared.table_id.words ≡ 1) × (table.shared.table_id.slots ≡ 1) },
 }
 
@@ -58,12 +59,28 @@ fn slot_of<T, A: Allocator>(alloc: A, value: T) -> Result<Vec<Option<T>, A>, T>
     }
 }
 
-impl<T, R: LockRule<T>, A: Allocator> WordLock<T, R, A> {
-    ghost use Rattle.std.specs.Prelude.{IfSome};
-    ghost use Rattle.base.specs.declared.error.PoolError.TheVariants.{NoMemory};
-    ghost use Rattle.word_lock.specs.Seats.{seen, seat_table, lock_table, opening, IsIdle, IsLastValue, IsNewSeat};
+// A lock whose seats all come from its first one opens so.
+fn without_source<V>(first: &Told<V>) -> Told<Opening<V>>
+    ensures view { result.value.view ≡ first.now.value }
+    ensures kin { result.value.kin ≡ 0 }
+{
+    Told::of(first)
+}
 
-    /// A free lock over the value, which the view `first` explains, and its first seat, which has seen that view.
+// A lock that has a source of seats opens so.
+fn with_source<V>(first: &Told<V>) -> Told<Opening<V>>
+    ensures view { result.value.view ≡ first.now.value }
+    ensures kin { result.value.kin ≡ 1 }
+{
+    Told::of(first)
+}
+
+impl<T, R: LockRule<T>, A: Allocator> WordLock<T, R, A> {
+    ghost use Rattle.std.specs.Prelude.{IfSome, IsSome};
+    ghost use Rattle.base.specs.declared.error.PoolError.TheVariants.{NoMemory};
+    ghost use Rattle.word_lock.specs.Seats.{kin, seen, seat_table, lock_table, opening, IsFirstSeat, IsIdle, IsLastValue, IsOpeningSeat, IsSourceOf};
+
+    /// A free lock over the value, which the view `first` explains, and its first seat, which has seen that view. All other seats of this lock come from that one by `Seat::split`: the first seat's number is 0, and while it is, the seat is the only one.
     ///
     /// Refused with `NoMemory` where there is no memory for the word and the slot. The value then comes back.
     pub fn new(
@@ -75,8 +92,42 @@ impl<T, R: LockRule<T>, A: Allocator> WordLock<T, R, A> {
         A: Clone,
         requires { R.explains first.now.value value }
         ensures opening { IfOk result (λ p. opening p.0 ≡ first.now.value) }
-        ensures seat { IfOk result (λ p. IsNewSeat p.0 p.1) }
+        ensures seat { IfOk result (λ p. IsFirstSeat p.0 p.1) }
         ensures seen { IfOk result (λ p. seen p.1 ≡ first.now.value) }
+        ensures err { IfErr result (λ e. (e.0 ≡ NoMemory) × (e.1 ≡ value)) }
+    {
+        WordLock::open(alloc, value, &without_source(first))
+    }
+
+    /// A free lock over the value, which the view `first` explains, and its source of seats. No seat of this lock has the number 0, since the source may make one more at any time.
+    ///
+    /// Refused as `new`.
+    pub fn with_source(
+        alloc: A,
+        value: T,
+        first: &Told<R::View>,
+    ) -> Result<(WordLock<T, R, A>, SeatSource<T, R>), (PoolError, T)>
+    where
+        A: Clone,
+        requires { R.explains first.now.value value }
+        ensures opening { IfOk result (λ p. opening p.0 ≡ first.now.value) }
+        ensures source { IfOk result (λ p. IsSourceOf p.0 p.1) }
+        ensures err { IfErr result (λ e. (e.0 ≡ NoMemory) × (e.1 ≡ value)) }
+    {
+        let (lock, seat) = WordLock::open(alloc, value, &with_source(first))?;
+        Ok((lock, SeatSource::beside(&seat)))
+    }
+
+    // A free lock that opens so, and its first seat.
+    fn open(
+        alloc: A,
+        value: T,
+        opening: &Told<Opening<R::View>>,
+    ) -> Result<(WordLock<T, R, A>, Seat<T, R>), (PoolError, T)>
+    where
+        A: Clone,
+        requires { R.explains opening.now.value.view value }
+        ensures seat { IfOk result (λ p. IsOpeningSeat opening.now.value p.0 p.1) }
         ensures err { IfErr result (λ e. (e.0 ≡ NoMemory) × (e.1 ≡ value)) }
     {
         let Ok(heap) = alloc.clone() else {
@@ -86,7 +137,7 @@ impl<T, R: LockRule<T>, A: Allocator> WordLock<T, R, A> {
             Ok(slots) => slots,
             Err(value) => return Err((PoolError::NoMemory, value)),
         };
-        match Table::new(alloc, &[FREE], slots, first) {
+        match Table::new(alloc, &[FREE], slots, opening) {
             Ok((table, inside)) => Ok((WordLock { table }, Seat { inside })),
             Err(Refused { mut slots }) => {
                 let last = slots.pop();
@@ -97,15 +148,6 @@ impl<T, R: LockRule<T>, A: Allocator> WordLock<T, R, A> {
                 Err((PoolError::NoMemory, value))
             }
         }
-    }
-
-    /// One more seat, at any time. It has seen a view that goes on from the one that the lock opened with, and has had no turn.
-    pub fn seat(&self) -> Seat<T, R>
-        ensures seat { IsNewSeat self.now result }
-        ensures seen { R.grows (opening self.now) (seen result) }
-    {
-        let (_, inside) = self.table.shared.load_new_seat::<Sit<R>>(0);
-        Seat { inside }
     }
 
     /// The lock's word as it is at this moment, for a monitor: bit 0 says that the lock is held, bit 1 that a seat waits, and the
@@ -120,17 +162,21 @@ impl<T, R: LockRule<T>, A: Allocator> WordLock<T, R, A> {
         T: Drop,
         ensures { IfSome result (λ x. (v : R.View) × R.explains v x × R.grows (opening self) v) }
     {
-        let seat = self.seat();
-        self.close_with(seat)
+        let mut closed = self.table.close();
+        let held = is_held(closed.word(0));
+        let value = closed.take(0);
+        closed.free();
+        if held { None } else { value }
     }
 
-    /// The same, with a view that goes on from what the seat has seen too. The turns of all seats lead from the view that the lock opened with to this one, and the seat's own among them are just those that it knows of.
+    /// The same, with a view that goes on from what the seat has seen too. The turns of all seats lead from the view that the lock opened with to this one, and the seat's own among them are just those that it knows of. The only seat that the lock ever had gets the value, and it is the one that the seat left.
     pub fn close_with(self, seat: Seat<T, R>) -> Option<T>
     where
         T: Drop,
         requires own { seat_table seat ≡ lock_table self }
         requires idle { IsIdle seat }
-        ensures { IfSome result (λ x. IsLastValue R.grows R.explains self seat x) }
+        ensures last { IfSome result (λ x. IsLastValue R.grows R.explains self seat x) }
+        ensures only { kin seat ≡ 0 → IsSome result }
     {
         let Seat { inside } = seat;
         let mut closed = self.table.close_with(inside);

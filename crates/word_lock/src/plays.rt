@@ -1,6 +1,6 @@
 //! What each step on the table tells the seat that makes it.
-ghost use Rattle.std.specs.Prelude.{[]};
-ghost use Rattle.word_lock.specs.Kept.{tried, stays, noted, freed, settled, sat, away, spent, met};
+ghost use Rattle.std.specs.Prelude.{[], ◌+◌, ◌++◌};
+ghost use Rattle.word_lock.specs.Kept.{tried, stays, noted, freed, settled, sat, away, spent, met, with_split};
 
 use crate::rule::{LockRule, Sight};
 use atomic_table::{Join, Play, Split};
@@ -69,22 +69,22 @@ impl<T, R: LockRule<T>> Play<Option<T>, Sight<R::View>> for Sit<R> {
     ghost then = { sat R.grows };
 }
 
-// The second seat has seen the same, and has had no turn.
+// The first seat has been split once more. The second has seen the same, and has had no turn.
 pub(crate) struct Copy;
 
 impl<V> Split<Sight<V>> for Copy {
-    ghost left = { λ d. d };
+    ghost left = { λ d. with_split d };
 
-    ghost right = { λ d. away d.seen [] };
+    ghost right = { λ d. away d.seen [] [] 1 };
 }
 
-// The first seat has both views until its next load, and the second is used up.
+// The first seat has both views until its next load, and takes over the other's turns. The second is used up.
 pub(crate) struct Meet<T, R> {
     rule: PhantomData<(T, R)>,
 }
 
 impl<T, R: LockRule<T>> Join<Sight<R::View>> for Meet<T, R> {
-    ghost both = { λ d e. met d.seen e.seen d.turns };
+    ghost both = { λ d e. met d.seen e.seen d.turns (d.taken ++ e.taken ++ e.turns) d.kin };
 
     ghost spent = { spent R.blank };
 }

@@ -48,18 +48,29 @@ pub(crate) struct Sight<V> {
     pub(crate) stage: Stage<V>,
     pub(crate) seen: V,
     pub(crate) turns: LinkedList<Turn<V>>,
+    // The turns of the seats that it joined, and of those that they had joined.
+    pub(crate) taken: LinkedList<Turn<V>>,
+    // 0 while the seat is the only one that the lock ever had, 1 at a new seat of a lock that has others. Each split adds 1.
+    pub(crate) kin: u64,
 }
 
-// The rule of the table: `Kept`, of the view that the lock opened with.
+// How a lock opens. No value of it is made.
+pub(crate) struct Opening<V> {
+    pub(crate) view: V,
+    // The `kin` of the first seat: 0 where all other seats come from it by splits, 1 where a source makes seats too.
+    pub(crate) kin: u64,
+}
+
+// The rule of the table: `Kept`, of how the lock opened.
 pub(crate) struct Keeps<R> {
     rule: PhantomData<R>,
 }
 
-impl<T, R: LockRule<T>> TableRule<Option<T>, Sight<R::View>, Told<R::View>> for Keeps<R> {
+impl<T, R: LockRule<T>> TableRule<Option<T>, Sight<R::View>, Told<Opening<R::View>>> for Keeps<R> {
     ghost use Rattle.std.specs.Prelude.{[]};
     ghost use Rattle.word_lock.specs.Kept.{Kept, away};
 
-    ghost holds = { λ k. Kept R.explains R.grows k.value };
+    ghost holds = { λ k. Kept R.explains R.grows k.value.view k.value.kin };
 
-    ghost first = { λ k. away k.value [] };
+    ghost first = { λ k. away k.value.view [] [] k.value.kin };
 }

@@ -1,9 +1,9 @@
 //! A thread's seat at a lock, and what takes the lock.
-ghost use Rattle.std.specs.Prelude.{◌≡◌, [], ◌∷◌, IfNone, IfSome, None};
+ghost use Rattle.std.specs.Prelude.{◌≡◌, [], ◌∷◌, ◌++◌, IfNone, IfSome, IsSome, None};
 ghost use Rattle.std.specs.Borrow.{sem, RestsIfNone};
 ghost use Rattle.word_lock.specs.contracts.seat.Seat.{the_row};
 ghost use Rattle.word_lock.specs.Kept.{holding, with_turn};
-ghost use Rattle.word_lock.specs.Seats.{seen, turns, seat_table, lock_table, HasJoined, HasTaken, HasTurned, IsAsBefore, IsHolding, IsIdle, IsNewSeat, IsSameSeat};
+ghost use Rattle.word_lock.specs.Seats.{kin, seen, taken, turns, seat_table, lock_table, HasJoined, HasSplit, HasTaken, HasTurned, IsAsBefore, IsHolding, IsIdle, IsNewSeat, IsSameSeat};
 
 use crate::guard::{Guard, Held, seen_view};
 use crate::lock::WordLock;
@@ -20,13 +20,15 @@ use std::sync::Wait;
 const TRIES: u32 = 16;
 
 /// A right to ask for a lock. It has no bytes, and a thread may hand it to another. It has seen a view, which all later views of the value go on from, and knows the turns that it has had with the lock.
+///
+/// It also has a number in the proofs, `kin`, which each `split` makes one more and no call makes less. So a contract that says that the number stays says that no seat was split off: a body that had its steps made by such a seat shows it for ever. What a seat that was joined had done is told by the list `taken`. A seat with the number 0 is the only one that its lock ever had, and finds the value as it left it.
 #[derive(Drop)]
 pub struct Seat<T, R: LockRule<T>> {
     pub(crate) inside: atomic_table::Seat<Option<T>, Sight<R::View>>,
 }
 
 impl<T, R: LockRule<T>> Seat<T, R> {
-    /// Takes the lock where it is free, by one `fetch_or` of the held bit. It never waits. `None` where that bit was set, and then nothing has changed.
+    /// Takes the lock where it is free, by one `fetch_or` of the held bit. It never waits. `None` where that bit was set, and then nothing has changed. The only seat that the lock ever had gets it always.
     ///
     /// The guard has the value, and the view that explains it, which goes on from what the seat had seen.
     pub fn try_acquire<'s, 'l, A: Allocator>(
@@ -43,6 +45,7 @@ impl<T, R: LockRule<T>> Seat<T, R> {
         ensures held { IfSome result
             (λ h. HasTaken R.grows R.explains self.old h.seat.now h.held.value) }
         ensures view { IfSome result (λ h. h.held.view.value ≡ seen h.seat.now) }
+        ensures only { kin self.old ≡ 0 → IsSome result }
     {
         match self.try_take(lock) {
             Some(value) => {
@@ -88,6 +91,7 @@ impl<T, R: LockRule<T>> Seat<T, R> {
         requires idle { IsIdle self.old }
         ensures same { IsSameSeat self.old self.new }
         ensures unchanged { IfNone result (IsAsBefore self.old self.new) }
+        ensures only { kin self.old ≡ 0 → IsSome result }
         ensures got { IfSome result (λ x. HasTaken R.grows R.explains self.old self.new x) }
     {
         let shared = &lock.table.shared;
@@ -166,11 +170,11 @@ impl<T, R: LockRule<T>> Seat<T, R> {
         }
     }
 
-    /// One more seat, which has seen what this one has, and has had no turn. This one stays as it was. It never waits.
+    /// One more seat, which has seen what this one has, and has had no turn. This one's number is one more afterwards, and nothing else of it changes. It never waits.
     pub fn split<A: Allocator>(&mut self, lock: &WordLock<T, R, A>) -> Seat<T, R>
         requires own { seat_table self.old ≡ lock_table lock.now }
         requires idle { IsIdle self.old }
-        ensures same { IsAsBefore self.old self.new }
+        ensures split { HasSplit self.old self.new }
         ensures other { IsNewSeat lock.now result }
         ensures seen { seen result ≡ seen self.old }
     {
@@ -179,13 +183,15 @@ impl<T, R: LockRule<T>> Seat<T, R> {
         }
     }
 
-    /// Takes in what another seat has seen, and uses that seat up. Afterwards this one has seen a view that goes on from both. Its turns are still its own alone. It never waits.
+    /// Takes in what another seat has seen, and uses that seat up. Afterwards this one has seen a view that goes on from both. Its turns are still its own alone: those of the other, and those that the other had taken over, follow in `taken`. It never waits.
     pub fn join<A: Allocator>(&mut self, lock: &WordLock<T, R, A>, other: Seat<T, R>)
         requires own { seat_table self.old ≡ lock_table lock.now }
         requires same_lock { seat_table other ≡ lock_table lock.now }
         requires idle { IsIdle self.old × IsIdle other }
-        ensures same { IsSameSeat self.old self.new × (turns self.new ≡ turns self.old) }
+        ensures same { IsSameSeat self.old self.new × (turns self.new ≡ turns self.old)
+            × (kin self.new ≡ kin self.old) }
         ensures both { HasJoined R.grows self.old other self.new }
+        ensures taken { taken self.new ≡ taken self.old ++ taken other ++ turns other }
     {
         let Seat { inside } = other;
         let shared = &lock.table.shared;
@@ -202,7 +208,11 @@ fn note<T, R: LockRule<T>, J: Next, A: Allocator>(
 ) -> u64
     requires own { seat.old.table_id ≡ lock_table lock.now }
     requires named { J.next ≡ R.View.row.coded.code next.now.value }
-    requires held { seat.old.me ≡ (holding seat.old.me.0.seen seat.old.me.0.turns, (0, None) ∷ []) }
+    requires held { seat.old.me ≡ (
+      holding seat.old.me.0.seen seat.old.me.0.turns seat.old.me.0.taken
+          seat.old.me.0.kin,
+      (0, None) ∷ [],
+    ) }
     requires grows { R.grows seat.old.me.0.seen next.now.value }
     ensures same { (seat.new.table_id ≡ seat.old.table_id) × (seat.new.id ≡ seat.old.id) }
     ensures noted { seat.new.me ≡ (with_turn seat.old.me.0 next.now.value, seat.old.me.1) }

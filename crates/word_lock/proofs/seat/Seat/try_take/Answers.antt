@@ -3,7 +3,7 @@ use Rattle.word_lock.proofs.Keeps.{tries, unheld, only_slot}
 use Rattle.word_lock.proofs.seat.Seat.try_take.Goals as goal
 
 pub fetch_or-found-requires : goal.fetch_or-found-requires
-fetch_or-found-requires g c = (search rules, search rules, tries _ g.R.LockRule.same g.R.LockRule.onward _ _ _ _ _ _ _ c.requires.idle)
+fetch_or-found-requires g c = (search rules, search rules, tries _ g.R.LockRule.same g.R.LockRule.onward _ _ _ _ _ _ _ _ _ _ c.requires.idle)
 
 pub exchange-requires : goal.exchange-requires
 exchange-requires g c =
