@@ -125,6 +125,14 @@ module _ {Dev : Type 0} {G : Ghosts Dev} where
     pub met_none : HasMetNone old.seat new.seat
     pub alone : kin_of old ≡ 0 → view_seen new ≡ view_seen old
 
+  -- the handle had one turn and no other, and met no other handle
+  abbrev pub TakesOneTurn : Handle Dev G → Handle Dev G → Type 0
+  TakesOneTurn old new = (took : SeenPool) × (turns_of new ≡ turns_of old ++ turn took (view_seen new) ∷ []) × HasMetNone old.seat new.seat
+
+  -- so it had one turn at last, after others
+  abbrev pub TakesTurns : Handle Dev G → Handle Dev G → Type 0
+  TakesTurns old new = (tries : List (Turn SeenPool)) × (took : SeenPool) × (turns_of new ≡ (turns_of old ++ tries) ++ turn took (view_seen new) ∷ []) × HasMetNone old.seat new.seat
+
   -- what a handle had seen as it left its pool, and the turns that it had had
   abbrev pub IsLeftBehind : Handle Dev G → LastSeen Dev G → Type 0
   IsLeftBehind h l = l.seat ≡ h.seat
