@@ -41,3 +41,12 @@ grows_by_made {keeps} {old} {new} m = grows_onward keeps _ _ _ m.onward (grows_b
 -- so it is of a seat that is the same one
 pub made_there : {T R : Type 0} (keeps : Type 0) (s : declared_step.Step) (r : declared_reply.Reply) (old : Seat T R SeenPool) {new there : Seat T R SeenPool} → new ≡ there → HasMade keeps s r old new → HasMade keeps s r old there
 made_there keeps s r old is m = subst (HasMade keeps s r old) is m
+
+-- what the only seat did in two calls, one after the other
+pub one_after_the_other : {T R : Type 0} {keeps : Type 0} {s t : declared_step.Step} {r u : declared_reply.Reply} (old middle new : Seat T R SeenPool) → kin old ≡ 0 → HasMade keeps s r old middle → HasMade keeps t u middle new
+    → (between : SeenPool) × (turns new ≡ (turns old ++ turn (seen old) between ∷ []) ++ turn between (seen new) ∷ [])
+one_after_the_other old middle new only first later = (
+  seen middle,
+  later.turn ∙ ap (λ (v : SeenPool). turns middle ++ turn v (seen new) ∷ []) (later.alone (first.met_none.0 ∙ only))
+  ∙ ap (λ (ts : List (Turn SeenPool)). ts ++ turn (seen middle) (seen new) ∷ []) (first.turn ∙ ap (λ (v : SeenPool). turns old ++ turn v (seen middle) ∷ []) (first.alone only)),
+)

@@ -77,21 +77,21 @@ module _ {Dev : Type 0} {G : Ghosts Dev} (s : declared_step.Step) (r : declared_
       safe = λ keeps created follows. ∥∥₁_map (x.safe keeps created follows) (kept_after created v.past keeps);
     }
 
-    was : before v.past ≡ viewed_state v
-    was = sym x.state
+    before_is : before v.past ≡ viewed_state v
+    before_is = sym x.state
 
-    is : after v.past ≡ viewed_state (view_of new (later v.past) v.rule)
-    is = sym (viewed_state-view_of new (later v.past) v.rule)
+    after_is : after v.past ≡ viewed_state (view_of new (later v.past) v.rule)
+    after_is = sym (viewed_state-view_of new (later v.past) v.rule)
 
     both : (P : State → State → Type 0) → P (before v.past) (after v.past) → P (viewed_state v) (viewed_state (view_of new (later v.past) v.rule))
-    both P h = subst (λ a. P a (viewed_state (view_of new (later v.past) v.rule))) was (subst (P (before v.past)) is h)
+    both P h = subst (λ a. P a (viewed_state (view_of new (later v.past) v.rule))) before_is (subst (P (before v.past)) after_is h)
 
     next_safe : (created : ℕ) → IsTrue G.keeps_model → IsKeptSafe (on_disk old (since created v.past)) → IsSafeBetween s r created v (view_of new (later v.past) v.rule)
     next_safe created keeps kept = record {
       before = on_disk old (since created v.past);
       after = on_disk new (since created (later v.past));
-      state_before = ap (at_create created) was;
-      state_after = ap (at_create created) is;
+      state_before = ap (at_create created) before_is;
+      state_after = ap (at_create created) after_is;
       disk_before = sym x.disk_is;
       disk_after = refl;
       kept = kept;
@@ -101,7 +101,7 @@ module _ {Dev : Type 0} {G : Ghosts Dev} (s : declared_step.Step) (r : declared_
     next_stepped : IsPoolStep (IsTrue G.keeps_model) s r v next
     unfolding next
     next_stepped = record {
-      explained = subst (λ (a : State). ∥ IsExplainedNow a.shown a.past ∥₁) was x.explained;
+      explained = subst (λ (a : State). ∥ IsExplainedNow a.shown a.past ∥₁) before_is x.explained;
       step = both (λ a b. ∥ IsStep s r a b ∥₁) (∥∥₁_map x.explained (turns v.past).step);
       over = λ keeps. subst (λ (d : Disk). ∥ IsStepOn d s r (viewed_state v) (viewed_state (view_of new (later v.past) v.rule)) ∥₁) (sym x.disk_is)
           (both (λ a b. ∥ IsStepOn (disk_of old) s r a b ∥₁) (∥∥₁_map (x.held keeps) (turns v.past).over));

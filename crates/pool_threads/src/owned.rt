@@ -86,7 +86,7 @@ impl<D: SectorDevice> OwnedPool<D> {
     /// A handle that goes on from what one had seen as it left: its turns are among those that it knows of.
     pub fn handle_behind(&self, last: LastSeen<D>) -> Handle<'_, D>
         requires { WasOf (owned_of self.now) last }
-        ensures { IsBackIn (owned_of self.now) last result }
+        ensures { IsBackIn (owned_of self.entry.now) last result }
     {
         self.shared.handle_behind(last)
     }

@@ -158,7 +158,7 @@ impl<D: SectorDevice> Pool<D> {
 
     /// A handle, at any time. It has seen a view that goes on from the first one, and has had no turn.
     pub fn handle(&self) -> Handle<'_, D>
-        ensures { IsNewHandle (shared_of self.now) result }
+        ensures { IsNewHandle (shared_of self.entry.now) result }
     {
         let shared = &self.shared;
         let seat = self.source.seat(&shared.lock);
