@@ -1,13 +1,13 @@
 //! A lock over a counter, whose view is how many additions were made.
 ghost use Rattle.std.specs.Prelude.{◌≡◌, ℕ, [], ◌∷◌, ◌++◌, ◌+◌, ◌%◌, ◌^◌, ◌≤◌, IfOk, MatchOption};
 ghost use Rattle.std.proofs.Math.Nat.{le_refl, le_trans};
-ghost use Rattle.word_lock.specs.Seats.{seen, turns, seat_table, lock_table, IsIdle, IsHolding, IsSameSeat, IsAsBefore};
+ghost use Rattle.word_lock.specs.Seats.{kin, seen, turns, seat_table, lock_table, HasMetNone, IsIdle, IsHolding, IsSameSeat, IsAsBefore, IsSourceOf};
 ghost use Rattle.word_lock.specs.Turns.{turn};
 
 use base::PoolError;
 use std::alloc::Global;
 use std::sync::Wait;
-use word_lock::{Guard, Held, LockRule, Seat, Told, WordLock, release};
+use word_lock::{Guard, Held, LockRule, Seat, SeatSource, Told, WordLock, release};
 
 /// So many additions of 1 were made to a counter that was 0 and wraps.
 pub struct Additions;
@@ -29,11 +29,40 @@ impl LockRule<u64> for Additions {
 /// The lock of a counter.
 pub type Lock = WordLock<u64, Additions>;
 
-/// A lock over 0, and its first seat.
+/// A lock over 0, and its first seat, from which all others come by splits.
 pub fn new_lock(alloc: Global) -> Result<(Lock, Seat<u64, Additions>), PoolError>
     ensures { IfOk result (λ p. (seat_table p.1 ≡ lock_table p.0) × IsIdle p.1) }
 {
     Lock::new(alloc, 0, &told_none()).map_err(|(error, _)| error)
+}
+
+/// A lock over 0, with its source of seats, for threads that share both.
+#[derive(Drop)]
+pub struct Shared {
+    pub lock: Lock,
+    source: SeatSource<u64, Additions>,
+    ghost own: { IsSourceOf lock source },
+}
+
+impl Shared {
+    pub fn new(alloc: Global) -> Result<Shared, PoolError> {
+        match Lock::with_source(alloc, 0, &told_none()) {
+            Ok((lock, source)) => Ok(Shared { lock, source }),
+            Err((error, _)) => Err(error),
+        }
+    }
+
+    /// One more seat.
+    pub fn seat(&self) -> Seat<u64, Additions>
+        ensures { (seat_table result ≡ lock_table self.now.lock) × IsIdle result }
+    {
+        self.source.seat(&self.lock)
+    }
+
+    /// The value at the end.
+    pub fn close(self) -> Option<u64> {
+        self.lock.close()
+    }
 }
 
 fn told_none() -> Told<u64>
@@ -61,13 +90,15 @@ pub fn add_noted(held: &mut Held<u64, u64>) -> u64
     found
 }
 
-/// Adds 1 where the lock is free, in one turn of the seat and no other, and answers the value before.
+/// Adds 1 where the lock is free, in one turn of the seat and no other, and answers the value before. No other seat has a turn
+/// for it, and the only seat of a lock finds what it left.
 pub fn try_add(seat: &mut Seat<u64, Additions>, lock: &Lock) -> Option<u64>
     requires { (seat_table seat.old ≡ lock_table lock.now) × IsIdle seat.old }
     ensures same { (seat_table seat.new ≡ seat_table seat.old) × IsIdle seat.new }
     ensures place { MatchOption result (IsAsBefore seat.old seat.new) (λ x. (n : ℕ)
         × (seen seat.old ≤ n) × (turns seat.new ≡ turns seat.old ++ turn n (n + 1) ∷ [])
-        × (x ≡ n % 2 ^ 64)) }
+        × (x ≡ n % 2 ^ 64) × (kin seat.old ≡ 0 → n ≡ seen seat.old)) }
+    ensures met { HasMetNone seat.old seat.new }
 {
     let Some(mut guard) = seat.try_acquire(lock) else {
         return None;
@@ -95,13 +126,13 @@ fn add_apart<'s, 'l>(guard: Guard<'s, 'l, u64, Additions>)
 }
 
 /// A new seat adds 1 as often as `count` says.
-pub fn climb<W: Wait>(rt: &W, lock: &Lock, count: u32) -> Seat<u64, Additions>
-    ensures same { (seat_table result ≡ lock_table lock.now) × IsIdle result }
+pub fn climb<W: Wait>(rt: &W, shared: &Shared, count: u32) -> Seat<u64, Additions>
+    ensures same { (seat_table result ≡ lock_table shared.now.lock) × IsIdle result }
     ensures all { count ≤ seen result }
 {
-    let mut seat = lock.seat();
+    let mut seat = shared.seat();
     for _ in 0..count {
-        add_apart(seat.acquire(rt, lock));
+        add_apart(seat.acquire(rt, &shared.lock));
     }
     seat
 }

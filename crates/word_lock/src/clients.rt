@@ -5,7 +5,7 @@
 //! knows of it finds nothing else.
 ghost use Rattle.std.specs.Prelude.{◌≡◌, [], ◌∷◌, ◌++◌, ◌+◌, ◌≤◌, IfErr, IfOk, IfSome, IsSome};
 ghost use Rattle.std.proofs.Math.Nat.{le_refl, le_trans};
-ghost use Rattle.word_lock.specs.Seats.{kin, lock_table, seat_table, seen, taken, turns, HasMetNone, IsIdle, IsSourceOf};
+ghost use Rattle.word_lock.specs.Seats.{kin, lock_table, opening, seat_table, seen, taken, turns, HasMetNone, IsIdle, IsSourceOf};
 ghost use Rattle.word_lock.specs.Turns.{turn};
 
 use crate::{Held, LockRule, Seat, SeatSource, Told, WordLock, release};
@@ -71,11 +71,13 @@ fn a_turn_is_from_what_was_taken_to_what_was_left<W: Wait>(
     found
 }
 
-// The only seat of a lock always gets it and finds what it left. Its one turn is its own, and no other seat had one for it.
+// One turn of the seat itself, for which no other seat had one. The only seat of a lock always gets it and finds what it left.
 fn the_only_seat_finds_what_it_left(seat: &mut Seat<u8, Rising>, lock: &Lock) -> Option<u8>
     requires own { seat_table seat.old ≡ lock_table lock.now }
     requires idle { IsIdle seat.old }
+    ensures same { (seat_table seat.new ≡ seat_table seat.old) × IsIdle seat.new }
     ensures always { kin seat.old ≡ 0 → IsSome result }
+    ensures onward { IfSome result (λ x. seen seat.old ≤ x) }
     ensures left { IfSome result (λ x. kin seat.old ≡ 0 → x ≡ seen seat.old) }
     ensures turn { IfSome result (λ x. turns seat.new ≡ turns seat.old ++ turn x 255 ∷ []) }
     ensures met { HasMetNone seat.old seat.new }
@@ -173,7 +175,7 @@ fn a_lock_with_one_seat_closes_with_what_it_left(alloc: Global) -> Result<Option
     }
 }
 
-// Its lock is given back where there is none.
+// The value is given back where there is no memory.
 fn a_source_is_of_the_lock_that_it_was_made_with(
     alloc: Global,
 ) -> Result<(Lock, SeatSource<u8, Rising>), u8>
@@ -187,17 +189,17 @@ fn a_source_is_of_the_lock_that_it_was_made_with(
 }
 
 // It is idle and has had no turn, so after one it has had just that. It is not the only one.
-fn a_seat_from_a_source_starts_anew<W: Wait>(
-    rt: &W,
+fn a_seat_from_a_source_starts_anew(
     source: &SeatSource<u8, Rising>,
     lock: &Lock,
-) -> (u8, Seat<u8, Rising>)
+) -> (Option<u8>, Seat<u8, Rising>)
     requires own { IsSourceOf lock.now source.now }
     ensures own { (seat_table result.1 ≡ lock_table lock.now) × IsIdle result.1 }
-    ensures turn { turns result.1 ≡ turn result.0 255 ∷ [] }
+    ensures onward { IfSome result.0 (λ x. opening lock.now ≤ x) }
+    ensures turn { IfSome result.0 (λ x. turns result.1 ≡ turn x 255 ∷ []) }
     ensures number { (kin result.1 ≡ 1) × (taken result.1 ≡ []) }
 {
     let mut seat = source.seat(lock);
-    let found = a_turn_is_from_what_was_taken_to_what_was_left(rt, &mut seat, lock);
+    let found = the_only_seat_finds_what_it_left(&mut seat, lock);
     (found, seat)
 }

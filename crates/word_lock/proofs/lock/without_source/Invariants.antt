@@ -1,4 +1,4 @@
 use Rattle.word_lock.proofs.lock.without_source.Given as goal
 
 abbrev pub ghost-of : goal.ghost-of
-ghost-of g a = record { view = a.first.now.value; kin = 0 }
+ghost-of g a = record { view = a.x.now.value; kin = 0 }
