@@ -11,4 +11,4 @@ pub mod Begun
 pub mod Limits
 pub mod Looked
 pub mod Ends
-pub mod Laws
+pub mod SafeTurns

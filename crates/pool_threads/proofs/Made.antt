@@ -48,5 +48,5 @@ pub one_after_the_other : {T R : Type 0} {keeps : Type 0} {s t : declared_step.S
 one_after_the_other old middle new only first later = (
   seen middle,
   later.turn ∙ ap (λ (v : SeenPool). turns middle ++ turn v (seen new) ∷ []) (later.alone (first.met_none.0 ∙ only))
-  ∙ ap (λ (ts : List (Turn SeenPool)). ts ++ turn (seen middle) (seen new) ∷ []) (first.turn ∙ ap (λ (v : SeenPool). turns old ++ turn v (seen middle) ∷ []) (first.alone only)),
+      ∙ ap (λ (ts : List (Turn SeenPool)). ts ++ turn (seen middle) (seen new) ∷ []) (first.turn ∙ ap (λ (v : SeenPool). turns old ++ turn v (seen middle) ∷ []) (first.alone only)),
 )

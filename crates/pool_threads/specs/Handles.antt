@@ -91,7 +91,7 @@ module _ {Dev : Type 0} {G : Ghosts Dev} where
     pub none_taken : taken_by h ≡ []
     pub number : kin_of h ≡ 1
 
-  -- one more handle was split off, as the handle's number tells; else it is as it was
+  -- one more handle was split off, which the handle's number shows, and nothing else of it has changed
   pub record HasSplit (old new : Handle Dev G) : Type 0 where
     pub same_pool : StaysInPool old new
     pub seen : view_seen new ≡ view_seen old
@@ -107,8 +107,8 @@ module _ {Dev : Type 0} {G : Ghosts Dev} where
     pub none_taken : taken_by other ≡ []
     pub number : kin_of other ≡ 1
 
-  -- The handle has seen what both had seen. Its own turns are the same, and it tells those of the other from now on, with those that the other had
-  -- taken over.
+  -- The handle has seen what both had seen. Its own turns are the same. Those of the other, and those that the other had taken over, follow in
+  -- its list of taken turns.
   pub record HasJoined (old added new : Handle Dev G) : Type 0 where
     pub same_pool : StaysInPool old new
     pub own : GrowsTo (IsTrue G.keeps_model) (view_seen old) (view_seen new)

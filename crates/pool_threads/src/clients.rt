@@ -16,7 +16,8 @@ ghost use Rattle.word_lock.specs.Turns.{turn};
 
 use crate::{Handle, LastSeen, OwnedPool, Pool};
 use base::{
-    Bytes, LockId, Mode, ObjectId, Ops, Owner, Plan, PoolError, Range, Receipt, Reply, Step, TxId,
+    Bytes, Group, LockId, Mode, ObjectId, Ops, Owner, Plan, PoolError, Range, Receipt, Reply, Step,
+    TxId,
 };
 use device_model::{Fault, MemDevice, SectorDevice};
 use import_replay::Imported;
@@ -123,7 +124,7 @@ fn a_joined_handle_goes_on_from_what_both_saw<'p, D: SectorDevice>(
 }
 
 // So a step that a body has made by a handle of its own shows in what it hands back.
-fn a_joined_handle_tells_the_turns_of_the_other<'p, D: SectorDevice>(
+fn a_joined_handle_shows_the_turns_of_the_other<'p, D: SectorDevice>(
     handle: &mut Handle<'p, D>,
     other: Handle<'p, D>,
 )

@@ -11,7 +11,7 @@ use word_lock::Seat;
 /// What one thread has of a pool: a seat at its lock.
 ///
 /// Its calls say that its number stays, but for `split`, which adds 1. No call has a seat from elsewhere, so that none makes a
-/// step in a turn that the handle does not tell.
+/// step in a turn that the handle does not show.
 #[derive(Drop)]
 pub struct Handle<'p, D: SectorDevice> {
     pub(crate) shared: &'p Shared<D>,

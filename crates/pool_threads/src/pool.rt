@@ -69,8 +69,8 @@ impl<D: SectorDevice> Pool<D> {
         }
     }
 
-    /// The pool that an import gave, to be shared. The syncs that its handles start carry this moment. Nothing is told of the run
-    /// that left its disk, so that the crash rule is not followed; `share_behind` and `open` follow it.
+    /// The pool that an import gave, to be shared. The syncs that its handles start carry this moment. Nothing is known of the
+    /// run that left its disk, so that the crash rule is not followed; `share_behind` and `open` follow it.
     ///
     /// # Errors
     /// `NoMemory` if there is none for the lock. The state then comes back.

@@ -1,4 +1,4 @@
-use Rattle.pool_threads.proofs.Laws.{stepped_safe}
+use Rattle.pool_threads.proofs.SafeTurns.{stepped_safe}
 use Rattle.pool_threads.proofs.clients.a_crash_within_a_commit_leaves_a_cut.Goals as goal
 
 pub returns : goal.returns

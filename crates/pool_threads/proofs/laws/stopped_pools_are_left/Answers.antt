@@ -1,4 +1,4 @@
-use Rattle.pool_threads.proofs.Laws.{stopped_left}
+use Rattle.pool_threads.proofs.SafeTurns.{stopped_left}
 use Rattle.pool_threads.proofs.laws.stopped_pools_are_left.Goals as goal
 
 pub returns : goal.returns
