@@ -1,5 +1,5 @@
 -- A step of a sync adds moments to its device's disk, and each other step leaves it.
-use Rattle.std.proofs.Common.{ℕ, Bool, true, false, List, ap, sym, subst}
+use Rattle.std.proofs.Common.{◌≡◌, ℕ, Bool, true, false, List, ap, sym, subst}
 use Rattle.std.specs.Prelude.{IsTrue, Option, Some, None, Result}
 use Rattle.base.specs.declared.error.PoolError.{PoolError}
 use Rattle.base.specs.declared.step.Step as declared_step

@@ -235,7 +235,10 @@ where
 {
     match OwnedPool::of_import(imported, 7, before) {
         Ok(opened) => Some(opened),
-        Err((_, state)) => OwnedPool::of_state(state, 7, before).ok(),
+        Err((_, state)) => match OwnedPool::of_state(state, 7, before) {
+            Ok(opened) => Some(opened),
+            Err(_) => None,
+        },
     }
 }
 

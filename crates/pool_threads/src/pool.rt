@@ -1,11 +1,4 @@
 //! A pool that threads share.
-ghost use Rattle.std.specs.Prelude.{◌≡◌, ◌⊎◌, IfErr, IfOk, IfSome, IsSome, IsTrue};
-ghost use Rattle.base.specs.disk.Calls.{with_refusal};
-ghost use Rattle.import_replay.specs.ImportRefusals.{IsImportRefusal};
-ghost use Rattle.import_replay.specs.Mounts.{shown_of_import};
-ghost use Rattle.pool_core.specs.States.{device_of, shown};
-ghost use Rattle.pool_threads.specs.Handles.{IsLastState, IsLaterState, IsLeftByOpen, IsNewHandle, IsReadyBehind, LeavesSame, OpensBehind, ShowsImport, ShowsMounted, StartsBehind, WasOf, kin_left, moment_in, opening_view, shared_of};
-ghost use Rattle.pool_threads.specs.Views.{Explains, SeenPool};
 ghost use Rattle.word_lock.specs.Seats.{IsSourceOf};
 
 use crate::first::{first_view, state_behind, view_behind};
@@ -29,6 +22,14 @@ pub struct Pool<D: SectorDevice> {
 }
 
 impl<D: SectorDevice> Pool<D> {
+    ghost use Rattle.std.specs.Prelude.{◌≡◌, ◌⊎◌, IfErr, IfOk, IfSome, IsSome, IsTrue};
+    ghost use Rattle.base.specs.disk.Calls.{with_refusal};
+    ghost use Rattle.import_replay.specs.ImportRefusals.{IsImportRefusal};
+    ghost use Rattle.import_replay.specs.Mounts.{shown_of_import};
+    ghost use Rattle.pool_core.specs.States.{device_of, shown};
+    ghost use Rattle.pool_threads.specs.Handles.{IsLastState, IsLaterState, IsLeftByOpen, IsNewHandle, IsReadyBehind, LeavesSame, OpensBehind, ShowsImport, ShowsMounted, StartsBehind, WasOf, kin_left, moment_in, opening_view, shared_of};
+    ghost use Rattle.pool_threads.specs.Views.{Explains, SeenPool};
+
     /// A pool that no thread has, with a view that explains it. The syncs that its handles start carry this moment.
     ///
     /// # Errors
