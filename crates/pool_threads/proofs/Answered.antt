@@ -18,7 +18,7 @@ use Rattle.pool_threads.specs.Answers.{IsRefusal, Makes, Sees, state_seen}
 use Rattle.pool_threads.specs.Views.{GrowsTo, IsPoolStep, SeenPool, viewed_state}
 
 -- a step that a handle made is one between what it had seen and what it has seen
-pub between : (keeps : Type 0) (s : declared_step.Step) (r : declared_reply.Reply) (u v w : SeenPool) → GrowsTo u v → IsPoolStep keeps s r v w → ∥ IsMadeBetween ⊥ s r (viewed_state u) (viewed_state w) ∥₁
+pub between : (keeps : Type 0) (s : declared_step.Step) (r : declared_reply.Reply) (u v w : SeenPool) → GrowsTo keeps u v → IsPoolStep keeps s r v w → ∥ IsMadeBetween ⊥ s r (viewed_state u) (viewed_state w) ∥₁
 between keeps s r u v w onward one =
     ∥∥₁_elim onward.goes_on ∥∥₁_prop (λ before.
     ∥∥₁_elim one.explained ∥∥₁_prop (λ x.

@@ -1,4 +1,5 @@
 pub mod Notes
+pub mod Moved
 pub mod Turned
 pub mod Made
 pub mod Fits
@@ -10,3 +11,4 @@ pub mod Begun
 pub mod Limits
 pub mod Looked
 pub mod Ends
+pub mod SafeTurns

@@ -1,5 +1,6 @@
 -- A plan of a fault, which no view shows.
 use Rattle.std.proofs.Common.{◌≡◌, ◌∙◌, ◌++◌, ◌∷◌, [], List, ap, sym, subst}
+use Rattle.std.specs.Prelude.{IsTrue}
 use Rattle.base.specs.history.Past.{Past}
 use Rattle.base.specs.steps.ExactNow.{IsExplainedNow}
 use Rattle.base.specs.stored.Stored.{IsHeld}
@@ -9,25 +10,30 @@ use Rattle.pool_tables.specs.Told.{Told, held_with, state_with}
 use Rattle.pool_core.specs.KeptSafe.{IsKeptSafe, OnDisk, on_disk}
 use Rattle.pool_core.specs.States.{told}
 use Rattle.pool_threads.specs.declared.handle.Handle.{Handle}
-use Rattle.pool_threads.specs.Handles.{HasLooked, StaysInPool, turns_of, view_seen}
+use Rattle.pool_threads.specs.Handles.{HasLooked, StaysInPool, kin_of, turns_of, view_seen}
 use Rattle.pool_threads.specs.Views.{Explains, GrowsTo, SeenPool, since}
 use Rattle.word_lock.specs.declared.rule.Turn.{Turn}
+use Rattle.word_lock.specs.Seats.{HasMetNone}
 use Rattle.word_lock.specs.Turns.{turn}
 
 module _ {Dev : Type 0} {G : Ghosts Dev} (old new : PoolState Dev G) (same : told new ≡ told old) (disk : on_disk new ≡ on_disk old) (v : SeenPool) where
   pub explained_still : Explains old v → Explains new v
   explained_still x = record {
     state = x.state ∙ ap (λ (t : Told). state_with t v.past) (sym same);
+    disk_is = x.disk_is ∙ ap (λ (d : Past → OnDisk). (d v.past).disk) (sym disk);
     explained = subst (λ (t : Told). ∥ IsExplainedNow t.shown v.past ∥₁) (sym same) x.explained;
     held = λ keeps. subst (λ (t : Told). ∥ IsHeld (held_with t v.past) ∥₁) (sym same) (x.held keeps);
     safe = λ keeps created follows. subst (λ (d : Past → OnDisk). ∥ IsKeptSafe (d (since created v.past)) ∥₁) (sym disk) (x.safe keeps created follows);
   }
 
--- from the handle before it has the lock, over the turns and the view of its seat that has it, to the handle after
+-- from the handle before it has the lock, over what its seat that has it has seen and had, to the handle after
 module _ {Dev : Type 0} {G : Ghosts Dev} (old new : Handle Dev G) (ts : List (Turn SeenPool)) (v : SeenPool) where
-  pub looked_by : StaysInPool old new → ts ≡ turns_of old → GrowsTo (view_seen old) v → view_seen new ≡ v → turns_of new ≡ ts ++ turn v (view_seen new) ∷ [] → HasLooked old new
-  looked_by pool same onward still turned = record {
+  pub looked_by : StaysInPool old new → ts ≡ turns_of old → GrowsTo (IsTrue G.keeps_model) (view_seen old) v → (kin_of old ≡ 0 → v ≡ view_seen old) → view_seen new ≡ v → turns_of new ≡ ts ++ turn v (view_seen new) ∷ []
+      → HasMetNone old.seat new.seat → HasLooked old new
+  looked_by pool same onward alone still turned met = record {
     same_pool = pool;
-    onward = subst (GrowsTo (view_seen old)) (sym still) onward;
+    onward = subst (GrowsTo (IsTrue G.keeps_model) (view_seen old)) (sym still) onward;
     turn = turned ∙ ap (λ (us : List (Turn SeenPool)). us ++ turn v (view_seen new) ∷ []) same ∙ ap (λ (w : SeenPool). turns_of old ++ turn w (view_seen new) ∷ []) (sym still);
+    met_none = met;
+    alone = λ only. still ∙ alone only;
   }

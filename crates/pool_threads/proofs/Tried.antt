@@ -17,7 +17,8 @@ use Rattle.pool_threads.specs.Answers.{IsRefusal, Makes, MakesAtLast, Sees, Trie
 use Rattle.pool_threads.specs.Handles.{StaysInPool}
 use Rattle.pool_threads.specs.Views.{IsPoolStep, SeenPool, grows_onward, grows_same}
 use Rattle.pool_threads.proofs.Answered.{between, refused_between}
-use Rattle.pool_threads.proofs.Made.{grows_by_made}
+use Rattle.pool_threads.proofs.Made.{grows_by_made, met_none_on}
+use Rattle.pool_threads.specs.Turns.{AreUnbroken}
 use Rattle.word_lock.specs.declared.rule.Turn.{Turn}
 use Rattle.word_lock.specs.Seats.{seen, turns}
 use Rattle.word_lock.specs.Turns.{turn}
@@ -26,9 +27,19 @@ use mathlib.Core.Logic.{◌↔◌}
 stays_on : {Dev : Type 0} {G : Ghosts Dev} (old now new : Handle Dev G) → StaysInPool old now → StaysInPool now new → StaysInPool old new
 stays_on old now new first later = (later.0 ∙ first.0, later.1 ∙ first.1)
 
+-- unbroken turns, up to what they left last
+unbroken_to : (v : SeenPool) (ts : List (Turn SeenPool)) (w x : SeenPool) → AreUnbroken v ts w → x ≡ w → AreUnbroken v ts x
+unbroken_to v [] w x line same = same ∙ line
+unbroken_to v (t ∷ ts) w x line same = (line.0, unbroken_to t.left ts w x line.1 same)
+
+-- and one more
+unbroken_push : (v : SeenPool) (ts : List (Turn SeenPool)) (w took left : SeenPool) → AreUnbroken v ts w → took ≡ w → AreUnbroken v (ts ++ turn took left ∷ []) left
+unbroken_push v [] w took left line same = (same ∙ line, refl)
+unbroken_push v (t ∷ ts) w took left line same = (line.0, unbroken_push t.left ts w took left line.1 same)
+
 module _ {Dev : Type 0} {G : Ghosts Dev} (s : declared_step.Step) (e : PoolError) where
   pub no_tries : (h : Handle Dev G) → Tries s e h h
-  no_tries h = record { same_pool = (refl, refl); tried = record { tries = []; refused = All-nil (λ (t : Turn SeenPool). IsPoolStep (IsTrue G.keeps_model) s (reply.Refused e) t.took t.left); onward = grows_same (seen h.seat); turns = sym (append-nil (turns h.seat)) } }
+  no_tries h = record { same_pool = (refl, refl); tried = record { tries = []; refused = All-nil (λ (t : Turn SeenPool). IsPoolStep (IsTrue G.keeps_model) s (reply.Refused e) t.took t.left); onward = grows_same (IsTrue G.keeps_model) (seen h.seat); turns = sym (append-nil (turns h.seat)); met_none = (refl, refl); alone = λ _. refl } }
 
   pub one_more_try : {old now next : Handle Dev G} → Tries s e old now → Makes s (reply.Refused e) now next → Tries s e old next
   one_more_try {old} {now} {next} t m = record {
@@ -36,8 +47,10 @@ module _ {Dev : Type 0} {G : Ghosts Dev} (s : declared_step.Step) (e : PoolError
     tried = record {
       tries = t.tried.tries ++ turn m.made.took (seen next.seat) ∷ [];
       refused = All-push (λ (t : Turn SeenPool). IsPoolStep (IsTrue G.keeps_model) s (reply.Refused e) t.took t.left) t.tried.tries (turn m.made.took (seen next.seat)) t.tried.refused m.made.made;
-      onward = grows_onward _ _ _ t.tried.onward (grows_by_made m.made);
+      onward = grows_onward _ _ _ _ t.tried.onward (grows_by_made m.made);
       turns = m.made.turn ∙ ap (λ (ts : List (Turn SeenPool)). ts ++ turn m.made.took (seen next.seat) ∷ []) t.tried.turns ∙ append_assoc (turns old.seat) t.tried.tries (turn m.made.took (seen next.seat) ∷ []);
+      met_none = met_none_on old.seat now.seat next.seat t.tried.met_none m.made.met_none;
+      alone = λ only. unbroken_push (seen old.seat) t.tried.tries (seen now.seat) m.made.took (seen next.seat) (t.tried.alone only) (m.made.alone (t.tried.met_none.0 ∙ only));
     };
   }
 
@@ -48,9 +61,11 @@ module _ {Dev : Type 0} {G : Ghosts Dev} (s : declared_step.Step) (e : PoolError
       tries = t.tried.tries;
       refused = t.tried.refused;
       took = m.made.took;
-      onward = grows_onward _ _ _ t.tried.onward m.made.onward;
+      onward = grows_onward _ _ _ _ t.tried.onward m.made.onward;
       made = m.made.made;
       turn = m.made.turn ∙ ap (λ (ts : List (Turn SeenPool)). ts ++ turn m.made.took (seen new.seat) ∷ []) t.tried.turns;
+      met_none = met_none_on old.seat now.seat new.seat t.tried.met_none m.made.met_none;
+      alone = λ only. unbroken_to (seen old.seat) t.tried.tries (seen now.seat) m.made.took (t.tried.alone only) (m.made.alone (t.tried.met_none.0 ∙ only));
     };
   }
 
@@ -67,7 +82,7 @@ module _ {Dev : Type 0} {G : Ghosts Dev} (s : declared_step.Step) (e : PoolError
 
   module _ {old now new : Handle Dev G} where
     last_between : {r : declared_reply.Reply} → Tries s e old now → Makes s r now new → Sees (IsMadeBetween ⊥ s r) old new
-    last_between t m = between _ _ _ _ _ _ (grows_onward _ _ _ t.tried.onward m.made.onward) m.made.made
+    last_between t m = between _ _ _ _ _ _ (grows_onward _ _ _ _ t.tried.onward m.made.onward) m.made.made
 
     module _ {A : Type 0} (make : A → declared_reply.Reply) (result : Result A PoolError) (t : Tries s e old now) (m : Makes s (reply_of make result) now new) where
       pub sees_last : (P : A → State → State → Type 0) → ((a : A) (before after : State) → IsMadeBetween ⊥ s (make a) before after → P a before after) → IfOk result (λ a. Sees (P a) old new)

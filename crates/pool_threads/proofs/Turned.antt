@@ -6,6 +6,7 @@ use Rattle.base.specs.declared.step.Step as declared_step
 use Rattle.base.specs.declared.step.Reply as declared_reply
 use Rattle.base.specs.declared.step.Step.TheVariants as step
 use Rattle.base.specs.declared.step.Reply.TheVariants as reply
+use Rattle.base.specs.disk.Disk.{Disk}
 use Rattle.base.specs.history.Past.{Past}
 use Rattle.base.specs.steps.Additions.{past_after}
 use Rattle.base.specs.steps.ExactNow.{IsExplainedNow}
@@ -13,12 +14,13 @@ use Rattle.base.specs.steps.Steps.{State}
 use Rattle.device_model.specs.declared.device.SectorDevice.{Ghosts}
 use Rattle.pool_core.specs.declared.state.PoolState.{PoolState}
 use Rattle.pool_tables.specs.Told.{state_with}
-use Rattle.pool_core.specs.KeptSafe.{IsKeptSafe, KeepsSafe, on_disk}
+use Rattle.pool_core.specs.KeptSafe.{IsKeptSafe, IsSafeStep, KeepsSafe, disk_of, on_disk}
 use Rattle.pool_core.specs.States.{told}
 use Rattle.pool_core.specs.StepReplies.{IsStep}
 use Rattle.pool_core.specs.Turns.{Turns}
 use Rattle.pool_threads.proofs.Notes.{viewed_state-view_of}
-use Rattle.pool_threads.specs.Views.{Explains, GrowsTo, IsPoolStep, IsSafeOverSome, IsStepOverSome, SeenPool, since, view_after, view_of, viewed_state}
+use Rattle.pool_threads.specs.Views.{Explains, GrowsTo, IsPoolStep, IsSafeBetween, IsStepOn, MovesDisk, SeenPool, since, view_after, view_of, viewed_state}
+use Rattle.pool_threads.proofs.Moved.{moved_on}
 
 -- a state, of a pool whose create began at this moment
 abbrev at_create : ℕ → State → State
@@ -36,7 +38,7 @@ since_after created step.SyncStep (reply.Synced group) a = refl
 since_after created _ _ a = refl
 
 module _ {Dev : Type 0} {G : Ghosts Dev} (s : declared_step.Step) (r : declared_reply.Reply) (old new : PoolState Dev G) (turns : Turns s r old new)
-    (safe : IsTrue G.keeps_model → KeepsSafe s r old new) where
+    (safe : IsTrue G.keeps_model → KeepsSafe s r old new) (moves : IsTrue G.keeps_model → MovesDisk s (disk_of old) (disk_of new)) where
   -- the state before the step with a past, and the one after it
   abbrev before : Past → State
   before past = state_with (told old) past
@@ -55,10 +57,8 @@ module _ {Dev : Type 0} {G : Ghosts Dev} (s : declared_step.Step) (r : declared_
     kept_after : IsKeptSafe (on_disk new (since created (later past)))
     kept_after = subst (λ (p : Past). IsKeptSafe (on_disk new p)) later_is (safe keeps (since created past) kept).kept
 
-    safely : IsSafeOverSome s r (at_create created (before past)) (at_create created (after past))
-    safely =
-        subst (λ (p : Past). IsSafeOverSome s r (before (since created past)) (state_with (told new) p)) later_is
-        (on_disk old (since created past), on_disk new (later (since created past)), refl, refl, kept, safe keeps (since created past) kept)
+    safely : IsSafeStep s r (on_disk old (since created past)) (on_disk new (since created (later past)))
+    safely = subst (λ (p : Past). IsSafeStep s r (on_disk old (since created past)) (on_disk new p)) later_is (safe keeps (since created past) kept)
 
   module _ (v : SeenPool) (x : Explains old v) where
     past_is : past_after s r (viewed_state v) ≡ later v.past
@@ -71,26 +71,44 @@ module _ {Dev : Type 0} {G : Ghosts Dev} (s : declared_step.Step) (r : declared_
     unfolding next
     next_explained = record {
       state = viewed_state-view_of new (later v.past) v.rule;
+      disk_is = refl;
       explained = ∥∥₁_map x.explained (turns v.past).explained;
       held = λ keeps. ∥∥₁_map (x.held keeps) ((turns v.past).held keeps);
       safe = λ keeps created follows. ∥∥₁_map (x.safe keeps created follows) (kept_after created v.past keeps);
     }
 
+    before_is : before v.past ≡ viewed_state v
+    before_is = sym x.state
+
+    after_is : after v.past ≡ viewed_state (view_of new (later v.past) v.rule)
+    after_is = sym (viewed_state-view_of new (later v.past) v.rule)
+
+    both : (P : State → State → Type 0) → P (before v.past) (after v.past) → P (viewed_state v) (viewed_state (view_of new (later v.past) v.rule))
+    both P h = subst (λ a. P a (viewed_state (view_of new (later v.past) v.rule))) before_is (subst (P (before v.past)) after_is h)
+
+    next_safe : (created : ℕ) → IsTrue G.keeps_model → IsKeptSafe (on_disk old (since created v.past)) → IsSafeBetween s r created v (view_of new (later v.past) v.rule)
+    next_safe created keeps kept = record {
+      before = on_disk old (since created v.past);
+      after = on_disk new (since created (later v.past));
+      state_before = ap (at_create created) before_is;
+      state_after = ap (at_create created) after_is;
+      disk_before = sym x.disk_is;
+      disk_after = refl;
+      kept = kept;
+      made = safely created v.past keeps kept;
+    }
+
     next_stepped : IsPoolStep (IsTrue G.keeps_model) s r v next
     unfolding next
-    next_stepped =
-        let was : before v.past ≡ viewed_state v = sym x.state in
-        let is : after v.past ≡ viewed_state (view_of new (later v.past) v.rule) = sym (viewed_state-view_of new (later v.past) v.rule) in
-        let both : (P : State → State → Type 0) → P (before v.past) (after v.past) → P (viewed_state v) (viewed_state (view_of new (later v.past) v.rule)) =
-        λ P h. subst (λ a. P a (viewed_state (view_of new (later v.past) v.rule))) was (subst (P (before v.past)) is h) in
-        record {
-          explained = subst (λ (a : State). ∥ IsExplainedNow a.shown a.past ∥₁) was x.explained;
-          step = both (λ a b. ∥ IsStep s r a b ∥₁) (∥∥₁_map x.explained (turns v.past).step);
-          over = λ keeps. both (λ a b. ∥ IsStepOverSome s r a b ∥₁) (∥∥₁_map (x.held keeps) (λ h. (_, (turns v.past).over h)));
-          safe = λ keeps created follows.
-              both (λ a b. ∥ IsSafeOverSome s r (at_create created a) (at_create created b) ∥₁) (∥∥₁_map (x.safe keeps created follows) (safely created v.past keeps));
-          rule = refl;
-        }
+    next_stepped = record {
+      explained = subst (λ (a : State). ∥ IsExplainedNow a.shown a.past ∥₁) before_is x.explained;
+      step = both (λ a b. ∥ IsStep s r a b ∥₁) (∥∥₁_map x.explained (turns v.past).step);
+      over = λ keeps. subst (λ (d : Disk). ∥ IsStepOn d s r (viewed_state v) (viewed_state (view_of new (later v.past) v.rule)) ∥₁) (sym x.disk_is)
+          (both (λ a b. ∥ IsStepOn (disk_of old) s r a b ∥₁) (∥∥₁_map (x.held keeps) (turns v.past).over));
+      moves = λ keeps. subst (λ (d : Disk). MovesDisk s d (disk_of new)) (sym x.disk_is) (moves keeps);
+      safe = λ keeps created follows. ∥∥₁_map (x.safe keeps created follows) (next_safe created keeps);
+      rule = refl;
+    }
 
     next_is : (w : SeenPool) → w ≡ view_after s r v new → w ≡ next
     unfolding next
@@ -103,8 +121,9 @@ module _ {Dev : Type 0} {G : Ghosts Dev} (s : declared_step.Step) (r : declared_
     stepped_after w is = subst (IsPoolStep (IsTrue G.keeps_model) s r v) (sym (next_is w is)) next_stepped
 
 -- one step goes on
-pub grows_by_one : (keeps : Type 0) (s : declared_step.Step) (r : declared_reply.Reply) (u v w : SeenPool) → v ≡ u → IsPoolStep keeps s r v w → GrowsTo u w
-grows_by_one keeps s r u v w is one = subst (λ (h : SeenPool). GrowsTo h w) is (record {
+pub grows_by_one : (keeps : Type 0) (s : declared_step.Step) (r : declared_reply.Reply) (u v w : SeenPool) → v ≡ u → IsPoolStep keeps s r v w → GrowsTo keeps u w
+grows_by_one keeps s r u v w is one = subst (λ (h : SeenPool). GrowsTo keeps h w) is (record {
   goes_on = ∥∥₁_map one.step (λ x. (s ∷ [], r ∷ [], (viewed_state w, ([], x), refl)));
+  on = λ k. moved_on s v.disk w.disk (one.moves k);
   rule = one.rule;
 })

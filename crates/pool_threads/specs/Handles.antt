@@ -1,5 +1,5 @@
 -- What contracts say of a pool under its lock, and of its handles.
-use Rattle.std.specs.Prelude.{ℕ, ◌≡◌, ◌⊎◌, ◌++◌, IsTrue, List, [], ◌∷◌}
+use Rattle.std.specs.Prelude.{ℕ, ◌≡◌, ◌⊎◌, ◌+◌, ◌++◌, IsTrue, List, [], ◌∷◌}
 use Rattle.base.specs.crash.CrashRule.{KeepsOwn}
 use Rattle.base.specs.declared.error.PoolError.{PoolError}
 use Rattle.base.specs.declared.error.PoolError.TheVariants.{NoMemory}
@@ -15,20 +15,35 @@ use Rattle.import_replay.specs.RunStarts.{StartsRun}
 use Rattle.import_replay.specs.declared.mounted.Mounted.{Mounted}
 use Rattle.pool_core.specs.declared.state.PoolState.{PoolState}
 use Rattle.pool_core.specs.KeptSafe.{disk_of}
+use Rattle.pool_core.specs.States.{device_of, shown}
 use Rattle.pool_threads.specs.declared.handle.Handle.{Handle}
 use Rattle.pool_threads.specs.declared.handle.LastSeen.{LastSeen}
+use Rattle.pool_threads.specs.declared.owned.OwnedPool.{OwnedPool}
 use Rattle.pool_threads.specs.declared.pool.Pool.{Pool}
-use Rattle.pool_threads.specs.Views.{Explains, GrowsTo, IsFollowed, SeenPool, since, viewed_state}
+use Rattle.pool_threads.specs.declared.shared.Shared.{Shared}
+use Rattle.pool_threads.specs.Views.{Explains, GrowsTo, IsFollowed, SeenPool, since, view_behind_disk, viewed_state}
 use Rattle.pool_threads.specs.Views.CrashRule.{Behind}
 use Rattle.round_trip.specs.Crashes.{IsLeft}
 use Rattle.word_lock.specs.declared.rule.Turn.{Turn}
-use Rattle.word_lock.specs.Seats.{IsAsBefore, lock_table, opening, seat_number, seat_table, seen, turns}
+use Rattle.word_lock.specs.Seats.{HasMetNone, IsAsBefore, kin, lock_table, opening, seat_number, seat_table, seen, taken, turns}
 use Rattle.word_lock.specs.Turns.{IsTurnHistory, turn}
 
 module _ {Dev : Type 0} {G : Ghosts Dev} where
-  -- the view with which the pool was shared
-  abbrev pub opening_view : Pool Dev G → SeenPool
+  -- what the handles of a pool share
+  abbrev pub shared_of : Pool Dev G → Shared Dev G
+  shared_of p = p.shared
+
+  -- so it is of a pool of one owner
+  abbrev pub owned_of : OwnedPool Dev G → Shared Dev G
+  owned_of p = p.shared
+
+  -- the view with which the pool was opened
+  abbrev pub opening_view : Shared Dev G → SeenPool
   opening_view p = opening p.lock
+
+  -- the moment of the syncs that its handles start
+  abbrev pub moment_in : Shared Dev G → ℕ
+  moment_in p = p.moment
 
   -- what the handle has seen
   abbrev pub view_seen : Handle Dev G → SeenPool
@@ -38,12 +53,20 @@ module _ {Dev : Type 0} {G : Ghosts Dev} where
   abbrev pub turns_of : Handle Dev G → List (Turn SeenPool)
   turns_of h = turns h.seat
 
+  -- the turns of the handles that it has joined
+  abbrev pub taken_by : Handle Dev G → List (Turn SeenPool)
+  taken_by h = taken h.seat
+
+  -- The handle's number: 0 while it is the only one that its pool ever had, and else 1 for a new one. Each split adds 1, and nothing makes it less.
+  abbrev pub kin_of : Handle Dev G → ℕ
+  kin_of h = kin h.seat
+
   -- the moment of the syncs that the handle starts
   abbrev pub moment_of : Handle Dev G → ℕ
-  moment_of h = h.pool.now.moment
+  moment_of h = h.shared.now.moment
 
   -- the handle is one of this pool
-  abbrev pub IsOf : Pool Dev G → Handle Dev G → Type 0
+  abbrev pub IsOf : Shared Dev G → Handle Dev G → Type 0
   IsOf p h = seat_table h.seat ≡ lock_table p.lock
 
   -- both handles are of one pool
@@ -58,49 +81,81 @@ module _ {Dev : Type 0} {G : Ghosts Dev} where
   abbrev pub IsUnchanged : Handle Dev G → Handle Dev G → Type 0
   IsUnchanged h g = IsAsBefore h.seat g.seat × (moment_of g ≡ moment_of h)
 
-  -- a handle of this pool that has had no turn, and has seen at least what the pool was shared with; its syncs carry the pool's moment
-  pub record IsNewHandle (p : Pool Dev G) (h : Handle Dev G) : Type 0 where
+  -- a handle of this pool, besides others, that has had no turn, and has seen at least what the pool was opened with; its syncs carry the pool's
+  -- moment
+  pub record IsNewHandle (p : Shared Dev G) (h : Handle Dev G) : Type 0 where
     pub of : IsOf p h
-    pub moment : moment_of h ≡ p.moment
-    pub onward : GrowsTo (opening_view p) (view_seen h)
+    pub moment : moment_of h ≡ moment_in p
+    pub onward : GrowsTo (IsTrue G.keeps_model) (opening_view p) (view_seen h)
     pub no_turn : turns_of h ≡ []
+    pub none_taken : taken_by h ≡ []
+    pub number : kin_of h ≡ 1
 
-  -- the handle is of the same pool, has seen the same and had the same turns
-  pub record IsStill (old new : Handle Dev G) : Type 0 where
+  -- one more handle was split off, which the handle's number shows, and nothing else of it has changed
+  pub record HasSplit (old new : Handle Dev G) : Type 0 where
     pub same_pool : StaysInPool old new
     pub seen : view_seen new ≡ view_seen old
     pub turns : turns_of new ≡ turns_of old
+    pub taken : taken_by new ≡ taken_by old
+    pub number : kin_of new ≡ kin_of old + 1
 
   -- another handle of the same pool, which has seen the same and had no turn
   pub record IsSplitOff (old other : Handle Dev G) : Type 0 where
     pub same_pool : StaysInPool old other
     pub seen : view_seen other ≡ view_seen old
     pub no_turn : turns_of other ≡ []
+    pub none_taken : taken_by other ≡ []
+    pub number : kin_of other ≡ 1
 
-  -- the handle has seen what both had seen, and had no other turn
+  -- The handle has seen what both had seen. Its own turns are the same. Those of the other, and those that the other had taken over, follow in
+  -- its list of taken turns.
   pub record HasJoined (old added new : Handle Dev G) : Type 0 where
     pub same_pool : StaysInPool old new
-    pub own : GrowsTo (view_seen old) (view_seen new)
-    pub other : GrowsTo (view_seen added) (view_seen new)
+    pub own : GrowsTo (IsTrue G.keeps_model) (view_seen old) (view_seen new)
+    pub other : GrowsTo (IsTrue G.keeps_model) (view_seen added) (view_seen new)
     pub turns : turns_of new ≡ turns_of old
+    pub taken : taken_by new ≡ taken_by old ++ taken_by added ++ turns_of added
+    pub number : kin_of new ≡ kin_of old
 
-  -- In one turn and no other the handle left what it saw as it was.
+  -- In one turn and no other the handle left what it saw as it was. The only handle of a pool saw what it had seen.
   pub record HasLooked (old new : Handle Dev G) : Type 0 where
     pub same_pool : StaysInPool old new
-    pub onward : GrowsTo (view_seen old) (view_seen new)
+    pub onward : GrowsTo (IsTrue G.keeps_model) (view_seen old) (view_seen new)
     pub turn : turns_of new ≡ turns_of old ++ turn (view_seen new) (view_seen new) ∷ []
+    pub met_none : HasMetNone old.seat new.seat
+    pub alone : kin_of old ≡ 0 → view_seen new ≡ view_seen old
+
+  -- the handle had one turn and no other, and met no other handle
+  abbrev pub TakesOneTurn : Handle Dev G → Handle Dev G → Type 0
+  TakesOneTurn old new = (took : SeenPool) × (turns_of new ≡ turns_of old ++ turn took (view_seen new) ∷ []) × HasMetNone old.seat new.seat
+
+  -- so it had one turn at last, after others
+  abbrev pub TakesTurns : Handle Dev G → Handle Dev G → Type 0
+  TakesTurns old new = (tries : List (Turn SeenPool)) × (took : SeenPool) × (turns_of new ≡ (turns_of old ++ tries) ++ turn took (view_seen new) ∷ []) × HasMetNone old.seat new.seat
 
   -- what a handle had seen as it left its pool, and the turns that it had had
   abbrev pub IsLeftBehind : Handle Dev G → LastSeen Dev G → Type 0
   IsLeftBehind h l = l.seat ≡ h.seat
 
+  -- the number of that handle
+  abbrev pub kin_left : LastSeen Dev G → ℕ
+  kin_left l = kin l.seat
+
   -- that handle was one of this pool
-  abbrev pub WasOf : Pool Dev G → LastSeen Dev G → Type 0
+  abbrev pub WasOf : Shared Dev G → LastSeen Dev G → Type 0
   WasOf p l = seat_table l.seat ≡ lock_table p.lock
 
+  -- what the only handle of a pool has seen before its first turn: the view with which the pool was opened
+  pub record IsFirstSeen (p : Shared Dev G) (l : LastSeen Dev G) : Type 0 where
+    pub of : WasOf p l
+    pub number : kin_left l ≡ 0
+    pub seen : seen l.seat ≡ opening_view p
+    pub no_turn : turns l.seat ≡ []
+    pub none_taken : taken l.seat ≡ []
+
   -- a handle of this pool that has seen and had just what that one had, and starts syncs with the pool's moment
-  pub record IsBackIn (p : Pool Dev G) (l : LastSeen Dev G) (h : Handle Dev G) : Type 0 where
-    pub moment : moment_of h ≡ p.moment
+  pub record IsBackIn (p : Shared Dev G) (l : LastSeen Dev G) (h : Handle Dev G) : Type 0 where
+    pub moment : moment_of h ≡ moment_in p
     pub seat_is : h.seat ≡ l.seat
 
   -- every fair image that a crash now may leave of the state's disk mounts the replay of a conflict-closed cut of the entries of this past with every
@@ -109,24 +164,25 @@ module _ {Dev : Type 0} {G : Ghosts Dev} where
     pub safe : AreSafe (disk_of s) past
     pub left : IsLeft past (disk_of s)
 
-  -- The view explains the state, and goes on from the one with which the pool was shared. Where the crash rule is followed, over a device that keeps
+  -- The view explains the state, and goes on from the one with which the pool was opened. If the crash rule is followed over a device that keeps
   -- the model, the state leaves cuts of its past.
-  pub record EndsIn (p : Pool Dev G) (s : PoolState Dev G) (v : SeenPool) : Type 0 where
+  pub record EndsIn (p : Shared Dev G) (s : PoolState Dev G) (v : SeenPool) : Type 0 where
     pub explains : Explains s v
-    pub onward : GrowsTo (opening_view p) v
+    pub onward : GrowsTo (IsTrue G.keeps_model) (opening_view p) v
     pub cuts : IsTrue G.keeps_model → (created : ℕ) → IsFollowed (opening_view p).rule created → ∥ LeavesCuts s (since created v.past) ∥₁
 
   -- a pool ended in this state
-  abbrev pub IsLaterState : Pool Dev G → PoolState Dev G → Type 0
+  abbrev pub IsLaterState : Shared Dev G → PoolState Dev G → Type 0
   IsLaterState p s = (v : SeenPool) × EndsIn p s v
 
-  -- A pool ended in this state, behind what a handle had seen: the turns of all handles lead to the last view, and those of this handle among
-  -- them are just the ones that it knows of.
-  pub record IsLastState (p : Pool Dev G) (l : LastSeen Dev G) (s : PoolState Dev G) : Type 0 where
+  -- A pool ended in this state, after what a handle had seen: the turns of all handles lead to the last view, and those of this handle among
+  -- them are just the ones that it knows of. After the only handle it ended in what that had seen.
+  pub record IsLastState (p : Shared Dev G) (l : LastSeen Dev G) (s : PoolState Dev G) : Type 0 where
     pub last : SeenPool
     pub ends : EndsIn p s last
-    pub onward : GrowsTo (seen l.seat) last
-    pub history : IsTurnHistory GrowsTo (opening_view p) (seat_number l.seat) (turns l.seat) last
+    pub onward : GrowsTo (IsTrue G.keeps_model) (seen l.seat) last
+    pub history : IsTurnHistory (GrowsTo (IsTrue G.keeps_model)) (opening_view p) (seat_number l.seat) (turns l.seat) last
+    pub alone : kin_left l ≡ 0 → last ≡ seen l.seat
 
 -- whichever run left the old disk, it left the new one too
 abbrev pub LeavesSame : Disk → Disk → Type 0
@@ -137,12 +193,15 @@ pub record StartsBehind (old : Disk) (m : Mounted) (new : Disk) : Type 0 where
   pub starts : StartsRun old (shown_of_import m).dirty_max new m
   pub own : KeepsOwn old new
 
--- The view shows what one import of this disk mounted, and nothing has happened since. No view shows the disk that it left, nor its moment.
-pub record ShowsImport (old : Disk) (v : SeenPool) : Type 0 where
-  pub disk : Disk
-  pub moment : ℕ
+-- the view shows what an import mounted, on this disk
+pub record ShowsMounted (m : Mounted) (disk : Disk) (v : SeenPool) : Type 0 where
+  pub shown : (viewed_state v).shown ≡ shown_of_import m
+  pub disk_is : v.disk ≡ disk
+
+-- The view shows what one import of the old disk mounted, with this moment in its uberblocks, and its disk is the one that the import left.
+pub record ShowsImport (moment : ℕ) (old : Disk) (v : SeenPool) : Type 0 where
   pub mounted : Mounted
-  pub synced : IsImportSynced old disk moment mounted
+  pub synced : IsImportSynced old v.disk moment mounted
   pub shown : (viewed_state v).shown ≡ shown_of_import mounted
 
 -- what a refused import tells of a disk's image, and leaves of the disk: it as it was, flushed, or what its calls before the refused one made of it
@@ -151,7 +210,7 @@ pub record IsLeftByRefused (moment : ℕ) (old : Disk) (e : PoolError) (new : Di
   pub unchanged : IsReadingRefusal e → new ≡ certain (bytes_of old.now) old
   pub stopped : IsSyncRefusal e → IsImportStopped old new moment e
 
--- what a refused open leaves of it: that, or, where there is no memory to share the pool, what the one import made of it
+-- what a refused open leaves of it: that, or, if there is no memory to share the pool, what the one import made of it
 abbrev pub IsLeftByOpen : ℕ → Disk → PoolError → Disk → Type 0
 IsLeftByOpen moment old e new = IsLeftByRefused moment old e new ⊎ ((e ≡ NoMemory) × ((mounted : Mounted) × IsImportSynced old new moment mounted))
 
@@ -162,3 +221,11 @@ pub record OpensBehind (keeps : Type 0) (old : Disk) (dirty_max : ℕ) (v : Seen
   pub anew : v.past ≡ new_past v.past.base v.past.created dirty_max
   pub shows : (viewed_state v).shown.contents ≡ v.past.base
   pub left : keeps → (past : Past) → IsLeft past old → IsLeftBy past v.past.base
+
+-- The pool that an import of this disk gave, to be opened: the view of it in which nothing has happened since explains it, and follows the crash
+-- rule after whichever run left the disk. It shows what was mounted, over the device that the import left.
+pub record IsReadyBehind {Dev : Type 0} {G : Ghosts Dev} (old : Disk) (m : Mounted) (device : Dev) (s : PoolState Dev G) : Type 0 where
+  pub explains : Explains s (view_behind_disk s old)
+  pub opens : OpensBehind (IsTrue G.keeps_model) old (shown_of_import m).dirty_max (view_behind_disk s old)
+  pub shown_is : shown s ≡ shown_of_import m
+  pub device_is : device_of s ≡ device

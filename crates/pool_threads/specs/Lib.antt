@@ -4,3 +4,4 @@ pub mod Turns
 pub mod Kinds
 pub mod Handles
 pub mod Answers
+pub mod Laws

@@ -10,7 +10,7 @@ use Rattle.base.specs.declared.step.Reply as declared_reply
 use Rattle.base.specs.declared.step.Reply.TheVariants as reply
 use Rattle.word_lock.specs.declared.rule.Turn.{Turn}
 use Rattle.word_lock.specs.declared.seat.Seat.{Seat}
-use Rattle.word_lock.specs.Seats.{HasTurned, seen, turns}
+use Rattle.word_lock.specs.Seats.{HasMetNone, HasTurned, kin, seen, turns}
 use Rattle.word_lock.specs.Turns.{turn}
 use Rattle.pool_threads.specs.Views.{GrowsTo, IsPoolStep, SeenPool}
 
@@ -23,6 +23,11 @@ dated moment s = s
 abbrev pub begin_reply : Result (TxId × Group) PoolError → declared_reply.Reply
 begin_reply = reply_of (λ a. reply.Began a.0 a.1)
 
+-- nothing lies between these turns: each took what the one before it left, the first took the first view, and the last left the last one
+abbrev pub AreUnbroken : SeenPool → List (Turn SeenPool) → SeenPool → Type 0
+AreUnbroken v [] w = w ≡ v
+AreUnbroken v (t ∷ ts) w = (t.took ≡ v) × AreUnbroken t.left ts w
+
 module _ {T R : Type 0} where
   -- In the turn in which it had the lock, the seat made a step with this reply.
   pub record HasStepped (keeps : Type 0) (s : declared_step.Step) (r : declared_reply.Reply) (holder new : Seat T R SeenPool) : Type 0 where
@@ -30,25 +35,32 @@ module _ {T R : Type 0} where
     pub turn : HasTurned holder new (seen new)
 
   -- In one turn and no other the seat made a step with this reply: from a view that goes on from what it had seen, to the one that it has
-  -- seen then.
+  -- seen then. The only seat of a lock took just what it had seen.
   pub record HasMade (keeps : Type 0) (s : declared_step.Step) (r : declared_reply.Reply) (old new : Seat T R SeenPool) : Type 0 where
     pub took : SeenPool
-    pub onward : GrowsTo (seen old) took
+    pub onward : GrowsTo keeps (seen old) took
     pub made : IsPoolStep keeps s r took (seen new)
     pub turn : turns new ≡ turns old ++ turn took (seen new) ∷ []
+    pub met_none : HasMetNone old new
+    pub alone : kin old ≡ 0 → took ≡ seen old
 
-  -- In these turns and no others the seat made a step that was refused each time, with the same refusal.
+  -- In these turns and no others the seat made a step that was refused each time, with the same refusal. Between those of the only seat of a
+  -- lock lies nothing.
   pub record HasTried (keeps : Type 0) (s : declared_step.Step) (e : PoolError) (old now : Seat T R SeenPool) : Type 0 where
     pub tries : List (Turn SeenPool)
     pub refused : All (λ t. IsPoolStep keeps s (reply.Refused e) t.took t.left) tries
-    pub onward : GrowsTo (seen old) (seen now)
+    pub onward : GrowsTo keeps (seen old) (seen now)
     pub turns : turns now ≡ turns old ++ tries
+    pub met_none : HasMetNone old now
+    pub alone : kin old ≡ 0 → AreUnbroken (seen old) tries (seen now)
 
-  -- Behind such tries the seat made the step with this reply.
+  -- After such tries the seat made the step with this reply.
   pub record HasMadeAtLast (keeps : Type 0) (s : declared_step.Step) (e : PoolError) (r : declared_reply.Reply) (old new : Seat T R SeenPool) : Type 0 where
     pub tries : List (Turn SeenPool)
     pub refused : All (λ t. IsPoolStep keeps s (reply.Refused e) t.took t.left) tries
     pub took : SeenPool
-    pub onward : GrowsTo (seen old) took
+    pub onward : GrowsTo keeps (seen old) took
     pub made : IsPoolStep keeps s r took (seen new)
     pub turn : turns new ≡ (turns old ++ tries) ++ turn took (seen new) ∷ []
+    pub met_none : HasMetNone old new
+    pub alone : kin old ≡ 0 → AreUnbroken (seen old) tries took

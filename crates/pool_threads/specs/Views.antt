@@ -3,23 +3,26 @@ use Rattle.std.specs.Prelude.{ℕ, ◌≡◌, ◌++◌, IsTrue, List, [], ◌∷
 use Rattle.std.proofs.Common.{refl, ◌∙◌}
 use Rattle.std.proofs.Math.Logic.{∥∥₁_map, ∥∥₁_elim, ∥∥₁_prop}
 use Rattle.base.specs.declared.step.Step as declared_step
+use Rattle.base.specs.declared.step.Step.TheVariants.{SyncStep}
 use Rattle.base.specs.declared.step.Reply as declared_reply
-use Rattle.base.specs.disk.Disk.{Disk}
+use Rattle.base.specs.disk.Disk.{Disk, bytes_of}
 use Rattle.base.specs.history.Past.{Past, new_past}
+use Rattle.base.proofs.disk.Moments.{joins, starts}
 use Rattle.base.specs.steps.Additions.{past_after}
 use Rattle.base.specs.steps.ExactNow.{GoesOn, IsExplainedNow}
+use Rattle.base.specs.steps.Explains.{WereSafe}
 use Rattle.base.specs.steps.Runs.{Step, Run}
 use Rattle.base.specs.steps.Steps.{State}
 use Rattle.base.specs.stored.Stored.{IsHeld}
 use Rattle.device_model.specs.declared.device.SectorDevice.{Ghosts}
 use Rattle.pool_core.specs.declared.state.PoolState.{PoolState}
 use Rattle.pool_tables.specs.Told.{held_with, state_with}
-use Rattle.pool_core.specs.KeptSafe.{IsKeptSafe, IsSafeStep, OnDisk, on_disk}
+use Rattle.pool_core.specs.KeptSafe.{IsKeptSafe, IsSafeStep, OnDisk, disk_of, on_disk}
 use Rattle.pool_core.specs.NewStates.{first_past}
 use Rattle.pool_core.specs.States.{shown, told}
 use Rattle.pool_core.specs.StepReplies.{IsStep}
 use Rattle.pool_threads.specs.Noted.{NotedPool, blank_note, no_contents, note, shown_in}
-use Rattle.round_trip.specs.Crashes.{IsLeft}
+use Rattle.round_trip.specs.Crashes.{GoesOnFrom, IsLeft}
 
 -- Whether the crash rule is followed: not at all; in a run of the pool whose create began at this moment; or in one behind whatever run left the
 -- disk that the pool was imported from.
@@ -34,11 +37,12 @@ IsFollowed NotFollowed created = ⊥
 IsFollowed (Since began) created = created ≡ began
 IsFollowed (Behind disk) created = ∥ ((past : Past) × (past.created ≡ created) × IsLeft past disk) ∥₁
 
--- What is seen of a pool: what it shows, with the past of its run, and whether the run follows the crash rule.
+-- What is seen of a pool: what it shows, with the past of its run, whether the run follows the crash rule, and the disk of its device.
 pub record SeenPool : Type 0 where
   pub pool : NotedPool
   pub past : Past
   pub rule : CrashRule
+  pub disk : Disk
 
 -- a past, of a pool whose create began at this moment
 abbrev pub since : ℕ → Past → Past
@@ -55,16 +59,17 @@ state_since created v = record { shown = shown_in v.pool; past = since created v
 module _ {Dev : Type 0} {G : Ghosts Dev} where
   -- the view of a pool with this past
   abbrev pub view_of : PoolState Dev G → Past → CrashRule → SeenPool
-  view_of p past rule = record { pool = note (shown p); past = past; rule = rule }
+  view_of p past rule = record { pool = note (shown p); past = past; rule = rule; disk = disk_of p }
 
   -- the view of a pool in whose run nothing happened yet, behind whichever run left this disk
   abbrev pub view_behind_disk : PoolState Dev G → Disk → SeenPool
   view_behind_disk p old = view_of p (first_past (shown p) 0) (Behind old)
 
-  -- The view is of this pool, and its past explains it. Where the device keeps the disk model it holds what it should, and where the crash
-  -- rule is followed, it stands.
+  -- The view is of this pool and its disk, and its past explains it. If the device keeps the disk model it holds what it should, and if the
+  -- crash rule is followed too, it stands.
   pub record Explains (p : PoolState Dev G) (v : SeenPool) : Type 0 where
     pub state : viewed_state v ≡ state_with (told p) v.past
+    pub disk_is : v.disk ≡ disk_of p
     pub explained : ∥ IsExplainedNow (shown p) v.past ∥₁
     pub held : IsTrue G.keeps_model → ∥ IsHeld (held_with (told p) v.past) ∥₁
     pub safe : IsTrue G.keeps_model → (created : ℕ) → IsFollowed v.rule created → ∥ IsKeptSafe (on_disk p (since created v.past)) ∥₁
@@ -73,33 +78,59 @@ module _ {Dev : Type 0} {G : Ghosts Dev} where
   abbrev pub view_after : declared_step.Step → declared_reply.Reply → SeenPool → PoolState Dev G → SeenPool
   view_after s r v p = view_of p (past_after s r (viewed_state v)) v.rule
 
--- the step is one over the bytes of some device
-abbrev pub IsStepOverSome : declared_step.Step → declared_reply.Reply → State → State → Type 0
-IsStepOverSome s r old new = (now : List ℕ) × Step (Unit {0}) now s r old new
+-- the step is one over the bytes of this disk
+abbrev pub IsStepOn : Disk → declared_step.Step → declared_reply.Reply → State → State → Type 0
+IsStepOn disk s r old new = Step (Unit {0}) (bytes_of disk.now) s r old new
 
--- the step keeps the crash rule of a pool that is so, at each of its moments
-abbrev pub IsSafeOverSome : declared_step.Step → declared_reply.Reply → State → State → Type 0
-IsSafeOverSome s r old new = (x y : OnDisk) × (x.held.state ≡ old) × (y.held.state ≡ new) × IsKeptSafe x × IsSafeStep s r x y
+-- A step of a sync may add moments to the disk, and no other step changes it.
+abbrev pub MovesDisk : declared_step.Step → Disk → Disk → Type 0
+MovesDisk SyncStep old new = GoesOnFrom old new
+MovesDisk s old new = new ≡ old
 
--- A step with its reply, from a view that is explained. Where the device keeps the disk model it is one over the device's bytes, and where
--- the crash rule is followed, it is a safe one.
+-- A safe step between two views, of a pool whose create began at this moment. The disks before and after it are those of the views.
+pub record IsSafeBetween (s : declared_step.Step) (r : declared_reply.Reply) (created : ℕ) (v w : SeenPool) : Type 0 where
+  pub before : OnDisk
+  pub after : OnDisk
+  pub state_before : before.held.state ≡ state_since created v
+  pub state_after : after.held.state ≡ state_since created w
+  pub disk_before : before.disk ≡ v.disk
+  pub disk_after : after.disk ≡ w.disk
+  pub kept : IsKeptSafe before
+  pub made : IsSafeStep s r before after
+
+-- At each moment from the one view's disk to the other's, every fair image that a crash leaves mounts a cut of the later history with all that the
+-- earlier one has acknowledged. So it is of a pool whose create began at this moment.
+abbrev pub WereSafeBetween : (created : ℕ) → SeenPool → SeenPool → Type 0
+WereSafeBetween created v w = WereSafe v.disk w.disk (since created v.past) (since created w.past)
+
+-- the past as it is within such a step: what it acknowledges is told from its end on
+abbrev pub past_between : (created : ℕ) → SeenPool → SeenPool → Past
+past_between created v w = record (since created w.past) { acknowledged = v.past.acknowledged }
+
+-- A step with its reply, from a view that is explained. If the device keeps the disk model it is one over the bytes of the view's disk, and if
+-- the crash rule is followed too, it is a safe one.
 pub record IsPoolStep (keeps : Type 0) (s : declared_step.Step) (r : declared_reply.Reply) (v w : SeenPool) : Type 0 where
   pub explained : ∥ IsExplainedNow (viewed_state v).shown v.past ∥₁
   pub step : ∥ IsStep s r (viewed_state v) (viewed_state w) ∥₁
-  pub over : keeps → ∥ IsStepOverSome s r (viewed_state v) (viewed_state w) ∥₁
-  pub safe : keeps → (created : ℕ) → IsFollowed v.rule created → ∥ IsSafeOverSome s r (state_since created v) (state_since created w) ∥₁
+  pub over : keeps → ∥ IsStepOn v.disk s r (viewed_state v) (viewed_state w) ∥₁
+  pub moves : keeps → MovesDisk s v.disk w.disk
+  pub safe : keeps → (created : ℕ) → IsFollowed v.rule created → ∥ IsSafeBetween s r created v w ∥₁
   pub rule : w.rule ≡ v.rule
 
--- steps lead from one view to another
-pub record GrowsTo (v w : SeenPool) : Type 0 where
+-- Steps lead from one view to another. If the device keeps the disk model the later disk goes on from the earlier one.
+pub record GrowsTo (keeps : Type 0) (v w : SeenPool) : Type 0 where
   pub goes_on : ∥ GoesOn (viewed_state v) (viewed_state w) ∥₁
+  pub on : keeps → GoesOnFrom v.disk w.disk
   pub rule : w.rule ≡ v.rule
+
+abbrev pub blank_disk : Disk
+blank_disk = record { now = record { flushed = []; unflushed = []; kept = [] }; past = [] }
 
 abbrev pub blank_view : SeenPool
-blank_view = record { pool = blank_note; past = new_past no_contents 0 0; rule = NotFollowed }
+blank_view = record { pool = blank_note; past = new_past no_contents 0 0; rule = NotFollowed; disk = blank_disk }
 
-pub grows_same : (v : SeenPool) → GrowsTo v v
-grows_same v = record { goes_on = ∣ ([], [], refl) ∣₁; rule = refl }
+pub grows_same : (keeps : Type 0) (v : SeenPool) → GrowsTo keeps v v
+grows_same keeps v = record { goes_on = ∣ ([], [], refl) ∣₁; on = λ _. starts (λ m. Unit {0}) v.disk tt; rule = refl }
 
 abbrev One : declared_step.Step → declared_reply.Reply → State → State → Type 0
 One s r old new = (now : List ℕ) × Step ⊥ now s r old new
@@ -111,8 +142,9 @@ many_more (s ∷ ss) ts (r ∷ rs) us a b c (middle, one, more) rest = (middle, 
 many_more [] ts (r ∷ rs) us a b c h rest = absurd h
 many_more (s ∷ ss) ts [] us a b c h rest = absurd h
 
-pub grows_onward : (a b c : SeenPool) → GrowsTo a b → GrowsTo b c → GrowsTo a c
-grows_onward a b c x y = record {
+pub grows_onward : (keeps : Type 0) (a b c : SeenPool) → GrowsTo keeps a b → GrowsTo keeps b c → GrowsTo keeps a c
+grows_onward keeps a b c x y = record {
   goes_on = ∥∥₁_elim x.goes_on ∥∥₁_prop (λ p. ∥∥₁_map y.goes_on (λ q. (p.0 ++ q.0, p.1 ++ q.1, many_more p.0 q.0 p.1 q.1 (viewed_state a) (viewed_state b) (viewed_state c) p.2 q.2)));
+  on = λ k. joins (λ m. Unit {0}) a.disk b.disk c.disk (x.on k) (y.on k);
   rule = y.rule ∙ x.rule;
 }

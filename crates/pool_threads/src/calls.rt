@@ -1,5 +1,5 @@
 //! The calls of a handle. Each is one step of the pool, in one turn.
-ghost use Rattle.std.specs.Prelude.{◌≡◌, IfErr, IfNone, IfOk, IfSome, false, true};
+ghost use Rattle.std.specs.Prelude.{◌≡◌, IfErr, IfNone, IfOk, IfSome, IsSome, false, true};
 ghost use Rattle.base.specs.declared.step.Reply.TheVariants as reply;
 ghost use Rattle.base.specs.declared.step.Step.TheVariants as step;
 ghost use Rattle.base.specs.steps.Refusals.{object_range};
@@ -7,7 +7,7 @@ ghost use Rattle.base.specs.steps.Runs.{reply_of};
 ghost use Rattle.base.specs.steps.Seen.{IsAborted, IsCommitted, IsLengthBetween, IsLetGo, IsReadBetween};
 ghost use Rattle.base.specs.steps.SeenLaws.{is_untested};
 ghost use Rattle.pool_threads.specs.Answers.{IsRefusal, Makes, Sees};
-ghost use Rattle.pool_threads.specs.Handles.{IsUnchanged, moment_of};
+ghost use Rattle.pool_threads.specs.Handles.{IsUnchanged, kin_of, moment_of};
 ghost use Rattle.pool_threads.specs.Kinds.{fits};
 ghost use Rattle.pool_threads.specs.Turns.{dated};
 
@@ -23,20 +23,21 @@ impl<'p, D: SectorDevice> Handle<'p, D> {
     pub fn step<'a, 'b, W: Wait>(&'a mut self, rt: &'b W, step: Step) -> Reply
         ensures made { Makes (dated (moment_of self.old) step) result self.old self.new }
     {
-        let step = dated(self.pool.moment, step);
+        let step = dated(self.shared.moment, step);
         self.ask(rt, step)
     }
 
-    /// Makes one step of the pool as `step` does, where no other handle has the pool. It never waits. `None` where another has it, and then
-    /// nothing has changed.
+    /// Makes one step of the pool as `step` does, if no other handle has the pool. It never waits. `None` if another has it, and then
+    /// nothing has changed. The only handle of a pool always gets it.
     pub fn try_step<'a>(&'a mut self, step: Step) -> Option<Reply>
         ensures made { IfSome result
             (λ r. Makes (dated (moment_of self.old) step) r self.old self.new) }
         ensures unchanged { IfNone result (IsUnchanged self.old self.new) }
+        ensures only { kin_of self.old ≡ 0 → IsSome result }
     {
-        let step = dated(self.pool.moment, step);
-        let reply = try_turn(&mut self.seat, &self.pool.lock, step)?;
-        self.pool.waiters.tell_of(&reply);
+        let step = dated(self.shared.moment, step);
+        let reply = try_turn(&mut self.seat, &self.shared.lock, step)?;
+        self.shared.waiters.tell_of(&reply);
         Some(reply)
     }
 
@@ -45,9 +46,9 @@ impl<'p, D: SectorDevice> Handle<'p, D> {
         ensures made { Makes step result self.old self.new }
         ensures fits { fits step result ≡ true }
     {
-        let guard = self.seat.acquire(rt, &self.pool.lock);
+        let guard = self.seat.acquire(rt, &self.shared.lock);
         let reply = step_guarded(guard, step);
-        self.pool.waiters.tell_of(&reply);
+        self.shared.waiters.tell_of(&reply);
         reply
     }
 
@@ -156,7 +157,7 @@ impl<'p> Handle<'p, MemDevice> {
     pub fn fail<'a, 'b, W: Wait>(&'a mut self, rt: &'b W, fault: Fault, n: u64)
         ensures { HasLooked self.old self.new }
     {
-        let guard = self.seat.acquire(rt, &self.pool.lock);
+        let guard = self.seat.acquire(rt, &self.shared.lock);
         fail_guarded(guard, fault, n);
     }
 }

@@ -1,21 +1,29 @@
 //! What callers rest on: one function for each promise of this crate's calls, proved from the contract of the call alone. So it
 //! is refused as soon as that contract says less.
-ghost use Rattle.std.specs.Prelude.{◌≡◌, [], ◌∷◌, ◌++◌, IfErr, IfNone, IfOk, IfSome, false};
+ghost use Rattle.std.specs.Prelude.{ℕ, ◌≡◌, [], ◌∷◌, ◌+◌, ◌++◌, IfErr, IfNone, IfOk, IfSome, IsSome, IsTrue, false};
 ghost use Rattle.base.specs.declared.range.Mode.TheVariants.{Writer};
 ghost use Rattle.base.specs.declared.step.Step.TheVariants as step;
 ghost use Rattle.base.specs.steps.Refusals.{object_range};
 ghost use Rattle.base.specs.steps.Seen.{IsGranted, IsReadBetween};
+ghost use Rattle.import_replay.specs.ImportSyncs.{IsImportSynced};
+ghost use Rattle.import_replay.specs.Mounts.{shown_of_import};
+ghost use Rattle.import_replay.specs.declared.mounted.Mounted.{Mounted};
 ghost use Rattle.pool_threads.specs.Answers.{Makes, Sees};
-ghost use Rattle.pool_threads.specs.Handles.{IsOf, IsOfSamePool, WasOf, moment_of, opening_view, turns_of, view_seen};
-ghost use Rattle.pool_threads.specs.Views.{Explains, GrowsTo, SeenPool};
+ghost use Rattle.pool_threads.specs.Handles.{IsOf, IsOfSamePool, OpensBehind, StartsBehind, TakesOneTurn, TakesTurns, WasOf, kin_left, kin_of, moment_of, opening_view, owned_of, shared_of, taken_by, turns_of, view_seen};
+ghost use Rattle.pool_threads.specs.Views.{Explains, GrowsTo, IsFollowed, SeenPool, WereSafeBetween};
 ghost use Rattle.word_lock.specs.Seats.{seen};
 ghost use Rattle.word_lock.specs.Turns.{turn};
 
-use crate::{Handle, LastSeen, Pool};
-use base::{Bytes, LockId, Mode, ObjectId, Owner, PoolError, Range, Reply, Step};
+use crate::{Handle, LastSeen, OwnedPool, Pool};
+use base::{
+    Bytes, Group, LockId, Mode, ObjectId, Ops, Owner, Plan, PoolError, Range, Receipt, Reply, Step,
+    TxId,
+};
 use device_model::{Fault, MemDevice, SectorDevice};
+use import_replay::Imported;
 use pool_core::PoolState;
 use std::alloc::Global;
+use std::snapshot::Snapshot;
 use std::sync::Wait;
 
 fn a_lock_is_never_refused_busy<D: SectorDevice, W: Wait>(
@@ -91,10 +99,10 @@ fn a_planned_fault_shows_in_no_view<W: Wait>(rt: &W, handle: &mut Handle<'_, Mem
 }
 
 fn a_handle_comes_back_with_its_turns<'p, D: SectorDevice>(
-    pool: &'p Pool<D>,
+    pool: &'p OwnedPool<D>,
     handle: Handle<'p, D>,
 ) -> Handle<'p, D>
-    requires { IsOf pool.now handle }
+    requires { IsOf (owned_of pool.now) handle }
     ensures turns { turns_of result ≡ turns_of handle.entry }
     ensures seen { view_seen result ≡ view_seen handle.entry }
 {
@@ -107,12 +115,33 @@ fn a_joined_handle_goes_on_from_what_both_saw<'p, D: SectorDevice>(
     source: Handle<'p, D>,
 )
     requires { IsOfSamePool handle.old source }
-    ensures other { GrowsTo (view_seen source.entry) (view_seen handle.new) }
-    ensures own { GrowsTo (view_seen handle.old) (view_seen handle.new) }
+    ensures other { GrowsTo (IsTrue D.keeps_model) (view_seen source.entry) (view_seen handle.new) }
+    ensures own { GrowsTo (IsTrue D.keeps_model) (view_seen handle.old) (view_seen handle.new) }
     ensures turns { turns_of handle.new ≡ turns_of handle.old }
 {
     let mut source = source;
     handle.join(source.split());
+}
+
+// So a step that a body has made by a handle of its own shows in what it hands back.
+fn a_joined_handle_shows_the_turns_of_the_other<'p, D: SectorDevice>(
+    handle: &mut Handle<'p, D>,
+    other: Handle<'p, D>,
+)
+    requires { IsOfSamePool handle.old other }
+    ensures taken { taken_by handle.new
+        ≡ taken_by handle.old ++ taken_by other.entry ++ turns_of other.entry }
+    ensures number { kin_of handle.new ≡ kin_of handle.old }
+{
+    handle.join(other);
+}
+
+// Also if the handle that was split off is gone.
+fn a_split_shows_in_the_number<'p, D: SectorDevice>(handle: &mut Handle<'p, D>)
+    ensures number { kin_of handle.new ≡ kin_of handle.old + 1 }
+    ensures seen { view_seen handle.new ≡ view_seen handle.old }
+{
+    let _ = handle.split();
 }
 
 // Its state is explained by a view that goes on from what the handle had seen as it left.
@@ -122,8 +151,9 @@ fn a_pool_closes_behind_what_its_handle_saw<D: SectorDevice>(
 ) -> Option<PoolState<D>>
 where
     D: Drop,
-    requires { WasOf pool last }
-    ensures { IfSome result (λ s. (v : SeenPool) × Explains s v × GrowsTo (seen last.seat) v) }
+    requires { WasOf (shared_of pool) last }
+    ensures { IfSome result (λ s. (v : SeenPool) × Explains s v
+        × GrowsTo (IsTrue D.keeps_model) (seen last.seat) v) }
 {
     match pool.close_behind(last) {
         Some(state) => Some(state),
@@ -134,7 +164,8 @@ where
 fn a_pool_closes_behind_what_it_opened_with<D: SectorDevice>(pool: Pool<D>) -> Option<PoolState<D>>
 where
     D: Drop,
-    ensures { IfSome result (λ s. (v : SeenPool) × Explains s v × GrowsTo (opening_view pool) v) }
+    ensures { IfSome result (λ s. (v : SeenPool) × Explains s v
+        × GrowsTo (IsTrue D.keeps_model) (opening_view (shared_of pool)) v) }
 {
     match pool.close() {
         Some(state) => Some(state),
@@ -154,4 +185,155 @@ where
         Err((PoolError::NoMemory, device)) => Some(device),
         _ => None,
     }
+}
+
+// With the moment of the open in its uberblocks.
+fn an_open_pool_has_the_disk_that_its_import_left<D: SectorDevice>(
+    alloc: Global,
+    device: D,
+) -> Option<Pool<D>>
+where
+    D: Drop,
+    ensures { IsTrue D.keeps_model → IfSome result (λ p. (m : Mounted)
+        × IsImportSynced (D.disk device) (opening_view (shared_of p)).disk 7 m) }
+{
+    match Pool::open(alloc, device, 1_048_576, 7) {
+        Ok(pool) => Some(pool),
+        Err(_) => None,
+    }
+}
+
+// It is the state that the only handle left.
+fn a_pool_of_one_handle_always_closes<D: SectorDevice>(
+    pool: OwnedPool<D>,
+    last: LastSeen<D>,
+) -> Option<PoolState<D>>
+where
+    D: Drop,
+    requires own { WasOf (owned_of pool) last }
+    requires only { kin_left last ≡ 0 }
+    ensures some { IsSome result }
+    ensures same { IfSome result (λ s. Explains s (seen last.seat)) }
+{
+    pool.close_behind(last)
+}
+
+// A first handle sees the opening view, and is the only one.
+fn a_pool_of_one_handle_that_lacked_memory_opens_at_last<D: SectorDevice>(
+    imported: Imported<D>,
+    before: &Snapshot<D>,
+) -> Option<(OwnedPool<D>, LastSeen<D>)>
+where
+    D: Drop,
+    requires { IsTrue D.keeps_model → StartsBehind (D.disk before.now.value)
+        imported.mounted (D.disk imported.device) }
+    ensures opened { IfSome result (λ p. OpensBehind (IsTrue D.keeps_model)
+        (D.disk before.now.value) (shown_of_import imported.mounted).dirty_max
+        (opening_view (owned_of p.0))) }
+    ensures first { IfSome result (λ p. kin_left p.1 ≡ 0) }
+    ensures seen { IfSome result (λ p. seen p.1.seat ≡ opening_view (owned_of p.0)) }
+{
+    match OwnedPool::of_import(imported, 7, before) {
+        Ok(opened) => Some(opened),
+        Err((_, state)) => match OwnedPool::of_state(state, 7, before) {
+            Ok(opened) => Some(opened),
+            Err(_) => None,
+        },
+    }
+}
+
+// The second call takes what the first one left.
+fn nothing_lies_between_two_calls_of_the_only_handle<D: SectorDevice, W: Wait>(
+    rt: &W,
+    handle: &mut Handle<'_, D>,
+    tx: TxId,
+    ops: Ops,
+) -> Result<u64, PoolError>
+    ensures { kin_of handle.old ≡ 0 → (middle : SeenPool) × (turns_of handle.new
+        ≡ (turns_of handle.old ++ turn (view_seen handle.old) middle ∷ [])
+        ++ turn middle (view_seen handle.new) ∷ []) }
+{
+    let _ = handle.commit(rt, tx, ops);
+    handle.length(rt, ObjectId(5))
+}
+
+// Of every moment of the commit's step, on the disk of the device under the lock.
+fn a_crash_within_a_commit_leaves_a_cut<D: SectorDevice, W: Wait>(
+    rt: &W,
+    handle: &mut Handle<'_, D>,
+    tx: TxId,
+    ops: Ops,
+) -> Result<Receipt, PoolError>
+    ensures { (took : SeenPool)
+        × (turns_of handle.new ≡ turns_of handle.old ++ turn took (view_seen handle.new) ∷ [])
+        × (IsTrue D.keeps_model → (created : ℕ) → IsFollowed took.rule created
+        → ∥ WereSafeBetween created took (view_seen handle.new) ∥₁) }
+{
+    handle.commit(rt, tx, ops)
+}
+
+// Also if it is refused: no call refuses without a step.
+fn a_commit_takes_one_turn<D: SectorDevice, W: Wait>(
+    rt: &W,
+    handle: &mut Handle<'_, D>,
+    tx: TxId,
+    ops: Ops,
+) -> Result<Receipt, PoolError>
+    ensures { TakesOneTurn handle.old handle.new }
+{
+    handle.commit(rt, tx, ops)
+}
+
+fn an_abort_takes_one_turn<D: SectorDevice, W: Wait>(
+    rt: &W,
+    handle: &mut Handle<'_, D>,
+    tx: TxId,
+) -> Result<(), PoolError>
+    ensures { TakesOneTurn handle.old handle.new }
+{
+    handle.abort(rt, tx)
+}
+
+fn an_unlock_takes_one_turn<D: SectorDevice, W: Wait>(
+    rt: &W,
+    handle: &mut Handle<'_, D>,
+    owner: Owner,
+    id: LockId,
+) -> Result<(), PoolError>
+    ensures { TakesOneTurn handle.old handle.new }
+{
+    handle.unlock(rt, owner, id)
+}
+
+fn a_read_takes_one_turn<D: SectorDevice, W: Wait>(
+    rt: &W,
+    handle: &mut Handle<'_, D>,
+    owner: Owner,
+    range: Range,
+) -> Result<Bytes, PoolError>
+    ensures { TakesOneTurn handle.old handle.new }
+{
+    handle.read(rt, owner, ObjectId(5), range)
+}
+
+fn a_lock_takes_turns<D: SectorDevice, W: Wait>(
+    rt: &W,
+    handle: &mut Handle<'_, D>,
+    owner: Owner,
+    range: Range,
+) -> Result<LockId, PoolError>
+    ensures { TakesTurns handle.old handle.new }
+{
+    handle.lock(rt, owner, ObjectId(5), range, Mode::Writer)
+}
+
+fn a_begin_takes_turns<D: SectorDevice, W: Wait>(
+    rt: &W,
+    handle: &mut Handle<'_, D>,
+    owner: Owner,
+    plan: Plan,
+) -> Result<(TxId, Group), PoolError>
+    ensures { TakesTurns handle.old handle.new }
+{
+    handle.begin(rt, owner, plan)
 }

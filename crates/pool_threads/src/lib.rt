@@ -3,14 +3,20 @@
 
 mod calls;
 mod clients;
+mod first;
 mod handle;
+mod laws;
+mod owned;
 mod pool;
 mod replies;
 mod retries;
 mod rule;
+mod shared;
 mod turn;
 mod waiters;
 
 pub use handle::{Handle, LastSeen};
+pub use laws::{stepped_pools_are_safe, stopped_pools_are_left};
+pub use owned::OwnedPool;
 pub use pool::Pool;
 pub use rule::{PoolRule, PoolView};

@@ -1,59 +1,44 @@
-//! A pool under a lock.
-ghost use Rattle.std.specs.Prelude.{◌≡◌, ◌⊎◌, IfErr, IfOk, IfSome, IsTrue};
-ghost use Rattle.base.specs.disk.Calls.{with_refusal};
-ghost use Rattle.import_replay.specs.ImportRefusals.{IsImportRefusal};
-ghost use Rattle.import_replay.specs.Mounts.{shown_of_import};
-ghost use Rattle.pool_core.specs.States.{device_of, shown};
-ghost use Rattle.pool_threads.specs.Handles.{IsBackIn, IsLastState, IsLaterState, IsLeftByOpen, IsNewHandle, LeavesSame, OpensBehind, ShowsImport, StartsBehind, WasOf, opening_view};
-ghost use Rattle.pool_threads.specs.Views.{Explains, SeenPool, view_behind_disk, viewed_state};
+//! A pool that threads share.
+ghost use Rattle.word_lock.specs.Seats.{IsSourceOf};
 
+use crate::first::{first_view, state_behind, view_behind};
 use crate::handle::{Handle, LastSeen};
 use crate::rule::{PoolRule, PoolView};
-use crate::waiters::Waiters;
+use crate::shared::{Shared, boxed};
 use base::PoolError;
 use device_model::SectorDevice;
 use import_replay::{Imported, import};
 use pool_core::PoolState;
 use std::alloc::Global;
 use std::snapshot::Snapshot;
-use word_lock::{Told, WordLock};
+use word_lock::{SeatSource, Told, WordLock};
 
 /// A pool that threads share by reference, each with a handle of its own.
 #[derive(Drop)]
 pub struct Pool<D: SectorDevice> {
-    pub(crate) lock: WordLock<Box<PoolState<D>>, PoolRule<D>>,
-    pub(crate) moment: u64,
-    pub(crate) waiters: Waiters,
-}
-
-// The view of a pool as it is shared.
-fn first_view<D: SectorDevice>(state: &PoolState<D>) -> Told<PoolView>
-    ghost first: { SeenPool }
-    ensures { result.value ≡ first }
-{
-    Told::of(state)
-}
-
-// The view of a pool as it is shared behind whichever run left the disk of a device before the import.
-fn view_behind<'a, D: SectorDevice>(
-    before: &'a Snapshot<D>,
-    state: &'a PoolState<D>,
-) -> Told<PoolView>
-    ensures { result.value ≡ view_behind_disk state.now (D.disk before.now.value) }
-{
-    Told::of(&(before, state))
+    pub(crate) shared: Shared<D>,
+    source: SeatSource<Box<PoolState<D>>, PoolRule<D>>,
+    ghost own: { IsSourceOf shared.lock source },
 }
 
 impl<D: SectorDevice> Pool<D> {
+    ghost use Rattle.std.specs.Prelude.{◌≡◌, ◌⊎◌, IfErr, IfOk, IfSome, IsSome, IsTrue};
+    ghost use Rattle.base.specs.disk.Calls.{with_refusal};
+    ghost use Rattle.import_replay.specs.ImportRefusals.{IsImportRefusal};
+    ghost use Rattle.import_replay.specs.Mounts.{shown_of_import};
+    ghost use Rattle.pool_core.specs.States.{device_of, shown};
+    ghost use Rattle.pool_threads.specs.Handles.{IsLastState, IsLaterState, IsLeftByOpen, IsNewHandle, IsReadyBehind, LeavesSame, OpensBehind, ShowsImport, ShowsMounted, StartsBehind, WasOf, kin_left, moment_in, opening_view, shared_of};
+    ghost use Rattle.pool_threads.specs.Views.{Explains, SeenPool};
+
     /// A pool that no thread has, with a view that explains it. The syncs that its handles start carry this moment.
     ///
     /// # Errors
-    /// `NoMemory` where there is none for the lock. The state then comes back.
+    /// `NoMemory` if there is none for the lock. The state then comes back.
     pub fn new(state: PoolState<D>, moment: u64) -> Result<Pool<D>, (PoolError, PoolState<D>)>
         ghost first: { SeenPool }
         requires explained { Explains state first }
-        ensures opening { IfOk result (λ p. opening_view p ≡ first) }
-        ensures moment { IfOk result (λ p. p.moment ≡ moment) }
+        ensures opening { IfOk result (λ p. opening_view (shared_of p) ≡ first) }
+        ensures moment { IfOk result (λ p. moment_in (shared_of p) ≡ moment) }
         ensures refused { IfErr result (λ e. (e.0 ≡ PoolError.NoMemory) × (e.1 ≡ state)) }
     {
         let first = first_view(&state);
@@ -67,34 +52,33 @@ impl<D: SectorDevice> Pool<D> {
         first: &Told<PoolView>,
     ) -> Result<Pool<D>, (PoolError, PoolState<D>)>
         requires explained { Explains state first.now.value }
-        ensures opening { IfOk result (λ p. opening_view p ≡ first.now.value) }
-        ensures moment { IfOk result (λ p. p.moment ≡ moment) }
+        ensures opening { IfOk result (λ p. opening_view (shared_of p) ≡ first.now.value) }
+        ensures moment { IfOk result (λ p. moment_in (shared_of p) ≡ moment) }
         ensures refused { IfErr result (λ e. (e.0 ≡ PoolError.NoMemory) × (e.1 ≡ state)) }
     {
         let alloc = state.alloc();
-        let held = match Box::new(alloc, state) {
+        let held = match boxed(state) {
             Ok(held) => held,
-            Err(failed) => return Err((PoolError::NoMemory, failed.value)),
+            Err(refused) => return Err(refused),
         };
-        match WordLock::new(alloc, held, first) {
-            Ok((lock, _seat)) => Ok(Pool {
-                lock,
-                moment,
-                waiters: Waiters::new(),
+        match WordLock::with_source(alloc, held, first) {
+            Ok((lock, source)) => Ok(Pool {
+                shared: Shared::new(lock, moment),
+                source,
             }),
             Err((error, held)) => Err((error, Box::into_inner(held))),
         }
     }
 
-    /// The pool that an import gave, to be shared. The syncs that its handles start carry this moment. Nothing is told of the run
-    /// that left its disk, so that the crash rule is not followed; `share_behind` and `open` follow it.
+    /// The pool that an import gave, to be shared. The syncs that its handles start carry this moment. Nothing is known of the
+    /// run that left its disk, so that the crash rule is not followed; `share_behind` and `open` follow it.
     ///
     /// # Errors
-    /// `NoMemory` where there is none for the lock. The state then comes back.
+    /// `NoMemory` if there is none for the lock. The state then comes back.
     pub fn share(imported: Imported<D>, moment: u64) -> Result<Pool<D>, (PoolError, PoolState<D>)>
-        ensures shown { IfOk result (λ p. (viewed_state (opening_view p)).shown
-            ≡ shown_of_import imported.mounted) }
-        ensures moment { IfOk result (λ p. p.moment ≡ moment) }
+        ensures shown { IfOk result (λ p. ShowsMounted imported.mounted (D.disk imported.device)
+            (opening_view (shared_of p))) }
+        ensures moment { IfOk result (λ p. moment_in (shared_of p) ≡ moment) }
         ensures refused { IfErr result (λ e. (e.0 ≡ PoolError.NoMemory)
             × (device_of e.1 ≡ imported.device)
             × (shown e.1 ≡ shown_of_import imported.mounted)) }
@@ -106,11 +90,11 @@ impl<D: SectorDevice> Pool<D> {
     /// The pool that an import gave, to be shared, with the device as it was before the import. The syncs that its handles start
     /// carry this moment.
     ///
-    /// Whichever run left that device, where it keeps the model, the contents are what that run left, and the crash rule is
-    /// followed from there on.
+    /// If that device keeps the model, the contents are what the run left that it holds, whichever that was, and the crash rule
+    /// is followed from there on.
     ///
     /// # Errors
-    /// `NoMemory` where there is none for the lock. The state then comes back.
+    /// `NoMemory` if there is none for the lock. The state then comes back, and can be shared by `new`.
     pub fn share_behind(
         imported: Imported<D>,
         moment: u64,
@@ -120,15 +104,15 @@ impl<D: SectorDevice> Pool<D> {
             imported.mounted (D.disk imported.device) }
         ensures opened { IfOk result
             (λ p. OpensBehind (IsTrue D.keeps_model) (D.disk before.now.value)
-            (shown_of_import imported.mounted).dirty_max (opening_view p)) }
-        ensures shown { IfOk result (λ p. (viewed_state (opening_view p)).shown
-            ≡ shown_of_import imported.mounted) }
-        ensures moment { IfOk result (λ p. p.moment ≡ moment) }
-        ensures refused { IfErr result (λ e. (e.0 ≡ PoolError.NoMemory)
-            × (device_of e.1 ≡ imported.device)
-            × (shown e.1 ≡ shown_of_import imported.mounted)) }
+            (shown_of_import imported.mounted).dirty_max (opening_view (shared_of p))) }
+        ensures shown { IfOk result (λ p. ShowsMounted imported.mounted (D.disk imported.device)
+            (opening_view (shared_of p))) }
+        ensures moment { IfOk result (λ p. moment_in (shared_of p) ≡ moment) }
+        ensures refused { IfErr result (λ e. e.0 ≡ PoolError.NoMemory) }
+        ensures given_back { IfErr result (λ e. IsReadyBehind (D.disk before.now.value)
+            imported.mounted imported.device e.1) }
     {
-        let state = PoolState::new(imported);
+        let state = state_behind(imported, before);
         let first = view_behind(before, &state);
         Pool::with_view(state, moment, &first)
     }
@@ -136,22 +120,22 @@ impl<D: SectorDevice> Pool<D> {
     /// Imports the pool on a device, and shares it. The moment is stored in the uberblocks of the import, and in those of the
     /// syncs that its handles start.
     ///
-    /// Whichever run left the disk, over a device that keeps the model, the contents are what that run left, and the crash rule
-    /// is followed from there on.
+    /// If the device keeps the model, the contents are what the run left that its disk holds, whichever that was, and the crash
+    /// rule is followed from there on.
     ///
     /// # Errors
-    /// Those of `import`, and `NoMemory` where there is none for the lock. The device comes back, as the import left it.
+    /// Those of `import`, and `NoMemory` if there is none for the lock. The device comes back, as the import left it.
     pub fn open(
         alloc: Global,
         device: D,
         dirty_max: u64,
         moment: u64,
     ) -> Result<Pool<D>, (PoolError, D)>
-        ensures opened { IfOk result (λ p.
-            OpensBehind (IsTrue D.keeps_model) (D.disk device) dirty_max (opening_view p)) }
-        ensures imported { IsTrue D.keeps_model
-            → IfOk result (λ p. ShowsImport (D.disk device) (opening_view p)) }
-        ensures moment { IfOk result (λ p. p.moment ≡ moment) }
+        ensures opened { IfOk result (λ p. OpensBehind (IsTrue D.keeps_model) (D.disk device)
+            dirty_max (opening_view (shared_of p))) }
+        ensures imported { IsTrue D.keeps_model → IfOk result
+            (λ p. ShowsImport moment (D.disk device) (opening_view (shared_of p))) }
+        ensures moment { IfOk result (λ p. moment_in (shared_of p) ≡ moment) }
         ensures refused { IfErr result (λ e. IsImportRefusal (D.size device) dirty_max e.0) }
         ensures counted { IfErr result
             (λ e. D.refused e.1 ≡ with_refusal e.0 (D.refused device)) }
@@ -175,58 +159,34 @@ impl<D: SectorDevice> Pool<D> {
 
     /// A handle, at any time. It has seen a view that goes on from the first one, and has had no turn.
     pub fn handle(&self) -> Handle<'_, D>
-        ensures { IsNewHandle self.entry.now result }
+        ensures { IsNewHandle (shared_of self.entry.now) result }
     {
-        Handle {
-            pool: self,
-            seat: self.lock.seat(),
-        }
+        let shared = &self.shared;
+        let seat = self.source.seat(&shared.lock);
+        Handle { shared, seat }
     }
 
-    /// A handle behind one that left the pool: it goes on from what that one had seen, and its turns are among those that it knows of.
-    pub fn handle_behind(&self, last: LastSeen<D>) -> Handle<'_, D>
-        requires { WasOf self.now last }
-        ensures { IsBackIn self.entry.now last result }
-    {
-        let LastSeen { seat } = last;
-        Handle { pool: self, seat }
-    }
-
-    /// The state, by steps from the first one. Where the crash rule was followed, each crash of its device leaves a cut of its history
-    /// with every acknowledged entry. `None` only where a thread was stopped while it had the pool.
+    /// The state, by steps from the first one. If the crash rule was followed, each crash of its device leaves a cut of its history
+    /// with every acknowledged entry. `None` only if a thread was stopped while it had the pool.
     pub fn close(self) -> Option<PoolState<D>>
     where
         D: Drop,
-        ensures { IfSome result (λ s. IsLaterState self s) }
+        ensures { IfSome result (λ s. IsLaterState (shared_of self) s) }
     {
-        let Pool {
-            lock,
-            moment: _,
-            waiters: _,
-        } = self;
-        match lock.close() {
-            Some(held) => Some(Box::into_inner(held)),
-            None => None,
-        }
+        let Pool { shared, source: _ } = self;
+        shared.close()
     }
 
-    /// The state, by steps that go on from what a handle had seen as it left. `None` only where a thread was stopped while it had
+    /// The state, by steps that go on from what a handle had seen as it left. `None` only if a thread was stopped while it had
     /// the pool.
     pub fn close_behind(self, last: LastSeen<D>) -> Option<PoolState<D>>
     where
         D: Drop,
-        requires { WasOf self last }
-        ensures { IfSome result (λ s. IsLastState self last s) }
+        requires { WasOf (shared_of self) last }
+        ensures last { IfSome result (λ s. IsLastState (shared_of self) last s) }
+        ensures only { kin_left last ≡ 0 → IsSome result }
     {
-        let Pool {
-            lock,
-            moment: _,
-            waiters: _,
-        } = self;
-        let LastSeen { seat } = last;
-        match lock.close_with(seat) {
-            Some(held) => Some(Box::into_inner(held)),
-            None => None,
-        }
+        let Pool { shared, source: _ } = self;
+        shared.close_behind(last)
     }
 }

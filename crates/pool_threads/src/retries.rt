@@ -42,12 +42,12 @@ impl<'p, D: SectorDevice> Handle<'p, D> {
     {
         let backoff = Backoff::new();
         for _ in rt.forever() {
-            let changes = self.pool.waiters.changes();
+            let changes = self.shared.waiters.changes();
             let answer = self.lock_once(rt, owner, object, range, mode);
             if !is_busy(&answer) {
                 return answer;
             }
-            self.pool.waiters.rest(rt, &backoff, changes);
+            self.shared.waiters.rest(rt, &backoff, changes);
         }
         unreachable!()
     }
@@ -73,12 +73,12 @@ impl<'p, D: SectorDevice> Handle<'p, D> {
     {
         let backoff = Backoff::new();
         for _ in rt.forever() {
-            let changes = self.pool.waiters.changes();
+            let changes = self.shared.waiters.changes();
             let answer = self.append_once(rt, owner, object);
             if !is_busy(&answer) {
                 return answer;
             }
-            self.pool.waiters.rest(rt, &backoff, changes);
+            self.shared.waiters.rest(rt, &backoff, changes);
         }
         unreachable!()
     }
@@ -105,12 +105,12 @@ impl<'p, D: SectorDevice> Handle<'p, D> {
     {
         let backoff = Backoff::new();
         for _ in rt.forever() {
-            let changes = self.pool.waiters.changes();
+            let changes = self.shared.waiters.changes();
             let (answer, may_pass) = self.begin_once(rt, owner, &plan);
             if !may_pass {
                 return answer;
             }
-            self.pool.waiters.rest(rt, &backoff, changes);
+            self.shared.waiters.rest(rt, &backoff, changes);
         }
         unreachable!()
     }
@@ -127,7 +127,7 @@ impl<'p, D: SectorDevice> Handle<'p, D> {
         ensures for_good { result.1 ≡ false → IfErr result.0 (λ e. e ≡ PoolError.Throttled
             → IsThrottledForGood plan.now (state_seen self.new)) }
     {
-        let guard = self.seat.acquire(rt, &self.pool.lock);
+        let guard = self.seat.acquire(rt, &self.shared.lock);
         let (answer, is_above_limit) = begin_guarded(guard, owner, plan);
         let may_pass = may_pass(&answer, is_above_limit);
         (answer, may_pass)

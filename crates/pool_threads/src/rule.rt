@@ -5,7 +5,7 @@ use pool_core::PoolState;
 use std::marker::{Model, PhantomData};
 use word_lock::LockRule;
 
-/// What a thread has seen of a pool: what is shown of it, with the past of its run. No value of it is made.
+/// What a thread has seen of a pool: what is shown of it, with the past of its run and the disk of its device. No value of it is made.
 pub struct PoolView {
     of: PhantomData<u8>,
 }
@@ -23,23 +23,24 @@ impl Model for PoolView {
     ghost view = { λ _. blank_view };
 }
 
-/// A view explains a pool that shows just this, with a past that says how it came so. One goes on from another by steps.
+/// A view explains a pool that shows just this on this disk, with a past that says how it came so. One goes on from another by steps.
 pub struct PoolRule<D> {
     of: PhantomData<D>,
 }
 
 impl<D: SectorDevice> LockRule<Box<PoolState<D>>> for PoolRule<D> {
+    ghost use Rattle.std.specs.Prelude.{IsTrue};
     ghost use Rattle.pool_threads.specs.Views.{Explains, GrowsTo, blank_view, grows_onward, grows_same};
 
     type View = PoolView;
 
     ghost explains = { λ v b. Explains b.value v };
 
-    ghost grows = { GrowsTo };
+    ghost grows = { GrowsTo (IsTrue D.keeps_model) };
 
     ghost blank = { blank_view };
 
-    ghost same = { grows_same };
+    ghost same = { grows_same (IsTrue D.keeps_model) };
 
-    ghost onward = { grows_onward };
+    ghost onward = { grows_onward (IsTrue D.keeps_model) };
 }

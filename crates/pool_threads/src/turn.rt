@@ -1,8 +1,8 @@
 //! One step on the pool of a lock, and the view after it.
-ghost use Rattle.std.specs.Prelude.{◌≡◌, IsTrue, MatchOption};
+ghost use Rattle.std.specs.Prelude.{◌≡◌, IsSome, IsTrue, MatchOption};
 ghost use Rattle.base.specs.declared.step.Step.TheVariants as step;
 ghost use Rattle.pool_tables.specs.BeginTests.{is_above_limit};
-ghost use Rattle.word_lock.specs.Seats.{HasTurned, IsAsBefore, IsHolding, IsIdle, IsSameSeat, lock_table, seat_table, seen};
+ghost use Rattle.word_lock.specs.Seats.{HasTurned, IsAsBefore, IsHolding, IsIdle, IsSameSeat, kin, lock_table, seat_table, seen};
 ghost use Rattle.pool_threads.specs.Turns.{HasMade, HasStepped, begin_reply};
 ghost use Rattle.pool_threads.specs.Views.{Explains, IsPoolStep, view_after, viewed_state};
 
@@ -65,7 +65,7 @@ pub(crate) fn step_guarded<'s, 'l, D: SectorDevice>(
     reply
 }
 
-// Makes a step where the lock is free, in one turn of the seat and no other.
+// Makes a step if the lock is free, in one turn of the seat and no other.
 pub(crate) fn try_turn<D: SectorDevice>(
     seat: &mut Seat<Box<PoolState<D>>, PoolRule<D>>,
     lock: &WordLock<Box<PoolState<D>>, PoolRule<D>>,
@@ -76,6 +76,7 @@ pub(crate) fn try_turn<D: SectorDevice>(
     ensures same { (seat_table seat.new ≡ seat_table seat.old) × IsIdle seat.new }
     ensures made { MatchOption result (IsAsBefore seat.old seat.new)
         (λ r. HasMade (IsTrue D.keeps_model) step r seat.old seat.new) }
+    ensures only { kin seat.old ≡ 0 → IsSome result }
 {
     let Some(guard) = seat.try_acquire(lock) else {
         return None;

@@ -5,7 +5,7 @@ use Rattle.word_lock.specs.Seats.{seen}
 use Rattle.pool_threads.proofs.turn.fail_guarded.Goals as goal
 
 pub put_back-requires-clause-grows : goal.put_back-requires-clause-grows
-put_back-requires-clause-grows c = subst (λ v. GrowsTo (seen c.args.guard.seat.now) v) (sym c.requires.view) (grows_same (seen c.args.guard.seat.now))
+put_back-requires-clause-grows c = subst (λ v. GrowsTo _ (seen c.args.guard.seat.now) v) (sym c.requires.view) (grows_same _ (seen c.args.guard.seat.now))
 
 pub put_back-requires-clause-explains : goal.put_back-requires-clause-explains
 put_back-requires-clause-explains c =

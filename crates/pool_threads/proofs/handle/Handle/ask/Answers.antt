@@ -15,7 +15,7 @@ returns-clause-made g c =
     let done = c.step_guarded-reply.ensures in
     record {
       same_pool = (done.same.0.0 ∙ c.acquire-guard.ensures.same.0, refl);
-      made = made_by _ _ _ _ _ _ held.1 held.2 done.stepped;
+      made = made_by _ _ _ _ _ _ held.1 held.2 held.4 held.5 done.stepped;
     }
 
 pub returns-clause-fits : goal.returns-clause-fits

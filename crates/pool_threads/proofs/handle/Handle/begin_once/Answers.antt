@@ -16,7 +16,7 @@ returns-clause-made g c =
     let done = c.begin_guarded-answer.ensures in
     record {
       same_pool = (done.same.0.0 ∙ c.acquire-guard.ensures.same.0, refl);
-      made = made_by _ _ _ _ _ _ held.1 held.2 done.stepped;
+      made = made_by _ _ _ _ _ _ held.1 held.2 held.4 held.5 done.stepped;
     }
 
 pub returns-clause-for_good : goal.returns-clause-for_good

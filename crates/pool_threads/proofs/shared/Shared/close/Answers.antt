@@ -1,7 +1,7 @@
 use Rattle.std.proofs.Common.{sym, subst}
 use Rattle.pool_threads.specs.Views.{Explains}
 use Rattle.pool_threads.proofs.Ends.{ends_in}
-use Rattle.pool_threads.proofs.pool.Pool.close.Goals as goal
+use Rattle.pool_threads.proofs.shared.Shared.close.Goals as goal
 
 pub returns-in-Some : goal.returns-in-Some
 returns-in-Some g c =

@@ -1,5 +1,5 @@
 use contract.BorrowLft.{⊑_meet, ⊑_static}
-use Rattle.pool_threads.proofs.pool.view_behind.Goals as goal
+use Rattle.pool_threads.proofs.first.view_behind.Goals as goal
 
 pub of-requires : goal.of-requires
 of-requires g c κs t =

@@ -1,4 +1,4 @@
-use Rattle.pool_threads.proofs.pool.first_view.Given as goal
+use Rattle.pool_threads.proofs.first.first_view.Given as goal
 
 -- the view that the caller picked
 abbrev pub ghost-of : goal.ghost-of
