@@ -12,7 +12,7 @@ use Rattle.pool_threads.proofs.turn.begin_noted.Goals as goal
 pub returns : goal.returns
 returns g c =
     let made = begin_makes _ _ c.begin-answer.result c.begin-answer.ensures.step c.begin-answer.ensures.unmoved in
-    let moves = moved_by _ _ _ _ made.calls in
+    let moves = moved_by (step.Begin c.args.owner c.args.plan.now) (begin_reply c.begin-answer.result) c.deref_mut.result.now c.begin-answer.new.self made.calls in
     let old = c.args.held.now.view.value in
     let before = subst (λ st. Explains st old) (sym c.deref_mut.ensures.value) c.requires in
     let is = c.begun_view.ensures ∙ ap (λ st. view_after (step.Begin c.args.owner c.args.plan.now) (begin_reply c.begin-answer.result) old st) c.deref-2.ensures in
