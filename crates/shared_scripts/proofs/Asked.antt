@@ -1,6 +1,6 @@
--- What a command makes by its handle is made of one pool, and goes on from what the handle had seen.
+-- What a command makes of a pool by its handle it makes of what is seen of the pool, with nothing between; and it goes on.
 use Rattle.std.proofs.Common.{◌≡◌, ◌∙◌, ℕ, zero, suc, inl, inr, refl, sym, ap, subst}
-use Rattle.std.specs.Prelude.{◌≢◌, ◌⊎◌, ◌-◌, ◌^◌, List, Option}
+use Rattle.std.specs.Prelude.{◌≢◌, ◌⊎◌, ◌-◌, ◌^◌, IsTrue, List, Option, true}
 use Rattle.base.specs.declared.names.TxId.{TxId}
 use Rattle.base.specs.declared.operation.Op.{Op}
 use Rattle.base.specs.declared.operation.Shape.{Shape}
@@ -8,85 +8,170 @@ use Rattle.base.specs.declared.step.Step.{Step}
 use Rattle.base.specs.declared.step.Step.TheVariants as step
 use Rattle.base.specs.declared.step.Reply.{Reply}
 use Rattle.base.specs.declared.step.Reply.TheVariants.{More}
-use Rattle.pool_threads.specs.Handles.{IsBackIn, StaysInPool, WasOf, view_seen}
-use Rattle.pool_threads.specs.Views.{GrowsTo, grows_onward, grows_same}
+use Rattle.pool_threads.specs.Handles.{HasLooked, IsBackIn, WasOf, kin_left, kin_of, moment_in, moment_of, owned_of, view_seen}
+use Rattle.pool_threads.specs.Turns.{dated}
+use Rattle.pool_threads.specs.Views.{GrowsTo, IsPoolStep, SeenPool, grows_onward, grows_same}
 use Rattle.pool_threads.specs.declared.handle.Handle.{Handle}
 use Rattle.device_model.specs.MemState.{MemState}
 use Rattle.device_model.specs.contracts.memory.MemDeviceSectorDevice.TheImpl.{ghosts}
-use Rattle.pool_threads.proofs.Made.{grows_by_made}
-use Rattle.scripts.specs.PoolSteps.{Asks, CommitsOps, Finishes, MakesSteps, Then}
+use Rattle.pool_threads.proofs.Turned.{grows_by_one}
+use Rattle.scripts.specs.PoolSteps.{Asks, CommitsOps, Finishes, MakesSteps, Syncs, Then, ops_for}
 use Rattle.script_lines.specs.declared.command.PoolCommand.{PoolCommand}
 use Rattle.script_lines.specs.declared.command.PoolCommand.TheVariants as command
-use Rattle.shared_scripts.specs.Callers.{CallsStep, plan_begun}
-use Rattle.shared_scripts.specs.Pools.{LastOfMem, SharedMemPool}
+use Rattle.shared_scripts.specs.Callers.{AsksNext, CallsStep, StepsTo, plan_begun}
+use Rattle.shared_scripts.specs.Plans.{ArePlansOf, plan_seen}
+use Rattle.shared_scripts.specs.Pools.{LastOfMem, OwnedMemPool}
 use Rattle.shared_scripts.specs.declared.pool_caller.PoolCaller.{PoolCaller}
-use Rattle.word_lock.specs.Seats.{seat_table, seen}
+use Rattle.word_lock.specs.Seats.{kin, seat_table, seen}
 
--- what each step keeps, and goes on, a command keeps
+-- what each of some steps keeps, and goes on, such steps keep
 module _ {P : Type 0} (Makes : Step → Reply → P → P → Type 0) (R : P → P → Type 0) (same : (a : P) → R a a) (onward : (a b c : P) → R a b → R b c → R a c)
-    (by_one : (s : Step) (r : Reply) (a b : P) → Makes s r a b → R a b) where
+    (IsSome : Step → Type 0) (by_one : (s : Step) (r : Reply) (a b : P) → IsSome s → Makes s r a b → R a b) where
   by_none : (a b : P) → b ≡ a → R a b
   by_none a b is = subst (R a) (sym is) (same a)
 
-  by_steps : (count : ℕ) (a b : P) → MakesSteps Makes count a b → R a b
-  by_steps zero a b is = by_none a b is
-  by_steps (suc count) a b (middle, before, one) = onward a middle b (by_steps count a middle before) (by_one step.SyncStep More middle b one)
+  by_steps : IsSome step.SyncStep → (count : ℕ) (a b : P) → MakesSteps Makes count a b → R a b
+  by_steps it zero a b is = by_none a b is
+  by_steps it (suc count) a b (middle, before, one) = onward a middle b (by_steps it count a middle before) (by_one step.SyncStep More middle b it one)
 
-  by_last : (reply : Reply) (count : ℕ) (a b : P) → (Makes step.SyncStep reply a b × (reply ≢ More)) ⊎ ((count ≡ 2 ^ 64 - 1) × (b ≡ a)) → R a b
-  by_last reply count a b (inl (one, other)) = by_one step.SyncStep reply a b one
-  by_last reply count a b (inr (all, is)) = by_none a b is
+  by_last : IsSome step.SyncStep → (reply : Reply) (count : ℕ) (a b : P) → (Makes step.SyncStep reply a b × (reply ≢ More)) ⊎ ((count ≡ 2 ^ 64 - 1) × (b ≡ a)) → R a b
+  by_last it reply count a b (inl (one, other)) = by_one step.SyncStep reply a b it one
+  by_last it reply count a b (inr (all, is)) = by_none a b is
 
-  by_finish : (reply : Reply) (a b : P) → Finishes Makes reply a b → R a b
-  by_finish reply a b f = onward a f.middle b (by_steps f.count a f.middle f.steps) (by_last reply f.count f.middle b f.last)
+  pub by_finish : IsSome step.SyncStep → (reply : Reply) (a b : P) → Finishes Makes reply a b → R a b
+  by_finish it reply a b f = onward a f.middle b (by_steps it f.count a f.middle f.steps) (by_last it reply f.count f.middle b f.last)
 
-  by_then : (first : Step) (Next : Reply → P → P → Type 0) → ((reply : Reply) (a b : P) → Next reply a b → R a b) → (reply : Reply) (a b : P) → Then Makes first Next reply a b → R a b
-  by_then first Next next reply a b (inl (one, refused)) = by_one first reply a b one
-  by_then first Next next reply a b (inr (given, middle, one, passed, rest)) = onward a middle b (by_one first given a middle one) (next reply middle b rest)
+  by_then : (first : Step) → IsSome first → (Next : Reply → P → P → Type 0) → ((reply : Reply) (a b : P) → Next reply a b → R a b) → (reply : Reply) (a b : P) → Then Makes first Next reply a b → R a b
+  by_then first it Next next reply a b (inl (one, refused)) = by_one first reply a b it one
+  by_then first it Next next reply a b (inr (given, middle, one, passed, rest)) = onward a middle b (by_one first given a middle it one) (next reply middle b rest)
 
-  by_commit : (tx : TxId) (ops : List Op) (reply : Reply) (a b : P) → CommitsOps Makes tx ops reply a b → R a b
-  by_commit tx ops reply a b (inl one) = by_one (step.Commit tx ops) reply a b one
-  by_commit tx ops reply a b (inr none) = by_none a b none.1
+  pub by_sync : IsSome step.CloseGroup → IsSome step.MarkQuiesced → (moment : ℕ) → IsSome (step.StartSync moment) → IsSome step.SyncStep → (reply : Reply) (a b : P) → Syncs Makes moment reply a b → R a b
+  by_sync closes marks moment starts it = by_then step.CloseGroup closes _ (by_then step.MarkQuiesced marks _ (by_then (step.StartSync moment) starts (Finishes Makes) (by_finish it)))
 
-  by_command : (plan_in : TxId → P → Option (List Shape)) (asked : PoolCommand) (moment : ℕ) (reply : Reply) (a b : P) → Asks Makes plan_in asked moment reply a b → R a b
-  by_command plan_in (command.Commit tx contents) moment reply a b made = by_commit tx _ reply a b made
-  by_command plan_in command.Start moment reply a b made = by_one (step.StartSync moment) reply a b made
-  by_command plan_in command.Finish moment reply a b made = by_finish reply a b made
-  by_command plan_in command.Sync moment reply a b made =
-      by_then step.CloseGroup _ (by_then step.MarkQuiesced _ (by_then (step.StartSync moment) (Finishes Makes) by_finish)) reply a b made
-  by_command plan_in (command.Step s) moment reply a b made = by_one s reply a b made
+  by_commit : (tx : TxId) (ops : List Op) → IsSome (step.Commit tx ops) → (reply : Reply) (a b : P) → CommitsOps Makes tx ops reply a b → R a b
+  by_commit tx ops it reply a b (inl one) = by_one (step.Commit tx ops) reply a b it one
+  by_commit tx ops it reply a b (inr none) = by_none a b none.1
 
--- the caller's handle is of the same pool, and goes on from what it had seen
-record GoesOnBy (W : Type 0) (old new : PoolCaller W) : Type 0 where
-  stays : StaysInPool old.handle new.handle
-  onward : GrowsTo (view_seen old.handle) (view_seen new.handle)
+  -- and so does a command
+  pub by_command : ((s : Step) → IsSome s) → (plan_in : TxId → P → Option (List Shape)) (asked : PoolCommand) (moment : ℕ) (reply : Reply) (a b : P) → Asks Makes plan_in asked moment reply a b → R a b
+  by_command all plan_in (command.Commit tx contents) moment reply a b made = by_commit tx _ (all _) reply a b made
+  by_command all plan_in command.Start moment reply a b made = by_one (step.StartSync moment) reply a b (all _) made
+  by_command all plan_in command.Finish moment reply a b made = by_finish (all _) reply a b made
+  by_command all plan_in command.Sync moment reply a b made = by_sync (all _) (all _) moment (all _) (all _) reply a b made
+  by_command all plan_in (command.Step s) moment reply a b made = by_one s reply a b (all s) made
 
-module _ {W : Type 0} where
-  goes_on_same : (a : PoolCaller W) → GoesOnBy W a a
-  goes_on_same a = record { stays = (refl, refl); onward = grows_same (view_seen a.handle) }
+-- What a command makes of one thing it makes of what is seen of it, if each step does so, as long as it is good.
+module _ {P Q : Type 0} (Makes : Step → Reply → P → P → Type 0) (Shows : Step → Reply → Q → Q → Type 0) (Good : P → Type 0) (view : P → Q)
+    (by_one : (s : Step) (r : Reply) (a b : P) → Good a → Makes s r a b → Good b × Shows s r (view a) (view b)) where
+  abbrev Seen : (Q → Q → Type 0) → P → P → Type 0
+  Seen S a b = Good b × S (view a) (view b)
 
-  goes_onward : (a b c : PoolCaller W) → GoesOnBy W a b → GoesOnBy W b c → GoesOnBy W a c
-  goes_onward a b c x y = record {
-    stays = (y.stays.0 ∙ x.stays.0, y.stays.1 ∙ x.stays.1);
-    onward = grows_onward (view_seen a.handle) (view_seen b.handle) (view_seen c.handle) x.onward y.onward;
-  }
+  seen_none : (a b : P) → Good a → b ≡ a → Seen (λ v w. w ≡ v) a b
+  seen_none a b good is = (subst Good (sym is) good, ap view is)
 
-  goes_on_by_step : (s : Step) (r : Reply) (a b : PoolCaller W) → CallsStep s r a b → GoesOnBy W a b
-  goes_on_by_step s r a b made = record { stays = made.1.same_pool; onward = grows_by_made made.1.made }
+  seen_steps : (count : ℕ) (a b : P) → Good a → MakesSteps Makes count a b → Seen (MakesSteps Shows count) a b
+  seen_steps zero a b good is = seen_none a b good is
+  seen_steps (suc count) a b good (middle, before, one) =
+      let first : Seen (MakesSteps Shows count) a middle = seen_steps count a middle good before in
+      let last : Seen (Shows step.SyncStep More) middle b = by_one step.SyncStep More middle b first.0 one in
+      (last.0, (view middle, first.1, last.1))
 
-  goes_on_asked : (asked : PoolCommand) (moment : ℕ) (reply : Reply) (a b : PoolCaller W) → Asks CallsStep plan_begun asked moment reply a b → GoesOnBy W a b
-  goes_on_asked asked moment reply a b made = by_command CallsStep (GoesOnBy W) goes_on_same goes_onward goes_on_by_step plan_begun asked moment reply a b made
+  seen_last : (reply : Reply) (count : ℕ) (a b : P) → Good a → (Makes step.SyncStep reply a b × (reply ≢ More)) ⊎ ((count ≡ 2 ^ 64 - 1) × (b ≡ a))
+      → Seen (λ v w. (Shows step.SyncStep reply v w × (reply ≢ More)) ⊎ ((count ≡ 2 ^ 64 - 1) × (w ≡ v))) a b
+  seen_last reply count a b good (inl (one, other)) = let last : Seen (Shows step.SyncStep reply) a b = by_one step.SyncStep reply a b good one in (last.0, inl (last.1, other))
+  seen_last reply count a b good (inr (all, is)) = let none : Seen (λ v w. w ≡ v) a b = seen_none a b good is in (none.0, inr (all, none.1))
 
--- a handle that went on from what was left of this pool still is of it, and so is what it leaves
-pub left_of : (pool : SharedMemPool) (last later : LastOfMem) (before after : Handle MemState ghosts) → WasOf pool last → IsBackIn pool last before → StaysInPool before after
-    → later.seat ≡ after.seat → WasOf pool later
-left_of pool last later before after was back stays left = ap (λ s. seat_table s) left ∙ stays.0 ∙ ap (λ s. seat_table s) back.seat_is ∙ was
+  seen_finish : (reply : Reply) (a b : P) → Good a → Finishes Makes reply a b → Seen (Finishes Shows reply) a b
+  seen_finish reply a b good f =
+      let first : Seen (MakesSteps Shows f.count) a f.middle = seen_steps f.count a f.middle good f.steps in
+      let last = seen_last reply f.count f.middle b first.0 f.last in
+      (last.0, record { count = f.count; middle = view f.middle; steps = first.1; last = last.1 })
 
-module _ {W : Type 0} (pool : SharedMemPool) (last later : LastOfMem) (asked : PoolCommand) (moment : ℕ) (reply : Reply) (before after : PoolCaller W)
-    (back : IsBackIn pool last before.handle) (made : Asks CallsStep plan_begun asked moment reply before after) (left : later.seat ≡ after.handle.seat) where
-  pub asked_of : WasOf pool last → WasOf pool later
-  asked_of was = left_of pool last later before.handle after.handle was back (goes_on_asked asked moment reply before after made).stays left
+  seen_then : (first : Step) (Next : Reply → P → P → Type 0) (After : Reply → Q → Q → Type 0) → ((reply : Reply) (a b : P) → Good a → Next reply a b → Seen (After reply) a b)
+      → (reply : Reply) (a b : P) → Good a → Then Makes first Next reply a b → Seen (Then Shows first After reply) a b
+  seen_then first Next After next reply a b good (inl (one, refused)) = let made : Seen (Shows first reply) a b = by_one first reply a b good one in (made.0, inl (made.1, refused))
+  seen_then first Next After next reply a b good (inr (given, middle, one, passed, rest)) =
+      let made : Seen (Shows first given) a middle = by_one first given a middle good one in
+      let more : Seen (After reply) middle b = next reply middle b made.0 rest in
+      (more.0, inr (given, view middle, made.1, passed, more.1))
 
-  pub asked_onward : GrowsTo (seen last.seat) (seen later.seat)
-  asked_onward =
-      subst (λ s. GrowsTo (seen s) (seen later.seat)) back.seat_is
-      (subst (λ s. GrowsTo (view_seen before.handle) (seen s)) (sym left) (goes_on_asked asked moment reply before after made).onward)
+  seen_commit : (tx : TxId) (ops : List Op) (reply : Reply) (a b : P) → Good a → CommitsOps Makes tx ops reply a b → Seen (CommitsOps Shows tx ops reply) a b
+  seen_commit tx ops reply a b good (inl one) = let made : Seen (Shows (step.Commit tx ops) reply) a b = by_one (step.Commit tx ops) reply a b good one in (made.0, inl made.1)
+  seen_commit tx ops reply a b good (inr none) = let still : Seen (λ v w. w ≡ v) a b = seen_none a b good none.1 in (still.0, inr (none.0, still.1))
+
+  -- the plans of the one are those of the other
+  pub seen_command : (plan_in : TxId → P → Option (List Shape)) (plan_out : TxId → Q → Option (List Shape)) (asked : PoolCommand) (moment : ℕ) (reply : Reply) (a b : P) → Good a
+      → ((tx : TxId) → plan_in tx a ≡ plan_out tx (view a)) → Asks Makes plan_in asked moment reply a b → Seen (Asks Shows plan_out asked moment reply) a b
+  seen_command plan_in plan_out (command.Commit tx contents) moment reply a b good plans made =
+      subst (λ (plan : Option (List Shape)). Seen (CommitsOps Shows tx (ops_for contents.items plan) reply) a b) (plans tx) (seen_commit tx (ops_for contents.items (plan_in tx a)) reply a b good made)
+  seen_command plan_in plan_out command.Start moment reply a b good plans made = by_one (step.StartSync moment) reply a b good made
+  seen_command plan_in plan_out command.Finish moment reply a b good plans made = seen_finish reply a b good made
+  seen_command plan_in plan_out command.Sync moment reply a b good plans made =
+      let Start = Then Makes (step.StartSync moment) (Finishes Makes) in
+      let Starts = Then Shows (step.StartSync moment) (Finishes Shows) in
+      seen_then step.CloseGroup (Then Makes step.MarkQuiesced Start) (Then Shows step.MarkQuiesced Starts)
+      (seen_then step.MarkQuiesced Start Starts (seen_then (step.StartSync moment) (Finishes Makes) (Finishes Shows) seen_finish)) reply a b good made
+  seen_command plan_in plan_out (command.Step s) moment reply a b good plans made = by_one s reply a b good made
+
+-- steps go on
+pub steps_grow : (in_pool : ℕ) (plan_in : TxId → SeenPool → Option (List Shape)) (asked : PoolCommand) (moment : ℕ) (reply : Reply) (v w : SeenPool) → Asks (StepsTo in_pool) plan_in asked moment reply v w
+    → GrowsTo (IsTrue true) v w
+steps_grow in_pool = by_command (StepsTo in_pool) (GrowsTo (IsTrue true)) (grows_same (IsTrue true)) (grows_onward (IsTrue true)) (λ s. Unit {0})
+    (λ s r v w it made. grows_by_one (IsTrue true) (dated in_pool s) r v v w refl made) (λ s. tt)
+
+-- the caller's handle is the only one of its pool, the one of what was left, and its syncs get this moment
+record IsOnly {W : Type 0} (last : LastOfMem) (in_pool : ℕ) (c : PoolCaller W) : Type 0 where
+  of : seat_table c.handle.seat ≡ seat_table last.seat
+  moment : moment_of c.handle ≡ in_pool
+  only : kin_of c.handle ≡ 0
+
+module _ {W : Type 0} (last : LastOfMem) (in_pool : ℕ) where
+  by_step : (s : Step) (r : Reply) (a b : PoolCaller W) → IsOnly last in_pool a → CallsStep s r a b → IsOnly last in_pool b × StepsTo in_pool s r (view_seen a.handle) (view_seen b.handle)
+  by_step s r a b only calls =
+      let made = calls.1.made in
+      let here : IsPoolStep (IsTrue true) (dated (moment_of a.handle) s) r (view_seen a.handle) (view_seen b.handle) =
+      subst (λ (v : SeenPool). IsPoolStep (IsTrue true) (dated (moment_of a.handle) s) r v (view_seen b.handle)) (made.alone only.only) made.made in (
+        record { of = calls.1.same_pool.0 ∙ only.of; moment = calls.1.same_pool.1 ∙ only.moment; only = made.met_none.0 ∙ only.only },
+        subst (λ (m : ℕ). StepsTo m s r (view_seen a.handle) (view_seen b.handle)) only.moment here,
+      )
+
+-- so it is of a command that was asked by the only handle of a pool
+pub record IsAskedOf (pool : OwnedMemPool) (asked : PoolCommand) (moment : ℕ) (reply : Reply) (last later : LastOfMem) : Type 0 where
+  pub own : WasOf (owned_of pool) later
+  pub only : kin_left later ≡ 0
+  pub next : AsksNext (moment_in (owned_of pool)) asked moment reply (seen last.seat) (seen later.seat)
+
+module _ {W : Type 0} (pool : OwnedMemPool) (last later : LastOfMem) (asked : PoolCommand) (moment : ℕ) (reply : Reply) (before after : PoolCaller W) (was : WasOf (owned_of pool) last) (only : kin_left last ≡ 0)
+    (plans : ArePlansOf before.plans.now.plans.items (seen last.seat)) (back : IsBackIn (owned_of pool) last before.handle) (made : Asks CallsStep plan_begun asked moment reply before after)
+    (left : later.seat ≡ after.handle.seat) where
+  good : IsOnly last (moment_in (owned_of pool)) before
+  good = record { of = ap (λ s. seat_table s) back.seat_is; moment = back.moment; only = ap (λ s. kin s) back.seat_is ∙ only }
+
+  pub asked_of : IsAskedOf pool asked moment reply last later
+  asked_of =
+      let here = seen_command CallsStep (StepsTo (moment_in (owned_of pool))) (IsOnly last (moment_in (owned_of pool))) (λ (c : PoolCaller W). view_seen c.handle)
+      (by_step last (moment_in (owned_of pool))) plan_begun plan_seen asked moment reply before after good
+      (λ tx. plans tx ∙ ap (λ s. plan_seen tx (seen s)) (sym back.seat_is)) made in
+      record {
+        own = ap (λ s. seat_table s) left ∙ here.0.of ∙ was;
+        only = ap (λ s. kin s) left ∙ here.0.only;
+        next = subst (λ (v : SeenPool). AsksNext (moment_in (owned_of pool)) asked moment reply v (seen later.seat)) (ap (λ s. seen s) back.seat_is)
+            (subst (λ s. AsksNext (moment_in (owned_of pool)) asked moment reply (view_seen before.handle) (seen s)) (sym left) here.1);
+      }
+
+-- and of one that looked at it
+pub record IsLookedAt (pool : OwnedMemPool) (last later : LastOfMem) : Type 0 where
+  pub own : WasOf (owned_of pool) later
+  pub only : kin_left later ≡ 0
+  pub same_view : seen later.seat ≡ seen last.seat
+
+module _ (pool : OwnedMemPool) (last later : LastOfMem) (before after : Handle MemState ghosts) (was : WasOf (owned_of pool) last) (only : kin_left last ≡ 0) (back : IsBackIn (owned_of pool) last before)
+    (looked : HasLooked before after) (left : later.seat ≡ after.seat) where
+  pub looked_at : IsLookedAt pool last later
+  looked_at =
+      let number : kin_of before ≡ 0 = ap (λ s. kin s) back.seat_is ∙ only in
+      record {
+        own = ap (λ s. seat_table s) left ∙ looked.same_pool.0 ∙ ap (λ s. seat_table s) back.seat_is ∙ was;
+        only = ap (λ s. kin s) left ∙ looked.met_none.0 ∙ number;
+        same_view = ap (λ s. seen s) left ∙ looked.alone number ∙ ap (λ s. seen s) back.seat_is;
+      }

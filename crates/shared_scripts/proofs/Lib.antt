@@ -1,6 +1,11 @@
 mod Asked
+mod CommandPlans
 mod Imported
 mod Kept
+mod LastLeft
+mod Named
 mod OnDevice
 mod OneTurn
+mod OpenPlans
+mod Opened
 mod Taken

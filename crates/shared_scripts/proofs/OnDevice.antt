@@ -1,6 +1,6 @@
 -- What a crash and an import make of a session that has a device and no pool.
 use Rattle.std.proofs.Common.{◌≡◌, ◌∙◌, ◌∷◌, [], ℕ, List, length, inl, inr, refl, sym, ap, subst, rules, arith}
-use Rattle.std.specs.Prelude.{◌⊎◌, None, Option, Some, Result, Ok, Err}
+use Rattle.std.specs.Prelude.{◌⊎◌, false, Option, Some, Result, Ok, Err}
 use Rattle.std.proofs.lemmas.Bool.{false≢true}
 use Rattle.base.specs.declared.error.PoolError.{PoolError}
 use Rattle.base.specs.declared.error.PoolError.TheVariants.{BadGeometry, BadRange, NoMemory}
@@ -16,7 +16,7 @@ use Rattle.script_lines.specs.declared.answer.Answer.{Answer}
 use Rattle.script_lines.specs.declared.answer.Answer.TheVariants as answer
 use Rattle.script_lines.specs.declared.command.Command.TheVariants as command
 use Rattle.scripts.specs.Devices.{IsImportRun, IsLeftByImport}
-use Rattle.scripts.specs.Places.{CrashesOn, has_pool}
+use Rattle.scripts.specs.Places.{CrashesOn, has_device, has_pool}
 use Rattle.scripts.specs.declared.place.Place.TheVariants.{Nothing, Device, Pool}
 use Rattle.scripts.specs.declared.session.BadCommand.{BadCommand}
 use Rattle.shared_scripts.specs.Places.{IsTakenFrom, SharedPlace}
@@ -32,8 +32,8 @@ module _ (place : SharedPlace) (device : MemState) (was : place ≡ Device devic
   same_device : (taken : MemState) → IsTakenFrom place (Some taken) → taken ≡ device
   same_device taken from = let some = taken_is (Some taken) from in cc
 
-  one_is_found : IsTakenFrom place None → ⊥
-  one_is_found from = let none = taken_is None from in search rules
+  one_is_found : has_device place ≡ false → ⊥
+  one_is_found none = false≢true (sym none ∙ ap (λ (p : SharedPlace). has_device p) was)
 
   crashed : (told : Result Answer BadCommand) (new : SharedPlace) → length device.disk.now.unflushed ≡ 1 → CrashesOn (Lose ∷ []) device told new → new ≡ Device (after_crash (Lose ∷ []) device)
   crashed (Ok told) new one crashes = crashes.2
@@ -44,8 +44,8 @@ module _ (place : SharedPlace) (device : MemState) (was : place ≡ Device devic
       → new ≡ Device (after_crash (Lose ∷ []) device)
   lost pieces told new one_piece one (inl (taken, from, crashes)) =
       crashed told new one
-      (subst (λ (d : MemState). CrashesOn (Lose ∷ []) d told new) (same_device taken from) (subst (λ ps. CrashesOn ps taken told new) one_piece crashes))
-  lost pieces told new one_piece one (inr (bad, found)) = absurd (one_is_found found.0)
+      (subst (λ (d : MemState). CrashesOn (Lose ∷ []) d told new) (same_device taken from) (subst (λ ps. CrashesOn ps taken told new) one_piece crashes.0))
+  lost pieces told new one_piece one (inr none) = absurd (one_is_found none.1)
 
 abbrev pool_or : SharedPool → SharedPlace → SharedPool
 pool_or other Nothing = other
@@ -80,7 +80,7 @@ pub record IsMount {W : Type 0} (s : SharedSession W) (dirty_max : ℕ) (device 
   pub left : MemState
   pub mounted : Mounted
   pub run : IsImportRun dirty_max s.moment device left mounted
-  pub shares : IsMountShared device.disk mounted s.moment shared
+  pub shares : IsMountShared device.disk left.disk mounted s.moment shared
 
 module _ {W : Type 0} (s new : SharedSession W) (device : MemState) (was : s.place ≡ Device device) where
   -- an import with no limit is refused for it, or for want of memory
@@ -88,14 +88,14 @@ module _ {W : Type 0} (s new : SharedSession W) (device : MemState) (was : s.pla
   refused_limit told e is sized does =
       let taken = subst (λ (r : Result Answer BadCommand). Does (command.Import 0) s r new) is does in
       imports_refused s.moment device e new.place sized
-      (subst (λ (d : MemState). ImportsShared 0 s.moment d (answer.Reply (Refused e)) new.place) (same_device s.place device was taken.0 taken.1) taken.2)
+      (subst (λ (d : MemState). ImportsShared 0 s.moment d (answer.Reply (Refused e)) new.place) (same_device s.place device was taken.0 taken.1) taken.2.0)
 
   of_shared : (dirty_max : ℕ) (told : Answer) (shared : SharedPool) → new.place ≡ Pool shared → IsImportShared dirty_max s.moment device told new.place → IsMount s dirty_max device shared
   of_shared dirty_max told shared is i = record {
     left = i.device;
     mounted = i.mounted;
     run = i.imported;
-    shares = subst (λ (p : SharedPool). IsMountShared device.disk i.mounted s.moment p) (same_pool new.place i.shares.0 shared i.shares.1 is) i.shares.3;
+    shares = subst (λ (p : SharedPool). IsMountShared device.disk i.device.disk i.mounted s.moment p) (same_pool new.place i.shares.0 shared i.shares.1 is) i.shares.3;
   }
 
   mount_of : (dirty_max : ℕ) (told : Answer) (shared : SharedPool) → new.place ≡ Pool shared → ImportsShared dirty_max s.moment device told new.place → IsMount s dirty_max device shared
@@ -106,5 +106,5 @@ module _ {W : Type 0} (s new : SharedSession W) (device : MemState) (was : s.pla
   pub mount_found : (dirty_max : ℕ) (told : Result Answer BadCommand) (shared : SharedPool) → new.place ≡ Pool shared → Does (command.Import dirty_max) s told new → IsMount s dirty_max device shared
   mount_found dirty_max (Ok told) shared is taken =
       mount_of dirty_max told shared is
-      (subst (λ (d : MemState). ImportsShared dirty_max s.moment d told new.place) (same_device s.place device was taken.0 taken.1) taken.2)
-  mount_found dirty_max (Err e) shared is none = absurd (one_is_found s.place device was none.0)
+      (subst (λ (d : MemState). ImportsShared dirty_max s.moment d told new.place) (same_device s.place device was taken.0 taken.1) taken.2.0)
+  mount_found dirty_max (Err e) shared is same = absurd (no_pool new.place device shared (same ∙ was) is)

@@ -41,7 +41,7 @@ impl BegunPlans {
         }
     }
 
-    /// The plan of a transaction. `None` where none of this name began, or it has ended.
+    /// The plan of a transaction. `None` if none of this name began, or if it has ended.
     pub(crate) fn plan(&self, tx: TxId) -> Option<&Plan>
         ensures { option_map (λ p. p.now) result ≡ plan_named tx self.now.plans.items }
     {
@@ -54,7 +54,7 @@ impl BegunPlans {
     /// What a command may change, with room for it.
     ///
     /// # Errors
-    /// `AllocError` where there is no memory for a plan's copy.
+    /// `AllocError` if there is no memory for a plan's copy.
     pub(crate) fn change_of(
         &mut self,
         alloc: Global,
@@ -67,7 +67,7 @@ impl BegunPlans {
     {
         match command {
             PoolCommand::Commit(tx, _) => Ok(PlanChange::Ends(*tx)),
-            PoolCommand::Step(Step::Abort(tx)) => Ok(PlanChange::Ends(*tx)),
+            PoolCommand::Step(Step::Commit(tx, _) | Step::Abort(tx)) => Ok(PlanChange::Ends(*tx)),
             PoolCommand::Step(Step::Begin(_, plan)) => self.copy_plan(alloc, plan),
             _ => Ok(PlanChange::Nothing),
         }
@@ -82,7 +82,7 @@ impl BegunPlans {
         Ok(PlanChange::Begins(plan.try_clone(alloc)?))
     }
 
-    /// Keeps the plan of a transaction that began, and lets go that of one that ended, as the pool replied.
+    /// Keeps the plan of a transaction that began, and drops that of one that ended, as the pool replied.
     pub(crate) fn change(&mut self, change: PlanChange, reply: &Reply)
         requires room { HasRoomForPlan change self.old.plans }
         ensures { self.new.plans.items ≡ plans_after change reply.now self.old.plans.items }

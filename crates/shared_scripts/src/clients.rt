@@ -1,27 +1,35 @@
 //! What callers rest on: one function for each promise of this crate's calls, proved from the contract of the call alone. So
 //! it is refused as soon as that contract says less.
 
-ghost use Rattle.std.specs.Prelude.{ℕ, ◌≡◌, ◌⊎◌, ◌+◌, ◌∷◌, [], Ok, Some, IsErr, length};
+ghost use Rattle.std.specs.Prelude.{ℕ, ◌≡◌, ◌⊎◌, ◌+◌, ◌++◌, ◌∷◌, [], Ok, Some, IsErr, IsOk, length};
 ghost use Rattle.std.specs.Option.{option_map};
 ghost use Rattle.base.specs.declared.error.PoolError.{PoolError};
 ghost use Rattle.base.specs.declared.error.PoolError.TheVariants.{BadRange, NoMemory};
 ghost use Rattle.base.specs.declared.operation.Shape.TheVariants as shape;
 ghost use Rattle.base.specs.declared.piece.Piece.TheVariants.{Lose};
-ghost use Rattle.base.specs.declared.step.Reply.TheVariants.{Refused};
-ghost use Rattle.base.specs.disk.Disk.{disk_size};
+ghost use Rattle.base.specs.declared.step.Reply.TheVariants.{Length, Refused};
+ghost use Rattle.base.specs.disk.Crashes.{crash_image};
+ghost use Rattle.base.specs.disk.Disk.{certain, disk_size};
+ghost use Rattle.base.specs.disk.Fairness.{IsFairOn};
 ghost use Rattle.base.specs.formats.Geometry.{IsGeometry};
+ghost use Rattle.base.specs.history.Contents.{length_of};
+ghost use Rattle.base.specs.history.Past.{Past};
 ghost use Rattle.device_model.specs.MemState.{MemState, after_crash};
 ghost use Rattle.import_replay.specs.ImportSyncs.{IsImportSynced};
 ghost use Rattle.import_replay.specs.declared.mounted.Mounted.{Mounted};
-ghost use Rattle.pool_threads.specs.Handles.{opening_view};
+ghost use Rattle.pool_threads.specs.Handles.{opening_view, owned_of};
+ghost use Rattle.pool_threads.specs.Views.{SeenPool, viewed_state};
 ghost use Rattle.pool_threads.specs.Views.CrashRule.{Behind};
 ghost use Rattle.scripts.specs.declared.place.Place.TheVariants as place;
+ghost use Rattle.shared_scripts.specs.Kept.{IsRunIn, IsRunOf};
+ghost use Rattle.shared_scripts.specs.Shared.{view_in};
 ghost use Rattle.shared_scripts.specs.declared.shared_pool.SharedPool.{SharedPool};
 ghost use Rattle.word_lock.specs.Seats.{turns};
+ghost use Rattle.word_lock.specs.Turns.{turn};
 
 use crate::begun_plans::BegunPlans;
 use crate::session::SharedSession;
-use base::{Piece, Plan, Step, TxId};
+use base::{ObjectId, Piece, Plan, Step, TxId};
 use device_model::Fault;
 use scripts::{Answer, BadCommand, Command, PoolCommand};
 use std::alloc::Global;
@@ -69,6 +77,66 @@ fn a_plan_to_fail_takes_one_turn<'r, W: Wait>(
     })
 }
 
+// The second command is made on just what the first one left.
+fn nothing_lies_between_two_commands<'r, W: Wait>(
+    session: &mut SharedSession<'r, W>,
+) -> Result<Answer, BadCommand>
+    ensures { (old new : SharedPool) → session.old.place ≡ place.Pool old
+        → session.new.place ≡ place.Pool new
+        → (middle : SeenPool) × (turns new.last.seat
+        ≡ (turns old.last.seat ++ turn (view_in old) middle ∷ [])
+        ++ turn middle (view_in new) ∷ []) }
+{
+    let _ = session.run(Command::Pool(PoolCommand::Step(Step::CloseGroup)));
+    session.run(Command::Pool(PoolCommand::Step(Step::Digest)))
+}
+
+// The answer is that of a session that owns its pool: of just what the last command left.
+fn a_length_is_of_what_the_last_command_left<'r, W: Wait>(
+    session: &mut SharedSession<'r, W>,
+) -> Result<Answer, BadCommand>
+    ensures { (old new : SharedPool) (n : ℕ) → session.old.place ≡ place.Pool old
+        → session.new.place ≡ place.Pool new → result ≡ Ok (Answer.Reply (Length n))
+        → ∥ length_of (viewed_state (view_in old)).shown.contents 5 ≡ Some n ∥₁ }
+{
+    session.run(Command::Pool(PoolCommand::Step(Step::Length(ObjectId(5)))))
+}
+
+fn a_sync_of_a_pool_is_answered<'r, W: Wait>(
+    session: &mut SharedSession<'r, W>,
+) -> Result<Answer, BadCommand>
+    ensures { (old : SharedPool) → session.old.place ≡ place.Pool old → IsOk result }
+{
+    session.run(Command::Pool(PoolCommand::Sync))
+}
+
+// No turn of another comes between the last command and the crash.
+fn a_crash_takes_the_disk_that_the_last_command_left<'r, W: Wait>(
+    session: &mut SharedSession<'r, W>,
+    pieces: Vec<Piece>,
+) -> Result<Answer, BadCommand>
+    requires { pieces.items ≡ [] }
+    ensures { (old : SharedPool) (device : MemState) → session.old.place ≡ place.Pool old
+        → session.new.place ≡ place.Device device
+        → device.disk ≡ certain (crash_image [] (view_in old).disk.now) (view_in old).disk }
+{
+    session.run(Command::Crash(pieces))
+}
+
+// That the crash is fair is asked of the disk that the last command left.
+fn a_fair_crash_leaves_what_the_run_left<'r, W: Wait>(
+    session: &mut SharedSession<'r, W>,
+    pieces: Vec<Piece>,
+) -> Result<Answer, BadCommand>
+    ensures { (old : SharedPool) (past : Past) → session.old.place ≡ place.Pool old
+        → IsRunOf past old → IsOk result
+        → IsFairOn (view_in old).disk past.created
+        (crash_image pieces.items (view_in old).disk.now)
+        → IsRunIn past session.new.place }
+{
+    session.run(Command::Crash(pieces))
+}
+
 // A crash that loses the one unflushed write does so.
 fn a_crash_has_its_letters<'r, W: Wait>(
     session: &mut SharedSession<'r, W>,
@@ -93,18 +161,19 @@ fn an_import_without_a_limit_is_a_bad_range<'r, W: Wait>(
     session.run(Command::Import { dirty_max: 0 })
 }
 
-// An imported pool follows the crash rule of what its device held, and its import writes the session's moment.
+// An imported pool follows the crash rule of what its device held. Its disk is the one that the import left, which wrote the
+// session's moment.
 fn an_import_keeps_the_crash_rule_and_the_moment<'r, W: Wait>(
     session: &mut SharedSession<'r, W>,
 ) -> Result<Answer, BadCommand>
     requires { session.old.moment ≡ 77 }
     ensures rule { (device : MemState) (shared : SharedPool)
         → session.old.place ≡ place.Device device → session.new.place ≡ place.Pool shared
-        → (opening_view shared.pool).rule ≡ Behind device.disk }
+        → (opening_view (owned_of shared.pool)).rule ≡ Behind device.disk }
     ensures moment { (device : MemState) (shared : SharedPool)
         → session.old.place ≡ place.Device device → session.new.place ≡ place.Pool shared
-        → (new : MemState) × (mounted : Mounted)
-        × IsImportSynced device.disk new.disk 77 mounted }
+        → (mounted : Mounted)
+        × IsImportSynced device.disk (view_in shared).disk 77 mounted }
 {
     session.run(Command::Import {
         dirty_max: 2_097_152,

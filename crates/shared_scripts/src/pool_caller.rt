@@ -1,14 +1,16 @@
-//! A shared pool as a command has it: called by a handle.
+//! A pool of one owner as a command has it: called by its only handle.
 
 ghost use Rattle.std.specs.Prelude.{◌≡◌};
-ghost use Rattle.pool_threads.specs.Handles.{WasOf};
-ghost use Rattle.shared_scripts.specs.Callers.{AsksByHandle};
+ghost use Rattle.pool_threads.specs.Handles.{WasOf, kin_left, moment_in, owned_of};
+ghost use Rattle.shared_scripts.specs.Callers.{AsksByHandle, AsksNext};
+ghost use Rattle.shared_scripts.specs.Plans.{ArePlansOf};
 ghost use Rattle.shared_scripts.specs.Pools.{LooksBehind};
+ghost use Rattle.word_lock.specs.Seats.{seen};
 
 use crate::begun_plans::BegunPlans;
 use base::{Plan, Reply, Step, TxId};
 use device_model::{Fault, MemDevice};
-use pool_threads::{Handle, LastSeen, Pool};
+use pool_threads::{Handle, LastSeen, OwnedPool};
 use scripts::{PoolCommand, SteppedPool, run_pool_command};
 use std::alloc::Global;
 use std::sync::Wait;
@@ -37,18 +39,24 @@ impl<'p, 'r, W: Wait> SteppedPool for PoolCaller<'p, 'r, W> {
     }
 }
 
-/// Has a command's steps made by a handle that goes on from the last one, and leaves it.
+/// Has a command's steps made by the only handle of a pool, which goes on from the last one, and leaves it. The first step is
+/// made on what the last command left.
 pub(crate) fn ask_behind<'p, W: Wait>(
     rt: &W,
     alloc: Global,
-    pool: &'p Pool<MemDevice>,
+    pool: &'p OwnedPool<MemDevice>,
     last: LastSeen<MemDevice>,
     plans: &'p BegunPlans,
     moment: u64,
     command: PoolCommand,
 ) -> (LastSeen<MemDevice>, Reply)
-    requires { WasOf pool.now last }
-    ensures own { WasOf pool.now result.0 }
+    requires own { WasOf (owned_of pool.now) last }
+    requires only { kin_left last ≡ 0 }
+    requires plans { ArePlansOf plans.now.plans.items (seen last.seat) }
+    ensures own { WasOf (owned_of pool.now) result.0 }
+    ensures only { kin_left result.0 ≡ 0 }
+    ensures next { AsksNext (moment_in (owned_of pool.now)) command moment result.1
+        (seen last.seat) (seen result.0.seat) }
     ensures asked { AsksByHandle W command moment plans.now.plans.items pool.now last
         result.1 result.0 }
 {
@@ -66,16 +74,19 @@ pub(crate) fn ask_behind<'p, W: Wait>(
     (handle.leave(), reply)
 }
 
-/// Plans a fault by a handle that goes on from the last one, and leaves it.
+/// Plans a fault by the only handle of a pool, which goes on from the last one, and leaves it.
 pub(crate) fn fail_behind<W: Wait>(
     rt: &W,
-    pool: &Pool<MemDevice>,
+    pool: &OwnedPool<MemDevice>,
     last: LastSeen<MemDevice>,
     fault: Fault,
     n: u64,
 ) -> LastSeen<MemDevice>
-    requires { WasOf pool.now last }
-    ensures own { WasOf pool.now result }
+    requires own { WasOf (owned_of pool.now) last }
+    requires only { kin_left last ≡ 0 }
+    ensures own { WasOf (owned_of pool.now) result }
+    ensures only { kin_left result ≡ 0 }
+    ensures same_view { seen result.seat ≡ seen last.seat }
     ensures looked { LooksBehind pool.now last result }
 {
     let mut handle = pool.handle_behind(last);

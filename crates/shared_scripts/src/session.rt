@@ -1,6 +1,6 @@
 //! The device of a script, and the pool that is imported from it, which is shared.
 
-ghost use Rattle.std.specs.Prelude.{◌≡◌, ◌⊎◌, None, is_ok, IfErr, IfOk, IsErr, IsOk, IsTrue};
+ghost use Rattle.std.specs.Prelude.{◌≡◌, ◌⊎◌, false, is_ok, is_some, true, IfErr, IfOk, IsErr, IsOk, IsTrue};
 
 use crate::shared_pool::SharedPool;
 use base::{Bytes, Piece, PoolError, Reply};
@@ -13,7 +13,7 @@ use std::snapshot::Snapshot;
 use std::sync::Wait;
 
 /// A run of a script on a pool that is shared: its device in memory, and the pool that is imported from it. Each step of a
-/// command is made by a handle of the pool, which may wait.
+/// command is made by the pool's only handle, which may wait.
 #[derive(Drop)]
 pub struct SharedSession<'r, W: Wait> {
     rt: &'r W,
@@ -26,10 +26,11 @@ pub struct SharedSession<'r, W: Wait> {
 impl<'r, W: Wait> SharedSession<'r, W> {
     ghost use Rattle.pool_threads.specs.Handles.{StartsBehind};
     ghost use Rattle.scripts.specs.Devices.{IsNewDeviceRefusal};
-    ghost use Rattle.scripts.specs.Places.{AsksIn, PlansFault, has_device, has_pool, has_what_it_needs};
-    ghost use Rattle.shared_scripts.specs.Kept.{KeepsOverCrash, KeepsRun, StartsRunOn};
-    ghost use Rattle.shared_scripts.specs.Places.{IsTakenFrom};
-    ghost use Rattle.shared_scripts.specs.Sessions.{AsksShared, CrashesShared, CreatesShared, Does, FindsNoDevice, ImportsShared, IsDeviceFor, IsGivenBack, IsNewSharedSession, IsSameRun, LooksAt, SharesMounted, TakesDevice};
+    ghost use Rattle.scripts.specs.Places.{AsksIn, PlansFault, has_device, has_pool, has_what_it_needs, is_crash};
+    ghost use Rattle.shared_scripts.specs.Kept.{KeepsOverImport, KeepsRun};
+    ghost use Rattle.shared_scripts.specs.Places.{IsTakenFrom, TakesDevice};
+    ghost use Rattle.shared_scripts.specs.Sessions.{CrashesShared, CreatesShared, Does, ImportsShared, IsDeviceFor, IsGivenBack, IsNewSharedSession, IsSameRun, Leaves, LooksAt, SharesMounted};
+    ghost use Rattle.shared_scripts.specs.Shared.{AsksShared};
 
     /// A session with no device yet. A new device has `size` div 512 sectors, and each uberblock this moment.
     pub fn new(rt: &'r W, alloc: Global, size: u64, moment: u64) -> Self
@@ -44,15 +45,21 @@ impl<'r, W: Wait> SharedSession<'r, W> {
         }
     }
 
-    /// Does what a command asks for.
+    /// Does what a command asks for, as `Session::run` does.
+    ///
+    /// Nothing changes the pool between two commands: a command's first step is made on what the command before left, and a
+    /// crash, an import or a create takes the device as the last command left it.
     ///
     /// # Errors
-    /// `BadCommand` where it needs a device or an imported pool and there is none, or where a crash is given more letters
-    /// than there are unflushed writes. A refusal of the pool is an answer.
+    /// `BadCommand` if it needs a device or an imported pool and there is none, or if a crash is given more letters than there
+    /// are unflushed writes. A refusal of the pool is an answer.
     pub fn run(&mut self, command: Command) -> Result<Answer, BadCommand>
         ensures needs { IsOk result → IsTrue (has_what_it_needs command self.old.place) }
+        ensures answered { is_crash command ≡ false
+            → is_ok result ≡ has_what_it_needs command self.old.place }
+        ensures left { Leaves command self.old.place self.new.place }
         ensures done { Does command self.old result self.new }
-        ensures kept { KeepsRun command self.old result self.new }
+        ensures kept { KeepsRun command self.old.place result self.new.place }
         ensures same_run { IsSameRun self.old self.new }
     {
         match command {
@@ -67,18 +74,20 @@ impl<'r, W: Wait> SharedSession<'r, W> {
     // The device, which then is no longer the session's. A pool on it is closed.
     fn take_device(&mut self) -> Option<MemDevice>
         ensures device { IsTakenFrom self.old.place result }
+        ensures variant { is_some result ≡ has_device self.old.place }
         ensures taken { self.new.place ≡ Place.Nothing }
+        ensures unchanged { is_some result ≡ false → self.new.place ≡ self.old.place }
         ensures same_run { IsSameRun self.old self.new }
     {
         match mem::replace(&mut self.place, Place::Nothing) {
             Place::Nothing => None,
             Place::Device(device) => Some(device),
-            Place::Pool(shared) => shared.into_device(),
+            Place::Pool(shared) => Some(shared.into_device()),
         }
     }
 
     fn take_or_make_device(&mut self) -> Result<MemDevice, PoolError>
-        ensures needs { IsErr result → IsTakenFrom self.old.place None }
+        ensures needs { IsErr result → has_device self.old.place ≡ false }
         ensures refused { IfErr result (IsNewDeviceRefusal self.old.size) }
         ensures device { IfOk result (IsDeviceFor self.old) }
         ensures taken { self.new.place ≡ Place.Nothing }
@@ -91,9 +100,9 @@ impl<'r, W: Wait> SharedSession<'r, W> {
     }
 
     fn create(&mut self, name: &Bytes, guid: u64) -> Answer
+        ensures left { IsTrue (has_device self.old.place) → IsTrue (has_device self.new.place) }
+        ensures no_pool { has_pool self.new.place ≡ false }
         ensures creates { CreatesShared name.now guid self.old result self.new.place }
-        ensures kept { result ≡ Answer.Reply Reply.Done
-            → StartsRunOn name.now self.old self.new.place }
         ensures same_run { IsSameRun self.old self.new }
     {
         match self.take_or_make_device() {
@@ -105,10 +114,12 @@ impl<'r, W: Wait> SharedSession<'r, W> {
     }
 
     fn import(&mut self, dirty_max: u64) -> Result<Answer, BadCommand>
-        ensures needs { IsOk result → IsTrue (has_device self.old.place) }
+        ensures needs { is_ok result ≡ has_device self.old.place }
+        ensures left { has_device self.new.place ≡ has_device self.old.place }
         ensures imports { IfOk result (λ told. TakesDevice self.old.place
-            (λ device. ImportsShared dirty_max self.old.moment device told self.new.place)) }
-        ensures no_device { IsErr result → FindsNoDevice self.old.place self.new.place }
+            (λ device. ImportsShared dirty_max self.old.moment device told self.new.place
+            × KeepsOverImport dirty_max self.old.place self.new.place)) }
+        ensures unchanged { IsErr result → self.new.place ≡ self.old.place }
         ensures same_run { IsSameRun self.old self.new }
     {
         let Some(device) = self.take_device() else {
@@ -121,11 +132,12 @@ impl<'r, W: Wait> SharedSession<'r, W> {
         }
     }
 
-    // Shares an imported pool, and tells what it is. For want of memory the device goes on without a pool.
+    // Shares an imported pool, and tells what it is. If there is no memory for it the device goes on without a pool.
     fn share(&mut self, imported: Imported<MemDevice>, before: &Snapshot<MemDevice>) -> Answer
         requires { StartsBehind before.now.value.disk imported.mounted imported.device.disk }
-        ensures shares { SharesMounted before.now.value.disk imported.mounted self.old.moment
-            result self.new.place
+        ensures device { has_device self.new.place ≡ true }
+        ensures shares { SharesMounted before.now.value.disk imported.device.disk
+            imported.mounted self.old.moment result self.new.place
             ⊎ IsGivenBack imported.device result self.new.place }
         ensures same_run { IsSameRun self.old self.new }
     {
@@ -141,8 +153,9 @@ impl<'r, W: Wait> SharedSession<'r, W> {
 
     fn crash(&mut self, pieces: &[Piece]) -> Result<Answer, BadCommand>
         ensures needs { IsOk result → IsTrue (has_device self.old.place) }
+        ensures left { has_device self.new.place ≡ has_device self.old.place }
+        ensures no_pool { has_pool self.new.place ≡ false }
         ensures crashes { CrashesShared pieces.now self.old.place result self.new.place }
-        ensures kept { KeepsOverCrash pieces.now self.old.place result self.new.place }
         ensures same_run { IsSameRun self.old self.new }
     {
         let Some(device) = self.take_device() else {
@@ -153,6 +166,8 @@ impl<'r, W: Wait> SharedSession<'r, W> {
 
     fn fail(&mut self, fault: Fault, n: u64) -> Result<Answer, BadCommand>
         ensures needs { is_ok result ≡ has_device self.old.place }
+        ensures left { has_device self.new.place ≡ has_device self.old.place }
+        ensures no_other { has_pool self.new.place ≡ has_pool self.old.place }
         ensures fails { IfOk result (λ told.
             PlansFault LooksAt fault n self.old.place told self.new.place) }
         ensures unchanged { IsErr result → self.new.place ≡ self.old.place }
@@ -174,6 +189,7 @@ impl<'r, W: Wait> SharedSession<'r, W> {
 
     fn run_on_pool(&mut self, command: PoolCommand) -> Result<Answer, BadCommand>
         ensures needs { is_ok result ≡ has_pool self.old.place }
+        ensures left { has_pool self.new.place ≡ has_pool self.old.place }
         ensures asked { IfOk result (λ told.
             AsksIn (AsksShared W command self.old.moment) self.old.place told self.new.place) }
         ensures unchanged { IsErr result → self.new.place ≡ self.old.place }
@@ -195,7 +211,7 @@ impl<'r, W: Wait> SharedSession<'r, W> {
 }
 
 impl<'r, W: Wait> CommandRunner for SharedSession<'r, W> {
-    ghost use Rattle.shared_scripts.specs.Kept.{Runs};
+    ghost use Rattle.shared_scripts.specs.Sessions.{Runs};
 
     ghost runs = { Runs };
 
