@@ -10,4 +10,4 @@ returns-in-Ok-clause-kept g c = λ done. new_left c.args.name.now c.args.guid c.
 
 pub returns-in-Err-clause-creates : goal.returns-in-Err-clause-creates
 returns-in-Err-clause-creates g c = rw (c.give_back.ensures.refused, c.give_back.ensures.device)
-    (let left = c.in-Err.ensures in record { size = left.given_back; refused = left.refused; counted = left.counted; untouched = left.untouched })
+    (let left = c.in-Err.ensures in record { size = left.size; refused = left.refused; counted = left.counted; untouched = left.untouched })
