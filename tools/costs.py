@@ -28,7 +28,7 @@ import tempfile
 
 # Callgrind counts inside of the one function, and starts a part of its file at each call of the other, one for a line.
 STEP = "pool_core::state::PoolState::try_step*"
-LINE = "shared_scripts::session::SharedSession::run*"
+LINE = "scripts::session::Session+R+MemDevice+P::run*"
 
 COMMITS = 1000
 GROUP = 50

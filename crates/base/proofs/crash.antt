@@ -13,3 +13,4 @@ pub mod OwnDisks
 pub mod NewViews
 pub mod NewDisks
 pub mod MountLaws
+pub mod LeftDisks

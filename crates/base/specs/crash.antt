@@ -8,3 +8,4 @@ pub mod Spares
 pub mod PoolViews
 pub mod CallStages
 pub mod CrashRule
+pub mod LeftDisks

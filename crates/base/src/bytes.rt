@@ -1,4 +1,4 @@
-//! Bytes that operations and replies carry, in one allocation that is taken and given back whole.
+//! Bytes that operations and replies carry, in one allocation.
 
 use std::alloc::{AllocError, Global};
 use std::marker::Model;
@@ -42,14 +42,14 @@ impl Eq for Bytes {
 impl Bytes {
     ghost use Rattle.std.specs.Prelude.{◌≡◌, ◌↔◌, [], IsTrue, IfOk, length};
 
-    /// These bytes.
+    /// These bytes. It takes no memory.
     pub fn new(items: Vec<u8>) -> Self
         ensures { result ≡ items.items }
     {
         Bytes { items }
     }
 
-    /// A copy of these bytes.
+    /// A copy of these bytes. Refused if there is no memory for it.
     pub fn from_slice(alloc: Global, bytes: &[u8]) -> Result<Self, AllocError>
         ensures { IfOk result (λ copy. copy ≡ bytes.now) }
     {
@@ -58,13 +58,14 @@ impl Bytes {
         })
     }
 
-    /// The `Vec` that holds them.
+    /// The `Vec` that holds them. It takes no memory.
     pub fn into_vec(self) -> Vec<u8>
         ensures { result.items ≡ self }
     {
         self.items
     }
 
+    /// The bytes, in order.
     pub fn as_slice(&self) -> &[u8]
         ensures { result.now ≡ self.now }
     {
@@ -78,6 +79,7 @@ impl Bytes {
         self.items.len()
     }
 
+    /// Whether there are no bytes.
     pub fn is_empty(&self) -> bool
         ensures { IsTrue result ↔ (self.now ≡ []) }
     {

@@ -1,15 +1,15 @@
-//! What callers rest on: one function for each promise of this crate's calls, proved from the contract of the call alone. So it
-//! is refused as soon as that contract says less.
+//! What callers rest on: one function for each promise of this crate's calls, proved from the contract of the call
+//! alone. So it is refused as soon as that contract says less.
 
-ghost use Rattle.std.specs.Prelude.{◌≡◌, ◌∷◌, [], IfOk, IfSome, length, vec_len};
+ghost use Rattle.std.specs.Prelude.{◌≡◌, ◌∷◌, [], IfOk, IfSome, IsErrOf, codes, length, vec_len};
 ghost use Rattle.base.specs.declared.operation.Op.TheVariants as op;
 ghost use Rattle.base.specs.declared.operation.Shape.TheVariants as shape;
 
 use crate::bytes::Bytes;
 use crate::error::PoolError;
-use crate::fields::{
-    are_zeros, pointers_read_back, read_pointer, read_u64, write_bytes, write_pointer, write_u64,
-};
+use crate::field_laws::pointers_read_back;
+use crate::fields::{are_zeros, read_pointer, read_u64, write_bytes, write_pointer, write_u64};
+use crate::limits::{DEFAULT_DIRTY_MAX, GREATEST_DIRTY_MAX, LEAST_DIRTY_MAX};
 use crate::lists::{Ops, Plan};
 use crate::names::ObjectId;
 use crate::operation::{Op, Shape};
@@ -108,6 +108,12 @@ fn not_ready_has_number_20() -> u8
     PoolError::NotReady.number()
 }
 
+fn not_ready_is_named_so() -> &'static str
+    ensures { result.now ≡ codes "NotReady" }
+{
+    PoolError::NotReady.name()
+}
+
 fn want_of_memory_is_no_memory(error: AllocError) {
     let refusal = PoolError::from(error);
     prove!(refusal == PoolError::NoMemory);
@@ -116,6 +122,20 @@ fn want_of_memory_is_no_memory(error: AllocError) {
 fn a_value_that_is_handed_back_is_no_memory(failed: AllocFailed<u64>) {
     let refusal = PoolError::from(failed);
     prove!(refusal == PoolError::NoMemory);
+}
+
+// A call that gives back what it took, refused.
+fn taken(device: u64) -> Result<u64, (PoolError, u64)>
+    ensures { IsErrOf result (PoolError.NoPool, device) }
+{
+    Err((PoolError::NoPool, device))
+}
+
+fn a_refusal_beside_what_is_given_back_is_passed_on(device: u64) -> Result<u64, PoolError>
+    ensures { IsErrOf result PoolError.NoPool }
+{
+    let device = taken(device)?;
+    Ok(device)
 }
 
 fn a_refused_write_counts_as_a_write_alone() {
@@ -215,6 +235,16 @@ fn a_range_is_not_empty_and_ends_by_338688() {
     }
     .is_allowed();
     prove!(last && !empty && !past);
+}
+
+fn the_whole_of_an_object_is_an_allowed_range() {
+    let allowed = Range::WHOLE.is_allowed();
+    prove!(allowed);
+}
+
+fn the_default_limit_is_within_the_limits() {
+    prove!(LEAST_DIRTY_MAX <= DEFAULT_DIRTY_MAX);
+    prove!(DEFAULT_DIRTY_MAX <= GREATEST_DIRTY_MAX);
 }
 
 fn a_writer_is_no_reader() {

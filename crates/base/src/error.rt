@@ -1,82 +1,90 @@
 //! Why a call of a pool is refused: one enum for all crates, with its numbers and its texts.
 //!
-//! Each step has its tests in a fixed order, and the first that applies is its refusal (`specs/steps/Refusals`). Want of memory
-//! and what the device refuses come after them.
+//! Each step has its tests in a fixed order, and the first that applies is its refusal
+//! (`specs/steps/Refusals`). `NoMemory` and the refusals of the device come after them.
 
 use std::alloc::{AllocError, AllocFailed};
 use thiserror::Error;
 
-/// Why a call of the pool is refused. The text of each is its name; a damaged block adds its kind and byte address.
+/// Why a call of a pool is refused.
+///
+/// Its text is a sentence that says what happened, without a full stop. [`PoolError::name`] and
+/// [`PoolError::number`] are the short forms that the program prints.
 #[derive(Clone, Copy, Debug, PartialEq, Eq, Error)]
 pub enum PoolError {
-    /// There is no memory.
-    #[error("NoMemory")]
+    /// There is no memory for the call.
+    #[error("there is no memory for the call")]
     NoMemory,
     /// The device refused a read.
-    #[error("Read")]
+    #[error("the device refused a read")]
     Read,
     /// The device refused a write.
-    #[error("Write")]
+    #[error("the device refused a write")]
     Write,
     /// The device refused a flush.
-    #[error("Flush")]
+    #[error("the device refused a flush")]
     Flush,
-    /// A write or a flush was refused before, and the pool takes no step any more.
-    #[error("Suspended")]
+    /// A write or a flush of a sync was refused before. The pool takes no step any more; a new import does.
+    #[error("the pool is suspended: a write or a flush of a sync was refused before")]
     Suspended,
-    /// No label has a valid uberblock, or none a config that belongs to the active one.
-    #[error("NoPool")]
+    /// No label has a valid uberblock, or no label has a config for the active one.
+    #[error("the device holds no pool: no label has a valid uberblock with a config")]
     NoPool,
     /// A block is not what the pool's tree or log says of it.
-    #[error("Damaged {kind} {address}")]
-    Damaged { kind: u64, address: u64 },
-    /// The device's size is none that a pool may have.
-    #[error("BadGeometry")]
+    #[error("the block of kind {kind} at byte {address} is damaged")]
+    Damaged {
+        /// The kind of the block: 2 root, 3 directory, 4 indirect, 5 data, 6 log.
+        kind: u64,
+        /// Its byte address on the device.
+        address: u64,
+    },
+    /// The device has a size that no pool may have.
+    #[error("a pool can't have the size of this device")]
     BadGeometry,
     /// There is no such object.
-    #[error("NoObject")]
+    #[error("there is no such object")]
     NoObject,
-    /// The object is there already.
-    #[error("Exists")]
+    /// The object exists already.
+    #[error("the object exists already")]
     Exists,
-    /// A number, range, plan or name is outside its limits.
-    #[error("BadRange")]
+    /// A number, a range, a plan, a name or a limit is out of bounds.
+    #[error("a number, a range, a plan, a name or a limit is out of bounds")]
     BadRange,
     /// The operations are not those of the transaction's plan.
-    #[error("OutOfPlan")]
+    #[error("the operations are not those of the transaction's plan")]
     OutOfPlan,
     /// No lock of the owner covers the range.
-    #[error("NotLocked")]
+    #[error("no lock of the owner covers the range")]
     NotLocked,
-    /// The range overlaps one that is held.
-    #[error("Busy")]
+    /// The range overlaps a held lock, or one of an open transaction.
+    #[error("the range overlaps one that is locked")]
     Busy,
     /// An open transaction has a range in the lock.
-    #[error("LockInUse")]
+    #[error("an open transaction uses the lock")]
     LockInUse,
-    /// There are not enough blocks.
-    #[error("NoSpace")]
+    /// There are not enough free blocks.
+    #[error("there are not enough free blocks")]
     NoSpace,
-    /// The unsynced groups would be charged more than the pool's limit.
-    #[error("Throttled")]
+    /// The unsynced groups would be charged more bytes than the pool's limit.
+    #[error("too many bytes are not synced yet: sync a group first")]
     Throttled,
     /// The transaction's log record would be too long.
-    #[error("TooLarge")]
+    #[error("the transaction's log record would be too long")]
     TooLarge,
     /// No such transaction is open.
-    #[error("NoSuchTransaction")]
+    #[error("no such transaction is open")]
     NoSuchTransaction,
-    /// The transaction groups are not ready for this.
-    #[error("NotReady")]
+    /// The transaction groups are not ready for this step.
+    #[error("the transaction groups are not ready for this step")]
     NotReady,
-    /// No such lock is held, or another owner's.
-    #[error("NoSuchLock")]
+    /// No such lock is held, or another owner holds it.
+    #[error("the owner holds no such lock")]
     NoSuchLock,
-    /// There are as many locks or transactions as there may be, or the next number is past the last one.
-    #[error("TooMany")]
+    /// There are as many locks or transactions as there may be, or the next number is past its last.
+    #[error("there are as many locks or transactions as there may be, or no number is left")]
     TooMany,
-    /// There is no block for the log, or its next number is past the last one.
-    #[error("NoLogSpace")]
+    /// There is no block for the log, or its next number is past its last.
+    #[error("there is no block for the log, or no log number is left")]
     NoLogSpace,
 }
 
@@ -102,9 +110,21 @@ impl<T: Drop> From<AllocFailed<T>> for PoolError {
     }
 }
 
+impl<D: Drop> From<(PoolError, D)> for PoolError {
+    ghost use Rattle.std.specs.Prelude.{◌≡◌};
+
+    ghost from_gives = { λ given e. e ≡ given.0 };
+
+    /// The refusal of a call that gives back what it took, such as a device. So `?` works on it.
+    fn from(given: (PoolError, D)) -> PoolError {
+        let (error, _given_back) = given;
+        error
+    }
+}
+
 impl PoolError {
     ghost use Rattle.std.specs.Prelude.{◌≡◌};
-    ghost use Rattle.base.specs.formats.Errors.{number_of_error};
+    ghost use Rattle.base.specs.formats.Errors.{name_of_error, number_of_error};
 
     /// The refusal's number, from 1 to 23.
     pub fn number(&self) -> u8
@@ -134,6 +154,37 @@ impl PoolError {
             PoolError::NoSuchLock => 21,
             PoolError::TooMany => 22,
             PoolError::NoLogSpace => 23,
+        }
+    }
+
+    /// The refusal's name: that of its variant, in one word.
+    pub fn name(&self) -> &'static str
+        ensures { result.now ≡ name_of_error self.now }
+    {
+        match self {
+            PoolError::NoMemory => "NoMemory",
+            PoolError::Read => "Read",
+            PoolError::Write => "Write",
+            PoolError::Flush => "Flush",
+            PoolError::Suspended => "Suspended",
+            PoolError::NoPool => "NoPool",
+            PoolError::Damaged { .. } => "Damaged",
+            PoolError::BadGeometry => "BadGeometry",
+            PoolError::NoObject => "NoObject",
+            PoolError::Exists => "Exists",
+            PoolError::BadRange => "BadRange",
+            PoolError::OutOfPlan => "OutOfPlan",
+            PoolError::NotLocked => "NotLocked",
+            PoolError::Busy => "Busy",
+            PoolError::LockInUse => "LockInUse",
+            PoolError::NoSpace => "NoSpace",
+            PoolError::Throttled => "Throttled",
+            PoolError::TooLarge => "TooLarge",
+            PoolError::NoSuchTransaction => "NoSuchTransaction",
+            PoolError::NotReady => "NotReady",
+            PoolError::NoSuchLock => "NoSuchLock",
+            PoolError::TooMany => "TooMany",
+            PoolError::NoLogSpace => "NoLogSpace",
         }
     }
 }

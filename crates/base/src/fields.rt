@@ -1,9 +1,10 @@
-//! Little-endian fields of a block, a slot or a payload (On-Disk Specification, chapter 2, in this project's one byte order).
+//! Little-endian fields of a block, a slot or a payload (On-Disk Specification, chapter 2, in this project's one byte
+//! order).
 
 ghost use Rattle.std.specs.Prelude.{◌≡◌, ◌+◌, ◌≤◌, ◌↔◌, IsTrue, length, replicate};
 ghost use Rattle.base.specs.disk.Disk.{put};
-ghost use Rattle.base.specs.formats.FieldLaws.{FieldsReadBack, FieldsStay, PointersReadBack};
 ghost use Rattle.base.specs.formats.Fields.{number_at, number_bytes, pointer_at, pointer_bytes, part};
+ghost use Rattle.base.specs.formats.Limits.{pointer_size};
 
 use crate::pointer::Pointer;
 use byteorder::{ByteOrder, LittleEndian};
@@ -45,11 +46,11 @@ pub fn write_bytes(bytes: &mut [u8], at: usize, content: &[u8])
 
 /// The pointer of 48 bytes at a place.
 pub fn read_pointer(bytes: &[u8], at: usize) -> Pointer
-    requires { at + 48 ≤ length bytes.now }
+    requires { at + pointer_size ≤ length bytes.now }
     ensures { result ≡ pointer_at bytes.now at }
 {
     let mut check = [0; 32];
-    check.copy_from_slice(&bytes[at + 16..at + 48]);
+    check.copy_from_slice(&bytes[at + 16..at + POINTER_SIZE]);
     Pointer {
         address: read_u64(bytes, at),
         birth: read_u64(bytes, at + 8),
@@ -59,25 +60,10 @@ pub fn read_pointer(bytes: &[u8], at: usize) -> Pointer
 
 /// Writes a pointer's 48 bytes at a place.
 pub fn write_pointer(bytes: &mut [u8], at: usize, pointer: &Pointer)
-    requires { at + 48 ≤ length bytes.old }
+    requires { at + pointer_size ≤ length bytes.old }
     ensures { bytes.new ≡ put at (pointer_bytes pointer.now) bytes.old }
 {
     write_u64(bytes, at, pointer.address);
     write_u64(bytes, at + 8, pointer.birth);
     write_bytes(bytes, at + 16, &pointer.check);
 }
-
-/// A number that is written reads back.
-pub fn fields_read_back()
-    ensures { FieldsReadBack }
-{}
-
-/// A pointer that is written reads back.
-pub fn pointers_read_back()
-    ensures { PointersReadBack }
-{}
-
-/// A number stays as it is where something else is written.
-pub fn fields_stay()
-    ensures { FieldsStay }
-{}

@@ -2,22 +2,25 @@
 
 use crate::version::Version;
 
-/// The version by whose rules all is written.
+/// The version whose rules each write follows.
 pub const WRITTEN_VERSION: Version = Version::One;
 
-/// Objects have the numbers below this one. As a lock's number it stands for the pool's name.
+/// Objects have the numbers below this one. As the object of a lock it stands for the pool's name.
 pub const OBJECT_COUNT: u32 = 5292;
 
-/// The greatest length of an object in bytes, and the top of each range.
+/// The greatest length of an object in bytes, and the greatest end of a range.
 pub const MAX_LENGTH: u64 = 338_688;
 
-/// The bytes of a block.
+/// The bytes of a sector, the unit of each read and write of a device.
+pub const SECTOR_SIZE: u64 = 512;
+
+/// The bytes of a block: its header of 64, and 4,032 of payload.
 pub const BLOCK_SIZE: usize = 4096;
 
 /// The bytes of an object that one data block holds.
 pub const RECORD_SIZE: usize = 4032;
 
-/// The records of an object, the directories of a root: the pointers of a block of pointers.
+/// The pointers of a block of pointers: to the records of an object, or to the directories of a root.
 pub const POINTER_COUNT: usize = 84;
 
 /// The objects of a directory.
@@ -26,25 +29,29 @@ pub const ENTRY_COUNT: usize = 63;
 /// The bytes of a directory's entry.
 pub const ENTRY_SIZE: usize = 64;
 
-/// The greatest group, ordinal, import number, log number, transaction name and lock name.
+/// The greatest number of a group, an ordinal, an import, a log block, a transaction and a lock.
 pub const LAST_NUMBER: u64 = 1 << 60;
 
-/// The group of a pool as it is created.
+/// The synced group of a pool that was just created.
 pub const FIRST_GROUP: u64 = 4;
 
 /// The most bytes of the log record of one transaction.
 pub const MAX_LOG_RECORD: u64 = 4008;
 
-/// The most locks that are held.
+/// The most locks that may be held.
 pub const MAX_LOCKS: usize = 256;
 
-/// The most transactions that are open.
+/// The most transactions that may be open.
 pub const MAX_TRANSACTIONS: usize = 64;
 
-/// The blocks that are kept back for plans that shrink and for syncs.
+/// The blocks that are reserved for syncs, and for plans that free blocks.
 pub const KEPT_BACK: u64 = 16;
 
-/// The limits of what may be dirty, in bytes.
+/// The least limit of a pool's unsynced bytes that an import accepts.
 pub const LEAST_DIRTY_MAX: u64 = 4096;
 
+/// The greatest limit of a pool's unsynced bytes that an import accepts.
 pub const GREATEST_DIRTY_MAX: u64 = 1_099_511_627_776;
+
+/// A limit of a pool's unsynced bytes that suits most uses.
+pub const DEFAULT_DIRTY_MAX: u64 = 1_048_576;

@@ -1,10 +1,10 @@
-//! What a transaction means to do and what it does, as lists in one allocation: `Plan` of shapes, `Ops` of operations.
+//! What a transaction may do and what it does, each a list in one allocation: `Plan` of shapes, `Ops` of operations.
 
 use crate::operation::{Op, Shape};
 use std::alloc::{AllocError, Global};
 use std::marker::Model;
 
-/// What a transaction means to do: the shapes of its operations, in order. Contracts see it as a list.
+/// What a transaction may do: the shapes of its operations, in order. Contracts see it as a list.
 ///
 /// It is made from a `Vec` and gives it back without taking memory.
 #[derive(Debug, Drop)]
@@ -53,7 +53,7 @@ impl Plan {
         Plan { items }
     }
 
-    /// The plan of these operations: their shapes, in order.
+    /// The plan of these operations: their shapes, in order. Refused if there is no memory for it.
     pub fn of(alloc: Global, ops: &Ops) -> Result<Self, AllocError>
         ensures { IfOk result (λ plan. plan ≡ map shape_of ops.now) }
     {
@@ -61,7 +61,7 @@ impl Plan {
         Ok(Plan { items })
     }
 
-    /// A copy of it.
+    /// A copy of it. Refused if there is no memory for it.
     pub fn try_clone(&self, alloc: Global) -> Result<Self, AllocError>
         ensures { IfOk result (λ copy. copy ≡ self.now) }
     {
@@ -77,6 +77,7 @@ impl Plan {
         self.items
     }
 
+    /// The shapes, in order.
     pub fn as_slice(&self) -> &[Shape]
         ensures { result.now ≡ self.now }
     {
@@ -139,6 +140,7 @@ impl Ops {
         self.items
     }
 
+    /// The operations, in order.
     pub fn as_slice(&self) -> &[Op]
         ensures { result.now ≡ self.now }
     {

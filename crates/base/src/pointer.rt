@@ -1,4 +1,5 @@
-//! Pointers to blocks (On-Disk Specification, chapter 2): where a block lies, when it was born, and the check of its bytes.
+//! Pointers to blocks (On-Disk Specification, chapter 2): where a block lies, when it was born, and the check of its
+//! bytes.
 
 /// The place, birth group and check of a block (On-Disk Specification, chapter 2). All zeros: none.
 #[derive(Clone, Copy, Debug, PartialEq, Eq)]

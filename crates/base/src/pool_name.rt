@@ -13,19 +13,20 @@ pub const MAX_NAME: usize = 64;
 /// Contracts see it as a list of bytes.
 #[derive(Clone, Debug, Drop)]
 pub struct PoolName {
-    bytes: [u8; 64],
+    bytes: [u8; MAX_NAME],
     length: usize,
 }
 
 impl Model for PoolName {
     ghost use Rattle.std.specs.Prelude.{List, ℕ, take, ◌≤◌};
+    ghost use Rattle.base.specs.formats.Limits.{max_name};
     ghost use Rattle.base.specs.formats.Names.{IsName};
 
     ghost Value = { List ℕ };
 
     ghost view = { λ n. take n.length n.bytes };
 
-    ghost invariant = { λ n. (n.length ≤ 64) × IsName (take n.length n.bytes) };
+    ghost invariant = { λ n. (n.length ≤ max_name) × IsName (take n.length n.bytes) };
 }
 
 impl PartialEq for PoolName {
@@ -50,9 +51,10 @@ impl Eq for PoolName {
 
 impl PoolName {
     ghost use Rattle.std.specs.Prelude.{◌≡◌, ◌≤◌, length, IfSome, IfNone, false};
+    ghost use Rattle.base.specs.formats.Limits.{max_name};
     ghost use Rattle.base.specs.formats.Names.{IsName, is_name};
 
-    /// The name of these bytes, or None where they are no name.
+    /// The name of these bytes, or None if they are no name.
     pub fn new(bytes: &[u8]) -> Option<Self>
         ensures name { IfSome result (λ name. (name ≡ bytes.now) × IsName bytes.now) }
         ensures no_name { IfNone result (is_name bytes.now ≡ false) }
@@ -68,7 +70,7 @@ impl PoolName {
         })
     }
 
-    /// The same name once more. It takes no memory, so it can't be refused as a clone can.
+    /// A copy of the name. It takes no memory.
     pub fn copy(&self) -> Self
         ensures { result ≡ self.now }
     {
@@ -78,16 +80,17 @@ impl PoolName {
         }
     }
 
+    /// The bytes of the name.
     pub fn as_slice(&self) -> &[u8]
         ensures bytes { result.now ≡ self.now }
         ensures name { IsName self.now }
-        ensures length { length self.now ≤ 64 }
+        ensures length { length self.now ≤ max_name }
     {
         &self.bytes[..self.length]
     }
 }
 
-/// Whether these bytes are a pool's name.
+/// Whether these bytes are a name that a pool may have.
 pub fn is_name(bytes: &[u8]) -> bool
     ensures { result ≡ names.is_name bytes.now }
 {

@@ -1,4 +1,5 @@
-//! What a sync does with a record of an object (`dbuf_dirty` and `dnode_free_range` of OpenZFS make the same difference).
+//! What a sync does with a record of an object (`dbuf_dirty` and `dnode_free_range` of OpenZFS make the same
+//! difference).
 
 /// What a sync does with a record of an object.
 #[derive(Clone, Copy, Debug, PartialEq, Eq)]

@@ -8,8 +8,11 @@ use crate::error::PoolError;
 /// How many calls of each kind a device has refused. Each count stops at 2^64 - 1.
 #[derive(Clone, Copy, Debug, PartialEq, Eq)]
 pub struct RefusedCalls {
+    /// The refused reads.
     pub reads: u64,
+    /// The refused writes.
     pub writes: u64,
+    /// The refused flushes.
     pub flushes: u64,
 }
 

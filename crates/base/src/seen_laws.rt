@@ -1,4 +1,5 @@
-//! What a reply says to a thread, by the states that it has seen before and after: each function's contract is a law, and its body does nothing.
+//! What a reply says to a thread, by the states that it has seen before and after: each function's contract is a law,
+//! and its body does nothing.
 
 ghost use Rattle.base.specs.steps.SeenLaws.{ContentsAreBetween, CommitsAreSeen, BeginsAreSeen, LocksAreSeen, UnlocksAreSeen, ReadsAreSeen, DurableIsKnown, GroupsGoUp, PoolSyncsSync, RefusalsAreSeen, RefusalsSuspend, SuspensionsAreSeen};
 
@@ -7,27 +8,27 @@ pub fn contents_are_between()
     ensures { ContentsAreBetween }
 {}
 
-/// A commit that is answered a receipt is a new entry at its ordinal.
+/// A commit that returns a receipt is a new entry at its ordinal.
 pub fn commits_are_seen()
     ensures { CommitsAreSeen }
 {}
 
-/// A begin that is answered a name is a new admission of that name.
+/// A begin that returns a name is a new admission of that name.
 pub fn begins_are_seen()
     ensures { BeginsAreSeen }
 {}
 
-/// A lock that is answered a name is a new grant of that name.
+/// A lock that returns a name is a new grant of that name.
 pub fn locks_are_seen()
     ensures { LocksAreSeen }
 {}
 
-/// An unlock that is answered lets go a lock of its caller's that was held.
+/// An unlock that isn't refused releases a held lock of its caller.
 pub fn unlocks_are_seen()
     ensures { UnlocksAreSeen }
 {}
 
-/// The bytes that a read is answered are those of contents between.
+/// The bytes that a read returns are those of contents between.
 pub fn reads_are_seen()
     ensures { ReadsAreSeen }
 {}

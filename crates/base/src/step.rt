@@ -1,18 +1,20 @@
-//! The events of a pool, and what each answers.
+//! The steps of a pool, and what each returns.
 //!
-//! A run of a pool is a list of these steps, made one at a time. What a step does, and the first of its tests that refuses it,
-//! stands in `specs/steps` (`Refusals`, `Steps`, and `Stage` where less is built); `Runs` says it of these two enums.
+//! A run of a pool is a list of these steps, made one at a time. `specs/steps` defines what a step does (`Steps`, and
+//! `Stage` if less is built) and the first of its tests that refuses it (`Refusals`); `Runs` applies both to these
+//! two enums.
 //!
 //! - Locks (`zfs_rlock.c`): `Lock`, `LockAppend` from the end of an object on, `Unlock`.
-//! - Transactions (`dmu_tx.c`): `Begin` with a plan whose ranges lie in writer locks of the owner, `Commit` with operations of
-//!   just these shapes, `Abort` which gives it up, `Read` under a lock of the owner.
-//! - What the current contents are: the `Length` of an object, the pool's `Name`, and the `Digest` of them all. `Status` tells of
-//!   the groups, and of what is charged and free.
-//! - Groups (`txg.c`): `CloseGroup` opens the next group, `MarkQuiesced` says that no transaction of the closed one is open,
-//!   `StartSync` plans what is written of it, and each `SyncStep` makes one device call, of which the last answers `Synced`.
+//! - Transactions (`dmu_tx.c`): `Begin` with a plan whose ranges lie in writer locks of the owner, `Commit` with
+//!   operations of just these shapes, `Abort` which gives it up, `Read` under a lock of the owner.
+//! - Current contents: the `Length` of an object, the pool's `Name`, and the `Digest` of everything. `Status` has the
+//!   groups, and what is charged and free.
+//! - Groups (`txg.c`): `CloseGroup` opens the next group. `MarkQuiesced` is refused while a transaction of the closed
+//!   group is open. `StartSync` plans what is written of it. Each `SyncStep` makes one device call, and the last
+//!   returns `Synced`.
 //!
-//! A refused step changes nothing, with one exception: where the device refuses a `SyncStep` its write or its flush the pool is
-//! suspended, and it refuses each step but `Name` and `Status` from then on.
+//! A refused step changes nothing, with one exception: if the device refuses the write or the flush of a `SyncStep`,
+//! the pool is suspended. It then refuses each step except `Name` and `Status`.
 
 use crate::bytes::Bytes;
 use crate::error::PoolError;
@@ -22,60 +24,69 @@ use crate::pool_name::PoolName;
 use crate::range::{Mode, Range};
 use crate::status::Status;
 
-/// One event of a pool.
+/// One step of a pool.
 #[derive(Debug, PartialEq, Eq, Drop)]
 pub enum Step {
     /// Locks a range of an object, or of the pool's name.
     Lock(Owner, ObjectId, Range, Mode),
     /// Locks an object as a writer, from its end to the greatest length.
     LockAppend(Owner, ObjectId),
-    /// Lets a lock go.
+    /// Releases a lock.
     Unlock(Owner, LockId),
     /// Opens a transaction that keeps to this plan.
     Begin(Owner, Plan),
     /// Commits a transaction with these operations.
     Commit(TxId, Ops),
-    /// Gives a transaction up.
+    /// Closes a transaction without a change.
     Abort(TxId),
-    /// Reads the bytes of a range that lie below an object's length.
+    /// Reads the bytes of a range, up to the object's length.
     Read(Owner, ObjectId, Range),
-    /// Tells an object's length.
+    /// Returns an object's length.
     Length(ObjectId),
-    /// Tells the digest of the contents.
+    /// Returns the digest of the contents.
     Digest,
-    /// Tells the pool's name, also of a suspended pool.
+    /// Returns the pool's name, also of a suspended pool.
     Name,
-    /// Tells the pool's groups and sums, also of a suspended pool.
+    /// Returns the pool's groups, and what is charged and free, also of a suspended pool.
     Status,
     /// Closes the open group.
     CloseGroup,
     /// Marks the closed group as quiesced.
     MarkQuiesced,
-    /// Starts the sync of the quiesced group, with the moment that its uberblocks carry.
+    /// Starts the sync of the quiesced group. Its uberblocks carry this moment, in seconds.
     StartSync(u64),
     /// Makes one device call of the running sync.
     SyncStep,
 }
 
-/// What a step answers.
+/// What a step returns.
 #[derive(Debug, PartialEq, Eq, Drop)]
 pub enum Reply {
+    /// Refused, for this reason.
     Refused(PoolError),
-    /// Done, with nothing to tell.
+    /// Done; there is nothing to return.
     Done,
+    /// The lock's name.
     Locked(LockId),
     /// The lock's name, and its range.
     Appended(LockId, Range),
-    /// The transaction's name, and the group that it is of.
+    /// The transaction's name, and its group.
     Began(TxId, Group),
+    /// The place of the transaction in the history, and its group.
     Committed(Receipt),
+    /// The bytes that were read.
     Bytes(Bytes),
+    /// The object's length in bytes.
     Length(u64),
+    /// The digest of the contents, a SHA-256.
     Digest([u8; 32]),
+    /// The pool's name.
     Name(PoolName),
+    /// The pool's groups, and what is charged and free.
     Status(Status),
     /// The group that is open now.
     Opened(Group),
+    /// The group that is quiesced now.
     Quiesced(Group),
     /// The group whose sync was started.
     Syncing(Group),

@@ -8,8 +8,8 @@ ghost use Rattle.base.specs.steps.Readers.{ReadersAreKept};
 ghost use Rattle.base.specs.stored.HeldMounts.{MountsAgree, HeldMounts, IdleMounts, StepsWriteNoLog};
 ghost use Rattle.base.specs.steps.SyncEnds.{SuspendedPoolsRefuse, SuspendedPoolsStay, SyncsEndOnTime};
 
-/// Each step keeps what is shown of a pool exact, with what is charged and reserved and free blocks enough for it, and its entries
-/// a history that leads to its contents.
+/// Each step keeps what is shown of a pool exact, with what is charged and reserved and free blocks enough for it,
+/// and its entries a history that leads to its contents.
 pub fn steps_keep_tables()
     ensures { StepsKeepTables }
 {}
@@ -19,7 +19,7 @@ pub fn runs_keep_tables()
     ensures { RunsKeepTables }
 {}
 
-/// And so do the steps of the log: a write, answered or refused, and a flush.
+/// And so do the steps of the log: a write, made or refused, and a flush.
 pub fn log_steps_keep_tables()
     ensures { LogStepsKeepTables }
 {}
@@ -29,7 +29,7 @@ pub fn new_pools_are_explained()
     ensures { NewPoolsAreExplained }
 {}
 
-/// A started sync answers that its group is synced at the last of its steps and at no other, unless one is refused.
+/// The last step of a started sync, and no other, returns that its group is synced, unless a step is refused.
 pub fn syncs_end_on_time()
     ensures { SyncsEndOnTime }
 {}
@@ -39,13 +39,13 @@ pub fn suspended_pools_stay()
     ensures { SuspendedPoolsStay }
 {}
 
-/// It refuses each step that is built but those of its name and its status; durable, which is never refused either, is not
-/// among them yet.
+/// It refuses each step that is built but those of its name and its status; durable, which is never refused either,
+/// is not among them yet.
 pub fn suspended_pools_refuse()
     ensures { SuspendedPoolsRefuse }
 {}
 
-/// The past after a step is told by the step, its reply and the state before it, over whichever device.
+/// The step, its reply and the state before it determine the past after the step, over any device.
 pub fn pasts_are_told()
     ensures { PastsAreTold }
 {}
@@ -60,8 +60,8 @@ pub fn mounts_agree()
     ensures { MountsAgree }
 {}
 
-/// Between two steps the device of a pool, where no block is a log block, mounts the synced group; or, once a running sync has
-/// written an uberblock, the group of the sync.
+/// Between two steps the device of a pool, if no block is a log block, mounts the synced group; or, once a running
+/// sync has written an uberblock, the group of the sync.
 pub fn held_pools_mount()
     ensures { HeldMounts }
 {}
@@ -76,25 +76,25 @@ pub fn steps_write_no_log()
     ensures { StepsWriteNoLog }
 {}
 
-/// A lock is refused as busy exactly where granting it would leave the held locks unsound (`zfs_rlock.c`).
+/// A lock is refused as busy exactly if granting it would leave the held locks unsound (`zfs_rlock.c`).
 pub fn busy_is_unsound()
     ensures { BusyIsUnsound }
 {}
 
-/// No step changes the bytes under a lock that a reader held before it: those of an object's range, or of the pool's name.
-/// So a reader sees one state in all of its reads until it unlocks (`zfs_rlock.c`).
+/// No step changes the bytes under a lock that a reader held before it: those of an object's range, or of the pool's
+/// name. So a reader sees one state in all of its reads until it unlocks (`zfs_rlock.c`).
 pub fn readers_are_kept()
     ensures { ReadersAreKept }
 {}
 
-/// An import of a disk that its pool alone wrote mounts the same at each of its moments since the first good flush: each
-/// fair image that a crash then leaves mounts the contents that the disk mounted before.
+/// An import of a disk that its pool alone wrote mounts the same at each of its moments since the first good flush:
+/// each fair image that a crash then leaves mounts the contents that the disk mounted before.
 pub fn steady_imports_mount()
     ensures { SteadyImportsMount }
 {}
 
-/// A disk that its pool alone wrote, as a create or an import leaves it, mounts the pool's contents. So does each fair image
-/// that a crash leaves of it.
+/// A disk that its pool alone wrote, as a create or an import leaves it, mounts the pool's contents. So does each
+/// fair image that a crash leaves of it.
 pub fn own_disks_mount()
     ensures { OwnDisksMount }
 {}

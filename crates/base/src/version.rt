@@ -1,4 +1,5 @@
-//! The versions of the format, by whose rules the blocks of a pool are read and written. An uberblock names that of its tree.
+//! The versions of the format, by whose rules the blocks of a pool are read and written. An uberblock names that of
+//! its tree.
 
 ghost use Rattle.std.specs.Prelude.{◌≡◌, IfNone, IfSome, false, true};
 ghost use Rattle.base.specs.formats.Versions.{is_version_known, number_of_version};
@@ -6,6 +7,7 @@ ghost use Rattle.base.specs.formats.Versions.{is_version_known, number_of_versio
 /// A version of the format.
 #[derive(Clone, Copy, Debug, PartialEq, Eq)]
 pub enum Version {
+    /// The first version.
     One,
 }
 
@@ -20,7 +22,7 @@ impl Version {
         }
     }
 
-    /// The version with this number. None where no version has it.
+    /// The version with this number, or None if no version has it.
     pub fn from_number(number: u64) -> Option<Version>
         ensures known { IfSome result (λ version. number_of_version version ≡ number) }
         ensures unknown { IfNone result (is_version_known number ≡ false) }

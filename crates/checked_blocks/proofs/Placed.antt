@@ -1,4 +1,4 @@
--- Fields of a block, as they are put one behind the other.
+-- Fields of a block, as they are put one after the other.
 use Rattle.std.proofs.Common.{◌≡◌, ℕ, ◌+◌, ◌^◌, ◌<◌, ◌≤◌, List, [], ◌++◌, length, take, drop, replicate, get_or, refl, sym, ◌∙◌, ap, append_assoc, arith, ◌⊎◌, inl, inr}
 use Rattle.std.proofs.lemmas.List.{take_at, drop_at, length-append, length-replicate, replicate-append-replicate, get_or_past}
 use Rattle.std.proofs.lemmas.List.Elements.{All-get_or, All-take, All-drop}
@@ -20,7 +20,7 @@ put-between place content before old after long same =
     ∙ ap (λ (l : List ℕ). before ++ (content ++ l))
     (ap (λ (l : List ℕ). drop (place + length content) l) (sym (append_assoc before old after)) ∙ drop_at (before ++ old) after (place + length content) joined)
 
--- the number between what lies before it and behind it
+-- the number between what lies before it and after it
 pub number_at-between : (at n : ℕ) (before after : List ℕ) → length before ≡ at → n < 2 ^ 64 → number_at (before ++ (number_bytes n ++ after)) at ≡ n
 unfolding number_at
 number_at-between at n before after long small =
@@ -44,7 +44,7 @@ number_bytes-number_at bytes at fits each =
     (byte-read (part bytes at 8) (All-take (λ b. b < 256) 8 (drop at bytes) (All-drop (λ b. b < 256) at bytes each)))
     refl
 
--- four fields, one behind the other
+-- four fields, one after the other
 pub put-head : (a b c d z first second third fourth : List ℕ) → length a ≡ 8 → length b ≡ 8 → length c ≡ 8 → length d ≡ 8 → 32 ≤ length z
     → first ≡ put 0 a z → second ≡ put 8 b first → third ≡ put 16 c second → fourth ≡ put 24 d third → fourth ≡ put 0 (a ++ b ++ c ++ d) z
 put-head a b c d z first second third fourth la lb lc ld fits e1 e2 e3 e4 =

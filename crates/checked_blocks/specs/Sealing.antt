@@ -1,15 +1,12 @@
 -- What is sealed into a block.
 use Rattle.std.specs.Prelude.{ℕ, ◌≤◌, ◌-◌, List, ◌++◌, take, drop, replicate, length}
-
--- so many bytes behind the fields and the check
-abbrev pub payload_size : ℕ
-payload_size = 4032
+use Rattle.base.specs.formats.Limits.{payload_size}
 
 -- the kinds that a block may have
 abbrev pub IsKind : ℕ → Type 0
 IsKind kind = (1 ≤ kind) × (kind ≤ 6)
 
--- a payload, with zeros behind it
+-- a payload, with zeros after it
 abbrev pub padded : List ℕ → List ℕ
 padded payload = payload ++ replicate (payload_size - length payload) 0
 

@@ -7,14 +7,19 @@
 ghost use Rattle.std.specs.Prelude.{◌≡◌, ◌<◌, ◌≤◌, ◌^◌, ◌↔◌, IsOk, IfOk, IfErr, length};
 ghost use Rattle.base.specs.formats.Blocks.{IsBlock, block_head_bytes, sealed_block};
 ghost use Rattle.base.specs.disk.Disk.{put};
+ghost use Rattle.base.specs.formats.Geometry.{block_size};
+ghost use Rattle.base.specs.formats.Limits.{payload_size};
 ghost use Rattle.checked_blocks.specs.Sealing.{IsKind, padded, zeros};
 
 use base::{BLOCK_SIZE, Group, PoolError, write_bytes, write_u64};
 use sha2::{Digest, Sha256};
 use std::marker::Model;
 
-/// The bytes of a block's payload, which lies behind its 64 bytes of fields and check.
-pub const PAYLOAD_SIZE: usize = 4032;
+/// The bytes of a block's fields and check, which stand before its payload.
+pub const HEAD_SIZE: usize = 64;
+
+/// The bytes of a block's payload.
+pub const PAYLOAD_SIZE: usize = BLOCK_SIZE - HEAD_SIZE;
 
 /// A sealed block: its check field is the SHA-256 digest (FIPS 180-4) of the block with zeros there.
 /// Contracts see it as a list of 4,096 bytes.
@@ -44,7 +49,7 @@ impl Block {
     /// The 4,096 bytes, as they are written to a device.
     pub fn as_bytes(&self) -> &[u8; BLOCK_SIZE]
         ensures bytes { result.now ≡ self.now }
-        ensures length { length self.now ≡ 4096 }
+        ensures length { length self.now ≡ block_size }
         ensures sealed { IsSealed self.now }
     {
         &self.bytes
@@ -63,7 +68,7 @@ impl Block {
 /// A block of this kind, pool, group and number. A payload of less than 4,032 bytes is filled with zeros.
 ///
 /// # Errors
-/// `BadRange` exactly where the kind is none of 1 to 6 or the payload has more than 4,032 bytes.
+/// `BadRange` exactly if the kind is none of 1 to 6 or the payload has more than 4,032 bytes.
 pub fn seal(
     kind: u64,
     guid: u64,
@@ -75,7 +80,7 @@ pub fn seal(
         (λ block. block ≡ sealed_block kind guid group.0 number (padded payload.now)) }
     ensures block { IfOk result
         (λ block. IsBlock block kind guid group.0 number (padded payload.now)) }
-    ensures ok { IsOk result ↔ (IsKind kind × (length payload.now ≤ 4032)) }
+    ensures ok { IsOk result ↔ (IsKind kind × (length payload.now ≤ payload_size)) }
     ensures refused { IfErr result (λ e. e ≡ PoolError.BadRange) }
 {
     if !(1..=6).contains(&kind) || payload.len() > PAYLOAD_SIZE {
@@ -83,14 +88,14 @@ pub fn seal(
     }
     let mut bytes = zero_block();
     write_head(&mut bytes, kind, guid, group.0, number);
-    write_bytes(&mut bytes, 64, payload);
+    write_bytes(&mut bytes, HEAD_SIZE, payload);
     let check = Sha256::digest(&bytes[..]);
     write_bytes(&mut bytes, 32, &check);
     Ok(Block { bytes })
 }
 
 fn zero_block() -> [u8; BLOCK_SIZE]
-    ensures { result ≡ zeros 4096 }
+    ensures { result ≡ zeros block_size }
 {
     [0; BLOCK_SIZE]
 }

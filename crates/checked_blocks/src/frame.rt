@@ -1,16 +1,16 @@
 //! What each reader of a pool's blocks knows: whose they are, where they may lie, and which births they may have.
 //!
-//! The block area begins behind two labels and the boot area (On-Disk Specification, chapter 1). No block is born behind
+//! The block area begins after two labels and the boot area (On-Disk Specification, chapter 1). No block is born after
 //! the group of the uberblock that leads to it (chapter 2).
 
 use base::{BLOCK_SIZE, Group, Version};
 use std::marker::Model;
 
-/// The byte place of block 0, behind two labels and the boot area (On-Disk Specification, chapter 1).
+/// The byte place of block 0, after two labels and the boot area (On-Disk Specification, chapter 1).
 pub const BLOCK_AREA: u64 = 4_194_304;
 
-/// What a reader of blocks knows of the pool: the version by whose rules its tree is read, its guid, the number of blocks of its
-/// area, and the group that no birth may pass. Contracts see it as the record of these four numbers.
+/// What a reader of blocks knows of the pool: the version by whose rules its tree is read, its guid, the number of
+/// blocks of its area, and the group that no birth may pass. Contracts see it as the record of these four numbers.
 #[derive(Clone, Copy, Debug, PartialEq, Eq)]
 pub struct Frame {
     version: Version,

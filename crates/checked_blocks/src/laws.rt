@@ -2,7 +2,7 @@
 
 ghost use Rattle.checked_blocks.specs.Laws.{OpenedBlocksAreSealed, SealedBlocksOpen};
 
-/// A block that is sealed opens where its own fields are expected, and gives its group and payload back.
+/// A block that is sealed opens if its own fields are expected, and gives its group and payload back.
 pub fn sealed_blocks_open()
     ensures { SealedBlocksOpen }
 {}

@@ -1,4 +1,5 @@
-//! Blocks of 4,096 bytes with a check over the whole block: each is sealed before it is written, and opened after it is read.
+//! Blocks of 4,096 bytes with a check over the whole block: each is sealed before it is written, and opened after it is
+//! read.
 #![tactic(auto)]
 
 mod block;
@@ -9,7 +10,7 @@ mod kind;
 mod laws;
 mod payload;
 
-pub use block::{Block, PAYLOAD_SIZE, seal};
+pub use block::{Block, HEAD_SIZE, PAYLOAD_SIZE, seal};
 pub use expected::Expected;
 pub use frame::{BLOCK_AREA, Frame};
 pub use kind::Kind;

@@ -1,15 +1,17 @@
 //! Opening: what a block that was read has to be, and the payload that it holds.
 //!
-//! A block is accepted exactly where its check agrees and each field is the one expected. The cheap fields are compared
+//! A block is accepted exactly if its check agrees and each field is the one expected. The cheap fields are compared
 //! before the check is made.
 
 ghost use Rattle.std.specs.Prelude.{◌≡◌, ◌↔◌, IsTrue, IsOk, IfOk, IfErr, IfSome, drop};
 ghost use Rattle.base.specs.formats.Blocks.{IsBlock, IsSealed};
 ghost use Rattle.base.specs.formats.Fields.{number_at, part};
+ghost use Rattle.base.specs.formats.Limits.{payload_size};
 ghost use Rattle.sha2.specs.Sha256.{sha256};
 ghost use Rattle.checked_blocks.specs.Sealing.{hashed_bytes};
 ghost use Rattle.checked_blocks.specs.Opening.{IsExpected, damage_of};
 
+use crate::block::HEAD_SIZE;
 use crate::expected::Expected;
 use base::{BLOCK_SIZE, Group, PoolError, read_u64};
 use sha2::{Digest, Sha256};
@@ -25,13 +27,14 @@ pub struct Payload<'a> {
 impl<'a> Model for Payload<'a> {
     ghost use Rattle.std.specs.Prelude.{◌≡◌, drop, length};
     ghost use Rattle.base.specs.formats.Fields.{number_at};
+    ghost use Rattle.base.specs.formats.Geometry.{block_size};
     ghost use Rattle.checked_blocks.specs.Payloads.{Opened};
 
     ghost Value = { Opened };
 
     ghost view = { λ p. record { group = number_at p.block.now 16; bytes = drop 64 p.block.now } };
 
-    ghost invariant = { λ p. length p.block.now ≡ 4096 };
+    ghost invariant = { λ p. length p.block.now ≡ block_size };
 }
 
 impl<'a> Payload<'a> {
@@ -40,10 +43,10 @@ impl<'a> Payload<'a> {
     /// The 4,032 bytes of the payload.
     pub fn as_slice(&self) -> &'a [u8]
         ensures bytes { result.now ≡ self.now.bytes }
-        ensures length { length self.now.bytes ≡ 4032 }
+        ensures length { length self.now.bytes ≡ payload_size }
     {
         let block = self.block;
-        &block[64..]
+        &block[HEAD_SIZE..]
     }
 
     /// The group in which the block was written.
@@ -58,8 +61,8 @@ impl<'a> Payload<'a> {
 /// Opens a block that was read. It takes no memory: the payload is a part of the bytes that are handed in.
 ///
 /// # Errors
-/// `Damaged` with the expected kind and address exactly where the check does not agree with the bytes, or the kind, the guid,
-/// the number, or a group or check that is expected is another.
+/// `Damaged` with the expected kind and address exactly if the check does not agree with the bytes, or the kind, the
+/// guid, the number, or a group or check that is expected is another.
 pub fn open<'a>(block: &'a [u8; BLOCK_SIZE], expected: &Expected) -> Result<Payload<'a>, PoolError>
     ensures ok { IsOk result ↔ IsExpected block.now expected.now }
     ensures opened { IfOk result
@@ -121,6 +124,6 @@ fn digest_of(block: &[u8; BLOCK_SIZE]) -> [u8; 32]
     let mut hasher = Sha256::new();
     hasher.update(&block[..32]);
     hasher.update(&zeros[..]);
-    hasher.update(&block[64..]);
+    hasher.update(&block[HEAD_SIZE..]);
     hasher.finalize()
 }

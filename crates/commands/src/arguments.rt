@@ -1,26 +1,37 @@
-//! What the program is given: which command, and its arguments.
+//! The arguments of the program: which command, and what it works on.
 
-/// What the program is asked to do.
+/// A command of the program, with its arguments.
 #[derive(Clone, Copy, Debug, PartialEq, Eq)]
 pub enum Arguments<'a> {
+    /// `ztxg script`.
     Script(ScriptArguments<'a>),
+    /// `ztxg create`.
     Create(CreateArguments<'a>),
     /// `ztxg show`, with the path of the pool's file.
     Show(&'a str),
 }
 
-/// What `ztxg script` is given.
+/// The device that a script works on.
+#[derive(Clone, Copy, Debug, PartialEq, Eq)]
+pub enum ScriptDevice<'a> {
+    /// A device in memory, of this many bytes.
+    Memory(u64),
+    /// The file at this path, which has to exist.
+    File(&'a str),
+}
+
+/// The arguments of `ztxg script`.
 #[derive(Clone, Copy, Debug, PartialEq, Eq)]
 pub struct ScriptArguments<'a> {
-    /// The bytes of the device.
-    pub size: u64,
+    /// The device that the script works on.
+    pub device: ScriptDevice<'a>,
     /// The path of the script, or `-` for standard input.
     pub script: &'a str,
-    /// The moment of each uberblock that the run writes.
+    /// The moment, in seconds, of each uberblock that the run writes.
     pub moment: u64,
 }
 
-/// What `ztxg create` is given.
+/// The arguments of `ztxg create`.
 #[derive(Clone, Copy, Debug, PartialEq, Eq)]
 pub struct CreateArguments<'a> {
     /// The path of the pool's file.
@@ -31,6 +42,8 @@ pub struct CreateArguments<'a> {
     pub guid: u64,
     /// The bytes of the file.
     pub size: u64,
-    /// The moment of the new pool's uberblocks.
+    /// Whether a file that exists already is refused.
+    pub only_new: bool,
+    /// The moment, in seconds, of the new pool's uberblocks.
     pub moment: u64,
 }

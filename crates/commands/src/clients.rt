@@ -1,37 +1,37 @@
-//! What callers rest on: one function for each promise of this crate's calls, proved from the contract of the call alone. So
-//! it is refused as soon as that contract says less.
+//! What callers rely on: one function for each promise of this crate's calls, proved from the contract of the call
+//! alone. So it is refused as soon as that contract promises less.
 
 ghost use Rattle.std.specs.Prelude.{◌≡◌};
 
-use crate::arguments::{CreateArguments, ScriptArguments};
-use crate::fault::{Fault, tell_fault};
+use crate::arguments::{CreateArguments, ScriptArguments, ScriptDevice};
+use crate::fault::{Fault, report_fault};
 use crate::pool_files::{run_create, run_show};
 use crate::program::run_opened;
 use base::PoolError;
+use device_model::{FileRefusal, HeldFile, SectorDevice};
 use std::alloc::Global;
-use std::fs::OpenFile;
 use std::io::{self, ErrorKind, Read, Write};
 use std::os::unix::fs::FileExt;
 use std::rt::Files;
 use std::sync::Wait;
 
-// A refusal of the engine is told as status 1.
+// A refusal of the engine has status 1.
 fn a_refusal_has_status_1<E: Write>(errors: &mut E) -> u8
     ensures { result ≡ 1 }
 {
-    tell_fault(Fault::Refused(PoolError::NoMemory), "tank.pool", errors)
+    report_fault(Fault::Refused(PoolError::NoMemory), "tank.pool", errors)
 }
 
 fn a_file_that_cannot_be_used_has_status_3<E: Write>(errors: &mut E) -> u8
     ensures { result ≡ 3 }
 {
-    tell_fault(Fault::Unusable, "tank.pool", errors)
+    report_fault(Fault::Unusable, "tank.pool", errors)
 }
 
 fn an_output_that_is_not_written_has_status_3<E: Write>(errors: &mut E) -> u8
     ensures { result ≡ 3 }
 {
-    tell_fault(Fault::Unwritten, "tank.pool", errors)
+    report_fault(Fault::Unwritten, "tank.pool", errors)
 }
 
 // A file of less than 6 MiB can hold no pool.
@@ -41,7 +41,7 @@ fn a_pool_in_a_small_file_has_status_1<R: Files, W: Write, E: Write>(
     errors: &mut E,
 ) -> u8
 where
-    R::File: FileExt,
+    R::File: FileExt + HeldFile,
     ensures { result ≡ 1 }
 {
     let arguments = CreateArguments {
@@ -49,6 +49,7 @@ where
         name: "tank",
         guid: 77,
         size: 6_291_455,
+        only_new: false,
         moment: 0,
     };
     run_create(files, arguments, out, errors)
@@ -61,7 +62,7 @@ fn a_pool_named_by_a_digit_has_status_1<R: Files, W: Write, E: Write>(
     errors: &mut E,
 ) -> u8
 where
-    R::File: FileExt,
+    R::File: FileExt + HeldFile,
     ensures { result ≡ 1 }
 {
     let arguments = CreateArguments {
@@ -69,32 +70,35 @@ where
         name: "4tank",
         guid: 77,
         size: 8_388_608,
+        only_new: false,
         moment: 0,
     };
     run_create(files, arguments, out, errors)
 }
 
-fn a_pool_that_is_not_opened_shows_status_3<F: FileExt + OpenFile + Drop, W: Write, E: Write>(
+fn a_pool_that_is_not_opened_shows_status_3<D: SectorDevice + Drop, W: Write, E: Write>(
     alloc: Global,
     out: &mut W,
     errors: &mut E,
 ) -> u8
     ensures { result ≡ 3 }
 {
-    let opened: io::Result<F> = Err(io::Error::from(ErrorKind::NotFound));
+    let opened: Result<D, FileRefusal> = Err(FileRefusal::InUse);
     run_show(alloc, "tank.pool", opened, out, errors)
 }
 
 fn a_script_that_is_not_opened_has_status_3<
-    H: Wait + AllocGlobal,
+    H: Files + Wait + AllocGlobal,
     R: Read + Drop,
     W: Write + Drop,
     E: Write,
 >(rt: &H, out: W, errors: &mut E) -> u8
+where
+    H::File: FileExt + HeldFile,
     ensures { result ≡ 3 }
 {
     let arguments = ScriptArguments {
-        size: 8_388_608,
+        device: ScriptDevice::Memory(8_388_608),
         script: "no/script",
         moment: 0,
     };

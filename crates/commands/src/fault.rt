@@ -1,10 +1,10 @@
-//! What may end a command on a pool in a file, with its status and its text.
+//! Why a command on a pool in a file was not done, with its exit status and its text.
 
 ghost use Rattle.std.specs.Prelude.{◌≡◌, ◌≢◌, ◌≤◌};
 ghost use Rattle.commands.specs.Faults.{fault_status};
 
 use base::PoolError;
-use scripts::FAILED;
+use scripts::{Answer, FAILED};
 use std::io::Write;
 
 /// The status of a refusal.
@@ -15,7 +15,7 @@ const REFUSED: u8 = 1;
 pub enum Fault {
     /// The engine refused it.
     Refused(PoolError),
-    /// The file can't be opened, sized or read.
+    /// The file can't be opened, sized or read, or another process has it.
     Unusable,
     /// The output can't be written.
     Unwritten,
@@ -32,16 +32,16 @@ impl From<PoolError> for Fault {
     }
 }
 
-/// Tells on `errors` why a command on this file was not done, and gives the status to end with. Where the output can't be
-/// written nothing more is told.
-pub fn tell_fault<E: Write>(fault: Fault, file: &str, errors: &mut E) -> u8
+/// Reports on `errors` why a command on this file was not done, and returns the exit status. If the output can't be
+/// written, nothing is reported.
+pub fn report_fault<E: Write>(fault: Fault, file: &str, errors: &mut E) -> u8
     ensures status { result ≡ fault_status fault }
     ensures range { result ≤ 3 }
     ensures no_usage { result ≢ 2 }
 {
     match fault {
         Fault::Refused(refusal) => {
-            let _ = writeln!(errors, "ztxg: refused {} {refusal}", refusal.number());
+            let _ = writeln!(errors, "ztxg: {}", Answer::refused(refusal));
             REFUSED
         }
         Fault::Unusable => {

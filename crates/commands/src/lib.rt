@@ -1,6 +1,6 @@
-//! The commands of the program `ztxg`: a script on a pool in memory, and a pool in a file, which is made or shown.
+//! The commands of the program `ztxg`: a script on a pool, and a pool in a file, which is made or shown.
 //!
-//! The crate knows no command line: `ztxg` reads its words into `Arguments`, and `run` does what they ask for.
+//! The crate knows no command line: `ztxg` reads its words into `Arguments`, and `run` does the command.
 #![tactic(auto)]
 
 mod arguments;
@@ -9,6 +9,6 @@ mod fault;
 mod pool_files;
 mod program;
 
-pub use arguments::{Arguments, CreateArguments, ScriptArguments};
+pub use arguments::{Arguments, CreateArguments, ScriptArguments, ScriptDevice};
 pub use pool_files::{run_create, run_show};
 pub use program::{run, run_opened};

@@ -1,7 +1,7 @@
-//! The commands on a pool in a file: `create` makes one, and `show` tells what an import would mount.
+//! The commands on a pool in a file: `create` makes one, and `show` reports what an import would mount.
 //!
-//! What is given is tested before the file is opened: the size, then the name. So the file is untouched where either is
-//! refused: who opens it for a new pool holds a `NewPool`, which these tests alone make. `show` only reads.
+//! The size is tested first, then the name, and only then the file is opened. So the file is unchanged if either is
+//! refused: a file is opened for a `NewPool`, which only these tests make. `show` only reads.
 
 ghost use Rattle.std.specs.Prelude.{◌≡◌, ◌≢◌, ◌≤◌, false, Err, IfErr, IsErr, OnOk};
 ghost use Rattle.base.specs.formats.Geometry.{IsGeometry, is_geometry};
@@ -10,21 +10,22 @@ ghost use Rattle.import_replay.specs.CreateRefusals.{CanCreate};
 ghost use Rattle.commands.specs.Faults.{IsNewPoolRefusal, sector_bytes};
 
 use crate::arguments::CreateArguments;
-use crate::fault::{Fault, tell_fault};
+use crate::fault::{Fault, report_fault};
 use base::{PoolError, PoolName, Reply};
-use device_model::FileDevice;
+use device_model::{FileDevice, FileRefusal, HeldFile, SectorDevice};
 use import_replay::{Inspected, create, inspect};
 use labels::{Geometry, SECTOR_SIZE};
 use scripts::Answer;
 use std::alloc::Global;
-use std::fs::{File, OpenFile};
 use std::io::{self, Write};
 use std::os::unix::fs::FileExt;
 use std::rt::Files;
 
-/// Makes a pool in a file, tells its name and its blocks on `out`, and gives the status to end with: 0 where it was made,
-/// 1 where the engine refused it, 3 where the file can't be opened or sized or `out` can't be written. A fault is told on
-/// `errors`.
+/// Makes a pool in a file, writes its name and its blocks to `out`, and returns the exit status.
+///
+/// The status is 0 if the pool was made, 1 if the engine refused it, and 3 if the file can't be used or `out` can't be
+/// written. A fault is reported on `errors`. A file can't be used if it isn't a regular file, can't be opened, made or
+/// resized, is open as a pool in this or another process, or exists though only a new one will do.
 pub fn run_create<R: Files, W: Write, E: Write>(
     files: &R,
     arguments: CreateArguments<'_>,
@@ -32,7 +33,7 @@ pub fn run_create<R: Files, W: Write, E: Write>(
     errors: &mut E,
 ) -> u8
 where
-    R::File: FileExt,
+    R::File: FileExt + HeldFile,
     ensures size { is_geometry (sector_bytes arguments.entry.size) ≡ false → result ≡ 1 }
     ensures name { is_name arguments.entry.name.now ≡ false → result ≡ 1 }
     ensures range { result ≤ 3 }
@@ -40,7 +41,7 @@ where
 {
     match create_pool(files, arguments, out) {
         Ok(()) => 0,
-        Err(fault) => tell_fault(fault, arguments.file, errors),
+        Err(fault) => report_fault(fault, arguments.file, errors),
     }
 }
 
@@ -50,7 +51,7 @@ fn create_pool<R: Files, W: Write>(
     out: &mut W,
 ) -> Result<(), Fault>
 where
-    R::File: FileExt,
+    R::File: FileExt + HeldFile,
     ensures made { OnOk result
         (CanCreate (sector_bytes arguments.entry.size) arguments.entry.name.now) }
     ensures size { is_geometry (sector_bytes arguments.entry.size) ≡ false
@@ -60,10 +61,10 @@ where
         → result ≡ Err (Fault.Refused PoolError.BadRange) }
 {
     let pool = NewPool::new(arguments)?;
-    let Ok(file) = pool.open(files) else {
+    let Ok(device) = pool.open(files) else {
         return Err(Fault::Unusable);
     };
-    pool.make(file)?;
+    pool.make(device)?;
     if writeln!(
         out,
         "created {} {} blocks",
@@ -81,8 +82,9 @@ where
 #[derive(Debug, Drop)]
 struct NewPool<'a> {
     file: &'a str,
-    // the bytes of the file, which may have a part of a sector behind the device
+    // the bytes of the file, which may end with a part of a sector
     size: u64,
+    only_new: bool,
     geometry: Geometry,
     name: PoolName,
     guid: u64,
@@ -104,6 +106,7 @@ impl<'a> NewPool<'a> {
         Ok(NewPool {
             file: arguments.file,
             size: arguments.size,
+            only_new: arguments.only_new,
             geometry,
             name,
             guid: arguments.guid,
@@ -111,22 +114,23 @@ impl<'a> NewPool<'a> {
         })
     }
 
-    // Opens the file, or makes it where there is none, and gives it its size.
-    fn open<R: Files>(&self, files: &R) -> io::Result<R::File> {
-        let file = File::options()
-            .read(true)
-            .write(true)
-            .create(true)
-            .open(files, self.file)?;
-        file.set_len(self.size)?;
-        Ok(file)
+    // Opens the file as its only process, or makes it, and gives it its size.
+    fn open<R: Files>(&self, files: &R) -> Result<FileDevice<R::File>, FileRefusal>
+    where
+        R::File: FileExt + HeldFile,
+    {
+        if self.only_new {
+            FileDevice::create_new(files, self.file, self.size)
+        } else {
+            FileDevice::create(files, self.file, self.size)
+        }
     }
 
-    // Makes the pool in the file.
-    fn make<F: FileExt + OpenFile + Drop>(&self, file: F) -> Result<(), Fault> {
-        let Ok(device) = FileDevice::new(file) else {
+    // Makes the pool on the file's device. A file that didn't get its size can't be used.
+    fn make<D: SectorDevice + Drop>(&self, device: D) -> Result<(), Fault> {
+        if device.sectors() != self.geometry.size() / SECTOR_SIZE {
             return Err(Fault::Unusable);
-        };
+        }
         match create(device, self.name.as_slice(), self.guid, self.moment) {
             Ok(_device) => Ok(()),
             Err((refusal, _device)) => Err(Fault::Refused(refusal)),
@@ -134,13 +138,15 @@ impl<'a> NewPool<'a> {
     }
 }
 
-/// Tells on `out` what an import of the pool in a file would mount, and gives the status to end with: 0 where it was told,
-/// 1 where the engine refused it, 3 where the file was not opened or doesn't tell its length, or `out` can't be written. A
-/// fault is told on `errors`. It only reads the file.
-pub fn run_show<F: FileExt + OpenFile + Drop, W: Write, E: Write>(
+/// Writes to `out` what an import of the pool in a file would mount, and returns the exit status. It only reads the
+/// file.
+///
+/// The status is 0 if it was written, 1 if the engine refused it, and 3 if the file was not opened as a device or
+/// `out` can't be written. A fault is reported on `errors`.
+pub fn run_show<D: SectorDevice + Drop, W: Write, E: Write>(
     alloc: Global,
     file: &str,
-    opened: io::Result<F>,
+    opened: Result<D, FileRefusal>,
     out: &mut W,
     errors: &mut E,
 ) -> u8
@@ -150,21 +156,18 @@ pub fn run_show<F: FileExt + OpenFile + Drop, W: Write, E: Write>(
 {
     match show_pool(alloc, opened, out) {
         Ok(()) => 0,
-        Err(fault) => tell_fault(fault, file, errors),
+        Err(fault) => report_fault(fault, file, errors),
     }
 }
 
-fn show_pool<F: FileExt + OpenFile + Drop, W: Write>(
+fn show_pool<D: SectorDevice + Drop, W: Write>(
     alloc: Global,
-    opened: io::Result<F>,
+    opened: Result<D, FileRefusal>,
     out: &mut W,
 ) -> Result<(), Fault>
     ensures unusable { IsErr opened → result ≡ Err Fault.Unusable }
 {
-    let Ok(file) = opened else {
-        return Err(Fault::Unusable);
-    };
-    let Ok(mut device) = FileDevice::new(file) else {
+    let Ok(mut device) = opened else {
         return Err(Fault::Unusable);
     };
     let inspected = inspect(alloc, &mut device)?;
@@ -176,7 +179,7 @@ fn show_pool<F: FileExt + OpenFile + Drop, W: Write>(
 
 // The numbers of a pool, a line each, and then a line for each object that is there.
 fn write_inspected<W: Write>(inspected: &Inspected, out: &mut W) -> io::Result<()> {
-    let name = Answer::Reply(Reply::Name(inspected.name().copy()));
+    let name = Answer::Reply(Reply::Name(inspected.name.copy()));
     writeln!(out, "{name}")?;
     writeln!(out, "guid {}", inspected.guid)?;
     writeln!(out, "group {}", inspected.group.0)?;
@@ -187,7 +190,7 @@ fn write_inspected<W: Write>(inspected: &Inspected, out: &mut W) -> io::Result<(
 }
 
 fn write_objects<W: Write>(inspected: &Inspected, out: &mut W) -> io::Result<()> {
-    let objects = inspected.objects();
+    let objects = inspected.objects.as_slice();
     writeln!(out, "objects {}", objects.len())?;
     for (id, length) in objects {
         writeln!(out, "{} {length}", id.0)?;

@@ -1,25 +1,28 @@
-//! What the program does with its arguments. A script is read from a file or from standard input, and a pool is in a file.
+//! The program after its arguments were read. A script is read from a file or from standard input, and a pool is in a
+//! file.
 
 ghost use Rattle.std.specs.Prelude.{◌≡◌, ◌≢◌, ◌≤◌, IsErr};
 
-use crate::arguments::{Arguments, ScriptArguments};
+use crate::arguments::{Arguments, ScriptArguments, ScriptDevice};
+use crate::fault::{Fault, report_fault};
 use crate::pool_files::{run_create, run_show};
-use scripts::{FAILED, run_script_on};
-use shared_scripts::SharedSession;
+use device_model::{FileDevice, HeldFile, SectorFile};
+use scripts::{FileSession, SharedSession, run_script_on};
+use std::alloc::Global;
 use std::fs::File;
 use std::io::{self, Read, Write};
 use std::os::unix::fs::FileExt;
 use std::rt::Files;
 use std::sync::Wait;
 
-/// Does what the program is asked to do, and gives the status to end with. A script waits for its pool.
+/// Does a command of the program, and returns the exit status. A script may wait for its pool.
 pub fn run<R: Files + Input + Print + AllocGlobal + Wait, E: Write>(
     rt: &R,
     arguments: Arguments<'_>,
     errors: &mut E,
 ) -> u8
 where
-    R::File: FileExt,
+    R::File: FileExt + HeldFile,
     ensures { result ≤ 3 }
 {
     match arguments {
@@ -28,7 +31,7 @@ where
         Arguments::Show(file) => run_show(
             rt.alloc(),
             file,
-            File::open(rt, file),
+            FileDevice::open_to_read(rt, file),
             &mut io::writer(rt),
             errors,
         ),
@@ -40,6 +43,8 @@ fn run_named_script<R: Files + Input + Print + AllocGlobal + Wait, E: Write>(
     arguments: ScriptArguments<'_>,
     errors: &mut E,
 ) -> u8
+where
+    R::File: FileExt + HeldFile,
     ensures range { result ≤ 3 }
     ensures no_refusal { result ≢ 1 }
 {
@@ -51,28 +56,51 @@ fn run_named_script<R: Files + Input + Print + AllocGlobal + Wait, E: Write>(
     run_opened(rt, arguments, opened, out, errors)
 }
 
-/// Runs a script that was to be opened, with what was given to it. Its commands are done on a pool that is shared.
+/// Runs a script that was opened, and returns the exit status. On a device in memory its pool is under a lock.
 ///
-/// Where it was not opened, `ztxg: cannot use FILE` is printed to `errors`, and the status is 3.
-pub fn run_opened<H: Wait + AllocGlobal, R: Read + Drop, W: Write + Drop, E: Write>(
+/// If it was not opened, or its device's file can't be used, `ztxg: cannot use FILE` is printed to `errors`, and the
+/// status is 3.
+pub fn run_opened<H: Files + Wait + AllocGlobal, R: Read + Drop, W: Write + Drop, E: Write>(
     rt: &H,
     arguments: ScriptArguments<'_>,
     opened: io::Result<R>,
     out: W,
     errors: &mut E,
 ) -> u8
+where
+    H::File: FileExt + HeldFile,
     ensures failed { IsErr opened → result ≡ 3 }
     ensures range { result ≤ 3 }
     ensures no_refusal { result ≢ 1 }
 {
-    match opened {
-        Ok(script) => {
-            let mut session = SharedSession::new(rt, rt.alloc(), arguments.size, arguments.moment);
+    let Ok(script) = opened else {
+        return report_fault(Fault::Unusable, arguments.script, errors);
+    };
+    match arguments.device {
+        ScriptDevice::Memory(size) => {
+            let mut session = SharedSession::new(rt, rt.alloc(), size, arguments.moment);
             run_script_on(rt.alloc(), &mut session, script, out)
         }
-        Err(_) => {
-            let _ = writeln!(errors, "ztxg: cannot use {}", arguments.script);
-            FAILED
+        ScriptDevice::File(path) => {
+            let Ok(device) = FileDevice::open(rt, path) else {
+                return report_fault(Fault::Unusable, path, errors);
+            };
+            run_on_file(rt.alloc(), device, arguments.moment, script, out)
         }
     }
+}
+
+// Runs a script on a file's device, whose pool the session steps itself.
+fn run_on_file<F: SectorFile + Drop, R: Read + Drop, W: Write + Drop>(
+    alloc: Global,
+    device: FileDevice<F>,
+    moment: u64,
+    script: R,
+    out: W,
+) -> u8
+    ensures range { result ≤ 3 }
+    ensures no_refusal { result ≢ 1 }
+{
+    let mut session: FileSession<'_, F> = FileSession::new(&(), alloc, device, moment);
+    run_script_on(alloc, &mut session, script, out)
 }

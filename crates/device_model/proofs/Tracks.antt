@@ -15,7 +15,7 @@ use Rattle.device_model.specs.Notes.{Track, left_of, noted, ended_track, after_n
 use Rattle.base.proofs.disk.EarlierWrites.{earlier_settled, earlier_written}
 use Rattle.base.proofs.disk.Put.{length-put, put-put_part, put-part}
 
--- no good flush or crash came behind it
+-- no good flush or crash came after it
 abbrev pub GoesOn : Note → Type 0
 GoesOn n = n.last ≡ false
 
@@ -39,7 +39,7 @@ image_ended false t = refl
 image_step : (t : Track) (n : Note) → (after_note t n).image ≡ left_of n t.image
 image_step t n = image_ended n.last (noted t n)
 
--- a note behind which none came adds its write
+-- a note after which none came adds its write
 pub goes_on_step : (t : Track) (n : Note) → GoesOn n → after_note t n ≡ noted t n
 goes_on_step t n is = ap (λ (b : Bool). ended_track b (noted t n)) is
 
@@ -183,7 +183,7 @@ module _ (first : Track) (k : ℕ) (notes : List Note) (counted : k ≤ length n
 all_drop_last : (P : Note → Type 0) (k : ℕ) (front : List Note) (n : Note) → k ≤ length front → AllByRecursion P (drop k (front ++ n ∷ [])) → P n
 all_drop_last P k front n within each = all_last P (drop k front) n (subst (λ (l : List Note). AllByRecursion P l) (drop-append-le k front (n ∷ []) within) each)
 
--- a track at which nothing is unflushed, with no notes behind it
+-- a track at which nothing is unflushed, with no notes after it
 pub settled_leads : (t : Track) → t.disk.now.unflushed ≡ [] → t.image ≡ t.disk.now.flushed → (bytes : List ℕ) → bytes ≡ t.image → LeadTo t [] bytes
 settled_leads t none same bytes is = record { certain = none; same = same; each_open = tt; recall = tt; bytes_are = is }
 

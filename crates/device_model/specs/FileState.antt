@@ -1,6 +1,7 @@
 -- What callers see of a device on a file.
 use Rattle.std.specs.Prelude.{◌≡◌, ℕ, ◌*◌, Bool, true, false}
 use Rattle.base.specs.disk.Disk.{Disk, HasEarlierWrites, disk_size}
+use Rattle.base.specs.formats.Geometry.{sector_size}
 use Rattle.base.specs.declared.refused.RefusedCalls.{RefusedCalls}
 use Rattle.device_model.specs.MemState.{blank}
 
@@ -14,7 +15,7 @@ pub record FileState : Type 0 where
 abbrev pub none_refused : RefusedCalls
 none_refused = record { reads = 0; writes = 0; flushes = 0 }
 
--- the disk of a file that keeps no model: nothing is said of it
+-- the disk of a file that keeps no model: nothing holds for it
 abbrev pub no_disk : Disk
 no_disk = blank 0
 
@@ -23,7 +24,8 @@ abbrev pub size_of : Bool → FileState → ℕ
 size_of true s = disk_size s.disk
 size_of false s = s.size
 
--- A file that keeps the model shows a disk of so many sectors. Each write that counts on it was handed at an earlier moment.
+-- A file that keeps the model shows a disk of so many sectors. Each write that counts on it was handed at an earlier
+-- moment.
 pub record ShowsDisk (sectors : ℕ) (disk : Disk) : Type 0 where
-  pub size : disk_size disk ≡ 512 * sectors
+  pub size : disk_size disk ≡ sector_size * sectors
   pub earlier : HasEarlierWrites disk

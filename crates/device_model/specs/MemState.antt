@@ -1,11 +1,13 @@
 -- What callers see of a device in memory.
 use Rattle.std.specs.Prelude.{ℕ, ◌*◌, List, [], replicate}
+use Rattle.base.specs.formats.Geometry.{sector_size}
 use Rattle.base.specs.declared.piece.Piece.{Piece}
 use Rattle.base.specs.disk.Disk.{Disk, certain}
 use Rattle.base.specs.disk.Crashes.{crash_image}
 use Rattle.base.specs.declared.refused.RefusedCalls.{RefusedCalls}
 
--- the disk, how many calls of each kind it refused, how many writes found no memory to be noted, and which call of each kind from now fails (0: none will)
+-- the disk, how many calls of each kind it refused, how many writes found no memory to be noted, and which call of each
+-- kind from now fails (0: none will)
 pub record MemState : Type 0 where
   pub disk : Disk
   pub refused : RefusedCalls
@@ -20,7 +22,7 @@ zeros n = replicate n 0
 
 -- nothing but zeros, and nothing written
 abbrev pub blank : ℕ → Disk
-blank sectors = record { now = record { flushed = zeros (512 * sectors); unflushed = []; kept = [] }; past = [] }
+blank sectors = record { now = record { flushed = zeros (sector_size * sectors); unflushed = []; kept = [] }; past = [] }
 
 -- a new device
 abbrev pub new_state : ℕ → MemState

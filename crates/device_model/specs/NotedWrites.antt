@@ -5,7 +5,7 @@ use Rattle.base.specs.disk.Calls.{one_more}
 use Rattle.base.specs.disk.Disk.{written}
 use Rattle.device_model.specs.MemState.{MemState}
 
--- it was noted: it fails exactly where that was planned, and a crash leaves pieces of it
+-- it was noted: it fails exactly if that was planned, and a crash leaves pieces of it
 pub record IsNoted (place : ℕ) (content : List ℕ) (result : Result (Unit {0}) PoolError) (old new : MemState) : Type 0 where
   pub count : new.unnoted ≡ old.unnoted
   pub answered : is_ok result ≡ not (old.write_fails == 1)

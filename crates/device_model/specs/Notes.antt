@@ -1,6 +1,7 @@
 -- How the notes of a device in memory tell its disk.
 use Rattle.std.specs.Prelude.{◌≡◌, ℕ, ◌+◌, ◌-◌, ◌*◌, ◌<◌, ◌≤◌, ◌++◌, Bool, true, false, List, [], ◌∷◌, length, take, fold, All}
 use Rattle.std.specs.List.{AllByRecursion}
+use Rattle.base.specs.formats.Geometry.{sector_size}
 use Rattle.base.specs.declared.piece.Piece.TheVariants.{Keep}
 use Rattle.base.specs.declared.piece.Piece.{Piece}
 use Rattle.device_model.specs.declared.notes.Note.{Note}
@@ -22,7 +23,7 @@ left_of n image = left n.piece n.done n.place n.content image
 abbrev pub noted : Track → Note → Track
 noted t n = record { disk = written n.place n.content n.done t.disk; image = left_of n t.image }
 
--- and the good flush or crash behind it, if one came
+-- and the good flush or crash after it, if one came
 abbrev pub ended_track : Bool → Track → Track
 ended_track true t = record { disk = next (settled t.image t.disk.now) t.disk; image = t.image }
 ended_track false t = t
@@ -34,7 +35,7 @@ abbrev pub tracked : Track → List Note → Track
 tracked t notes = fold after_note t notes
 
 abbrev pub start : ℕ → Track
-start sectors = record { disk = blank sectors; image = zeros (512 * sectors) }
+start sectors = record { disk = blank sectors; image = zeros (sector_size * sectors) }
 
 -- the bytes with what stands of these notes' writes, the oldest first
 abbrev pub replayed : List Note → List ℕ → List ℕ
@@ -46,7 +47,7 @@ abbrev pub undone : List Note → List ℕ → List ℕ
 undone [] bytes = bytes
 undone (n ∷ ns) bytes = put n.place n.old (undone ns bytes)
 
--- a note behind which no good flush or crash came
+-- a note after which no good flush or crash came
 pub record IsOpen (n : Note) : Type 0 where
   pub kept : n.piece ≡ Keep
   pub goes_on : n.last ≡ false
@@ -99,7 +100,7 @@ with_pieces pieces i (n ∷ ns) = with_piece (piece_at pieces i) n ∷ with_piec
 abbrev pub ended : Note → Note
 ended n = record n { last = true }
 
--- where there are notes behind so many, the newest is the last before a good flush or a crash
+-- where there are notes after so many, the newest is the last before a good flush or a crash
 pub record Closes (settled : ℕ) (old new : List Note) : Type 0 where
   pub none : length old ≤ settled → new ≡ old
   pub some : settled < length old → (n : Note) × (old ≡ take (length old - 1) old ++ n ∷ []) × (new ≡ take (length old - 1) old ++ ended n ∷ [])

@@ -23,7 +23,7 @@ planned Read s = s.read_fails
 planned Write s = s.write_fails
 planned Flush s = s.flush_fails
 
--- a call of this kind fails exactly where that was planned, and counts its plan down; no write goes unnoted by it
+-- a call of this kind fails exactly if that was planned, and counts its plan down; no write goes unnoted by it
 pub record FailsAsPlanned (fault : Fault) (result : Result (Unit {0}) PoolError) (old new : MemState) : Type 0 where
   pub fails : IsErr result ↔ (planned fault old ≡ 1)
   pub plans : KeepsPlans fault old new

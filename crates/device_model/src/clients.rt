@@ -1,7 +1,7 @@
-//! What callers rest on: one function for each promise of this crate's calls, proved from the contract of the call alone. So it
-//! is refused as soon as that contract says less.
+//! What callers rest on: one function for each promise of this crate's calls, proved from the contract of the call
+//! alone. So it is refused as soon as that contract says less.
 
-ghost use Rattle.std.specs.Prelude.{◌≡◌, ◌∷◌, [], IfOk, IsErrOf, IsTrue, OnErr, OnOk, length, true};
+ghost use Rattle.std.specs.Prelude.{◌≡◌, ◌∷◌, [], IfOk, IsErrOf, IsOk, IsTrue, OnErr, OnOk, length, true};
 ghost use Rattle.base.specs.disk.Calls.{IsOnDevice};
 ghost use Rattle.base.specs.disk.Disk.{HasEarlierWrites, bytes_of, disk_size};
 ghost use Rattle.device_model.specs.MemState.{blank, zeros};
@@ -9,10 +9,14 @@ ghost use Rattle.device_model.specs.MemState.{blank, zeros};
 use crate::device::SectorDevice;
 use crate::fault::Fault;
 use crate::file::FileDevice;
+use crate::held_file::{Access, FileRefusal, HeldFile};
 use crate::memory::MemDevice;
 use crate::sector_file::SectorFile;
 use base::{Piece, PoolError, RefusedCalls};
 use std::alloc::Global;
+use std::fs::OpenFile;
+use std::os::unix::fs::FileExt;
+use std::rt::Files;
 
 fn a_new_device_is_zeros(alloc: Global) -> Result<MemDevice, PoolError>
     ensures { IfOk result (λ device. bytes_of device.disk.now ≡ zeros 2048) }
@@ -125,6 +129,66 @@ fn a_device_on_a_file_has_refused_nothing_at_first<F: SectorFile + Drop>(
     file: F,
 ) -> Result<(), PoolError> {
     let device = FileDevice::new(file)?;
+    let refused = device.refused();
+    prove!(refused == RefusedCalls::NONE);
+    Ok(())
+}
+
+fn a_device_that_holds_its_file_has_its_lock<F: SectorFile + HeldFile + OpenFile + Drop>(
+    file: F,
+) -> Result<FileDevice<F>, FileRefusal>
+    ensures { IsOk result → F.is_held file Access.Write }
+{
+    FileDevice::hold(file, Access::Write)
+}
+
+fn a_device_on_an_opened_file_has_refused_nothing<R: Files>(
+    files: &R,
+    path: &str,
+) -> Result<(), FileRefusal>
+where
+    R::File: FileExt + HeldFile,
+{
+    let device = FileDevice::open(files, path)?;
+    let refused = device.refused();
+    prove!(refused == RefusedCalls::NONE);
+    Ok(())
+}
+
+fn a_device_that_reads_alone_has_refused_nothing<R: Files>(
+    files: &R,
+    path: &str,
+) -> Result<(), FileRefusal>
+where
+    R::File: FileExt + HeldFile,
+{
+    let device = FileDevice::open_to_read(files, path)?;
+    let refused = device.refused();
+    prove!(refused == RefusedCalls::NONE);
+    Ok(())
+}
+
+fn a_device_on_a_file_that_it_made_has_refused_nothing<R: Files>(
+    files: &R,
+    path: &str,
+) -> Result<(), FileRefusal>
+where
+    R::File: FileExt + HeldFile,
+{
+    let device = FileDevice::create(files, path, 8_388_608)?;
+    let refused = device.refused();
+    prove!(refused == RefusedCalls::NONE);
+    Ok(())
+}
+
+fn a_device_on_a_new_file_has_refused_nothing<R: Files>(
+    files: &R,
+    path: &str,
+) -> Result<(), FileRefusal>
+where
+    R::File: FileExt + HeldFile,
+{
+    let device = FileDevice::create_new(files, path, 8_388_608)?;
     let refused = device.refused();
     prove!(refused == RefusedCalls::NONE);
     Ok(())

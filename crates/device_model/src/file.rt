@@ -1,13 +1,15 @@
 //! A device on a file: a pool on it outlives the process.
 //!
 //! It reads and writes the file at places, and a flush is the file's sync call. Its sectors are those that the file has
-//! whole when the device is made; what stands behind the last of them it never reads or writes.
+//! whole when the device is made; the bytes after the last of them it never reads or writes.
 //!
-//! It keeps the model of a disk where its file does: then it reads, writes and syncs just what it is asked for, and all
-//! clauses of `SectorDevice` stand. A file of the system keeps no model (`SectorFile`). On one those clauses stand that are on
-//! the size, on which refusal a call answers and on the counts of refused calls, for whatever the file does. Those on the bytes
-//! and on the disk over time don't: that a read gives what was written, and that a crash leaves what was flushed, rests on
-//! the system and the hardware below it. A refused write may have written a part.
+//! It keeps the model of a disk if its file does. Then each call reads, writes or syncs exactly what it is asked for,
+//! and all clauses of `SectorDevice` hold. A file of the system keeps no model (`SectorFile`). For such a file the
+//! clauses on the size, on the refusal of a call and on the counts of refused calls hold, whatever the file does.
+//! The clauses on bytes and on the disk over time don't: that a read returns what was written, and that a crash leaves
+//! what was flushed, rests on the system and its hardware. A refused write may have written a part of its bytes.
+//!
+//! `held_file.rt` opens files, and takes their locks.
 
 ghost use Rattle.std.specs.Prelude.{◌≡◌, ◌*◌, Bool, IfErr, IfOk, IsTrue};
 ghost use Rattle.device_model.specs.FileState.{none_refused};
@@ -18,12 +20,16 @@ use base::{PoolError, RefusedCalls};
 use std::fs::File;
 use std::marker::Model;
 
-/// A device on an open file, which it owns and closes. Contracts see its size in bytes, the counts of the calls that it
-/// refused, and the disk that the file shows.
+/// A device on an open file, which it owns and closes.
 ///
-/// A read needs a file that is open for reading and a write one that is open for writing; else they are refused. A file that
-/// is open for appending won't do, since the system then writes at its end. Where the file has become shorter than the
-/// device, each write is refused `Write`, each flush `Flush`, and each read past the file's end `Read`.
+/// [`FileDevice::open`], [`FileDevice::open_to_read`], [`FileDevice::create`] and [`FileDevice::create_new`] open a
+/// file by its path, and hold its lock until the device is dropped. So a pool in a file has one owner at a time.
+///
+/// Each read is refused if the file is not open for reading, and each write if it is not open for writing. A file that
+/// is open for appending won't do: the system then writes at its end. If the file has become shorter than the device,
+/// each write is refused `Write`, each flush `Flush`, and each read past the file's end `Read`.
+///
+/// Contracts see its size in bytes, the counts of the calls that it refused, and the disk that the file shows.
 #[derive(Debug, Drop)]
 pub struct FileDevice<F: SectorFile + Drop = File> {
     file: F,
@@ -33,12 +39,13 @@ pub struct FileDevice<F: SectorFile + Drop = File> {
 
 impl<F: SectorFile + Drop> Model for FileDevice<F> {
     ghost use Rattle.std.specs.Prelude.{◌*◌, IsTrue};
+    ghost use Rattle.base.specs.formats.Geometry.{sector_size};
     ghost use Rattle.device_model.specs.FileState.{FileState, ShowsDisk};
 
     ghost Value = { FileState };
 
     ghost view = { λ device. record {
-      size = 512 * device.sectors;
+      size = sector_size * device.sectors;
       refused = device.refused;
       disk = F.disk device.file;
     } };
@@ -48,10 +55,10 @@ impl<F: SectorFile + Drop> Model for FileDevice<F> {
 }
 
 impl<F: SectorFile + Drop> FileDevice<F> {
-    /// A device of the whole sectors of a file. Nothing is read or written.
+    /// A device of the whole sectors of an open file, whose lock it doesn't take. Nothing is read or written.
     ///
     /// # Errors
-    /// `Read` where the file doesn't tell its length, or is a directory.
+    /// `Read` if the file doesn't return its length, or is not a regular file.
     pub fn new(file: F) -> Result<Self, PoolError>
         ensures none_refused { IfOk result (λ device. device.refused ≡ none_refused) }
         ensures disk { IfOk result (λ device. device.disk ≡ F.disk file) }

@@ -1,33 +1,34 @@
-//! A device in memory: the disk of tests and scripts, which fails where a plan says so and crashes on demand.
+//! A device in memory: the disk of tests and scripts, which fails as a plan says and crashes on demand.
 //!
-//! It keeps the bytes that a read gives, and a note of each write since it was made. The notes are its history: the disk
-//! over time, with each moment and all that a crash may leave at it, is read from them (`specs/Notes`). No call looks at
-//! older notes, so a call costs what it copies.
+//! It keeps the bytes that a read gives, and a note of each write since it was made. The notes are its history: the
+//! disk over time, with each moment and all that a crash may leave at it, is read from them (`specs/Notes`). No call
+//! looks at older notes, so a call costs what it copies.
 //!
-//! A write first notes the bytes that stand at its place and the bytes that it was handed, and then writes these. What
-//! fails by plan is noted too, as not done: a read gives what it gave, but a crash may leave any bytes there. Where there
-//! is no memory for the note nothing is written, and the write is refused and counted apart, since a write of which
-//! nothing is known must not have happened.
+//! A write first notes the bytes that stand at its place and the bytes that it was handed, and then writes these.
+//! What fails by plan is noted too, as not done: a read gives what it gave, but a crash may leave any bytes there.
+//! If there is no memory for the note, nothing is written, and the write is refused and counted apart: a write of
+//! which nothing is known must not have happened.
 //!
-//! A good flush settles the notes behind the last good flush or crash: the newest of them becomes the last before it,
-//! and what stood before them is let go, since nothing takes them back any more.
+//! A good flush settles the notes since the last good flush or crash. The newest of them becomes the last before it.
+//! The bytes before them are dropped, since nothing takes them back any more.
 //!
-//! A crash takes the notes behind the last flush back, the newest first, so that the bytes are those of that flush. Then
-//! it writes the piece of each that it leaves, the oldest first, and settles them as a flush does.
+//! A crash takes the notes since the last flush back, the newest first, so that the bytes are those of that flush.
+//! Then it writes the piece of each that it leaves, the oldest first, and settles them as a flush does.
 //!
-//! What holds between two calls (`IsSoundDevice` in `specs/Memory`): there are 512 bytes for each sector; the settled notes tell
-//! a disk on which nothing is unflushed; and from its image the other notes, each with what stood before it, lead to the
-//! bytes.
+//! What holds between two calls (`IsSoundDevice` in `specs/Memory`): there are 512 bytes for each sector; the settled
+//! notes tell a disk on which nothing is unflushed; and from its image the other notes, each with what stood before
+//! it, lead to the bytes.
 
 ghost use Rattle.std.specs.Prelude.{◌≡◌, ◌+◌, ◌*◌, ◌-◌, ◌<◌, ◌≤◌, ◌↔◌, ◌⊎◌, ◌++◌, [], ◌∷◌, length, take, drop, true, refl, IsTrue, IfOk, IfErr, OnOk, OnErr, Ok, Err, All, IsErr};
 ghost use Rattle.base.specs.formats.Fields.{part};
+ghost use Rattle.base.specs.formats.Geometry.{sector_size};
 ghost use Rattle.base.specs.disk.Disk.{bytes_of, disk_size, MayLeave};
 ghost use Rattle.base.specs.disk.Crashes.{crash_image};
 
 use crate::device::SectorDevice;
 use crate::fault::Fault;
 use crate::notes::{Note, copy_part, fires, leave_pieces, make_note, overwrite, settle};
-use base::{Piece, PoolError, RefusedCalls};
+use base::{Piece, PoolError, RefusedCalls, SECTOR_SIZE};
 use std::alloc::Global;
 use std::marker::Model;
 
@@ -68,14 +69,14 @@ impl MemDevice {
     ghost use Rattle.device_model.specs.Plans.{with_plan};
     ghost use Rattle.device_model.specs.MemState.{new_state, after_crash};
 
-    /// A device of so many sectors, all zeros. Refused with `NoMemory` where there is not so much memory.
+    /// A device of this many sectors of 512 bytes, all zeros. Refused with `NoMemory` if there is not so much memory.
     #[tactic(auto, unfolding(crate::specs::MemState::zeros))]
     pub fn new(alloc: Global, sectors: u64) -> Result<Self, PoolError>
         ensures zeros { IfOk result (λ device. device ≡ new_state sectors) }
-        ensures size { IfOk result (λ device. disk_size device.disk ≡ 512 * sectors) }
+        ensures size { IfOk result (λ device. disk_size device.disk ≡ sector_size * sectors) }
         ensures memory { IfErr result (λ e. e ≡ PoolError.NoMemory) }
     {
-        let Some(size) = sectors.checked_mul(512) else {
+        let Some(size) = sectors.checked_mul(SECTOR_SIZE) else {
             return Err(PoolError::NoMemory);
         };
         let Ok(bytes) = vec![in alloc; 0u8; size as usize] else {
@@ -185,8 +186,8 @@ impl SectorDevice for MemDevice {
         ensures refusal { IfErr result (λ e. e ≡ PoolError.Write) }
         ensures disk { Writes self.old.disk at bytes.now result self.new.disk }
 
-        // It fails as planned, and is then one of the writes of which a crash leaves pieces. Else it fails only where it finds
-        // no memory to be noted, and then counts for nothing.
+        // It fails as planned, and is then one of the writes of which a crash leaves pieces. Otherwise it fails only
+        // if there is no memory for its note, and then counts for nothing.
         ensures noted { IsNoted at bytes.now result self.old self.new
             ⊎ IsUnnoted result self.old self.new }
         ensures plans { KeepsPlans Fault.Write self.old self.new }

@@ -73,7 +73,7 @@ impl NotedBytes {
     }
 }
 
-/// Fills so many bytes from a place on.
+/// Fills `count` bytes from a place on.
 pub fn fill(bytes: &mut [u8], place: u64, count: usize, byte: u8)
     requires { place + count ≤ length bytes.old }
     ensures { bytes.new ≡ put place (replicate count byte) bytes.old }

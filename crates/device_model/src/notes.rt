@@ -12,16 +12,21 @@ use crate::noted_bytes::{NotedBytes, fill};
 use base::Piece;
 use std::alloc::{AllocError, Global};
 
-/// A write: its byte place, the bytes that were there, the bytes handed, whether it answered Ok, what a crash left of
-/// it, and whether a good flush or a crash came between it and the next write. The bytes that were there are let go at
-/// that flush or crash, since none takes the write back any more.
+/// The note of a write.
 #[derive(Debug, Drop)]
 pub struct Note {
+    /// The byte place of the write.
     pub place: u64,
+    /// The bytes at the place before it. The next good flush or crash drops them, since nothing takes the write back
+    /// after it.
     pub old: NotedBytes,
+    /// The bytes that the write was handed.
     pub content: NotedBytes,
+    /// Whether the write was made, and not refused.
     pub done: bool,
+    /// What a crash left of the write.
     pub piece: Piece,
+    /// Whether a good flush or a crash came between this write and the next one.
     pub last: bool,
 }
 
@@ -142,7 +147,7 @@ fn replay(bytes: &mut [u8], notes: &[Note])
     }
 }
 
-// Notes that the newest write, where it came behind so many, is the last before a good flush or a crash.
+// Notes that the newest write, if it is none of the first `settled`, is the last before a good flush or a crash.
 fn close(notes: &mut [Note], settled: usize)
     ensures { Closes settled notes.old notes.new }
 {
@@ -161,7 +166,7 @@ fn forget(notes: &mut [Note], first: usize)
     }
 }
 
-/// Settles the writes behind so many, at a good flush or a crash. It takes no memory.
+/// Settles the writes after the first `settled`, at a good flush or a crash. It takes no memory.
 pub fn settle(notes: &mut [Note], settled: usize)
     ensures { Settles settled notes.old notes.new }
 {
@@ -185,7 +190,8 @@ fn replay_from(bytes: &mut [u8], notes: &[Note], first: usize)
     replay(bytes, &notes[first..]);
 }
 
-/// Takes the writes behind so many back, leaves these pieces of them, and settles them. It takes no memory.
+/// Takes the writes after the first `settled` back, leaves these pieces of them, and settles them. It takes no
+/// memory.
 pub fn leave_pieces(bytes: &mut [u8], notes: &mut [Note], settled: usize, pieces: &[Piece])
     requires within { settled ≤ length notes.old }
     requires old_fits { OldsFit (length bytes.old) (drop settled notes.old) }

@@ -1,22 +1,20 @@
 //! What a device on a file asks of the file: whole sectors read and written at byte places, and a sync.
 //!
-//! The calls are those of a device, without the counts. A file that keeps the model of a disk shows one, as a device does.
-//! A file of the system keeps none, since nothing can be claimed of what it holds: another process may write to it, and a
-//! system may lose what it said was synced. So of the four methods for such a file no proof says which call of the system
-//! they make, and each of them is one such call.
+//! The calls are those of a device, without the counts. A file that keeps the model of a disk shows one, as a device
+//! does. A file of the system keeps none, since nothing can be claimed of what it holds: another process may write to
+//! it, and a system may lose what it said was synced. So of the four methods for such a file no proof says which call
+//! of the system they make, and each of them is one such call.
 
 ghost use Rattle.std.specs.Prelude.{◌≡◌, ◌+◌, ◌*◌, ◌<◌, ◌≤◌, Bool, IsTrue, IfErr, IfSome, OnOk, false, length};
 ghost use Rattle.base.specs.formats.Fields.{part};
+ghost use Rattle.base.specs.formats.Geometry.{sector_size};
 ghost use Rattle.base.specs.disk.Disk.{Disk, HasEarlierWrites, bytes_of, disk_size};
 ghost use Rattle.base.specs.disk.Calls.{Flushes, IsOnDevice, Writes};
 ghost use Rattle.device_model.specs.FileState.{no_disk};
 
-use base::PoolError;
+use base::{PoolError, SECTOR_SIZE};
 use std::fs::OpenFile;
 use std::os::unix::fs::FileExt;
-
-/// The bytes of a sector.
-const SECTOR_SIZE: u64 = 512;
 
 /// A file of sectors of 512 bytes, read and written in whole sectors at byte places.
 ///
@@ -28,14 +26,14 @@ pub trait SectorFile {
     /// The disk: what a read gives, and what a crash may leave, at each moment so far.
     ghost disk: { Self → Disk };
 
-    /// How many whole sectors of 512 bytes the file has now. None where it doesn't tell its length, or is a directory. On its
-    /// disk each write that counts was handed at an earlier moment.
+    /// How many whole sectors of 512 bytes the file has now. None if it doesn't return its length, or is not a
+    /// regular file. On its disk each write that counts was handed at an earlier moment.
     fn sectors(&self) -> Option<u64>
         ensures size { IsTrue keeps_model
-            → IfSome result (λ count. disk_size (disk self.now) ≡ 512 * count) }
+            → IfSome result (λ count. disk_size (disk self.now) ≡ sector_size * count) }
         ensures earlier { IsTrue keeps_model → HasEarlierWrites (disk self.now) };
 
-    /// Reads whole sectors from byte place `at`. Refused with `Read` where the file can't be read there, or ends before
+    /// Reads whole sectors from byte place `at`. Refused with `Read` if the file can't be read there, or ends before
     /// the last of these bytes; `into` may then hold anything.
     fn read_sectors(&mut self, at: u64, into: &mut [u8]) -> Result<(), PoolError>
         requires { IsTrue keeps_model
@@ -45,8 +43,8 @@ pub trait SectorFile {
             → OnOk result (into.new ≡ part (bytes_of (disk self.old).now) at (length into.old)) }
         ensures disk { IsTrue keeps_model → disk self.new ≡ disk self.old };
 
-    /// Writes whole sectors at byte place `at`. Refused with `Write` where not all of these bytes could be written; a part
-    /// of them may then stand there.
+    /// Writes whole sectors at byte place `at`. Refused with `Write` if not all of these bytes could be written; a
+    /// part of them may then stand there.
     fn write_sectors(&mut self, at: u64, bytes: &[u8]) -> Result<(), PoolError>
         requires { IsTrue keeps_model
             → IsOnDevice (disk_size (disk self.old)) at (length bytes.now) }
@@ -54,7 +52,7 @@ pub trait SectorFile {
         ensures disk { IsTrue keeps_model
             → Writes (disk self.old) at bytes.now result (disk self.new) };
 
-    /// Syncs what was written. Refused with `Flush` where that fails.
+    /// Syncs what was written. Refused with `Flush` if that fails.
     fn sync(&mut self) -> Result<(), PoolError>
         ensures refusal { IfErr result (λ e. e ≡ PoolError.Flush) }
         ensures disk { IsTrue keeps_model → Flushes (disk self.old) result (disk self.new) };
@@ -67,7 +65,7 @@ impl<F: FileExt + OpenFile> SectorFile for F {
 
     fn sectors(&self) -> Option<u64> {
         let metadata = self.metadata().ok()?;
-        if metadata.is_dir() {
+        if !metadata.is_file() {
             return None;
         }
         Some(whole_sectors(metadata.len()))
@@ -86,10 +84,10 @@ impl<F: FileExt + OpenFile> SectorFile for F {
     }
 }
 
-// How many whole sectors so many bytes have.
+// How many whole sectors lie in this many bytes.
 fn whole_sectors(length: u64) -> u64
-    ensures within { 512 * result ≤ length }
-    ensures all { length < 512 * result + 512 }
+    ensures within { sector_size * result ≤ length }
+    ensures all { length < sector_size * result + sector_size }
 {
     length / SECTOR_SIZE
 }

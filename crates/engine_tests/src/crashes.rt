@@ -1,5 +1,5 @@
-//! What the import behind rounds of a pool finds, if they end with a crash, or an import among them is stopped. More crashes are
-//! rows of `script_rows`.
+//! What the import after rounds of a pool finds, if they end with a crash, or an import among them is stopped. More
+//! crashes are rows of `script_rows`.
 
 use crate::steps::{OBJECT, stored};
 use base::{Piece, PoolError};
@@ -28,7 +28,7 @@ fn crash_with(alloc: Global, piece: Piece) -> Result<End, PoolError> {
     Ok(End::Crash(vec![in alloc; piece; 16]?))
 }
 
-// How many bytes has the object that the import behind these rounds mounts: none where there is no object.
+// How many bytes has the object that the import after these rounds mounts: none where there is no object.
 fn found_behind(alloc: Global, rounds: Vec<Round>) -> Result<Option<usize>, PoolError> {
     let device = MemDevice::new(alloc, 12_288)?;
     let (_, imported) = play_rounds(alloc, device, b"tank", 77, 1_048_576, 7, rounds)?;
@@ -36,7 +36,7 @@ fn found_behind(alloc: Global, rounds: Vec<Round>) -> Result<Option<usize>, Pool
     Ok(object.map(|bytes| bytes.len()))
 }
 
-// Behind a crash after so many calls of the sync.
+// After a crash after so many calls of the sync.
 fn found_with(alloc: Global, calls: usize, piece: Piece) -> Result<Option<usize>, PoolError> {
     let only = round(alloc, calls, None, crash_with(alloc, piece)?)?;
     found_behind(alloc, vec![in alloc; only]?)

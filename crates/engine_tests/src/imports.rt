@@ -1,4 +1,5 @@
-//! A pool that is made on a memory device: the places of its parts, an import, and inspections with each read that is refused.
+//! A pool that is made on a memory device: the places of its parts, an import, and inspections with each read that is
+//! refused.
 
 use base::{Group, PoolError, read_u64};
 use device_model::{Fault, MemDevice, SectorDevice};
@@ -90,8 +91,8 @@ fn an_import_mounts_a_new_pool(rt: HostRuntime) {
     assert_eq!(rt; import_new(rt.alloc()), Ok((1, 77, true)));
 }
 
-// What an inspection tells: whether the name is `tank`, the group, the guid, the import number, the numbers of blocks, of used
-// ones and of records, and how many objects there are.
+// What an inspection tells: whether the name is `tank`, the group, the guid, the import number, the numbers of blocks,
+// of used ones and of records, and how many objects there are.
 fn inspected(
     alloc: Global,
     device: &mut MemDevice,
@@ -104,8 +105,8 @@ fn inspected(
         told.used,
         told.records,
     ];
-    let is_tank = told.name().as_slice() == b"tank".as_slice();
-    Ok((is_tank, told.group, numbers, told.objects().len()))
+    let is_tank = told.name.as_slice() == b"tank".as_slice();
+    Ok((is_tank, told.group, numbers, told.objects.len()))
 }
 
 // It, of a new pool on 8 MiB.

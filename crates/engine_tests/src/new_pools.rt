@@ -1,4 +1,5 @@
-//! The bytes of a new pool on a file. Their sums are those of a writer of the formats that shares no code with this one.
+//! The bytes of a new pool on a file. Their sums are those of a writer of the formats that shares no code with this
+//! one.
 
 use base::RefusedCalls;
 use device_model::FileDevice;

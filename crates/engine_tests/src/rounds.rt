@@ -6,8 +6,8 @@ use device_model::MemDevice;
 use round_trip::play;
 use std::alloc::Global;
 
-// How many replies a round has, whether the last is that of its sync, the group that the import behind it synced, and whether
-// the object is found.
+// How many replies a round has, whether the last is that of its sync, the group that the import after it synced, and
+// whether the object is found.
 fn play_sync(alloc: Global) -> Result<(usize, bool, Group, bool), PoolError> {
     let device = MemDevice::new(alloc, 12_288)?;
     // the object's block, its map, the directory and the root, and 6 calls more

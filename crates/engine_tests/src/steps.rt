@@ -55,13 +55,13 @@ pub fn stored(alloc: Global, calls: usize) -> Result<Vec<Step>, AllocError> {
     Ok(steps)
 }
 
-// The device of a new pool on 8 MiB behind the steps.
+// The device of a new pool on 8 MiB after the steps.
 fn device_behind(alloc: Global, steps: Vec<Step>) -> Result<MemDevice, PoolError> {
     let (_, device) = round(alloc, new_pool(alloc, 16_384)?, 1_048_576, 6, steps)?;
     Ok(device)
 }
 
-// How many writes are unflushed behind the steps, and how many places have their numbers before the first that has not.
+// How many writes are unflushed after the steps, and how many places have their numbers before the first that has not.
 fn numbers_behind(
     alloc: Global,
     steps: Vec<Step>,
@@ -71,7 +71,7 @@ fn numbers_behind(
     Ok((device.unflushed(), count_numbers(&mut device, 0, rows)))
 }
 
-// They, behind so many syncs of empty groups.
+// They, after so many syncs of empty groups.
 fn numbers_behind_syncs(
     alloc: Global,
     count: usize,
@@ -80,7 +80,7 @@ fn numbers_behind_syncs(
     numbers_behind(alloc, empty_syncs(alloc, count)?, rows)
 }
 
-// They, behind a transaction and its sync.
+// They, after a transaction and its sync.
 fn numbers_behind_stored(alloc: Global, rows: &[(u64, u64)]) -> Result<(usize, usize), PoolError> {
     numbers_behind(alloc, stored(alloc, 10)?, rows)
 }
@@ -132,7 +132,7 @@ fn empty_syncs(alloc: Global, count: usize) -> Result<Vec<Step>, AllocError> {
 #[test]
 fn the_slots_go_round(rt: HostRuntime) {
     let rows = [
-        // from group 8 on 200 groups: uberblock 208 lies in slot 80 of label 0, 207 before it, and 81 still behind it
+        // from group 8 on 200 groups: uberblock 208 lies in slot 80 of label 0, 207 before it, and 81 still after it
         (212_992, 0x00ba_b10c),
         (212_992 + 16, 208),
         (211_968 + 16, 207),
@@ -141,24 +141,24 @@ fn the_slots_go_round(rt: HostRuntime) {
     assert_eq!(rt; numbers_behind_syncs(rt.alloc(), 200, &rows), Ok((0, 4)));
 }
 
-// The device behind four blocks, a flush, and four uberblocks that nothing flushes.
+// The device after four blocks, a flush, and four uberblocks that nothing flushes.
 fn unflushed_device(alloc: Global) -> Result<MemDevice, PoolError> {
     device_behind(alloc, stored(alloc, 9)?)
 }
 
-// What an inspection tells: the group, the import number, the numbers of blocks and of used ones, and whether the object is
-// the only one.
+// What an inspection tells: the group, the import number, the numbers of blocks and of used ones, and whether the
+// object is the only one.
 fn inspected(alloc: Global, device: &mut MemDevice) -> Result<(Group, [u64; 3], bool), PoolError> {
     let told = inspect(alloc, device)?;
     let numbers = [told.import_number, told.blocks, told.used];
     Ok((
         told.group,
         numbers,
-        told.objects() == [(OBJECT, 4)].as_slice(),
+        told.objects.as_slice() == [(OBJECT, 4)].as_slice(),
     ))
 }
 
-// It, and how many writes are unflushed behind it.
+// It, and how many writes are unflushed after it.
 fn inspect_unflushed(
     alloc: Global,
 ) -> Result<(Result<(Group, [u64; 3], bool), PoolError>, usize), PoolError> {

@@ -1,4 +1,5 @@
--- What a group made of the objects, laid over the slots of contents one object after the other, makes the patched objects.
+-- What a group made of the objects, laid over the slots of contents one object after the other, makes the patched
+-- objects.
 use Rattle.std.proofs.Common.{◌≡◌, ℕ, ◌<◌, ◌≤◌, ◌≢◌, true, false, cond, refl, ap, sym, ◌∙◌, arith, ◌⊎◌, inl, inr, List, [], ◌∷◌, length, Option, Some, None}
 use Rattle.std.specs.Prelude.{Bool, IfSome, nat_eq, option_map, slice_get}
 use Rattle.std.specs.Option.{option_map_or}

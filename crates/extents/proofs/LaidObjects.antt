@@ -94,7 +94,7 @@ get-laid_groups_past zero group patches below numbered = numbered
 get-laid_groups_past (suc count) group patches below numbered =
     get-laid_groups_past count (suc group) patches (laid_over (patches group) below) (get-laid_past (patches group) below)
 
--- Laid over the objects of the synced tree, the changes of the groups behind it are the contents.
+-- Laid over the objects of the synced tree, the changes of the groups after it are the contents.
 pub laid_groups_replay : (entries : List Entry) (count group : ℕ) (patches : ℕ → Patches) (tree now : Contents)
     → ((g : ℕ) → group ≤ g → g < group + count → ArePatchesOf (ops_of_group g entries) (patches g))
     → replay (group_by_group group count entries) tree ≡ Ok now → AreNumbered tree.objects → AreNumbered now.objects
@@ -106,7 +106,7 @@ laid_groups_replay entries count group patches tree now are replays before after
     at n (inl l) = get-laid_groups count group entries patches tree.objects are n l ∙ sym (objects_replay (group_by_group group count entries) tree now n replays)
     at n (inr g) = get-laid_groups_past count group patches tree.objects before n g ∙ sym (after n g)
 
--- the changes of the groups behind the synced one, over its objects, are the contents
+-- the changes of the groups after the synced one, over its objects, are the contents
 pub groups_are_read : GroupsAreRead
 groups_are_read entries synced count base tree now patches history up_to replayed are before after =
     let g = groups_give_contents entries synced count base now history up_to in

@@ -1,4 +1,5 @@
--- The bytes that a patch makes of an object, one by one: a write and a cut of the patch are a write and a cut of the object.
+-- The bytes that a patch makes of an object, one by one: a write and a cut of the patch are a write and a cut of the
+-- object.
 use Rattle.std.proofs.Common.{◌≡◌, ℕ, ◌+◌, ◌<◌, ◌≤◌, max, List, Option, Some, None, length, get_or, refl, ap, sym, ◌∙◌, arith, ◌⊎◌, inl, inr, true, false}
 use Rattle.std.specs.Prelude.{unwrap_or, is_some, nat_le, nat_lt}
 use Rattle.std.proofs.lemmas.List.{ext_get_or, get_or_past}
@@ -73,7 +74,7 @@ written-within size written below offset new i is = go (cases_lt i (offset + len
     go (inl l) = omega arith
     go (inr g) = let h : i < size = below i (rw (and_right (nat_le offset i) (nat_lt i (offset + length new)) (le-ltb i (offset + length new) g)) at is) in omega arith
 
--- behind a cut nothing is written
+-- after a cut nothing is written
 pub written-cut : (new : ℕ) (written : ℕ → Option ℕ) → WritesBelow (written_below new written) new
 written-cut new written i is = go (cases_lt i new)
   where

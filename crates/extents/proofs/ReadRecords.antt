@@ -45,19 +45,6 @@ count_shown shown start size count k is inside = go (cases_lt (start + k) shown)
     go (inl l) = rw (lt-ltb k count (omega arith), lt-ltb (start + k) shown l) refl
     go (inr g) = rw (le-ltb k count (omega arith), le-ltb (start + k) shown g) refl
 
--- Bytes below are cleared as far as they don't show, and those that were written are laid over them.
-module _ (basis : Basis) (written : ℕ → Option ℕ) (index start shown count : ℕ) (old cleared new : List ℕ)
-    (tells : (k : ℕ) → k < 4032 → nat_lt k shown ≡ is_shown basis (4032 * index + k)) (is_count : count ≡ min (shown - start) (length old)) (within : start + length old ≤ 4032)
-    (clears : (k : ℕ) → k < length old → get_or cleared k 0 ≡ cond (nat_lt k count) (get_or old k 0) 0)
-    (lays : (k : ℕ) → k < length old → get_or new k 0 ≡ unwrap_or (written (4032 * index + (start + k))) (get_or cleared k 0)) where
-  pub laid_on : LaysOn (record { basis = basis; written = written }) (4032 * index + start) old new
-  laid_on k inside =
-      let same : 4032 * index + (start + k) ≡ 4032 * index + start + k = omega arith in
-      let shows : nat_lt k count ≡ is_shown basis (4032 * index + (start + k)) = count_shown shown start (length old) count k is_count inside ∙ tells (start + k) (omega (arith, within, inside)) in
-      lays k inside
-      ∙ ap (unwrap_or (written (4032 * index + (start + k)))) (clears k inside ∙ ap (λ b. cond b (get_or old k 0) 0) shows)
-      ∙ ap (λ (j : ℕ). unwrap_or (written j) (cond (is_shown basis j) (get_or old k 0) 0)) same
-
 or_true : (b : Bool) → (b || true) ≡ true
 or_true true = refl
 or_true false = refl

@@ -1,13 +1,11 @@
 -- A write to an object, record by record.
-use Rattle.std.proofs.Common.{◌≡◌, ℕ, zero, suc, [], ◌∷◌, ◌+◌, ◌-◌, ◌*◌, ◌/◌, ◌%◌, ◌<◌, ◌≤◌, ◌≢◌, max, min, refl, ap, sym, ◌∙◌, arith, ◌⊎◌, inl, inr, List, length, get_or, take, drop, Option, Some, None, get_or-take, get_or-drop, length-take, length-drop}
-use Rattle.std.specs.Prelude.{cond, nat_lt, nat_le, ◌&&◌, ◌==◌, slice_get}
+use Rattle.std.proofs.Common.{◌≡◌, ℕ, ◌+◌, ◌-◌, ◌*◌, ◌/◌, ◌%◌, ◌<◌, ◌≤◌, ◌≢◌, max, min, refl, ap, sym, ◌∙◌, arith, ◌⊎◌, inl, inr, List, length, get_or, take, drop, Option, Some, None, get_or-take, get_or-drop, length-take, length-drop}
+use Rattle.std.specs.Prelude.{cond, nat_eq, nat_lt, nat_le, ◌&&◌, ◌==◌}
 use Rattle.std.specs.Option.{option_map_or}
 use Rattle.std.proofs.lemmas.Bool.{cases_lt, cases_eq, lt-leb, le-leb, lt-ltb, le-ltb, eq-eqb, ne_eqb, and_right}
 use Rattle.extents.specs.Patches.{written_after}
-use Rattle.std.proofs.Math.ListN.{set}
-use Rattle.std.proofs.lemmas.Option.{slice_get_past}
 use Rattle.extents.specs.declared.record.RecordPatch.{RecordPatch}
-use Rattle.extents.specs.Records.{bytes_written, written_by}
+use Rattle.extents.specs.Records.{bytes_written, record_at, written_by}
 use Rattle.extents.specs.Objects.{written_at_record, written_before_record}
 
 -- a byte out of the range of a write stays
@@ -43,50 +41,43 @@ part_written index offset k content part low high old new inside is_low is_high 
         ∙ get_or-drop (low - offset) content (k - (low - 4032 * index)) 0 ∙ ap (λ j. get_or content j 0) e))
         ∙ sym (written_in_range offset content new (4032 * index + k) (omega arith) (omega arith))
 
-slice_get-set_same : (records : List RecordPatch) (n : ℕ) (r : RecordPatch) → n < length records → slice_get (set records n r) n ≡ Some r
-slice_get-set_same [] n r low = absurd (omega arith)
-slice_get-set_same (t ∷ records) zero r low = refl
-slice_get-set_same (t ∷ records) (suc n) r low = slice_get-set_same records n r (omega arith)
-
-slice_get-set_other : (records : List RecordPatch) (n : ℕ) (r : RecordPatch) (k : ℕ) → k ≢ n → slice_get (set records n r) k ≡ slice_get records k
-slice_get-set_other [] n r k ne = refl
-slice_get-set_other (t ∷ records) zero r zero ne = absurd (ne refl)
-slice_get-set_other (t ∷ records) zero r (suc k) ne = refl
-slice_get-set_other (t ∷ records) (suc n) r zero ne = refl
-slice_get-set_other (t ∷ records) (suc n) r (suc k) ne = slice_get-set_other records n r k (λ e. ne (ap suc e))
-
 -- what is written at an offset once a record has changed
-pub record_set : (records : List RecordPatch) (index : ℕ) (r : RecordPatch) (i : ℕ) → index < length records
-    → written_by (set records index r) i ≡ cond (i / 4032 == index) (bytes_written r (i % 4032)) (written_by records i)
-record_set records index r i low = go (cases_eq (i / 4032) index)
-  where
-    go : (i / 4032 ≡ index) ⊎ (i / 4032 ≢ index) → written_by (set records index r) i ≡ cond (i / 4032 == index) (bytes_written r (i % 4032)) (written_by records i)
-    go (inl e) =
-        let at : slice_get (set records index r) (i / 4032) ≡ Some r = rw e (slice_get-set_same records index r low) in
-        rw (eq-eqb (i / 4032) index e) (ap (λ (o : Option RecordPatch). option_map_or (λ r. bytes_written r (i % 4032)) o None) at)
-    go (inr e) = rw (ne_eqb (i / 4032) index e) (ap (λ (o : Option RecordPatch). option_map_or (λ r. bytes_written r (i % 4032)) o None) (slice_get-set_other records index r (i / 4032) e))
-
--- the record at an index has the bytes that were written there
-pub record_at : (records : List RecordPatch) (r : RecordPatch) (i : ℕ) → slice_get records (i / 4032) ≡ Some r → written_by records i ≡ bytes_written r (i % 4032)
-record_at records r i at = ap (λ (o : Option RecordPatch). option_map_or (λ r. bytes_written r (i % 4032)) o None) at
-
--- a write to one record of an object
-pub write_to_record : (records : List RecordPatch) (index offset : ℕ) (content part : List ℕ) (low high : ℕ) (old new : RecordPatch)
-    → index < length records → slice_get records index ≡ Some old
-    → low ≡ max offset (4032 * index) → high ≡ min (offset + length content) (4032 * index + 4032) → low ≤ high → part ≡ take (high - offset - (low - offset)) (drop (low - offset) content)
-    → ((k : ℕ) → bytes_written new k ≡ written_after (low - 4032 * index) part (bytes_written old) k)
-    → (i : ℕ) → written_by (set records index new) i ≡ written_at_record index offset content (written_by records) i
-write_to_record records index offset content part low high old new fits at is_low is_high order is_part wrote i = record_set records index new i fits ∙ go (cases_eq (i / 4032) index)
+pub record_put : (old new : List (ℕ × RecordPatch)) (index : ℕ) (r : RecordPatch) (i : ℕ)
+    → ((q : ℕ) → record_at new q ≡ cond (nat_eq index q) (Some r) (record_at old q))
+    → written_by new i ≡ cond (i / 4032 == index) (bytes_written r (i % 4032)) (written_by old i)
+record_put old new index r i put = ap (λ (o : Option RecordPatch). option_map_or (λ r. bytes_written r (i % 4032)) o None) (put (i / 4032)) ∙ go (cases_eq (i / 4032) index)
   where
     go : (i / 4032 ≡ index) ⊎ (i / 4032 ≢ index)
-        → cond (i / 4032 == index) (bytes_written new (i % 4032)) (written_by records i) ≡ cond (i / 4032 == index) (written_after offset content (written_by records) i) (written_by records i)
+        → option_map_or (λ r. bytes_written r (i % 4032)) (cond (nat_eq index (i / 4032)) (Some r) (record_at old (i / 4032))) None
+        ≡ cond (i / 4032 == index) (bytes_written r (i % 4032)) (written_by old i)
+    go (inl e) = rw (eq-eqb (i / 4032) index e, eq-eqb index (i / 4032) (sym e)) refl
+    go (inr e) = rw (ne_eqb (i / 4032) index e, ne_eqb index (i / 4032) (λ f. e (sym f))) refl
+
+-- the record at a number has the bytes that were written there
+written-record : (records : List (ℕ × RecordPatch)) (r : RecordPatch) (i : ℕ) → record_at records (i / 4032) ≡ Some r → written_by records i ≡ bytes_written r (i % 4032)
+written-record records r i at = ap (λ (o : Option RecordPatch). option_map_or (λ r. bytes_written r (i % 4032)) o None) at
+
+-- without a record nothing is written
+pub none_written : (records : List (ℕ × RecordPatch)) (i : ℕ) → record_at records (i / 4032) ≡ None → written_by records i ≡ None
+none_written records i at = ap (λ (o : Option RecordPatch). option_map_or (λ r. bytes_written r (i % 4032)) o None) at
+
+-- a write to one record of an object
+pub write_to_record : (was now : List (ℕ × RecordPatch)) (index offset : ℕ) (content part : List ℕ) (low high : ℕ) (old new : RecordPatch)
+    → record_at was index ≡ Some old → ((q : ℕ) → record_at now q ≡ cond (nat_eq index q) (Some new) (record_at was q))
+    → low ≡ max offset (4032 * index) → high ≡ min (offset + length content) (4032 * index + 4032) → low ≤ high → part ≡ take (high - offset - (low - offset)) (drop (low - offset) content)
+    → ((k : ℕ) → bytes_written new k ≡ written_after (low - 4032 * index) part (bytes_written old) k)
+    → (i : ℕ) → written_by now i ≡ written_at_record index offset content (written_by was) i
+write_to_record was now index offset content part low high old new at put is_low is_high order is_part wrote i = record_put was now index new i put ∙ go (cases_eq (i / 4032) index)
+  where
+    go : (i / 4032 ≡ index) ⊎ (i / 4032 ≢ index)
+        → cond (i / 4032 == index) (bytes_written new (i % 4032)) (written_by was i) ≡ cond (i / 4032 == index) (written_after offset content (written_by was) i) (written_by was i)
     go (inl e) =
         let inside : i % 4032 < 4032 = omega arith in
         let is : 4032 * index + i % 4032 ≡ i = omega arith in
-        let here : bytes_written old (i % 4032) ≡ written_by records (4032 * index + i % 4032) = rw is (sym (record_at records old i (rw e at))) in
+        let here : bytes_written old (i % 4032) ≡ written_by was (4032 * index + i % 4032) = rw is (sym (written-record was old i (rw e at))) in
         rw (eq-eqb (i / 4032) index e)
-        (wrote (i % 4032) ∙ part_written index offset (i % 4032) content part low high (bytes_written old) (written_by records) inside is_low is_high order is_part here
-        ∙ ap (written_after offset content (written_by records)) is)
+        (wrote (i % 4032) ∙ part_written index offset (i % 4032) content part low high (bytes_written old) (written_by was) inside is_low is_high order is_part here
+        ∙ ap (written_after offset content (written_by was)) is)
     go (inr e) = rw (ne_eqb (i / 4032) index e) refl
 
 -- the write comes to one record more
@@ -105,14 +96,10 @@ next_record index offset content old mid so_far i = go (cases_eq (i / 4032) inde
     go (inr e) (inr from) =
         rw (ne_eqb (i / 4032) index e, le-ltb (i / 4032) (index + 1) (omega arith)) (so_far i ∙ rw (le-ltb (i / 4032) index from) refl)
 
--- past the last record nothing is written
-pub past_last : (records : List RecordPatch) (i : ℕ) → length records ≤ i / 4032 → written_by records i ≡ None
-past_last records i past = ap (λ (o : Option RecordPatch). option_map_or (λ r. bytes_written r (i % 4032)) o None) (slice_get_past records (i / 4032) past)
-
 -- a byte of a record is the one of the object there
-pub record_byte : (records : List RecordPatch) (r : RecordPatch) (index k : ℕ) → k < 4032 → slice_get records index ≡ Some r
+pub record_byte : (records : List (ℕ × RecordPatch)) (r : RecordPatch) (index k : ℕ) → k < 4032 → record_at records index ≡ Some r
     → bytes_written r k ≡ written_by records (4032 * index + k)
 record_byte records r index k inside at =
     let d : (4032 * index + k) / 4032 ≡ index = omega arith in
     let m : (4032 * index + k) % 4032 ≡ k = omega arith in
-    sym (record_at records r (4032 * index + k) (rw d at) ∙ ap (bytes_written r) m)
+    sym (written-record records r (4032 * index + k) (rw d at) ∙ ap (bytes_written r) m)

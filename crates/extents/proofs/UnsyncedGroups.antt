@@ -1,4 +1,5 @@
--- The changes of the unsynced groups, over the objects of the synced tree, are the contents, before a sync and after it.
+-- The changes of the unsynced groups, over the objects of the synced tree, are the contents, before a sync and after
+-- it.
 use Rattle.std.proofs.Common.{◌≡◌, ℕ, zero, suc, ◌+◌, ◌-◌, ◌<◌, ◌≤◌, List, refl, ap, sym, subst, ◌∙◌, arith}
 use Rattle.std.specs.Ordering.{nat_cmp}
 use Rattle.std.specs.FinMap.{FinMap}
@@ -36,7 +37,7 @@ oldest_is_laid old new below moved =
     ∙ ap (laid_over (changes_at new 2)) (laid_same (changes_at new 1) (changes_at old 2) second (moved 1))
     ∙ laid_nothing (changes_at new 2) third (moved 2) (get-laid_past (changes_at old 2) second)
 
--- the groups behind the synced one, by their places
+-- the groups after the synced one, by their places
 abbrev placed : ℕ → UnsyncedExtents → ℕ → Patches
 placed synced e group = changes_at e (group - (synced + 1))
 

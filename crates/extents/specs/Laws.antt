@@ -43,7 +43,7 @@ GroupIsRead = (ops : List Op) (patches : Patches) (before after : Contents) → 
 abbrev pub ArePatchesOfGroups : ℕ → ℕ → List Entry → (ℕ → Patches) → Type 0
 ArePatchesOfGroups group count entries patches = (g : ℕ) → group ≤ g → g < group + count → ArePatchesOf (ops_of_group g entries) (patches g)
 
--- the changes of the groups behind the synced one, over its objects, are the contents
+-- the changes of the groups after the synced one, over its objects, are the contents
 abbrev pub GroupsAreRead : Type 0
 GroupsAreRead = (entries : List Entry) (synced count : ℕ) (base tree now : Contents) (patches : ℕ → Patches) → IsHistory entries base now
     → All (λ (e : Entry). e.group ≤ synced + count) entries → replay (entries_up_to synced entries) base ≡ Ok tree
@@ -54,7 +54,7 @@ GroupsAreRead = (entries : List Entry) (synced count : ℕ) (base tree now : Con
 abbrev pub ArePatchesAt : ℕ → List Entry → UnsyncedExtents → Type 0
 ArePatchesAt synced entries e = (place : ℕ) → place < 3 → ArePatchesOf (ops_of_group (synced + 1 + place) entries) (changes_at e place)
 
--- the changes of the three groups behind the synced one, over its objects, are the contents
+-- the changes of the three groups after the synced one, over its objects, are the contents
 abbrev pub UnsyncedAreRead : Type 0
 UnsyncedAreRead = (entries : List Entry) (synced : ℕ) (base tree now : Contents) (e : UnsyncedExtents) → IsHistory entries base now
     → All (λ (e : Entry). e.group ≤ synced + 3) entries → replay (entries_up_to synced entries) base ≡ Ok tree

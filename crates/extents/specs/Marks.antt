@@ -1,6 +1,5 @@
 -- The bytes that a group wrote into a record, by a mask.
 use Rattle.std.specs.Prelude.{cond, ℕ, ◌==◌, ◌||◌, Bool, List, get_or, Option, Some, None, unwrap_or}
-use Rattle.base.specs.formats.Limits.{record_size}
 
 -- a byte was written, or not
 abbrev pub is_mark : ℕ → Bool
@@ -16,7 +15,3 @@ byte_in bytes mask k = marked_byte (get_or mask k 0) (get_or bytes k 0)
 -- a byte laid over the one below
 abbrev pub laid_byte : ℕ → ℕ → ℕ → ℕ
 laid_byte mark byte below = unwrap_or (marked_byte mark byte) below
-
--- room for all bytes of a record, or for none
-abbrev pub is_room : ℕ → Bool
-is_room n = (n == 0) || (n == record_size)

@@ -1,4 +1,5 @@
--- What one group made of the objects of a pool, told without what lies below: which bytes it wrote, and what stays of those below.
+-- What one group made of the objects of a pool, told without what lies below: which bytes it wrote, and what stays of
+-- those below.
 use Rattle.std.specs.Prelude.{cond, ℕ, zero, suc, true, false, Bool, ◌≡◌, ◌<◌, ◌≤◌, ◌+◌, ◌-◌, ◌==◌, ◌&&◌, List, [], fold, map, length, max, min, take, get_or, nat_lt, nat_le, Option, Some, None, is_some, unwrap_or, option_map}
 use Rattle.std.specs.List.{range_with_len}
 use Rattle.std.specs.Coded.{×_prop, Π_prop, →_prop, Unit-prop, le_prop}
@@ -12,7 +13,8 @@ use Rattle.extents.specs.declared.basis.Basis.{Basis}
 use Rattle.extents.specs.declared.basis.Basis.TheVariants.{Grown, Cut, Made, Gone}
 use Rattle.base.specs.history.Contents.{object_after, stored}
 
--- what a group makes of one object: what it leaves of the one below, and the byte that it wrote at each offset, None where it wrote none
+-- what a group makes of one object: what it leaves of the one below, and the byte that it wrote at each offset, None
+-- where it wrote none
 pub record Patch : Type 0 where
   pub basis : Basis
   pub written : ℕ → Option ℕ

@@ -1,6 +1,7 @@
 //! What a group leaves of an object.
 
 ghost use Rattle.std.specs.Prelude.{ℕ, ◌≡◌, ◌<◌, ◌≤◌, ◌+◌, ◌*◌, nat_lt, option_map};
+ghost use Rattle.base.specs.formats.Limits.{record_count, record_size};
 
 use base::RECORD_SIZE;
 
@@ -67,10 +68,10 @@ impl Basis {
 
     /// How many bytes from the front of a record of the object below show. The record is at this index.
     pub(crate) fn shown_in(self, index: usize) -> usize
-        requires { index < 84 }
-        ensures size { result ≤ 4032 }
-        ensures shown { (k : ℕ) → k < 4032
-            → nat_lt k result ≡ is_shown self (4032 * index + k) }
+        requires { index < record_count }
+        ensures size { result ≤ record_size }
+        ensures shown { (k : ℕ) → k < record_size
+            → nat_lt k result ≡ is_shown self (record_size * index + k) }
     {
         let begin = RECORD_SIZE * index;
         match self {
@@ -83,8 +84,8 @@ impl Basis {
 
 // How many bytes of a record that begins at an offset lie below the first ones that are kept.
 fn shown_of(kept: usize, begin: usize) -> usize
-    ensures size { result ≤ 4032 }
-    ensures shown { (k : ℕ) → k < 4032 → nat_lt k result ≡ nat_lt (begin + k) kept }
+    ensures size { result ≤ record_size }
+    ensures shown { (k : ℕ) → k < record_size → nat_lt k result ≡ nat_lt (begin + k) kept }
 {
     (kept.max(begin) - begin).min(RECORD_SIZE)
 }

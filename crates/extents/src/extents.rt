@@ -2,6 +2,7 @@
 
 ghost use Rattle.std.specs.Prelude.{ℕ, ◌≡◌, ◌<◌, ◌≤◌, ◌+◌, ◌*◌, true, IsSome, OnErr, OnOk, length, nat_lt};
 ghost use Rattle.std.specs.List.{list_all};
+ghost use Rattle.base.specs.formats.Limits.{max_length, record_count, record_size};
 
 use crate::object::ObjectPatch;
 use base::{ObjectId, Op};
@@ -30,7 +31,7 @@ impl Extents {
         }
     }
 
-    // An object has an entry, which says nothing where it is new.
+    // An object has an entry, which says nothing if it is new.
     fn touch(&mut self, id: ObjectId) -> Result<(), AllocError>
         ensures entry { OnOk result (HasEntry self.new id.0) }
         ensures kept { KeepsEntries self.old self.new }
@@ -40,7 +41,7 @@ impl Extents {
             return Ok(());
         }
         self.patches.reserve(1)?;
-        let patch = ObjectPatch::new(*self.patches.allocator())?;
+        let patch = ObjectPatch::new(*self.patches.allocator());
         self.patches.insert(id.0, patch).unwrap();
         Ok(())
     }
@@ -48,7 +49,7 @@ impl Extents {
     // Takes the room for a write to an object.
     fn reserve_write(&mut self, id: ObjectId, offset: usize, count: usize) -> Result<(), AllocError>
         requires some { 0 < count }
-        requires within { offset + count ≤ 338688 }
+        requires within { offset + count ≤ max_length }
         ensures room { OnOk result (HasRoomIn self.new id.0 offset count) }
         ensures kept { KeepsRooms self.old self.new }
         ensures same { LeavesPatches self.old self.new }
@@ -62,7 +63,7 @@ impl Extents {
 
     fn write(&mut self, id: ObjectId, offset: usize, content: &[u8])
         requires some { 0 < length content.now }
-        requires within { offset + length content.now ≤ 338688 }
+        requires within { offset + length content.now ≤ max_length }
         requires room { HasRoomIn self.old id.0 offset (length content.now) }
         ensures kept { KeepsRooms self.old self.new }
         ensures others { KeepsOtherEntries id.0 self.old self.new }
@@ -98,7 +99,7 @@ impl Extents {
 
     fn set_length(&mut self, id: ObjectId, length: usize)
         requires entry { HasEntry self.old id.0 }
-        requires within { length ≤ 338688 }
+        requires within { length ≤ max_length }
         ensures kept { KeepsRooms self.old self.new }
         ensures others { KeepsOtherEntries id.0 self.old self.new }
         ensures here { IsSame (patches_of self.new id.0)
@@ -109,11 +110,11 @@ impl Extents {
         }
     }
 
-    /// Adds operations to what the group made, in order. All memory is taken first: where it is refused the group made what
-    /// it made before.
+    /// Adds operations to what the group made, in order. All memory is taken first: if it is refused, the group made
+    /// what it made before.
     ///
     /// # Errors
-    /// Where there is no memory.
+    /// If no memory is left.
     pub fn add(&mut self, ops: &[Op]) -> Result<(), AllocError>
         requires { AreOpsAllowed ops.now }
         ensures added { OnOk result (AppliesOps ops.now self.old self.new) }
@@ -125,11 +126,11 @@ impl Extents {
         Ok(())
     }
 
-    /// Takes the room that operations need, so that `apply` takes no memory. What the group made stays, and so does the room
-    /// that was taken before.
+    /// Takes the room that operations need, so that `apply` takes no memory. What the group made stays, and so does the
+    /// room that was taken before.
     ///
     /// # Errors
-    /// Where there is no memory.
+    /// If no memory is left.
     pub fn reserve(&mut self, ops: &[Op]) -> Result<(), AllocError>
         requires { AreOpsAllowed ops.now }
         ensures room { OnOk result (CanApplyAll self.new ops.now) }
@@ -168,7 +169,7 @@ impl Extents {
         content: &[u8],
     ) -> Result<(), AllocError>
         requires some { 0 < length content.now }
-        requires within { offset + length content.now ≤ 338688 }
+        requires within { offset + length content.now ≤ max_length }
         ensures room { OnOk result (HasRoomIn self.new id.0 offset (length content.now)) }
         ensures bytes { list_all (λ b. nat_lt b 256) content.now ≡ true }
         ensures kept { KeepsRooms self.old self.new }
@@ -205,7 +206,7 @@ impl Extents {
         }
     }
 
-    /// The length of an object in bytes, from that of the one below, where `None` is no object.
+    /// The length of an object in bytes, from that of the one below; `None` is no object.
     pub fn length_over(&self, id: ObjectId, below: Option<u64>) -> Option<u64>
         ensures { result ≡ length_over (patches_of self.now id.0).basis below }
     {
@@ -215,9 +216,9 @@ impl Extents {
         }
     }
 
-    /// Makes of bytes of a record of the object below, from the offset `start` in it on and with zeros behind that object's
-    /// end, those of this object. `below` is the length of the object below in bytes, `None` where there is no such object;
-    /// its bytes are zeros then. It goes over these bytes alone, and takes no memory.
+    /// Makes of bytes of a record of the object below, from the offset `start` in it on and with zeros after that
+    /// object's end, those of this object. `below` is the length of the object below in bytes, `None` if there is no
+    /// such object; its bytes are zeros then. It goes over these bytes alone, and takes no memory.
     pub fn lay_over(
         &self,
         id: ObjectId,
@@ -226,10 +227,10 @@ impl Extents {
         below: Option<u64>,
         into: &mut [u8],
     )
-        requires index { index < 84 }
-        requires within { start + length into.old ≤ 4032 }
+        requires index { index < record_count }
+        requires within { start + length into.old ≤ record_size }
         ensures size { length into.new ≡ length into.old }
-        ensures bytes { LaysOver (patches_of self.now id.0) (4032 * index + start) below
+        ensures bytes { LaysOver (patches_of self.now id.0) (record_size * index + start) below
             into.old into.new }
     {
         if let Some(patch) = self.patches.get(&id.0) {

@@ -22,13 +22,14 @@ pub fn added_changes()
     ensures { AddedChanges }
 {}
 
-/// Laid one over the other, oldest first, over the objects of the synced tree, the changes of the unsynced groups are the
-/// contents, in whatever order their transactions were committed.
+/// Laid one over the other, oldest first, over the objects of the synced tree, the changes of the unsynced groups are
+/// the contents, in whatever order their transactions were committed.
 pub fn groups_are_read()
     ensures { GroupsAreRead }
 {}
 
-/// Objects below the last number and no longer than an object may be stay so with the changes of a group laid over them.
+/// Objects below the last number and no longer than an object may be stay so with the changes of a group laid over
+/// them.
 pub fn objects_stay_within()
     ensures { StayWithin }
 {}
@@ -48,7 +49,7 @@ pub fn oldest_is_laid()
     ensures { OldestIsLaid }
 {}
 
-/// The changes of the unsynced groups stay those of their entries where what each group made stays.
+/// The changes of the unsynced groups stay those of their entries if what each group made stays.
 pub fn left_changes()
     ensures { LeftChanges }
 {}

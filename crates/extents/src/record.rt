@@ -2,7 +2,8 @@
 
 ghost use Rattle.std.specs.Prelude.{ℕ, ◌≡◌, ◌<◌, ◌≤◌, ◌+◌, ◌↔◌, true, false, All, None, IfOk, IsTrue, OnOk, get_or, is_some, length, replicate, unwrap_or, vec_len};
 ghost use Rattle.base.specs.disk.Disk.{put};
-ghost use Rattle.extents.specs.Marks.{is_mark, is_room, laid_byte};
+ghost use Rattle.base.specs.formats.Limits.{record_size};
+ghost use Rattle.extents.specs.Marks.{is_mark, laid_byte};
 
 use base::RECORD_SIZE;
 use std::alloc::{AllocError, Global};
@@ -10,65 +11,49 @@ use std::alloc::{AllocError, Global};
 // What marks a byte that was written. Others are marked by 0.
 const WRITTEN: u8 = 255;
 
-/// The bytes that a group wrote into a record, by their offsets in it. It has room for all of a record's bytes, or for none.
+/// The bytes that a group wrote into a record, by their offsets in it. It has room for all of a record's bytes.
 #[derive(Debug, Drop)]
 pub(crate) struct RecordPatch {
     bytes: Vec<u8>,
-    // 255 where a byte was written
+    // 255 at each byte that was written
     mask: Vec<u8>,
-    ghost alike: { vec_len bytes ≡ vec_len mask },
-    ghost room: { is_room (vec_len mask) ≡ true },
+    ghost all_bytes: { vec_len bytes ≡ record_size },
+    ghost all_marks: { vec_len mask ≡ record_size },
     ghost marked: { All (λ m. is_mark m ≡ true) mask.items },
 }
 
 impl RecordPatch {
     ghost use Rattle.extents.specs.Patches.{written_after, written_below};
-    ghost use Rattle.extents.specs.Records.{HasRecordRoom, bytes_written};
+    ghost use Rattle.extents.specs.Records.{bytes_written};
 
-    /// A record without a written byte, and without room. It takes no memory.
-    pub fn new(alloc: Global) -> Self
-        ensures { (k : ℕ) → bytes_written result k ≡ None }
+    /// A record without a written byte.
+    ///
+    /// # Errors
+    /// If no memory is left.
+    pub fn new(alloc: Global) -> Result<Self, AllocError>
+        ensures { IfOk result (λ patch. (k : ℕ) → bytes_written patch k ≡ None) }
     {
-        RecordPatch {
-            bytes: Vec::new(alloc),
-            mask: Vec::new(alloc),
-        }
-    }
-
-    /// Takes the room for a record's bytes. It is refused where there is no memory.
-    pub fn reserve(&mut self) -> Result<(), AllocError>
-        ensures room { OnOk result (HasRecordRoom self.new) }
-        ensures kept { (k : ℕ) → bytes_written self.new k ≡ bytes_written self.old k }
-        ensures stays { HasRecordRoom self.old → HasRecordRoom self.new }
-    {
-        if self.mask.is_empty() {
-            let alloc = *self.mask.allocator();
-            let mut bytes = Vec::new(alloc);
-            bytes.resize(RECORD_SIZE, 0)?;
-            let mut mask = Vec::new(alloc);
-            mask.resize(RECORD_SIZE, 0)?;
-            *self = RecordPatch { bytes, mask };
-        }
-        Ok(())
+        let mut bytes = Vec::new(alloc);
+        bytes.resize(RECORD_SIZE, 0)?;
+        let mut mask = Vec::new(alloc);
+        mask.resize(RECORD_SIZE, 0)?;
+        Ok(RecordPatch { bytes, mask })
     }
 
     /// Writes bytes at an offset of the record.
     pub fn write(&mut self, offset: usize, content: &[u8])
-        requires room { HasRecordRoom self.old }
-        requires within { offset + length content.now ≤ 4032 }
-        ensures bytes { (k : ℕ) → bytes_written self.new k
+        requires { offset + length content.now ≤ record_size }
+        ensures { (k : ℕ) → bytes_written self.new k
             ≡ written_after offset content.now (bytes_written self.old) k }
-        ensures room { HasRecordRoom self.new }
     {
         overwrite(&mut self.bytes, offset, content);
         mark(&mut self.mask, offset, content.len(), WRITTEN);
     }
 
-    /// Forgets what was written from an offset on. The room stays.
+    /// Forgets what was written from an offset on.
     pub fn clear_from(&mut self, offset: usize)
-        ensures bytes { (k : ℕ) → bytes_written self.new k
+        ensures { (k : ℕ) → bytes_written self.new k
             ≡ written_below offset (bytes_written self.old) k }
-        ensures stays { HasRecordRoom self.old → HasRecordRoom self.new }
     {
         if offset < self.mask.len() {
             let count = self.mask.len() - offset;
@@ -78,14 +63,11 @@ impl RecordPatch {
 
     /// Whether each of so many bytes from the offset `start` of the record on was written.
     pub fn covers(&self, start: usize, count: usize) -> bool
-        requires { start + count ≤ 4032 }
+        requires { start + count ≤ record_size }
         ensures written { IsTrue result
             ↔ ((k : ℕ) → k < count → is_some (bytes_written self.now (start + k)) ≡ true) }
         ensures some { result ≡ false → 0 < count }
     {
-        if self.mask.is_empty() {
-            return count == 0;
-        }
         self.mask[start..start + count]
             .iter()
             .all(|mark| *mark == WRITTEN)
@@ -123,7 +105,7 @@ fn mark(mask: &mut Vec<u8>, offset: usize, count: usize, mark: u8)
     mask[offset..offset + count].fill(mark);
 }
 
-// The byte that was written, where the mark says so, and otherwise the one below.
+// The byte that was written, if the mark says so, and otherwise the one below.
 fn laid_byte(below: u8, byte: u8, mark: u8) -> u8
     requires { is_mark mark ≡ true }
     ensures { result ≡ laid_byte mark byte below }

@@ -1,7 +1,7 @@
 //! What a group made of the objects becomes part of contents in memory, once the group is synced.
 
-ghost use Rattle.std.specs.Prelude.{ℕ, ◌≡◌, ◌≢◌, ◌<◌, ◌≤◌, length, get_or, option_map, take, unwrap_or, vec_capacity, vec_len, OnOk};
-ghost use Rattle.base.specs.formats.Limits.{object_count, pointer_count};
+ghost use Rattle.std.specs.Prelude.{ℕ, ◌≡◌, ◌≢◌, ◌<◌, ◌≤◌, ◌*◌, length, get_or, option_map, take, unwrap_or, vec_capacity, vec_len, OnOk};
+ghost use Rattle.base.specs.formats.Limits.{object_count, record_size};
 ghost use Rattle.object_maps.specs.ContentsShown.{contents_of, object_in, object_of};
 ghost use Rattle.object_maps.specs.Ops.{RoomGrows, room_of};
 ghost use Rattle.extents.specs.Objects.{patch_of, written_in};
@@ -12,7 +12,7 @@ ghost use Rattle.extents.specs.Tables.{patches_of};
 use crate::basis::Basis;
 use crate::extents::Extents;
 use crate::object::ObjectPatch;
-use base::{POINTER_COUNT, RECORD_SIZE};
+use base::RECORD_SIZE;
 use object_maps::{Contents, Slot};
 use std::alloc::AllocError;
 
@@ -20,7 +20,7 @@ impl Extents {
     /// Takes the room in contents that `lay_into` needs. The contents stay as they are.
     ///
     /// # Errors
-    /// Where there is no memory.
+    /// If no memory is left.
     pub fn reserve_in(&self, contents: &mut Contents) -> Result<(), AllocError>
         ensures room { OnOk result
             (HasRoomForPatches (patches_of self.now) contents.new.slots.items) }
@@ -130,21 +130,23 @@ impl ObjectPatch {
         ensures bytes { (k : ℕ) → k < length bytes.old → get_or bytes.new k 0
             ≡ unwrap_or (written_in self.now k) (get_or bytes.old k 0) }
     {
-        for index in 0..POINTER_COUNT {
+        for index in 0..bytes.len().div_ceil(RECORD_SIZE) {
             self.lay_over_record(index, bytes);
         }
     }
 
     // Lays what was written into one record over the bytes of an object, as far as they go.
     fn lay_over_record(&self, index: usize, bytes: &mut [u8])
-        requires { index < pointer_count }
+        requires { record_size * index < length bytes.old }
         ensures size { length bytes.new ≡ length bytes.old }
         ensures bytes { (k : ℕ) → k < length bytes.old → get_or bytes.new k 0
             ≡ laid_in_record index (written_in self.now) bytes.old k }
     {
-        let begin = (RECORD_SIZE * index).min(bytes.len());
+        let begin = RECORD_SIZE * index;
         let end = (begin + RECORD_SIZE).min(bytes.len());
-        self.records[index].lay_over(0, &mut bytes[begin..end]);
+        if let Some(record) = self.records.get(&index) {
+            record.lay_over(0, &mut bytes[begin..end]);
+        }
     }
 }
 

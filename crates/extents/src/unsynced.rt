@@ -1,8 +1,8 @@
 //! What the unsynced groups made of the objects of a pool.
 //!
-//! At most three groups are unsynced: one that is written out, one that quiesces and the open one. Each has a place, the
-//! oldest one place 0, and keeps what it made until it is synced: then the tree has it, and the others move up by one place.
-//! So the contents are the objects of the tree with the changes at places 0, 1 and 2 laid over them.
+//! At most three groups are unsynced: one that is written out, one that quiesces and the open one. Each has a place,
+//! the oldest one place 0, and keeps what it made until it is synced: then the tree has it, and the others move up by
+//! one place. So the contents are the objects of the tree with the changes at places 0, 1 and 2 laid over them.
 
 ghost use Rattle.std.specs.Prelude.{ℕ, ◌≡◌, ◌<◌, true, Some, OnOk};
 ghost use Rattle.std.specs.List.{list_all};
@@ -14,8 +14,8 @@ use object_maps::ObjectSource;
 use std::alloc::{AllocError, Global};
 use std::mem;
 
-/// The changes of the unsynced groups, oldest first: at most three are there, one that is written out, one that quiesces and
-/// the open one.
+/// The changes of the unsynced groups, oldest first: at most three are there, one that is written out, one that
+/// quiesces and the open one.
 #[derive(Debug, Drop)]
 pub struct UnsyncedExtents {
     alloc: Global,
@@ -42,11 +42,11 @@ impl UnsyncedExtents {
         }
     }
 
-    /// Takes the room that operations of the group at a place need, so that `apply` takes no memory. What the groups made
-    /// stays, and so does the room that was taken before.
+    /// Takes the room that operations of the group at a place need, so that `apply` takes no memory. What the groups
+    /// made stays, and so does the room that was taken before.
     ///
     /// # Errors
-    /// Where there is no memory.
+    /// If no memory is left.
     pub fn reserve(&mut self, place: usize, ops: &[Op]) -> Result<(), AllocError>
         requires place { place < 3 }
         requires allowed { AreOpsAllowed ops.now }
@@ -63,8 +63,8 @@ impl UnsyncedExtents {
         }
     }
 
-    /// Adds operations that have their room to what the group at a place made, in order. It takes no memory, and all room
-    /// stays.
+    /// Adds operations that have their room to what the group at a place made, in order. It takes no memory, and all
+    /// room stays.
     pub fn apply(&mut self, place: usize, ops: &[Op])
         requires place { place < 3 }
         requires allowed { AreOpsAllowed ops.now }
@@ -97,8 +97,8 @@ impl UnsyncedExtents {
         Laid::new(&self.third, second)
     }
 
-    /// The oldest group is synced: its changes go, the other groups move up by one place with their room, and the group at
-    /// the last place has no changes. It takes no memory.
+    /// The oldest group is synced: its changes go, the other groups move up by one place with their room, and the group
+    /// at the last place has no changes. It takes no memory.
     pub fn drop_oldest(&mut self)
         ensures changes { MovesUp self.old self.new }
         ensures room { RoomMovesUp self.old self.new }

@@ -24,7 +24,7 @@ is_released ts l i a exact apart at =
           omega (arith, before, without, now);
     }
 
--- the middle, or where there is none, a group behind the open one
+-- the middle, or where there is none, a group after the open one
 beside_open : CountedLine → ℕ
 beside_open l = option_map_or (λ (m : Middle). m.group) l.line.middle (l.line.open_group + 1)
 

@@ -1,4 +1,5 @@
--- The line of groups with its holds, one for each open transaction of a group (`txg.c`): what each call makes of it, and when it is refused.
+-- The line of groups with its holds, one for each open transaction of a group (`txg.c`): what each call makes of it,
+-- and when it is refused.
 use Rattle.std.specs.Prelude.{ℕ, ◌≡◌, ◌+◌, ◌-◌, ◌==◌, ◌||◌, Bool, false, not, Option, Some, None, is_some, is_none, nat_le, option_map, if◌then◌else◌}
 use Rattle.std.specs.Option.{option_map_or}
 use Rattle.base.specs.declared.names.Group.{Group}
@@ -33,7 +34,7 @@ holds_of l group = if group == l.line.open_group then l.open_holds
 abbrev pub hold_total : CountedLine → ℕ
 hold_total l = l.open_holds + l.middle_holds
 
--- the line behind a synced group: the next one is open
+-- the line after a synced group: the next one is open
 abbrev pub line_behind : ℕ → Line
 line_behind group = record { synced = group; syncing = None; middle = None; open_group = group + 1 }
 

@@ -40,7 +40,7 @@ pub record StayExact (transactions : List Admission) (l : CountedLine) : Type 0 
 abbrev pub MovesKeepHolds : Type 0
 MovesKeepHolds = (transactions : List Admission) (l : CountedLine) → IsCounted l → AreHoldsExact transactions l → StayExact transactions l
 
--- behind a synced group no transaction is open
+-- after a synced group no transaction is open
 abbrev pub NewLinesHaveNoHold : Type 0
 NewLinesHaveNoHold = (group : ℕ) → AreHoldsExact [] (counted_behind group)
 

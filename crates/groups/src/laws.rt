@@ -9,7 +9,7 @@ ghost use Rattle.groups.specs.Laws.{
   OpenOnesAreNamedApart,
 };
 
-/// Behind a synced group no transaction is open, and no group has a hold.
+/// After a synced group no transaction is open, and no group has a hold.
 pub fn new_lines_have_no_hold()
     ensures { NewLinesHaveNoHold }
 {}

@@ -67,7 +67,7 @@ impl Model for Groups {
 }
 
 impl Groups {
-    /// The groups behind a synced one: the next is open, and no transaction is.
+    /// The groups after a synced one: the next is open, and no transaction is.
     pub fn new(synced: Group) -> Self
         requires first { first_group ≤ synced.0 }
         requires last { synced.0 < last_number }
@@ -117,7 +117,7 @@ impl Groups {
     /// One more transaction of the open group is open: its group.
     ///
     /// # Errors
-    /// `NotReady` exactly where 64 transactions are open, those of the open group and of the middle together.
+    /// `NotReady` exactly if 64 transactions are open, those of the open group and of the middle together.
     pub fn hold(&mut self) -> Result<Group, PoolError>
         ensures refused { IsErr result ↔ IsTrue (is_hold_refused self.old) }
         ensures error { IfErr result (λ e. e ≡ PoolError.NotReady) }
@@ -145,7 +145,7 @@ impl Groups {
     /// A transaction of the group has ended.
     ///
     /// # Errors
-    /// `NotReady` exactly where no transaction of the group is open.
+    /// `NotReady` exactly if no transaction of the group is open.
     pub fn release(&mut self, group: Group) -> Result<(), PoolError>
         ensures refused { IsErr result ↔ IsTrue (is_release_refused self.old group.0) }
         ensures error { IfErr result (λ e. e ≡ PoolError.NotReady) }
@@ -169,7 +169,7 @@ impl Groups {
     /// The open group quiesces, and the next one is open, which is answered.
     ///
     /// # Errors
-    /// `NotReady` exactly where a middle is there, or the open group has the last number.
+    /// `NotReady` exactly if a middle is there, or the open group has the last number.
     pub fn close_open(&mut self) -> Result<Group, PoolError>
         ensures refused { IsErr result ↔ IsTrue (is_close_refused self.old.line) }
         ensures error { IfErr result (λ e. e ≡ PoolError.NotReady) }
@@ -189,7 +189,7 @@ impl Groups {
     /// The quiescing group is quiesced, and is answered.
     ///
     /// # Errors
-    /// `NotReady` exactly where no group quiesces, or a transaction of it is open.
+    /// `NotReady` exactly if no group quiesces, or a transaction of it is open.
     pub fn mark_quiesced(&mut self) -> Result<Group, PoolError>
         ensures refused { IsErr result ↔ IsTrue (is_quiesce_refused self.old) }
         ensures error { IfErr result (λ e. e ≡ PoolError.NotReady) }
@@ -209,7 +209,7 @@ impl Groups {
     /// The quiesced group, where its sync may start. Nothing changes.
     ///
     /// # Errors
-    /// `NotReady` exactly where no group is quiesced, or one is syncing.
+    /// `NotReady` exactly if no group is quiesced, or one is syncing.
     pub fn ready_to_sync(&self) -> Result<Group, PoolError>
         ensures refused { IsErr result ↔ IsTrue (is_start_refused self.now.line) }
         ensures error { IfErr result (λ e. e ≡ PoolError.NotReady) }
@@ -224,7 +224,7 @@ impl Groups {
     /// The quiesced group is syncing from now on, and is answered.
     ///
     /// # Errors
-    /// `NotReady` exactly where no group is quiesced, or one is syncing.
+    /// `NotReady` exactly if no group is quiesced, or one is syncing.
     pub fn start_sync(&mut self) -> Result<Group, PoolError>
         ensures refused { IsErr result ↔ IsTrue (is_start_refused self.old.line) }
         ensures error { IfErr result (λ e. e ≡ PoolError.NotReady) }
@@ -241,7 +241,7 @@ impl Groups {
     /// The syncing group is synced, and is answered.
     ///
     /// # Errors
-    /// `NotReady` exactly where no group is syncing.
+    /// `NotReady` exactly if no group is syncing.
     pub fn finish_sync(&mut self) -> Result<Group, PoolError>
         ensures refused { IsErr result ↔ IsTrue (is_finish_refused self.old.line) }
         ensures error { IfErr result (λ e. e ≡ PoolError.NotReady) }

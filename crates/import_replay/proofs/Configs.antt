@@ -1,5 +1,5 @@
 -- The configs of four labels, and what is chosen among them.
-use Rattle.std.proofs.Common.{◌≡◌, ◌↔◌, ℕ, Bool, zero, suc, List, [], ◌∷◌, Option, Some, None, Result, Ok, Err, IfOk, IfErr, OnOk, refl, sym, subst}
+use Rattle.std.proofs.Common.{◌≡◌, ◌↔◌, ℕ, Bool, zero, suc, List, [], ◌∷◌, Option, Some, None, Result, Ok, Err, IfOk, IfErr, refl, sym, subst}
 use Rattle.std.specs.Prelude.{slice_get}
 use Rattle.base.specs.declared.error.PoolError.{PoolError}
 use Rattle.base.specs.declared.error.PoolError.TheVariants.{NoPool}
@@ -20,14 +20,6 @@ err_weaker (Err e) P Q weak h = weak e h
 pub ok_both : {A E : Type 0} (r : Result A E) (P Q : A → Type 0) → IfOk r P → IfOk r Q → IfOk r (λ a. P a × Q a)
 ok_both (Ok a) P Q p q = (p, q)
 ok_both (Err e) P Q p q = tt
-
-pub err_both : {A E : Type 0} (r : Result A E) (P Q : E → Type 0) → IfErr r P → IfErr r Q → IfErr r (λ e. P e × Q e)
-err_both (Ok a) P Q p q = tt
-err_both (Err e) P Q p q = (p, q)
-
-pub ok_on : {A E : Type 0} (r : Result A E) (X : Type 0) → OnOk r X → IfOk r (λ a. X)
-ok_on (Ok a) X x = x
-ok_on (Err e) X x = tt
 
 -- what the four labels hold was read
 pub four_read : (image : List ℕ) (a b c d : Option Config) → IsRead image 0 a → IsRead image 1 b → IsRead image 2 c → IsRead image 3 d → AreRead image (a ∷ b ∷ c ∷ d ∷ [])

@@ -5,7 +5,7 @@ use Rattle.std.proofs.lemmas.Bool.{and_from, and_parts, cases_lt, eq-eqb, eqb-tr
 use Rattle.base.specs.crash.Views.{View}
 use Rattle.base.specs.declared.error.PoolError.{PoolError}
 use Rattle.base.specs.disk.Calls.{Flushes}
-use Rattle.base.specs.disk.Disk.{Apart, Disk, HandedSince, Moment, bytes_of, handed, moments, put, settled, written}
+use Rattle.base.specs.disk.Disk.{Apart, Disk, HandedSince, HasEarlierWrites, Moment, bytes_of, handed, moments, put, settled, written}
 use Rattle.base.specs.disk.Fairness.{IsCheckedPlace, IsFair}
 use Rattle.base.specs.formats.Fields.{number_at, part}
 use Rattle.base.specs.formats.Geometry.{IsGeometry, block_size, config_place, slot_of, slot_place}
@@ -21,7 +21,7 @@ use Rattle.import_replay.specs.Cleared.{zeros}
 use Rattle.import_replay.specs.Creations.{first_config}
 use Rattle.import_replay.proofs.NewLabels.{zeros_number}
 use Rattle.import_replay.proofs.Flushes.{flushed_later, flushed_now}
-use Rattle.import_replay.specs.OwnCreations.{AreConfigsHanded, AreSlotsHanded, HasEarlierWrites, HasFirstWrites, IsFirstDisk, IsHandedAt}
+use Rattle.import_replay.specs.OwnCreations.{AreConfigsHanded, AreSlotsHanded, HasFirstWrites, IsFirstDisk, IsHandedAt}
 
 -- before the first write of a create nothing counts
 pub none_written : (disk : Disk) (v : View) → HasEarlierWrites disk → HasFirstWrites (moments disk) v disk

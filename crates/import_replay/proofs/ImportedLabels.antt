@@ -8,7 +8,8 @@ use Rattle.uberblocks.proofs.Places.{slot_below}
 use Rattle.uberblocks.proofs.SlotReads.{readings_agree}
 use Rattle.import_replay.specs.Labelled.{HasOtherSlots, HoldUberblock}
 
--- Where an uberblock above the active one is written into the slot of its group in each label, and the other slots stay, it is active.
+-- Where an uberblock above the active one is written into the slot of its group in each label, and the other slots
+-- stay, it is active.
 module _ (size : ℕ) (image now : List ℕ) (u v : Uberblock) (long : length image ≡ size) (same_long : length now ≡ size) (active : IsActive image u) (above : u.group < v.group)
     (held : HoldUberblock size 4 v now) (others : HasOtherSlots size v.group image now) where
   stands : (k : ℕ) → k < 4 → StandsIn now k v

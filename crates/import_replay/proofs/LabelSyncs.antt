@@ -30,7 +30,7 @@ same_blocks size bytes = record { length_is = refl; each = λ k low. refl }
 pub blocks_then : (size : ℕ) (a b c : List ℕ) → HasSameBlocks size a b → HasSameBlocks size b c → HasSameBlocks size a c
 blocks_then size a b c first second = record { length_is = second.length_is ∙ first.length_is; each = λ k low. second.each k low ∙ first.each k low }
 
--- a range of the device before the blocks or behind them
+-- a range of the device before the blocks or after them
 abbrev IsOutside : ℕ → ℕ → ℕ → Type 0
 IsOutside size place n = (place + n ≤ size) × ((place + n ≤ 4194304) ⊎ (size - 524288 ≤ place))
 

@@ -1,5 +1,5 @@
--- A sync of the labels leads from the view that an import began on to the one that it writes: each moment of it is of one of the phases,
--- what a read gives stays fair, and no config counts but that of the import.
+-- A sync of the labels leads from the view that an import began on to the one that it writes: each moment of it is of
+-- one of the phases, what a read gives stays fair, and no config counts but that of the import.
 use Rattle.std.proofs.Common.{◌≡◌, inl, inr, ⊎_elim, ℕ, ◌+◌, ◌<◌, ◌≤◌, List, [], length, drop, Option, Some, None, refl, sym, ◌∙◌, ap, subst, arith}
 use Rattle.std.specs.Prelude.{All, slice_get}
 use Rattle.std.proofs.lemmas.List.Elements.{All-nil}
@@ -128,7 +128,7 @@ module _ (size : ℕ) (config : Config) (u : Uberblock) (first : Stage) (run : S
       Known : ℕ → Type 0
       Known guid = AreConfigsUpTo size created (handed m) guid (v.u.group + 3) (λ group content. (group ≡ v.u.group + 4) × (content ≡ config_content size v.u.guid group v.name))
 
--- The sync has begun on a disk that is ready behind the view: each moment since then is one of the import.
+-- The sync has begun on a disk that is ready after the view: each moment since then is one of the import.
 pub record HasImportSince (size : ℕ) (config : Config) (u : Uberblock) (created : ℕ) (at : FixedLabels) (v : View) (run : SyncRun) (start now : Disk) : Type 0 where
   pub phases : HasPhasesSince start (views_of config u created at v) run now
   pub fair : EachMoment (HasFairBytes size created) start now
@@ -206,6 +206,6 @@ module _ (size : ℕ) (config : Config) (u : Uberblock) (first : Stage) (run : S
   pub moments_next : EachMoment (IsImportMoment size created v (view_behind config u v)) start new
   moments_next = import_moments size config u first later is_later created at v behind start new since_next
 
-  -- behind the last call the disk is at rest on the view that was written
+  -- after the last call the disk is at rest on the view that was written
   pub rest_next : later.done ≡ call_count later → IsAtRest size created 0 new.now (view_behind config u v)
   rest_next all = import_ends size config u first later is_later created at v behind start new all since_next

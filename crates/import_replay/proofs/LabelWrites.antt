@@ -190,7 +190,7 @@ module _ (size : ℕ) (is : IsGeometry size) (image : List ℕ) (long : length i
   config_next n block config below_4 block_long holds each =
       each_next (λ (l : List ℕ). IsConfigBlock l size config) (config_place size) 4096 config_inside n block below_4 block_long holds each
 
-  -- a byte before a range, behind it or in it
+  -- a byte before a range, after it or in it
   sides : (place m i : ℕ) → (IsInRange place m i → ⊥) → (i < place) ⊎ (place + m ≤ i)
   sides place m i out = elim (cases_lt i place) [
     | inl before ↦ inl before

@@ -22,6 +22,7 @@ pub mod ReadPools
 pub mod StoppedImports
 pub mod OwnImports
 pub mod OwnRefusals
+pub mod Refused
 pub mod ShownMounts
 pub mod UsedBlocks
 pub mod Inspections

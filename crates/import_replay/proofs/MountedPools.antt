@@ -14,7 +14,6 @@ use Rattle.base.specs.steps.ExactNow.{IsExplainedNow}
 use Rattle.base.specs.formats.Fields.{part}
 use Rattle.base.specs.formats.Geometry.{IsBlockAddress, block_count, block_size}
 use Rattle.base.specs.crash.Imports.{IsFirstLogBlock, IsImported, IsImportOf, is_dirty_max_allowed, is_past_last}
-use Rattle.base.specs.formats.Labels.{Config}
 use Rattle.base.specs.formats.Limits.{last_number}
 use Rattle.base.specs.formats.Names.{IsName}
 use Rattle.base.specs.crash.Mount.{HasPool, IsChainOf, IsUsed, Mounts}
@@ -38,10 +37,9 @@ use Rattle.object_maps.specs.Lengths.{HasLengthsOf, lengths_of}
 use Rattle.object_maps.specs.Loading.{IsLimitedObject}
 use Rattle.object_maps.specs.Pointers.{objects_of, pointers_of}
 use Rattle.import_replay.specs.FreeBlocks.{AreAllNamed, HasTakenLowest, IsNamed}
-use Rattle.import_replay.specs.ImportRefusals.{HasAllBlocks, HasSoundPool}
-use Rattle.import_replay.specs.Labelled.{HoldLabels}
+use Rattle.import_replay.specs.ImportRefusals.{CanImport, HasAllBlocks, HasSoundPool}
 use Rattle.import_replay.specs.LabelSyncs.{HasSameBlocks}
-use Rattle.import_replay.specs.Mounts.{IsImport, IsMountedFrom, frame_of_import, shown_of_import}
+use Rattle.import_replay.specs.Mounts.{IsImport, IsMountedAnew, IsMountedFrom, frame_of_import, shown_of_import}
 use Rattle.import_replay.specs.ReadPools.{IsReadPool, frame_of_size}
 use Rattle.import_replay.specs.declared.mounted.Mounted.{Mounted}
 
@@ -92,7 +90,7 @@ mounts_read image size u name tree slots read c named same chain = record {
 }
 
 -- contents of objects that were loaded are within the limits of a pool
-pub is_bounded : (c : declared.Contents) (slots : List Slot) → c.slots.items ≡ slots → IsName c.name
+is_bounded : (c : declared.Contents) (slots : List Slot) → c.slots.items ≡ slots → IsName c.name
     → ((n : ℕ) → IfSome (finite.get (objects_of slots) n) (IsLimitedObject n)) → IsBounded (contents_of c)
 is_bounded c slots is named within = record {
   name = named;
@@ -127,11 +125,6 @@ group-within group import_number within = ltb-false last_number (group + 5) (or_
 pub import-within : (group import_number : ℕ) → is_past_last group import_number ≡ false → import_number + 1 ≤ last_number
 import-within group import_number within = ltb-false last_number (import_number + 1) (or_parts (nat_lt last_number (group + 5)) (nat_lt last_number (import_number + 1)) within).1
 
--- the labels of equal fields
-pub labels_same : (size : ℕ) (config other : Config) (u v : Uberblock) (image : List ℕ) → config ≡ other → u ≡ v → HoldLabels size config u image → HoldLabels size other v image
-labels_same size config other u v image same agree held =
-    subst (λ (w : Uberblock). HoldLabels size other w image) agree (subst (λ (c : Config). HoldLabels size c u image) same held)
-
 module _ (size : ℕ) (u : Uberblock) (name : List ℕ) (slots : List Slot) (tree : Tree) (dirty_max : ℕ) (m : Mounted) (from : IsMountedFrom u name slots tree dirty_max m) (sized : m.geometry ≡ size)
     (told : HasLengthsOf tree (objects_of slots)) where
   abbrev shown : Shown
@@ -165,8 +158,14 @@ module _ (size : ℕ) (u : Uberblock) (name : List ℕ) (slots : List Slot) (tre
   within_last = group-within u.group u.import_number from.within
 
   -- what is shown of it is exact, with the empty past
-  pub is_explained : IsBounded (contents_of m.contents) → (created : ℕ) → IsExplainedNow shown (new_past (contents_of m.contents) created dirty_max)
+  is_explained : IsBounded (contents_of m.contents) → (created : ℕ) → IsExplainedNow shown (new_past (contents_of m.contents) created dirty_max)
   is_explained bounded created = new_pools_are_explained u (block_count size) (contents_of m.contents) created dirty_max shown is_imported bounded within_last
+
+  -- what the import gives on any device
+  pub mounted_anew : CanImport size dirty_max → IsName name → ((n : ℕ) → IfSome (finite.get (objects_of slots) n) (IsLimitedObject n)) → IsMountedAnew size dirty_max m
+  mounted_anew can named limited =
+      let bounded : IsBounded (contents_of m.contents) = is_bounded m.contents slots from.slots_are (subst (λ (n : List ℕ). IsName n) (sym from.name_is) named) limited in
+      record { geometry = sized; limit = from.limit; made = can; explained = is_explained bounded; bounded = bounded; group = m.group_fits }
 
   module _ (image now : List ℕ) (long : length image ≡ size) (pool : HasPool image u name) (root : tree.root ≡ u.root) (limit : is_dirty_max_allowed dirty_max ≡ true)
       (loaded : HoldsTree image (frame_of_size u size) (pointers_of tree) (objects_of slots)) (same : HasSameBlocks size image now) where

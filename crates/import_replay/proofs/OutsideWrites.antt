@@ -69,7 +69,7 @@ pub flushes_on : (size : ℕ) (start disk new : Disk) (r : Result (Unit {0}) Poo
 flushes_on size start disk new r so_far flushes =
     each_flush (KeepsOutside (IsPoolByte size) start.now) start disk new r so_far flushes (keeps_settled (IsPoolByte size) start.now disk.now)
 
--- a part of a label behind its boot header
+-- a part of a label after its boot header
 pub label_writable : (size label at n : ℕ) → label < 4 → 16384 ≤ at → at + n ≤ 262144 → IsWritable size (label_place size label + at) n
 label_writable size label at n low from to = inl (label, low, omega (arith, from), omega (arith, to))
 

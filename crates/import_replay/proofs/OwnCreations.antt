@@ -4,18 +4,23 @@ use Rattle.std.specs.Prelude.{IfSome}
 use Rattle.std.specs.Ordering.{nat_cmp}
 use Rattle.std.specs.FinMap as map
 use Rattle.std.proofs.lemmas.Bool.{cases_eq}
+use Rattle.base.specs.crash.LeftDisks.{IsLeft}
 use Rattle.base.specs.crash.Own.{AreHandedOrZero, IsCreatedDisk, IsOwnWith}
 use Rattle.base.specs.crash.Views.{View, IsFixed, IsView}
-use Rattle.base.specs.disk.Disk.{Disk, HandedSince, IsTouched, Write, bytes_of, disk_size, handed}
+use Rattle.base.specs.disk.Disk.{Disk, HandedSince, IsTouched, Write, bytes_of, disk_size, handed, moments}
 use Rattle.base.specs.formats.Blocks.{Frame}
 use Rattle.base.specs.formats.Fields.{no_pointer, number_at, part}
 use Rattle.base.specs.formats.Geometry.{IsGeometry, block_address, block_count, block_size, config_place, slot_place}
 use Rattle.base.specs.formats.Labels.{Config}
 use Rattle.base.specs.formats.Uberblocks.{IsUberblock, Uberblock, slot_size}
+use Rattle.base.specs.history.Contents.{Contents}
+use Rattle.base.specs.history.Past.{new_past}
+use Rattle.base.specs.steps.Explains.{IsLeftBy}
 use Rattle.base.specs.tree.Places.{Place}
 use Rattle.base.specs.tree.Places.Place.{Root, Directory, Indirect, Data}
 use Rattle.base.specs.tree.PlacedTrees.{HoldsTree, StandsAt}
 use Rattle.base.specs.tree.Tree.{IsRecord}
+use Rattle.base.proofs.crash.LeftDisks.{own_left}
 use Rattle.base.proofs.crash.NewDisks.{created_own}
 use Rattle.base.proofs.formats.Geometry.{IsGeometry-IsSize, blocks-end, slot-on_device}
 use Rattle.labels.specs.Configs.{IsConfigBlock, config_block}
@@ -131,3 +136,18 @@ module _ (size t guid moment : ℕ) (name : List ℕ) (disk : Disk) (g : IsGeome
 
   pub own_from : IsOwnWith disk t guid (first_contents name)
   own_from = created_own t disk v is.writes.began (subst (λ (n : ℕ). IsCreatedDisk n t disk.now v) (sym long) created)
+
+-- nothing happened in the past of a new pool, so its contents are what is left
+nothing_left : (contents : Contents) (created dirty_max : ℕ) → IsLeftBy (new_past contents created dirty_max) contents
+nothing_left contents created dirty_max = record {
+  marks = [];
+  cut = record { each = refl; closed = λ i j d earlier below. absurd (omega (arith, below)) };
+  acknowledged = λ k d below. absurd (omega (arith, below));
+  replayed = refl;
+}
+
+-- so a create that began on the one disk left them on the other
+pub new_left : (name : List ℕ) (guid : ℕ) (start made : Disk) → IsOwnWith made (moments start) guid (first_contents name) → IsLeft (new_past (first_contents name) (moments start) 0) made
+new_left name guid start made own =
+    let new : Contents = first_contents name in
+    own_left made (new_past new (moments start) 0) guid new (nothing_left new (moments start) 0) own

@@ -1,5 +1,5 @@
--- An import, whatever it answers, keeps a disk that its pool alone wrote the pool's own; one that answers Ok gives its run a disk with the views
--- of the pool that it shows.
+-- An import, whatever it answers, keeps a disk that its pool alone wrote the pool's own; one that answers Ok gives its
+-- run a disk with the views of the pool that it shows.
 use Rattle.std.proofs.Common.{◌≡◌, inl, inr, ℕ, ◌+◌, ◌≤◌, List, [], length, map, None, Some, Ok, refl, sym, ◌∙◌, ap, subst, arith}
 use Rattle.base.specs.crash.CallStages.{FixedLabels}
 use Rattle.base.specs.crash.CrashRule.{AreImportViews, HasSteadyPhases, IsImportMoment, IsOwnOnceFlushed, KeepsOwn}
@@ -34,7 +34,7 @@ use Rattle.import_replay.specs.RunStarts.{IsRunStart, StartsRun}
 use Rattle.import_replay.specs.declared.mounted.Mounted.{Mounted}
 use Rattle.import_replay.proofs.ReadViews.{IsRestedOwn, found_contents, found_name, found_uberblock, rested_own, spared_at}
 
--- what an import writes for the uberblock and the name that were found comes behind the view that has them
+-- what an import writes for the uberblock and the name that were found comes after the view that has them
 comes_behind : (size : ℕ) (config : Config) (next u : Uberblock) (name : List ℕ) (moment log_address : ℕ) (v : View) → config ≡ next_config u name size → next ≡ next_uberblock u moment log_address
     → v.u ≡ u → v.name ≡ name → ComesBehind size config next v
 comes_behind size config next u name moment log_address v configured written same named = record {

@@ -1,7 +1,7 @@
 -- Of a disk that its pool alone wrote the pool is found, and its tree has no fault.
 use Rattle.std.proofs.Common.{◌≡◌, inl, inr, ℕ, List, length, refl, sym, ◌∙◌, ap, subst}
 use Rattle.base.specs.declared.error.PoolError.{PoolError}
-use Rattle.base.specs.declared.error.PoolError.TheVariants.{BadGeometry, Damaged, NoMemory, NoPool, NoSpace}
+use Rattle.base.specs.declared.error.PoolError.TheVariants.{Damaged, NoPool, NoSpace}
 use Rattle.base.specs.crash.Mount.{HasNoPool, IsTreeDamaged, Mounts, MountsTo, frame_of}
 use Rattle.base.specs.crash.Own.{IsOwnImage, IsOwnWith}
 use Rattle.base.specs.crash.Views.{IsFoundAs, view_frame}
@@ -73,18 +73,3 @@ finds_own disk e reason created guid contents own =
       not_full = λ is. has_spare flushed created guid contents own (subst (λ (image : List ℕ). HasNoFreeBlock image) (sym same) (reason.no_space is));
       not_damaged = λ kind address is. is_sound (bytes_of disk.now) u chain contents mounts kind address (reason.damaged kind address is);
     }
-
--- a refusal by size or for want of memory says nothing of a pool
-pub bad_geometry : (disk : Disk) (e : PoolError) → e ≡ BadGeometry → FindsOwn disk e
-bad_geometry disk e is created guid contents own = record {
-  not_missing = λ missing. let f : BadGeometry ≡ NoPool = sym is ∙ missing in cc;
-  not_full = λ full. let f : BadGeometry ≡ NoSpace = sym is ∙ full in cc;
-  not_damaged = λ kind address damaged. let f : BadGeometry ≡ Damaged kind address = sym is ∙ damaged in cc;
-}
-
-pub no_memory : (disk : Disk) (e : PoolError) → e ≡ NoMemory → FindsOwn disk e
-no_memory disk e is created guid contents own = record {
-  not_missing = λ missing. let f : NoMemory ≡ NoPool = sym is ∙ missing in cc;
-  not_full = λ full. let f : NoMemory ≡ NoSpace = sym is ∙ full in cc;
-  not_damaged = λ kind address damaged. let f : NoMemory ≡ Damaged kind address = sym is ∙ damaged in cc;
-}

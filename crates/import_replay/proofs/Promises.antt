@@ -13,6 +13,7 @@ use Rattle.base.specs.history.Contents.{Contents}
 use Rattle.base.specs.steps.Groups.{Line}
 use Rattle.base.proofs.crash.OneMount.{mounts_agree, one-active}
 use Rattle.base.proofs.disk.Moments.{latest}
+use Rattle.device_model.specs.declared.device.SectorDevice.{Ghosts}
 use Rattle.object_maps.specs.Surveys.{listed}
 use Rattle.import_replay.specs.CreateRefusals.{IsCreateRefusal}
 use Rattle.import_replay.specs.Creations.{IsCreatedOn, IsNewPool, first_uberblock}
@@ -20,18 +21,19 @@ use Rattle.import_replay.specs.ImportRefusals.{CanImport, IsImportRefusal, IsIns
 use Rattle.import_replay.specs.ImportSyncs.{IsImportSynced, uberblock_of_import}
 use Rattle.import_replay.specs.Inspections.{IsInspectionOf}
 use Rattle.import_replay.specs.Mounts.{shown_of_import}
+use Rattle.import_replay.specs.Refused.{IsInspectionRefused}
 use Rattle.import_replay.specs.Outside.{IsPoolByte, KeepsOutside, WritesPoolBytes}
 use Rattle.import_replay.specs.declared.inspection.Inspected.{Inspected}
 use Rattle.import_replay.specs.declared.mounted.Mounted.{Mounted}
 
--- two facts of an answer give a third
-pub ok_both : {A E : Type 0} (r : Result A E) (P Q R : A → Type 0) → ((a : A) → P a → Q a → R a) → IfOk r P → IfOk r Q → IfOk r R
-ok_both (Ok x) P Q R f p q = f x p q
-ok_both (Err e) P Q R f p q = tt
+-- what a refusal, or an answer, has of a clause on both
+pub err_of : {A E : Type 0} (r : Result A E) (P : A → Type 0) (S T : E → Type 0) → ((e : E) → S e → T e) → MatchResult r P S → IfErr r T
+err_of (Ok x) P S T g h = tt
+err_of (Err e) P S T g h = g e h
 
-pub err_both : {A E : Type 0} (r : Result A E) (P Q R : E → Type 0) → ((e : E) → P e → Q e → R e) → IfErr r P → IfErr r Q → IfErr r R
-err_both (Ok x) P Q R f p q = tt
-err_both (Err e) P Q R f p q = f e p q
+pub ok_made : {A E : Type 0} (r : Result A E) (P : A → Type 0) (X : Type 0) → ((a : A) → P a → X) → IfOk r P → OnOk r X
+ok_made (Ok x) P X f h = f x h
+ok_made (Err e) P X f h = tt
 
 pub each_weaker : {A E : Type 0} (r : Result A E) (P Q : A → Type 0) (S T : E → Type 0) → ((a : A) → P a → Q a) → ((e : E) → S e → T e) → MatchResult r P S → MatchResult r Q T
 each_weaker (Ok x) P Q S T f g h = f x h
@@ -115,7 +117,7 @@ pub by_size : (e : PoolError) → IsInspectionRefusal 512 e → e ≡ BadGeometr
 by_size BadGeometry refused = refl
 by_size _ refused = let no : false ≡ true = refused.0 in cc
 
--- the byte behind the first two labels is no pool's
+-- the byte after the first two labels is no pool's
 outside_pool : IsPoolByte 8388608 524288 → ⊥
 outside_pool (inl (zero, low, from, to)) = omega (arith, to)
 outside_pool (inl (suc zero, low, from, to)) = omega (arith, to)
@@ -130,7 +132,7 @@ byte_kept size old new is writes =
 
 -- what an inspection reports of what is mounted
 module _ (image : List ℕ) (u : Uberblock) (contents : Contents) (mounts : Mounts image u [] contents) where
-  pub told_of : (i : Inspected) → IsInspectionOf image i → (i.name ≡ contents.name) × (i.lengths.items ≡ listed contents.objects) × (i.group.0 ≡ u.group) × (i.import_number ≡ u.import_number)
+  pub told_of : (i : Inspected) → IsInspectionOf image i → (i.name ≡ contents.name) × (i.objects.items ≡ listed contents.objects) × (i.group.0 ≡ u.group) × (i.import_number ≡ u.import_number)
   told_of i inspected =
       let (others, told, mounted) = inspected u mounts.found.pool.active mounts.found.chain_is in
       let (same, chains, equal) = mounts_agree image u mounted.u [] mounted.chain contents others mounts mounted.mounts in (
@@ -152,6 +154,6 @@ module _ (image : List ℕ) (u : Uberblock) (contents : Contents) (mounts : Moun
       ]
 
 -- it is untouched
-pub inspection_untouched : {A : Type 0} (r : Result A PoolError) (size : ℕ) (X : Type 0) → size ≡ 512 → OnOk r (IsGeometry size) → IfErr r (IsInspectionRefusal size) → IfErr r (λ e. e ≡ BadGeometry → X) → X
-inspection_untouched (Ok a) size X is made refused untouched = let no : false ≡ true = subst IsGeometry is made in absurd (cc)
-inspection_untouched (Err e) size X is made refused untouched = untouched (by_size e (subst (λ (n : ℕ). IsInspectionRefusal n e) is refused))
+pub inspection_untouched : {A Dev : Type 0} (D : Ghosts Dev) (r : Result A PoolError) (old new : Dev) → D.size old ≡ 512 → OnOk r (IsGeometry (D.size old)) → IfErr r (IsInspectionRefused D old new) → new ≡ old
+inspection_untouched D (Ok a) old new is made refused = let no : false ≡ true = subst IsGeometry is made in absurd (cc)
+inspection_untouched D (Err e) old new is made refused = refused.untouched (by_size e (subst (λ (n : ℕ). IsInspectionRefusal n e) is refused.kind))

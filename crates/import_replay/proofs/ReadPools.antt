@@ -1,4 +1,5 @@
--- What is read of a device without a write or a flush is of its image: an active pool and the tree under its root, or the first fault of that tree. A flush before it leaves that image.
+-- What is read of a device without a write or a flush is of its image: an active pool and the tree under its root, or
+-- the first fault of that tree. A flush before it leaves that image.
 use Rattle.std.proofs.Common.{◌≡◌, ℕ, List, length, Ok, sym, subst}
 use Rattle.std.specs.Prelude.{Bool, IsTrue}
 use Rattle.std.specs.Ordering.{nat_cmp}
@@ -55,7 +56,7 @@ is_surveyed keeps image now size frame u name tree framed placed has read = reco
 pub sound_read : (image : List ℕ) (size : ℕ) (u : Uberblock) (name : List ℕ) (tree : Tree) (slots : List Slot) → IsReadPool image size u name tree slots → HasSoundPool image u name
 sound_read image size u name tree slots read = sound_pool size u name tree slots image read.long read.held read.root read.pool
 
--- what is read behind a good flush is of the image before it
+-- what is read after a good flush is of the image before it
 pub flushed : (old mid : Disk) → Flushes old (Ok tt) mid → bytes_of mid.now ≡ bytes_of old.now
 flushed old mid flushes = (flushed_clean old mid flushes).1
 

@@ -1,5 +1,5 @@
--- Behind the first flush of an import, a disk that its pool alone wrote is at rest on one view; what the import reads is of that view, and the
--- stage that comes first spares a config of it.
+-- After the first flush of an import, a disk that its pool alone wrote is at rest on one view; what the import reads is
+-- of that view, and the stage that comes first spares a config of it.
 use Rattle.std.proofs.Common.{◌≡◌, ◌⊎◌, inl, inr, ⊎_elim, ℕ, zero, suc, ◌<◌, ◌↔◌, IsTrue, List, [], ◌++◌, length, map, filter, Some, None, Ok, refl, sym, ◌∙◌, ap, subst, arith}
 use Rattle.base.specs.crash.CallStages.{FixedLabels, IsAtRestAt}
 use Rattle.base.specs.crash.CrashRule.{MountsAs}

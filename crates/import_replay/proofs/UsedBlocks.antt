@@ -1,4 +1,5 @@
--- The blocks of an area that a set does not have: a list of them, each once, as long as the area has more blocks than the set.
+-- The blocks of an area that a set does not have: a list of them, each once, as long as the area has more blocks than
+-- the set.
 use Rattle.std.proofs.Common.{◌≡◌, ◌≢◌, ◌⊎◌, inl, inr, ℕ, zero, suc, ◌+◌, ◌-◌, ◌<◌, ◌≤◌, Bool, true, false, not, ◌&&◌, cond, List, [], ◌∷◌, length, nat_eq, refl, sym, subst, ap, ◌∙◌, arith}
 use Rattle.std.specs.Prelude.{Contains}
 use Rattle.std.specs.List.{AllByRecursion, IsDistinct}

@@ -9,7 +9,7 @@ use Rattle.base.specs.formats.Uberblocks.{slot_size}
 unfoldable pub zeros : ℕ → List ℕ
 zeros n = replicate n 0
 
--- a byte of a label behind its boot header
+-- a byte of a label after its boot header
 abbrev pub IsInTail : ℕ → ℕ → ℕ → Type 0
 IsInTail size label i = IsInRange (label_place size label + 16384) 245760 i
 
@@ -20,7 +20,7 @@ IsInConfig size label i = IsInRange (config_place size label) block_size i
 abbrev pub IsInFirstSlot : ℕ → ℕ → ℕ → Type 0
 IsInFirstSlot size label i = IsInRange (slot_place size label (slot_of first_group)) slot_size i
 
--- the labels below n are zeros there, but for the config and that slot
+-- the labels below n are zeros there, except for the config and that slot
 abbrev pub AreTailsCleared : ℕ → ℕ → List ℕ → Type 0
 AreTailsCleared size n image =
     (label i : ℕ) → label < n → IsInTail size label i → (IsInConfig size label i → ⊥) → (IsInFirstSlot size label i → ⊥) → slice_index image i ≡ 0

@@ -4,14 +4,14 @@ use Rattle.std.specs.List.{range_with_len}
 use Rattle.base.specs.declared.error.PoolError.{PoolError}
 use Rattle.base.specs.declared.error.PoolError.TheVariants as refusal
 use Rattle.base.specs.disk.Calls.{Flushes, Writes}
-use Rattle.base.specs.disk.Disk.{Disk, bytes_of, certain, written}
+use Rattle.base.specs.disk.Disk.{CrashLeaves, Disk, bytes_of, certain, written}
 use Rattle.base.specs.formats.Geometry.{block_address, block_count, block_size, config_place, label_place, slot_of, slot_place}
 use Rattle.base.specs.formats.Labels.{Config}
 use Rattle.base.specs.formats.Uberblocks.{Uberblock}
 use Rattle.labels.specs.Configs.{config_block}
 use Rattle.uberblocks.specs.Slots.{slot_bytes}
 use Rattle.import_replay.specs.Cleared.{zeros}
-use Rattle.import_replay.specs.Creations.{first_config, first_uberblock}
+use Rattle.import_replay.specs.Creations.{IsCreatedOn, IsNewPool, first_config, first_uberblock}
 
 -- a write of these bytes at this place, or a flush
 pub data CreateCall : Type 0 where
@@ -41,7 +41,8 @@ each_label f = map f (range_with_len 0 4)
 abbrev pub each_block : ℕ → (ℕ → CreateCall) → List CreateCall
 each_block size f = map f (range_with_len 0 (block_count size))
 
--- The ends of the labels and then all blocks are cleared, and a flush; the config of each label, and a flush; the uberblock of each, and a flush.
+-- The ends of the labels and then all blocks are cleared, and a flush; the config of each label, and a flush; the
+-- uberblock of each, and a flush.
 abbrev pub create_calls : (size : ℕ) (name : List ℕ) (guid moment : ℕ) → List CreateCall
 create_calls size name guid moment =
     each_label (clear_tail size) ++ each_block size clear_block ++ Flush ∷ []
@@ -75,3 +76,10 @@ pub record IsStoppedIn (calls : List CreateCall) (e : PoolError) (old new : Disk
 abbrev pub MakesInOrder : List CreateCall → Result (Unit {0}) PoolError → Disk → Disk → Type 0
 MakesInOrder calls (Ok x) old new = new ≡ after_calls calls old
 MakesInOrder calls (Err e) old new = IsStoppedIn calls e old new
+
+-- A create made its calls: the disk then mounts a new pool and has all that a create writes, also after any crash.
+pub record IsPoolCreated (size : ℕ) (name : List ℕ) (guid moment : ℕ) (old new : Disk) : Type 0 where
+  pub created : IsCreatedOn (bytes_of new.now) name guid
+  pub settled : CrashLeaves (λ image. IsCreatedOn image name guid) new.now
+  pub written : CrashLeaves (λ image. IsNewPool image name guid moment) new.now
+  pub called : new ≡ after_calls (create_calls size name guid moment) old

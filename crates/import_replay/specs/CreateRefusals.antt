@@ -9,7 +9,8 @@ use Rattle.base.specs.formats.Names.{is_name, IsName}
 abbrev pub CanCreate : ℕ → List ℕ → Type 0
 CanCreate size name = IsGeometry size × IsName name
 
--- a create on a device of so many bytes is refused: the size comes first, then the name, and then what the device refuses
+-- a create on a device of so many bytes is refused: the size comes first, then the name, and then what the device
+-- refuses
 abbrev pub IsCreateRefusal : ℕ → List ℕ → PoolError → Type 0
 IsCreateRefusal size name BadGeometry = IsGeometry size → ⊥
 IsCreateRefusal size name BadRange = IsGeometry size × (is_name name ≡ false)

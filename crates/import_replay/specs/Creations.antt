@@ -23,7 +23,8 @@ first_uberblock guid moment =
 abbrev pub first_config : List ℕ → ℕ → ℕ → Config
 first_config name guid size = record { guid = guid; group = first_group; size = size; name = name }
 
--- all that a create writes: each label has this config and this uberblock, which is the active one, and zeros behind its boot header but for these, and all blocks are zeros
+-- all that a create writes: each label has this config and this uberblock, which is the active one, and zeros after its
+-- boot header except for these, and all blocks are zeros
 pub record IsNewPool (image : List ℕ) (name : List ℕ) (guid moment : ℕ) : Type 0 where
   pub configs : (label : ℕ) → label < 4 → IsConfig image label guid first_group name
   pub uberblocks : (label : ℕ) → label < 4 → StandsIn image label (first_uberblock guid moment)

@@ -10,8 +10,8 @@ use Rattle.labels.specs.Choices.{IsKeptIn}
 abbrev pub HasName : List ℕ → ℕ → ℕ → List ℕ → Type 0
 HasName image guid group name = (found : ℕ) × IsChosen image guid group found name
 
--- The config that is chosen has this name, and whether the even labels are written first is told rightly: they are exactly where an
--- odd label has the same config, so that it stands until another pair is flushed.
+-- The config that is chosen has this name, and whether the even labels are written first is told rightly: they are
+-- exactly if an odd label has the same config, so that it stands until another pair is flushed.
 pub record HasFirstStage (image : List ℕ) (guid group : ℕ) (name : List ℕ) (even_first : Bool) : Type 0 where
   pub found : ℕ
   pub chosen : IsChosen image guid group found name
@@ -29,6 +29,6 @@ LacksUberblock image e = e ≡ NoPool → HasNoUberblock image
 abbrev pub HasChosen : List (Option Config) → ℕ → ℕ → List ℕ → Type 0
 HasChosen configs guid group name = (c : Config) × IsChoice configs guid group c × (name ≡ c.name)
 
--- and the even labels are to be written first exactly where an odd label has the same
+-- and the even labels are to be written first exactly if an odd label has the same
 abbrev pub HasChosenFirst : List (Option Config) → ℕ → ℕ → List ℕ → Bool → Type 0
 HasChosenFirst configs guid group name even_first = (c : Config) × IsChoice configs guid group c × (name ≡ c.name) × (IsTrue even_first ↔ IsKeptIn configs c)

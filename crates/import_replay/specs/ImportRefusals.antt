@@ -66,7 +66,8 @@ IsMountRefusal TooMany = ⊤
 IsMountRefusal NoSpace = ⊤
 IsMountRefusal _ = ⊥
 
--- an import is refused: the size comes first, then the limit, both before any device call, and then what the image and the device refuse
+-- an import is refused: the size comes first, then the limit, both before any device call, and then what the image and
+-- the device refuse
 abbrev pub IsImportRefusal : ℕ → ℕ → PoolError → Type 0
 IsImportRefusal size dirty_max BadGeometry = IsGeometry size → ⊥
 IsImportRefusal size dirty_max BadRange = IsGeometry size × (is_dirty_max_allowed dirty_max ≡ false)
@@ -90,8 +91,8 @@ HasLastNumbers image = (u : Uberblock) × (name : List ℕ) × HasSoundPool imag
 abbrev pub HasNoFreeBlock : List ℕ → Type 0
 HasNoFreeBlock image = (u : Uberblock) × (name : List ℕ) × HasSoundPool image u name × (is_past_last u.group u.import_number ≡ false) × HasAllBlocks image u.root
 
--- What a refusal says of the image, in the order in which they come: that there is no pool, that this is the first fault of the
--- active tree, that the numbers would pass the last one, or that no block is free.
+-- What a refusal says of the image, in the order in which they come: that there is no pool, that this is the first
+-- fault of the active tree, that the numbers would pass the last one, or that no block is free.
 pub record IsReason (image : List ℕ) (e : PoolError) : Type 0 where
   pub no_pool : e ≡ NoPool → HasNoPool image
   pub damaged : (kind address : ℕ) → e ≡ Damaged kind address → IsTreeDamaged image kind address

@@ -33,8 +33,8 @@ pub record IsOpenStopped (size : ℕ) (u : Uberblock) (name : List ℕ) (tree : 
   pub log : HasTakenLowest (pointers_of tree) (block_count size) log_address free
   pub stopped : IsStoppedSync size (next_config u name size) (next_uberblock u moment log_address) (import_calls 0 even_first) e old new
 
--- The sync of an import stopped, after its first flush. The image has a pool, a sound tree, numbers that fit and a free block, and
--- what the calls write is of these.
+-- The sync of an import stopped, after its first flush. The image has a pool, a sound tree, numbers that fit and a free
+-- block, and what the calls write is of these.
 pub record IsStoppedInLabels (old new : Disk) (moment : ℕ) (e : PoolError) : Type 0 where
   pub u : Uberblock
   pub name : List ℕ
@@ -46,6 +46,7 @@ pub record IsStoppedInLabels (old new : Disk) (moment : ℕ) (e : PoolError) : T
   pub log_block : IsFirstLogBlock (bytes_of old.now) u [] (bytes_of old.now) u.root log_address
   pub stopped : IsStoppedSync (disk_size old) (next_config u name (disk_size old)) (next_uberblock u moment log_address) (import_calls 0 even_first) e (certain (bytes_of old.now) old) new
 
--- the device refused a write or a flush of an import: its first flush, which left the disk as it was, or a call of its sync
+-- the device refused a write or a flush of an import: its first flush, which left the disk as it was, or a call of its
+-- sync
 abbrev pub IsImportStopped : Disk → Disk → ℕ → PoolError → Type 0
 IsImportStopped old new moment e = ((e ≡ Flush) × (new ≡ old)) ⊎ IsStoppedInLabels old new moment e

@@ -27,9 +27,10 @@ uberblock_of_import moment m = record {
   log_number = 0;
 }
 
--- The disk after an import is what its calls make of the disk before, each answered Ok: a flush, and then just those of a sync
--- without blocks. What was mounted, and is written, is of the active uberblock, four groups and an import later, with the root and
--- the chosen name as they are. The even labels come first exactly where an odd one has the chosen config.
+-- The disk after an import is what its calls make of the disk before, each answered Ok: a flush, and then just those of
+-- a sync without blocks. What was mounted, and is written, is of the active uberblock, four groups and an import later,
+-- with the root and the chosen name as they are. The even labels come first exactly if an odd one has the chosen
+-- config.
 pub record IsImportSynced (old new : Disk) (moment : ℕ) (m : Mounted) : Type 0 where
   pub u : Uberblock
   pub active : IsActive (bytes_of old.now) u

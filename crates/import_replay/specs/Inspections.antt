@@ -16,7 +16,7 @@ use Rattle.import_replay.specs.declared.inspection.Inspected.{Inspected}
 -- it is told of these contents: their name, and the numbers of their objects, rising, each with the object's length
 pub record IsToldOf (i : Inspected) (contents : Contents) : Type 0 where
   pub name_is : i.name ≡ contents.name
-  pub objects_are : i.lengths.items ≡ listed contents.objects
+  pub objects_are : i.objects.items ≡ listed contents.objects
 
 -- what is told of these contents, as the definitions have what an image mounts
 abbrev pub mount_of : Inspected → Contents → Mount
@@ -43,14 +43,15 @@ pub record IsInspectedFrom (u : Uberblock) (name : List ℕ) (lengths : List (Ob
   pub used : i.used ≡ blocks - set.len free
   pub records : i.records ≡ 0
   pub name_is : i.name ≡ name
-  pub lengths_are : i.lengths.items ≡ lengths
+  pub lengths_are : i.objects.items ≡ lengths
 
--- for the active uberblock, where it has no chain, it is told of the contents that the image mounts, with all their numbers
+-- for the active uberblock, where it has no chain, it is told of the contents that the image mounts, with all their
+-- numbers
 abbrev pub IsInspectionOf : List ℕ → Inspected → Type 0
 IsInspectionOf image i = (u : Uberblock) → IsActive image u → IsChainOf image u [] → (contents : Contents) × IsToldOf i contents × IsMounted image (mount_of i contents)
 
--- a pool that an import gives has what an inspection told: contents of this name and these objects, and these blocks, four groups and an
--- import later
+-- a pool that an import gives has what an inspection told: contents of this name and these objects, and these blocks,
+-- four groups and an import later
 pub record IsToldBefore (i : Inspected) (s : Shown) : Type 0 where
   pub contents : IsToldOf i s.contents
   pub guid : s.guid ≡ i.guid

@@ -6,13 +6,14 @@ use Rattle.base.specs.disk.Disk.{Disk, bytes_of, certain, written}
 use Rattle.base.specs.formats.Fields.{part}
 use Rattle.base.specs.formats.Geometry.{block_address, block_count, block_size, config_place, slot_of, slot_place}
 use Rattle.base.specs.formats.Labels.{Config}
-use Rattle.base.specs.disk.SyncOrder.{DeviceCall}
+use Rattle.base.specs.disk.SyncOrder.{DeviceCall, import_calls}
 use Rattle.base.specs.disk.SyncOrder.DeviceCall.{Block, Config as ConfigCall, Uberblock as UberblockCall, Flush}
 use Rattle.base.specs.formats.Uberblocks.{Uberblock, IsUberblock}
 use Rattle.labels.specs.Configs.{IsConfigBlock, config_block}
 use Rattle.labels.specs.declared.stage.Stage.{Stage}
 use Rattle.labels.specs.declared.stage.Stage.TheVariants.{Even, Odd}
 use Rattle.uberblocks.specs.Slots.{slot_bytes}
+use Rattle.import_replay.specs.Labelled.{HasOtherSlots, HoldLabels}
 use Rattle.sync.specs.declared.run.SyncRun.{SyncRun}
 use Rattle.sync.specs.Calls.{refusal_of}
 
@@ -26,7 +27,8 @@ abbrev pub is_even : Stage → Bool
 is_even Even = true
 is_even Odd = false
 
--- the disk after a good call of a sync that writes this config and this uberblock into the labels; it has no blocks to write
+-- the disk after a good call of a sync that writes this config and this uberblock into the labels; it has no blocks to
+-- write
 abbrev pub after_call : (size : ℕ) → Config → Uberblock → DeviceCall → Disk → Disk
 after_call size config u (Block k) disk = disk
 after_call size config u (ConfigCall label) disk = written (config_place size label) (config_block config) true disk
@@ -38,7 +40,8 @@ abbrev pub after_calls : (size : ℕ) → Config → Uberblock → List DeviceCa
 after_calls size config u [] disk = disk
 after_calls size config u (call ∷ calls) disk = after_calls size config u calls (after_call size config u call disk)
 
--- the disk after such a call that the device refused: a read gives what it gave, and a refused write may count for a crash
+-- the disk after such a call that the device refused: a read gives what it gave, and a refused write may count for a
+-- crash
 abbrev pub LeavesRefused : (size : ℕ) → Config → Uberblock → DeviceCall → PoolError → Disk → Disk → Type 0
 LeavesRefused size config u (Block k) e old new = new ≡ old
 LeavesRefused size config u (ConfigCall label) e old new = Writes old (config_place size label) (config_block config) (Err e) new
@@ -62,3 +65,12 @@ pub record IsLabelSync (size : ℕ) (config : Config) (u : Uberblock) (first : S
   pub stages : run.stages ≡ Some (record { config = config_block config; first = first })
   pub is_uberblock : IsUberblock (slot_bytes u) u
   pub is_config : IsConfigBlock (config_block config) size config
+
+-- The labels were synced: the disk is what these calls make of the one before, each label has this config and this
+-- uberblock, the other slots and all blocks are as they were, and nothing is unflushed.
+pub record AreLabelsSynced (size : ℕ) (config : Config) (u : Uberblock) (even_first : Bool) (old new : Disk) : Type 0 where
+  pub synced : new ≡ after_calls size config u (import_calls 0 even_first) old
+  pub labelled : HoldLabels size config u (bytes_of new.now)
+  pub other_slots : HasOtherSlots size u.group (bytes_of old.now) (bytes_of new.now)
+  pub same_blocks : HasSameBlocks size (bytes_of old.now) (bytes_of new.now)
+  pub settled : new.now.unflushed ≡ []

@@ -13,6 +13,7 @@ pub mod LabelSyncs
 pub mod ImportViews
 pub mod ImportSyncs
 pub mod ImportStops
+pub mod Refused
 pub mod Mounts
 pub mod ShownMounts
 pub mod RunStarts

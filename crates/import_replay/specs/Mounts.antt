@@ -1,10 +1,10 @@
 -- What an import mounts, as contracts see the pool that it gives.
-use Rattle.std.specs.Prelude.{ℕ, ◌≡◌, ◌+◌, false, List, [], length, None}
+use Rattle.std.specs.Prelude.{ℕ, ◌≡◌, ◌+◌, ◌<◌, ◌≤◌, ◌^◌, false, List, [], length, None}
 use Rattle.std.specs.FinMap as finite
 use Rattle.base.specs.formats.Versions.{written_version}
 use Rattle.base.specs.formats.Blocks.{Frame}
 use Rattle.base.specs.formats.Geometry.{IsBlockAddress, block_count}
-use Rattle.base.specs.steps.Exact.{AreFree}
+use Rattle.base.specs.steps.Exact.{AreFree, IsBounded}
 use Rattle.base.specs.steps.ExactNow.{IsExplainedNow}
 use Rattle.base.specs.crash.Imports.{IsImportOf, is_past_last}
 use Rattle.base.specs.crash.Mount.{IsChainOf}
@@ -20,9 +20,11 @@ use Rattle.object_maps.specs.ContentsShown.{contents_of}
 use Rattle.object_maps.specs.Lengths.{lengths_of}
 use Rattle.object_maps.specs.Pointers.{pointers_of}
 use Rattle.import_replay.specs.FreeBlocks.{HasTakenLowest}
+use Rattle.import_replay.specs.ImportRefusals.{CanImport}
 use Rattle.import_replay.specs.declared.mounted.Mounted.{Mounted}
 
--- the pool as it is shown when the import is done: the synced group is the import's, the next one is open, and nothing else has happened
+-- the pool as it is shown when the import is done: the synced group is the import's, the next one is open, and nothing
+-- else has happened
 abbrev pub shown_of_import : Mounted → Shown
 shown_of_import m = record {
   suspended = false;
@@ -63,8 +65,8 @@ pub record IsMountedFrom (u : Uberblock) (name : List ℕ) (slots : List Slot) (
   pub limit : m.dirty_max ≡ dirty_max
   pub log : HasTakenLowest (pointers_of m.tree) (block_count m.geometry) m.log_address m.free.free
 
--- What an import gives stands on a device with these bytes: the device holds its tree, its log block is a block of the area that the
--- tree does not have, and the free blocks are all others.
+-- What an import gives stands on a device with these bytes: the device holds its tree, its log block is a block of the
+-- area that the tree does not have, and the free blocks are all others.
 pub record StandsOn (now : List ℕ) (m : Mounted) : Type 0 where
   pub tree : HoldsTree now (frame_of_import m) (pointers_of m.tree) (contents_of m.contents).objects
   pub log_block : IsBlockAddress (block_count m.geometry) m.log_address
@@ -75,9 +77,19 @@ pub record StandsOn (now : List ℕ) (m : Mounted) : Type 0 where
 abbrev pub IsExplainedAnew : Mounted → Type 0
 IsExplainedAnew m = (created : ℕ) → IsExplainedNow (shown_of_import m) (new_past (contents_of m.contents) created m.dirty_max)
 
--- an import of an image that leaves these bytes: for the active uberblock, where it has no chain, the pool that the import gives;
--- and that it stands on the device; each block is the image's
+-- an import of an image that leaves these bytes: for the active uberblock, where it has no chain, the pool that the
+-- import gives; and that it stands on the device; each block is the image's
 pub record IsImport (image now : List ℕ) (dirty_max : ℕ) (m : Mounted) : Type 0 where
   pub imported : (u : Uberblock) → IsActive image u → IsChainOf image u [] → IsImportOf image now dirty_max 0 (shown_of_import m)
   pub stands : StandsOn now m
   pub blocks : SameBlocks (block_count (length image)) image now
+
+-- An import gives this on each device: a pool of this size and limit, both allowed, whose contents are within limits,
+-- and which a past in which nothing happened explains, whenever it was created.
+pub record IsMountedAnew (size dirty_max : ℕ) (m : Mounted) : Type 0 where
+  pub geometry : m.geometry ≡ size
+  pub limit : m.dirty_max ≡ dirty_max
+  pub made : CanImport size dirty_max
+  pub explained : (created : ℕ) → IsExplainedNow (shown_of_import m) (new_past (contents_of m.contents) created dirty_max)
+  pub bounded : IsBounded (contents_of m.contents)
+  pub group : (4 ≤ m.group.0) × (m.group.0 < 2 ^ 60)

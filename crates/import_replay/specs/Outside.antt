@@ -7,11 +7,12 @@ use Rattle.base.specs.formats.Geometry.{IsWritable}
 use Rattle.device_model.specs.declared.device.SectorDevice.{Ghosts}
 use Rattle.import_replay.specs.ImportRefusals.{IsSyncRefusal}
 
--- a byte behind the boot header of a label, or of the block area
+-- a byte after the boot header of a label, or of the block area
 abbrev pub IsPoolByte : ℕ → ℕ → Type 0
 IsPoolByte size i = IsWritable size i 1
 
--- At this moment all bytes outside the region are those of the earlier one, and a crash may change none of them that it could not change then.
+-- At this moment all bytes outside the region are those of the earlier one, and a crash may change none of them that it
+-- could not change then.
 pub record KeepsOutside (Region : ℕ → Type 0) (start m : Moment) : Type 0 where
   pub bytes : SameOutside Region (bytes_of start) (bytes_of m)
   pub touched : (i : ℕ) → (Region i → ⊥) → IsTouched m.unflushed i → IsTouched start.unflushed i

@@ -1,10 +1,10 @@
--- What a create hands to a disk, for crashes: that nothing else counts since it began, and that it stands as it was handed.
+-- What a create hands to a disk, for crashes: that nothing else counts since it began, and that it stands as it was
+-- handed.
 use Rattle.std.specs.Prelude.{ℕ, ◌≡◌, ◌≤◌, ◌<◌, List, [], length}
 use Rattle.std.specs.FinMap as map
 use Rattle.base.specs.crash.Own.{AreFirstWrites}
 use Rattle.base.specs.crash.Views.{View}
 use Rattle.base.specs.disk.Disk.{Disk, HandedSince, bytes_of, handed, moments}
-pub use Rattle.base.specs.disk.Disk.{HasEarlierWrites}
 use Rattle.base.specs.formats.Fields.{no_pointer, part}
 use Rattle.base.specs.formats.Geometry.{block_size, config_place, slot_of, slot_place}
 use Rattle.base.specs.formats.Limits.{first_group}

@@ -22,8 +22,8 @@ frame_with u blocks = record { version = u.version; guid = u.guid; blocks = bloc
 abbrev pub frame_of_size : Uberblock → ℕ → Frame
 frame_of_size u size = frame_with u (block_count size)
 
--- What was loaded for this uberblock, on every device: its root, pointers to blocks of the area alone, and objects within their
--- limits, whose lengths the tree has.
+-- What was loaded for this uberblock, on every device: its root, pointers to blocks of the area alone, and objects
+-- within their limits, whose lengths the tree has.
 pub record IsLoadedFor (u : Uberblock) (blocks : ℕ) (tree : Tree) (slots : List Slot) : Type 0 where
   pub root : tree.root ≡ u.root
   pub placed : ArePlaced blocks (pointers_of tree)
@@ -41,8 +41,8 @@ pub record HasPoolTree (image : List ℕ) (size : ℕ) (u : Uberblock) (name : L
 abbrev pub IsReadPool : List ℕ → ℕ → Uberblock → List ℕ → Tree → List Slot → Type 0
 IsReadPool image size u name tree slots = HasPoolTree image size u name tree (objects_of slots)
 
--- What was surveyed for this uberblock: pointers to blocks of the area alone, and the lengths of objects within their limits. The image
--- of a device that keeps the model has an active pool with this tree of these objects.
+-- What was surveyed for this uberblock: pointers to blocks of the area alone, and the lengths of objects within their
+-- limits. The image of a device that keeps the model has an active pool with this tree of these objects.
 pub record IsSurveyedFor (keeps : Bool) (image : List ℕ) (size : ℕ) (u : Uberblock) (name : List ℕ) (tree : Tree) : Type 0 where
   pub placed : ArePlaced (block_count size) (pointers_of tree)
   pub objects : FinMap nat_cmp (List ℕ)

@@ -1,5 +1,5 @@
-//! What callers rest on: one function for each promise of this crate's calls, proved from the contract of the call alone. So it
-//! is refused as soon as that contract says less.
+//! What callers rest on: one function for each promise of this crate's calls, proved from the contract of the call
+//! alone. So it is refused as soon as that contract says less.
 
 ghost use Rattle.std.specs.Prelude.{◌≡◌, ◌≢◌, ◌∷◌, [], ℕ, IfErr, IfOk, IsErr, IsTrue, MatchResult, slice_index, true};
 ghost use Rattle.std.specs.FinSet as set;
@@ -12,10 +12,10 @@ ghost use Rattle.base.specs.tree.Places.{IsInTree};
 ghost use Rattle.object_maps.specs.Surveys.{listed};
 
 use crate::creation::create;
-use crate::imported::import;
-use crate::imported_pool::Imported;
+use crate::importing::import;
+use crate::imported::Imported;
 use crate::inspection::{Inspected, inspect};
-use base::{Group, PoolError, PoolName};
+use base::{Group, PoolError};
 use device_model::SectorDevice;
 use std::alloc::Global;
 
@@ -134,7 +134,7 @@ fn an_inspection_reports_what_is_mounted<D: SectorDevice>(
 ) -> Result<Inspected, PoolError>
     ensures reported { IsTrue D.keeps_model → IfOk result (λ i. (u : image.Uberblock)
         → (contents : Contents) → Mounts (bytes_of (D.disk device.old).now) u [] contents
-        → (i.name ≡ contents.name) × (i.lengths.items ≡ listed contents.objects)
+        → (i.name ≡ contents.name) × (i.objects.items ≡ listed contents.objects)
         × (i.group.0 ≡ u.group) × (i.import_number ≡ u.import_number)) }
     ensures found { IsTrue D.keeps_model → IfErr result (λ e. (u : image.Uberblock)
         → (contents : Contents) → Mounts (bytes_of (D.disk device.old).now) u [] contents
@@ -154,20 +154,4 @@ fn an_inspection_needs_a_size<D: SectorDevice>(
     ensures unchanged { device.new ≡ device.old }
 {
     inspect(alloc, device)
-}
-
-// If an inspection found one object of five bytes, `objects` returns that length.
-fn the_objects_reported_have_their_lengths(inspected: &Inspected) -> u64
-    requires { inspected.now.lengths.items ≡ (record { 0 = 7 }, 5) ∷ [] }
-    ensures { result ≡ 5 }
-{
-    inspected.objects()[0].1
-}
-
-// `name` returns the name that the inspection found.
-fn the_name_reported_is_that_of_the_pool(inspected: &Inspected) -> &PoolName
-    requires { inspected.now.name ≡ 116 ∷ 97 ∷ 110 ∷ 107 ∷ [] }
-    ensures { result.now ≡ 116 ∷ 97 ∷ 110 ∷ 107 ∷ [] }
-{
-    inspected.name()
 }

@@ -1,79 +1,72 @@
-//! A new pool.
+//! A new pool: what a create writes, call by call.
 
-ghost use Rattle.std.specs.Prelude.{◌≡◌, ◌≤◌, ◌⊎◌, IfErr, IfOk, IsTrue, List, MatchResult, OnOk, [], ℕ};
+ghost use Rattle.std.specs.Prelude.{◌≡◌, ◌≤◌, IfErr, IfOk, IsTrue, List, MatchResult, OnOk, [], ℕ};
 ghost use Rattle.base.specs.disk.Calls.{with_refusal};
 ghost use Rattle.base.specs.crash.Own.{IsOwnWith};
-ghost use Rattle.base.specs.disk.Disk.{CrashLeaves, Disk, HasEarlierWrites, bytes_of, moments};
+ghost use Rattle.base.specs.disk.Disk.{Disk, HasEarlierWrites, bytes_of, moments};
 ghost use Rattle.base.specs.formats.Geometry.{IsGeometry};
 ghost use Rattle.labels.specs.Configs.{config_block};
 ghost use Rattle.uberblocks.specs.Slots.{slot_bytes};
 ghost use Rattle.import_replay.specs.Cleared.{AreTailsCleared, IsCleared, zeros};
-ghost use Rattle.import_replay.specs.CreateCalls.{IsStoppedIn, MakesInOrder, after_calls, create_calls};
+ghost use Rattle.import_replay.specs.CreateCalls.{IsPoolCreated, MakesInOrder, create_calls};
 ghost use Rattle.import_replay.specs.CreateCalls.{clear_block, clear_tail, each_block, each_label, write_config, write_uberblock};
-ghost use Rattle.import_replay.specs.CreateRefusals.{CanCreate, IsCreateRefusal};
-ghost use Rattle.import_replay.specs.Creations.{IsCreatedOn, IsNewPool, first_config, first_uberblock};
-ghost use Rattle.import_replay.specs.ImportRefusals.{IsSyncRefusal};
+ghost use Rattle.import_replay.specs.CreateRefusals.{CanCreate};
+ghost use Rattle.import_replay.specs.Creations.{first_config, first_uberblock};
 ghost use Rattle.import_replay.specs.Labelled.{HoldConfig, IsLabelled};
 ghost use Rattle.import_replay.specs.OwnCreations.{AddsConfig, AddsSlot, AddsZeros, AreConfigsHanded, AreSlotsHanded};
 ghost use Rattle.import_replay.specs.OwnCreations.{IsFirstDisk, first_contents, first_view};
 ghost use Rattle.import_replay.specs.Outside.{WritesAndFlushes, WritesPoolBytes};
+ghost use Rattle.import_replay.specs.Refused.{IsCreateRefused};
 
 use base::{FIRST_GROUP, Group, Pointer, PoolError, PoolName, WRITTEN_VERSION};
 use device_model::SectorDevice;
 use labels::{Geometry, LabelConfig};
 use uberblocks::{Uberblock, slot};
 
-/// Where the name/value area of a label begins, and the bytes from there to the label's end.
+/// Where the name/value area of a label begins, in bytes from the label's start.
 const TAIL_AT: u64 = 16_384;
 
+/// The bytes from there to the label's end.
 const TAIL_SIZE: usize = 245_760;
 
-/// Makes a pool of this name and guid on a device, and gives the device back. The moment is stored in the uberblocks.
+/// Makes a pool of this name and guid on a device, and returns the device. `moment`, in seconds, is stored in the
+/// uberblocks.
 ///
-/// The name/value areas, the uberblock arrays and all blocks are cleared to zeros and flushed; then four configs of group
-/// 4 are written and flushed, and then uberblock 4, with no tree and no log, in each label (On-Disk Specification, chapter
-/// 1), which are flushed too. It makes just these calls in this order: one write for each label, 0 to 3, and one for each
-/// block, rising. So a device that keeps the model of a disk then holds all this, whatever a crash makes of it, and mounts
-/// an empty pool. All bytes before the name/value areas and those between the labels and the blocks stay as they are at
-/// each moment, also in a create that is refused. It takes no memory.
+/// It makes these calls, in this order (On-Disk Specification, chapter 1), and takes no memory:
+/// 1. It clears the name/value area and the uberblock array of labels 0 to 3, then each block, rising, and flushes.
+/// 2. It writes a config of group 4 into labels 0 to 3, and flushes.
+/// 3. It writes uberblock 4, with no tree and no log, into labels 0 to 3, and flushes.
+///
+/// After any crash the device then mounts an empty pool. The bytes before the name/value areas, and those between the
+/// labels and the blocks, stay as they are at each moment, also if the create is refused.
 ///
 /// # Errors
-/// `BadGeometry` where the device's size is none that a pool may have; `BadRange` where the name is none; before either no
-/// device call is made. `Write` and `Flush` exactly where the device refused such a call: the calls before the refused one
-/// are then made, and none of those after it.
+/// - `BadGeometry` if no pool may have the device's size; `BadRange` if the name isn't allowed. The device is as it
+///   was.
+/// - `Write` and `Flush`, exactly if the device refused such a call. The calls before it are made, none after it.
 pub fn create<D: SectorDevice>(
     mut device: D,
     name: &[u8],
     guid: u64,
     moment: u64,
 ) -> Result<D, (PoolError, D)>
-    ensures size { MatchResult result
-        (λ d. D.size d ≡ D.size device) (λ e. D.size e.1 ≡ D.size device) }
     ensures made { OnOk result (CanCreate (D.size device) name.now) }
-    ensures count { IfOk result (λ d. D.refused d ≡ D.refused device) }
-    ensures untouched { IfErr result
-        (λ e. (e.0 ≡ PoolError.BadGeometry) ⊎ (e.0 ≡ PoolError.BadRange) → e.1 ≡ device) }
-    ensures refused { IfErr result (λ e. IsCreateRefusal (D.size device) name.now e.0) }
-    ensures counted { IfErr result (λ e. D.refused e.1 ≡ with_refusal e.0 (D.refused device)) }
-    ensures created { IfOk result (λ d. IsTrue D.keeps_model
-        → IsCreatedOn (bytes_of (D.disk d).now) name.now guid) }
-    ensures settled { IfOk result (λ d. IsTrue D.keeps_model
-        → CrashLeaves (λ image. IsCreatedOn image name.now guid) (D.disk d).now) }
-    ensures written { IfOk result (λ d. IsTrue D.keeps_model
-        → CrashLeaves (λ image. IsNewPool image name.now guid moment) (D.disk d).now) }
-    // After any crash only this pool has written it since.
+    // After any crash the pool is on the disk, and this pool alone has written the disk since.
+    ensures created { IsTrue D.keeps_model → IfOk result (λ d. IsPoolCreated
+        (D.size device) name.now guid moment (D.disk device) (D.disk d)) }
     ensures own { IsTrue D.keeps_model → IfOk result
         (λ d. IsOwnWith (D.disk d) (moments (D.disk device)) guid (first_contents name.now)) }
     ensures outside { IsTrue D.keeps_model → MatchResult result
         (λ d. WritesPoolBytes (D.size device) (D.disk device) (D.disk d))
         (λ e. WritesPoolBytes (D.size device) (D.disk device) (D.disk e.1)) }
 
-    // Its calls are made in their order, and the first that the device refuses ends them.
-    ensures called { IsTrue D.keeps_model → IfOk result (λ d. D.disk d
-        ≡ after_calls (create_calls (D.size device) name.now guid moment) (D.disk device)) }
-    ensures stopped { IsTrue D.keeps_model → IfErr result (λ e. IsSyncRefusal e.0
-        → IsStoppedIn (create_calls (D.size device) name.now guid moment)
-        e.0 (D.disk device) (D.disk e.1)) }
+    // On each device the size stays, and each call that the device refused is reported.
+    ensures size { MatchResult result
+        (λ d. D.size d ≡ D.size device) (λ e. D.size e.1 ≡ D.size device) }
+    ensures count { MatchResult result (λ d. D.refused d ≡ D.refused device)
+        (λ e. D.refused e.1 ≡ with_refusal e.0 (D.refused device)) }
+    ensures refused { IfErr result
+        (λ e. IsCreateRefused D.SectorDevice name.now guid moment device e.1 e.0) }
 {
     let geometry = match Geometry::of(device.sectors()) {
         Ok(geometry) => geometry,

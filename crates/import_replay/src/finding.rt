@@ -17,12 +17,9 @@ ghost use Rattle.import_replay.specs.LabelSyncs.{is_even};
 
 use base::{PoolError, PoolName};
 use device_model::SectorDevice;
-use labels::{Geometry, LabelConfig, Stage, choose, is_kept_in_odd};
+use labels::{ARRAY_AT, Geometry, LabelConfig, Stage, choose, is_kept_in_odd};
 use std::alloc::Global;
 use uberblocks::{ARRAY_SIZE, LABEL_COUNT, Uberblock, active};
-
-/// Where a label's uberblock array begins.
-const ARRAY_AT: u64 = 131_072;
 
 /// A pool that was found on a device.
 #[derive(Drop)]
@@ -113,8 +110,8 @@ fn read_array<D: SectorDevice>(
     device.read(at, &mut ring[ARRAY_SIZE * label..ARRAY_SIZE * (label + 1)])
 }
 
-// The name of the pool of an active uberblock, and the pair of labels that an import may write first: the even ones where
-// an odd label holds the chosen config, so that it stands until another pair is flushed.
+// The name of the pool of an active uberblock, and the pair of labels that an import may write first: the even ones
+// if an odd label holds the chosen config, so that it stays until another pair is flushed.
 fn read_name<D: SectorDevice>(
     device: &mut D,
     geometry: Geometry,

@@ -1,12 +1,12 @@
-//! What an import would mount, told by reads alone. No object's bytes stay in memory: what is told are the lengths.
+//! What an import would mount, found by reads alone. No object's bytes stay in memory; their lengths are reported.
 
 ghost use Rattle.std.specs.Prelude.{◌≡◌, IfErr, IfOk, IsTrue, OnOk};
 ghost use Rattle.base.specs.disk.Disk.{bytes_of};
 ghost use Rattle.base.specs.formats.Geometry.{IsGeometry, block_count};
 ghost use Rattle.device_model.specs.Reading.{OnlyReads};
 ghost use Rattle.uberblocks.specs.Slots.{fields_of};
-ghost use Rattle.import_replay.specs.ImportRefusals.{FindsOwn, IsInspectionRefusal, IsReason};
 ghost use Rattle.import_replay.specs.Inspections.{AgreesWithImports, IsInspectedFrom, IsInspectionOf, IsToldOfBounded};
+ghost use Rattle.import_replay.specs.Refused.{IsInspectionRefused};
 
 use crate::finding::Found;
 use crate::free_blocks::free_set;
@@ -20,6 +20,7 @@ use std::alloc::Global;
 /// What an import would mount, with its numbers.
 #[derive(Debug, PartialEq, Eq, Drop)]
 pub struct Inspected {
+    /// The guid of the pool.
     pub guid: u64,
     /// The group of the active uberblock.
     pub group: Group,
@@ -31,40 +32,24 @@ pub struct Inspected {
     pub used: u64,
     /// How many log records an import would apply.
     pub records: u64,
-    pub name: PoolName,
-    /// The numbers of the objects, rising, each with the object's length in bytes.
-    pub lengths: Vec<(ObjectId, u64)>,
-}
-
-impl Inspected {
     /// The name of the pool.
-    pub fn name(&self) -> &PoolName
-        ensures { result.now ≡ self.now.name }
-    {
-        &self.name
-    }
-
+    pub name: PoolName,
     /// The objects by rising number, each with its length in bytes.
-    pub fn objects(&self) -> &[(ObjectId, u64)]
-        ensures { result.now ≡ self.now.lengths.items }
-    {
-        self.lengths.as_slice()
-    }
+    pub objects: Vec<(ObjectId, u64)>,
 }
 
-/// Tells what an import of the pool on a device would mount. It reads alone: it makes no write and no flush, whatever it
-/// answers, and sees what a read gives, flushed or not.
-///
-/// The log chain is expected to be empty, as `import` expects it.
+/// Reports what an import of the pool on a device would mount. It makes no write and no flush, also if it is refused,
+/// and sees what a read returns, flushed or not. It expects an empty log chain, as `import` does.
 ///
 /// # Errors
-/// In this order: `BadGeometry`, before any device call; `NoPool`; `Damaged` with the first fault of the tree; and
-/// `NoMemory` and `Read` where they happen, the last exactly where the device refused such a call.
+/// In this order: `BadGeometry`, before any device call; `NoPool`; `Damaged` with the first fault of the tree.
+/// `NoMemory` and `Read` when they happen, `Read` exactly if the device refused a read.
 pub fn inspect<D: SectorDevice>(alloc: Global, device: &mut D) -> Result<Inspected, PoolError>
-    // The disk is as it was, and only reads were refused.
+    // The disk is as it was, and the device refused no call but a read.
     ensures reads { OnlyReads D.SectorDevice result device.old device.new }
 
-    // It is what the image mounts, where the active uberblock has no log chain, and what each import of the image gives.
+    // It is what the image mounts, if the active uberblock has no log chain, and what each import of the image
+    // mounts.
     ensures mounted { IsTrue D.keeps_model
         → IfOk result (IsInspectionOf (bytes_of (D.disk device.old).now)) }
     ensures agrees { IsTrue D.keeps_model
@@ -72,12 +57,8 @@ pub fn inspect<D: SectorDevice>(alloc: Global, device: &mut D) -> Result<Inspect
     ensures bounded { IfOk result IsToldOfBounded }
     ensures made { OnOk result (IsGeometry (D.size device.old)) }
 
-    ensures refused { IfErr result (IsInspectionRefusal (D.size device.old)) }
-    ensures reason { IsTrue D.keeps_model
-        → IfErr result (IsReason (bytes_of (D.disk device.old).now)) }
-    ensures found { IsTrue D.keeps_model → IfErr result (FindsOwn (D.disk device.old)) }
-    ensures untouched { IfErr result
-        (λ e. e ≡ PoolError.BadGeometry → device.new ≡ device.old) }
+    ensures refused { IfErr result
+        (IsInspectionRefused D.SectorDevice device.old device.new) }
 {
     let geometry = Geometry::of(device.sectors())?;
     let (found, tree) = survey_pool(alloc, device, geometry)?;
@@ -86,7 +67,7 @@ pub fn inspect<D: SectorDevice>(alloc: Global, device: &mut D) -> Result<Inspect
     Ok(tell(geometry, found, lengths, &free))
 }
 
-// What is told of a pool that was read, with the lengths of its objects and its free blocks.
+// The report on a pool that was read, with the lengths of its objects and its free blocks.
 fn tell(
     geometry: Geometry,
     found: Found,
@@ -106,6 +87,6 @@ fn tell(
         used: blocks - free.free(),
         records: 0,
         name: found.name,
-        lengths,
+        objects: lengths,
     }
 }

@@ -1,16 +1,14 @@
 //! The sync of an import.
 
-ghost use Rattle.std.specs.Prelude.{◌≡◌, ◌<◌, [], IfErr, IsTrue, OnOk};
+ghost use Rattle.std.specs.Prelude.{◌≡◌, ◌<◌, IfErr, IsTrue, OnOk};
 ghost use Rattle.base.specs.disk.Calls.{counted};
-ghost use Rattle.base.specs.disk.Disk.{bytes_of};
 ghost use Rattle.base.specs.formats.Geometry.{IsGeometry};
 ghost use Rattle.base.specs.disk.SyncOrder.{import_calls};
 ghost use Rattle.sync.specs.Runs.{call_count};
 ghost use Rattle.uberblocks.specs.Slots.{IsWithinLimits, fields_of};
 ghost use Rattle.import_replay.specs.ImportRefusals.{IsSyncRefusal};
 ghost use Rattle.import_replay.specs.ImportViews.{EndsBehind, KeepsViews};
-ghost use Rattle.import_replay.specs.Labelled.{HasOtherSlots, HoldLabels};
-ghost use Rattle.import_replay.specs.LabelSyncs.{HasSameBlocks, IsLabelSync, IsStoppedSync, after_calls, is_even};
+ghost use Rattle.import_replay.specs.LabelSyncs.{AreLabelsSynced, IsLabelSync, IsStoppedSync, is_even};
 
 use base::PoolError;
 use device_model::SectorDevice;
@@ -35,22 +33,12 @@ pub(crate) fn sync_labels<D: SectorDevice>(
     ensures size { D.size device.new ≡ D.size device.old }
     ensures count { D.refused device.new ≡ counted result (D.refused device.old) }
     ensures refused { IfErr result IsSyncRefusal }
-    ensures same_blocks { IsTrue D.keeps_model
-        → OnOk result (HasSameBlocks geometry (bytes_of (D.disk device.old).now)
-        (bytes_of (D.disk device.new).now)) }
-    ensures synced { IsTrue D.keeps_model → OnOk result (D.disk device.new
-        ≡ after_calls geometry config.now (fields_of uberblock.now)
-        (import_calls 0 (is_even first)) (D.disk device.old)) }
+    ensures written { IsTrue D.keeps_model
+        → OnOk result (AreLabelsSynced geometry config.now (fields_of uberblock.now) (is_even first)
+        (D.disk device.old) (D.disk device.new)) }
     ensures stopped { IsTrue D.keeps_model → IfErr result (λ e. IsStoppedSync geometry config.now
         (fields_of uberblock.now) (import_calls 0 (is_even first)) e (D.disk device.old)
         (D.disk device.new)) }
-    ensures labelled { IsTrue D.keeps_model
-        → OnOk result (HoldLabels geometry config.now (fields_of uberblock.now)
-        (bytes_of (D.disk device.new).now)) }
-    ensures other_slots { IsTrue D.keeps_model
-        → OnOk result (HasOtherSlots geometry uberblock.now.group.0
-        (bytes_of (D.disk device.old).now) (bytes_of (D.disk device.new).now)) }
-    ensures settled { IsTrue D.keeps_model → OnOk result ((D.disk device.new).now.unflushed ≡ []) }
     ensures views { IsTrue D.keeps_model → KeepsViews geometry config.now (fields_of uberblock.now)
         first (D.disk device.old) (D.disk device.new) }
     ensures behind { IsTrue D.keeps_model

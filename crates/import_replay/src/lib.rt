@@ -1,5 +1,6 @@
-//! How a pool comes onto a device, and how it is opened again: `create` makes a new one, `import` takes up the one that is
-//! there, and `inspect` tells what `import` would mount (On-Disk Specification, chapter 1).
+//! How a pool comes onto a device, and how it is opened again (On-Disk Specification, chapter 1).
+//!
+//! `create` makes a new pool, `import` opens the one that is there, and `inspect` reports what `import` would mount.
 #![tactic(auto)]
 
 mod clients;
@@ -7,14 +8,14 @@ mod creation;
 mod finding;
 mod free_blocks;
 mod imported;
-mod imported_pool;
+mod importing;
 mod inspection;
 mod label_sync;
 mod mounted;
 mod reading;
 
 pub use creation::create;
-pub use imported::import;
-pub use imported_pool::Imported;
+pub use imported::Imported;
+pub use importing::import;
 pub use inspection::{Inspected, inspect};
 pub use mounted::Mounted;

@@ -15,17 +15,25 @@ use std::alloc::Global;
 /// What an import mounted and wrote.
 #[derive(Debug, Drop)]
 pub struct Mounted {
+    /// The allocator of the pool's tables.
     pub alloc: Global,
+    /// The size of the device.
     pub geometry: Geometry,
+    /// The guid of the pool.
     pub guid: u64,
     /// The group that the import synced.
     pub group: Group,
+    /// How many imports the pool has had, this one included.
     pub import_number: u64,
+    /// The pool's name and its objects, with their bytes.
     pub contents: Contents,
+    /// The pointers of the tree that the objects were read from.
     pub tree: Tree,
+    /// The blocks that are neither in the tree nor the first log block.
     pub free: FreeSet,
-    /// The address of the first log block.
+    /// The address of the first log block, in bytes.
     pub log_address: u64,
+    /// How many bytes may be dirty.
     pub dirty_max: u64,
     ghost free_sized: { free.blocks ≡ block_count geometry },
     ghost free_idle: { IsIdle free },

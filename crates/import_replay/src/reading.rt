@@ -1,5 +1,5 @@
-//! What an import and an inspection read: the pool that a device has, and the tree under its root. An import takes the
-//! bytes of the objects with it, an inspection their lengths alone.
+//! What an import and an inspection read: the pool that a device has, and the tree under its root. An import takes
+//! the bytes of the objects with it, an inspection their lengths alone.
 
 ghost use Rattle.std.specs.Prelude.{◌≡◌, IfErr, IfOk, IsTrue};
 ghost use Rattle.base.specs.disk.Disk.{bytes_of};
@@ -46,7 +46,8 @@ pub(crate) fn read_pool<D: SectorDevice>(
     Ok((found, loaded))
 }
 
-// The pool of a device, with its tree, by the same reads; no object's bytes stay. Nothing is written, and nothing is flushed.
+// The pool of a device, with its tree, by the same reads; no object's bytes stay. Nothing is written, and nothing is
+// flushed.
 pub(crate) fn survey_pool<D: SectorDevice>(
     alloc: Global,
     device: &mut D,

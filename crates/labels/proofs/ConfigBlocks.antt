@@ -15,7 +15,7 @@ use Rattle.checked_blocks.proofs.SealedBlocks.{sealed_block-is}
 use Rattle.labels.specs.ConfigBytes.{config_bytes}
 use Rattle.labels.specs.Configs.{IsConfigBlock, config_block}
 
--- three numbers and a name, put one behind the other
+-- three numbers and a name, put one after the other
 pub put-config : (a b c name z first second third fourth : List ℕ) → length a ≡ 8 → length b ≡ 8 → length c ≡ 8 → 24 + length name ≤ length z
     → first ≡ put 0 a z → second ≡ put 8 b first → third ≡ put 16 c second → fourth ≡ put 24 name third → take (24 + length name) fourth ≡ a ++ b ++ c ++ name
 put-config a b c name z first second third fourth la lb lc fits e1 e2 e3 e4 =
@@ -118,7 +118,7 @@ configs-told_apart block size c d x y =
     same_config c d (sym x.sealed.guid_is ∙ y.sealed.guid_is) (sym x.sealed.group_is ∙ y.sealed.group_is) (x.size_is ∙ sym y.size_is)
     (sym (name-taken (drop 64 block) size c.name x.fields) ∙ name-taken (drop 64 block) size d.name y.fields)
 
--- behind the name a config has zeros alone
+-- after the name a config has zeros alone
 pub zeros-behind : (payload : List ℕ) (size : ℕ) (name : List ℕ) → IsConfigPayload payload size name → length payload ≡ 4032
     → drop (24 + length name) payload ≡ replicate (length (drop (24 + length name) payload)) 0
 zeros-behind payload size name p long =

@@ -13,7 +13,8 @@ ConfigsReadBack = (c : Config) → c.guid < 2 ^ 64 → c.group < 2 ^ 64 → c.si
 abbrev pub ConfigsAreToldApart : Type 0
 ConfigsAreToldApart = (block : List ℕ) (size : ℕ) (c d : Config) → IsConfigBlock block size c → IsConfigBlock block size d → c ≡ d
 
--- what is chosen among the configs of an image's labels, or that there is none, and whether an odd label keeps the choice, is so of the image
+-- what is chosen among the configs of an image's labels, or that there is none, and whether an odd label keeps the
+-- choice, is so of the image
 pub record IsSoOfImage (image : List ℕ) (configs : List (Option Config)) (guid group : ℕ) : Type 0 where
   pub chosen : (c : Config) → IsChoice configs guid group c → IsChosen image guid group c.group c.name × (c.guid ≡ guid) × (c.size ≡ length image)
   pub none : HasNoCandidate configs guid group → HasNoConfig image guid group

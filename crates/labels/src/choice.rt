@@ -9,11 +9,11 @@ ghost use Rattle.labels.specs.Choices.{IsKeptIn};
 use crate::config::LabelConfig;
 use base::{Group, PoolError};
 
-/// The config that belongs to an active uberblock of this pool and group: of the valid configs of the four labels with this guid
-/// and a group not above this one, the one of the highest group, and of these the one of the lowest label.
+/// The config that belongs to an active uberblock of this pool and group: of the valid configs of the four labels with
+/// this guid and a group not above this one, the one of the highest group, and of these the one of the lowest label.
 ///
 /// # Errors
-/// `NoPool` exactly where no label has such a config.
+/// `NoPool` exactly if no label has such a config.
 pub fn choose(
     configs: &[Option<LabelConfig>; 4],
     guid: u64,

@@ -1,5 +1,5 @@
-//! What callers rest on: one function for each promise of this crate's calls, proved from the contract of the call alone. So it
-//! is refused as soon as that contract says less.
+//! What callers rest on: one function for each promise of this crate's calls, proved from the contract of the call
+//! alone. So it is refused as soon as that contract says less.
 
 ghost use Rattle.std.specs.Prelude.{◌≡◌, ◌≤◌, ◌∷◌, [], IfOk, IfSome, IsErrOf, IsOk, Some, slice_get};
 ghost use Rattle.base.specs.formats.Labels.{HasNoCandidate};
@@ -11,7 +11,8 @@ use crate::laws::configs_are_told_apart;
 use crate::stage::Stage;
 use base::{Group, PoolError, PoolName};
 
-// The least device: 6 MiB, of which labels 0 and 1 and the boot area are the first 4 MiB, and labels 2 and 3 the last 512 KiB.
+// The least device: 6 MiB, of which labels 0 and 1 and the boot area are the first 4 MiB, and labels 2 and 3 the last
+// 512 KiB.
 fn a_device_of_6_mib_has_384_blocks() -> Result<(), PoolError>
     ensures { IsOk result }
 {

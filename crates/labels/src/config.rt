@@ -1,8 +1,8 @@
 //! The config of a label: which pool the device belongs to, and how large it is.
 //!
-//! In chapter 1 of the On-Disk Specification it is a list of names and values of 112 KiB, at 16 KiB of the label, behind
-//! blank space and boot header. Here it lies at the same place and is one checked block of kind 1, with the pool's guid,
-//! the group in which it was written and the number 0. Its payload is
+//! In chapter 1 of the On-Disk Specification it is a list of names and values of 112 KiB, at 16 KiB of the label, after
+//! blank space and boot header. Here it lies at the same place and is one checked block of kind 1, with the pool's
+//! guid, the group in which it was written and the number 0. Its payload is
 //!
 //! ```text
 //! 0   8    the version of this layout, 1
@@ -11,17 +11,18 @@
 //! 24       the name, and zeros up to the end
 //! ```
 //!
-//! The numbers are little-endian. A block is a config exactly where it opens as such a block and each byte of its payload
+//! The numbers are little-endian. A block is a config exactly if it opens as such a block and each byte of its payload
 //! is what encoding would write, for the device's own size. So a config is spelled in one way, and one that was copied
 //! from a device of another size is none.
 //!
-//! What tells the pools apart is the guid, what tells the configs of a pool apart is the group: the config of an active
+//! Pools differ by their guid, and the configs of a pool by their group: the config of an active
 //! uberblock is the one of the highest group not above the uberblock's (`choose` has the rule in full). A sync or an
 //! import that changes the configs writes and flushes those of two labels before the other two, so at each moment of it
 //! one pair at least is whole.
 
 ghost use Rattle.std.specs.Prelude.{◌≡◌, ◌+◌, ◌<◌, ◌≤◌, ◌^◌, ◌↔◌, ℕ, List, IsTrue, IfSome, IfNone, length, replicate, take};
 ghost use Rattle.base.specs.formats.Labels.{IsConfigPayload};
+ghost use Rattle.base.specs.formats.Limits.{max_name, payload_size};
 ghost use Rattle.labels.specs.ConfigBytes.{config_bytes};
 
 use base::{BLOCK_SIZE, Group, MAX_NAME, PoolName, are_zeros, read_u64, write_bytes, write_u64};
@@ -37,7 +38,8 @@ const HEAD: usize = 24;
 /// The most bytes of these and the name.
 const MAX_FIELDS: usize = HEAD + MAX_NAME;
 
-/// What the config of a label says (On-Disk Specification, chapter 1). Contracts see it as the record of its four fields.
+/// What the config of a label says (On-Disk Specification, chapter 1). Contracts see it as the record of its four
+/// fields.
 #[derive(Clone, Debug, Drop, PartialEq, Eq)]
 pub struct LabelConfig {
     guid: u64,
@@ -106,8 +108,8 @@ impl LabelConfig {
         &self.name
     }
 
-    /// The block that holds the config: kind 1, number 0, and a payload of the version 1, the size, the length of the name,
-    /// 8 bytes each, the name and zeros.
+    /// The block that holds the config: kind 1, number 0, and a payload of the version 1, the size, the length of the
+    /// name, 8 bytes each, the name and zeros.
     pub fn encode(&self) -> Block
         ensures bytes { result ≡ config_block self.now }
         ensures config { IsConfigBlock result self.now.size self.now }
@@ -124,8 +126,8 @@ impl LabelConfig {
         .unwrap()
     }
 
-    /// The config that a block holds, on a device of so many bytes: of any pool and group. None exactly where the block does
-    /// not open as kind 1 and number 0, or its version, size, name or zeros are not those of a config.
+    /// The config that a block holds, on a device of so many bytes: of any pool and group. None exactly if the block
+    /// does not open as kind 1 and number 0, or its version, size, name or zeros are not those of a config.
     pub fn decode(block: &[u8; BLOCK_SIZE], size: u64) -> Option<Self>
         ensures config { IfSome result (λ c. IsConfigBlock block.now size c) }
         ensures none { IfNone result ((c : Config) → IsConfigBlock block.now size c → ⊥) }
@@ -159,9 +161,9 @@ impl LabelConfig {
     }
 }
 
-/// Version, size, length of the name and the name; what lies behind is zeros.
+/// Version, size, length of the name and the name; zeros follow.
 fn payload_of(size: u64, name: &[u8]) -> [u8; MAX_FIELDS]
-    requires { length name.now ≤ 64 }
+    requires { length name.now ≤ max_name }
     ensures payload { take (24 + length name.now) result ≡ config_bytes size name.now }
     ensures size_fits { size < 2 ^ 64 }
 {
@@ -173,9 +175,9 @@ fn payload_of(size: u64, name: &[u8]) -> [u8; MAX_FIELDS]
     payload
 }
 
-/// The name in a config's payload, or None where the payload is none of a config on a device of so many bytes.
+/// The name in a config's payload, or None if the payload is none of a config on a device of so many bytes.
 fn name_in(payload: &[u8], size: u64) -> Option<PoolName>
-    requires { length payload.now ≡ 4032 }
+    requires { length payload.now ≡ payload_size }
     ensures name { IfSome result (λ name. IsConfigPayload payload.now size name) }
     ensures none { IfNone result ((name : List ℕ) → IsConfigPayload payload.now size name → ⊥) }
 {

@@ -1,16 +1,14 @@
 //! Where everything lies on a device: labels at both ends, blocks between them (On-Disk Specification, chapter 1).
 //!
-//! A label is 256 KiB: blank space and a boot header of 8 KiB each, the config, and from 128 KiB on the uberblock array.
+//! A label is 256 KiB: blank space and a boot header of 8 KiB each, the config, and from 128 KiB on the uberblock
+//! array.
 
 ghost use Rattle.std.specs.Prelude.{◌≡◌};
-ghost use Rattle.base.specs.formats.Geometry.{is_geometry};
+ghost use Rattle.base.specs.formats.Geometry.{is_geometry, block_size, label_size, sector_size, slot_count, slot_size};
 
-use base::{BLOCK_SIZE, PoolError};
+use base::{BLOCK_SIZE, PoolError, SECTOR_SIZE};
 use checked_blocks::BLOCK_AREA;
 use std::marker::Model;
-
-/// The bytes of a sector.
-pub const SECTOR_SIZE: u64 = 512;
 
 /// The bytes of a label (On-Disk Specification, chapter 1). A device's size is a multiple of them.
 pub const LABEL_SIZE: u64 = 262_144;
@@ -21,14 +19,11 @@ pub const MIN_SIZE: u64 = 6_291_456;
 /// The bytes of the greatest device: 1 GiB.
 pub const MAX_SIZE: u64 = 1_073_741_824;
 
-/// The bytes of a label's uberblock array, which begins at its slot 0.
-pub const ARRAY_SIZE: u64 = 131_072;
-
-/// Where a label's config begins, behind the blank space and the boot header.
+/// Where a label's config begins, after the blank space and the boot header.
 const CONFIG_AT: u64 = 16_384;
 
 /// Where a label's uberblock array begins.
-const ARRAY_AT: u64 = 131_072;
+pub const ARRAY_AT: u64 = 131_072;
 
 /// The bytes of a slot of the array.
 const SLOT_SIZE: u64 = 1024;
@@ -67,10 +62,10 @@ impl Geometry {
     /// The layout of a device of so many sectors of 512 bytes.
     ///
     /// # Errors
-    /// `BadGeometry` exactly where these are less than 6 MiB, more than 1 GiB, or no multiple of 256 KiB.
+    /// `BadGeometry` exactly if these are less than 6 MiB, more than 1 GiB, or no multiple of 256 KiB.
     pub fn of(sectors: u64) -> Result<Self, PoolError>
-        ensures ok { IsOk result ↔ IsGeometry (512 * sectors) }
-        ensures size { IfOk result (λ geometry. geometry ≡ 512 * sectors) }
+        ensures ok { IsOk result ↔ IsGeometry (sector_size * sectors) }
+        ensures size { IfOk result (λ geometry. geometry ≡ sector_size * sectors) }
         ensures refused { IfErr result (λ e. e ≡ PoolError.BadGeometry) }
     {
         if sectors <= MAX_SIZE / SECTOR_SIZE && is_pool_size(SECTOR_SIZE * sectors) {
@@ -101,10 +96,8 @@ impl Geometry {
     pub fn block_address(self, k: u64) -> u64
         requires { k < place.block_count self }
         ensures address { result ≡ place.block_address k }
-        ensures on_device { IsOnDevice self result 4096 }
+        ensures on_device { IsOnDevice self result block_size }
     {
-        // The size bounds the address.
-        let _size = self.size;
         BLOCK_AREA + BLOCK * k
     }
 
@@ -132,7 +125,7 @@ impl Geometry {
     pub fn label_place(self, label: usize) -> u64
         requires { label < 4 }
         ensures place { result ≡ place.label_place self label }
-        ensures on_device { IsOnDevice self result 262144 }
+        ensures on_device { IsOnDevice self result label_size }
     {
         match label {
             0 => 0,
@@ -146,17 +139,18 @@ impl Geometry {
     pub fn config_place(self, label: usize) -> u64
         requires { label < 4 }
         ensures place { result ≡ place.config_place self label }
-        ensures on_device { IsOnDevice self result 4096 }
+        ensures on_device { IsOnDevice self result block_size }
     {
         self.label_place(label) + CONFIG_AT
     }
 
-    /// The byte place of a slot of 1,024 bytes in a label's uberblock array. The array is the 131,072 bytes from slot 0 on.
+    /// The byte place of a slot of 1,024 bytes in a label's uberblock array. The array is the 131,072 bytes from slot 0
+    /// on.
     pub fn slot_place(self, label: usize, slot: usize) -> u64
         requires label { label < 4 }
-        requires slot { slot < 128 }
+        requires slot { slot < slot_count }
         ensures place { result ≡ place.slot_place self label slot }
-        ensures on_device { IsOnDevice self result 1024 }
+        ensures on_device { IsOnDevice self result slot_size }
     {
         self.label_place(label) + ARRAY_AT + SLOT_SIZE * slot as u64
     }

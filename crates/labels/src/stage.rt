@@ -1,6 +1,6 @@
 //! The order in which labels are written: the even ones, a flush, and then the odd ones, or the other way round.
 
-/// One of the two stages in which labels are written, so that a failure in one leaves the other pair as it was
+/// One of the two stages in which labels are written, so that a failure in one leaves the other pair unchanged
 /// (On-Disk Specification, chapter 1).
 #[derive(Clone, Copy, Debug, PartialEq, Eq)]
 pub enum Stage {

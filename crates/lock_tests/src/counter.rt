@@ -90,8 +90,8 @@ pub fn add_noted(held: &mut Held<u64, u64>) -> u64
     found
 }
 
-/// Adds 1 where the lock is free, in one turn of the seat and no other, and answers the value before. No other seat has a turn
-/// for it, and the only seat of a lock finds what it left.
+/// Adds 1 where the lock is free, in one turn of the seat and no other, and answers the value before. No other seat has
+/// a turn for it, and the only seat of a lock finds what it left.
 pub fn try_add(seat: &mut Seat<u64, Additions>, lock: &Lock) -> Option<u64>
     requires { (seat_table seat.old ≡ lock_table lock.now) × IsIdle seat.old }
     ensures same { (seat_table seat.new ≡ seat_table seat.old) × IsIdle seat.new }

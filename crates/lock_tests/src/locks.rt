@@ -119,8 +119,8 @@ fn the_word_tells_that_one_waits(rt: HostRuntime) -> Result<(), Fail> {
         move || hold_until_awaited(handle, both),
         move || add_after_a_wait(handle, both),
     );
-    // One has the lock and the other waits; the other has it after a release, with the waiter bit that it set before it tried;
-    // its own release has cleared both bits and is counted.
+    // One has the lock and the other waits; the other has it after a release, with the waiter bit that it set before it
+    // tried; its own release has cleared both bits and is counted.
     assert_eq!(rt; (words, shared.lock.word()), ((3, 7), 8));
     assert_eq!(rt; shared.close(), Some(2));
     Ok(())

@@ -1,4 +1,4 @@
--- A hasher that takes in one piece behind another takes in both.
+-- A hasher that takes in one piece after another takes in both.
 use Rattle.std.proofs.Common.{◌≡◌, ℕ, List, ◌++◌, append_assoc, ap, subst, ◌∙◌}
 use Rattle.sha2.specs.Hashers.{Holds256}
 use Rattle.sha2.specs.declared.Sha256.{Sha256}

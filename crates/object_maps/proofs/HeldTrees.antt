@@ -1,5 +1,5 @@
 -- An image that holds a tree has no fault in it, and its entries and records say what the objects are.
-use Rattle.std.proofs.Common.{◌≡◌, ℕ, ◌+◌, ◌*◌, ◌<◌, ◌≤◌, List, ◌++◌, refl, ap, sym, subst, ◌∙◌, arith, replicate, drop, ◌⊎◌, inl, inr}
+use Rattle.std.proofs.Common.{◌≡◌, ℕ, ◌<◌, ◌≤◌, List, refl, ap, sym, subst, ◌∙◌, arith, replicate, ◌⊎◌, inl, inr}
 use Rattle.std.specs.Prelude.{Option, Some, None, IfSome, ◌≢◌, length, option_map}
 use Rattle.std.specs.Ordering.{nat_cmp}
 use Rattle.std.specs.FinMap as map
@@ -8,7 +8,7 @@ use Rattle.base.specs.declared.pointer.Pointer.{Pointer}
 use Rattle.base.specs.declared.error.PoolError.{PoolError}
 use Rattle.base.specs.declared.error.PoolError.TheVariants.{Damaged, NoMemory, Read}
 use Rattle.base.specs.formats.Fields.{number_at, entry_in, entry_length, entry_present, no_pointer}
-use Rattle.base.specs.formats.Blocks.{Frame, Opens, payload_at}
+use Rattle.base.specs.formats.Blocks.{Frame, payload_at}
 use Rattle.base.specs.tree.Faults.{IsFirstFault, IsSoundAt}
 use Rattle.base.specs.tree.PlacedTrees.{HoldsTree, padded_record}
 use Rattle.base.specs.tree.Places.{Place, IsPlace, directory_pointer, kind_of, pointer_of, walk_index_of}

@@ -216,7 +216,7 @@ same_directory keeps image frame d pointer old_objects objects old_maps maps eo 
     go (inl none) = inl (none.0, λ k low. same_empty (entry_count * d + k) old_objects objects old_maps maps (eo k low) (em k low) (none.1 k low))
     go (inr block) = inr (block.0, block.1, λ k low. same_entry (entry_count * d + k) (entry_in block.0 k) old_objects objects old_maps maps (eo k low) (em k low) (block.2 k low))
 
--- what comes behind a directory is as empty as before
+-- what comes after a directory is as empty as before
 empty_behind : (count : ℕ) (old_objects objects : FinMap nat_cmp (List ℕ)) (old_maps maps : List ObjectMap) → AreEmptyFrom (entry_count * count) old_objects old_maps
     → SameBut (entry_count * count) entry_count old_objects objects old_maps maps → AreEmptyFrom (entry_count * (count + 1)) objects maps
 empty_behind count old_objects objects old_maps maps empty others = record {

@@ -35,7 +35,7 @@ zeros-part xs at n zeros = zeros-by (part xs at n) (λ i below.
 pub zero_records : (bytes : List ℕ) → bytes ≡ replicate (length bytes) 0 → (r : ℕ) → HasZeroRecord r bytes
 zero_records bytes zeros r = zeros-part bytes (record_size * r) record_size zeros
 
--- the front of a payload, as far as a list reaches behind a place, is what stands there once it is put
+-- the front of a payload, as far as a list reaches after a place, is what stands there once it is put
 part-taken : (s at count : ℕ) (payload bytes : List ℕ) → length payload ≡ s → at < length bytes → count ≡ min (length bytes - at) s
     → part (put at (take count payload) bytes) at s ≡ take count payload
 part-taken s at count payload bytes long within is = go (cases_lt (length bytes - at) s)

@@ -119,7 +119,8 @@ no_lengths maps empty n = no_length maps empty n ∙ ap (option_map length) (sym
 abbrev standing : {X : Type 0} → List X → ℕ → List X → List X
 standing new len items = take len (new ++ drop (length new) items)
 
--- a tree has pointers to blocks alone, and objects within their limits with which the image holds it, where the device keeps the model
+-- a tree has pointers to blocks alone, and objects within their limits with which the image holds it, where the device
+-- keeps the model
 pub record IsWhole (keeps : Bool) (image : List ℕ) (frame : Frame) (root : Pointer) (directories : List Pointer) (objects : FinMap nat_cmp (List ℕ)) (maps : List ObjectMap) : Type 0 where
   pub placed : ArePlaced frame.blocks (pointers_at root directories maps)
   pub bounded : (n : ℕ) → IfSome (finite.get objects n) (IsLimitedObject n)

@@ -42,7 +42,7 @@ whole_record_read object bytes index long reads =
     let same : 4032 * index + 0 + k ≡ 4032 * index + k = omega arith in
     reads k l ∙ ap (λ (j : ℕ). get_or object j 0) same ∙ sym (get_or-record index object k inside))
 
--- bytes of an object that were copied from an offset on, and zeros behind its end
+-- bytes of an object that were copied from an offset on, and zeros after its end
 module _ (object into copied filled post : List ℕ) (offset low count : ℕ) (is_low : low ≡ min offset (length object)) (is_count : count ≡ min (length into) (length object - low))
     (is : copied ≡ take (low + count - low) (drop low object)) (zeros : (j : ℕ) → j < length filled → get_or filled j 0 ≡ 0) (size : length filled ≡ length into - count) where
   pub copied_bytes : (k : ℕ) → k < length into → get_or (take count (copied ++ drop count into) ++ (filled ++ post)) k 0 ≡ get_or object (offset + k) 0
@@ -65,7 +65,7 @@ module _ (object into copied filled post : List ℕ) (offset low count : ℕ) (i
           ∙ get_or_append_left filled post 0 (k - count) (rw size (omega (arith, inside, from))) ∙ zeros (k - count) (rw size (omega (arith, inside, from)))
           ∙ sym (get_or_past object (offset + k) 0 (omega (arith, is_low, is_count, inside, from)))
 
--- a part and the one behind it
+-- a part and the one after it
 pub part-split : (bytes : List ℕ) (at m n : ℕ) → part bytes at (m + n) ≡ part bytes at m ++ part bytes (at + m) n
 part-split bytes at m n = take-add m n (drop at bytes) ∙ ap (λ (l : List ℕ). part bytes at m ++ take n l) (drop-drop m at bytes)
 

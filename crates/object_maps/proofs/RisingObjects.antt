@@ -1,4 +1,5 @@
--- Objects within the limits of a pool, told by rising number: what the digest has of them, how many they are, and the list of their lengths.
+-- Objects within the limits of a pool, told by rising number: what the digest has of them, how many they are, and the
+-- list of their lengths.
 use Rattle.std.proofs.Common.{◌≡◌, ℕ, zero, suc, ◌+◌, ◌<◌, ◌≤◌, ◌≢◌, Bool, List, [], ◌∷◌, ◌++◌, length, Option, Some, None, Greater, cond, is_some, refl, ap, sym, ◌∙◌, inl, inr, ◌⊎◌, arith, add-one, append_assoc, append-nil, length-append}
 use Rattle.std.specs.Prelude.{All, IfSome, map, option_map, unwrap_or}
 use Rattle.std.specs.Option.{option_map_or}
@@ -81,7 +82,7 @@ keys_below objects (suc n) =
 nat_cmp-above : (k n : ℕ) → n < k → nat_cmp k n ≡ Greater
 nat_cmp-above k n low = sym (nat_cmp_is k n Greater low)
 
--- an entry behind those with lower keys
+-- an entry after those with lower keys
 put-last : (n : ℕ) (bytes : List ℕ) (es : List (ℕ × List ℕ)) → All (λ (e : ℕ × List ℕ). e.0 < n) es → put nat_cmp n bytes es ≡ es ++ (n, bytes) ∷ []
 put-last n bytes [] lower = refl
 put-last n bytes (e ∷ es) lower =

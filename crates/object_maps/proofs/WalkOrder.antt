@@ -65,7 +65,7 @@ sound_one image frame root place start end there at next sound = record {
   each = λ other in_range low high. subst (λ (p : Place). IsSoundAt image frame root p) (same_place place other there in_range (omega (arith, at, next, low, high))) sound;
 }
 
--- a fault behind a sound part
+-- a fault after a sound part
 pub fault_behind : (image : List ℕ) (frame : Frame) (root : Pointer) (start middle kind address : ℕ) → start ≤ middle → AreSound image frame root start middle → IsFaultFrom image frame root middle kind address
     → IsFaultFrom image frame root start kind address
 fault_behind image frame root start middle kind address low sound f = record {

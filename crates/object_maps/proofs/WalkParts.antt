@@ -1,10 +1,10 @@
--- Parts of the walk, one behind another.
+-- Parts of the walk, one after another.
 use Rattle.std.proofs.Common.{◌≡◌, ℕ, zero, suc, ◌+◌, ◌*◌, ◌/◌, ◌%◌, ◌<◌, ◌≤◌, List, length, replicate, get_or, refl, ap, sym, subst, ◌∙◌, arith, inl, Result, Ok, Err, IfErr}
 use Rattle.std.proofs.lemmas.List.{get_or_default}
 use Rattle.base.specs.declared.error.PoolError.{PoolError}
 use Rattle.base.specs.declared.error.PoolError.TheVariants.{Damaged}
 use Rattle.base.specs.declared.pointer.Pointer.{Pointer}
-use Rattle.base.specs.formats.Limits.{object_count, pointer_count, entry_count}
+use Rattle.base.specs.formats.Limits.{object_count, pointer_count, entry_count, record_size}
 use Rattle.base.specs.formats.Fields.{number_at, pointer_in, entry_in, entry_length, entry_pointer, no_pointer}
 use Rattle.base.specs.formats.Blocks.{Frame, payload_at}
 use Rattle.base.specs.tree.Places.{walk_index_of_indirect, pointer_of, pointer_below, directory_pointer}
@@ -22,7 +22,7 @@ pub sound_then : (image : List ℕ) (frame : Frame) (root : Pointer) (start midd
 sound_then image frame root start middle begin last end here there first second =
     subst (λ (k : ℕ). AreSound image frame root start k) there (sound_more image frame root start begin last (subst (λ (k : ℕ). AreSound image frame root start k) here first) second)
 
--- a fault behind a sound part is told
+-- a fault after a sound part is told
 pub tells_behind : (image : List ℕ) (frame : Frame) (root : Pointer) (start middle begin : ℕ) (e : PoolError) → start ≤ middle → middle ≡ begin → AreSound image frame root start middle
     → TellsFault image frame root begin e → TellsFault image frame root start e
 tells_behind image frame root start middle begin e low here sound tells = λ kind address d.
@@ -79,12 +79,12 @@ object_none image frame root n low none =
 
 -- the indirect block of an object, well formed
 pub indirect_sound : (image : List ℕ) (frame : Frame) (root : Pointer) (n size : ℕ) (indirect : Pointer) (payload : List ℕ) → n < object_count → IsIndirectOf image root n indirect size
-    → OpensAt image frame (Indirect n) indirect payload → ((r : ℕ) → r < pointer_count → IsRecordPointerForm size r (pointer_in payload r))
+    → OpensAt image frame (Indirect n) indirect payload → ((r : ℕ) → r < pointer_count → IsRecordPointerForm size (record_size * r) (pointer_in payload r))
     → AreSound image frame root (walk_index_of_indirect n) (walk_index_of_indirect n + 1)
 indirect_sound image frame root n size indirect payload low i opens formed =
     sound_one image frame root (Indirect n) (walk_index_of_indirect n) (walk_index_of_indirect n + 1) low refl refl
     (sound_at image frame root (Indirect n) indirect payload i.at opens
-    (λ r within. subst (λ (k : ℕ). IsRecordPointerForm k r (pointer_in payload r)) (sym i.size_is) (formed r within)))
+    (λ r within. subst (λ (k : ℕ). IsRecordPointerForm k (record_size * r) (pointer_in payload r)) (sym i.size_is) (formed r within)))
 
 -- the records of an object are those that its indirect block names
 pub data_linked : (image : List ℕ) (frame : Frame) (root : Pointer) (n size : ℕ) (indirect : Pointer) (payload : List ℕ) (records : List Pointer) → IsIndirectOf image root n indirect size
@@ -96,11 +96,11 @@ data_linked image frame root n size indirect payload records i opens read = reco
 
 -- a pointer of an object that is not formed is a fault of its indirect block
 pub indirect_fault : (image : List ℕ) (frame : Frame) (root : Pointer) (n size : ℕ) (indirect : Pointer) (payload : List ℕ) (e : PoolError) → n < object_count → IsIndirectOf image root n indirect size
-    → (indirect ≡ no_pointer → ⊥) → OpensAt image frame (Indirect n) indirect payload → (((r : ℕ) → r < pointer_count → IsRecordPointerForm size r (pointer_in payload r)) → ⊥)
+    → (indirect ≡ no_pointer → ⊥) → OpensAt image frame (Indirect n) indirect payload → (((r : ℕ) → r < pointer_count → IsRecordPointerForm size (record_size * r) (pointer_in payload r)) → ⊥)
     → e ≡ Damaged 4 indirect.address → TellsFault image frame root (walk_index_of_indirect n) e
 indirect_fault image frame root n size indirect payload e low i there opens not told =
     formless_fault image frame root (Indirect n) (walk_index_of_indirect n) indirect payload e low refl i.at there opens
-    (λ formed. not (λ r within. subst (λ (k : ℕ). IsRecordPointerForm k r (pointer_in payload r)) i.size_is (formed r within))) told
+    (λ formed. not (λ r within. subst (λ (k : ℕ). IsRecordPointerForm k (record_size * r) (pointer_in payload r)) i.size_is (formed r within))) told
 
 no_entry_pointer : entry_pointer (replicate 64 0) ≡ no_pointer
 unfolding number_at

@@ -1,4 +1,5 @@
--- What the slots of a pool's contents stand for: its objects by their numbers, and what a list of operations makes of them.
+-- What the slots of a pool's contents stand for: its objects by their numbers, and what a list of operations makes of
+-- them.
 use Rattle.std.specs.Prelude.{◌≡◌, ℕ, suc, cond, List, [], ◌∷◌, Option, Some, None, Result, Ok, Err, slice_get}
 use Rattle.std.specs.Option.{option_map_or}
 use Rattle.std.specs.Ordering.{nat_cmp}

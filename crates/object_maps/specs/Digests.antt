@@ -8,7 +8,7 @@ use Rattle.sha2.specs.Hashers.{Holds256}
 use Rattle.sha2.specs.declared.Sha256.{Sha256}
 use Rattle.base.specs.formats.Digest.{object_text}
 
--- a hasher takes in these bytes behind the message that it has
+-- a hasher takes in these bytes after the message that it has
 abbrev pub Feeds : List ℕ → Sha256 → Sha256 → Type 0
 Feeds bytes old new = (m : List ℕ) → Holds256 old m → Holds256 new (m ++ bytes)
 

@@ -1,5 +1,5 @@
 -- What the parts of a load say: of the objects that are loaded so far, and of the image that the device has.
-use Rattle.std.specs.Prelude.{ℕ, ◌≡◌, ◌<◌, Bool, IsTrue, List, length, Some}
+use Rattle.std.specs.Prelude.{ℕ, ◌≡◌, ◌<◌, ◌*◌, Bool, IsTrue, List, length, Some}
 use Rattle.std.specs.Ordering.{nat_cmp}
 use Rattle.std.specs.FinMap.{FinMap}
 use Rattle.base.specs.declared.pointer.Pointer.{Pointer}
@@ -20,15 +20,16 @@ OnImage keeps disk P = (image : List ℕ) → Shows keeps disk image → P image
 abbrev pub OnWalk : Bool → Disk → (List ℕ → Pointer → Type 0) → Type 0
 OnWalk keeps disk P = IsTrue keeps → (image : List ℕ) (root : Pointer) → bytes_of disk.now ≡ image → P image root
 
--- From objects that a sink stands for, and of which none is there from this one on, a load makes objects that it stands for
--- behind it, and this is true of them and of the maps.
+-- From objects that a sink stands for, and of which none is there from this one on, a load makes objects that it stands
+-- for after it, and this is true of them and of the maps.
 abbrev pub LoadsFrom : {S : Type 0} → ℕ → (S → FinMap nat_cmp (List ℕ) → Type 0) → (S → List ObjectMap) → S → S
     → (FinMap nat_cmp (List ℕ) → FinMap nat_cmp (List ℕ) → List ObjectMap → List ObjectMap → Type 0) → Type 0
 LoadsFrom start stands_for maps old new P =
     (before : FinMap nat_cmp (List ℕ)) → stands_for old before → AreEmptyFrom start before (maps old)
     → (after : FinMap nat_cmp (List ℕ)) × stands_for new after × P before after (maps old) (maps new)
 
--- the payload of a directory has the size of one, and each of its entries is absent and all zeros, or present and within its limits
+-- the payload of a directory has the size of one, and each of its entries is absent and all zeros, or present and
+-- within its limits
 pub record IsEntryPayload (payload : List ℕ) : Type 0 where
   pub size : length payload ≡ record_size
   pub each : (k : ℕ) → k < entry_count → IsEntryForm (entry_in payload k)
@@ -36,7 +37,7 @@ pub record IsEntryPayload (payload : List ℕ) : Type 0 where
 -- these are the pointers to the records of an object of so many bytes: from its end on there are none
 pub record AreRecordPointers (size : ℕ) (records : List Pointer) : Type 0 where
   pub count : length records ≡ pointer_count
-  pub each : (r : ℕ) → r < pointer_count → IsRecordPointerForm size r (pointer_of_list records r)
+  pub each : (r : ℕ) → r < pointer_count → IsRecordPointerForm size (record_size * r) (pointer_of_list records r)
 
 -- an object has the length and the pointer that its entry has
 pub record IsObjectOf (entry : Entry) (bytes : List ℕ) (map : ObjectMap) : Type 0 where

@@ -1,4 +1,5 @@
--- What reads of objects give: the length of an object, one of its records, bytes from an offset on, and a range of its bytes.
+-- What reads of objects give: the length of an object, one of its records, bytes from an offset on, and a range of its
+-- bytes.
 use Rattle.std.specs.Prelude.{ℕ, ◌≡◌, ◌≤◌, ◌<◌, ◌+◌, List, [], get_or, length, Option, IfSome, option_map, unwrap_or}
 use Rattle.std.specs.Ordering.{nat_cmp}
 use Rattle.std.specs.FinMap as finite
@@ -10,7 +11,8 @@ use Rattle.base.specs.steps.Refusals.{object_range}
 use Rattle.base.specs.steps.Steps as steps
 use Rattle.base.specs.tree.PlacedTrees.{padded_record}
 
--- objects within the limits of a pool: each has a number below the count of objects, and is no longer than the greatest length
+-- objects within the limits of a pool: each has a number below the count of objects, and is no longer than the greatest
+-- length
 abbrev pub AreWithin : FinMap nat_cmp (List ℕ) → Type 0
 AreWithin objects = (n : ℕ) → IfSome (finite.get objects n) (λ bytes. (n < object_count) × (length bytes ≤ max_length))
 
@@ -22,11 +24,11 @@ object_length objects n = option_map length (finite.get objects n)
 abbrev pub object_bytes : FinMap nat_cmp (List ℕ) → ℕ → List ℕ
 object_bytes objects n = unwrap_or (finite.get objects n) []
 
--- record r of object n with zeros behind the object's end; an object that is not there has zeros alone
+-- record r of object n with zeros after the object's end; an object that is not there has zeros alone
 abbrev pub object_record : FinMap nat_cmp (List ℕ) → ℕ → ℕ → List ℕ
 object_record objects n r = padded_record r (object_bytes objects n)
 
--- these are an object's bytes from an offset on, with zeros behind its end
+-- these are an object's bytes from an offset on, with zeros after its end
 abbrev pub AreBytesFrom : ℕ → List ℕ → List ℕ → Type 0
 AreBytesFrom offset object bytes = (k : ℕ) → k < length bytes → get_or bytes k 0 ≡ get_or object (offset + k) 0
 

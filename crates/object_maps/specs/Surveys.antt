@@ -12,8 +12,12 @@ use Rattle.object_maps.specs.Loading.{IsLimitedObject}
 use Rattle.object_maps.specs.Pointers.{pointers_of}
 use Rattle.object_maps.specs.Sources.{AreWithin}
 
--- A tree has the lengths of objects that are within the limits of a pool, and the image of a device that keeps the model holds it
--- with these objects.
+-- a tree has the lengths of these objects, which are within the limits of a pool
+abbrev pub HasLimitedObjects : Tree → FinMap nat_cmp (List ℕ) → Type 0
+HasLimitedObjects tree objects = ((n : ℕ) → IfSome (finite.get objects n) (IsLimitedObject n)) × HasLengthsOf tree objects
+
+-- A tree has the lengths of objects that are within the limits of a pool, and the image of a device that keeps the
+-- model holds it with these objects.
 pub record HasObjects (keeps : Bool) (image : List ℕ) (frame : Frame) (tree : Tree) : Type 0 where
   pub objects : FinMap nat_cmp (List ℕ)
   pub bounded : (n : ℕ) → IfSome (finite.get objects n) (IsLimitedObject n)

@@ -7,7 +7,7 @@ use Rattle.base.specs.formats.Fields.{no_pointer}
 use Rattle.base.specs.formats.Blocks.{Frame, Opens}
 use Rattle.base.specs.tree.Places.{Place, IsPlace, kind_of, walk_index_of, pointer_of}
 use Rattle.base.specs.tree.Places.Place.{Directory, Indirect, Data}
-use Rattle.base.specs.formats.Limits.{pointer_count}
+use Rattle.base.specs.formats.Limits.{pointer_count, directory_stride}
 use Rattle.base.specs.tree.Tree.{OpensAt}
 use Rattle.object_maps.specs.Pointers.{pointer_of_list}
 use Rattle.base.specs.tree.Faults.{IsSoundAt, length_in}
@@ -30,16 +30,17 @@ pub record IsFaultFrom (image : List ℕ) (frame : Frame) (root : Pointer) (star
 abbrev pub TellsFault : List ℕ → Frame → Pointer → ℕ → PoolError → Type 0
 TellsFault image frame root start e = (kind address : ℕ) → e ≡ Damaged kind address → IsFaultFrom image frame root start kind address
 
--- an answer of a walk over the places from one index up to another: they are sound, or a Damaged tells their first fault
+-- an answer of a walk over the places from one index up to another: they are sound, or a Damaged tells their first
+-- fault
 abbrev pub Walks : {T : Type 0} → List ℕ → Frame → Pointer → ℕ → ℕ → Result T PoolError → Type 0
 Walks image frame root start end result = MatchResult result (λ x. AreSound image frame root start end) (λ e. TellsFault image frame root start e)
 
 -- where the walk comes to directory d, and to its objects
 abbrev pub directory_index : ℕ → ℕ
-directory_index d = 1 + 5356 * d
+directory_index d = 1 + directory_stride * d
 
 abbrev pub objects_index : ℕ → ℕ
-objects_index d = 2 + 5356 * d
+objects_index d = 2 + directory_stride * d
 
 -- a Damaged tells the block that a pointer names, and the image does not have it there
 abbrev pub TellsBlock : List ℕ → Frame → ℕ → ℕ → Pointer → PoolError → Type 0

@@ -2,11 +2,13 @@
 
 ghost use Rattle.std.specs.Prelude.{◌≡◌, ◌≤◌, [], false, All, vec_len, vec_capacity, IfOk, option_map};
 ghost use Rattle.std.specs.FinMap as finite;
+ghost use Rattle.base.specs.formats.Limits.{object_count};
 
 use base::{OBJECT_COUNT, ObjectId, PoolName};
 use std::alloc::{AllocError, Global};
 
-/// The place of one object: whether it is there, and its bytes. Where it is not there the bytes mean nothing: room may be taken for it before.
+/// The place of one object: whether it is there, and its bytes. If it is not there, the bytes mean nothing: room may be
+/// taken for it before.
 #[derive(Debug, Drop, PartialEq, Eq)]
 pub struct Slot {
     pub present: bool,
@@ -18,12 +20,12 @@ pub struct Slot {
 pub struct Contents {
     pub name: PoolName,
     pub slots: Vec<Slot>,
-    ghost all_objects: { vec_len slots ≡ 5292 },
+    ghost all_objects: { vec_len slots ≡ object_count },
 }
 
-/// A slot for each object number, each with no object. It is refused where there is no memory.
+/// A slot for each object number, each with no object. It is refused if no memory is left.
 pub fn empty_slots(alloc: Global) -> Result<Vec<Slot>, AllocError>
-    ensures count { IfOk result (λ slots. vec_len slots ≡ 5292) }
+    ensures count { IfOk result (λ slots. vec_len slots ≡ object_count) }
     ensures absent { IfOk result (λ slots. All (λ s. s.present ≡ false) slots.items) }
 {
     let mut slots = Vec::with_capacity(alloc, OBJECT_COUNT as usize)?;
@@ -51,7 +53,7 @@ impl Slot {
 impl Contents {
     ghost use Rattle.object_maps.specs.ContentsShown.{contents_of};
 
-    /// The contents with this name and no objects. They are refused where there is no memory.
+    /// The contents with this name and no objects. They are refused if no memory is left.
     pub fn new(alloc: Global, name: PoolName) -> Result<Self, AllocError>
         ensures { IfOk result (λ c.
             contents_of c ≡ record { name = name; objects = finite.empty }) }
@@ -62,7 +64,7 @@ impl Contents {
 
     /// The contents with this name and the objects of these slots.
     pub fn of(name: PoolName, slots: Vec<Slot>) -> Self
-        requires { vec_len slots ≡ 5292 }
+        requires { vec_len slots ≡ object_count }
         ensures name { result.name ≡ name }
         ensures slots { result.slots ≡ slots }
     {

@@ -1,4 +1,5 @@
-//! The digest of a pool's contents: SHA-256 (FIPS 180-4) of the name, the number of objects, and the objects by rising number.
+//! The digest of a pool's contents: SHA-256 (FIPS 180-4) of the name, the number of objects, and the objects by rising
+//! number.
 
 ghost use Rattle.std.specs.Prelude.{◌≡◌, ◌≤◌, length, OnOk, IfOk, IfErr};
 ghost use Rattle.std.specs.FinMap as finite;
@@ -13,9 +14,9 @@ use crate::source::ObjectSource;
 use base::{OBJECT_COUNT, ObjectId, PoolError, PoolName, RECORD_SIZE};
 use sha2::{Digest, Sha256};
 
-/// The digest of contents with this name and these objects: SHA-256 of the name's length (4 bytes), the name, the number
-/// of objects (4), and for each object by rising number its number (4), its length (8) and its bytes. All numbers are
-/// little-endian. It takes no memory, and is refused as the source refuses a read.
+/// The digest of contents with this name and these objects: SHA-256 of the name's length (4 bytes), the name, the
+/// number of objects (4), and for each object by rising number its number (4), its length (8) and its bytes. All
+/// numbers are little-endian. It takes no memory, and is refused as the source refuses a read.
 pub fn digest<O: ObjectSource>(name: &PoolName, objects: &mut O) -> Result<[u8; 32], PoolError>
     requires within { AreWithin (O.objects objects.old) }
     ensures kept { O.objects objects.new ≡ O.objects objects.old }

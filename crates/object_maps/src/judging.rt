@@ -1,7 +1,7 @@
 //! Operations that are judged before they take place, each by whether its object is there.
 //!
-//! Whether an object is there after the operations before is found without memory: the last create or remove of it among
-//! them decides, or else whether it is there now.
+//! Whether an object is there after the operations before is found without memory: the last create or remove of it
+//! among them decides, or else whether it is there now.
 
 ghost use Rattle.std.specs.Prelude.{◌≡◌, ◌++◌, ◌∷◌, []};
 ghost use Rattle.object_maps.specs.Judging.{ApplyTo, JudgesOver, TellsAfter};
@@ -12,8 +12,8 @@ use crate::source::ObjectSource;
 use base::{ObjectId, Op, PoolError};
 
 /// Judges operations in order, each on the objects after those before it, and gives the first refusal:
-/// `Exists` for an object that is created where it is there, `NoObject` for one that is removed, written or set to
-/// a length where it is not there. It takes no memory.
+/// `Exists` for an object that is created but is there, `NoObject` for one that is removed, written or set to
+/// a length but is not there. It takes no memory.
 pub fn judge<O: ObjectSource>(objects: &O, ops: &[Op]) -> Result<(), PoolError>
     requires { AreOpsAllowed ops.now }
     ensures { JudgesOver ops.now (O.objects objects.now) result }
@@ -48,7 +48,7 @@ fn judge_after<O: ObjectSource>(objects: &O, before: &[Op], op: &Op) -> Result<(
 }
 
 // Whether an object is there after operations that apply: as the last of them that creates or removes it says,
-// and where none does, as it is now.
+// and if none does, as it is now.
 fn has_after<O: ObjectSource>(objects: &O, before: &[Op], id: ObjectId) -> bool
     ensures { TellsAfter before.now (O.objects objects.now) id.0 result }
 {

@@ -6,6 +6,7 @@ ghost use Rattle.std.specs.Ordering.{nat_cmp};
 ghost use Rattle.std.specs.FinMap as finite;
 ghost use Rattle.std.specs.FinMap.{FinMap};
 ghost use Rattle.std.proofs.Math.ListN.{set};
+ghost use Rattle.base.specs.formats.Limits.{object_count};
 ghost use Rattle.object_maps.specs.Lengths.{HaveLengthsOf};
 ghost use Rattle.object_maps.specs.Pointers.{objects_of};
 
@@ -24,14 +25,14 @@ pub trait ObjectSink {
 
     /// Puts an object into its place, with its map.
     fn put(&mut self, number: usize, bytes: Vec<u8>, map: ObjectMap)
-        requires in_range { number < 5292 }
+        requires in_range { number < object_count }
         requires length { map.length ≡ Some (length bytes.items) }
         ensures maps { maps self.new ≡ set (maps self.old) number map }
         ensures objects { (objects : FinMap nat_cmp (List ℕ)) → stands_for self.old objects
             → stands_for self.new (finite.insert objects number bytes.items) };
 
     /// There is a map for each object number.
-    ghost sized: { (sink : Self) → length (maps sink) ≡ 5292 };
+    ghost sized: { (sink : Self) → length (maps sink) ≡ object_count };
 }
 
 /// Objects with their bytes: a slot and the map for each object number.
@@ -39,8 +40,8 @@ pub trait ObjectSink {
 pub struct Objects {
     pub slots: Vec<Slot>,
     pub maps: Vec<ObjectMap>,
-    ghost all_slots: { vec_len slots ≡ 5292 },
-    ghost all_maps: { vec_len maps ≡ 5292 },
+    ghost all_slots: { vec_len slots ≡ object_count },
+    ghost all_maps: { vec_len maps ≡ object_count },
 }
 
 impl ObjectSink for Objects {
@@ -64,7 +65,7 @@ impl ObjectSink for Objects {
 #[derive(Debug, Drop, PartialEq, Eq)]
 pub struct Maps {
     pub maps: Vec<ObjectMap>,
-    ghost all_maps: { vec_len maps ≡ 5292 },
+    ghost all_maps: { vec_len maps ≡ object_count },
 }
 
 impl ObjectSink for Maps {

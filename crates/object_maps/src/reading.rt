@@ -11,8 +11,9 @@ use crate::source::ObjectSource;
 use base::{Bytes, ObjectId, PoolError, RECORD_SIZE, Range};
 use std::alloc::Global;
 
-/// The bytes of a range of an object that lie below its length; none where the object is not there. Only the parts
-/// of records that they lie in are read, straight into their place. It is refused `NoMemory` where there is none for the bytes, and as the source refuses a read.
+/// The bytes of a range of an object that lie below its length; none if the object is not there. Only the parts of
+/// records that they lie in are read, straight into their place. It is refused `NoMemory` if there is none for the
+/// bytes, and as the source refuses a read.
 pub fn read_range<O: ObjectSource>(
     objects: &mut O,
     alloc: Global,
@@ -30,7 +31,7 @@ pub fn read_range<O: ObjectSource>(
     read_range_below(objects, alloc, id, range, length)
 }
 
-/// As `read_range`, where the length of the object in bytes is known: 0 where it is not there.
+/// As `read_range`, if the length of the object in bytes is known: 0 if it is not there.
 pub fn read_range_below<O: ObjectSource>(
     objects: &mut O,
     alloc: Global,

@@ -11,6 +11,7 @@ ghost use Rattle.base.specs.declared.error.PoolError.{PoolError};
 ghost use Rattle.base.specs.declared.error.PoolError.TheVariants as error;
 ghost use Rattle.base.specs.declared.refused.RefusedCalls.{RefusedCalls};
 ghost use Rattle.base.specs.disk.Calls.{counted};
+ghost use Rattle.base.specs.formats.Limits.{record_count, record_size};
 ghost use Rattle.object_maps.specs.ContentsShown.{contents_of};
 ghost use Rattle.object_maps.specs.Sources.{AreBytesFrom, object_bytes, object_length, object_record};
 
@@ -39,8 +40,8 @@ pub trait ObjectSource {
         self.length(id).is_some()
     }
 
-    /// Reads bytes of a record of an object that is there, from the offset `start` in it on, as many as `into` has, with
-    /// zeros behind the object's end. Where it is refused `into` may hold anything.
+    /// Reads bytes of a record of an object that is there, from the offset `start` in it on, as many as `into` has,
+    /// with zeros after the object's end. If it is refused, `into` may hold anything.
     fn read_present(
         &mut self,
         id: ObjectId,
@@ -49,17 +50,17 @@ pub trait ObjectSource {
         into: &mut [u8],
     ) -> Result<(), PoolError>
         requires there { is_some (finite.get (objects self.old) id.0) ≡ true }
-        requires index { index < 84 }
-        requires within { start + length into.old ≤ 4032 }
+        requires index { index < record_count }
+        requires within { start + length into.old ≤ record_size }
         ensures kept { objects self.new ≡ objects self.old }
         ensures size { length into.new ≡ length into.old }
-        ensures part { OnOk result (AreBytesFrom (4032 * index + start)
+        ensures part { OnOk result (AreBytesFrom (record_size * index + start)
             (object_bytes (objects self.old) id.0) into.new) }
         ensures refused { IfErr result may_refuse }
         ensures counted { refused self.new ≡ counted result (refused self.old) };
 
-    /// Reads bytes of a record of an object, from the offset `start` in it on, as many as `into` has, with zeros behind the
-    /// object's end. An object that is not there has zeros. Where it is refused `into` may hold anything.
+    /// Reads bytes of a record of an object, from the offset `start` in it on, as many as `into` has, with zeros after
+    /// the object's end. An object that is not there has zeros. If it is refused, `into` may hold anything.
     fn read_part(
         &mut self,
         id: ObjectId,
@@ -67,11 +68,11 @@ pub trait ObjectSource {
         start: usize,
         into: &mut [u8],
     ) -> Result<(), PoolError>
-        requires index { index < 84 }
-        requires within { start + length into.old ≤ 4032 }
+        requires index { index < record_count }
+        requires within { start + length into.old ≤ record_size }
         ensures kept { objects self.new ≡ objects self.old }
         ensures size { length into.new ≡ length into.old }
-        ensures part { OnOk result (AreBytesFrom (4032 * index + start)
+        ensures part { OnOk result (AreBytesFrom (record_size * index + start)
             (object_bytes (objects self.old) id.0) into.new) }
         ensures refused { IfErr result may_refuse }
         ensures counted { refused self.new ≡ counted result (refused self.old) }
@@ -83,13 +84,13 @@ pub trait ObjectSource {
         self.read_present(id, index, start, into)
     }
 
-    /// Reads a record of an object, 4,032 bytes, with zeros behind the object's end. The record of an object that is not
-    /// there is zeros. Where it is refused `into` may hold anything.
+    /// Reads a record of an object, 4,032 bytes, with zeros after the object's end. The record of an object that is not
+    /// there is zeros. If it is refused, `into` may hold anything.
     fn read_record(&mut self, id: ObjectId, index: usize, into: &mut [u8]) -> Result<(), PoolError>
-        requires index { index < 84 }
-        requires size { length into.old ≡ 4032 }
+        requires index { index < record_count }
+        requires size { length into.old ≡ record_size }
         ensures kept { objects self.new ≡ objects self.old }
-        ensures size { length into.new ≡ 4032 }
+        ensures size { length into.new ≡ record_size }
         ensures record { OnOk result (into.new ≡ object_record (objects self.old) id.0 index) }
         ensures refused { IfErr result may_refuse }
         ensures counted { refused self.new ≡ counted result (refused self.old) }
@@ -128,7 +129,7 @@ impl ObjectSource for &Contents {
     }
 }
 
-// Copies bytes of an object from an offset on, with zeros behind the object's end.
+// Copies bytes of an object from an offset on, with zeros after the object's end.
 fn copy_from(object: &[u8], offset: usize, into: &mut [u8])
     ensures size { length into.new ≡ length into.old }
     ensures bytes { AreBytesFrom offset object.now into.new }

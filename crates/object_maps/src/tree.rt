@@ -2,14 +2,15 @@
 //! object an indirect block over its records. Its pointers, and the lengths of its objects, are kept in memory.
 
 ghost use Rattle.std.specs.Prelude.{◌≡◌, IfOk, All, vec_len};
+ghost use Rattle.base.specs.formats.Limits.{object_count, pointer_count};
 ghost use Rattle.object_maps.specs.EmptyMaps.{IsEmptyMap};
 
 use base::{OBJECT_COUNT, ObjectId, Pointer};
 use std::alloc::{AllocError, Global};
 use std::collections::BTreeMap;
 
-/// What a tree has of one object: its length in bytes, `None` where it has no such object, and the pointers to its indirect
-/// block and to its records, of which none are kept where all are holes.
+/// What a tree has of one object: its length in bytes, `None` if it has no such object, and the pointers to its
+/// indirect block and to its records, of which none are kept if all are holes.
 #[derive(Debug, PartialEq, Eq, Drop)]
 pub struct ObjectMap {
     pub length: Option<u64>,
@@ -38,13 +39,13 @@ pub struct Tree {
     pub root: Pointer,
     pub directories: Vec<Pointer>,
     pub maps: Vec<ObjectMap>,
-    ghost all_directories: { vec_len directories ≡ 84 },
-    ghost all_objects: { vec_len maps ≡ 5292 },
+    ghost all_directories: { vec_len directories ≡ pointer_count },
+    ghost all_objects: { vec_len maps ≡ object_count },
 }
 
 /// The maps of objects of which none is there.
 pub fn empty_maps(alloc: Global) -> Result<Vec<ObjectMap>, AllocError>
-    ensures count { IfOk result (λ maps. vec_len maps ≡ 5292) }
+    ensures count { IfOk result (λ maps. vec_len maps ≡ object_count) }
     ensures empty { IfOk result (λ maps. All IsEmptyMap maps.items) }
 {
     let mut maps = Vec::with_capacity(alloc, OBJECT_COUNT as usize)?;
@@ -67,7 +68,7 @@ impl Tree {
     ghost use Rattle.object_maps.specs.Surveys.{ListsObjectsOf};
     ghost use Rattle.std.proofs.Math.ListN.{set};
 
-    /// Sets the lengths and the pointers of these objects. Those with no place in the tree are let go.
+    /// Sets the lengths and the pointers of these objects. Those with no place in the tree are dropped.
     pub fn set_all(&mut self, maps: BTreeMap<ObjectId, ObjectMap>)
         ensures pointers { (place : Place) → IsPlace place
             → pointers_of self.new place ≡ with_maps (map_among maps) (pointers_of self.old) place }
@@ -81,7 +82,7 @@ impl Tree {
         }
     }
 
-    /// The numbers of its objects, rising, each with the object's length. It is refused where there is no memory.
+    /// The numbers of its objects, rising, each with the object's length. It is refused if no memory is left.
     pub fn list_objects(&self, alloc: Global) -> Result<Vec<(ObjectId, u64)>, AllocError>
         ensures { IfOk result (λ list. ListsObjectsOf self.now list.items) }
     {

@@ -1,12 +1,11 @@
 //! The load of a tree from its device, in the order of its walk (On-Disk Specification, chapter 2): the root, then each
-//! directory, rising, and for each of its entries, rising, the indirect block and behind it the records, rising.
+//! directory, rising, and for each of its entries, rising, the indirect block and after it the records, rising.
 //!
-//! A block is taken only if it is the one that its pointer names, and what it holds is tested before anything below it is
-//! read. So the block that a load is refused for is the first fault of the walk.
+//! A block is taken only if it is the one that its pointer names, and what it holds is tested before anything below it
+//! is read. So the block that a load is refused for is the first fault of the walk.
 
-ghost use Rattle.std.specs.Prelude.{◌≡◌, ◌≢◌, ℕ, ◌+◌, ◌*◌, ◌<◌, ◌≤◌, ◌↔◌, List, IfOk, IfErr, OnOk, IfSome, IsTrue, Some, true, drop, get_or, length, replicate, vec_len};
-ghost use Rattle.std.specs.FinMap as finite;
-ghost use Rattle.base.specs.formats.Limits.{object_count};
+ghost use Rattle.std.specs.Prelude.{◌≡◌, ◌≢◌, ℕ, ◌+◌, ◌*◌, ◌<◌, ◌≤◌, ◌↔◌, List, IfOk, IfErr, OnOk, IsTrue, Some, true, drop, get_or, length, replicate, vec_len};
+ghost use Rattle.base.specs.formats.Limits.{object_count, object_stride, entry_count, max_length, payload_size, pointer_count, record_size};
 ghost use Rattle.base.specs.formats.Fields.{number_at, pointer_at, pointer_in, entry_in, entry_present, entry_length, entry_pointer, no_pointer};
 ghost use Rattle.base.specs.disk.Disk.{bytes_of};
 ghost use Rattle.base.specs.formats.Geometry.{block_address, IsBlockAddress};
@@ -18,35 +17,31 @@ ghost use Rattle.device_model.specs.Reading.{OnlyReads};
 ghost use Rattle.checked_blocks.proofs.NamedBlocks.{IsNamed};
 ghost use Rattle.object_maps.specs.Pointers.{pointers_of, objects_of, pointer_of_list};
 ghost use Rattle.object_maps.specs.Kinds.{kind_number};
-ghost use Rattle.object_maps.specs.Lengths.{HasLengthsOf};
-ghost use Rattle.object_maps.specs.Loading.{IsLimitedObject, IsLoadRefusal, IsLoadedRecord, AreLoadedEntries, AreLoadedRecords, HasZeroRecord, IsLoadedObject, LoadsDirectory, AreLoadedDirectories, IsLoadedTree};
+ghost use Rattle.object_maps.specs.Loading.{IsLoadRefusal, IsLoadedRecord, AreLoadedEntries, AreLoadedRecords, HasZeroRecord, IsLoadedObject, LoadsDirectory, AreLoadedDirectories, IsLoadedTree};
 ghost use Rattle.base.specs.declared.pointer.Pointer.{Pointer};
-ghost use Rattle.base.specs.tree.Places.{IsPlace, walk_index_of, walk_index_of_indirect, pointer_of};
+ghost use Rattle.base.specs.tree.Places.{IsPlace, pointer_of, walk_index_of, walk_index_of_indirect};
 ghost use Rattle.base.specs.tree.Places.Place.{Directory, Data};
 ghost use Rattle.object_maps.specs.Loaders.{AreRecordPointers, IsEntryPayload, IsObjectOf, LoadsFrom, OnImage, OnWalk};
-ghost use Rattle.object_maps.specs.Surveys.{HasObjects};
+ghost use Rattle.object_maps.specs.Surveys.{HasLimitedObjects, HasObjects};
 ghost use Rattle.object_maps.specs.Walking.{TellsBlock, TellsFault, Walks, IsDataOf, AreDataOf, IsIndirectOf, IsPayloadOf, AreDirectoriesOf, directory_index, objects_index};
 
 use crate::contents::{Slot, empty_slots};
 use crate::objects::{Maps, ObjectSink, Objects};
 use crate::tree::{ObjectMap, Tree, empty_maps};
 use base::{
-    ENTRY_COUNT, ENTRY_SIZE, Group, MAX_LENGTH, POINTER_COUNT, POINTER_SIZE, Pointer, PoolError,
-    RECORD_SIZE, are_zeros, read_pointer, read_u64, write_bytes,
+    BLOCK_SIZE, ENTRY_COUNT, ENTRY_SIZE, Group, MAX_LENGTH, POINTER_COUNT, POINTER_SIZE, Pointer,
+    PoolError, RECORD_SIZE, are_zeros, read_pointer, read_u64, write_bytes,
 };
-use checked_blocks::{Expected, Frame, Kind, open};
+use checked_blocks::{Expected, Frame, HEAD_SIZE, Kind, open};
 use device_model::SectorDevice;
 use std::alloc::Global;
-
-/// Where the payload of a block begins.
-const PAYLOAD: usize = 64;
 
 /// What a load of a tree gives: a slot for each object number, and the pointers.
 #[derive(Debug, Drop, PartialEq, Eq)]
 pub struct Loaded {
     pub slots: Vec<Slot>,
     pub tree: Tree,
-    ghost all_slots: { vec_len slots ≡ 5292 },
+    ghost all_slots: { vec_len slots ≡ object_count },
 }
 
 // What a load is made with: memory, and the frame of the blocks that it reads.
@@ -64,16 +59,16 @@ struct BlockPlace {
 }
 
 // Room for the bytes of a block.
-fn new_buffer() -> [u8; 4096] {
-    [0; 4096]
+fn new_buffer() -> [u8; BLOCK_SIZE] {
+    [0; BLOCK_SIZE]
 }
 
 // The payload of a block.
-fn payload_of(block: &[u8; 4096]) -> &[u8]
+fn payload_of(block: &[u8; BLOCK_SIZE]) -> &[u8]
     ensures payload { result.now ≡ drop 64 block.now }
-    ensures length { length result.now ≡ 4032 }
+    ensures length { length result.now ≡ payload_size }
 {
-    &block[PAYLOAD..]
+    &block[HEAD_SIZE..]
 }
 
 // What the block at a place has to be.
@@ -100,8 +95,9 @@ fn has_form(pointer: &Pointer) -> bool
 
 // Whether each pointer of a payload names a block or is all zeros.
 fn have_form(payload: &[u8]) -> bool
-    requires { length payload.now ≡ 4032 }
-    ensures { IsTrue result ↔ ((d : ℕ) → d < 84 → IsPointerForm (pointer_in payload.now d)) }
+    requires { length payload.now ≡ payload_size }
+    ensures { IsTrue result ↔ ((d : ℕ) → d < pointer_count
+        → IsPointerForm (pointer_in payload.now d)) }
 {
     for index in 0..POINTER_COUNT {
         if !has_form(&read_pointer(payload, POINTER_SIZE * index)) {
@@ -113,9 +109,10 @@ fn have_form(payload: &[u8]) -> bool
 
 // The pointers of a payload.
 fn read_pointers(payload: &[u8], pointers: &mut [Pointer])
-    requires payload { length payload.now ≡ 4032 }
-    requires pointers { length pointers.old ≡ 84 }
-    ensures { (k : ℕ) → k < 84 → pointer_of_list pointers.new k ≡ pointer_in payload.now k }
+    requires payload { length payload.now ≡ payload_size }
+    requires pointers { length pointers.old ≡ pointer_count }
+    ensures { (k : ℕ) → k < pointer_count
+        → pointer_of_list pointers.new k ≡ pointer_in payload.now k }
 {
     for index in 0..POINTER_COUNT {
         pointers[index] = read_pointer(payload, POINTER_SIZE * index);
@@ -131,8 +128,8 @@ struct Entry {
 }
 
 fn read_entry(payload: &[u8], index: usize) -> Entry
-    requires size { length payload.now ≡ 4032 }
-    requires in_range { index < 63 }
+    requires size { length payload.now ≡ payload_size }
+    requires in_range { index < entry_count }
     ensures present { result.present ≡ entry_present (entry_in payload.now index) }
     ensures length { result.length ≡ entry_length (entry_in payload.now index) }
     ensures pointer { result.pointer ≡ entry_pointer (entry_in payload.now index) }
@@ -147,8 +144,8 @@ fn read_entry(payload: &[u8], index: usize) -> Entry
 
 // Whether an entry is absent and all zeros, or present with a length and a pointer within their limits.
 fn is_entry(payload: &[u8], index: usize) -> bool
-    requires size { length payload.now ≡ 4032 }
-    requires in_range { index < 63 }
+    requires size { length payload.now ≡ payload_size }
+    requires in_range { index < entry_count }
     ensures { IsTrue result ↔ IsEntryForm (entry_in payload.now index) }
 {
     let entry = read_entry(payload, index);
@@ -160,8 +157,8 @@ fn is_entry(payload: &[u8], index: usize) -> bool
 }
 
 fn are_entries(payload: &[u8]) -> bool
-    requires { length payload.now ≡ 4032 }
-    ensures { IsTrue result ↔ ((k : ℕ) → k < 63 → IsEntryForm (entry_in payload.now k)) }
+    requires { length payload.now ≡ payload_size }
+    ensures { IsTrue result ↔ ((k : ℕ) → k < entry_count → IsEntryForm (entry_in payload.now k)) }
 {
     for index in 0..ENTRY_COUNT {
         if !is_entry(payload, index) {
@@ -173,16 +170,16 @@ fn are_entries(payload: &[u8]) -> bool
 
 // Whether a pointer to a record names a block or is all zeros, and from the end of the object on is all zeros.
 fn is_record_pointer(pointer: &Pointer, index: usize, size: usize) -> bool
-    requires { index < 84 }
-    ensures { IsTrue result ↔ IsRecordPointerForm size index pointer.now }
+    requires { index < pointer_count }
+    ensures { IsTrue result ↔ IsRecordPointerForm size (record_size * index) pointer.now }
 {
     has_form(pointer) && (RECORD_SIZE * index < size || pointer.is_none())
 }
 
 fn are_records(payload: &[u8], size: usize) -> bool
-    requires { length payload.now ≡ 4032 }
-    ensures { IsTrue result ↔ ((r : ℕ) → r < 84
-        → IsRecordPointerForm size r (pointer_in payload.now r)) }
+    requires { length payload.now ≡ payload_size }
+    ensures { IsTrue result ↔ ((r : ℕ) → r < pointer_count
+        → IsRecordPointerForm size (record_size * r) (pointer_in payload.now r)) }
 {
     for index in 0..POINTER_COUNT {
         let pointer = read_pointer(payload, POINTER_SIZE * index);
@@ -206,7 +203,7 @@ fn damaged(kind: Kind, pointer: &Pointer) -> PoolError
 ///
 /// # Errors
 /// `Damaged` with the first fault in the order of the walk: the root, then each directory, and for its entries each
-/// indirect block and its records, all rising. `Read` where the device refuses a read, `NoMemory`.
+/// indirect block and its records, all rising. `Read` if the device refuses a read, `NoMemory`.
 pub fn load<D: SectorDevice>(
     alloc: Global,
     device: &mut D,
@@ -217,19 +214,17 @@ pub fn load<D: SectorDevice>(
     ensures reads { OnlyReads D.SectorDevice result device.old device.new }
     ensures cause { IfErr result IsLoadRefusal }
 
-    // The tree has the root, pointers to blocks of the area alone, and objects within their limits.
+    // The tree has the root and pointers to blocks of the area alone.
     ensures root { IfOk result (λ l. l.tree.root ≡ root) }
     ensures placed { IfOk result (λ l. ArePlaced (frame.now.blocks) (pointers_of l.tree)) }
-    ensures bounded { IfOk result (λ l. (n : ℕ) → IfSome (finite.get (objects_of l.slots.items) n)
-        (IsLimitedObject n)) }
 
-    // It has the lengths of these objects, and is the one that the image holds.
-    ensures lengths { IfOk result (λ l. HasLengthsOf l.tree (objects_of l.slots.items)) }
+    // It has the lengths of objects within their limits, and is the one that the image holds with them.
+    ensures objects { IfOk result (λ l. HasLimitedObjects l.tree (objects_of l.slots.items)) }
     ensures tree { IsTrue D.keeps_model → IfOk result (λ l.
         HoldsTree (bytes_of (D.disk device.old).now)
         frame.now (pointers_of l.tree) (objects_of l.slots.items)) }
 
-    // And the block that is told damaged is the first fault of the walk.
+    // And the block that is reported as damaged is the first fault of the walk.
     ensures fault { IsTrue D.keeps_model → IfErr result (λ e.
         (kind address : ℕ) → e ≡ PoolError.Damaged kind address
         → IsFirstFault (bytes_of (D.disk device.old).now) frame.now root kind address) }
@@ -254,7 +249,7 @@ pub fn load<D: SectorDevice>(
 /// lengths of its objects. No object's bytes are kept: while it walks it has those of one.
 ///
 /// # Errors
-/// As `load`: `Damaged` with the first fault in the order of the walk, `Read` where the device refuses a read, `NoMemory`.
+/// As `load`: `Damaged` with the first fault in the order of the walk, `Read` if the device refuses a read, `NoMemory`.
 pub fn survey<D: SectorDevice>(
     alloc: Global,
     device: &mut D,
@@ -273,7 +268,7 @@ pub fn survey<D: SectorDevice>(
     ensures objects { IfOk result
         (HasObjects D.keeps_model (bytes_of (D.disk device.old).now) frame.now) }
 
-    // And the block that is told damaged is the first fault of the walk.
+    // And the block that is reported as damaged is the first fault of the walk.
     ensures fault { IsTrue D.keeps_model → IfErr result (λ e.
         (kind address : ℕ) → e ≡ PoolError.Damaged kind address
         → IsFirstFault (bytes_of (D.disk device.old).now) frame.now root kind address) }
@@ -291,13 +286,13 @@ pub fn survey<D: SectorDevice>(
 }
 
 impl Loader<'_> {
-    // Reads the block that a pointer names into the buffer. Refused Damaged where it is none of this place.
+    // Reads the block that a pointer names into the buffer. Refused Damaged if it is none of this place.
     fn read_block<D: SectorDevice>(
         &self,
         device: &mut D,
         place: BlockPlace,
         pointer: &Pointer,
-        buffer: &mut [u8; 4096],
+        buffer: &mut [u8; BLOCK_SIZE],
     ) -> Result<(), PoolError>
         requires fits { block_address self.now.frame.now.blocks ≤ D.size device.old }
         ensures reads { OnlyReads D.SectorDevice result device.old device.new }
@@ -328,7 +323,7 @@ impl Loader<'_> {
         objects: &mut S,
     ) -> Result<(), PoolError>
         requires fits { block_address self.now.frame.now.blocks ≤ D.size device.old }
-        requires directories { length directories.old ≡ 84 }
+        requires directories { length directories.old ≡ pointer_count }
         requires no_directories { (d : ℕ) → pointer_of_list directories.old d ≡ no_pointer }
         ensures reads { OnlyReads D.SectorDevice result device.old device.new }
         ensures cause { IfErr result IsLoadRefusal }
@@ -368,16 +363,16 @@ impl Loader<'_> {
         objects: &mut S,
     ) -> Result<(), PoolError>
         requires fits { block_address self.now.frame.now.blocks ≤ D.size device.old }
-        requires directories { length directories.now ≡ 84 }
+        requires directories { length directories.now ≡ pointer_count }
         ensures reads { OnlyReads D.SectorDevice result device.old device.new }
         ensures cause { IfErr result IsLoadRefusal }
         ensures loaded { OnImage D.keeps_model (D.disk device.old) (λ image. OnOk result
             (LoadsFrom 0 S.stands_for S.maps objects.old objects.new
             (λ _ after _. AreLoadedDirectories D.keeps_model image self.now.frame.now
-            directories.now 84 after))) }
+            directories.now pointer_count after))) }
         ensures walked { OnWalk D.keeps_model (D.disk device.old) (λ image top.
             AreDirectoriesOf image top directories.now
-            → Walks image self.now.frame.now top 1 (directory_index 84) result) }
+            → Walks image self.now.frame.now top 1 (directory_index pointer_count) result) }
     {
         for index in 0..POINTER_COUNT {
             let pointer = directories[index];
@@ -398,11 +393,11 @@ impl Loader<'_> {
         objects: &mut S,
     ) -> Result<(), PoolError>
         requires fits { block_address self.now.frame.now.blocks ≤ D.size device.old }
-        requires in_range { directory < 84 }
+        requires in_range { directory < pointer_count }
         ensures reads { OnlyReads D.SectorDevice result device.old device.new }
         ensures cause { IfErr result IsLoadRefusal }
         ensures loaded { OnImage D.keeps_model (D.disk device.old) (λ image. OnOk result
-            (LoadsFrom (63 * directory) S.stands_for S.maps objects.old objects.new
+            (LoadsFrom (entry_count * directory) S.stands_for S.maps objects.old objects.new
             (LoadsDirectory D.keeps_model image self.now.frame.now directory pointer.now))) }
         ensures walked { OnWalk D.keeps_model (D.disk device.old) (λ image top.
             pointer_of image top (Directory directory) ≡ pointer.now → pointer.now ≢ no_pointer
@@ -431,14 +426,14 @@ impl Loader<'_> {
         objects: &mut S,
     ) -> Result<(), PoolError>
         requires fits { block_address self.now.frame.now.blocks ≤ D.size device.old }
-        requires in_range { directory < 84 }
+        requires in_range { directory < pointer_count }
         requires payload { IsEntryPayload payload.now }
         ensures reads { OnlyReads D.SectorDevice result device.old device.new }
         ensures cause { IfErr result IsLoadRefusal }
         ensures loaded { OnImage D.keeps_model (D.disk device.old) (λ image. OnOk result
-            (LoadsFrom (63 * directory) S.stands_for S.maps objects.old objects.new
+            (LoadsFrom (entry_count * directory) S.stands_for S.maps objects.old objects.new
             (AreLoadedEntries D.keeps_model image self.now.frame.now
-            directory payload.now 63))) }
+            directory payload.now entry_count))) }
         ensures walked { OnWalk D.keeps_model (D.disk device.old) (λ image top.
             IsPayloadOf image self.now.frame.now top directory payload.now
             → Walks image self.now.frame.now top
@@ -464,8 +459,8 @@ impl Loader<'_> {
         entry: &Entry,
     ) -> Result<(Vec<u8>, ObjectMap), PoolError>
         requires fits { block_address self.now.frame.now.blocks ≤ D.size device.old }
-        requires in_range { number < 5292 }
-        requires length { entry.now.length ≤ 338688 }
+        requires in_range { number < object_count }
+        requires length { entry.now.length ≤ max_length }
         ensures reads { OnlyReads D.SectorDevice result device.old device.new }
         ensures cause { IfErr result IsLoadRefusal }
         ensures object { IfOk result (λ o. IsObjectOf entry.now o.0.items o.1) }
@@ -475,7 +470,7 @@ impl Loader<'_> {
         ensures walked { OnWalk D.keeps_model (D.disk device.old) (λ image top.
             IsIndirectOf image top number entry.now.pointer entry.now.length
             → Walks image self.now.frame.now top
-            (walk_index_of_indirect number) (walk_index_of_indirect number + 85) result) }
+            (walk_index_of_indirect number) (walk_index_of_indirect number + object_stride) result) }
     {
         let mut bytes = vec![in self.alloc; 0u8; entry.length as usize]?;
         let records = self.load_bytes(device, number, &entry.pointer, &mut bytes)?;
@@ -496,8 +491,8 @@ impl Loader<'_> {
         bytes: &mut [u8],
     ) -> Result<Vec<Pointer>, PoolError>
         requires fits { block_address self.now.frame.now.blocks ≤ D.size device.old }
-        requires in_range { number < 5292 }
-        requires bound { length bytes.old ≤ 338688 }
+        requires in_range { number < object_count }
+        requires bound { length bytes.old ≤ max_length }
         requires zeros { bytes.old ≡ replicate (length bytes.old) 0 }
         ensures reads { OnlyReads D.SectorDevice result device.old device.new }
         ensures cause { IfErr result IsLoadRefusal }
@@ -507,7 +502,7 @@ impl Loader<'_> {
         ensures walked { OnWalk D.keeps_model (D.disk device.old) (λ image top.
             IsIndirectOf image top number indirect.now (length bytes.old)
             → Walks image self.now.frame.now top
-            (walk_index_of_indirect number) (walk_index_of_indirect number + 85) result) }
+            (walk_index_of_indirect number) (walk_index_of_indirect number + object_stride) result) }
     {
         if indirect.is_none() {
             return Ok(Vec::new(self.alloc));
@@ -537,18 +532,18 @@ impl Loader<'_> {
         bytes: &mut [u8],
     ) -> Result<(), PoolError>
         requires fits { block_address self.now.frame.now.blocks ≤ D.size device.old }
-        requires in_range { number < 5292 }
+        requires in_range { number < object_count }
         requires records { AreRecordPointers (length bytes.old) records.now }
         requires zeros { (r : ℕ) → HasZeroRecord r bytes.old }
         ensures reads { OnlyReads D.SectorDevice result device.old device.new }
         ensures cause { IfErr result IsLoadRefusal }
         ensures loaded { OnImage D.keeps_model (D.disk device.old) (λ image. OnOk result
             (AreLoadedRecords D.keeps_model image self.now.frame.now
-            number records.now bytes.new 84)) }
+            number records.now bytes.new pointer_count)) }
         ensures walked { OnWalk D.keeps_model (D.disk device.old) (λ image top.
             AreDataOf image top number records.now (length bytes.old)
             → Walks image self.now.frame.now top
-            (walk_index_of_indirect number + 1) (walk_index_of_indirect number + 85) result) }
+            (walk_index_of_indirect number + 1) (walk_index_of_indirect number + object_stride) result) }
     {
         for index in 0..POINTER_COUNT {
             let pointer = records[index];
@@ -571,7 +566,7 @@ impl Loader<'_> {
     ) -> Result<(), PoolError>
         requires fits { block_address self.now.frame.now.blocks ≤ D.size device.old }
         requires place { IsPlace (Data number index) }
-        requires within { 4032 * index < length bytes.old }
+        requires within { record_size * index < length bytes.old }
         ensures reads { OnlyReads D.SectorDevice result device.old device.new }
         ensures cause { IfErr result IsLoadRefusal }
         ensures loaded { OnImage D.keeps_model (D.disk device.old) (λ image. OnOk result

@@ -29,8 +29,8 @@ fn expected() -> Expected {
     }
 }
 
-// Whether a block of `abcd` has its bytes, the group that it is opened with, whether its payload begins with `abcd` and a zero,
-// and how long this is.
+// Whether a block of `abcd` has its bytes, the group that it is opened with, whether its payload begins with `abcd` and
+// a zero, and how long this is.
 fn seal_and_open() -> Result<(bool, Group, bool, usize), PoolError> {
     let block = seal(Kind::Data as u64, 77, Group(9), 84, b"abcd")?;
     let has_bytes = block.as_bytes()[..72] == DATA[..];

@@ -150,7 +150,7 @@ fn count_about_a_crash(
 
 #[test]
 fn what_is_stored_outlives_a_crash(rt: HostRuntime) {
-    // the first and last bytes of the stored sector, those beside it, and one behind the written sector
+    // the first and last bytes of the stored sector, those beside it, and one after the written sector
     let before = [
         Row::Sectors(4),
         Row::Store(1, 1, 5),

@@ -3,8 +3,8 @@
 use base::{Group, PoolError};
 use throttle::Dirty;
 
-// The answers to two charges of 16,384 bytes, a third, the rest of 40,960 and more than any; whether the third is throttled;
-// and the sums behind the third and behind the rest.
+// The answers to two charges of 16,384 bytes, a third, the rest of 40,960 and more than any; whether the third is
+// throttled; and the sums after the third and after the rest.
 fn charges() -> ([Result<(), PoolError>; 5], bool, [u64; 2]) {
     let mut dirty = Dirty::new(40_960, Group(8));
     let first = dirty.admit(Group(9), 16_384);
@@ -40,8 +40,8 @@ fn sums(dirty: &Dirty) -> [u64; 5] {
     [9, 10, 11, 12, 0].map(|group| dirty.of(Group(group)))
 }
 
-// Three groups are charged, one of them is cancelled in part, and the oldest is synced: the sums before and behind that, their
-// total then, and whether the rest and one more are throttled.
+// Three groups are charged, one of them is cancelled in part, and the oldest is synced: the sums before and after that,
+// their total then, and whether the rest and one more are throttled.
 fn sums_about_a_sync() -> Result<([[u64; 5]; 2], u64, [bool; 2]), PoolError> {
     let mut dirty = Dirty::new(40_960, Group(8));
     dirty.admit(Group(9), 20_480)?;

@@ -1,8 +1,9 @@
-//! A device on a file: what it writes outlives it, what a file refuses is counted, and a refused sync is not made again.
+//! A device on a file: what it writes outlives it, what a file refuses is counted, and a refused sync is not made
+//! again.
 
 use crate::devices::place_of;
 use base::{PoolError, RefusedCalls};
-use device_model::{FileDevice, SectorDevice};
+use device_model::{FileDevice, FileRefusal, SectorDevice};
 use std::cell::Cell;
 use std::fs::{self, File, Metadata, OpenFile};
 use std::io;
@@ -60,7 +61,7 @@ fn read_file(rt: &HostRuntime, path: &str) -> Result<([u8; 4], u64), Fail> {
     Ok(read_middle(&mut device)?)
 }
 
-// Both, one behind the other, and how long the file is then.
+// Both, one after the other, and how long the file is then.
 fn write_and_read(
     rt: &HostRuntime,
     path: &str,
@@ -126,8 +127,8 @@ fn count_held<D: SectorDevice>(device: &mut D, rows: &[Row]) -> usize {
     rows.len()
 }
 
-// How many rows hold on a file of four sectors that is cut behind its second one, how long it is then, and what the device
-// counts as refused.
+// How many rows hold on a file of four sectors that is cut after its second one, how long it is then, and what the
+// device counts as refused.
 fn count_on_shrunk(
     rt: &HostRuntime,
     path: &str,
@@ -218,8 +219,8 @@ fn a_folder_is_no_device(rt: HostRuntime) -> Result<(), Fail> {
     Ok(())
 }
 
-// A file that ends in the middle of each call. Each second sync fails, from the first one on: a system may forget the failure of
-// a sync, and answer the next one well.
+// A file that ends in the middle of each call. Each second sync fails, from the first one on: a system may forget the
+// failure of a sync, and answer the next one well.
 #[derive(Drop)]
 struct Stuck {
     size: u64,
@@ -288,4 +289,65 @@ fn a_refused_sync_is_not_made_again(rt: HostRuntime) {
         Row::Flush(Ok(())),
     ];
     assert_eq!(rt; count_on_stuck(&rows), Ok(4));
+}
+
+// Whether a device was refused since another one holds its file.
+fn is_in_use(opened: Result<FileDevice, FileRefusal>) -> bool {
+    matches!(opened, Err(FileRefusal::InUse))
+}
+
+// Whether each other device on a file is refused while one writes to it. A device that would size it leaves its size.
+fn excludes_all(rt: &HostRuntime, path: &str) -> Result<bool, Fail> {
+    let device = FileDevice::create_new(rt, path, 2048)?;
+    let refused = is_in_use(FileDevice::open(rt, path))
+        && is_in_use(FileDevice::open_to_read(rt, path))
+        && is_in_use(FileDevice::create(rt, path, 1024));
+    Ok(refused && device.sectors() == 4 && fs::metadata(rt, path)?.len() == 2048)
+}
+
+// Whether two devices may read a file, and none may write to it meanwhile.
+fn excludes_writers(rt: &HostRuntime, path: &str) -> Result<bool, Fail> {
+    let first = FileDevice::open_to_read(rt, path)?;
+    let second = FileDevice::open_to_read(rt, path)?;
+    let refused = is_in_use(FileDevice::open(rt, path));
+    Ok(refused && first.sectors() == second.sectors())
+}
+
+#[test]
+fn one_device_at_a_time_writes_to_a_file(rt: HostRuntime) -> Result<(), Fail> {
+    assert!(rt; excludes_all(&rt, "held")?);
+    assert!(rt; excludes_writers(&rt, "held")?);
+
+    // Each lock is released with its device.
+    let device = FileDevice::create(&rt, "held", 1024)?;
+    assert_eq!(rt; device.sectors(), 2);
+    fs::remove_file(&rt, "held")?;
+    Ok(())
+}
+
+#[test]
+fn a_new_file_replaces_none(rt: HostRuntime) -> Result<(), Fail> {
+    fs::write(&rt, "there", "as it is")?;
+    let opened = FileDevice::create_new(&rt, "there", 2048);
+    assert!(rt; matches!(opened, Err(FileRefusal::System(_))));
+    assert_eq!(rt; fs::metadata(&rt, "there")?.len(), 8);
+    fs::remove_file(&rt, "there")?;
+    Ok(())
+}
+
+// Whether a device was refused since its file is no regular one.
+fn is_not_regular(opened: Result<FileDevice, FileRefusal>) -> bool {
+    matches!(opened, Err(FileRefusal::NotRegular))
+}
+
+#[test]
+fn only_a_regular_file_is_opened(rt: HostRuntime) -> Result<(), Fail> {
+    for path in [".", "/dev/null"] {
+        assert!(rt; is_not_regular(FileDevice::open(&rt, path)));
+        assert!(rt; is_not_regular(FileDevice::open_to_read(&rt, path)));
+        assert!(rt; is_not_regular(FileDevice::create(&rt, path, 2048)));
+    }
+    let missing = FileDevice::open(&rt, "nowhere");
+    assert!(rt; matches!(missing, Err(FileRefusal::System(_))));
+    Ok(())
 }

@@ -6,7 +6,7 @@ use base::PoolError;
 use space::FreeSet;
 use std::alloc::{AllocError, Global};
 
-/// The blocks of a device of 1 GiB: all of it but 4 MiB in front and 512 KiB behind, in blocks of 4,096 bytes.
+/// The blocks of a device of 1 GiB: all of it but 4 MiB in front and 512 KiB after, in blocks of 4,096 bytes.
 const MOST_BLOCKS: usize = 260_992;
 
 // A call on a set with the answer that is wanted.
@@ -112,8 +112,9 @@ fn the_greatest_device_has_a_set(rt: HostRuntime) {
     assert_eq!(rt; count_on_new(rt.alloc(), MOST_BLOCKS, &rows), Ok(7));
 }
 
-// What is available of a set of 24 blocks as a transaction reserves blocks and its group is synced, the refusal of one more, the
-// blocks that are taken first and last, how many are free before the sync ends, and whether block 2 is free behind it.
+// What is available of a set of 24 blocks as a transaction reserves blocks and its group is synced, the refusal of one
+// more, the blocks that are taken first and last, how many are free before the sync ends, and whether block 2 is free
+// after it.
 fn reserve_and_sync(
     free: &mut FreeSet,
 ) -> Result<([u64; 6], Option<PoolError>, [usize; 2], bool), PoolError>

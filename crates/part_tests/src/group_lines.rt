@@ -111,7 +111,7 @@ fn a_closed_group_waits_for_its_holds(rt: HostRuntime) {
     assert_eq!(rt; count_behind_8(&rows), 9);
 }
 
-// Whether a close of the last group is refused, and leaves the line as it was.
+// Whether a close of the last group is refused, and leaves the line unchanged.
 fn close_last() -> [bool; 2] {
     let mut groups = Groups::new(Group((1 << 60) - 1));
     let before = Groups::new(Group((1 << 60) - 1));

@@ -43,7 +43,8 @@ fn pieces_are(locks: &RangeLocks, wanted: &[HeldPiece]) -> Result<bool, PoolErro
     Ok(pieces.as_slice() == wanted)
 }
 
-// The names of three reader locks, and whether the pieces are cut at their ends: of the first two, of all, and without the first.
+// The names of three reader locks, and whether the pieces are cut at their ends: of the first two, of all, and without
+// the first.
 fn cut_pieces(locks: &mut RangeLocks) -> Result<([u64; 3], [bool; 3]), PoolError> {
     let first = lock(locks, 0, 10, Mode::Reader)?;
     let second = lock(locks, 5, 15, Mode::Reader)?;
@@ -96,7 +97,7 @@ fn an_object_has_pieces_of_its_own(rt: HostRuntime) {
     assert_eq!(rt; pieces_of_another(rt.alloc()), Ok((0, 0)));
 }
 
-// The answers to a writer, a reader of its last byte, and a reader behind it.
+// The answers to a writer, a reader of its last byte, and a reader after it.
 fn lock_beside_a_writer(locks: &mut RangeLocks) -> [Result<u64, PoolError>; 3] {
     [
         lock(locks, 0, 10, Mode::Writer),
@@ -105,7 +106,8 @@ fn lock_beside_a_writer(locks: &mut RangeLocks) -> [Result<u64, PoolError>; 3] {
     ]
 }
 
-// Whether the writer and the reader behind it have their pieces, and another owner gets the writer's range once it is let go.
+// Whether the writer and the reader after it have their pieces, and another owner gets the writer's range once it is
+// released.
 fn unlock_writer(locks: &mut RangeLocks) -> Result<[bool; 2], PoolError> {
     let written = HeldPiece {
         low: 0,
@@ -132,8 +134,8 @@ fn a_writer_overlaps_nothing(rt: HostRuntime) {
     assert_eq!(rt; about_a_writer(rt.alloc()), (told, Ok([true, true])));
 }
 
-// Under a writer lock of the front of the object, and a reader lock behind it: whether owner 1 is covered for writing in the
-// front and behind it, and for reading behind it, and whether owner 2 is.
+// Under a writer lock of the front of the object, and a reader lock after it: whether owner 1 is covered for writing in
+// the front and after it, and for reading after it, and whether owner 2 is.
 fn covers(locks: &mut RangeLocks) -> Result<[bool; 4], PoolError> {
     lock(locks, 0, 10, Mode::Writer)?;
     lock(locks, 10, 12, Mode::Reader)?;
@@ -201,7 +203,8 @@ fn unlock_answers(locks: &mut RangeLocks) -> [Result<(), PoolError>; 3] {
     ]
 }
 
-// The next name behind an unlock, the name that the next lock gets, the last name then, and whether the old one is found.
+// The next name after an unlock, the name that the next lock gets, the last name then, and whether the old one is
+// found.
 fn next_names(locks: &mut RangeLocks) -> (LockId, Result<u64, PoolError>, LockId, bool) {
     let next = locks.next_name();
     let granted = lock(locks, 0, 4, Mode::Reader);
@@ -209,7 +212,7 @@ fn next_names(locks: &mut RangeLocks) -> (LockId, Result<u64, PoolError>, LockId
     (next, granted, last_name(locks), is_found)
 }
 
-// Both, behind 256 locks.
+// Both, after 256 locks.
 fn names_behind_unlocks(
     alloc: Global,
 ) -> (
@@ -243,8 +246,8 @@ fn append(
     Ok([id.0, range.low, range.high])
 }
 
-// What append locks are told: of the pool's name, of no object, behind the greatest length, and of an object; and what a
-// writer is told behind it.
+// What append locks are told: of the pool's name, of no object, after the greatest length, and of an object; and what a
+// writer is told after it.
 fn append_answers(alloc: Global) -> ([Result<[u64; 3], PoolError>; 4], Result<u64, PoolError>) {
     let mut locks = RangeLocks::new(alloc);
     let told = [
@@ -274,13 +277,13 @@ fn lock_object(locks: &mut RangeLocks, object: ObjectId) -> Result<u64, PoolErro
     Ok(id.0)
 }
 
-// What is told for a range behind the greatest length, one of nothing, the pool's name and no object.
+// What is told for a range after the greatest length, one of nothing, the pool's name and no object.
 fn limit_answers(alloc: Global) -> [Result<u64, PoolError>; 4] {
     let mut locks = RangeLocks::new(alloc);
     [
         lock(&mut locks, 0, 338_689, Mode::Reader),
         lock(&mut locks, 4, 4, Mode::Reader),
-        // the number behind the last object stands for the pool's name
+        // the number after the last object stands for the pool's name
         lock_object(&mut locks, ObjectId(5292)),
         lock_object(&mut locks, ObjectId(5293)),
     ]

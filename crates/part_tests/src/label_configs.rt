@@ -22,8 +22,8 @@ fn config(guid: u64, group: u64) -> Option<LabelConfig> {
     Some(LabelConfig::new(guid, Group(group), 8_388_608, name))
 }
 
-// Whether all lies at its place on 8 MiB: the size, the four labels, the config of the last one, slot 8 of the first, and how
-// many blocks.
+// Whether all lies at its place on 8 MiB: the size, the four labels, the config of the last one, slot 8 of the first,
+// and how many blocks.
 fn are_places() -> Result<[bool; 8], PoolError> {
     let geometry = Geometry::of(16_384)?;
     Ok([

@@ -1,8 +1,8 @@
-//! The calls of the crates that the engine is made of, run: outside vectors, worked examples, each public call once with
-//! ample memory, and each device call that is refused in turn. What a clause says has no test here.
+//! The calls of the crates that the engine is made of, run: outside vectors, worked examples, each public call once
+//! with ample memory, and each device call that is refused in turn. What a clause says has no test here.
 //!
-//! The tests of these crates stand in this one crate, so that a gate proves each crate once and not once more beside its
-//! tests. Those of whole pools stand in `engine_tests`.
+//! The tests of these crates stand in this one crate, so that a gate proves each crate once and not once more beside
+//! its tests. Those of whole pools stand in `engine_tests`.
 #![tactic(auto)]
 
 #[cfg(test)]

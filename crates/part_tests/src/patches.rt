@@ -39,7 +39,7 @@ fn grow_and_cut(patch: &mut ObjectPatch) -> Result<([[Option<u64>; 3]; 3], Basis
 
 // They, of a new patch.
 fn grown_and_cut(alloc: Global) -> Result<([[Option<u64>; 3]; 3], Basis), PoolError> {
-    grow_and_cut(&mut ObjectPatch::new(alloc)?)
+    grow_and_cut(&mut ObjectPatch::new(alloc))
 }
 
 #[test]
@@ -67,7 +67,7 @@ fn remove_and_make(patch: &mut ObjectPatch) -> Result<[Option<u64>; 3], PoolErro
 
 // It, of a new patch.
 fn removed_and_made(alloc: Global) -> Result<[Option<u64>; 3], PoolError> {
-    remove_and_make(&mut ObjectPatch::new(alloc)?)
+    remove_and_make(&mut ObjectPatch::new(alloc))
 }
 
 #[test]
@@ -75,7 +75,7 @@ fn an_object_is_removed_and_made_again(rt: HostRuntime) {
     assert_eq!(rt; removed_and_made(rt.alloc()), Ok([None, Some(0), Some(1)]));
 }
 
-// A group that writes across two records and cuts the object behind three bytes of these.
+// A group that writes across two records and cuts the object after three bytes of these.
 fn cut_group(alloc: Global) -> Result<Extents, PoolError> {
     let mut group = Extents::new(alloc);
     let write = Op::Write(OBJECT, 4_030, Bytes::from_slice(alloc, b"abcd")?);
@@ -114,7 +114,7 @@ fn laid_over(alloc: Global) -> Result<([Option<u64>; 2], ([u8; 3], [u8; 2]), [u8
 #[test]
 fn a_group_is_laid_over_a_record(rt: HostRuntime) {
     let lengths = [Some(4_033), Some(10)];
-    // of the second record the cut leaves one byte, and what lies below it doesn't show behind the cut
+    // of the second record the cut leaves one byte, and what lies below it doesn't show after the cut
     assert_eq!(rt;
         laid_over(rt.alloc()),
         Ok((lengths, (*b"xy\0", *b"ab"), *b"c\0\0"))
@@ -139,7 +139,7 @@ fn front_of_first(group: &Extents) -> [u8; 5] {
     [record[0], record[1], record[2], record[3], record[4]]
 }
 
-// The lengths of the object behind the removal and made again, and its first bytes.
+// The lengths of the object after the removal and made again, and its first bytes.
 fn made_again(alloc: Global) -> Result<([Option<u64>; 2], [u8; 5]), PoolError> {
     let mut group = Extents::new(alloc);
     write_and_remove(alloc, &mut group)?;
@@ -162,7 +162,7 @@ fn first_group(alloc: Global) -> Result<Extents, PoolError> {
     Ok(group)
 }
 
-// A group that cuts the one, writes behind the cut and removes the other.
+// A group that cuts the one, writes after the cut and removes the other.
 fn second_group(alloc: Global) -> Result<Extents, PoolError> {
     let mut group = Extents::new(alloc);
     let write = Op::Write(OBJECT, 4_035, Bytes::from_slice(alloc, b"x")?);
@@ -170,7 +170,8 @@ fn second_group(alloc: Global) -> Result<Extents, PoolError> {
     Ok(group)
 }
 
-// Whether the object has these bytes behind its first 4,029 ones, and the length of the other one, once a group is synced.
+// Whether the object has these bytes after its first 4,029 ones, and the length of the other one, once a group is
+// synced.
 fn sync_into(
     contents: &mut Contents,
     group: &Extents,
@@ -221,7 +222,7 @@ fn part_of_first(group: &Extents, contents: &Contents) -> Result<[u8; 3], PoolEr
     Ok(part)
 }
 
-// Whether a range that ends behind the object has these bytes, through a group.
+// Whether a range that ends after the object has these bytes, through a group.
 fn range_has(
     alloc: Global,
     group: &Extents,
@@ -236,8 +237,8 @@ fn range_has(
     Ok(bytes.as_slice() == wanted)
 }
 
-// The lengths of both objects, bytes of the one's second record and of its first one, and whether a range has its bytes,
-// through a group over empty contents.
+// The lengths of both objects, bytes of the one's second record and of its first one, and whether a range has its
+// bytes, through a group over empty contents.
 fn read_through(alloc: Global) -> Result<([Option<u64>; 2], [[u8; 3]; 2], bool), PoolError> {
     let contents = contents(alloc)?;
     let group = written_group(alloc)?;
@@ -285,7 +286,7 @@ fn change_first(alloc: Global, groups: &mut UnsyncedExtents) -> Result<(), PoolE
     Ok(())
 }
 
-// The group behind it writes over its bytes and behind them.
+// The group after it writes over its bytes and after them.
 fn change_second(alloc: Global, groups: &mut UnsyncedExtents) -> Result<(), PoolError> {
     let write = Op::Write(OBJECT, 2, Bytes::from_slice(alloc, b"bbbb")?);
     let ops = vec![in alloc; write]?;
@@ -319,7 +320,7 @@ fn sync_oldest(groups: &mut UnsyncedExtents, contents: &mut Contents) -> Result<
     Ok(())
 }
 
-// Whether the front is that of three groups before the oldest is synced and behind that, and the object's length then.
+// Whether the front is that of three groups before the oldest is synced and after that, and the object's length then.
 fn fronts_about_a_sync(
     alloc: Global,
     groups: &mut UnsyncedExtents,

@@ -27,7 +27,7 @@ const THREE: [u8; 49] = [
     0xab, 0x14, 0, 0, 0xc0, 0x0f, 0, 0, 0, 0, 0, 0, 5, 4, 0, 0, 0, b'p', b'o', b'n', b'd',
 ];
 
-/// The three records one behind another, and three zeros.
+/// The three records one after another, and three zeros.
 fn all_bytes() -> [u8; 122] {
     let mut all = [0; 122];
     all[..27].copy_from_slice(&CREATE);
@@ -136,7 +136,7 @@ fn have_bytes(alloc: Global, out: &mut Vec<u8>, all: &[u8; 122]) -> Result<[bool
     ])
 }
 
-/// Whether they have their bytes, and have them one behind another.
+/// Whether they have their bytes, and have them one after another.
 fn encode_three(alloc: Global) -> Result<([bool; 3], bool), PoolError> {
     let all = all_bytes();
     let mut out = Vec::new(alloc);
@@ -157,7 +157,7 @@ fn behind<'a>(alloc: Global, bytes: &'a [u8], wanted: &Record) -> Result<&'a [u8
     }
 }
 
-/// It, behind one that is made.
+/// It, after one that is made.
 fn behind_made<'a>(alloc: Global, bytes: &'a [u8], made: Made<'_>) -> Result<&'a [u8], PoolError> {
     behind(alloc, bytes, &make(alloc, made)?)
 }
@@ -180,8 +180,8 @@ fn is_record(alloc: Global, bytes: &[u8]) -> Result<bool, PoolError> {
     Ok(decode_record(alloc, bytes)?.is_some())
 }
 
-/// How many rows hold before the first that does not: whether a record stands at the front of the create's bytes, once the one at
-/// a place is changed.
+/// How many rows hold before the first that does not: whether a record stands at the front of the create's bytes, once
+/// the one at a place is changed.
 fn count_changed(alloc: Global, rows: &[(usize, u8, bool)]) -> usize {
     for index in 0..rows.len() {
         let (place, byte, told) = rows[index];
@@ -364,8 +364,8 @@ fn plans_are_charged_for_the_blocks_of_a_sync(rt: HostRuntime) {
 /// The write of four bytes from 2 on.
 const FOUR_BYTES: Shape = Shape::Write(ObjectId(1), 2, 4);
 
-/// Which plans of one shape overlap these four bytes: the create of the object, writes of the last of them and of one more, and a
-/// write to another object.
+/// Which plans of one shape overlap these four bytes: the create of the object, writes of the last of them and of one
+/// more, and a write to another object.
 fn overlaps() -> [bool; 4] {
     [
         plans_overlap(&[FOUR_BYTES], &[Shape::Create(ObjectId(1))]),

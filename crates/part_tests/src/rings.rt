@@ -57,8 +57,8 @@ fn check() -> [u8; 32] {
     ]
 }
 
-/// Whether the fields of an uberblock have their bytes, all behind them are zeros, the check has its bytes, and the uberblock is
-/// read from them.
+/// Whether the fields of an uberblock have their bytes, all after them are zeros, the check has its bytes, and the
+/// uberblock is read from them.
 fn encodes_parts() -> [bool; 4] {
     let bytes = uberblock(77, 208).encode();
     let (front, rest) = bytes.split_at(112);
@@ -88,8 +88,8 @@ fn decodes_with(place: usize, value: u8) -> [bool; 2] {
     [torn, Uberblock::decode(&slot).is_some()]
 }
 
-/// How many rows hold before the first that does not: with this byte at a place a slot is no uberblock, and is one or not once its
-/// check agrees.
+/// How many rows hold before the first that does not: with this byte at a place a slot is no uberblock, and is one or
+/// not once its check agrees.
 fn count_damaged(rows: &[(usize, u8, bool)]) -> usize {
     for index in 0..rows.len() {
         let (place, value, is_valid) = rows[index];
@@ -161,7 +161,8 @@ fn is_active(ring: &[u8], guid: u64, group: u64) -> bool
     active(ring) == Some(uberblock(guid, group))
 }
 
-/// How many rows hold before the first that does not: a slot of a label is filled, and then this pool and group are active.
+/// How many rows hold before the first that does not: a slot of a label is filled, and then this pool and group are
+/// active.
 fn count_active(ring: &mut [u8], rows: &[(usize, usize, Content, (u64, u64))]) -> usize
     requires { length ring.old ≡ 4 * 131072 }
 {
@@ -178,8 +179,8 @@ fn count_active(ring: &mut [u8], rows: &[(usize, usize, Content, (u64, u64))]) -
     rows.len()
 }
 
-/// Whether none is active in a ring of zeros, how many rows hold as its slots are filled, and whether none is active once the last
-/// slot that counts is torn.
+/// Whether none is active in a ring of zeros, how many rows hold as its slots are filled, and whether none is active
+/// once the last slot that counts is torn.
 fn fill(ring: &mut [u8]) -> (bool, usize, bool)
     requires { length ring.old ≡ 4 * 131072 }
 {

@@ -239,7 +239,8 @@ fn holds(loaded: &Loaded, bytes: &[u8]) -> [bool; 3] {
     ]
 }
 
-// How many loads of one device are refused, whose first read fails, then the second, and so on to the fourth, before one is not.
+// How many loads of one device are refused, whose first read fails, then the second, and so on to the fourth, before
+// one is not.
 fn count_failing(alloc: Global, device: &mut MemDevice, root: Pointer) -> usize {
     for index in 0..4 {
         device.fail(Fault::Read, index as u64 + 1);
@@ -305,7 +306,8 @@ fn write_last_object(device: &mut MemDevice) -> Result<Pointer, PoolError> {
     store_last_pointer(device, Kind::Root, 0, ROOT, &directory)
 }
 
-// How many bytes the last object has, and its first one, those about the end of its last record but one, and its last one.
+// How many bytes the last object has, and its first one, those about the end of its last record but one, and its last
+// one.
 fn last_object(loaded: &Loaded) -> (usize, [Option<u8>; 4]) {
     let bytes = loaded.slots[5_291].bytes.as_slice();
     let picked = [

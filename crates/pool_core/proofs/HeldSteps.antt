@@ -1,4 +1,5 @@
--- A step that moves the bytes, the pointers and the running sync as the definitions say keeps what a pool keeps of its device.
+-- A step that moves the bytes, the pointers and the running sync as the definitions say keeps what a pool keeps of its
+-- device.
 use Rattle.std.proofs.Common.{◌≡◌, ℕ, ◌+◌, ◌*◌, List, sym, subst, ◌∙◌, arith, inl, inr}
 use Rattle.std.specs.Prelude.{Option, None, IfSome}
 use Rattle.std.specs.Ordering.{nat_cmp}

@@ -8,3 +8,4 @@ pub mod MadeSteps
 pub mod NewStates
 pub mod Callers
 pub mod crash
+pub mod GroupSyncs

@@ -54,7 +54,7 @@ module _ {Dev : Type 0} {G : Ghosts Dev} where
       let later = past_after s r (state_with (told old) past) in
       let kept = turn.held keep x in
       let more = holds_on keep ss rs middle new rest later kept in
-      (more.0, (held_with (told middle) later, (turn.over x, kept), more.1), more.2)
+      (more.0, (held_with (told middle) later, (turn.over keep x, kept), more.1), more.2)
   holds_on keep [] (r ∷ rs) old new h past x = absurd h
   holds_on keep (s ∷ ss) [] old new h past x = absurd h
 

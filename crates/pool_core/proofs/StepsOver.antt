@@ -14,9 +14,9 @@ use Rattle.device_model.specs.declared.device.SectorDevice.{Ghosts}
 use Rattle.pool_core.specs.declared.state.PoolState.{PoolState}
 use Rattle.pool_tables.specs.Told.{Told, start_reply, state_with}
 use Rattle.pool_core.specs.Holds.{StepsOver}
-use Rattle.pool_core.specs.States.{told, told_over}
+use Rattle.pool_core.specs.States.{told}
 use Rattle.pool_core.specs.StepReplies.{StepReplies}
-use Rattle.pool_tables.specs.SyncStarts.{StartsHeld}
+use Rattle.pool_tables.specs.SyncStarts.{StartsHeldOver}
 use Rattle.pool_core.proofs.RepliedSteps.{replied_with}
 
 -- each step but the start of a sync is the same over every device
@@ -25,10 +25,10 @@ any_bytes s r old new off replies past x =
     let one = replies past (λ rests. x.explained) in
     (one.0, same_over ⊥ (Unit {0}) [] old.now s r (state_with old past) (state_with new one.0) off one.1)
 
--- the start of a sync, over the bytes with which a past holds the pool
+-- the start of a sync, over the bytes of its device
 pub start_over : {Dev : Type 0} {G : Ghosts Dev} (old new : PoolState Dev G) (given : declared_reply.Reply) (moment : ℕ) (answer : Result Group PoolError)
-    → StartsHeld moment answer (told_over old) (told_over new) → given ≡ start_reply answer → StepsOver (step.StartSync moment) given (told old) (told new)
+    → StartsHeldOver moment answer (told old) (told new) → given ≡ start_reply answer → StepsOver (step.StartSync moment) given (told old) (told new)
 start_over old new given moment answer held is past x =
     let now : List ℕ = (told old).now in
     replied_with (λ answer later. stage.StartSync (Unit {0}) now moment answer (state_with (told old) past) (state_with (told new) later))
-    (λ (g : Group). g.0) (λ (g : ℕ). reply.Syncing (record { 0 = g })) answer given is (held now past x)
+    (λ (g : Group). g.0) (λ (g : ℕ). reply.Syncing (record { 0 = g })) answer given is (held past x)

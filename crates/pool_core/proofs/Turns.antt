@@ -17,12 +17,12 @@ use Rattle.pool_core.proofs.StepsOver.{any_bytes}
 
 module _ (keeps : Type 0) (s : declared_step.Step) (r : declared_reply.Reply) (old new : Told) where
   -- the later past of a step is the one after it
-  pub turns : StepReplies s r old.shown new.shown → StepsOver s r old new → (keeps → Leads r old new) → (past : Past) → TurnsTo keeps s r old new past
+  pub turns : StepReplies s r old.shown new.shown → (keeps → StepsOver s r old new) → (keeps → Leads r old new) → (past : Past) → TurnsTo keeps s r old new past
   turns replies over leads past = record {
     step = stepped;
     explained = λ x. steps_keep_tables ⊥ [] s r (state_with old past) (turned_state s r old new past) (stepped x) x;
     over = stepped_over;
-    held = λ keep x. leads_keep s old new past (turned_state s r old new past).past x r (stepped_over x) (leads keep);
+    held = λ keep x. leads_keep s old new past (turned_state s r old new past).past x r (stepped_over keep x) (leads keep);
   }
     where
       stepped : IsExplainedNow old.shown past → IsStep s r (state_with old past) (turned_state s r old new past)
@@ -31,12 +31,12 @@ module _ (keeps : Type 0) (s : declared_step.Step) (r : declared_reply.Reply) (o
           let is = told_past ⊥ [] s r (state_with old past) (state_with new one.0) one.1 in
           subst (λ (later : Past). IsStep s r (state_with old past) (state_with new later)) is one.1
 
-      stepped_over : IsHeld (held_with old past) → IsStepOver s r (held_with old past) (held_after s r old new past)
-      stepped_over x =
-          let one = over past x in
+      stepped_over : keeps → IsHeld (held_with old past) → IsStepOver s r (held_with old past) (held_after s r old new past)
+      stepped_over keep x =
+          let one = over keep past x in
           let is = told_past (Unit {0}) old.now s r (state_with old past) (state_with new one.0) one.1 in
           subst (λ (later : Past). IsStepOver s r (held_with old past) (held_with new later)) is one.1
 
   -- so does each step but the start of a sync, over whichever bytes
   pub any_turns : is_start s ≡ false → StepReplies s r old.shown new.shown → (keeps → Leads r old new) → (past : Past) → TurnsTo keeps s r old new past
-  any_turns off replies leads = turns replies (any_bytes s r old new off replies) leads
+  any_turns off replies leads = turns replies (λ keep. any_bytes s r old new off replies) leads

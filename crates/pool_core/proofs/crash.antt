@@ -7,3 +7,4 @@ pub mod SafeSteps
 pub mod SafeStates
 pub mod StoppedSteps
 pub mod StartedViews
+pub mod LeftDisks

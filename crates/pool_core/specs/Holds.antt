@@ -20,7 +20,8 @@ StepsOver s r old new = (past : Past) → IsHeld (held_with old past) → (later
 abbrev pub KeepsHeld : declared_step.Step → declared_reply.Reply → Held → Held → Type 0
 KeepsHeld s r old new = IsStepOver s r old new × IsHeld new
 
--- From each past with which the device holds what it should, the steps with these replies are a run of the definitions, each over the
--- bytes of the state before it, to a later past; after each step, and so at the end, the device holds what it should.
+-- From each past with which the device holds what it should, the steps with these replies are a run of the definitions,
+-- each over the bytes of the state before it, to a later past; after each step, and so at the end, the device holds
+-- what it should.
 abbrev pub HoldsOn : List declared_step.Step → List declared_reply.Reply → Told → Told → Type 0
 HoldsOn ss rs old new = (past : Past) → IsHeld (held_with old past) → (later : Past) × Run KeepsHeld ss rs (held_with old past) (held_with new later) × IsHeld (held_with new later)

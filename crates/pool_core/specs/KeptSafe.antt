@@ -33,8 +33,9 @@ pub record OnDisk : Type 0 where
   pub disk : Disk
   pub run : Option SyncRun
 
--- While a sync runs: since it began it leads from the view of the synced group to that of its own, and each moment since then was of one of
--- its phases. What a read gives is fair, and no config of the pool above the synced group counts. (None writes label stages so far.)
+-- While a sync runs: since it began it leads from the view of the synced group to that of its own, and each moment
+-- since then was of one of its phases. What a read gives is fair, and no config of the pool above the synced group
+-- counts. (None writes label stages so far.)
 pub record IsSyncOnDisk (run : SyncRun) (disk : Disk) (s : Shown) (past : Past) : Type 0 where
   pub no_stages : run.stages ≡ None
   pub left : run.done < call_count run
@@ -56,16 +57,16 @@ abbrev pub IsDiskKept : Option SyncRun → Disk → Shown → Past → Type 0
 IsDiskKept None disk s past = IsPoolDisk (disk_size disk) disk.now s past
 IsDiskKept (Some run) disk s past = IsSyncOnDisk run disk s past
 
--- The crash rule of a pool with its past: the device holds what it should, a read of its disk gives these bytes, and this disk, on which the
--- create of the pool began at a moment of the past, is kept.
+-- The crash rule of a pool with its past: the device holds what it should, a read of its disk gives these bytes, and
+-- this disk, on which the create of the pool began at a moment of the past, is kept.
 pub record IsKeptSafe (x : OnDisk) : Type 0 where
   pub held : IsHeld x.held
   pub same_bytes : x.held.now ≡ bytes_of x.disk.now
   pub began : x.held.state.past.created ≤ moments x.disk
   pub kept : IsDiskKept x.run x.disk x.held.state.shown x.held.state.past
 
--- At this moment what a read gives is fair, and every fair image that a crash leaves is one that this pool alone wrote, and mounts the replay of
--- a cut with every acknowledged entry.
+-- At this moment what a read gives is fair, and every fair image that a crash leaves is one that this pool alone wrote,
+-- and mounts the replay of a cut with every acknowledged entry.
 abbrev pub LeavesOwn : ℕ → Past → ℕ → Moment → Type 0
 LeavesOwn size past guid m = LeavesFair size past.created (λ image. (c : Contents) × IsLeftBy past c × IsOwnImage size past.created image m guid c) m
 
@@ -77,8 +78,8 @@ past_within old new = record new.held.state.past { acknowledged = old.held.state
 abbrev pub WereOwn : OnDisk → OnDisk → Type 0
 WereOwn old new = EachMoment (LeavesOwn (disk_size old.disk) (past_within old new) new.held.state.shown.guid) old.disk new.disk
 
--- A step of the definitions, over the bytes before it, after which the crash rule stands. At each of its moments the disk was safe, and the
--- pool's own.
+-- A step of the definitions, over the bytes before it, after which the crash rule stands. At each of its moments the
+-- disk was safe, and the pool's own.
 pub record IsSafeStep (s : declared_step.Step) (r : declared_reply.Reply) (old new : OnDisk) : Type 0 where
   pub step : IsStepOver s r old.held new.held
   pub kept : IsKeptSafe new
@@ -100,8 +101,8 @@ module _ {Dev : Type 0} {G : Ghosts Dev} where
   abbrev pub KeepsSafe : declared_step.Step → declared_reply.Reply → PoolState Dev G → PoolState Dev G → Type 0
   KeepsSafe s r old new = (past : Past) → IsKeptSafe (on_disk old past) → IsSafeStep s r (on_disk old past) (on_disk new (past_after s r (state_with (told old) past)))
 
-  -- From each past with the crash rule the steps with these replies are safe ones, each over the bytes of the state before it, to a later past
-  -- with the crash rule.
+  -- From each past with the crash rule the steps with these replies are safe ones, each over the bytes of the state
+  -- before it, to a later past with the crash rule.
   abbrev pub SafeOn : List declared_step.Step → List declared_reply.Reply → PoolState Dev G → PoolState Dev G → Type 0
   SafeOn ss rs old new = (past : Past) → IsKeptSafe (on_disk old past) → (later : Past) × Run IsSafeStep ss rs (on_disk old past) (on_disk new later) × IsKeptSafe (on_disk new later)
 
@@ -111,8 +112,9 @@ module _ {Dev : Type 0} {G : Ghosts Dev} where
       → IsPoolDisk (disk_size (disk_of state)) (disk_of state).now (shown state) (first_past (shown state) created)
       → IsKeptSafe (on_disk state (first_past (shown state) created))
 
--- What the crash rule comes to: the past explains the pool, now and after a crash. The pool is exact, its entries are a history that leads to its
--- contents, the disk holds the synced tree and free blocks as they are shown, and every fair image mounts to a cut with every acknowledged entry.
+-- What the crash rule comes to: the past explains the pool, now and after a crash. The pool is exact, its entries are a
+-- history that leads to its contents, the disk holds the synced tree and free blocks as they are shown, and every fair
+-- image mounts to a cut with every acknowledged entry.
 abbrev pub KeptPoolsAreExplained : Type 0
 KeptPoolsAreExplained = (x : OnDisk) → IsKeptSafe x → Explains (Unit {0}) x.disk x.held.state.shown x.held.state.past
 

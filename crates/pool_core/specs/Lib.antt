@@ -6,3 +6,4 @@ pub mod Turns
 pub mod NewStates
 pub mod States
 pub mod KeptSafe
+pub mod GroupSyncs

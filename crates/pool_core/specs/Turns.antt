@@ -24,13 +24,13 @@ turned_state s r old new past = state_with new (past_after s r (state_with old p
 abbrev pub held_after : declared_step.Step → declared_reply.Reply → Told → Told → Past → Held
 held_after s r old new past = held_with new (past_after s r (state_with old past))
 
--- Where this past explains what is shown, the step with its reply is one of the definitions, and the past after it explains what is shown
--- then. Where with this past the device also holds what it should, the step is one over these bytes; and over a device that keeps the
--- disk model it holds what it should then.
+-- Where this past explains what is shown, the step with its reply is one of the definitions, and the past after it
+-- explains what is shown then. Over a device that keeps the disk model, if with this past the device also holds what it
+-- should, the step is one over its bytes, and it holds what it should then.
 pub record TurnsTo (keeps : Type 0) (s : declared_step.Step) (r : declared_reply.Reply) (old new : Told) (past : Past) : Type 0 where
   pub step : IsExplainedNow old.shown past → IsStep s r (state_with old past) (turned_state s r old new past)
   pub explained : IsExplainedNow old.shown past → IsExplainedNow new.shown (past_after s r (state_with old past))
-  pub over : IsHeld (held_with old past) → IsStepOver s r (held_with old past) (held_after s r old new past)
+  pub over : keeps → IsHeld (held_with old past) → IsStepOver s r (held_with old past) (held_after s r old new past)
   pub held : keeps → IsHeld (held_with old past) → IsHeld (held_after s r old new past)
 
 module _ {Dev : Type 0} {G : Ghosts Dev} where

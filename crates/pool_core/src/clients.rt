@@ -1,14 +1,15 @@
-//! What callers rest on: one function for each promise of this crate's calls, proved from the contract of the call alone. So it
-//! is refused as soon as that contract says less.
+//! What callers rest on: one function for each promise of this crate's calls, proved from the contract of the call
+//! alone. So it is refused as soon as that contract says less.
 
-ghost use Rattle.std.specs.Prelude.{◌≡◌, ◌∷◌, [], Err, IfOk, true};
+ghost use Rattle.std.specs.Prelude.{◌≡◌, ◌∷◌, [], Err, IfOk, false, is_some, true};
 ghost use Rattle.base.specs.declared.step.Reply.TheVariants as reply;
 ghost use Rattle.base.specs.declared.step.Step.TheVariants as step;
+ghost use Rattle.pool_core.specs.GroupSyncs.{AndThen, Call, SyncsClosed};
 ghost use Rattle.pool_core.specs.States.{shown};
 
 use crate::runs::run;
 use crate::state::PoolState;
-use base::{LockId, Owner, PoolError, Reply, Step};
+use base::{Group, LockId, Owner, PoolError, Reply, Step};
 use device_model::SectorDevice;
 
 // A suspended pool releases no lock.
@@ -24,7 +25,7 @@ fn a_suspended_pool_releases_no_lock<D: SectorDevice>(
     pool.unlock(owner, id)
 }
 
-// A run of no steps has no reply, and leaves the pool as it was.
+// A run of no steps has no reply, and leaves the pool unchanged.
 fn no_steps_change_nothing<D: SectorDevice>(
     pool: &mut PoolState<D>,
 ) -> Result<Vec<Reply>, PoolError>
@@ -45,4 +46,16 @@ fn the_reply_to_a_name_is_the_name<D: SectorDevice>(
         (λ replies. replies.items ≡ reply.Name (shown pool.old).contents.name ∷ []) }
 {
     run(pool, steps)
+}
+
+// In a pool without a sync and without a closed group, the open group is closed first, and then synced.
+fn an_open_group_is_closed_and_then_synced<D: SectorDevice>(
+    pool: &mut PoolState<D>,
+) -> Result<Group, PoolError>
+    requires no_sync { is_some (shown pool.old).line.syncing ≡ false }
+    requires no_closed { is_some (shown pool.old).line.middle ≡ false }
+    ensures { AndThen (Call step.CloseGroup (λ g. reply.Opened g)) (SyncsClosed 7)
+        result pool.old pool.new }
+{
+    pool.sync_open_group(7)
 }

@@ -5,15 +5,15 @@ ghost use Rattle.pool_core.specs.KeptSafe.{KeptPoolsAreSafe};
 ghost use Rattle.pool_core.specs.KeptSafe.{KeptPoolsLeaveTheirOwn, StoppedStepsLeaveTheirOwn};
 ghost use Rattle.pool_core.specs.KeptSafe.{StoppedStepsAreSafe};
 
-/// A pool that keeps the crash rule with a past is explained by it, on the disk of its device. What is shown is exact. The
-/// past's entries are a history that leads to the contents. The disk holds the tree of the synced group, and the free
-/// blocks stand apart from it. Each fair image that a crash leaves mounts a cut with every acknowledged entry.
+/// A pool that keeps the crash rule with a past is explained by it, on the disk of its device. What is shown is exact.
+/// The past's entries are a history that leads to the contents. The disk holds the tree of the synced group, and the
+/// free blocks stand apart from it. Each fair image that a crash leaves mounts a cut with every acknowledged entry.
 pub fn kept_pools_are_explained()
     ensures { KeptPoolsAreExplained }
 {}
 
-/// Of a pool that keeps the crash rule every fair image that a crash now may leave mounts the replay of a conflict-closed
-/// cut of its entries with every acknowledged one.
+/// Of a pool that keeps the crash rule every fair image that a crash now may leave mounts the replay of a
+/// conflict-closed cut of its entries with every acknowledged one.
 pub fn kept_pools_are_safe()
     ensures { KeptPoolsAreSafe }
 {}

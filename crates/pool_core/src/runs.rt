@@ -3,7 +3,7 @@
 ghost use Rattle.std.specs.Prelude.{◌≡◌, IfErr, IfOk, IsTrue, OnErr, vec_len};
 ghost use Rattle.base.specs.steps.Runs as runs;
 ghost use Rattle.base.specs.steps.Runs.{Run};
-ghost use Rattle.pool_core.specs.Calls.{CallsDevice, answer_in, counted_in_turn, reply_in};
+ghost use Rattle.pool_core.specs.Calls.{CallsDevice, answer_in, counted_in_turn};
 ghost use Rattle.pool_core.specs.ExplainedRuns.{RunsOn};
 ghost use Rattle.pool_tables.specs.Told.{Leads};
 ghost use Rattle.pool_core.specs.Holds.{HoldsOn};
@@ -13,6 +13,10 @@ ghost use Rattle.pool_core.specs.States.{CountsRefused, refused_calls, shown, to
 ghost use Rattle.pool_core.specs.StepReplies.{StepReplies};
 ghost use Rattle.pool_core.specs.Turns.{MakesStep, Turns};
 
+use crate::calls::{
+    Abort, Begin, CloseGroup, Commit, Digest, Length, Lock, LockAppend, MarkQuiesced, Name,
+    PoolCall, Read, ReadStatus, StartSync, SyncStep, Unlock,
+};
 use crate::state::PoolState;
 use base::{PoolError, Reply, Step};
 use device_model::SectorDevice;
@@ -21,9 +25,10 @@ use pool_tables::Progress;
 impl<D: SectorDevice> PoolState<D> {
     /// Makes one step. Of the steps only that of a sync calls the device: it makes the next call of its sync.
     ///
-    /// Over a device that keeps the model it keeps the crash rule, whatever the device answers: from each past with which a
-    /// crash leaves a cut of the entries, at each moment of the step and after it a crash still does. What the crash rule
-    /// comes to is a law, `kept_pools_are_explained`: the past explains all that is shown, and what each crash leaves.
+    /// Over a device that keeps the model it keeps the crash rule, whatever the device answers: from each past with
+    /// which a crash leaves a cut of the entries, at each moment of the step and after it a crash still does. What the
+    /// crash rule comes to is a law, `kept_pools_are_explained`: the past explains all that is shown, and what each
+    /// crash leaves.
     pub fn step(&mut self, step: Step) -> Reply
         ensures replied { StepReplies step result (shown self.old) (shown self.new) }
         ensures turns { Turns step result self.old self.new }
@@ -32,39 +37,59 @@ impl<D: SectorDevice> PoolState<D> {
         ensures calls { CallsDevice step result self.old self.new }
         ensures count { CountsRefused (answer_in result) self.old self.new }
     {
-        match self.try_step(step) {
+        match step.make(self) {
             Ok(reply) => reply,
             Err(error) => Reply::Refused(error),
         }
     }
+}
 
-    // The reply of a step that is not refused.
-    fn try_step(&mut self, step: Step) -> Result<Reply, PoolError>
-        ensures { MakesStep step (reply_in result) self.old self.new }
-    {
-        match step {
-            Step::Lock(owner, object, range, mode) => self
-                .lock(owner, object, range, mode)
-                .map(Reply::Locked),
-            Step::LockAppend(owner, object) => self
-                .lock_append(owner, object)
+impl<D: SectorDevice> PoolCall<D> for Step {
+    type Answer = Reply;
+
+    ghost step = { λ s. s };
+
+    ghost reply = { λ r. r };
+
+    fn make(self, state: &mut PoolState<D>) -> Result<Reply, PoolError> {
+        match self {
+            Step::Lock(owner, object, range, mode) => Lock {
+                owner,
+                object,
+                range,
+                mode,
+            }
+            .make(state)
+            .map(Reply::Locked),
+            Step::LockAppend(owner, object) => LockAppend { owner, object }
+                .make(state)
                 .map(|(id, range)| Reply::Appended(id, range)),
-            Step::Unlock(owner, id) => self.unlock(owner, id).map(|()| Reply::Done),
-            Step::Begin(owner, plan) => self
-                .begin(owner, &plan)
+            Step::Unlock(owner, id) => Unlock { owner, id }.make(state).map(|()| Reply::Done),
+            Step::Begin(owner, plan) => Begin { owner, plan: &plan }
+                .make(state)
                 .map(|(tx, group)| Reply::Began(tx, group)),
-            Step::Commit(tx, ops) => self.commit(tx, ops).map(Reply::Committed),
-            Step::Abort(tx) => self.abort(tx).map(|()| Reply::Done),
-            Step::Read(owner, object, range) => self.read(owner, object, range).map(Reply::Bytes),
-            Step::Length(object) => self.length(object).map(Reply::Length),
-            Step::Digest => self.digest().map(Reply::Digest),
-            Step::Name => Ok(Reply::Name(self.name())),
-            Step::Status => Ok(Reply::Status(self.status())),
-            Step::CloseGroup => self.close_group().map(Reply::Opened),
-            Step::MarkQuiesced => self.mark_quiesced().map(Reply::Quiesced),
-            Step::StartSync(moment) => self.start_sync(moment).map(Reply::Syncing),
-            Step::SyncStep => self.sync_step().map(progress_reply),
+            Step::Commit(tx, ops) => Commit { tx, ops }.make(state).map(Reply::Committed),
+            Step::Abort(tx) => Abort { tx }.make(state).map(|()| Reply::Done),
+            Step::Read(owner, object, range) => Read {
+                owner,
+                object,
+                range,
+            }
+            .make(state)
+            .map(Reply::Bytes),
+            Step::Length(object) => Length { object }.make(state).map(Reply::Length),
+            Step::Digest => Digest.make(state).map(Reply::Digest),
+            Step::Name => Name.make(state).map(Reply::Name),
+            Step::Status => ReadStatus.make(state).map(Reply::Status),
+            Step::CloseGroup => CloseGroup.make(state).map(Reply::Opened),
+            Step::MarkQuiesced => MarkQuiesced.make(state).map(Reply::Quiesced),
+            Step::StartSync(moment) => StartSync { moment }.make(state).map(Reply::Syncing),
+            Step::SyncStep => SyncStep.make(state).map(progress_reply),
         }
+    }
+
+    fn releases(reply: &Reply) -> bool {
+        matches!(reply, Reply::Done | Reply::Synced(_))
     }
 }
 
@@ -78,8 +103,9 @@ fn progress_reply(progress: Progress) -> Reply
     }
 }
 
-/// Makes steps one after another, and answers each. It takes the room for all replies first, and makes no device call but
-/// those of the steps of a sync. After each step the past still explains the pool, as the law `kept_pools_are_explained` says.
+/// Makes steps one after another, and answers each. It takes the room for all replies first, and makes no device call
+/// but those of the steps of a sync. After each step the past still explains the pool, as the law
+/// `kept_pools_are_explained` says.
 ///
 /// # Errors
 /// `NoMemory` where there is none for the replies, and then no step was made.

@@ -18,8 +18,8 @@ use std::alloc::Global;
 
 /// A pool that runs on a device, which it owns. One step at a time changes it.
 ///
-/// After a device refused a write or a flush the pool is suspended: it still tells its name and its status, and each other
-/// later step is refused `Suspended`. Every other refusal leaves the pool as it was.
+/// After a device refused a write or a flush the pool is suspended: it still tells its name and its status, and each
+/// other later step is refused `Suspended`. Every other refusal leaves the pool unchanged.
 #[derive(Debug, Drop)]
 pub struct PoolState<D: SectorDevice> {
     device: D,
@@ -43,7 +43,7 @@ impl<D: SectorDevice> PoolState<D> {
     ghost use Rattle.pool_core.specs.NewStates.{IsExplainedAtFirst, IsHeldAtFirst};
     ghost use Rattle.pool_core.specs.States.{CountsRefused, MakesNoCall, MovesNothing, device_of, shown, told, told_over};
     ghost use Rattle.pool_tables.specs.StepAnswers.{Aborts, Begins, ClosesGroup, Commits, Locks, LocksAppend, MarksQuiesced, Reads, StartsSync, StepsSync, TellsDigest, TellsLength, Unlocks};
-    ghost use Rattle.pool_tables.specs.SyncStarts.{StartLeads, StartsHeld, StartsInOrder};
+    ghost use Rattle.pool_tables.specs.SyncStarts.{StartLeads, StartsHeldOver, StartsInOrder};
 
     /// The pool that an import gave. It takes no memory.
     pub fn new(imported: Imported<D>) -> Self
@@ -73,13 +73,13 @@ impl<D: SectorDevice> PoolState<D> {
         self.pool.alloc()
     }
 
-    /// Locks a range of an object, or of the number behind the last object, which stands for the pool's name
+    /// Locks a range of an object, or of the number after the last object, which stands for the pool's name
     /// (`zfs_rlock.c`).
     ///
     /// # Errors
-    /// In this order: `Suspended`; `BadRange` where the number or the range is outside its limits; `Busy` exactly where the
-    /// range overlaps a held one and not both are readers; `TooMany` where 256 locks are held or the next name would pass
-    /// 2^60; `NoMemory`.
+    /// In this order: `Suspended`; `BadRange` where the number or the range is outside its limits; `Busy` exactly if
+    /// the range overlaps a held one and not both are readers; `TooMany` where 256 locks are held or the next name
+    /// would pass 2^60; `NoMemory`.
     pub fn lock(
         &mut self,
         owner: Owner,
@@ -96,9 +96,9 @@ impl<D: SectorDevice> PoolState<D> {
     /// Locks an object as a writer from its end to the greatest length, 338,688, and answers that range too.
     ///
     /// # Errors
-    /// In this order: `Suspended`; `BadRange` where the number is no object's; `NoObject`; `BadRange` where the object has
-    /// the greatest length; `Busy` exactly where the range overlaps a held one; `TooMany` where 256 locks are held or the next
-    /// name would pass 2^60; `NoMemory`.
+    /// In this order: `Suspended`; `BadRange` where the number is no object's; `NoObject`; `BadRange` where the object
+    /// has the greatest length; `Busy` exactly if the range overlaps a held one; `TooMany` where 256 locks are held or
+    /// the next name would pass 2^60; `NoMemory`.
     pub fn lock_append(
         &mut self,
         owner: Owner,
@@ -113,7 +113,7 @@ impl<D: SectorDevice> PoolState<D> {
     /// Lets a lock go. It takes no memory.
     ///
     /// # Errors
-    /// In this order: `Suspended`; `NoSuchLock` where the owner holds none of this name; `LockInUse` exactly where it is a
+    /// In this order: `Suspended`; `NoSuchLock` where the owner holds none of this name; `LockInUse` exactly if it is a
     /// writer lock in which a range of an open transaction lies.
     pub fn unlock(&mut self, owner: Owner, id: LockId) -> Result<(), PoolError>
         ensures step { Unlocks owner id result (shown self.old) (shown self.new) }
@@ -122,8 +122,8 @@ impl<D: SectorDevice> PoolState<D> {
         self.pool.unlock(owner, id)
     }
 
-    /// The held locks in order of grant, each with its name. It is no step, so a suspended pool tells them too, and takes no
-    /// memory.
+    /// The held locks in order of grant, each with its name. It is no step, so a suspended pool tells them too, and
+    /// takes no memory.
     pub fn held(&self) -> HeldLocks<'_>
         ensures locks { map grant_of result ≡ (shown self.now).locks }
         ensures sound { AreLocksSound (shown self.now).locks }
@@ -133,9 +133,9 @@ impl<D: SectorDevice> PoolState<D> {
         self.pool.held()
     }
 
-    /// The pieces of an object, or of the number behind the last object, rising: the parts between neighbouring ends of its
-    /// held locks that some lock covers, each with its number of readers and whether a writer covers it (`zfs_rlock.c`). It is
-    /// no step, so a suspended pool tells them too.
+    /// The pieces of an object, or of the number after the last object, rising: the parts between neighbouring ends of
+    /// its held locks that some lock covers, each with its number of readers and whether a writer covers it
+    /// (`zfs_rlock.c`). It is no step, so a suspended pool tells them too.
     ///
     /// # Errors
     /// `NoMemory`.
@@ -147,15 +147,17 @@ impl<D: SectorDevice> PoolState<D> {
         self.pool.pieces(number)
     }
 
-    /// Opens a transaction of the open group that keeps to a plan, of which it takes a copy. The group is charged 4,096 bytes
-    /// for each block that the plan is estimated at, and so many blocks are reserved for it, both until it is synced.
+    /// Opens a transaction of the open group that keeps to a plan, of which it takes a copy. The group is charged 4,096
+    /// bytes for each block that the plan is estimated at, and so many blocks are reserved for it, both until it is
+    /// synced.
     ///
     /// # Errors
-    /// In this order: `Suspended`; `BadRange` where the plan has no shape, or one that gives a name or is outside its limits; `TooLarge` where its log record would have more
-    /// than 4,008 bytes; `NotLocked` where a range of it does not lie in one writer lock of the owner; `Busy` where one
-    /// overlaps a range of an open transaction; `TooMany` where 64 transactions are open or the next name would pass 2^60;
-    /// `Throttled` where the charges of all unsynced groups would pass the import's limit; `NoSpace` where fewer blocks are
-    /// available than the plan is estimated at and, unless it only removes objects, 16 more; `NoMemory`.
+    /// In this order: `Suspended`; `BadRange` where the plan has no shape, or one that gives a name or is outside its
+    /// limits; `TooLarge` where its log record would have more than 4,008 bytes; `NotLocked` where a range of it does
+    /// not lie in one writer lock of the owner; `Busy` where one overlaps a range of an open transaction; `TooMany`
+    /// where 64 transactions are open or the next name would pass 2^60; `Throttled` where the charges of all unsynced
+    /// groups would pass the import's limit; `NoSpace` where fewer blocks are available than the plan is estimated at
+    /// and, unless it only removes objects, 16 more; `NoMemory`.
     pub fn begin(&mut self, owner: Owner, plan: &Plan) -> Result<(TxId, Group), PoolError>
         ensures step { Begins owner plan.now result (shown self.old) (shown self.new) }
         ensures unmoved { MovesNothing result self.old self.new }
@@ -163,8 +165,8 @@ impl<D: SectorDevice> PoolState<D> {
         self.pool.begin(owner, plan)
     }
 
-    /// Whether a transaction may have this plan, but its charge alone is above the import's limit, so that each `begin` of it
-    /// is refused, `Throttled` at the latest. It takes no memory, and is no step.
+    /// Whether a transaction may have this plan, but its charge alone is above the import's limit, so that each `begin`
+    /// of it is refused, `Throttled` at the latest. It takes no memory, and is no step.
     pub fn is_above_limit(&self, plan: &Plan) -> bool
         ensures { result ≡ is_above_limit plan.now (shown self.now) }
     {
@@ -182,9 +184,10 @@ impl<D: SectorDevice> PoolState<D> {
     /// Commits a transaction whole, in its own group.
     ///
     /// # Errors
-    /// In this order: `Suspended`; `NoSuchTransaction` where none of this name is open; `OutOfPlan` where the operations have not the plan's shapes, one for one; `NoObject` or `Exists`, that of
-    /// the first operation that can't take place on the contents after those before it; `TooMany` where the next ordinal
-    /// would pass 2^60; `NoMemory`. After each the transaction is still open.
+    /// In this order: `Suspended`; `NoSuchTransaction` where none of this name is open; `OutOfPlan` where the
+    /// operations have not the plan's shapes, one for one; `NoObject` or `Exists`, that of the first operation that
+    /// can't take place on the contents after those before it; `TooMany` where the next ordinal would pass 2^60;
+    /// `NoMemory`. After each the transaction is still open.
     pub fn commit(&mut self, tx: TxId, ops: Ops) -> Result<Receipt, PoolError>
         ensures step { Commits tx ops result (shown self.old) (shown self.new) }
         ensures unmoved { MovesNothing result self.old self.new }
@@ -192,8 +195,8 @@ impl<D: SectorDevice> PoolState<D> {
         self.pool.commit(tx, ops)
     }
 
-    /// Gives a transaction up, in the open or in the quiescing group: it holds its group no more, and what the group was
-    /// charged for it and the blocks that were reserved for it are so no more. It takes no memory.
+    /// Gives a transaction up, in the open or in the quiescing group: it holds its group no more, and what the group
+    /// was charged for it and the blocks that were reserved for it are so no more. It takes no memory.
     ///
     /// # Errors
     /// In this order: `Suspended`; `NoSuchTransaction` where none of this name is open.
@@ -207,11 +210,12 @@ impl<D: SectorDevice> PoolState<D> {
     /// The bytes of a range that lie below the object's length.
     ///
     /// # Errors
-    /// In this order: `Suspended`; `BadRange` where the number or the range is outside its limits; `NotLocked` where no one
-    /// lock of the owner covers the range; `NoObject`; `NoMemory`.
-    pub fn read(&self, owner: Owner, object: ObjectId, range: Range) -> Result<Bytes, PoolError>
-        ensures step { Reads owner object range result (shown self.now) }
-        ensures no_call { MakesNoCall result self.now self.now }
+    /// In this order: `Suspended`; `BadRange` where the number or the range is outside its limits; `NotLocked` where no
+    /// one lock of the owner covers the range; `NoObject`; `NoMemory`.
+    pub fn read(&mut self, owner: Owner, object: ObjectId, range: Range) -> Result<Bytes, PoolError>
+        ensures step { Reads owner object range result (shown self.old) }
+        ensures unchanged { self.new ≡ self.old }
+        ensures no_call { MakesNoCall result self.old self.new }
     {
         self.pool.read(owner, object, range)
     }
@@ -227,14 +231,16 @@ impl<D: SectorDevice> PoolState<D> {
         self.pool.length(object)
     }
 
-    /// The digest of the current contents: SHA-256 of the name, the number of objects, and each object by rising number with
-    /// its number, its length and its bytes. The contents stand in memory, so it takes no memory and makes no device call.
+    /// The digest of the current contents: SHA-256 of the name, the number of objects, and each object by rising number
+    /// with its number, its length and its bytes. The contents stand in memory, so it takes no memory and makes no
+    /// device call.
     ///
     /// # Errors
     /// `Suspended`.
-    pub fn digest(&self) -> Result<[u8; 32], PoolError>
-        ensures step { TellsDigest result (shown self.now) }
-        ensures no_call { MakesNoCall result self.now self.now }
+    pub fn digest(&mut self) -> Result<[u8; 32], PoolError>
+        ensures step { TellsDigest result (shown self.old) }
+        ensures unchanged { self.new ≡ self.old }
+        ensures no_call { MakesNoCall result self.old self.new }
     {
         self.pool.digest()
     }
@@ -246,8 +252,8 @@ impl<D: SectorDevice> PoolState<D> {
         self.pool.name()
     }
 
-    /// The groups of the pool, and its sums: the bytes that are charged, the free blocks, and how many of them no unsynced
-    /// transaction may still ask for. It is never refused, also of a suspended pool, and takes no memory.
+    /// The groups of the pool, and its sums: the bytes that are charged, the free blocks, and how many of them no
+    /// unsynced transaction may still ask for. It is never refused, also of a suspended pool, and takes no memory.
     pub fn status(&self) -> Status
         ensures { result ≡ status_of (shown self.now) }
     {
@@ -257,8 +263,8 @@ impl<D: SectorDevice> PoolState<D> {
     /// The open group quiesces, and the next one is open (`txg.c`). It takes no memory.
     ///
     /// # Errors
-    /// In this order: `Suspended`; `NotReady` where a group is closed and its sync was not started, or the open group is
-    /// 2^60.
+    /// In this order: `Suspended`; `NotReady` where a group is closed and its sync was not started, or the open group
+    /// is 2^60.
     pub fn close_group(&mut self) -> Result<Group, PoolError>
         ensures step { ClosesGroup result (shown self.old) (shown self.new) }
         ensures unmoved { MovesNothing result self.old self.new }
@@ -277,15 +283,16 @@ impl<D: SectorDevice> PoolState<D> {
         self.pool.mark_quiesced()
     }
 
-    /// Starts the sync of the quiesced group: plans its blocks, one for each place of the tree that it writes, and takes the
-    /// room for all its steps. The moment is stored in its uberblocks.
+    /// Starts the sync of the quiesced group: plans its blocks, one for each place of the tree that it writes, and
+    /// takes the room for all its steps. The moment, in seconds, is stored in its uberblocks.
     ///
     /// # Errors
-    /// In this order: `Suspended`; `NotReady` where no group is quiesced or one is syncing; `NoMemory`. It is never refused
-    /// `NoSpace`: what its transactions reserved suffices.
+    /// In this order: `Suspended`; `NotReady` where no group is quiesced or one is syncing; `NoMemory`. It is never
+    /// refused `NoSpace`: what its transactions reserved suffices.
     pub fn start_sync(&mut self, moment: u64) -> Result<Group, PoolError>
         ensures step { StartsSync moment result (shown self.old) (shown self.new) }
-        ensures held { StartsHeld moment result (told_over self.old) (told_over self.new) }
+        ensures held { IsTrue D.keeps_model
+            → StartsHeldOver moment result (told self.old) (told self.new) }
         ensures order { StartsInOrder result (told_over self.old) (told_over self.new) }
         ensures leads { StartLeads result (told_over self.old) (told_over self.new) }
         ensures unmoved { OnErr result (run_of self.new ≡ run_of self.old) }
@@ -294,12 +301,12 @@ impl<D: SectorDevice> PoolState<D> {
         self.pool.start_sync(moment)
     }
 
-    /// Makes the next device call of the running sync. With the last one its group is synced: the blocks that it replaced
-    /// come back, and what it was charged and what was reserved for it ends. It takes no memory of its own.
+    /// Makes the next device call of the running sync. With the last one its group is synced: the blocks that it
+    /// replaced come back, and what it was charged and what was reserved for it ends. It takes no memory of its own.
     ///
     /// # Errors
-    /// In this order: `Suspended`; `NotReady` where no group is syncing; `Write` or `Flush` where the device refused, and then
-    /// the pool is suspended.
+    /// In this order: `Suspended`; `NotReady` where no group is syncing; `Write` or `Flush` where the device refused,
+    /// and then the pool is suspended.
     pub fn sync_step(&mut self) -> Result<Progress, PoolError>
         ensures step { StepsSync result (shown self.old) (shown self.new) }
         ensures leads { IsTrue D.keeps_model
@@ -318,8 +325,8 @@ impl PoolState<MemDevice> {
     ghost use Rattle.pool_core.specs.KeptSafe.{on_disk};
     ghost use Rattle.pool_core.specs.States.{device_of, told};
 
-    /// Makes the n-th such call of its device from now fail, once, as `MemDevice::fail` does, and changes nothing else. It is
-    /// no step.
+    /// Makes the n-th such call of its device from now fail, once, as `MemDevice::fail` does, and changes nothing else.
+    /// It is no step.
     pub fn fail(&mut self, fault: Fault, n: u64)
         ensures device { device_of self.new ≡ with_plan fault n (device_of self.old) }
         ensures told { told self.new ≡ told self.old }

@@ -1,4 +1,4 @@
--- A begin: its tests in order, each list of them behind the other, and what it makes of what a pool shows.
+-- A begin: its tests in order, each list of them after the other, and what it makes of what a pool shows.
 use Rattle.std.proofs.Common.{ℕ, ◌≡◌, ◌+◌, Bool, true, false, List, [], ◌∷◌, ◌++◌, ◌||◌, ◌<◌, ◌≤◌, length, nat_le, nat_lt, refl, sym, ◌∙◌, arith}
 use Rattle.std.specs.Prelude.{Some, None, Result, Ok, Err}
 use Rattle.std.specs.List.{list_all}
@@ -28,7 +28,7 @@ use Rattle.pool_tables.proofs.Flags.{from_not_false}
 pub built_allowed : (plan : List Shape) → is_plan_built plan ≡ true → is_plan_allowed plan ≡ true
 built_allowed plan built = (and_parts (is_plan_allowed plan) (list_all is_shape_built plan) built).0
 
--- tests behind others that don't apply, and the first refusal of a list stays where others come behind it
+-- tests after others that don't apply, and the first refusal of a list stays where others come after it
 passed_before : (ts us : List Test) → first_refusal ts ≡ None → first_refusal (ts ++ us) ≡ first_refusal us
 passed_before [] us none = refl
 passed_before (t ∷ ts) us none = go t.applies none (passed_before ts us)
@@ -119,7 +119,7 @@ module _ (owner : ℕ) (plan : List Shape) (s : Shown) where
         blocks = ranges.1.1.1.0;
       }
 
-  -- the transaction is admitted but for want of memory
+  -- the transaction is admitted except for want of memory
   pub begin_admits : MayBegin plan s → admit_refusal plan (record { transactions = s.transactions; next = s.next_tx }) ≡ None
   begin_admits may = rw (may.free, may.room) refl
 

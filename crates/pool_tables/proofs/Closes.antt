@@ -33,7 +33,7 @@ pub close_done : (s n : Shown) (group : ℕ) → s.suspended ≡ false → (is_s
     → group ≡ s.line.open_group + 1 → n ≡ record s { line = line_after_close s.line } → Meets CloseGroup (Ok group) s n
 close_done s n group h last e same = λ past. (past, let none : close_refusal s ≡ None = rw (h, last) refl in rw none (e, rw same refl))
 
--- a close that is refused exactly where the definitions say, of the line and of the pool
+-- a close that is refused exactly if the definitions say, of the line and of the pool
 pub close_ends : (answer : Result Group PoolError) (old new : CountedLine) (s : Shown) → s.suspended ≡ false → s.line ≡ old.line → (IsErr answer ↔ IsTrue (is_close_refused old.line))
     → IfErr answer (λ e. e ≡ error.NotReady) → OnErr answer (new ≡ old) → OnOk answer (new ≡ after_close old) → IfOk answer (λ group. group.0 ≡ new.line.open_group)
     → Meets CloseGroup (result_map (λ (group : Group). group.0) answer) s (record s { line = new.line })
@@ -47,7 +47,8 @@ pub close_moves : (answer : Result Group PoolError) (old new : CountedLine) → 
 close_moves (Ok group) old new unchanged closed = rw closed (refl, omega arith)
 close_moves (Err e) old new unchanged closed = rw unchanged (refl, omega arith)
 
--- where the line moves on with the same synced group, and its holds stay exact, the tables owe to one another what they did
+-- where the line moves on with the same synced group, and its holds stay exact, the tables owe to one another what they
+-- did
 pub accounts_move_on : (ts : List Admission) (old new : CountedLine) (dirty : DirtyBytes) → IsCounted new × AreHoldsExact ts new → (new.line.synced ≡ old.line.synced) × (old.line.open_group ≤ new.line.open_group)
     → AreAccounted ts old dirty → AreAccounted ts new dirty
 accounts_move_on ts old new dirty kept moves was = record {
@@ -73,7 +74,7 @@ quiesce_held s h held = λ past. (past, let e : quiesce_refusal s ≡ Some error
 quiesce_done : (s n : Shown) (g : ℕ) → s.suspended ≡ false → has_hold_left s ≡ false → quiescing_group s.line ≡ Some g → n ≡ record s { line = line_after_quiesce g s.line } → Meets MarkQuiesced (Ok g) s n
 quiesce_done s n g h free some same = λ past. (past, let none : quiesce_refusal s ≡ None = rw (h, free) refl in rw none (some, rw same refl))
 
--- a quiesce that is refused exactly where its counts say, which are those of the open transactions
+-- a quiesce that is refused exactly if its counts say, which are those of the open transactions
 pub quiesce_ends : (answer : Result Group PoolError) (old new : CountedLine) (s : Shown) → s.suspended ≡ false → s.line ≡ old.line → is_quiesce_refused old ≡ has_hold_left s
     → (IsErr answer ↔ IsTrue (is_quiesce_refused old)) → IfErr answer (λ e. e ≡ error.NotReady) → OnErr answer (new ≡ old) → IfOk answer (λ group. new ≡ after_quiesce group.0 old)
     → IfOk answer (λ group. quiescing_group old.line ≡ Some group.0) → Meets MarkQuiesced (result_map (λ (group : Group). group.0) answer) s (record s { line = new.line })

@@ -1,4 +1,5 @@
--- The pending transactions of a pool are those of its history above the synced group, so a group that waits has the operations of both.
+-- The pending transactions of a pool are those of its history above the synced group, so a group that waits has the
+-- operations of both.
 use Rattle.std.proofs.Common.{◌≡◌, ℕ, ◌+◌, ◌<◌, Bool, true, false, not, ◌&&◌, cond, List, [], ◌∷◌, ◌++◌, map, filter, refl, ap, sym, ◌∙◌, nat_lt}
 use Rattle.std.specs.Prelude.{Ok, ◌==◌}
 use Rattle.std.specs.List.{list_any, enumerate_from, flat_map}

@@ -1,4 +1,5 @@
--- What the changes of the unsynced groups make of the synced contents: for each past that explains a pool, the contents that are shown.
+-- What the changes of the unsynced groups make of the synced contents: for each past that explains a pool, the contents
+-- that are shown.
 use Rattle.std.proofs.Common.{◌≡◌, ℕ, ◌+◌, ◌<◌, ◌≤◌, List, [], map, sym, subst, arith}
 use Rattle.std.specs.Prelude.{All}
 use Rattle.base.specs.declared.operation.Op.{Op}
@@ -21,7 +22,7 @@ use Rattle.pool_tables.proofs.PendingOps.{pending_are}
 
 module _ (s : Shown) (p : Past) (explained : IsExplainedNow s p) (no_log : s.log.kept ≡ []) (pending : List Committed) (log : s.log.pending ≡ map record_of pending) (changes : UnsyncedExtents)
     (of_pending : AreChangesOfPending s.line.synced pending changes) where
-  -- each entry is of a group up to the third behind the synced one
+  -- each entry is of a group up to the third after the synced one
   all_within : All (λ (e : Entry). e.group ≤ s.line.synced + 3) p.entries
   all_within = All-each (λ (e : Entry). e.group ≤ s.line.synced + 3) p.entries (λ i e at.
       let committed = explained.exact.groups.members.committed i e at in

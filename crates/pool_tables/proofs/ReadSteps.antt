@@ -51,7 +51,7 @@ pub read_passes : (owner : ℕ) (t : NumberRange) (s : Shown) → s.suspended �
     → read_refusal owner t s ≡ None
 read_passes owner t s h bad covered there = rw (h, bad, covered, (present (object_at t s) there).1) refl
 
--- a read that no test refuses gives the bytes, or wants memory
+-- a read that no test refuses gives the bytes, or needs memory
 pub read_ends : (owner : ℕ) (t : NumberRange) (answer : Result (List ℕ) PoolError) (s : Shown) → read_refusal owner t s ≡ None → is_some (object_at t s) ≡ true
     → IfOk answer (λ bytes. bytes ≡ bytes_in t (unwrap_or (object_at t s) [])) → IfErr answer (λ e. (e ≡ error.NoMemory) ⊎ ⊥) → Meets (Read owner t) answer s s
 read_ends owner t (Ok bytes) s none there is refused =

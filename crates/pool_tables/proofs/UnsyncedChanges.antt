@@ -1,4 +1,5 @@
--- The changes of the unsynced groups, laid over the synced objects, beside the operations that are pending: at first, while groups are opened and once the oldest one is synced.
+-- The changes of the unsynced groups, laid over the synced objects, beside the operations that are pending: at first,
+-- while groups are opened and once the oldest one is synced.
 use Rattle.std.proofs.Common.{◌≡◌, ◌∙◌, ℕ, ◌+◌, ◌<◌, ◌≤◌, ◌==◌, Bool, true, false, cond, List, [], ◌∷◌, filter, nat_lt, refl, ap, sym, subst, arith, ◌⊎◌, inl, inr}
 use Rattle.std.proofs.Math.Logic.{∥∥₁_elim}
 use Rattle.std.proofs.lemmas.Bool.{cases_lt, eqb-true, lt-ltb, true≢false}
@@ -46,7 +47,7 @@ moved_on old new pending synced changes (same, later) x = record {
   changed = subst (λ (g : ℕ). AreChangesOfPending g pending changes) (sym same) x.changed;
 }
 
--- a group behind those of all pending transactions has no operations pending
+-- a group after those of all pending transactions has no operations pending
 none_pending : (group : ℕ) (pending : List Committed) → All (λ (c : Committed). c.group.0 < group) pending → pending_ops group pending ≡ []
 none_pending group [] low = refl
 none_pending group (c ∷ cs) low = by (c.group.0 == group) refl (none_pending group cs (All-tail (λ (x : Committed). x.group.0 < group) c cs low))
@@ -69,13 +70,13 @@ filter_inside {X} p q (x ∷ xs) inside = by (q x) refl (p x) refl (filter_insid
     by false dropped true is rest = absurd (true≢false (sym (inside x is) ∙ dropped))
     by false dropped false is rest = rest
 
--- once a group is synced, those behind it have the operations that they had
+-- once a group is synced, those after it have the operations that they had
 later_ops : (group later : ℕ) (pending : List Committed) → group < later → pending_ops later (pending_after group pending) ≡ pending_ops later pending
 later_ops group later pending below =
     ap (flat_map (λ (c : Committed). c.ops)) (filter_inside (λ (c : Committed). c.group.0 == later) (λ (c : Committed). nat_lt group c.group.0) pending
     (λ c is. subst (λ (g : ℕ). nat_lt group g ≡ true) (sym (eqb-true c.group.0 later is)) (lt-ltb group later below)))
 
--- the groups at the places are those behind the one that is synced then, and the last place has no changes
+-- the groups at the places are those after the one that is synced then, and the last place has no changes
 pub synced_changes : (synced group : ℕ) (pending : List Committed) (old new : UnsyncedExtents) → group ≡ synced + 1 → AreChangesOfPending synced pending old
     → All (λ (c : Committed). c.group.0 ≤ synced + 3) pending → MovesUp old new → AreChangesOfPending group (pending_after group pending) new
 synced_changes synced group pending old new next changed within moves place low n below =
@@ -93,7 +94,7 @@ synced_changes synced group pending old new next changed within moves place low 
         ap (λ (k : ℕ). patched (changes_at old (k + 1) n) below) is ∙ patched_nothing below
         ∙ sym (ap after (none_pending (group + 1 + place) pending (All-weaker (λ (c : Committed). c.group.0 ≤ synced + 3) (λ (c : Committed). c.group.0 < group + 1 + place) (λ c up_to. omega (arith, up_to, next, is)) pending within)))
 
--- the syncing group is the one behind the synced one
+-- the syncing group is the one after the synced one
 pub syncing_follows : (l : Line) (group : ℕ) → IsLine l → l.syncing ≡ Some group → group ≡ l.synced + 1
 syncing_follows l group line is = subst (λ (o : Option ℕ). IfSome o (λ g. g ≡ l.synced + 1)) is line.syncing
 

@@ -1,4 +1,5 @@
--- What the tables of a pool owe to one another: holds and charges to the open transactions, reserved blocks to the charges.
+-- What the tables of a pool owe to one another: holds and charges to the open transactions, reserved blocks to the
+-- charges.
 use Rattle.std.specs.Prelude.{ℕ, ◌≡◌, ◌≤◌, true, All, List}
 use Rattle.base.specs.formats.Limits.{max_log_record}
 use Rattle.base.specs.history.Plans.{log_record_size}
@@ -10,7 +11,8 @@ use Rattle.space.specs.FreeSets.{FreeSpace}
 use Rattle.throttle.specs.Blocks.{AreOpenOnesCharged, AreSumsOn, blocks_in}
 use Rattle.throttle.specs.DirtyBytes.{DirtyBytes}
 
--- the plans of the open transactions are built and fit a log record, and each transaction holds its group and is charged to it
+-- the plans of the open transactions are built and fit a log record, and each transaction holds its group and is
+-- charged to it
 pub record AreAccounted (transactions : List Admission) (groups : CountedLine) (dirty : DirtyBytes) : Type 0 where
   pub counted : IsCounted groups
   pub holds_exact : AreHoldsExact transactions groups

@@ -1,4 +1,5 @@
--- The tests of a begin, by what they ask: of the plan alone, of its ranges, and of the room for one more transaction with its charge and its blocks.
+-- The tests of a begin, by what they ask: of the plan alone, of its ranges, and of the room for one more transaction
+-- with its charge and its blocks.
 use Rattle.std.specs.Prelude.{ℕ, ◌+◌, ◌&&◌, ◌||◌, Bool, List, [], ◌∷◌, is_none, length, nat_le, nat_lt, not}
 use Rattle.base.specs.declared.error.PoolError.TheVariants as error
 use Rattle.base.specs.declared.operation.Shape.{Shape}

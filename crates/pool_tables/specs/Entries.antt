@@ -7,7 +7,7 @@ use Rattle.base.specs.steps.Groups.{Line}
 use Rattle.base.specs.steps.Shown.{Shown}
 use Rattle.base.specs.steps.Steps.{transactions_without}
 
--- a group behind the synced one, up to the open one
+-- a group after the synced one, up to the open one
 pub record IsUnsynced (l : Line) (group : ℕ) : Type 0 where
   pub above : l.synced < group
   pub open_or_before : group ≤ l.open_group

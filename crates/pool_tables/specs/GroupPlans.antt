@@ -39,24 +39,24 @@ use Rattle.pool_tables.specs.Pointers.{lengths_after, pointers_after}
 use Rattle.pool_tables.specs.RunningUberblocks.{uberblock_with}
 use Rattle.pool_tables.specs.Shows.{contents_after_oldest, new_plan, pool_shown}
 
--- Some changes are those of the group's pending operations on a tree with these maps. By them these blocks make the tree after the
--- group from the old one, whatever objects were there before of which the changes cover all that differs; and they are those of the places
--- that are written, one for each, in their order.
+-- Some changes are those of the group's pending operations on a tree with these maps. By them these blocks make the
+-- tree after the group from the old one, whatever objects were there before of which the changes cover all that
+-- differs; and they are those of the places that are written, one for each, in their order.
 pub record IsPlannedGroup (group : ℕ) (pending : List Committed) (maps : List ObjectMap) (frame : Frame) (old new : Place → Pointer) (bs : List NewBlock) (after : FinMap nat_cmp (List ℕ)) : Type 0 where
   pub objects : List (ObjectId × ObjectChanges)
   pub changes : AreChangesOf (pending_ops group pending) maps objects
   pub planned : (before : FinMap nat_cmp (List ℕ)) → IsCoveredBy objects old before after → AreChanges objects after → AreTreePointers objects old after → IsTreePlan bs frame old new before after
   pub order : AreInRange objects → map (λ (b : NewBlock). b.address) bs ≡ map (λ (place : Place). (new place).address) (written_by (changes_of_group objects old after))
 
--- Some changes are those of the group's pending operations on a tree with these maps. Where they are in range, fewer of these blocks are
--- free than there are places that are written.
+-- Some changes are those of the group's pending operations on a tree with these maps. Where they are in range, fewer of
+-- these blocks are free than there are places that are written.
 pub record IsShortOfBlocks (group : ℕ) (pending : List Committed) (maps : List ObjectMap) (old : Place → Pointer) (after : FinMap nat_cmp (List ℕ)) (free : List ℕ) : Type 0 where
   pub objects : List (ObjectId × ObjectChanges)
   pub changes : AreChangesOf (pending_ops group pending) maps objects
   pub fewer : AreInRange objects → length free < length (written_by (changes_of_group objects old after))
 
--- Some changes are those of the group's pending operations on a tree with these maps. An object that an operation is on has the length that it
--- has among these objects, and any other the one that the tree has.
+-- Some changes are those of the group's pending operations on a tree with these maps. An object that an operation is on
+-- has the length that it has among these objects, and any other the one that the tree has.
 pub record HasGroupLengths (group : ℕ) (pending : List Committed) (maps : List ObjectMap) (new : ℕ → Option ℕ) (after : FinMap nat_cmp (List ℕ)) : Type 0 where
   pub objects : List (ObjectId × ObjectChanges)
   pub changes : AreChangesOf (pending_ops group pending) maps objects
@@ -75,8 +75,9 @@ pub record FitsIn (size : ℕ) (p : TreePlan) : Type 0 where
 abbrev pub TakesLowest : PoolTables → TreePlan → Type 0
 TakesLowest pool p = map address_of p.blocks.items ≡ take (length p.blocks.items) (rising pool.free.free)
 
--- It makes of a pool's tree that of a group: its pointers are placed, its blocks are whole and each one is used, and where no pointer was born
--- in the group or later, what comes back is what the old tree has and the new one has not. Its lengths are those after the group.
+-- It makes of a pool's tree that of a group: its pointers are placed, its blocks are whole and each one is used, and
+-- where no pointer was born in the group or later, what comes back is what the old tree has and the new one has not.
+-- Its lengths are those after the group.
 pub record MakesGroupTree (pool : PoolTables) (group : ℕ) (p : TreePlan) : Type 0 where
   pub placed : ∥ ArePlaced (block_count pool.geometry) (plan_pointers pool p) ∥₁
   pub planned : IsPlannedGroup group pool.pending.items pool.tree.maps.items (frame_at (pool_shown pool) group) (pointers_of pool.tree) (plan_pointers pool p) (map new_block p.blocks.items) (contents_after_oldest pool).objects

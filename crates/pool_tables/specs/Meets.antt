@@ -18,7 +18,8 @@ use Rattle.base.specs.steps.Shown.{Shown}
 use Rattle.base.specs.steps.Stage.{begin_tests}
 use Rattle.base.specs.steps.Steps.{State}
 
--- whatever the past of a run, the step leads with this answer from what was shown before to what is shown after, and to a later past
+-- whatever the past of a run, the step leads with this answer from what was shown before to what is shown after, and to
+-- a later past
 abbrev pub Meets : {A : Type 0} → (Result A PoolError → State → State → Type 0) → Result A PoolError → Shown → Shown → Type 0
 Meets Step answer old new = (past : Past) → (later : Past) × Step answer (record { shown = old; past = past }) (record { shown = new; past = later })
 
@@ -35,12 +36,12 @@ pub record MayCommit (tx : ℕ) (ops : List Op) (group : ℕ) (s : Shown) : Type
   pub after : Contents
   pub applied : apply_all ops s.contents ≡ Ok after
 
--- refused with this reason exactly where its test applies
+-- refused with this reason exactly if its test applies
 abbrev pub RefusesIf : {A : Type 0} → Bool → PoolError → Result A PoolError → Type 0
 RefusesIf test reason (Ok a) = test ≡ false
 RefusesIf test reason (Err e) = (e ≡ reason) × (test ≡ true)
 
--- why an object's length is not told, but for a suspended pool
+-- why an object's length is not told, except for a suspended pool
 abbrev pub object_refusal : ℕ → Shown → Option PoolError
 object_refusal n s = first_refusal (refused_if (nat_le object_count n) error.BadRange ∷ refused_if (is_none (length_of s.contents n)) error.NoObject ∷ [])
 

@@ -12,8 +12,8 @@ use Rattle.sync.specs.Runs.{call_count}
 use Rattle.sync.specs.declared.run.SyncRun.{SyncRun}
 use Rattle.pool_tables.specs.RunningUberblocks.{WritesUberblock}
 
--- It has calls left, on a device of this size. It writes this uberblock, and its tree has these pointers. For its group's changes there is room in
--- the synced objects.
+-- It has calls left, on a device of this size. It writes this uberblock, and its tree has these pointers. For its
+-- group's changes there is room in the synced objects.
 pub record IsRunning (size : ℕ) (u : Uberblock) (pointers : Place → Pointer) (patches : Patches) (slots : List Slot) (run : SyncRun) : Type 0 where
   pub geometry : run.geometry ≡ size
   pub left : run.done < call_count run

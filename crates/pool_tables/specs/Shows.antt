@@ -51,7 +51,8 @@ plan_of address tree contents r = record {
   lengths = lengths_after r.maps tree;
 }
 
--- the plan of a sync that starts, with the addresses that it takes and those that come back, and the contents that it writes
+-- the plan of a sync that starts, with the addresses that it takes and those that come back, and the contents that it
+-- writes
 abbrev pub new_plan : ℕ → ℕ → List ℕ → List ℕ → Pointer → Contents → (ℕ → Option ℕ) → SyncPlan
 new_plan moment address taken freed root contents lengths = record {
   steps_left = length taken + 6;

@@ -11,14 +11,15 @@ use Rattle.pool_tables.specs.declared.pool.RunningSync.{RunningSync}
 use Rattle.pool_tables.specs.declared.pool.Progress.{Progress}
 use Rattle.pool_tables.specs.declared.pool.Progress.TheVariants.{More, Synced}
 
--- The next device call of a sync was tried: what it has made then, and that each moment of the call is of one of its phases.
+-- The next device call of a sync was tried: what it has made then, and that each moment of the call is of one of its
+-- phases.
 pub record TriesNext (run next : SyncRun) (before after : Disk) : Type 0 where
   pub same : SameSync run next
   pub written : KeepsWritten run next before.now after.now
   pub phases : KeepsPhases run next before after
 
--- A step of a sync tries the next call of the running one: it has calls left then, or that was the last, or the device refused it. Refused
--- before a call it leaves the sync and the disk.
+-- A step of a sync tries the next call of the running one: it has calls left then, or that was the last, or the device
+-- refused it. Refused before a call it leaves the sync and the disk.
 abbrev pub StepsPhases : Result Progress PoolError → Option SyncRun → Option SyncRun → Disk → Disk → Type 0
 StepsPhases (Ok More) old new before after = (run next : SyncRun) × (old ≡ Some run) × (new ≡ Some next) × TriesNext run next before after
 StepsPhases (Ok (Synced group)) old new before after =

@@ -16,7 +16,8 @@ use Rattle.pool_tables.specs.KeptTrees.{IsOfNoDevice}
 use Rattle.pool_tables.specs.StepAnswers.{StartsSync}
 use Rattle.pool_tables.specs.Tables.{result_map}
 
--- The blocks that a started sync of a group takes are those that its tree has at the places that it writes, one for each, in their order.
+-- The blocks that a started sync of a group takes are those that its tree has at the places that it writes, one for
+-- each, in their order.
 pub record TakesInOrder (group : ℕ) (past : Past) (old new : Told) : Type 0 where
   pub synced : Contents
   pub replayed : replay (entries_up_to old.shown.line.synced past.entries) past.base ≡ Ok synced
@@ -26,10 +27,16 @@ pub record TakesInOrder (group : ℕ) (past : Past) (old new : Told) : Type 0 wh
   pub plan_is : new.shown.sync ≡ Some plan
   pub each : map (λ (place : Place). (tree.pointers place).address) (written_places (ops_of_group group past.entries) synced (has_block old.now old.shown.root)) ≡ plan.taken
 
--- From each past with which the device holds what it should, it is a step of the definitions, over a device that keeps the disk model.
+-- From each past with which the device holds what it should, it is a step of the definitions, over a device that keeps
+-- the disk model.
 abbrev pub StartsHeld : ℕ → Result Group PoolError → (List ℕ → Told) → (List ℕ → Told) → Type 0
 StartsHeld moment answer old new = (now : List ℕ) (past : Past) → IsHeld (held_with (old now) past)
     → (later : Past) × StartSync (Unit {0}) now moment (result_map (λ group. group.0) answer) (state_with (old now) past) (state_with (new now) later)
+
+-- so it is over the bytes that are told of
+abbrev pub StartsHeldOver : ℕ → Result Group PoolError → Told → Told → Type 0
+StartsHeldOver moment answer old new = (past : Past) → IsHeld (held_with old past)
+    → (later : Past) × StartSync (Unit {0}) old.now moment (result_map (λ group. group.0) answer) (state_with old past) (state_with new later)
 
 -- it takes blocks in the order of the places that it writes
 abbrev pub StartsInOrder : Result Group PoolError → (List ℕ → Told) → (List ℕ → Told) → Type 0

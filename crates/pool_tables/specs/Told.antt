@@ -31,7 +31,8 @@ pub record Told : Type 0 where
   pub pointers : Place → Pointer
   pub running : Option NewTree
 
--- the tree of these pointers that a sync makes, its blocks as they are written, its uberblock, and how many of its calls it has made
+-- the tree of these pointers that a sync makes, its blocks as they are written, its uberblock, and how many of its
+-- calls it has made
 abbrev pub made_by : (Place → Pointer) → SyncRun → NewTree
 made_by pointers run = record { pointers = pointers; blocks = map new_block run.blocks.items; slot = run.uberblock; done = run.done }
 
@@ -68,8 +69,8 @@ sync_step_reply answer = reply_of (λ (p : Progress). progress_reply (plain_prog
 abbrev pub SamePlaces : (Place → Pointer) → (Place → Pointer) → Type 0
 SamePlaces f g = (place : Place) → IsPlace place → f place ≡ g place
 
--- Whatever the past, a step with this reply moves the bytes, the pointers and the running sync as the definitions say. At the end of a
--- sync the pointers are those of its tree at each place of a tree.
+-- Whatever the past, a step with this reply moves the bytes, the pointers and the running sync as the definitions say.
+-- At the end of a sync the pointers are those of its tree at each place of a tree.
 abbrev pub Leads : declared_reply.Reply → Told → Told → Type 0
 Leads (reply.Synced group) old new = (pointers : Place → Pointer) × SamePlaces new.pointers pointers
     × ((past later : Past) → Moves (reply.Synced group) (held_with old past) (held_with (record new { pointers = pointers }) later))

@@ -11,8 +11,8 @@ ghost use Rattle.pool_tables.specs.Meets.{Passes};
 use base::{PoolError, Shape};
 use transactions::{is_plan_allowed, is_too_large};
 
-/// A transaction may have this plan. Refused `BadRange` where it has no shape, or one that isn't built or is outside its
-/// limits; `TooLarge` where its log record would have more than 4,008 bytes.
+/// A transaction may have this plan. Refused `BadRange` where it has no shape, or one that isn't built or is outside
+/// its limits; `TooLarge` where its log record would have more than 4,008 bytes.
 pub fn check_plan(plan: &[Shape]) -> Result<(), PoolError>
     ensures refusal { Passes (plan_tests plan.now) result }
     ensures built { OnOk result (stage.is_plan_built plan.now ≡ true) }

@@ -1,5 +1,27 @@
-//! A pool without its device: its tables, its locks and what it reads. Each call changes the tables, or leaves them as they
-//! were; the full contract of each stands at `PoolState` of `pool_core`, which adds the device.
+//! A pool without its device: its tables, its locks and what it reads.
+//!
+//! Up to four groups are told apart at any moment (`txg.c`): the synced one, whose tree is on the device; the syncing
+//! one; the closed one in the middle, which quiesces or waits; and the open one, which new transactions enter. The
+//! tables keep these rules, and the comments below cite them by number.
+//!
+//! 1. A group goes one way: open, quiescing, quiesced, syncing, synced. One is always open, at most one is in the
+//!    middle, and at most one is syncing.
+//! 2. A transaction holds its group from `begin` to `commit` or `abort`, so a group quiesces only after its last
+//!    transaction (`txg_hold_open`, `txg_rele_to_sync`). It commits in its own group, also after that group was closed.
+//! 3. A transaction's ranges lie in writer locks of its owner as long as it is open, and no range overlaps that of
+//!    another open transaction (`zfs_rlock.c`). So open transactions commute, and a later group may commit before an
+//!    earlier one.
+//! 4. The contents are the synced objects, and over them what each unsynced group changed, the oldest group first. A
+//!    read sees all of them, a sync only the oldest.
+//! 5. A plan is charged and its blocks are reserved at `begin`. Both stay until its group is synced or it is aborted,
+//!    so the sync of a group finds the blocks that it needs.
+//! 6. A sync writes no block of the synced tree: it takes free blocks, and the blocks that it replaces come back after
+//!    its last flush.
+//! 7. After the device refused a write or a flush, no step changes the pool any more: what the disk holds is not
+//!    certain.
+//! 8. A call takes its memory and makes its tests before it changes a table, so a refused call changes nothing.
+//!
+//! The full contract of each call stands at `PoolState` of `pool_core`, which adds the device.
 
 ghost use Rattle.std.specs.Prelude.{◌≡◌, ◌+◌, ◌≤◌, ◌^◌, All, IfErr, IfOk, IsTrue, None, false, is_some, length, map, option_map, true, vec_len};
 ghost use Rattle.std.proofs.Props.{props};
@@ -114,7 +136,7 @@ pub struct PoolTables {
 }
 
 impl Drop for PoolTables {
-    // One function drops all tables, for each place where a pool is let go.
+    // One function drops all tables, for each place where a pool is released.
     fn drop(self) {
         let PoolTables {
             alloc: _,
@@ -232,8 +254,8 @@ impl PoolTables {
         self.locks.lock(owner, ObjectRange { object, range }, mode)
     }
 
-    /// Locks an object as a writer from its end to the greatest length, and returns that range too. Refused, in this order,
-    /// `Suspended`, `BadRange`, `NoObject`, `BadRange` at the greatest length, `Busy`, `TooMany` or `NoMemory`.
+    /// Locks an object as a writer from its end to the greatest length, and returns that range too. Refused, in this
+    /// order, `Suspended`, `BadRange`, `NoObject`, `BadRange` at the greatest length, `Busy`, `TooMany` or `NoMemory`.
     pub fn lock_append(
         &mut self,
         owner: Owner,
@@ -247,8 +269,8 @@ impl PoolTables {
         self.locks.lock_append(owner, object, length)
     }
 
-    /// Releases a lock. Refused, in this order, `Suspended`, `NoSuchLock`, or `LockInUse` for a writer lock in which a range of
-    /// an open transaction lies.
+    /// Releases a lock. Refused, in this order, `Suspended`, `NoSuchLock`, or `LockInUse` for a writer lock in which a
+    /// range of an open transaction lies.
     pub fn unlock(&mut self, owner: Owner, id: LockId) -> Result<(), PoolError>
         ensures step { Unlocks owner id result (pool_shown self.old) (pool_shown self.new) }
         ensures kept { KeepsTree self.old self.new }
@@ -280,8 +302,8 @@ impl PoolTables {
         self.locks.held()
     }
 
-    /// The pieces of an object that some lock covers, rising, each with its readers and whether a writer covers it. Refused
-    /// `NoMemory`.
+    /// The pieces of an object that some lock covers, rising, each with its readers and whether a writer covers it.
+    /// Refused `NoMemory`.
     pub fn pieces(&self, number: ObjectId) -> Result<Vec<HeldPiece>, PoolError>
         ensures pieces { IfOk result
             (λ pieces. pieces.items ≡ pieces_of number.0 (pool_shown self.now).locks) }

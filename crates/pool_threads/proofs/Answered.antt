@@ -1,5 +1,5 @@
 -- What the step of a call says to its handle.
-use Rattle.std.proofs.Common.{◌≡◌, [], refl, subst}
+use Rattle.std.proofs.Common.{◌≡◌, [], refl}
 use Rattle.std.specs.Prelude.{IfErr, IfOk, Result, Ok, Err, false}
 use Rattle.std.specs.Coded.{Coded-set, coded_bool}
 use Rattle.std.proofs.Math.Logic.{∥∥₁_map, ∥∥₁_elim, ∥∥₁_prop}
@@ -39,22 +39,16 @@ module _ {Dev : Type 0} {G : Ghosts Dev} {old new : Handle Dev G} where
   pub made_between : {s : declared_step.Step} {r : declared_reply.Reply} → Makes s r old new → Sees (IsMadeBetween ⊥ s r) old new
   made_between m = between _ _ _ _ _ _ m.made.onward m.made.made
 
-  pub makes_of : {s t : declared_step.Step} {r : declared_reply.Reply} → s ≡ t → Makes s r old new → Makes t r old new
-  makes_of {s} {t} {r} is m = subst (λ (x : declared_step.Step). Makes x r old new) is m
-
-  module _ {A : Type 0} (make : A → declared_reply.Reply) (s : declared_step.Step) (r : declared_reply.Reply) (result : Result A PoolError) (is : r ≡ reply_of make result) (m : Makes s r old new) where
-    pub makes_answer : Makes s (reply_of make result) old new
-    makes_answer = subst (λ (x : declared_reply.Reply). Makes s x old new) is m
-
+  module _ {A : Type 0} (make : A → declared_reply.Reply) (s : declared_step.Step) (result : Result A PoolError) (makes : Makes s (reply_of make result) old new) where
     pub sees_answer : (P : A → State → State → Type 0) → ((a : A) (before after : State) → IsMadeBetween ⊥ s (make a) before after → P a before after) → IfOk result (λ a. Sees (P a) old new)
-    sees_answer P law = by result makes_answer
+    sees_answer P law = by result makes
       where
         by : (x : Result A PoolError) → Makes s (reply_of make x) old new → IfOk x (λ a. Sees (P a) old new)
         by (Ok a) made = ∥∥₁_map (made_between made) (law a (state_seen old) (state_seen new))
         by (Err e) made = tt
 
     pub sees_refusal : IfErr result (λ e. Sees (IsRefusal s e) old new)
-    sees_refusal = by result makes_answer
+    sees_refusal = by result makes
       where
         by : (x : Result A PoolError) → Makes s (reply_of make x) old new → IfErr x (λ e. Sees (IsRefusal s e) old new)
         by (Ok a) made = tt
@@ -62,7 +56,7 @@ module _ {Dev : Type 0} {G : Ghosts Dev} {old new : Handle Dev G} where
 
     -- of a call that has no refusal of its own
     pub is_ruled : ((e : PoolError) (before after : State) → IsMadeBetween ⊥ s (reply.Refused e) before after → is_untested e ≡ false) → IfErr result (λ e. is_untested e ≡ false)
-    is_ruled law = by result makes_answer
+    is_ruled law = by result makes
       where
         by : (x : Result A PoolError) → Makes s (reply_of make x) old new → IfErr x (λ e. is_untested e ≡ false)
         by (Ok a) made = tt

@@ -12,7 +12,8 @@ use Rattle.import_replay.specs.Mounts.{shown_of_import}
 use Rattle.import_replay.specs.declared.mounted.Mounted.{Mounted}
 use Rattle.object_maps.specs.ContentsShown.{contents_of}
 use Rattle.pool_core.specs.KeptSafe.{BeginsSafe, IsKeptSafe, disk_of, on_disk}
-use Rattle.round_trip.proofs.CrashRounds.{left_flushed, safe_at_first}
+use Rattle.base.proofs.crash.LeftDisks.{left_flushed}
+use Rattle.pool_core.proofs.crash.LeftDisks.{safe_at_first}
 use Rattle.base.specs.steps.Shown.{Shown}
 use Rattle.base.specs.steps.Steps.{State}
 use Rattle.device_model.specs.declared.device.SectorDevice.{Ghosts}
@@ -23,7 +24,7 @@ use Rattle.pool_threads.proofs.Notes.{viewed_state-view_of}
 use Rattle.pool_threads.specs.Handles.{IsReadyBehind, OpensBehind, ShowsMounted, StartsBehind}
 use Rattle.pool_threads.specs.Views.{CrashRule, Explains, SeenPool, view_behind_disk, view_of, viewed_state}
 use Rattle.pool_threads.specs.Views.CrashRule.{Behind, NotFollowed}
-use Rattle.round_trip.specs.Crashes.{IsLeft}
+use Rattle.base.specs.crash.LeftDisks.{IsLeft}
 
 -- what is so of an answer, as far as it says more
 pub if_ok : {A E : Type 0} (P Q : A → Type 0) (r : Result A E) → IfOk r P → ((a : A) → P a → Q a) → IfOk r Q
@@ -55,7 +56,7 @@ module _ {Dev : Type 0} {G : Ghosts Dev} (p : PoolState Dev G) where
   pub comes_back : (d : Dev) (s : Shown) (e : PoolError × PoolState Dev G) → p.device ≡ d → shown p ≡ s → (e.0 ≡ NoMemory) × (e.1 ≡ p) → (e.0 ≡ NoMemory) × (e.1.device ≡ d) × (shown e.1 ≡ s)
   comes_back d s e device shows given = (given.0, ap (λ (q : PoolState Dev G). q.device) given.1 ∙ device, ap (λ (q : PoolState Dev G). shown q) given.1 ∙ shows)
 
--- A pool that was imported from a disk goes on behind whichever run left that.
+-- A pool that was imported from a disk goes on after whichever run left that.
 module _ {Dev : Type 0} {G : Ghosts Dev} (old : Disk) (m : Mounted) (p : PoolState Dev G) (starts : IsTrue G.keeps_model → StartsBehind old m (disk_of p)) (shows : shown p ≡ shown_of_import m) where
   abbrev limit_of : Mounted → ℕ
   limit_of n = (shown_of_import n).dirty_max

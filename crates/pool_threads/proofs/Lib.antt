@@ -2,13 +2,14 @@ pub mod Notes
 pub mod Moved
 pub mod Turned
 pub mod Made
-pub mod Fits
 pub mod Answered
 pub mod Seen
 pub mod Tried
 pub mod Firsts
-pub mod Begun
 pub mod Limits
 pub mod Looked
 pub mod Ends
 pub mod SafeTurns
+pub mod Transacted
+pub mod TransactsSeen
+pub mod TransactClients

@@ -1,5 +1,5 @@
 -- When a begin that was throttled is not tried again.
-use Rattle.std.proofs.Common.{◌≡◌, Bool, true, ◌∙◌, List, sym, ap}
+use Rattle.std.proofs.Common.{◌≡◌, true, List}
 use Rattle.std.specs.Prelude.{IfErr, Result, Ok, Err, is_none, nat_lt}
 use Rattle.std.proofs.lemmas.Bool.{and_parts, ltb-true}
 use Rattle.base.specs.declared.error.PoolError.{PoolError}
@@ -15,7 +15,6 @@ above_for_good : (plan : List Shape) (s : State) → is_above_limit plan s.shown
 above_for_good plan s is =
     ltb-true s.shown.dirty_max (charge_of plan) (and_parts (is_none (first_refusal (plan_tests plan))) (nat_lt s.shown.dirty_max (charge_of plan)) is).1
 
-module _ {A : Type 0} (above : Bool) (plan : List Shape) (s : State) where
-  pub ends_for_good : (answer : Result A PoolError) → above ≡ is_above_limit plan s.shown → (answer ≡ Err Throttled → above ≡ true) → IfErr answer (λ e. e ≡ Throttled → IsThrottledForGood plan s)
-  ends_for_good (Ok a) told done = tt
-  ends_for_good (Err e) told done = λ throttled. above_for_good plan s (sym told ∙ done (ap (λ (x : PoolError). Err x) throttled))
+pub ends_for_good : {A : Type 0} (plan : List Shape) (s : State) (answer : Result A PoolError) → IfErr answer (λ e. e ≡ Throttled → is_above_limit plan s.shown ≡ true) → IfErr answer (λ e. e ≡ Throttled → IsThrottledForGood plan s)
+ends_for_good plan s (Ok a) above = tt
+ends_for_good plan s (Err e) above = λ throttled. above_for_good plan s (above throttled)

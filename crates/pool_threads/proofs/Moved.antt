@@ -16,7 +16,7 @@ use Rattle.pool_core.specs.declared.state.PoolState.{PoolState}
 use Rattle.pool_tables.specs.NextCalls.{MakesNextIf}
 use Rattle.pool_tables.specs.declared.pool.RunningSync.{RunningSync}
 use Rattle.pool_threads.specs.Views.{MovesDisk}
-use Rattle.round_trip.specs.Crashes.{GoesOnFrom}
+use Rattle.base.specs.crash.LeftDisks.{GoesOnFrom}
 use Rattle.sync.specs.Calls.{MakesCall, Target, WritesTarget, target_of}
 use Rattle.sync.specs.declared.run.SyncRun.{SyncRun}
 

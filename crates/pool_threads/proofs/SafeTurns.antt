@@ -8,10 +8,10 @@ use Rattle.base.specs.disk.Disk.{Disk}
 use Rattle.base.specs.history.Past.{Past}
 use Rattle.base.specs.steps.Explains.{WereSafe}
 use Rattle.base.specs.steps.Steps.{State}
-use Rattle.pool_core.specs.KeptSafe.{IsStoppedIn, OnDisk, past_within}
+use Rattle.pool_core.specs.KeptSafe.{IsStoppedIn, past_within}
 use Rattle.pool_core.proofs.crash.StoppedSteps.{stopped_own}
 use Rattle.pool_threads.specs.Views.{IsFollowed, IsPoolStep, IsSafeBetween, SeenPool, WereSafeBetween, past_between, since}
-use Rattle.round_trip.specs.Crashes.{IsLeft}
+use Rattle.base.specs.crash.LeftDisks.{IsLeft}
 
 module _ (s : declared_step.Step) (r : declared_reply.Reply) (created : ℕ) (v w : SeenPool) (x : IsSafeBetween s r created v w) where
   past_before : x.before.held.state.past ≡ since created v.past

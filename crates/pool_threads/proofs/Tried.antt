@@ -1,8 +1,8 @@
 -- Tries that are refused, and then a step, are turns of the seat.
-use Rattle.std.proofs.Common.{◌≡◌, ◌++◌, ◌∷◌, [], Bool, List, append_assoc, refl, sym, ap, subst, ◌∙◌}
+use Rattle.std.proofs.Common.{◌≡◌, ◌++◌, ◌∷◌, [], List, append_assoc, refl, sym, ap, subst, ◌∙◌}
 use Rattle.std.proofs.lemmas.List.{append-nil}
 use Rattle.std.proofs.lemmas.List.Elements.{All-nil, All-push}
-use Rattle.std.specs.Prelude.{IsTrue, MatchResult, false, true, IfErr, IfOk, Result, Ok, Err}
+use Rattle.std.specs.Prelude.{IsTrue, IfErr, IfOk, Result, Ok, Err}
 use Rattle.std.proofs.Math.Logic.{∥∥₁_map}
 use Rattle.base.specs.declared.error.PoolError.{PoolError}
 use Rattle.base.specs.declared.step.Step as declared_step
@@ -22,7 +22,6 @@ use Rattle.pool_threads.specs.Turns.{AreUnbroken}
 use Rattle.word_lock.specs.declared.rule.Turn.{Turn}
 use Rattle.word_lock.specs.Seats.{seen, turns}
 use Rattle.word_lock.specs.Turns.{turn}
-use mathlib.Core.Logic.{◌↔◌}
 
 stays_on : {Dev : Type 0} {G : Ghosts Dev} (old now new : Handle Dev G) → StaysInPool old now → StaysInPool now new → StaysInPool old new
 stays_on old now new first later = (later.0 ∙ first.0, later.1 ∙ first.1)
@@ -69,32 +68,26 @@ module _ {Dev : Type 0} {G : Ghosts Dev} (s : declared_step.Step) (e : PoolError
     };
   }
 
-  -- a call that was refused so is one more try
-  pub tried_again : {A : Type 0} (make : A → declared_reply.Reply) {old now next : Handle Dev G} (x : Result A PoolError) {b : Bool} → MatchResult x (λ a. b ≡ false) (λ f. IsTrue b ↔ (f ≡ e)) → b ≡ true
-      → Tries s e old now → Makes s (reply_of make x) now next → Tries s e old next
-  tried_again make (Ok a) tells when t m = absurd (let no_way : true ≡ false = sym when ∙ tells in cc)
-  tried_again make {old} {now} {next} (Err f) tells when t m = one_more_try t (subst (λ (x : PoolError). Makes s (reply.Refused x) now next) (tells.0 when) m)
-
-  -- and so is one whose answer is that refusal
+  -- a call whose answer is that refusal is one more try
   pub refused_again : {A : Type 0} (make : A → declared_reply.Reply) {old now next : Handle Dev G} (x : Result A PoolError) → x ≡ Err e → Tries s e old now → Makes s (reply_of make x) now next
       → Tries s e old next
   refused_again {A} make {old} {now} {next} x is t m = one_more_try t (subst (λ (y : Result A PoolError). Makes s (reply_of make y) now next) is m)
 
-  module _ {old now new : Handle Dev G} where
-    last_between : {r : declared_reply.Reply} → Tries s e old now → Makes s r now new → Sees (IsMadeBetween ⊥ s r) old new
-    last_between t m = between _ _ _ _ _ _ (grows_onward _ _ _ _ t.tried.onward m.made.onward) m.made.made
+  module _ {old new : Handle Dev G} where
+    last_between : {r : declared_reply.Reply} → MakesAtLast s e r old new → Sees (IsMadeBetween ⊥ s r) old new
+    last_between m = between _ _ _ _ _ _ m.made.onward m.made.made
 
-    module _ {A : Type 0} (make : A → declared_reply.Reply) (result : Result A PoolError) (t : Tries s e old now) (m : Makes s (reply_of make result) now new) where
+    module _ {A : Type 0} (make : A → declared_reply.Reply) (result : Result A PoolError) (m : MakesAtLast s e (reply_of make result) old new) where
       pub sees_last : (P : A → State → State → Type 0) → ((a : A) (before after : State) → IsMadeBetween ⊥ s (make a) before after → P a before after) → IfOk result (λ a. Sees (P a) old new)
       sees_last P law = by result m
         where
-          by : (x : Result A PoolError) → Makes s (reply_of make x) now new → IfOk x (λ a. Sees (P a) old new)
-          by (Ok a) made = ∥∥₁_map (last_between t made) (law a (state_seen old) (state_seen new))
+          by : (x : Result A PoolError) → MakesAtLast s e (reply_of make x) old new → IfOk x (λ a. Sees (P a) old new)
+          by (Ok a) made = ∥∥₁_map (last_between made) (law a (state_seen old) (state_seen new))
           by (Err f) made = tt
 
       pub sees_last_refusal : IfErr result (λ f. Sees (IsRefusal s f) old new)
       sees_last_refusal = by result m
         where
-          by : (x : Result A PoolError) → Makes s (reply_of make x) now new → IfErr x (λ f. Sees (IsRefusal s f) old new)
+          by : (x : Result A PoolError) → MakesAtLast s e (reply_of make x) old new → IfErr x (λ f. Sees (IsRefusal s f) old new)
           by (Ok a) made = tt
-          by (Err f) made = ∥∥₁_map (last_between t made) (refused_between s f (state_seen old) (state_seen new))
+          by (Err f) made = ∥∥₁_map (last_between made) (refused_between s f (state_seen old) (state_seen new))

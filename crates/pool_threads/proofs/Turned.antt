@@ -104,7 +104,7 @@ module _ {Dev : Type 0} {G : Ghosts Dev} (s : declared_step.Step) (r : declared_
       explained = subst (λ (a : State). ∥ IsExplainedNow a.shown a.past ∥₁) before_is x.explained;
       step = both (λ a b. ∥ IsStep s r a b ∥₁) (∥∥₁_map x.explained (turns v.past).step);
       over = λ keeps. subst (λ (d : Disk). ∥ IsStepOn d s r (viewed_state v) (viewed_state (view_of new (later v.past) v.rule)) ∥₁) (sym x.disk_is)
-          (both (λ a b. ∥ IsStepOn (disk_of old) s r a b ∥₁) (∥∥₁_map (x.held keeps) (turns v.past).over));
+          (both (λ a b. ∥ IsStepOn (disk_of old) s r a b ∥₁) (∥∥₁_map (x.held keeps) ((turns v.past).over keeps)));
       moves = λ keeps. subst (λ (d : Disk). MovesDisk s d (disk_of new)) (sym x.disk_is) (moves keeps);
       safe = λ keeps created follows. ∥∥₁_map (x.safe keeps created follows) (next_safe created keeps);
       rule = refl;

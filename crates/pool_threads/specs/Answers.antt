@@ -14,8 +14,9 @@ use Rattle.pool_threads.specs.Turns.{HasMade, HasMadeAtLast, HasTried}
 use Rattle.pool_threads.specs.Views.{viewed_state}
 use Rattle.word_lock.specs.Seats.{seen}
 
--- What is so of a refusal, by the states before and after the call: each but those of memory and of the device is the one that the rules give
--- in some state between, and after those of the device and after `Suspended` the pool is suspended from then on.
+-- What is so of a refusal, by the states before and after the call: each but those of memory and of the device is the
+-- one that the rules give in some state between, and after those of the device and after `Suspended` the pool is
+-- suspended from then on.
 pub record IsRefusal (s : declared_step.Step) (e : PoolError) (before after : State) : Type 0 where
   pub ruled : is_untested e ≡ false → IsRefusedBetween (refusal_of_step s) e before after
   pub suspended : is_suspending e ≡ true → after.shown.suspended ≡ true
@@ -39,7 +40,7 @@ module _ {Dev : Type 0} {G : Ghosts Dev} where
     pub same_pool : StaysInPool old now
     pub tried : HasTried (IsTrue G.keeps_model) s e old.seat now.seat
 
-  -- the handle made this step with this reply, behind turns in which it was refused so, and in no other turn
+  -- the handle made this step with this reply, after turns in which it was refused so, and in no other turn
   pub record MakesAtLast (s : declared_step.Step) (e : PoolError) (r : declared_reply.Reply) (old new : Handle Dev G) : Type 0 where
     pub same_pool : StaysInPool old new
     pub made : HasMadeAtLast (IsTrue G.keeps_model) s e r old.seat new.seat

@@ -23,7 +23,7 @@ use Rattle.pool_threads.specs.declared.pool.Pool.{Pool}
 use Rattle.pool_threads.specs.declared.shared.Shared.{Shared}
 use Rattle.pool_threads.specs.Views.{Explains, GrowsTo, IsFollowed, SeenPool, since, view_behind_disk, viewed_state}
 use Rattle.pool_threads.specs.Views.CrashRule.{Behind}
-use Rattle.round_trip.specs.Crashes.{IsLeft}
+use Rattle.base.specs.crash.LeftDisks.{IsLeft}
 use Rattle.word_lock.specs.declared.rule.Turn.{Turn}
 use Rattle.word_lock.specs.Seats.{HasMetNone, IsAsBefore, kin, lock_table, opening, seat_number, seat_table, seen, taken, turns}
 use Rattle.word_lock.specs.Turns.{IsTurnHistory, turn}
@@ -57,7 +57,8 @@ module _ {Dev : Type 0} {G : Ghosts Dev} where
   abbrev pub taken_by : Handle Dev G → List (Turn SeenPool)
   taken_by h = taken h.seat
 
-  -- The handle's number: 0 while it is the only one that its pool ever had, and else 1 for a new one. Each split adds 1, and nothing makes it less.
+  -- The handle's number: 0 while it is the only one that its pool ever had, and else 1 for a new one. Each split adds
+  -- 1, and nothing makes it less.
   abbrev pub kin_of : Handle Dev G → ℕ
   kin_of h = kin h.seat
 
@@ -81,8 +82,8 @@ module _ {Dev : Type 0} {G : Ghosts Dev} where
   abbrev pub IsUnchanged : Handle Dev G → Handle Dev G → Type 0
   IsUnchanged h g = IsAsBefore h.seat g.seat × (moment_of g ≡ moment_of h)
 
-  -- a handle of this pool, besides others, that has had no turn, and has seen at least what the pool was opened with; its syncs carry the pool's
-  -- moment
+  -- a handle of this pool, besides others, that has had no turn, and has seen at least what the pool was opened with;
+  -- its syncs carry the pool's moment
   pub record IsNewHandle (p : Shared Dev G) (h : Handle Dev G) : Type 0 where
     pub of : IsOf p h
     pub moment : moment_of h ≡ moment_in p
@@ -107,8 +108,8 @@ module _ {Dev : Type 0} {G : Ghosts Dev} where
     pub none_taken : taken_by other ≡ []
     pub number : kin_of other ≡ 1
 
-  -- The handle has seen what both had seen. Its own turns are the same. Those of the other, and those that the other had taken over, follow in
-  -- its list of taken turns.
+  -- The handle has seen what both had seen. Its own turns are the same. Those of the other, and those that the other
+  -- had taken over, follow in its list of taken turns.
   pub record HasJoined (old added new : Handle Dev G) : Type 0 where
     pub same_pool : StaysInPool old new
     pub own : GrowsTo (IsTrue G.keeps_model) (view_seen old) (view_seen new)
@@ -158,14 +159,15 @@ module _ {Dev : Type 0} {G : Ghosts Dev} where
     pub moment : moment_of h ≡ moment_in p
     pub seat_is : h.seat ≡ l.seat
 
-  -- every fair image that a crash now may leave of the state's disk mounts the replay of a conflict-closed cut of the entries of this past with every
-  -- acknowledged one; and a run with this past left the disk, so a later run goes on from there
+  -- every fair image that a crash now may leave of the state's disk mounts the replay of a conflict-closed cut of the
+  -- entries of this past with every acknowledged one; and a run with this past left the disk, so a later run goes on
+  -- from there
   pub record LeavesCuts (s : PoolState Dev G) (past : Past) : Type 0 where
     pub safe : AreSafe (disk_of s) past
     pub left : IsLeft past (disk_of s)
 
-  -- The view explains the state, and goes on from the one with which the pool was opened. If the crash rule is followed over a device that keeps
-  -- the model, the state leaves cuts of its past.
+  -- The view explains the state, and goes on from the one with which the pool was opened. If the crash rule is followed
+  -- over a device that keeps the model, the state leaves cuts of its past.
   pub record EndsIn (p : Shared Dev G) (s : PoolState Dev G) (v : SeenPool) : Type 0 where
     pub explains : Explains s v
     pub onward : GrowsTo (IsTrue G.keeps_model) (opening_view p) v
@@ -175,8 +177,9 @@ module _ {Dev : Type 0} {G : Ghosts Dev} where
   abbrev pub IsLaterState : Shared Dev G → PoolState Dev G → Type 0
   IsLaterState p s = (v : SeenPool) × EndsIn p s v
 
-  -- A pool ended in this state, after what a handle had seen: the turns of all handles lead to the last view, and those of this handle among
-  -- them are just the ones that it knows of. After the only handle it ended in what that had seen.
+  -- A pool ended in this state, after what a handle had seen: the turns of all handles lead to the last view, and those
+  -- of this handle among them are exactly the ones that it knows of. After the only handle it ended in what that had
+  -- seen.
   pub record IsLastState (p : Shared Dev G) (l : LastSeen Dev G) (s : PoolState Dev G) : Type 0 where
     pub last : SeenPool
     pub ends : EndsIn p s last
@@ -188,7 +191,8 @@ module _ {Dev : Type 0} {G : Ghosts Dev} where
 abbrev pub LeavesSame : Disk → Disk → Type 0
 LeavesSame old new = (past : Past) → IsLeft past old → IsLeft past new
 
--- what an import of the old disk gives with what it mounted: a run starts from what that disk holds, and what was left on it is left on the new one
+-- what an import of the old disk gives with what it mounted: a run starts from what that disk holds, and what was left
+-- on it is left on the new one
 pub record StartsBehind (old : Disk) (m : Mounted) (new : Disk) : Type 0 where
   pub starts : StartsRun old (shown_of_import m).dirty_max new m
   pub own : KeepsOwn old new
@@ -198,13 +202,15 @@ pub record ShowsMounted (m : Mounted) (disk : Disk) (v : SeenPool) : Type 0 wher
   pub shown : (viewed_state v).shown ≡ shown_of_import m
   pub disk_is : v.disk ≡ disk
 
--- The view shows what one import of the old disk mounted, with this moment in its uberblocks, and its disk is the one that the import left.
+-- The view shows what one import of the old disk mounted, with this moment in its uberblocks, and its disk is the one
+-- that the import left.
 pub record ShowsImport (moment : ℕ) (old : Disk) (v : SeenPool) : Type 0 where
   pub mounted : Mounted
   pub synced : IsImportSynced old v.disk moment mounted
   pub shown : (viewed_state v).shown ≡ shown_of_import mounted
 
--- what a refused import tells of a disk's image, and leaves of the disk: it as it was, flushed, or what its calls before the refused one made of it
+-- what a refused import tells of a disk's image, and leaves of the disk: it as it was, flushed, or what its calls
+-- before the refused one made of it
 pub record IsLeftByRefused (moment : ℕ) (old : Disk) (e : PoolError) (new : Disk) : Type 0 where
   pub reason : IsReason (bytes_of old.now) e
   pub unchanged : IsReadingRefusal e → new ≡ certain (bytes_of old.now) old
@@ -214,16 +220,18 @@ pub record IsLeftByRefused (moment : ℕ) (old : Disk) (e : PoolError) (new : Di
 abbrev pub IsLeftByOpen : ℕ → Disk → PoolError → Disk → Type 0
 IsLeftByOpen moment old e new = IsLeftByRefused moment old e new ⊎ ((e ≡ NoMemory) × ((mounted : Mounted) × IsImportSynced old new moment mounted))
 
--- The view of a pool as it is imported from a disk: nothing happened since, and whichever run left the disk, the contents are what it left: the
--- replay of a cut of its entries with every acknowledged one. From there on the crash rule is followed.
+-- The view of a pool as it is imported from a disk: nothing happened since, and whichever run left the disk, the
+-- contents are what it left: the replay of a cut of its entries with every acknowledged one. From there on the crash
+-- rule is followed.
 pub record OpensBehind (keeps : Type 0) (old : Disk) (dirty_max : ℕ) (v : SeenPool) : Type 0 where
   pub rule : v.rule ≡ Behind old
   pub anew : v.past ≡ new_past v.past.base v.past.created dirty_max
   pub shows : (viewed_state v).shown.contents ≡ v.past.base
   pub left : keeps → (past : Past) → IsLeft past old → IsLeftBy past v.past.base
 
--- The pool that an import of this disk gave, to be opened: the view of it in which nothing has happened since explains it, and follows the crash
--- rule after whichever run left the disk. It shows what was mounted, over the device that the import left.
+-- The pool that an import of this disk gave, to be opened: the view of it in which nothing has happened since explains
+-- it, and follows the crash rule after whichever run left the disk. It shows what was mounted, over the device that the
+-- import left.
 pub record IsReadyBehind {Dev : Type 0} {G : Ghosts Dev} (old : Disk) (m : Mounted) (device : Dev) (s : PoolState Dev G) : Type 0 where
   pub explains : Explains s (view_behind_disk s old)
   pub opens : OpensBehind (IsTrue G.keeps_model) old (shown_of_import m).dirty_max (view_behind_disk s old)

@@ -1,7 +1,7 @@
 pub mod Noted
 pub mod Views
 pub mod Turns
-pub mod Kinds
 pub mod Handles
 pub mod Answers
 pub mod Laws
+pub mod Transacts

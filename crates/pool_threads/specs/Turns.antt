@@ -23,7 +23,8 @@ dated moment s = s
 abbrev pub begin_reply : Result (TxId × Group) PoolError → declared_reply.Reply
 begin_reply = reply_of (λ a. reply.Began a.0 a.1)
 
--- nothing lies between these turns: each took what the one before it left, the first took the first view, and the last left the last one
+-- nothing lies between these turns: each took what the one before it left, the first took the first view, and the last
+-- left the last one
 abbrev pub AreUnbroken : SeenPool → List (Turn SeenPool) → SeenPool → Type 0
 AreUnbroken v [] w = w ≡ v
 AreUnbroken v (t ∷ ts) w = (t.took ≡ v) × AreUnbroken t.left ts w
@@ -34,8 +35,8 @@ module _ {T R : Type 0} where
     pub made : IsPoolStep keeps s r (seen holder) (seen new)
     pub turn : HasTurned holder new (seen new)
 
-  -- In one turn and no other the seat made a step with this reply: from a view that goes on from what it had seen, to the one that it has
-  -- seen then. The only seat of a lock took just what it had seen.
+  -- In one turn and no other the seat made a step with this reply: from a view that goes on from what it had seen, to
+  -- the one that it has seen then. The only seat of a lock took just what it had seen.
   pub record HasMade (keeps : Type 0) (s : declared_step.Step) (r : declared_reply.Reply) (old new : Seat T R SeenPool) : Type 0 where
     pub took : SeenPool
     pub onward : GrowsTo keeps (seen old) took
@@ -44,8 +45,8 @@ module _ {T R : Type 0} where
     pub met_none : HasMetNone old new
     pub alone : kin old ≡ 0 → took ≡ seen old
 
-  -- In these turns and no others the seat made a step that was refused each time, with the same refusal. Between those of the only seat of a
-  -- lock lies nothing.
+  -- In these turns and no others the seat made a step that was refused each time, with the same refusal. Between those
+  -- of the only seat of a lock lies nothing.
   pub record HasTried (keeps : Type 0) (s : declared_step.Step) (e : PoolError) (old now : Seat T R SeenPool) : Type 0 where
     pub tries : List (Turn SeenPool)
     pub refused : All (λ t. IsPoolStep keeps s (reply.Refused e) t.took t.left) tries

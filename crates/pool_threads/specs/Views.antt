@@ -22,10 +22,10 @@ use Rattle.pool_core.specs.NewStates.{first_past}
 use Rattle.pool_core.specs.States.{shown, told}
 use Rattle.pool_core.specs.StepReplies.{IsStep}
 use Rattle.pool_threads.specs.Noted.{NotedPool, blank_note, no_contents, note, shown_in}
-use Rattle.round_trip.specs.Crashes.{GoesOnFrom, IsLeft}
+use Rattle.base.specs.crash.LeftDisks.{GoesOnFrom, IsLeft}
 
--- Whether the crash rule is followed: not at all; in a run of the pool whose create began at this moment; or in one behind whatever run left the
--- disk that the pool was imported from.
+-- Whether the crash rule is followed: not at all; in a run of the pool whose create began at this moment; or in one
+-- after whatever run left the disk that the pool was imported from.
 pub data CrashRule : Type 0 where
   NotFollowed : CrashRule
   Since : (began : ℕ) → CrashRule
@@ -37,7 +37,8 @@ IsFollowed NotFollowed created = ⊥
 IsFollowed (Since began) created = created ≡ began
 IsFollowed (Behind disk) created = ∥ ((past : Past) × (past.created ≡ created) × IsLeft past disk) ∥₁
 
--- What is seen of a pool: what it shows, with the past of its run, whether the run follows the crash rule, and the disk of its device.
+-- What is seen of a pool: what it shows, with the past of its run, whether the run follows the crash rule, and the disk
+-- of its device.
 pub record SeenPool : Type 0 where
   pub pool : NotedPool
   pub past : Past
@@ -61,12 +62,12 @@ module _ {Dev : Type 0} {G : Ghosts Dev} where
   abbrev pub view_of : PoolState Dev G → Past → CrashRule → SeenPool
   view_of p past rule = record { pool = note (shown p); past = past; rule = rule; disk = disk_of p }
 
-  -- the view of a pool in whose run nothing happened yet, behind whichever run left this disk
+  -- the view of a pool in whose run nothing happened yet, after whichever run left this disk
   abbrev pub view_behind_disk : PoolState Dev G → Disk → SeenPool
   view_behind_disk p old = view_of p (first_past (shown p) 0) (Behind old)
 
-  -- The view is of this pool and its disk, and its past explains it. If the device keeps the disk model it holds what it should, and if the
-  -- crash rule is followed too, it stands.
+  -- The view is of this pool and its disk, and its past explains it. If the device keeps the disk model it holds what
+  -- it should, and if the crash rule is followed too, it stands.
   pub record Explains (p : PoolState Dev G) (v : SeenPool) : Type 0 where
     pub state : viewed_state v ≡ state_with (told p) v.past
     pub disk_is : v.disk ≡ disk_of p
@@ -87,7 +88,8 @@ abbrev pub MovesDisk : declared_step.Step → Disk → Disk → Type 0
 MovesDisk SyncStep old new = GoesOnFrom old new
 MovesDisk s old new = new ≡ old
 
--- A safe step between two views, of a pool whose create began at this moment. The disks before and after it are those of the views.
+-- A safe step between two views, of a pool whose create began at this moment. The disks before and after it are those
+-- of the views.
 pub record IsSafeBetween (s : declared_step.Step) (r : declared_reply.Reply) (created : ℕ) (v w : SeenPool) : Type 0 where
   pub before : OnDisk
   pub after : OnDisk
@@ -98,8 +100,8 @@ pub record IsSafeBetween (s : declared_step.Step) (r : declared_reply.Reply) (cr
   pub kept : IsKeptSafe before
   pub made : IsSafeStep s r before after
 
--- At each moment from the one view's disk to the other's, every fair image that a crash leaves mounts a cut of the later history with all that the
--- earlier one has acknowledged. So it is of a pool whose create began at this moment.
+-- At each moment from the one view's disk to the other's, every fair image that a crash leaves mounts a cut of the
+-- later history with all that the earlier one has acknowledged. So it is of a pool whose create began at this moment.
 abbrev pub WereSafeBetween : (created : ℕ) → SeenPool → SeenPool → Type 0
 WereSafeBetween created v w = WereSafe v.disk w.disk (since created v.past) (since created w.past)
 
@@ -107,8 +109,8 @@ WereSafeBetween created v w = WereSafe v.disk w.disk (since created v.past) (sin
 abbrev pub past_between : (created : ℕ) → SeenPool → SeenPool → Past
 past_between created v w = record (since created w.past) { acknowledged = v.past.acknowledged }
 
--- A step with its reply, from a view that is explained. If the device keeps the disk model it is one over the bytes of the view's disk, and if
--- the crash rule is followed too, it is a safe one.
+-- A step with its reply, from a view that is explained. If the device keeps the disk model it is one over the bytes of
+-- the view's disk, and if the crash rule is followed too, it is a safe one.
 pub record IsPoolStep (keeps : Type 0) (s : declared_step.Step) (r : declared_reply.Reply) (v w : SeenPool) : Type 0 where
   pub explained : ∥ IsExplainedNow (viewed_state v).shown v.past ∥₁
   pub step : ∥ IsStep s r (viewed_state v) (viewed_state w) ∥₁

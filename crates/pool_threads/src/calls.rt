@@ -1,22 +1,28 @@
-//! The calls of a handle. Each is one step of the pool, in one turn.
-ghost use Rattle.std.specs.Prelude.{◌≡◌, IfErr, IfNone, IfOk, IfSome, IsSome, false, true};
+//! The calls of a handle. Each is one step of the pool, in one turn; those that are made again take a turn each time.
+ghost use Rattle.std.specs.Prelude.{◌≡◌, ◌≢◌, IfErr, IfNone, IfOk, IfSome, IsSome, false, true};
+ghost use Rattle.base.specs.declared.error.PoolError.TheVariants as error;
+ghost use Rattle.base.specs.declared.range.Mode.TheVariants.{Writer};
 ghost use Rattle.base.specs.declared.step.Reply.TheVariants as reply;
 ghost use Rattle.base.specs.declared.step.Step.TheVariants as step;
 ghost use Rattle.base.specs.steps.Refusals.{object_range};
 ghost use Rattle.base.specs.steps.Runs.{reply_of};
-ghost use Rattle.base.specs.steps.Seen.{IsAborted, IsCommitted, IsLengthBetween, IsLetGo, IsReadBetween};
+ghost use Rattle.base.specs.steps.Seen.{IsAborted, IsAdmitted, IsCommitted, IsGranted, IsLengthBetween, IsLetGo, IsReadBetween, IsThrottledForGood};
 ghost use Rattle.base.specs.steps.SeenLaws.{is_untested};
-ghost use Rattle.pool_threads.specs.Answers.{IsRefusal, Makes, Sees};
+ghost use Rattle.pool_threads.specs.Answers.{IsRefusal, Makes, MakesAtLast, Sees, state_seen};
 ghost use Rattle.pool_threads.specs.Handles.{IsUnchanged, kin_of, moment_of};
-ghost use Rattle.pool_threads.specs.Kinds.{fits};
-ghost use Rattle.pool_threads.specs.Turns.{dated};
+ghost use Rattle.pool_threads.specs.Turns.{begin_reply, dated};
 
 use crate::handle::Handle;
-use crate::replies::{bytes, done, length, receipt};
-use crate::turn::{fail_guarded, step_guarded, try_turn};
-use base::{Bytes, LockId, ObjectId, Ops, Owner, PoolError, Range, Receipt, Reply, Step, TxId};
+use crate::turn::{try_turn, turn};
+use base::{
+    Bytes, Group, LockId, Mode, ObjectId, Ops, Owner, Plan, PoolError, Range, Receipt, Reply, Step,
+    TxId,
+};
 use device_model::{Fault, MemDevice, SectorDevice};
+use pool_core::PoolCall;
+use pool_core::calls::{Abort, Begin, Commit, Length, Lock, LockAppend, Read, Unlock};
 use std::sync::Wait;
+use word_lock::release;
 
 impl<'p, D: SectorDevice> Handle<'p, D> {
     /// Makes one step of the pool, in one turn of the handle. A start of a sync gets the pool's moment.
@@ -24,11 +30,11 @@ impl<'p, D: SectorDevice> Handle<'p, D> {
         ensures made { Makes (dated (moment_of self.old) step) result self.old self.new }
     {
         let step = dated(self.shared.moment, step);
-        self.ask(rt, step)
+        replied(self.ask(rt, step))
     }
 
-    /// Makes one step of the pool as `step` does, if no other handle has the pool. It never waits. `None` if another has it, and then
-    /// nothing has changed. The only handle of a pool always gets it.
+    /// Makes one step of the pool as `step` does, if no other handle has the pool. It never waits. It returns `None` if
+    /// another has it, and then nothing has changed. The only handle of a pool always gets it.
     pub fn try_step<'a>(&'a mut self, step: Step) -> Option<Reply>
         ensures made { IfSome result
             (λ r. Makes (dated (moment_of self.old) step) r self.old self.new) }
@@ -36,23 +42,100 @@ impl<'p, D: SectorDevice> Handle<'p, D> {
         ensures only { kin_of self.old ≡ 0 → IsSome result }
     {
         let step = dated(self.shared.moment, step);
-        let reply = try_turn(&mut self.seat, &self.shared.lock, step)?;
-        self.shared.waiters.tell_of(&reply);
-        Some(reply)
+        let answer = try_turn(&mut self.seat, &self.shared.lock, step)?;
+        self.shared.waiters.note::<D, Step>(&answer);
+        Some(replied(answer))
     }
 
-    // Makes one step of the pool, in one turn of the handle.
-    pub(crate) fn ask<'a, 'b, W: Wait>(&'a mut self, rt: &'b W, step: Step) -> Reply
-        ensures made { Makes step result self.old self.new }
-        ensures fits { fits step result ≡ true }
+    // Makes a call, in one turn of the handle.
+    pub(crate) fn ask<'a, 'b, W: Wait, C: PoolCall<D>>(
+        &'a mut self,
+        rt: &'b W,
+        call: C,
+    ) -> Result<C::Answer, PoolError>
+        ensures { Makes (C.step call) (reply_of C.reply result) self.old self.new }
     {
         let guard = self.seat.acquire(rt, &self.shared.lock);
-        let reply = step_guarded(guard, step);
-        self.shared.waiters.tell_of(&reply);
-        reply
+        let answer = turn(guard, call);
+        self.shared.waiters.note::<D, C>(&answer);
+        answer
     }
 
-    /// Lets a lock go.
+    /// Locks a range of an object, and tries again while it is refused `Busy`.
+    ///
+    /// # Errors
+    /// Those of `PoolState::lock`, except `Busy`.
+    pub fn lock<'a, 'b, W: Wait>(
+        &'a mut self,
+        rt: &'b W,
+        owner: Owner,
+        object: ObjectId,
+        range: Range,
+        mode: Mode,
+    ) -> Result<LockId, PoolError>
+        ensures made { MakesAtLast (step.Lock owner object range mode) error.Busy
+            (reply_of (λ id. reply.Locked id) result) self.old self.new }
+        ensures granted { IfOk result (λ id. Sees (IsGranted owner.0
+            (object_range object.0 range.low range.high) mode id.0) self.old self.new) }
+        ensures refused { IfErr result (λ e. Sees
+            (IsRefusal (step.Lock owner object range mode) e) self.old self.new) }
+        ensures not_busy { IfErr result (λ e. e ≢ PoolError.Busy) }
+    {
+        let lock = Lock {
+            owner,
+            object,
+            range,
+            mode,
+        };
+        self.retry(rt, lock)
+    }
+
+    /// Locks an object as a writer from its end to the greatest length, and returns that range too. It tries again
+    /// while it is refused `Busy`.
+    ///
+    /// # Errors
+    /// Those of `PoolState::lock_append`, except `Busy`.
+    pub fn lock_append<'a, 'b, W: Wait>(
+        &'a mut self,
+        rt: &'b W,
+        owner: Owner,
+        object: ObjectId,
+    ) -> Result<(LockId, Range), PoolError>
+        ensures made { MakesAtLast (step.LockAppend owner object) error.Busy
+            (reply_of (λ a. reply.Appended a.0 a.1) result) self.old self.new }
+        ensures granted { IfOk result (λ a. Sees (IsGranted owner.0
+            (object_range object.0 a.1.low a.1.high) Writer a.0.0) self.old self.new) }
+        ensures refused { IfErr result (λ e. Sees
+            (IsRefusal (step.LockAppend owner object) e) self.old self.new) }
+        ensures not_busy { IfErr result (λ e. e ≢ PoolError.Busy) }
+    {
+        self.retry(rt, LockAppend { owner, object })
+    }
+
+    /// Opens a transaction of the open group that keeps to a plan. It tries again while it is refused `Throttled`,
+    /// unless the plan's charge alone is above the import's limit.
+    ///
+    /// # Errors
+    /// Those of `PoolState::begin`; `Throttled` only if the plan's charge alone is above the limit.
+    pub fn begin<'a, 'b, W: Wait>(
+        &'a mut self,
+        rt: &'b W,
+        owner: Owner,
+        plan: Plan,
+    ) -> Result<(TxId, Group), PoolError>
+        ensures made { MakesAtLast (step.Begin owner plan) error.Throttled
+            (begin_reply result) self.old self.new }
+        ensures admitted { IfOk result (λ a. Sees (IsAdmitted owner.0 plan a.0.0 a.1.0)
+            self.old self.new) }
+        ensures refused { IfErr result (λ e. Sees (IsRefusal (step.Begin owner plan) e)
+            self.old self.new) }
+        ensures for_good { IfErr result (λ e. e ≡ PoolError.Throttled
+            → IsThrottledForGood plan (state_seen self.new)) }
+    {
+        self.retry(rt, Begin { owner, plan: &plan })
+    }
+
+    /// Releases a lock.
     ///
     /// # Errors
     /// Those of `PoolState::unlock`. It takes no memory.
@@ -69,7 +152,7 @@ impl<'p, D: SectorDevice> Handle<'p, D> {
             self.old self.new) }
         ensures no_memory { IfErr result (λ e. is_untested e ≡ false) }
     {
-        done(self.ask(rt, Step::Unlock(owner, id)))
+        self.ask(rt, Unlock { owner, id })
     }
 
     /// Commits a transaction whole.
@@ -89,10 +172,10 @@ impl<'p, D: SectorDevice> Handle<'p, D> {
         ensures refused { IfErr result (λ e. Sees (IsRefusal (step.Commit tx ops) e)
             self.old self.new) }
     {
-        receipt(self.ask(rt, Step::Commit(tx, ops)))
+        self.ask(rt, Commit { tx, ops })
     }
 
-    /// Gives a transaction up.
+    /// Gives a transaction up: none of its operations takes place.
     ///
     /// # Errors
     /// Those of `PoolState::abort`. It takes no memory.
@@ -104,7 +187,7 @@ impl<'p, D: SectorDevice> Handle<'p, D> {
             self.old self.new) }
         ensures no_memory { IfErr result (λ e. is_untested e ≡ false) }
     {
-        done(self.ask(rt, Step::Abort(tx)))
+        self.ask(rt, Abort { tx })
     }
 
     /// The bytes of a range that lie below the object's length.
@@ -125,7 +208,12 @@ impl<'p, D: SectorDevice> Handle<'p, D> {
         ensures refused { IfErr result (λ e. Sees (IsRefusal (step.Read owner object range) e)
             self.old self.new) }
     {
-        bytes(self.ask(rt, Step::Read(owner, object, range)))
+        let read = Read {
+            owner,
+            object,
+            range,
+        };
+        self.ask(rt, read)
     }
 
     /// The length of an object in bytes.
@@ -145,24 +233,35 @@ impl<'p, D: SectorDevice> Handle<'p, D> {
             self.old self.new) }
         ensures no_memory { IfErr result (λ e. is_untested e ≡ false) }
     {
-        length(self.ask(rt, Step::Length(object)))
+        self.ask(rt, Length { object })
     }
 }
 
 impl<'p> Handle<'p, MemDevice> {
     ghost use Rattle.pool_threads.specs.Handles.{HasLooked};
 
-    /// Makes the n-th such call of the pool's device from now fail, once, as `MemDevice::fail` does, in one turn of the handle. It is
-    /// no step, and no view shows it.
+    /// Makes the n-th such call of the pool's device from now fail, once, as `MemDevice::fail` does, in one turn of the
+    /// handle. It is no step, and no view shows it.
     pub fn fail<'a, 'b, W: Wait>(&'a mut self, rt: &'b W, fault: Fault, n: u64)
         ensures { HasLooked self.old self.new }
     {
-        let guard = self.seat.acquire(rt, &self.shared.lock);
-        fail_guarded(guard, fault, n);
+        let mut guard = self.seat.acquire(rt, &self.shared.lock);
+        guard.held.value.fail(fault, n);
+        release(guard);
     }
 }
 
-// The step, with this moment where it starts a sync.
+// The answer of a step, as a reply.
+fn replied(answer: Result<Reply, PoolError>) -> Reply
+    ensures { result ≡ reply_of (λ r. r) answer }
+{
+    match answer {
+        Ok(reply) => reply,
+        Err(error) => Reply::Refused(error),
+    }
+}
+
+// The step, with this moment if it starts a sync.
 fn dated(moment: u64, step: Step) -> Step
     ensures { result ≡ dated moment step }
 {

@@ -1,16 +1,25 @@
-//! What callers rest on: one function for each promise of this crate's calls, proved from the contract of the call alone. So it
-//! is refused as soon as that contract says less.
-ghost use Rattle.std.specs.Prelude.{ℕ, ◌≡◌, [], ◌∷◌, ◌+◌, ◌++◌, IfErr, IfNone, IfOk, IfSome, IsSome, IsTrue, false};
+//! What callers rest on: one function for each promise of this crate's calls, proved from the contract of the call
+//! alone. So it is refused as soon as that contract says less.
+ghost use Rattle.std.specs.Prelude.{ℕ, ◌≡◌, [], ◌∷◌, ◌+◌, ◌++◌, IfErr, IfNone, IfOk, IfSome, IsSome, IsTrue, List, false};
+ghost use Rattle.base.specs.declared.error.PoolError.TheVariants as error;
+ghost use Rattle.base.specs.declared.names.Group.{Group};
+ghost use Rattle.base.specs.declared.names.LockId.{LockId};
+ghost use Rattle.base.specs.declared.names.TxId.{TxId};
 ghost use Rattle.base.specs.declared.range.Mode.TheVariants.{Writer};
+ghost use Rattle.base.specs.declared.range.ObjectRange.{ObjectRange};
+ghost use Rattle.base.specs.declared.step.Reply.TheVariants as reply;
 ghost use Rattle.base.specs.declared.step.Step.TheVariants as step;
 ghost use Rattle.base.specs.steps.Refusals.{object_range};
 ghost use Rattle.base.specs.steps.Seen.{IsGranted, IsReadBetween};
 ghost use Rattle.import_replay.specs.ImportSyncs.{IsImportSynced};
 ghost use Rattle.import_replay.specs.Mounts.{shown_of_import};
 ghost use Rattle.import_replay.specs.declared.mounted.Mounted.{Mounted};
-ghost use Rattle.pool_threads.specs.Answers.{Makes, Sees};
+ghost use Rattle.pool_threads.specs.Answers.{Makes, MakesAtLast, Sees};
 ghost use Rattle.pool_threads.specs.Handles.{IsOf, IsOfSamePool, OpensBehind, StartsBehind, TakesOneTurn, TakesTurns, WasOf, kin_left, kin_of, moment_of, opening_view, owned_of, shared_of, taken_by, turns_of, view_seen};
+ghost use Rattle.pool_threads.specs.Transacts.{IsTransacted, Locks, Unlocks, plan_of};
 ghost use Rattle.pool_threads.specs.Views.{Explains, GrowsTo, IsFollowed, SeenPool, WereSafeBetween};
+ghost use Rattle.pool_threads.specs.declared.handle.Handle.{Handle};
+ghost use Rattle.transactions.specs.LockRanges.{lock_ranges};
 ghost use Rattle.word_lock.specs.Seats.{seen};
 ghost use Rattle.word_lock.specs.Turns.{turn};
 
@@ -106,7 +115,7 @@ fn a_handle_comes_back_with_its_turns<'p, D: SectorDevice>(
     ensures turns { turns_of result ≡ turns_of handle.entry }
     ensures seen { view_seen result ≡ view_seen handle.entry }
 {
-    pool.handle_behind(handle.leave())
+    pool.handle_after(handle.leave())
 }
 
 // A handle that was split off passes on what its source had seen, by a join.
@@ -155,7 +164,7 @@ where
     ensures { IfSome result (λ s. (v : SeenPool) × Explains s v
         × GrowsTo (IsTrue D.keeps_model) (seen last.seat) v) }
 {
-    match pool.close_behind(last) {
+    match pool.close_after(last) {
         Some(state) => Some(state),
         None => None,
     }
@@ -215,7 +224,7 @@ where
     ensures some { IsSome result }
     ensures same { IfSome result (λ s. Explains s (seen last.seat)) }
 {
-    pool.close_behind(last)
+    pool.close_after(last)
 }
 
 // A first handle sees the opening view, and is the only one.
@@ -336,4 +345,50 @@ fn a_begin_takes_turns<D: SectorDevice, W: Wait>(
     ensures { TakesTurns handle.old handle.new }
 {
     handle.begin(rt, owner, plan)
+}
+
+fn a_transact_enters_its_operations<D: SectorDevice, W: Wait>(
+    rt: &W,
+    alloc: Global,
+    handle: &mut Handle<'_, D>,
+    ops: Ops,
+) -> Result<Receipt, PoolError>
+    ensures entered { IfOk result (λ r. Sees (IsTransacted ops r) handle.old handle.new) }
+    ensures number { kin_of handle.new ≡ kin_of handle.old }
+{
+    handle.transact(rt, alloc, Owner(3), ops)
+}
+
+// These are all its steps: nothing lies between them but tries that were refused.
+fn a_transact_locks_begins_commits_and_unlocks<D: SectorDevice, W: Wait>(
+    rt: &W,
+    alloc: Global,
+    handle: &mut Handle<'_, D>,
+    owner: Owner,
+    ops: Ops,
+) -> Result<Receipt, PoolError>
+    ensures { IfOk result (λ r. (ids : List LockId) × (tx : TxId) × (group : Group)
+        × (locked : Handle _ _) × (begun : Handle _ _) × (done : Handle _ _)
+        × Locks owner (lock_ranges (plan_of ops)) ids handle.old locked
+        × MakesAtLast (step.Begin owner (plan_of ops)) error.Throttled
+        (reply.Began tx group) locked begun
+        × Makes (step.Commit tx ops) (reply.Committed r) begun done
+        × Unlocks owner ids done handle.new) }
+{
+    handle.transact(rt, alloc, owner, ops)
+}
+
+// Under the names of the locks that it got.
+fn a_refused_transact_unlocks_what_it_locked<D: SectorDevice, W: Wait>(
+    rt: &W,
+    alloc: Global,
+    handle: &mut Handle<'_, D>,
+    owner: Owner,
+    ops: Ops,
+) -> Result<Receipt, PoolError>
+    ensures { IfErr result (λ e. (ids : List LockId) × (ranges : List ObjectRange)
+        × (locked : Handle _ _) × (ended : Handle _ _)
+        × Locks owner ranges ids handle.old locked × Unlocks owner ids ended handle.new) }
+{
+    handle.transact(rt, alloc, owner, ops)
 }

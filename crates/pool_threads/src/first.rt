@@ -4,11 +4,11 @@ ghost use Rattle.pool_threads.specs.Handles.{IsReadyBehind, StartsBehind};
 ghost use Rattle.pool_threads.specs.Views.{SeenPool, view_behind_disk};
 
 use crate::rule::PoolView;
+use base::Told;
 use device_model::SectorDevice;
 use import_replay::Imported;
 use pool_core::PoolState;
 use std::snapshot::Snapshot;
-use word_lock::Told;
 
 /// The view that the caller's proof picks.
 pub(crate) fn first_view<D: SectorDevice>(state: &PoolState<D>) -> Told<PoolView>
@@ -18,7 +18,8 @@ pub(crate) fn first_view<D: SectorDevice>(state: &PoolState<D>) -> Told<PoolView
     Told::of(state)
 }
 
-/// The view of a pool in which nothing has happened yet, after whichever run left the disk of a device before the import.
+/// The view of a pool in which nothing has happened yet, after whichever run left the disk of a device before the
+/// import.
 pub(crate) fn view_behind<'a, D: SectorDevice>(
     before: &'a Snapshot<D>,
     state: &'a PoolState<D>,

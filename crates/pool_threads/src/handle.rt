@@ -10,8 +10,8 @@ use word_lock::Seat;
 
 /// What one thread has of a pool: a seat at its lock.
 ///
-/// Its calls say that its number stays, but for `split`, which adds 1. No call has a seat from elsewhere, so that none makes a
-/// step in a turn that the handle does not show.
+/// Its calls say that its number stays, except for `split`, which adds 1. No call has a seat from elsewhere, so that
+/// none makes a step in a turn that the handle does not show.
 #[derive(Drop)]
 pub struct Handle<'p, D: SectorDevice> {
     pub(crate) shared: &'p Shared<D>,
@@ -49,7 +49,7 @@ impl<'p, D: SectorDevice> Handle<'p, D> {
         self.seat.join(&self.shared.lock, seat);
     }
 
-    /// Leaves the pool, with what the handle has seen, for `close_behind`, or for `OwnedPool::handle_behind`.
+    /// Leaves the pool, with what the handle has seen, for `close_after`, or for `OwnedPool::handle_after`.
     pub fn leave(self) -> LastSeen<D>
         ensures { IsLeftBehind self.entry result }
     {

@@ -1,4 +1,4 @@
-//! A pool that threads share: each takes it whole, makes one step, and lets it go.
+//! A pool that threads share: each takes it whole, makes one step, and releases it.
 #![tactic(auto)]
 
 mod calls;
@@ -8,10 +8,10 @@ mod handle;
 mod laws;
 mod owned;
 mod pool;
-mod replies;
 mod retries;
 mod rule;
 mod shared;
+mod transact;
 mod turn;
 mod waiters;
 

@@ -8,26 +8,26 @@ use crate::first::{state_behind, view_behind};
 use crate::handle::{Handle, LastSeen};
 use crate::rule::PoolView;
 use crate::shared::{Shared, boxed};
-use base::PoolError;
+use base::{PoolError, Told};
 use device_model::SectorDevice;
 use import_replay::Imported;
 use pool_core::PoolState;
 use std::snapshot::Snapshot;
-use word_lock::{Told, WordLock};
+use word_lock::WordLock;
 
-/// A pool that has one handle at a time, each of which goes on from the one before, as long as none is split. Then nothing
-/// changes the pool between two calls, and it always closes.
+/// A pool that has one handle at a time, each of which goes on from the one before, as long as none is split. Then
+/// nothing changes the pool between two calls, and it always closes.
 #[derive(Drop)]
 pub struct OwnedPool<D: SectorDevice> {
     pub(crate) shared: Shared<D>,
 }
 
 impl<D: SectorDevice> OwnedPool<D> {
-    /// The pool that an import gave, with the device as it was before the import, and what its first handle has seen. The syncs
-    /// that its handles start carry this moment.
+    /// The pool that an import gave, with the device as it was before the import, and what its first handle has seen.
+    /// The syncs that its handles start carry this moment, in seconds.
     ///
-    /// If that device keeps the model, the contents are what the run left that it holds, whichever that was, and the crash rule
-    /// is followed from there on.
+    /// If that device keeps the model, the contents are what the run left that it holds, whichever that was, and the
+    /// crash rule is followed from there on.
     ///
     /// # Errors
     /// `NoMemory` if there is none for the lock. The state then comes back, and `of_state` takes it.
@@ -84,16 +84,17 @@ impl<D: SectorDevice> OwnedPool<D> {
     }
 
     /// A handle that goes on from what one had seen as it left: its turns are among those that it knows of.
-    pub fn handle_behind(&self, last: LastSeen<D>) -> Handle<'_, D>
+    pub fn handle_after(&self, last: LastSeen<D>) -> Handle<'_, D>
         requires { WasOf (owned_of self.now) last }
         ensures { IsBackIn (owned_of self.entry.now) last result }
     {
-        self.shared.handle_behind(last)
+        self.shared.handle_after(last)
     }
 
-    /// The state, by steps that go on from what a handle had seen as it left. After a handle that was never split it is the state
-    /// that the handle left, and there always is one. `None` only if a thread was stopped while it had the pool.
-    pub fn close_behind(self, last: LastSeen<D>) -> Option<PoolState<D>>
+    /// The state, by steps that go on from what a handle had seen as it left. After a handle that was never split it is
+    /// the state that the handle left, and there always is one. `None` only if a thread was stopped while it had the
+    /// pool.
+    pub fn close_after(self, last: LastSeen<D>) -> Option<PoolState<D>>
     where
         D: Drop,
         requires { WasOf (owned_of self) last }
@@ -101,6 +102,6 @@ impl<D: SectorDevice> OwnedPool<D> {
         ensures only { kin_left last ≡ 0 → IsSome result }
     {
         let OwnedPool { shared } = self;
-        shared.close_behind(last)
+        shared.close_after(last)
     }
 }

@@ -5,13 +5,13 @@ use crate::first::{first_view, state_behind, view_behind};
 use crate::handle::{Handle, LastSeen};
 use crate::rule::{PoolRule, PoolView};
 use crate::shared::{Shared, boxed};
-use base::PoolError;
+use base::{PoolError, Told};
 use device_model::SectorDevice;
 use import_replay::{Imported, import};
 use pool_core::PoolState;
 use std::alloc::Global;
 use std::snapshot::Snapshot;
-use word_lock::{SeatSource, Told, WordLock};
+use word_lock::{SeatSource, WordLock};
 
 /// A pool that threads share by reference, each with a handle of its own.
 #[derive(Drop)]
@@ -30,7 +30,8 @@ impl<D: SectorDevice> Pool<D> {
     ghost use Rattle.pool_threads.specs.Handles.{IsLastState, IsLaterState, IsLeftByOpen, IsNewHandle, IsReadyBehind, LeavesSame, OpensBehind, ShowsImport, ShowsMounted, StartsBehind, WasOf, kin_left, moment_in, opening_view, shared_of};
     ghost use Rattle.pool_threads.specs.Views.{Explains, SeenPool};
 
-    /// A pool that no thread has, with a view that explains it. The syncs that its handles start carry this moment.
+    /// A pool that no thread has, with a view that explains it. The syncs that its handles start carry this moment, in
+    /// seconds.
     ///
     /// # Errors
     /// `NoMemory` if there is none for the lock. The state then comes back.
@@ -70,8 +71,9 @@ impl<D: SectorDevice> Pool<D> {
         }
     }
 
-    /// The pool that an import gave, to be shared. The syncs that its handles start carry this moment. Nothing is known of the
-    /// run that left its disk, so that the crash rule is not followed; `share_behind` and `open` follow it.
+    /// The pool that an import gave, to be shared. The syncs that its handles start carry this moment, in seconds.
+    /// Nothing is known of the run that left its disk, so that the crash rule is not followed; `share_after` and `open`
+    /// follow it.
     ///
     /// # Errors
     /// `NoMemory` if there is none for the lock. The state then comes back.
@@ -87,15 +89,15 @@ impl<D: SectorDevice> Pool<D> {
         Pool::new(state, moment)
     }
 
-    /// The pool that an import gave, to be shared, with the device as it was before the import. The syncs that its handles start
-    /// carry this moment.
+    /// The pool that an import gave, to be shared, with the device as it was before the import. The syncs that its
+    /// handles start carry this moment, in seconds.
     ///
-    /// If that device keeps the model, the contents are what the run left that it holds, whichever that was, and the crash rule
-    /// is followed from there on.
+    /// If that device keeps the model, the contents are what the run left that it holds, whichever that was, and the
+    /// crash rule is followed from there on.
     ///
     /// # Errors
     /// `NoMemory` if there is none for the lock. The state then comes back, and can be shared by `new`.
-    pub fn share_behind(
+    pub fn share_after(
         imported: Imported<D>,
         moment: u64,
         before: &Snapshot<D>,
@@ -117,11 +119,11 @@ impl<D: SectorDevice> Pool<D> {
         Pool::with_view(state, moment, &first)
     }
 
-    /// Imports the pool on a device, and shares it. The moment is stored in the uberblocks of the import, and in those of the
-    /// syncs that its handles start.
+    /// Imports the pool on a device, and shares it. The moment, in seconds, is stored in the uberblocks of the import,
+    /// and in those of the syncs that its handles start.
     ///
-    /// If the device keeps the model, the contents are what the run left that its disk holds, whichever that was, and the crash
-    /// rule is followed from there on.
+    /// If the device keeps the model, the contents are what the run left that its disk holds, whichever that was, and
+    /// the crash rule is followed from there on.
     ///
     /// # Errors
     /// Those of `import`, and `NoMemory` if there is none for the lock. The device comes back, as the import left it.
@@ -151,7 +153,7 @@ impl<D: SectorDevice> Pool<D> {
             Ok(imported) => imported,
             Err(refused) => return Err(refused),
         };
-        match Pool::share_behind(imported, moment, &before) {
+        match Pool::share_after(imported, moment, &before) {
             Ok(pool) => Ok(pool),
             Err((error, state)) => Err((error, state.into_device())),
         }
@@ -166,8 +168,8 @@ impl<D: SectorDevice> Pool<D> {
         Handle { shared, seat }
     }
 
-    /// The state, by steps from the first one. If the crash rule was followed, each crash of its device leaves a cut of its history
-    /// with every acknowledged entry. `None` only if a thread was stopped while it had the pool.
+    /// The state, by steps from the first one. If the crash rule was followed, each crash of its device leaves a cut of
+    /// its history with every acknowledged entry. `None` only if a thread was stopped while it had the pool.
     pub fn close(self) -> Option<PoolState<D>>
     where
         D: Drop,
@@ -177,9 +179,9 @@ impl<D: SectorDevice> Pool<D> {
         shared.close()
     }
 
-    /// The state, by steps that go on from what a handle had seen as it left. `None` only if a thread was stopped while it had
-    /// the pool.
-    pub fn close_behind(self, last: LastSeen<D>) -> Option<PoolState<D>>
+    /// The state, by steps that go on from what a handle had seen as it left. `None` only if a thread was stopped while
+    /// it had the pool.
+    pub fn close_after(self, last: LastSeen<D>) -> Option<PoolState<D>>
     where
         D: Drop,
         requires { WasOf (shared_of self) last }
@@ -187,6 +189,6 @@ impl<D: SectorDevice> Pool<D> {
         ensures only { kin_left last ≡ 0 → IsSome result }
     {
         let Pool { shared, source: _ } = self;
-        shared.close_behind(last)
+        shared.close_after(last)
     }
 }

@@ -5,7 +5,8 @@ use pool_core::PoolState;
 use std::marker::{Model, PhantomData};
 use word_lock::LockRule;
 
-/// What a thread has seen of a pool: what is shown of it, with the past of its run and the disk of its device. No value of it is made.
+/// What a thread has seen of a pool: what is shown of it, with the past of its run and the disk of its device. No value
+/// of it is made.
 pub struct PoolView {
     of: PhantomData<u8>,
 }
@@ -23,7 +24,8 @@ impl Model for PoolView {
     ghost view = { λ _. blank_view };
 }
 
-/// A view explains a pool that shows just this on this disk, with a past that says how it came so. One goes on from another by steps.
+/// A view explains a pool that shows just this on this disk, with a past that says how it came so. One goes on from
+/// another by steps.
 pub struct PoolRule<D> {
     of: PhantomData<D>,
 }

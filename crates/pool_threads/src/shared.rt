@@ -9,8 +9,8 @@ use device_model::SectorDevice;
 use pool_core::PoolState;
 use word_lock::WordLock;
 
-/// A pool under its lock, without a source of seats: a handle has no more of its pool than this and its seat, so none of its
-/// calls makes a step by a seat of its own.
+/// A pool under its lock, without a source of seats: a handle has no more of its pool than this and its seat, so none
+/// of its calls makes a step by a seat of its own.
 #[derive(Drop)]
 pub(crate) struct Shared<D: SectorDevice> {
     pub(crate) lock: WordLock<Box<PoolState<D>>, PoolRule<D>>,
@@ -33,7 +33,7 @@ impl<D: SectorDevice> Shared<D> {
     }
 
     /// A handle that goes on from what one had seen as it left.
-    pub(crate) fn handle_behind(&self, last: LastSeen<D>) -> Handle<'_, D>
+    pub(crate) fn handle_after(&self, last: LastSeen<D>) -> Handle<'_, D>
         requires { WasOf self.now last }
         ensures { IsBackIn self.entry.now last result }
     {
@@ -59,7 +59,7 @@ impl<D: SectorDevice> Shared<D> {
     }
 
     /// The state, by steps that go on from what a handle had seen as it left.
-    pub(crate) fn close_behind(self, last: LastSeen<D>) -> Option<PoolState<D>>
+    pub(crate) fn close_after(self, last: LastSeen<D>) -> Option<PoolState<D>>
     where
         D: Drop,
         requires { WasOf self last }

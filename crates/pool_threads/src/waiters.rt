@@ -1,7 +1,9 @@
-//! Where a thread rests before it tries again. On the two numbers here no clause rests.
+//! Where a thread rests before it tries again. No clause rests on the two numbers here.
 
-use base::Reply;
+use base::PoolError;
 use crossbeam_utils::Backoff;
+use device_model::SectorDevice;
+use pool_core::PoolCall;
 use std::sync::Wait;
 use std::sync::atomic::{AtomicU64, Ordering};
 use std::time::Duration;
@@ -29,10 +31,15 @@ impl Waiters {
         self.changes.load(Ordering::SeqCst)
     }
 
-    /// Where a step with this reply may help one that tries again, as an unlock, an abort or the end of a sync, counts a
-    /// change, and wakes all that sleep.
-    pub(crate) fn tell_of(&self, reply: &Reply) {
-        if !matches!(reply, Reply::Done | Reply::Synced(_)) {
+    /// Counts a change and wakes all that sleep, if a call with this answer released something.
+    pub(crate) fn note<D: SectorDevice, C: PoolCall<D>>(
+        &self,
+        answer: &Result<C::Answer, PoolError>,
+    ) {
+        let Ok(answer) = answer else {
+            return;
+        };
+        if !C::releases(answer) {
             return;
         }
         self.changes.fetch_add(1, Ordering::SeqCst);
@@ -41,7 +48,8 @@ impl Waiters {
         }
     }
 
-    /// Backs off at first, and then sleeps, unless there was a change since that many: until the next one, or for a short time.
+    /// Backs off at first, and then sleeps, unless there was a change since that many: until the next one, or for a
+    /// short time.
     pub(crate) fn rest<W: Wait>(&self, rt: &W, backoff: &Backoff, changes: u64) {
         if !backoff.is_completed() {
             backoff.snooze();

@@ -1,4 +1,4 @@
--- A range is blocked by the held locks exactly where some offset of it is by what covers it.
+-- A range is blocked by the held locks exactly if some offset of it is by what covers it.
 use Rattle.std.proofs.Common.{◌≡◌, ℕ, zero, suc, ◌+◌, ◌<◌, ◌≤◌, ◌==◌, ◌&&◌, ◌||◌, Bool, true, false, not, cond, List, [], ◌∷◌, refl, ap, sym, ◌∙◌, arith, inl, inr}
 use Rattle.std.specs.Prelude.{Some, is_some, slice_get, nat_lt, nat_le}
 use Rattle.std.specs.List.{count_by}
@@ -98,7 +98,7 @@ module _ (held : LockTable) (was : AreHeld held) (r : NumberRange) (some : r.low
               ap (λ b. b && (nat_le g.range.low k && nat_lt k g.range.high)) (eq-eqb r.number g.range.number (sym (eqb-true g.range.number r.number number)))
               ∙ ap (λ b. b && nat_lt k g.range.high) (le-leb g.range.low k from) ∙ lt-ltb k g.range.high below
 
--- so a range is blocked by the parts of its number exactly where it is by the held locks
+-- so a range is blocked by the parts of its number exactly if it is by the held locks
 pub is_blocked-found : (held : LockTable) → AreHeld held → (r : NumberRange) → r.low < r.high → (mode : Mode) (b : Bool)
     → (b ≡ true → IsBlockedIn (span r) mode (counts_of r.number held.locks))
     → (b ≡ false → IsFreeIn (span r) mode (counts_of r.number held.locks)) → b ≡ is_blocked r mode held.locks

@@ -1,4 +1,4 @@
--- LockTable locks and the parts of all numbers stay in step as a lock is granted and as one is let go.
+-- LockTable locks and the parts of all numbers stay in step as a lock is granted and as one is released.
 use Rattle.std.proofs.Common.{◌≡◌, ℕ, ◌<◌, ◌≤◌, ◌==◌, true, false, not, length, filter, ap, sym, subst, ◌∙◌, arith, inl, inr}
 use Rattle.std.specs.Prelude.{Some, None, Option, IfSome, slice_get}
 use Rattle.std.specs.List.{find}

@@ -1,4 +1,4 @@
--- What is true of held locks stays true of them as one is granted and as one is let go.
+-- What is true of held locks stays true of them as one is granted and as one is released.
 use Rattle.std.proofs.Common.{◌≡◌, ℕ, ◌+◌, ◌<◌, ◌≤◌, ◌==◌, Bool, true, false, not, [], ◌∷◌, ◌++◌, length, filter, ap, sym, arith, Some, inl, inr}
 use Rattle.std.specs.Prelude.{slice_get, nat_lt, nat_le}
 use Rattle.std.proofs.lemmas.Bool.{and_parts, ltb-true, leb-true}
@@ -54,7 +54,7 @@ module _ (held : LockTable) (was : AreHeld held) where
       subst_range : (g : Grant) → g ≡ last → (g.range.low < g.range.high) × (g.range.high ≤ max_length)
       subst_range g same = rw same (ltb-true range.low range.high parts.0, leb-true range.high max_length parts.1)
 
-  -- one that is let go
+  -- one that is released
   pub without_are : (id : ℕ) → AreHeld (without id held)
   without_are id = record {
     rising = λ i j g h below at_i at_j. let pair = pair_filter others held.locks i j g h below at_i at_j in was.rising pair.0 pair.1 g h pair.2 pair.3 pair.4;

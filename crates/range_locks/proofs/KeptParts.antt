@@ -1,4 +1,4 @@
--- A number has parts only where its table has some.
+-- A number has parts only if its table has some.
 use Rattle.std.proofs.Common.{◌≡◌, ℕ, ◌+◌, ◌≤◌, ◌&&◌, Bool, true, false, cond, refl, ap, sym, subst, ◌∙◌, arith, inl, inr}
 use Rattle.std.specs.Prelude.{nat_le, nat_lt, Option, Some, IfSome, Result, Ok, Err, IsOk, OnOk, OnErr}
 use Rattle.std.proofs.lemmas.Bool.{cases_eq}
@@ -52,7 +52,7 @@ parts_there answer entry new was now r change there here counted some added unch
     parts_after was.table now.table (subst (λ o. IfSome o (λ (parts : Parts). HasCounts most_counted parts.table)) (sym there) counted) answer r change (some was (sym there)) added unchanged
     (subst (λ (x : Parts). HasNoParts x.table) same none)
 
--- each number has parts only where its table has some, where that holds of the number that changes
+-- each number has parts only if its table has some, where that holds of the number that changes
 pub kept_parts : (old new : ℕ → Option Parts) (number : ℕ) → ((n : ℕ) → (n ≡ number → ⊥) → new n ≡ old n)
     → ((n : ℕ) (p : Parts) → old n ≡ Some p → HasNoParts p.table → ⊥)
     → ((p : Parts) → new number ≡ Some p → HasNoParts p.table → ⊥) → (n : ℕ) (p : Parts) → new n ≡ Some p → HasNoParts p.table → ⊥

@@ -1,4 +1,4 @@
--- What held locks count to changes with one granted, and with one let go, as the table of parts does.
+-- What held locks count to changes with one granted, and with one released, as the table of parts does.
 use Rattle.std.proofs.Common.{◌≡◌, ℕ, zero, suc, ◌+◌, ◌-◌, ◌*◌, ◌<◌, ◌≤◌, ◌==◌, ◌&&◌, ◌||◌, Bool, true, false, not, cond, List, [], ◌∷◌, ◌++◌, length, filter, refl, ap, sym, subst, ◌∙◌, arith, inl, inr}
 use Rattle.std.specs.Prelude.{Some, None, Option, IfSome, is_some, slice_get, sum_by, nat_lt, nat_le}
 use Rattle.std.specs.List.{count_by, find, list_any}
@@ -69,7 +69,7 @@ found_counted p (x ∷ xs) (suc i) g at is =
     let tail : 0 < count_by p xs = found_counted p xs i g at is in
     omega arith
 
--- the one that is let go is not found
+-- the one that is released is not found
 find_without : (p : Grant → Bool) (locks : List Grant) (id : ℕ) → ((j : ℕ) (h : Grant) → slice_get locks j ≡ Some h → h.id ≡ id → p h ≡ false)
     → find p (filter (λ (h : Grant). not (h.id == id)) locks) ≡ find p locks
 find_without p [] id others = refl
@@ -206,7 +206,7 @@ module _ (locks : List Grant) (i id : ℕ) (g : Grant) (rise : NamesRise locks) 
     ]
   ]
 
-  -- one that is let go, where no other writer covers what it covers for writing
+  -- one that is released, where no other writer covers what it covers for writing
   module _ (alone : (n k : ℕ) → writes_at n k g ≡ true → find (writes_at n k) (filter (λ (h : Grant). not (h.id == id)) locks) ≡ None) where
     counts_let_go : (n k : ℕ) → counts_of n (filter (λ (h : Grant). not (h.id == id)) locks) k ≡ fewer_of n k g (counts_of n locks k)
     counts_let_go n k =

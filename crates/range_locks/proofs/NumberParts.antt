@@ -1,4 +1,5 @@
--- What is true of the parts of a number holds of what the table of numbers has under it, and without parts nothing is locked.
+-- What is true of the parts of a number holds of what the table of numbers has under it, and without parts nothing is
+-- locked.
 use Rattle.std.proofs.Common.{◌≡◌, ℕ, refl, sym, subst, arith}
 use Rattle.std.specs.Prelude.{Option, Some, None, Result, Ok, Err, OnOk, OnErr}
 use Rattle.std.specs.BTreeMap.{BTreeMap, get}

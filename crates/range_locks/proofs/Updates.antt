@@ -59,7 +59,7 @@ module _ (k : ℕ) (f : Counts) where
       by true = (refl, refl, omega arith, omega arith)
       by false = (refl, refl, omega arith, omega arith)
 
-  -- and what covers changes only where a lock begins or ends
+  -- and what covers changes only if a lock begins or ends
   pub with_end_still : IsStill f → IsStill (with_end k f)
   with_end_still still = record {
     first = λ none.

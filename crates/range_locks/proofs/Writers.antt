@@ -1,4 +1,5 @@
--- Of the held locks one writer at most covers an offset, and no lock beside it: so the writer that a part names tells what is covered.
+-- Of the held locks one writer at most covers an offset, and no lock beside it: so the writer that a part names tells
+-- what is covered.
 use Rattle.std.proofs.Common.{◌≡◌, ℕ, ◌<◌, ◌≤◌, ◌==◌, ◌&&◌, Bool, true, false, not, List, refl, ap, sym, ◌∙◌, arith, inl, inr}
 use Rattle.std.specs.Prelude.{Some, None, Option, slice_get, nat_lt, nat_le}
 use Rattle.std.specs.List.{find, list_any}

@@ -72,7 +72,7 @@ HasNoParts table = (k : ℕ) → get nat_cmp table k ≡ None
 abbrev pub Becomes : BTreeMap ℕ Part → (Counts → Counts) → BTreeMap ℕ Part → Type 0
 Becomes old change new = (f : Counts) → IsTable old f → IsTable new (change f)
 
--- what covers an offset changes only where a lock begins or ends
+-- what covers an offset changes only if a lock begins or ends
 pub record IsStill (f : Counts) : Type 0 where
   pub first : (f 0).ends ≡ 0 → ((f 0).readers ≡ 0) × ((f 0).writer ≡ None)
   pub next : (k : ℕ) → (f (k + 1)).ends ≡ 0 → ((f (k + 1)).readers ≡ (f k).readers) × ((f (k + 1)).writer ≡ (f k).writer)
@@ -88,7 +88,7 @@ with_end offset f k = if k == offset then record (f k) { ends = (f k).ends + 1 }
 abbrev pub without_end : ℕ → Counts → Counts
 without_end offset f k = if k == offset then record (f k) { ends = (f k).ends - 1 } else f k
 
--- what a lock changes of the parts that it covers, as it is granted and as it is let go
+-- what a lock changes of the parts that it covers, as it is granted and as it is released
 abbrev pub change_of_grant : LockId → Mode → Change
 change_of_grant id Reader = ReaderCame
 change_of_grant id Writer = WriterCame id

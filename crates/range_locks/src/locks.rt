@@ -1,7 +1,7 @@
 //! The table of held range locks (`zfs_rlock.c`).
 //!
-//! Locks are named by the number of grants before them, so no name is used twice, and are held in order of grant. Of two
-//! held locks that overlap, whoever owns them, both are of readers.
+//! Locks are named by the number of grants before them, so no name is used twice, and are held in order of grant. Of
+//! two held locks that overlap, whoever owns them, both are of readers.
 
 ghost use Rattle.std.specs.Prelude.{◌≡◌, [], IsOk, IfOk, IfErr, OnOk, OnErr, IsSome, ◌↔◌};
 ghost use Rattle.std.specs.List.{list_any};
@@ -62,8 +62,9 @@ impl RangeLocks {
     ///
     /// # Errors
     /// In this order: `BadRange` where the number is above that of the pool's name, or the range is not one that may be
-    /// locked; `Busy` exactly where it overlaps a held lock and not both are of readers; `TooMany` where 256 locks are held or
-    /// the next name is past the last one; `NoMemory` where a growth of the table is refused. Then nothing has changed.
+    /// locked; `Busy` exactly if it overlaps a held lock and not both are of readers; `TooMany` where 256 locks are
+    /// held or the next name is past the last one; `NoMemory` where a growth of the table is refused. Then nothing has
+    /// changed.
     pub fn lock(
         &mut self,
         owner: Owner,
@@ -102,8 +103,8 @@ impl RangeLocks {
     /// length is the object's, `None` where there is no such object.
     ///
     /// # Errors
-    /// In this order: `BadRange` where the number is no object's, `NoObject` where the object has no length, `BadRange` where
-    /// its length is the greatest, and then as `lock`.
+    /// In this order: `BadRange` where the number is no object's, `NoObject` where the object has no length, `BadRange`
+    /// where its length is the greatest, and then as `lock`.
     pub fn lock_append(
         &mut self,
         owner: Owner,

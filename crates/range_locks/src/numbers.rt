@@ -63,7 +63,7 @@ impl Numbers {
         Ok(())
     }
 
-    /// One lock fewer covers a range. A number without parts is let go. It takes no memory.
+    /// One lock fewer covers a range. A number without parts is released. It takes no memory.
     pub fn remove(&mut self, range: &ObjectRange, mode: Mode)
         requires ordered { range.now.range.low ≤ range.now.range.high }
         requires counted { IfSome (parts_of self.old.parts range.now.object.0)

@@ -1,8 +1,8 @@
 //! The held ranges of one number, cut at the ends of its locks.
 //!
-//! Each offset where a lock begins or ends is a key, with what lies from there to the next one: a piece, or a gap that no
-//! lock covers. So a lock or an unlock touches its own two ends and the ends between them, and two pieces are joined where
-//! the last lock that begins or ends between them is let go.
+//! Each offset where a lock begins or ends is a key, with what lies from there to the next one: a piece, or a gap that
+//! no lock covers. So a lock or an unlock touches its own two ends and the ends between them, and two pieces are joined
+//! where the last lock that begins or ends between them is released.
 
 ghost use Rattle.std.specs.Prelude.{ℕ, ◌≡◌, ◌+◌, ◌<◌, ◌≤◌, ◌↔◌, true, false, None, Some, IfSome, IfNone, IfOk, OnOk, OnErr, IfErr, IsTrue};
 ghost use Rattle.std.specs.BTreeMap.{get};
@@ -57,7 +57,7 @@ impl Change {
         }
     }
 
-    /// What a lock of this mode changes as it is let go.
+    /// What a lock of this mode changes as it is released.
     fn of_release(mode: Mode) -> Change
         ensures { result ≡ change_of_release mode }
     {

@@ -1,8 +1,8 @@
 //! The held locks by name, in order of grant.
 //!
-//! A lock that is let go leaves its place empty, so that those behind it needn't move. Where there are twice as many places
-//! as locks may be held, the empty ones are swept out: these are at least half of them, so on average a lock costs the same
-//! however many are held.
+//! A lock that is released leaves its place empty, so that those after it needn't move. Where there are twice as many
+//! places as locks may be held, the empty ones are swept out: these are at least half of them, so on average a lock
+//! costs the same however many are held.
 
 ghost use Rattle.std.specs.Prelude.{◌≡◌, ◌+◌, ◌<◌, ◌≤◌, ◌^◌, [], ◌∷◌, ◌++◌, length, IsSome, OnOk, nat_eq, filter, is_some};
 ghost use Rattle.std.specs.Iterator.{at_most};
@@ -21,7 +21,7 @@ use std::marker::Model;
 /// The held locks, and the name of the next one.
 #[derive(Debug, Drop)]
 pub(crate) struct HeldTable {
-    /// By name, rising: `None` is where a lock was let go.
+    /// By name, rising: `None` is where a lock was released.
     places: IndexMap<LockId, Option<HeldLock>>,
     /// How many are held.
     count: usize,

@@ -1,6 +1,6 @@
 -- What is left of a pool goes on over imports, steps and crashes.
-use Rattle.std.proofs.Common.{arith, ◌≡◌, ◌∙◌, inl, inr, ℕ, ◌++◌, List, [], ◌∷◌, length, refl, sym, ap, subst, append_assoc}
-use Rattle.std.specs.Prelude.{IfErr, IfOk, IsTrue, OnErr, Ok, Err}
+use Rattle.std.proofs.Common.{◌≡◌, ◌∙◌, inl, inr, ℕ, ◌++◌, List, [], ◌∷◌, length, refl, sym, ap, subst, append_assoc}
+use Rattle.std.specs.Prelude.{IfErr, IfOk, OnErr, Ok, Err}
 use Rattle.std.specs.Global.{Vec}
 use Rattle.std.proofs.Math.Logic.{∥∥₁_map}
 use Rattle.std.proofs.lemmas.List.{append-nil, nil_from_length}
@@ -8,116 +8,43 @@ use Rattle.std.specs.FinMap as finite
 use Rattle.std.specs.Ordering.{nat_cmp}
 use Rattle.base.specs.declared.step.Step as declared_step
 use Rattle.base.specs.declared.step.Reply as declared_reply
-use Rattle.base.specs.crash.CrashRule.{IsImportKept, IsImportMoment, IsOwnOnceFlushed, KeepsOwn}
+use Rattle.base.specs.crash.CrashRule.{KeepsOwn}
 use Rattle.base.specs.crash.Own.{IsOwnWith}
+use Rattle.base.specs.crash.LeftDisks.{GoesOnFrom, IsLeft}
 use Rattle.base.specs.declared.error.PoolError.{PoolError}
 use Rattle.base.specs.declared.error.PoolError.TheVariants.{Damaged, NoMemory, NoPool, NoSpace, TooMany}
 use Rattle.base.specs.declared.refused.RefusedCalls.{RefusedCalls}
 use Rattle.base.specs.declared.piece.Piece.{Piece}
-use Rattle.base.specs.crash.PoolViews.{IsPoolDisk}
 use Rattle.base.specs.disk.Calls.{with_refusal}
 use Rattle.base.specs.disk.Crashes.{crash_image}
-use Rattle.base.specs.disk.Disk.{Disk, MayLeave, Write, bytes_of, certain, certain_with, disk_size, moments, settled}
+use Rattle.base.specs.disk.Disk.{Disk, MayLeave, bytes_of, certain, moments}
 use Rattle.base.specs.disk.Fairness.{IsFairOn}
 use Rattle.base.specs.history.Contents.{Contents}
 use Rattle.base.specs.history.Past.{Past, new_past}
 use Rattle.base.specs.steps.Shown.{Shown}
 use Rattle.base.specs.steps.Explains.{IsLeftBy}
-use Rattle.base.specs.steps.Runs.{Run}
-use Rattle.base.proofs.crash.CrashRule.{own_certain}
-use Rattle.base.proofs.disk.Moments.{bytes_may_be_left, goes_on, joins, starts, weaker}
-use Rattle.base.proofs.steps.Additions.{step_grows}
+use Rattle.base.proofs.crash.LeftDisks.{IsLeftOnceFlushed, IsStillLeft, import_left, left_crashed, left_flushed}
+use Rattle.base.proofs.disk.Moments.{joins}
 use Rattle.device_model.specs.declared.device.SectorDevice.{Ghosts}
 use Rattle.object_maps.specs.ContentsShown.{contents_of}
 use Rattle.import_replay.specs.Creations.{IsNewPool}
 use Rattle.import_replay.specs.ImportRefusals.{CanImport, FindsOwn, IsImportRefusal, IsReason}
 use Rattle.import_replay.specs.Mounts.{shown_of_import}
 use Rattle.import_replay.specs.OwnCreations.{first_contents}
-use Rattle.import_replay.specs.RunStarts.{IsRunStart, StartsRun}
+use Rattle.import_replay.specs.RunStarts.{StartsRun}
 use Rattle.import_replay.specs.declared.mounted.Mounted.{Mounted}
 use Rattle.pool_core.specs.declared.state.PoolState.{PoolState}
 use Rattle.pool_core.specs.Calls.{counted_in_turn}
-use Rattle.pool_core.specs.KeptSafe.{BeginsSafe, IsKeptSafe, IsSafeStep, OnDisk, SafeOn, disk_of, on_disk}
-use Rattle.pool_core.specs.NewStates.{IsHeldAtFirst, first_past}
+use Rattle.pool_core.specs.KeptSafe.{IsKeptSafe, SafeOn, disk_of, on_disk}
 use Rattle.pool_core.specs.States.{shown, told}
+use Rattle.import_replay.proofs.OwnCreations.{new_left}
+use Rattle.pool_core.proofs.crash.LeftDisks.{steps_go_on, steps_same_create}
 use Rattle.pool_core.proofs.crash.SafeMoments.{kept_own}
-use Rattle.round_trip.specs.Crashes.{Answer, ComesTo, ComesToFrom, ComesToOfNew, GoesAsRound, GoesOnAs, GoesOnFrom, IsEndOf, IsFairEnd, IsLeft, IsOverFor, IsRefusedFrom, IsRefusedOfNew, IsRefusedOn, IsRound, IsRoundOver, Outcome, counted_in}
+use Rattle.round_trip.specs.Crashes.{Answer, ComesTo, ComesToFrom, ComesToOfNew, GoesAsRound, GoesOnAs, IsEndOf, IsFairEnd, IsOverFor, IsRefusedFrom, IsRefusedOfNew, IsRefusedOn, IsRound, IsRoundOver, Outcome, counted_in}
 use Rattle.round_trip.specs.Rounds.{IsOpened}
 use Rattle.round_trip.specs.declared.crashes.End.{End}
 use Rattle.round_trip.specs.declared.crashes.End.TheVariants.{Crash, GivenUp}
 use Rattle.round_trip.specs.declared.crashes.Round.{Round}
-
--- a disk that its pool alone wrote, with contents that a run left
-own_left : (disk : Disk) (past : Past) (guid : ℕ) (contents : Contents) → IsLeftBy past contents → IsOwnWith disk past.created guid contents → IsLeft past disk
-own_left disk past guid contents left own = (
-  guid,
-  record { began = own.began; left = record { bytes = own.left.bytes; each = λ image may fair. (contents, left, own.left.each image may fair) } },
-)
-
--- what a run left is the pool's own once it is flushed, with contents that the run left
-pub record IsLeftOnceFlushed (past : Past) (disk : Disk) : Type 0 where
-  pub guid : ℕ
-  pub contents : Contents
-  pub left : IsLeftBy past contents
-  pub own : IsOwnOnceFlushed disk past.created guid contents
-
-pub left_flushed : (past : Past) (disk : Disk) → IsLeft past disk → IsLeftOnceFlushed past disk
-left_flushed past disk (guid, run) =
-    let may : MayLeave disk.now (bytes_of disk.now) = bytes_may_be_left disk.now in
-    let fair : IsFairOn disk past.created (bytes_of disk.now) = run.left.bytes.fair in
-    let here = run.left.each (bytes_of disk.now) may fair in
-    record { guid = guid; contents = here.0; left = here.1; own = own_certain disk past.created guid here.0 (bytes_of disk.now) run.began may fair here.2 }
-
--- a fair crash leaves what the run left
-pub left_crashed : (past : Past) (disk : Disk) (image : List ℕ) → MayLeave disk.now image → IsFairOn disk past.created image → IsLeft past disk → IsLeft past (certain image disk)
-left_crashed past disk image may fair (guid, run) =
-    let here = run.left.each image may fair in
-    own_left (certain image disk) past guid here.0 here.1 (own_certain disk past.created guid here.0 image run.began may fair here.2)
-
-certain_goes_on : (disk : Disk) (image : List ℕ) → GoesOnFrom disk (certain image disk)
-certain_goes_on disk image = by_cases disk.now.unflushed
-  where
-    by_cases : (ws : List Write) → GoesOnFrom disk (certain_with image disk ws)
-    by_cases [] = starts (λ m. Unit {0}) disk tt
-    by_cases (w ∷ ws) = goes_on (λ m. Unit {0}) disk disk (settled image disk.now) (starts (λ m. Unit {0}) disk tt) tt
-
--- the disk of an import goes on from the one that it was handed
-import_goes_on : (old new : Disk) (created guid : ℕ) (contents : Contents) → IsImportKept old new created guid contents → GoesOnFrom old new
-import_goes_on old new created guid contents (inl same) = subst (λ (d : Disk). GoesOnFrom old d) (sym same) (starts (λ m. Unit {0}) old tt)
-import_goes_on old new created guid contents (inr steady) =
-    let flushed : Disk = certain (bytes_of old.now) old in
-    joins (λ m. Unit {0}) old flushed new (certain_goes_on old (bytes_of old.now))
-    (weaker (IsImportMoment _ created steady.phases.old steady.phases.new) (λ m. Unit {0}) flushed new (λ m here. tt) steady.phases.each)
-
-kept_left : (past : Past) (old new : Disk) → IsLeft past old → (f : IsLeftOnceFlushed past old) → IsImportKept old new past.created f.guid f.contents → IsLeft past new
-kept_left past old new was f (inl same) = subst (λ (d : Disk). IsLeft past d) (sym same) was
-kept_left past old new was f (inr steady) = own_left new past f.guid f.contents f.left steady.own
-
--- an import, whatever it answers, leaves what the run before it left
-pub record IsStillLeft (past : Past) (old new : Disk) : Type 0 where
-  pub goes_on : GoesOnFrom old new
-  pub left : IsLeft past new
-
-pub import_left : (past : Past) (old new : Disk) → IsLeft past old → KeepsOwn old new → IsStillLeft past old new
-import_left past old new was keeps =
-    let f = left_flushed past old was in
-    let kept = keeps past.created f.guid f.contents f.own in
-    record { goes_on = import_goes_on old new past.created f.guid f.contents kept; left = kept_left past old new was f kept }
-
--- the disk goes on over safe steps, and the past is of the same create
-pub steps_go_on : (ss : List declared_step.Step) (rs : List declared_reply.Reply) (old new : OnDisk) → Run IsSafeStep ss rs old new → GoesOnFrom old.disk new.disk
-steps_go_on [] [] old new same = subst (λ (x : OnDisk). GoesOnFrom old.disk x.disk) (sym same) (starts (λ m. Unit {0}) old.disk tt)
-steps_go_on (s ∷ ss) (r ∷ rs) old new (middle, one, rest) =
-    joins (λ m. Unit {0}) old.disk middle.disk new.disk (weaker _ (λ m. Unit {0}) old.disk middle.disk (λ m here. tt) one.were) (steps_go_on ss rs middle new rest)
-steps_go_on [] (r ∷ rs) old new h = absurd h
-steps_go_on (s ∷ ss) [] old new h = absurd h
-
-pub steps_same_create : (ss : List declared_step.Step) (rs : List declared_reply.Reply) (old new : OnDisk) → Run IsSafeStep ss rs old new → new.held.state.past.created ≡ old.held.state.past.created
-steps_same_create [] [] old new same = ap (λ (x : OnDisk). x.held.state.past.created) same
-steps_same_create (s ∷ ss) (r ∷ rs) old new (middle, one, rest) =
-    steps_same_create ss rs middle new rest ∙ (step_grows (Unit {0}) old.held.now s r old.held.state middle.held.state one.step).created
-steps_same_create [] (r ∷ rs) old new h = absurd h
-steps_same_create (s ∷ ss) [] old new h = absurd h
 
 -- the later past is of the same create
 same_create : (dirty_max moment : ℕ) (ss : List declared_step.Step) (answer : Answer) (past later : Past) (disk ended : Disk) → IsRoundOver dirty_max moment ss answer past later disk ended → later.created ≡ past.created
@@ -146,82 +73,50 @@ no_memory_on disk e none = (
 refused_on : (past : Past) (old : Disk) (e : PoolError) → IsLeft past old → FindsOwn old e → IsReason (bytes_of old.now) e → IsRefusedOn old e
 refused_on past old e was own reason = let f = left_flushed past old was in (reason, own past.created f.guid f.contents f.own)
 
--- An import that answered Ok begins a run, and the steps behind it are those of a round.
-module _ {Dev : Type 0} {G : Ghosts Dev} (keep : IsTrue G.keeps_model) (dirty_max : ℕ) (past : Past) (old : Disk) (m : Mounted) (state : PoolState Dev G)
-    (was : IsLeft past old) (kept : KeepsOwn old (disk_of state)) (starts_run : StartsRun old dirty_max (disk_of state) m) (shows : shown state ≡ shown_of_import m)
-    (limit : (shown_of_import m).dirty_max ≡ dirty_max) (sized : disk_size (disk_of state) ≡ m.geometry) (held : IsHeldAtFirst (told state)) (begins : BeginsSafe state) where
-  pub found : IsLeftOnceFlushed past old
-  found = left_flushed past old was
-
-  left_then : IsStillLeft past old (disk_of state)
-  left_then = import_left past old (disk_of state) was kept
-
-  pub run_start : IsRunStart past.created found.guid found.contents dirty_max m (disk_of state).now
-  run_start = starts_run past.created found.guid found.contents found.own
-
+-- The steps after an import that was not refused are those of a round.
+module _ {Dev : Type 0} {G : Ghosts Dev} (dirty_max : ℕ) (past : Past) (old : Disk) (m : Mounted) (state : PoolState Dev G) (f : IsLeftOnceFlushed past old) (begun : IsStillLeft past old (disk_of state))
+    (kept : IsKeptSafe (on_disk state (new_past f.contents past.created dirty_max))) (shows : shown state ≡ shown_of_import m) (contents_are : contents_of m.contents ≡ f.contents)
+    (moment : ℕ) (opened : IsOpened (bytes_of old.now) (told state).now moment) where
   abbrev first : Past
-  first = new_past (contents_of m.contents) past.created dirty_max
+  first = new_past f.contents past.created dirty_max
 
-  first_is : first_past (shown state) past.created ≡ first
-  first_is =
-      ap (λ (s : Shown). first_past s past.created) shows ∙ ap (λ (k : ℕ). new_past (contents_of m.contents) past.created k) limit
+  -- the steps replied
+  replied : (ss : List declared_step.Step) (end : PoolState Dev G) (replies : Vec declared_reply.Reply) → SafeOn ss replies.items state end → (later : Past) × IsRoundOver dirty_max moment ss (Ok replies) past later old (disk_of end) × IsLeft later (disk_of end)
+  replied ss end replies safe =
+      let run = safe first kept in
+      let made = run.1 in (
+        run.0,
+        record {
+          goes_on = joins (λ m. Unit {0}) old (disk_of state) (disk_of end) begun.goes_on (steps_go_on ss replies.items (on_disk state first) (on_disk end run.0) made);
+          steps = record {
+            base = f.contents;
+            left = f.left;
+            start = on_disk state first;
+            began_on = begun.goes_on;
+            kept = kept;
+            opened = opened;
+            at_first = record { mounted = m; shown_is = shows };
+            begins = refl;
+            shows = ap (λ (s : Shown). s.contents) shows ∙ contents_are;
+            end = on_disk end run.0;
+            made = made;
+            past_is = refl;
+            disk_is = refl;
+          };
+        },
+        ((shown end).guid, kept_own (on_disk end run.0) run.2),
+      )
 
-  pub safe_at_first : IsKeptSafe (on_disk state (first_past (shown state) past.created))
-  safe_at_first =
-      let laid : IsPoolDisk (disk_size (disk_of state)) (disk_of state).now (shown state) (first_past (shown state) past.created) =
-      subst (λ (n : ℕ). IsPoolDisk n (disk_of state).now (shown state) (first_past (shown state) past.created)) (sym sized)
-      (subst (λ (s : Shown). IsPoolDisk m.geometry (disk_of state).now s (first_past (shown state) past.created)) (sym shows)
-      (subst (λ (p : Past). IsPoolDisk m.geometry (disk_of state).now (shown_of_import m) p) (sym first_is) run_start.disk)) in
-      begins past.created held left_then.left.1.began laid
+  -- there was no memory for the replies
+  not_made : (ss : List declared_step.Step) (end : PoolState Dev G) (e : PoolError) → e ≡ NoMemory → end ≡ state → (later : Past) × IsRoundOver dirty_max moment ss (Err e) past later old (disk_of end) × IsLeft later (disk_of end)
+  not_made ss end e none same =
+      subst (λ (x : PoolState Dev G). (later : Past) × IsRoundOver dirty_max moment ss (Err e) past later old (disk_of x) × IsLeft later (disk_of x)) (sym same)
+      (past, record { goes_on = begun.goes_on; steps = (refl, no_memory_on old e none) }, begun.left)
 
-  safe_first : IsKeptSafe (on_disk state first)
-  safe_first = subst (λ (p : Past). IsKeptSafe (on_disk state p)) first_is safe_at_first
-
-  of_found : first ≡ new_past found.contents past.created dirty_max
-  of_found = ap (λ (c : Contents). new_past c past.created dirty_max) run_start.contents_are
-
-  pub safe_found : IsKeptSafe (on_disk state (new_past found.contents past.created dirty_max))
-  safe_found = subst (λ (p : Past). IsKeptSafe (on_disk state p)) of_found safe_first
-
-  -- of an import at a moment
-  module _ (moment : ℕ) (opened : IsOpened (bytes_of old.now) (told state).now moment) where
-    -- the steps replied
-    replied : (ss : List declared_step.Step) (end : PoolState Dev G) (replies : Vec declared_reply.Reply) → SafeOn ss replies.items state end → (later : Past) × IsRoundOver dirty_max moment ss (Ok replies) past later old (disk_of end) × IsLeft later (disk_of end)
-    replied ss end replies safe =
-        let run = safe first safe_first in
-        let made = run.1 in (
-          run.0,
-          record {
-            goes_on = joins (λ m. Unit {0}) old (disk_of state) (disk_of end) left_then.goes_on (steps_go_on ss replies.items (on_disk state first) (on_disk end run.0) made);
-            steps = record {
-              base = found.contents;
-              left = found.left;
-              start = on_disk state first;
-              began_on = left_then.goes_on;
-              kept = safe_first;
-              opened = opened;
-              at_first = record { mounted = m; shown_is = shows };
-              begins = of_found;
-              shows = ap (λ (s : Shown). s.contents) shows ∙ run_start.contents_are;
-              end = on_disk end run.0;
-              made = made;
-              past_is = refl;
-              disk_is = refl;
-            };
-          },
-          ((shown end).guid, kept_own (on_disk end run.0) run.2),
-        )
-
-    -- there was no memory for the replies
-    not_made : (ss : List declared_step.Step) (end : PoolState Dev G) (e : PoolError) → e ≡ NoMemory → end ≡ state → (later : Past) × IsRoundOver dirty_max moment ss (Err e) past later old (disk_of end) × IsLeft later (disk_of end)
-    not_made ss end e none same =
-        subst (λ (x : PoolState Dev G). (later : Past) × IsRoundOver dirty_max moment ss (Err e) past later old (disk_of x) × IsLeft later (disk_of x)) (sym same)
-        (past, record { goes_on = left_then.goes_on; steps = (refl, no_memory_on old e none) }, left_then.left)
-
-    pub over : (ss : List declared_step.Step) (end : PoolState Dev G) (answer : Answer) → IfOk answer (λ replies. SafeOn ss replies.items state end) → IfErr answer (λ e. e ≡ NoMemory) → OnErr answer (end ≡ state)
-        → (later : Past) × IsRoundOver dirty_max moment ss answer past later old (disk_of end) × IsLeft later (disk_of end)
-    over ss end (Ok replies) safe none same = replied ss end replies safe
-    over ss end (Err e) safe none same = not_made ss end e none same
+  pub over : (ss : List declared_step.Step) (end : PoolState Dev G) (answer : Answer) → IfOk answer (λ replies. SafeOn ss replies.items state end) → IfErr answer (λ e. e ≡ NoMemory) → OnErr answer (end ≡ state)
+      → (later : Past) × IsRoundOver dirty_max moment ss answer past later old (disk_of end) × IsLeft later (disk_of end)
+  over ss end (Ok replies) safe none same = replied ss end replies safe
+  over ss end (Err e) safe none same = not_made ss end e none same
 
 -- an import that was refused is a round without steps
 pub refused_over : (dirty_max moment : ℕ) (ss : List declared_step.Step) (e : PoolError) (past : Past) (old new : Disk) → IsLeft past old → KeepsOwn old new → FindsOwn old e → IsReason (bytes_of old.now) e → IsOverFor dirty_max moment ss (Err e) past old new
@@ -229,7 +124,8 @@ refused_over dirty_max moment ss e past old new was kept own reason =
     let l = import_left past old new was kept in
     ∣ (past, record { goes_on = l.goes_on; steps = (refl, refused_on past old e was own reason) }, l.left) ∣₁
 
--- the refused calls of a device after an import and a list of steps, of which there was no memory for the replies or each counted its own
+-- the refused calls of a device after an import and a list of steps, of which there was no memory for the replies or
+-- each counted its own
 pub run_counted : {S : Type 0} (calls : S → RefusedCalls) (answer : Answer) (old new : S) → IfOk answer (λ replies. calls new ≡ counted_in_turn replies.items (calls old)) → IfErr answer (λ e. e ≡ NoMemory)
     → OnErr answer (new ≡ old) → calls new ≡ counted_in answer (calls old)
 run_counted calls (Ok replies) old new count refused kept = count
@@ -269,7 +165,7 @@ given_round round answer past old ended is over = ∥∥₁_map over (λ o. reco
   goes_on = λ fair. o.2;
 })
 
--- the import behind the last round finds what is left
+-- the import after the last round finds what is left
 pub last_import : (dirty_max : ℕ) (past : Past) (old new : Disk) (m : Mounted) → IsLeft past old → KeepsOwn old new → StartsRun old dirty_max new m → (moment : ℕ) → IsOpened (bytes_of old.now) (bytes_of new.now) moment
     → ComesTo (Ok (contents_of m.contents, new)) [] [] past old
 last_import dirty_max past old new m was kept starts_run moment opened =
@@ -293,26 +189,11 @@ one_more items round left answers more answer all first old next these now gone 
     ))) in
     rw (now, append_assoc) (onward (answer ∷ rest) outcome whole)
 
--- where no round is left, they come to what the import behind them came to
+-- where no round is left, they come to what the import after them came to
 pub all_over : (all left : List Round) (answers : List Answer) (first now : Disk) (outcome : Outcome) → length left ≡ 0 → GoesOnAs all left answers first now → ComesToFrom outcome [] [] now → ComesToFrom outcome all answers first
 all_over all left answers first now outcome none onward last = rw (append-nil answers) at (onward [] outcome (rw (nil_from_length left none) last))
 
--- nothing happened in the past of a new pool, so its contents are what is left
-nothing_left : (contents : Contents) (created dirty_max : ℕ) → IsLeftBy (new_past contents created dirty_max) contents
-nothing_left contents created dirty_max = record {
-  marks = [];
-  cut = record { each = refl; closed = λ i j d earlier below. absurd (omega (arith, below)) };
-  acknowledged = λ k d below. absurd (omega (arith, below));
-  replayed = refl;
-}
-
--- so behind a create that began on the one disk and left the other
-pub new_left : (name : List ℕ) (guid : ℕ) (start made : Disk) → IsOwnWith made (moments start) guid (first_contents name) → IsLeft (new_past (first_contents name) (moments start) 0) made
-new_left name guid start made own =
-    let new : Contents = first_contents name in
-    own_left made (new_past new (moments start) 0) guid new (nothing_left new (moments start) 0) own
-
--- a new pool, and the rounds behind its create
+-- a new pool, and the rounds after its create
 pub comes_behind : (outcome : Outcome) (name : List ℕ) (guid moment : ℕ) (rounds : List Round) (answers : List Answer) (start made : Disk) → GoesOnFrom start made → IsNewPool (bytes_of made.now) name guid moment
     → IsOwnWith made (moments start) guid (first_contents name) → ComesToFrom outcome rounds answers made → ComesToOfNew outcome name guid moment rounds answers start
 comes_behind outcome name guid moment rounds answers start made on written own comes =

@@ -1,4 +1,5 @@
--- What a caller reads off rounds and plays: each step has a reply, each round an answer, and a pool that a run left is found.
+-- What a caller reads off rounds and plays: each step has a reply, each round an answer, and a pool that a run left is
+-- found.
 use Rattle.std.proofs.Common.{◌≡◌, ◌∙◌, inl, inr, ℕ, suc, List, [], ◌∷◌, length, refl, sym, ap, subst}
 use Rattle.std.specs.Coded.{Coded-set, coded_ℕ}
 use Rattle.std.proofs.lemmas.List.Elements.{All-head, All-tail}
@@ -13,7 +14,8 @@ use Rattle.base.specs.history.Past.{Past}
 use Rattle.base.specs.steps.Runs.{Run}
 use Rattle.pool_core.specs.KeptSafe.{IsSafeStep, OnDisk}
 use Rattle.round_trip.specs.Rounds.{HasMoment}
-use Rattle.round_trip.specs.Crashes.{Answer, ComesTo, ComesToOfNew, GoesOnFrom, IsFairEnd, IsLeft, IsOverFor, IsRefusedFrom, Outcome}
+use Rattle.base.specs.crash.LeftDisks.{GoesOnFrom, IsLeft}
+use Rattle.round_trip.specs.Crashes.{Answer, ComesTo, ComesToOfNew, IsFairEnd, IsOverFor, IsRefusedFrom, Outcome}
 use Rattle.round_trip.specs.declared.crashes.End.{End}
 use Rattle.round_trip.specs.declared.crashes.End.TheVariants.{GivenUp}
 use Rattle.round_trip.specs.declared.crashes.Round.{Round}
@@ -57,7 +59,7 @@ length-comes outcome (round ∷ rounds) (answer ∷ answers) past disk ends come
 length-comes outcome [] (answer ∷ answers) past disk ends comes = absurd comes
 length-comes outcome (round ∷ rounds) [] past disk ends comes = absurd comes
 
--- so have those behind the create of a pool
+-- so have those after the create of a pool
 pub length-comes_of_new : (outcome : Outcome) (name : List ℕ) (guid moment : ℕ) (rounds : List Round) (answers : List Answer) (start : Disk) → All (λ (r : Round). r.end ≡ GivenUp) rounds
     → ComesToOfNew outcome name guid moment rounds answers start → length answers ≡ length rounds
 length-comes_of_new outcome name guid moment rounds answers start ends comes = length-comes outcome rounds answers _ comes.made ends comes.comes

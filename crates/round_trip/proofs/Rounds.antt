@@ -97,7 +97,7 @@ module _ {Dev : Type 0} {G : Ghosts Dev} (keep : IsTrue G.keeps_model) where
       let next = led ss rs middle new rest later held_then (still_none r before after past held (makes.leads keep) none) in
       record {
         later = next.later;
-        ran = (held_with after later, (t.over held, held_then), next.ran);
+        ran = (held_with after later, (t.over keep held, held_then), next.ran);
         held = next.held;
         no_log = next.no_log;
         base = next.base ∙ grows.base;

@@ -39,7 +39,8 @@ pub record HasMoment (now : List ℕ) (moment : ℕ) : Type 0 where
   pub active : IsActive now u
   pub moment_is : u.moment ≡ moment
 
--- an import of the image at this moment left these bytes: their active uberblock has the moment, and is of the image's pool, four groups later
+-- an import of the image at this moment left these bytes: their active uberblock has the moment, and is of the image's
+-- pool, four groups later
 pub record IsOpened (image now : List ℕ) (moment : ℕ) : Type 0 where
   pub before : Uberblock
   pub was_active : IsActive image before
@@ -52,8 +53,8 @@ pub record IsJustMounted (s : Shown) : Type 0 where
   pub mounted : Mounted
   pub shown_is : s ≡ shown_of_import mounted
 
--- Contents that a pool leaves: the replay, over its base, of its entries up to a group. This is the synced one, or that of a sync
--- which runs.
+-- Contents that a pool leaves: the replay, over its base, of its entries up to a group. This is the synced one, or that
+-- of a sync which runs.
 pub record AreLeft (h : Held) (contents : Contents) : Type 0 where
   pub group : ℕ
   pub group_is : (group ≡ h.state.shown.line.synced) ⊎ (h.state.shown.line.syncing ≡ Some group)
@@ -64,9 +65,10 @@ pub record IsAllSynced (h : Held) : Type 0 where
   pub idle : h.state.shown.line.syncing ≡ None
   pub none_above : All (λ (e : Entry). e.group ≤ h.state.shown.line.synced) h.state.past.entries
 
--- A round over an image of the contents before, at a moment and with a limit: the image's pool is opened at this moment and shows the
--- contents at first, with this limit, no step made and a past in which nothing happened; the steps with these replies are a run of the definitions; and the bytes, which are given up, hold what the pool leaves. Where all is synced these are
--- the contents that are shown at the end.
+-- A round over an image of the contents before, at a moment and with a limit: the image's pool is opened at this moment
+-- and shows the contents at first, with this limit, no step made and a past in which nothing happened; the steps with
+-- these replies are a run of the definitions; and the bytes, which are given up, hold what the pool leaves. Where all
+-- is synced these are the contents that are shown at the end.
 pub record IsCleanRound (image : List ℕ) (before : Contents) (dirty_max moment : ℕ) (ss : List declared_step.Step) (rs : List declared_reply.Reply) (now : List ℕ) (after : Contents) : Type 0 where
   pub start : Held
   pub opened : IsOpened image start.now moment
@@ -102,7 +104,8 @@ pub record Play : Type 0 where
   pub dirty_max : ℕ
   pub moment : ℕ
 
--- from an image of a new pool a round with these steps and replies leaves the contents that the next import found, which left the last bytes
+-- from an image of a new pool a round with these steps and replies leaves the contents that the next import found,
+-- which left the last bytes
 pub record IsFoundAfter (p : Play) (ss : List declared_step.Step) (rs : List declared_reply.Reply) (found : Contents) (last : List ℕ) : Type 0 where
   pub image : List ℕ
   pub made : IsNewPool image p.name p.guid p.moment
@@ -112,6 +115,6 @@ pub record IsFoundAfter (p : Play) (ss : List declared_step.Step) (rs : List dec
   pub round : IsCleanRound image before p.dirty_max p.moment ss rs now found
   pub opened : IsOpened now last p.moment
 
--- a refusal of a play on a device of so many bytes: that of its create, or behind it of an import
+-- a refusal of a play on a device of so many bytes: that of its create, or after it of an import
 abbrev pub IsPlayRefusal : ℕ → List ℕ → ℕ → PoolError → Type 0
 IsPlayRefusal size name dirty_max e = IsCreateRefusal size name e ⊎ (CanCreate size name × ((found : ℕ) × IsImportRefusal found dirty_max e))

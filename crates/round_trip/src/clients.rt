@@ -1,5 +1,5 @@
-//! What callers rest on: one function for each promise of this crate's calls, proved from the contract of the call alone. So it
-//! is refused as soon as that contract says less.
+//! What callers rest on: one function for each promise of this crate's calls, proved from the contract of the call
+//! alone. So it is refused as soon as that contract says less.
 
 ghost use Rattle.std.specs.Prelude.{◌≡◌, ◌≢◌, All, IfErr, IfOk, length};
 ghost use Rattle.base.specs.disk.Crashes.{crash_image};
@@ -10,7 +10,7 @@ ghost use Rattle.base.specs.history.Past.{Past};
 ghost use Rattle.import_replay.specs.Creations.{first_uberblock};
 ghost use Rattle.base.specs.steps.Runs.{Run};
 ghost use Rattle.pool_core.specs.KeptSafe.{IsSafeStep, OnDisk};
-ghost use Rattle.round_trip.specs.Crashes.{GoesOnFrom, IsLeft};
+ghost use Rattle.base.specs.crash.LeftDisks.{GoesOnFrom, IsLeft};
 ghost use Rattle.round_trip.specs.declared.crashes.End.TheVariants.{GivenUp};
 ghost use Rattle.round_trip.specs.Rounds.{HasMoment, HoldsContents};
 
@@ -98,7 +98,8 @@ fn a_crash_leaves_its_pieces(
     pieces: Vec<Piece>,
 ) -> (Answer, MemDevice)
     ensures { (past : Past) → IsLeft past device.disk
-        → ∥ ((ended : Disk) × (result.1.disk ≡ certain (crash_image pieces.items ended.now) ended)) ∥₁ }
+        → ∥ ((ended : Disk)
+        × (result.1.disk ≡ certain (crash_image pieces.items ended.now) ended)) ∥₁ }
 {
     let only = Round {
         fault: None,
@@ -115,7 +116,8 @@ fn no_rounds_are_an_import(
     alloc: Global,
     device: MemDevice,
 ) -> Result<(Vec<Answer>, Imported<MemDevice>), PoolError>
-    ensures found { (past : Past) → IsLeft past device.disk → IfErr result (λ e. e ≢ PoolError.NoPool) }
+    ensures found { (past : Past) → IsLeft past device.disk
+        → IfErr result (λ e. e ≢ PoolError.NoPool) }
     ensures moment { IfOk result (λ r. HasMoment (bytes_of r.1.device.disk.now) 7) }
 {
     go_rounds(alloc, device, 1_048_576, 7, Vec::new(alloc))

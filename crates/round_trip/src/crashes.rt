@@ -1,9 +1,10 @@
-//! A client of the pool with crashes: rounds of an import and steps, each ended by a crash or by giving the device up.
+//! A client of the pool with crashes: rounds of an import and steps, each ended by a crash or by giving the device
+//! up.
 //!
-//! In a round the device may refuse one call, of the import or of a step, and the round goes on as its caller finds it: a
-//! refused import is a round without steps, and a pool that is suspended refuses the steps that are left. Then the power
-//! goes, or the device is handed to the next import with what is unflushed on it. Whatever comes, what the last import
-//! mounts is told by what each round acknowledged, round upon round.
+//! In a round the device may refuse one call, of the import or of a step, and the round goes on as its caller finds
+//! it: a refused import is a round without steps, and a pool that is suspended refuses the steps that are left. Then
+//! the power goes, or the device is handed to the next import with what is unflushed on it. The last
+//! import then mounts a cut of the rounds, with all that each round acknowledged.
 
 ghost use Rattle.std.specs.Prelude.{◌≡◌, ◌⊎◌, IfErr, IfOk, IsTrue};
 ghost use Rattle.base.specs.disk.Disk.{bytes_of, disk_size};
@@ -11,7 +12,8 @@ ghost use Rattle.base.specs.history.Past.{Past};
 ghost use Rattle.object_maps.specs.ContentsShown.{contents_of};
 ghost use Rattle.import_replay.specs.CreateRefusals.{IsCreateRefusal};
 ghost use Rattle.import_replay.specs.ImportRefusals.{IsImportRefusal};
-ghost use Rattle.round_trip.specs.Crashes.{FindsCutsFrom, FindsCutsOfNew, IsLeft, IsOverFor, IsRefusedFrom, IsRefusedOfNew, IsRound, IsRoundsOfNewRefusal, IsRoundsRefusal, counted_in, with_fault};
+ghost use Rattle.base.specs.crash.LeftDisks.{IsLeft};
+ghost use Rattle.round_trip.specs.Crashes.{FindsCutsFrom, FindsCutsOfNew, IsOverFor, IsRefusedFrom, IsRefusedOfNew, IsRound, IsRoundsOfNewRefusal, IsRoundsRefusal, counted_in, with_fault};
 ghost use Rattle.round_trip.specs.Rounds.{HasMoment};
 
 use crate::{make, open};
@@ -36,18 +38,20 @@ pub enum End {
 /// One round of a pool.
 #[derive(Debug, Drop, PartialEq, Eq)]
 pub struct Round {
-    /// The n-th such call of the device in this round fails, where there is a fault.
+    /// The n-th such call of the device in this round fails, if there is a fault.
     pub fault: Option<(Fault, u64)>,
     /// The limit of the bytes that may be dirty.
     pub dirty_max: u64,
-    /// The moment that the import stores in its uberblocks.
+    /// The moment, in seconds, that the import stores in its uberblocks.
     pub moment: u64,
+    /// The steps after the import.
     pub steps: Vec<Step>,
+    /// How the round ends.
     pub end: End,
 }
 
-/// Imports the pool on a device, makes steps, and gives the device up: the import and the steps of a round. Its answer is a
-/// refusal where the import was refused, or there was no memory for the replies; no step was made then.
+/// Imports the pool on a device, makes steps, and returns the device: the import and the steps of a round. The answer
+/// is a refusal if the import was refused, or if there was no memory for the replies. No step was made then.
 pub fn import_and_run<D: SectorDevice>(
     alloc: Global,
     device: D,
@@ -70,7 +74,7 @@ pub fn import_and_run<D: SectorDevice>(
     }
 }
 
-/// Goes one round, and gives the device for the next one.
+/// Goes one round, and returns the device for the next one.
 pub fn go_round(
     alloc: Global,
     mut device: MemDevice,
@@ -106,10 +110,10 @@ pub(crate) fn plan_fault(device: &mut MemDevice, fault: Option<(Fault, u64)>)
     }
 }
 
-/// Goes rounds, one upon the other, and imports the pool behind the last one.
+/// Goes rounds, one upon the other, and imports the pool after the last one.
 ///
 /// # Errors
-/// `NoMemory` where there is none for the answers; else those of the last import. The device is let go.
+/// `NoMemory` if there is none for the answers; else those of the last import. The device is dropped.
 pub fn go_rounds(
     alloc: Global,
     device: MemDevice,
@@ -135,10 +139,10 @@ pub fn go_rounds(
     Ok((answers, imported))
 }
 
-/// Makes a pool, goes these rounds, and imports the pool behind the last one.
+/// Makes a pool, goes these rounds, and imports the pool after the last one.
 ///
 /// # Errors
-/// Those of `create`, and those of `go_rounds`. The device is let go.
+/// Those of `create`, and those of `go_rounds`. The device is dropped.
 pub fn play_rounds(
     alloc: Global,
     device: MemDevice,

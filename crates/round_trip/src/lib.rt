@@ -1,8 +1,9 @@
-//! A client of the pool: what one run leaves on its device is what the next import finds, without any crash and with crashes.
+//! A client of the pool: what one run leaves on its device is what the next import finds, without any crash and with
+//! crashes.
 //!
-//! It shows that the contracts of `create`, `import`, `PoolState::new`, `run`, `into_device` and `MemDevice::crash` fit
-//! together: each function here is a few of these calls, and its clauses follow from theirs. Those of this file go on without
-//! any crash.
+//! It shows that the contracts of `create`, `import`, `PoolState::new`, `run`, `into_device` and `MemDevice::crash`
+//! fit together: each function here is a few of these calls, and its clauses follow from theirs. Those of this file
+//! go on without any crash.
 #![tactic(auto)]
 
 ghost use Rattle.std.specs.Prelude.{◌≡◌, IfErr, IfOk, IsTrue, OnOk};
@@ -11,11 +12,12 @@ ghost use Rattle.base.specs.crash.Own.{IsOwnWith};
 ghost use Rattle.base.specs.disk.Disk.{bytes_of, moments};
 ghost use Rattle.import_replay.specs.CreateRefusals.{CanCreate, IsCreateRefusal};
 ghost use Rattle.import_replay.specs.Creations.{IsNewPool};
-ghost use Rattle.import_replay.specs.ImportRefusals.{CanImport, FindsOwn, IsImportRefusal, IsReason};
+ghost use Rattle.import_replay.specs.ImportRefusals.{FindsOwn, IsImportRefusal, IsReason};
+ghost use Rattle.import_replay.specs.Mounts.{IsMountedAnew};
 ghost use Rattle.import_replay.specs.OwnCreations.{first_contents};
 ghost use Rattle.import_replay.specs.RunStarts.{StartsRun};
 ghost use Rattle.object_maps.specs.ContentsShown.{contents_of};
-ghost use Rattle.round_trip.specs.Crashes.{GoesOnFrom};
+ghost use Rattle.base.specs.crash.LeftDisks.{GoesOnFrom};
 ghost use Rattle.round_trip.specs.Rounds.{GoesRound, HoldsNew, IsFoundAfter, IsOpened, IsPlayRefusal, KeepsNoLog, ShowsHeld};
 
 mod clients;
@@ -28,10 +30,10 @@ use import_replay::{Imported, create, import};
 use pool_core::{PoolState, run};
 use std::alloc::Global;
 
-/// Makes a pool on a device.
+/// Makes a pool on a device, and returns the device. `moment` is in seconds.
 ///
 /// # Errors
-/// Those of `create`. The device is let go.
+/// Those of `create`. The device is dropped.
 pub fn make<D: SectorDevice + Drop>(
     device: D,
     name: &[u8],
@@ -56,10 +58,10 @@ pub fn make<D: SectorDevice + Drop>(
     }
 }
 
-/// Imports the pool on a device.
+/// Imports the pool on a device. `moment` is in seconds.
 ///
 /// # Errors
-/// Those of `import`. The device is let go.
+/// Those of `import`. The device is dropped.
 pub fn open<D: SectorDevice + Drop>(
     alloc: Global,
     device: D,
@@ -76,12 +78,10 @@ pub fn open<D: SectorDevice + Drop>(
         → IfOk result (λ i. KeepsOwn (D.disk device) (D.disk i.device)) }
     ensures starts { IsTrue D.keeps_model
         → IfOk result (λ i. StartsRun (D.disk device) dirty_max (D.disk i.device) i.mounted) }
-    ensures limit { IfOk result (λ i. i.mounted.dirty_max ≡ dirty_max) }
-    ensures made { OnOk result (CanImport (D.size device) dirty_max) }
+    ensures mounted { IfOk result (λ i. IsMountedAnew (D.size device) dirty_max i.mounted) }
     ensures refusal { IfErr result (λ e. IsImportRefusal (D.size device) dirty_max e) }
-    ensures reason { IsTrue D.keeps_model
-        → IfErr result (λ e. IsReason (bytes_of (D.disk device).now) e) }
-    ensures sound { IsTrue D.keeps_model → IfErr result (λ e. FindsOwn (D.disk device) e) }
+    ensures reason { IsTrue D.keeps_model → IfErr result
+        (λ e. IsReason (bytes_of (D.disk device).now) e × FindsOwn (D.disk device) e) }
 {
     match import(alloc, device, dirty_max, moment) {
         Ok(imported) => Ok(imported),
@@ -89,10 +89,10 @@ pub fn open<D: SectorDevice + Drop>(
     }
 }
 
-/// Imports the pool on a device, makes steps, and gives the device up with their replies.
+/// Imports the pool on a device, makes steps, and returns the device with their replies.
 ///
 /// # Errors
-/// Those of `import`, and `NoMemory` where there is none for the replies. The device is let go.
+/// Those of `import`, and `NoMemory` if there is none for the replies. The device is dropped.
 pub fn round<D: SectorDevice + Drop>(
     alloc: Global,
     device: D,
@@ -114,7 +114,7 @@ pub fn round<D: SectorDevice + Drop>(
 /// Makes a pool, goes one round with these steps, and imports the pool again.
 ///
 /// # Errors
-/// Those of `make`, `round` and `open`. The device is let go.
+/// Those of `make`, `round` and `open`. The device is dropped.
 pub fn play<D: SectorDevice + Drop>(
     alloc: Global,
     device: D,

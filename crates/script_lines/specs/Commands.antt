@@ -141,13 +141,15 @@ pub record ReadsPool {A : Type 0} (of : PoolCommand → A) (words : Words) (r : 
   pub sync : HasForm words (codes "sync") 1 → r ≡ Ok (of pool.Sync)
   pub step : ReadsStep (λ s. of (pool.Step s)) words r
 
--- what the words of a line that works on the device as it is are read as; a plan to fail is read where its words are those of one
+-- what the words of a line that works on the device as it is are read as; a plan to fail is read where its words are
+-- those of one
 pub record ReadsDeviceLine (words : Words) (r : Result Command LineError) : Type 0 where
   pub fail : HasForm words (codes "fail") 3 → IfOk r (IsFailOf (word words 1) (word words 2))
   pub fail_read : HasForm words (codes "fail") 3 → (fault : Fault) → word words 1 ≡ call_name fault → 0 < spelled_number (word words 2) → IsNumberBelow (2 ^ 64) (word words 2) → IsOk r
   pub pool : ReadsPool Pool words r
 
--- What the words of a line are read as. Where those of a create or a crash are good, it is read but for want of memory.
+-- What the words of a line are read as. Where those of a create or a crash are good, it is read except for want of
+-- memory.
 pub record ReadsWords (words : Words) (r : Result Command LineError) : Type 0 where
   pub create : HasForm words (codes "create") 3 → IfOk r (λ asked. (asked ≡ Create (word words 1) (spelled_number (word words 2)))
       × (0 < length (word words 1)) × IsNumberBelow (2 ^ 64) (word words 2))

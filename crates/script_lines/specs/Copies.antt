@@ -9,7 +9,7 @@ abbrev pub AreCopies : List ℕ → List ℕ → Type 0
 AreCopies copies bytes = (count : List ℕ) × (character : ℕ) × (copies ≡ count ++ 58 ∷ character ∷ [])
     × IsNumberBelow 338689 count × (0 < spelled_number count) × (bytes ≡ replicate (spelled_number count) character)
 
--- copies behind `@` (64), else the word's own bytes
+-- copies after `@` (64), else the word's own bytes
 abbrev pub IsContentOf : List ℕ → List ℕ → Type 0
 IsContentOf [] bytes = bytes ≡ []
 IsContentOf (first ∷ rest) bytes = (first ≡ 64 → AreCopies rest bytes) × (first ≢ 64 → bytes ≡ first ∷ rest)

@@ -3,7 +3,7 @@
 ghost use Rattle.std.specs.Prelude.{◌≡◌};
 
 use base::{Bytes, Group, PoolError, PoolName, Reply, Status};
-use device_model::MemDevice;
+use device_model::SectorDevice;
 use import_replay::Imported;
 use std::fmt;
 
@@ -25,8 +25,8 @@ pub enum Answer {
 impl Answer {
     ghost use Rattle.script_lines.specs.Answers.{imported_answer};
 
-    /// What is told of an imported pool: the group that its import synced, the open one behind it, and its log records.
-    pub fn imported(imported: &Imported<MemDevice>) -> Answer
+    /// The answer to an import: the group that it synced, the open one after it, and how many log records it replayed.
+    pub fn imported<D: SectorDevice>(imported: &Imported<D>) -> Answer
         ensures { result ≡ imported_answer imported.now.mounted }
     {
         let synced = imported.group();
@@ -61,7 +61,7 @@ impl fmt::Display for Answer {
 
 fn write_reply<W: fmt::Write>(reply: &Reply, f: &mut fmt::Formatter<W>) -> fmt::Result {
     match reply {
-        Reply::Refused(error) => write!(f, "refused {} {error}", error.number()),
+        Reply::Refused(error) => write_refusal(*error, f),
         Reply::Done => write!(f, "ok"),
         Reply::Locked(id) => write!(f, "lock {}", id.0),
         Reply::Appended(id, range) => write!(f, "lock {} {} {}", id.0, range.low, range.high),
@@ -82,6 +82,15 @@ fn write_reply<W: fmt::Write>(reply: &Reply, f: &mut fmt::Formatter<W>) -> fmt::
         Reply::More => write!(f, "more"),
         Reply::Synced(group) => write!(f, "synced {}", group.0),
     }
+}
+
+// The refusal's number and name, and what is damaged.
+fn write_refusal<W: fmt::Write>(error: PoolError, f: &mut fmt::Formatter<W>) -> fmt::Result {
+    write!(f, "refused {} {}", error.number(), error.name())?;
+    if let PoolError::Damaged { kind, address } = error {
+        write!(f, " {kind} {address}")?;
+    }
+    Ok(())
 }
 
 // The number of the bytes, and where there are any, each as two hexadecimal digits.

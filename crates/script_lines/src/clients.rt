@@ -1,5 +1,5 @@
-//! What callers rest on: one function for each promise of this crate's calls, proved from the contract of the call alone. So
-//! it is refused as soon as that contract says less.
+//! What callers rest on: one function for each promise of this crate's calls, proved from the contract of the call
+//! alone. So it is refused as soon as that contract says less.
 
 ghost use Rattle.std.specs.Prelude.{◌≡◌, ◌∷◌, [], IfErr, IfOk, IfSome, codes};
 ghost use Rattle.base.specs.declared.error.PoolError.TheVariants.{Throttled};
@@ -32,7 +32,7 @@ fn each_word_of_a_commit_has_its_bytes(alloc: Global) -> Option<Vec<Bytes>>
     }
 }
 
-// The group behind the mounted one is open, and there are no log records.
+// The group after the mounted one is open, and there are no log records.
 fn an_import_tells_its_group_and_the_next(imported: &Imported<MemDevice>) -> Answer
     requires { imported.now.mounted.group.0 ≡ 8 }
     ensures { result ≡ Answer.Imported (record { 0 = 8 }) (record { 0 = 9 }) 0 }

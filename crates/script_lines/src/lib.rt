@@ -1,4 +1,5 @@
-//! The lines of a script and its answers: a line is read as the command that it asks for, and an answer is printed as a line.
+//! The lines of a script and its answers: a line is read as the command that it asks for, and an answer is printed as
+//! a line.
 #![tactic(auto)]
 
 mod answer;

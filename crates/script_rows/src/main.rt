@@ -1,12 +1,11 @@
 //! Runs each script of its input on a session of its own and on a shared one, and prints the answers.
 //!
-//! A line `== SIZE MOMENT TITLE` begins a script. It is run on a device of SIZE bytes, and each uberblock gets this MOMENT.
-//! The line is printed again, then the answers once, then `== status S`. If the two sessions differ, the answers and the
-//! status of the shared one are printed too, after a line that says so.
+//! A line `== SIZE MOMENT TITLE` begins a script. It is run on a device of SIZE bytes, and each uberblock gets this
+//! MOMENT. The line is printed again, then the answers once, then `== status S`. If the two sessions differ, the
+//! answers and the status of the shared one are printed too, after a line that says so.
 #![tactic(auto)]
 
-use scripts::{run_script, run_script_on};
-use shared_scripts::SharedSession;
+use scripts::{SharedSession, run_script, run_script_on};
 use std::alloc::Global;
 use std::io::{self, BufRead, BufReader, BufWriter, ErrorKind, Print, Write};
 use std::sync::Wait;

@@ -1,4 +1,19 @@
+mod Asked
 mod CloseLines
-pub mod Kept
+mod CommandPlans
+mod CommandSteps
+mod InPools
+mod JoinedRuns
+mod KeptRuns
+mod LastLeft
+mod Named
+mod OnDevice
+mod OneTurn
+mod OpenPlans
+mod Opened
+pub mod OwnRuns
 mod PoolSteps
 mod Refusals
+mod Relations
+mod SharedRuns
+mod Taken

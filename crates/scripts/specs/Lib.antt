@@ -1,9 +1,13 @@
+pub mod Callers
 pub mod Devices
 pub mod Endings
 pub mod Fillings
 pub mod Kept
 pub mod Lines
+pub mod OwnPools
 pub mod Places
+pub mod Plans
 pub mod PoolSteps
-pub mod Pools
 pub mod Sessions
+pub mod SharedPools
+pub mod SharedRuns

@@ -1,4 +1,5 @@
--- The steps of a pool that a command makes. What a step with its reply makes of the pool is a relation, and so is what a command makes of it.
+-- The steps of a pool that a command makes. What a step with its reply makes of the pool is a relation, and so is what
+-- a command makes of it.
 use Rattle.std.specs.Prelude.{ℕ, zero, suc, ◌≡◌, ◌≢◌, ◌⊎◌, ◌-◌, ◌^◌, Bool, true, false, List, [], Option, option_and_then, unwrap_or}
 use Rattle.base.specs.declared.error.PoolError.TheVariants.{NoMemory}
 use Rattle.base.specs.declared.names.TxId.{TxId}
@@ -16,8 +17,8 @@ abbrev pub is_refused : Reply → Bool
 is_refused (Refused e) = true
 is_refused reply = false
 
--- the operations of a plan: its shapes with these bytes in order, and none where they are more or fewer than the plan takes, or there is no
--- plan
+-- the operations of a plan: its shapes with these bytes in order, and none where they are more or fewer than the plan
+-- takes, or there is no plan
 abbrev pub ops_for : List (List ℕ) → Option (List Shape) → List Op
 ops_for contents plan = unwrap_or (option_and_then (λ (shapes : List Shape). ops_of shapes contents) plan) []
 
@@ -32,7 +33,8 @@ module _ {P : Type 0} (Makes : Step → Reply → P → P → Type 0) where
   MakesSteps zero old new = new ≡ old
   MakesSteps (suc count) old new = (middle : P) × MakesSteps count old middle × Makes step.SyncStep More middle new
 
-  -- The steps of a sync up to the first that is answered otherwise, with its reply. The most that are made are 2^64 - 1.
+  -- The steps of a sync up to the first that is answered otherwise, with its reply. The most that are made are 2^64 -
+  -- 1.
   pub record Finishes (reply : Reply) (old new : P) : Type 0 where
     pub count : ℕ
     pub middle : P

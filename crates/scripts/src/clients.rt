@@ -1,24 +1,23 @@
-//! What callers rest on: one function for each promise of this crate's calls, proved from the contract of the call alone. So
-//! it is refused as soon as that contract says less.
+//! What callers rest on: one function for each promise of this crate's calls, proved from the contract of the call
+//! alone. So it is refused as soon as that contract says less.
 
-ghost use Rattle.std.specs.Prelude.{ℕ, ◌≡◌, ◌≢◌, ◌⊎◌, ◌∷◌, ◌-◌, ◌^◌, [], true, false, None, Some, Err, Ok, IfOk, IfSome, IsErr, IsOk, length};
+ghost use Rattle.std.specs.Prelude.{◌≡◌, ◌⊎◌, ◌∷◌, ◌-◌, ◌^◌, [], false, Some, Err, Ok, IsErr, length};
 ghost use Rattle.base.specs.declared.error.PoolError.TheVariants as error;
 ghost use Rattle.base.specs.declared.operation.Op.TheVariants as op;
 ghost use Rattle.base.specs.declared.operation.Shape.TheVariants as shape;
 ghost use Rattle.base.specs.declared.step.Reply.TheVariants as reply;
-ghost use Rattle.base.specs.declared.step.Step.TheVariants.{CloseGroup, StartSync};
+ghost use Rattle.base.specs.declared.step.Step.TheVariants.{StartSync};
 ghost use Rattle.base.specs.disk.Disk.{disk_size, moments};
 ghost use Rattle.base.specs.formats.Geometry.{IsGeometry};
 ghost use Rattle.device_model.specs.MemState.{after_crash};
-ghost use Rattle.pool_core.specs.States.{shown};
+ghost use Rattle.device_model.specs.contracts.memory.MemDeviceSectorDevice.TheImpl.{ghosts};
 ghost use Rattle.scripts.specs.Kept.{LeavesNew};
-ghost use Rattle.scripts.specs.Places.{AsksIn, has_device, has_pool};
+ghost use Rattle.scripts.specs.Places.{has_pool};
 ghost use Rattle.scripts.specs.PoolSteps.{CommitsOps, MakesSteps};
-ghost use Rattle.scripts.specs.Pools.{IsStepOf, MemPool};
 
+use crate::mounted_pool::FaultyPool;
 use crate::place::Place;
 use crate::pool_commands::run_pool_command;
-use crate::script::run_line;
 use crate::session::{BadCommand, Session, new_device};
 use crate::stepped_pool::SteppedPool;
 use base::{Bytes, Piece, PoolError, Reply, TxId};
@@ -26,8 +25,10 @@ use device_model::MemDevice;
 use script_lines::{Answer, Command, PoolCommand};
 use std::alloc::Global;
 
-// A command of a pool is a bad one where there is no pool, and leaves what is there.
-fn a_bad_command_leaves_the_device(session: &mut Session) -> Result<Answer, BadCommand>
+// A command of a pool is a bad one if there is no pool, and leaves what is there.
+fn a_bad_command_leaves_the_device<'r, R, P: FaultyPool<R>>(
+    session: &mut Session<'r, R, MemDevice, P>,
+) -> Result<Answer, BadCommand>
     requires { has_pool session.old.place ≡ false }
     ensures bad { IsErr result }
     ensures unchanged { session.new.place ≡ session.old.place }
@@ -35,48 +36,14 @@ fn a_bad_command_leaves_the_device(session: &mut Session) -> Result<Answer, BadC
     session.run(Command::Pool(PoolCommand::Start))
 }
 
-fn a_new_session_has_no_pool(alloc: Global) -> Result<Answer, BadCommand>
+fn a_new_session_has_no_pool<R, P: FaultyPool<R>>(
+    rt: &R,
+    alloc: Global,
+) -> Result<Answer, BadCommand>
     ensures { IsErr result }
 {
-    let mut session = Session::new(alloc, 8_388_608, 77);
+    let mut session: Session<'_, R, MemDevice, P> = Session::new(rt, alloc, 8_388_608, 77);
     session.run(Command::Pool(PoolCommand::Start))
-}
-
-// An import has the limit of its line, however large.
-fn an_import_has_its_limit(session: &mut Session) -> Result<Answer, BadCommand>
-    requires { has_device session.old.place ≡ true }
-    ensures { (pool : MemPool) → session.new.place ≡ Place.Pool pool
-        → (shown pool).dirty_max ≡ 2097152 }
-{
-    session.run(Command::Import {
-        dirty_max: 2_097_152,
-    })
-}
-
-// The line of a close makes that step of the session's pool and no other, or there is no memory for the line.
-fn a_close_line_closes_the_group(
-    alloc: Global,
-    session: &mut Session,
-) -> Result<Option<Answer>, BadCommand>
-    requires { has_pool session.old.place ≡ true }
-    ensures good { IsOk result }
-    ensures answered { result ≢ Ok None }
-    ensures closes { IfOk result (λ told. IfSome told (λ answer.
-        ((answer ≡ Answer.Reply (reply.Refused error.NoMemory)) × (session.new ≡ session.old))
-        ⊎ AsksIn (λ reply old new. IsStepOf CloseGroup reply old new)
-        session.old.place answer session.new.place)) }
-{
-    run_line(alloc, session, b"close")
-}
-
-// Where the same line is a bad one, it leaves what is there.
-fn a_bad_line_leaves_the_device(
-    alloc: Global,
-    session: &mut Session,
-) -> Result<Option<Answer>, BadCommand>
-    ensures { IsErr result → session.new.place ≡ session.old.place }
-{
-    run_line(alloc, session, b"close")
 }
 
 // A device of less than 6 MiB is none of a pool.
@@ -88,7 +55,7 @@ fn a_small_device_is_refused(alloc: Global) -> Result<MemDevice, PoolError>
 
 // A create of a good size and name is refused by the device alone.
 fn a_good_create_is_refused_by_the_device<P: Drop>(
-    place: &mut Place<P>,
+    place: &mut Place<MemDevice, P>,
     device: MemDevice,
 ) -> Answer
     requires { IsGeometry (disk_size device.disk) }
@@ -101,18 +68,18 @@ fn a_good_create_is_refused_by_the_device<P: Drop>(
 
 // A create leaves a new pool on a device that was written to before, too.
 fn a_create_on_a_used_device_leaves_a_new_pool<P: Drop>(
-    place: &mut Place<P>,
+    place: &mut Place<MemDevice, P>,
     device: MemDevice,
 ) -> Answer
     ensures { result ≡ Answer.Reply reply.Done
-        → LeavesNew (116 ∷ 97 ∷ 110 ∷ 107 ∷ []) (moments device.disk) place.new }
+        → LeavesNew ghosts (116 ∷ 97 ∷ 110 ∷ 107 ∷ []) (moments device.disk) place.new }
 {
     place.create(device, b"tank", 77, 0)
 }
 
 // A crash that loses the one unflushed write does so.
 fn a_crash_leaves_its_pieces<P: Drop>(
-    place: &mut Place<P>,
+    place: &mut Place<MemDevice, P>,
     device: MemDevice,
 ) -> Result<Answer, BadCommand>
     requires { length device.disk.now.unflushed ≡ 1 }
@@ -122,7 +89,7 @@ fn a_crash_leaves_its_pieces<P: Drop>(
     place.crash(device, &[Piece::Lose])
 }
 
-// A finish that tells that there are more steps made as many as it may.
+// A finish that replies that there are more steps made as many as it may.
 fn a_finish_goes_on_to_its_end<P: SteppedPool>(alloc: Global, pool: &mut P) -> Reply
     ensures { result ≡ reply.More → MakesSteps P.makes (2 ^ 64 - 1) pool.old pool.new }
 {

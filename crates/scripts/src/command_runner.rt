@@ -8,7 +8,7 @@ ghost use Rattle.scripts.specs.declared.session.BadCommand.{BadCommand};
 use crate::session::BadCommand;
 use script_lines::{Answer, Command};
 
-/// What runs the commands of a script, one after the other. `Session` is one.
+/// What runs the commands of a script, one after the other. A `Session` is one.
 pub trait CommandRunner {
     /// What a command with its answer makes of it.
     ghost runs: { Command → Self → Result Answer BadCommand → Self → Type 0 };
@@ -16,7 +16,7 @@ pub trait CommandRunner {
     /// Does what a command asks for.
     ///
     /// # Errors
-    /// `BadCommand` where there isn't what the command needs. A refusal of the pool is an answer.
+    /// `BadCommand` if there isn't what the command needs. A refusal of the pool is an answer.
     fn run(&mut self, command: Command) -> Result<Answer, BadCommand>
         ensures { runs command self.old result self.new };
 }

@@ -1,21 +1,35 @@
-//! Scripts for a pool in memory: a session that does what their lines ask for.
+//! Scripts for a pool: a session that does what their lines ask for.
 //!
-//! `run_script` reads a script line by line, has each command done on a `Session`, and prints the answers; `run_script_on`
-//! has them done on whatever runs commands. The lines and the answers are those of `script_lines`.
+//! `run_script` reads a script line by line, has each command done on a session that owns its pool, and prints the
+//! answers; `run_script_on` has them done by whatever runs commands, as a session whose pool is under a lock. The
+//! lines and the answers are those of `script_lines`.
 #![tactic(auto)]
 
+mod begun_plans;
 mod clients;
 mod command_runner;
+mod device_clients;
+mod device_session;
+mod imports;
+mod mounted_pool;
+mod own_clients;
+mod own_pool;
 mod place;
+mod pool_caller;
 mod pool_commands;
 mod script;
 mod session;
+mod shared_clients;
+mod shared_pool;
 mod stepped_pool;
 
 pub use command_runner::CommandRunner;
+pub use device_session::{DeviceSession, FileSession};
+pub use mounted_pool::{FaultyPool, MountedPool};
 pub use place::Place;
 pub use pool_commands::run_pool_command;
 pub use script::{FAILED, run_script, run_script_on};
 pub use script_lines::{Answer, Command, LineError, PoolCommand, parse_command};
-pub use session::{BadCommand, Session, new_device};
+pub use session::{BadCommand, OwnSession, Session, SharedSession, new_device};
+pub use shared_pool::SharedPool;
 pub use stepped_pool::SteppedPool;

@@ -30,8 +30,8 @@ pub fn run_pool_command<P: SteppedPool>(
     }
 }
 
-// Commits with the bytes that the script gives. Where there is no such transaction, or they are not one for each write and
-// set name of its plan, the pool is given no operations, which no plan has, so that it refuses them in its own order.
+// Commits with the bytes that the script gives. If there is no such transaction, or its plan takes another number of
+// bytes, the commit has no operations. Each plan has at least one, so the pool refuses the commit in its own order.
 fn commit<P: SteppedPool>(alloc: Global, pool: &mut P, tx: TxId, contents: Vec<Bytes>) -> Reply
     ensures { CommitsOps P.makes tx (ops_for contents.items (P.plan_in tx pool.old))
         result pool.old pool.new }
@@ -94,7 +94,7 @@ fn make_ops<P: SteppedPool>(
     }
 }
 
-// The operations of a plan with these bytes for its writes and names, in order; none where there are not as many.
+// The operations of a plan with these bytes for its writes and names, in order; none if there are not as many.
 fn fill_plan(alloc: Global, shapes: &[Shape], contents: Vec<Bytes>) -> Result<Ops, AllocError>
     ensures { IfOk result (λ ops. ops ≡ unwrap_or (ops_of shapes.now contents.items) []) }
 {

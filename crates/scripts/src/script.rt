@@ -6,13 +6,13 @@ ghost use Rattle.script_lines.specs.Letters.{is_silent};
 ghost use Rattle.scripts.specs.Lines.{RunsBadLine, RunsLine};
 
 use crate::command_runner::CommandRunner;
-use crate::session::{BadCommand, Session};
+use crate::session::{BadCommand, OwnSession};
 use base::PoolError;
 use script_lines::{Answer, LineError, parse_command};
 use std::alloc::Global;
 use std::io::{self, BufRead, BufReader, BufWriter, Read, Write};
 
-/// The status of a script that could not be read, or whose answers could not be written.
+/// The exit status if the script could not be read, or its answers could not be written.
 pub const FAILED: u8 = 3;
 
 /// How a script ended.
@@ -38,11 +38,11 @@ fn status_of(ending: Ending) -> u8
 /// Runs a script on a device in memory of `size` div 512 sectors, and prints one line for each command.
 ///
 /// A line is a command, or empty, or begins with `#`; the last two print nothing, whatever bytes follow. A refusal is
-/// printed, and the script goes on. A line that is no command, also one that is no UTF-8, prints `line N: bad command` and
-/// ends it.
+/// printed, and the script continues. A line that is no command, also one that is no UTF-8, prints `line N: bad
+/// command` and ends it.
 ///
-/// It answers the status to end with: 0 where the script was done, 2 at a line that is no command, 3 where the reader or
-/// the writer failed, and then nothing more is printed.
+/// Returns the exit status: 0 if the script ran to its end, 2 after a line that is no command, and 3 if the reader or
+/// the writer failed. Nothing more is printed after a failure.
 pub fn run_script<R: Read + Drop, W: Write + Drop>(
     alloc: Global,
     size: u64,
@@ -53,10 +53,11 @@ pub fn run_script<R: Read + Drop, W: Write + Drop>(
     ensures range { result ≤ 3 }
     ensures no_refusal { result ≢ 1 }
 {
-    run_script_on(alloc, &mut Session::new(alloc, size, moment), script, out)
+    let mut session = OwnSession::new(&(), alloc, size, moment);
+    run_script_on(alloc, &mut session, script, out)
 }
 
-/// Runs a script as `run_script` does, with its commands done by this session, which may have done others before.
+/// Runs a script as `run_script` does, on this session, which may have run other commands before.
 pub fn run_script_on<S: CommandRunner, R: Read + Drop, W: Write + Drop>(
     alloc: Global,
     session: &mut S,
@@ -76,7 +77,7 @@ pub fn run_script_on<S: CommandRunner, R: Read + Drop, W: Write + Drop>(
         Ok(ending) => ending,
         Err(_) => Ending::Failed,
     };
-    // What the writer did not take is not handed to it again.
+    // Bytes that the writer refused are not written again.
     let _ = writer.into_parts();
     status_of(ending)
 }

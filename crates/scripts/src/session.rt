@@ -1,4 +1,7 @@
 //! The device and the pool that a script works on.
+//!
+//! A session has nothing, a device, or a pool that it imported from its device, and does with these what commands ask
+//! for. What kind of pool it mounts is a type parameter: one that the session steps itself, or one under a lock.
 
 ghost use Rattle.std.specs.Prelude.{◌≡◌, ◌*◌, ◌/◌, true, false, is_ok, is_some, IsTrue, IsOk, IsErr, IfErr, IfOk, IfSome, OnOk};
 ghost use Rattle.base.specs.formats.Geometry.{IsGeometry};
@@ -7,44 +10,151 @@ ghost use Rattle.device_model.specs.MemState.{new_state};
 ghost use Rattle.scripts.specs.Devices.{IsNewDeviceRefusal};
 
 use crate::command_runner::CommandRunner;
+use crate::mounted_pool::{FaultyPool, MountedPool};
 use crate::place::Place;
-use crate::pool_commands::run_pool_command;
+use crate::shared_pool::SharedPool;
 use base::{Bytes, Piece, PoolError, Reply};
-use device_model::{Fault, MemDevice};
-use import_replay::{Imported, import};
+use device_model::{Fault, MemDevice, SectorDevice};
 use labels::{Geometry, SECTOR_SIZE};
 use pool_core::PoolState;
 use script_lines::{Answer, Command, PoolCommand};
 use std::alloc::Global;
 use std::mem;
 
-/// A command that needs a device or a pool where there is none, or has more letters than there are writes.
+/// A command that needs a device or a pool and there is none, or has more letters than there are writes.
 #[derive(Clone, Copy, Debug, PartialEq, Eq)]
 pub struct BadCommand;
 
-/// A run of a script: its device in memory, and the pool that is imported from it.
-#[derive(Debug, Drop)]
-pub struct Session {
+/// A run of a script: its device, and the pool that is imported from it. Its pool's calls wait by an `R`, if they wait.
+#[derive(Drop)]
+pub struct Session<'r, R, D, P> {
+    rt: &'r R,
     alloc: Global,
     size: u64,
     moment: u64,
-    place: Place<PoolState<MemDevice>>,
+    place: Place<D, P>,
 }
 
-impl Session {
-    ghost use Rattle.script_lines.specs.Answers.{imported_answer};
-    ghost use Rattle.scripts.specs.Devices.{Creates, IfPool, Imports, IsImportedPool, device_for};
-    ghost use Rattle.scripts.specs.Kept.{BeginsKept, FindsLeft, IsFairCrash, IsLastRunIn, KeepsCuts, StartsKept};
-    ghost use Rattle.scripts.specs.Places.{AsksIn, PlansFault, has_device, has_pool, has_what_it_needs, is_crash};
-    ghost use Rattle.scripts.specs.PoolSteps.{Asks};
-    ghost use Rattle.scripts.specs.Pools.{IsPlannedOn, IsStepOf, device_in, open_plan};
-    ghost use Rattle.scripts.specs.Sessions.{Crashes, Does, IsNewSession, IsSameRun, Leaves};
+/// A session on a device in memory, which steps its pool itself. It never waits.
+pub type OwnSession<'r> = Session<'r, (), MemDevice, PoolState<MemDevice>>;
 
-    /// A session with no device yet. A new device has `size` div 512 sectors, and each uberblock this moment.
-    pub fn new(alloc: Global, size: u64, moment: u64) -> Self
+/// A session on a device in memory, whose pool is under a lock. Each step is made by the pool's only handle, which may
+/// wait.
+pub type SharedSession<'r, W> = Session<'r, W, MemDevice, SharedPool>;
+
+impl<'r, R, D: SectorDevice + Drop, P: MountedPool<D, R>> Session<'r, R, D, P> {
+    ghost use Rattle.scripts.specs.Kept.{GoesOn, IsRunIn};
+    ghost use Rattle.scripts.specs.Places.{AsksIn, IsTakenFrom, has_device, has_pool};
+    ghost use Rattle.scripts.specs.Sessions.{CreatesOnTaken, ImportsIn, IsSameRun};
+
+    /// A session on a device that is there. It makes no other.
+    pub(crate) fn on_device(rt: &'r R, alloc: Global, device: D, moment: u64) -> Self
+        ensures place { result.place ≡ Place.Device device }
+        ensures moment { result.moment ≡ moment }
+    {
+        Session {
+            rt,
+            alloc,
+            size: 0,
+            moment,
+            place: Place::Device(device),
+        }
+    }
+
+    /// Makes a pool on the device, if there is one.
+    pub(crate) fn create_on_device(&mut self, name: &Bytes, guid: u64) -> Result<Answer, BadCommand>
+        ensures needs { is_ok result ≡ has_device self.old.place }
+        ensures creates { IfOk result (λ told. CreatesOnTaken D.SectorDevice P.MountedPool
+            name.now guid self.old told self.new.place) }
+        ensures unchanged { IsErr result → self.new.place ≡ self.old.place }
+        ensures same_run { IsSameRun self.old self.new }
+    {
+        let Some(device) = self.take_device() else {
+            return Err(BadCommand);
+        };
+        let answer = self
+            .place
+            .create(device, name.as_slice(), guid, self.moment);
+        Ok(answer)
+    }
+
+    // The device, which then is no longer the session's. A pool on it is given up.
+    fn take_device(&mut self) -> Option<D>
+        ensures device { IsTakenFrom P.MountedPool self.old.place result }
+        ensures variant { is_some result ≡ has_device self.old.place }
+        ensures kept { IsTrue D.keeps_model → IfSome result (λ device. (past : Past)
+            → IsRunIn D.SectorDevice P.MountedPool past self.old.place
+            → P.left past (D.disk device)) }
+        ensures taken { self.new.place ≡ Place.Nothing }
+        ensures unchanged { is_some result ≡ false → self.new.place ≡ self.old.place }
+        ensures same_run { IsSameRun self.old self.new }
+    {
+        match mem::replace(&mut self.place, Place::Nothing) {
+            Place::Nothing => None,
+            Place::Device(device) => Some(device),
+            Place::Pool(pool) => Some(pool.unmount()),
+        }
+    }
+
+    pub(crate) fn import(&mut self, dirty_max: u64) -> Result<Answer, BadCommand>
+        ensures needs { is_ok result ≡ has_device self.old.place }
+        ensures left { has_device self.new.place ≡ has_device self.old.place }
+        ensures imports { IfOk result (λ told. ImportsIn D.SectorDevice P.MountedPool dirty_max
+            self.old.moment self.old.place told self.new.place) }
+        ensures unchanged { IsErr result → self.new.place ≡ self.old.place }
+        ensures same_run { IsSameRun self.old self.new }
+    {
+        let Some(device) = self.take_device() else {
+            return Err(BadCommand);
+        };
+        match P::import(self.alloc, device, dirty_max, self.moment) {
+            Ok((pool, answer)) => {
+                self.place = Place::Pool(pool);
+                Ok(answer)
+            }
+            Err((error, device)) => Ok(self.place.give_back(error, device)),
+        }
+    }
+
+    pub(crate) fn run_on_pool(&mut self, command: PoolCommand) -> Result<Answer, BadCommand>
+        ensures needs { is_ok result ≡ has_pool self.old.place }
+        ensures left { has_pool self.new.place ≡ has_pool self.old.place }
+        ensures asked { IfOk result (λ told. AsksIn
+            (P.asks command self.old.moment) self.old.place told self.new.place) }
+        ensures kept { IsTrue D.keeps_model → OnOk result ((past : Past)
+            → IsRunIn D.SectorDevice P.MountedPool past self.old.place
+            → GoesOn P.MountedPool past self.old.place self.new.place) }
+        ensures unchanged { IsErr result → self.new.place ≡ self.old.place }
+        ensures same_run { IsSameRun self.old self.new }
+    {
+        match mem::replace(&mut self.place, Place::Nothing) {
+            Place::Nothing => Err(BadCommand),
+            Place::Device(device) => {
+                self.place = Place::Device(device);
+                Err(BadCommand)
+            }
+            Place::Pool(pool) => {
+                let (pool, reply) = pool.run_command(self.rt, self.alloc, self.moment, command);
+                self.place = Place::Pool(pool);
+                Ok(Answer::Reply(reply))
+            }
+        }
+    }
+}
+
+impl<'r, R, P: FaultyPool<R>> Session<'r, R, MemDevice, P> {
+    ghost use Rattle.device_model.specs.contracts.memory.MemDeviceSectorDevice.TheImpl.{ghosts};
+    ghost use Rattle.scripts.specs.Kept.{IsRunIn, KeepsRun};
+    ghost use Rattle.scripts.specs.Places.{PlansFault, has_device, has_pool, has_what_it_needs, is_crash};
+    ghost use Rattle.scripts.specs.Sessions.{Crashes, Creates, Does, IsDeviceFor, IsNewSession, IsSameRun, Leaves};
+
+    /// A session with no device yet. A new device has `size` div 512 sectors, and each uberblock this moment, in
+    /// seconds since 1970.
+    pub fn new(rt: &'r R, alloc: Global, size: u64, moment: u64) -> Self
         ensures { IsNewSession size moment result }
     {
         Session {
+            rt,
             alloc,
             size,
             moment,
@@ -54,16 +164,19 @@ impl Session {
 
     /// Does what a command asks for.
     ///
+    /// Nothing changes the pool between two commands: a command's first step is made on what the command before left,
+    /// and a crash, an import or a create takes the device as the last command left it.
+    ///
     /// # Errors
-    /// `BadCommand` where it needs a device or an imported pool and there is none, or where a crash is given more letters
+    /// `BadCommand` if it needs a device or an imported pool and there is none, or if a crash is given more letters
     /// than there are unflushed writes. A refusal of the pool is an answer.
     pub fn run(&mut self, command: Command) -> Result<Answer, BadCommand>
         ensures needs { IsOk result → IsTrue (has_what_it_needs command self.old.place) }
         ensures answered { is_crash command ≡ false
             → is_ok result ≡ has_what_it_needs command self.old.place }
-        ensures left { Leaves command self.old result self.new }
-        ensures done { Does command self.old result self.new }
-        ensures kept { KeepsCuts command self.old result self.new }
+        ensures left { Leaves command self.old.place self.new.place }
+        ensures done { Does P.MountedPool P.plans command self.old result self.new }
+        ensures kept { KeepsRun P.MountedPool command self.old.place result self.new.place }
         ensures same_run { IsSameRun self.old self.new }
     {
         match command {
@@ -75,25 +188,10 @@ impl Session {
         }
     }
 
-    // The device, which then is no longer the session's. A pool on it is gone.
-    fn take_device(&mut self) -> Option<MemDevice>
-        ensures device { result ≡ device_in self.old.place }
-        ensures variant { is_some result ≡ has_device self.old.place }
-        ensures taken { self.new.place ≡ Place.Nothing }
-        ensures unchanged { is_some result ≡ false → self.new.place ≡ self.old.place }
-        ensures same_run { IsSameRun self.old self.new }
-    {
-        match mem::replace(&mut self.place, Place::Nothing) {
-            Place::Nothing => None,
-            Place::Device(device) => Some(device),
-            Place::Pool(pool) => Some(pool.into_device()),
-        }
-    }
-
     fn take_or_make_device(&mut self) -> Result<MemDevice, PoolError>
         ensures needs { IsErr result → has_device self.old.place ≡ false }
         ensures refused { IfErr result (IsNewDeviceRefusal self.old.size) }
-        ensures device { IfOk result (λ device. device ≡ device_for self.old) }
+        ensures device { IfOk result (IsDeviceFor P.MountedPool self.old) }
         ensures taken { self.new.place ≡ Place.Nothing }
         ensures same_run { IsSameRun self.old self.new }
     {
@@ -106,8 +204,7 @@ impl Session {
     fn create(&mut self, name: &Bytes, guid: u64) -> Answer
         ensures left { IsTrue (has_device self.old.place) → IsTrue (has_device self.new.place) }
         ensures no_pool { has_pool self.new.place ≡ false }
-        ensures creates { Creates name.now guid self.old result self.new.place }
-        ensures kept { StartsKept name.now (device_for self.old) result self.new.place }
+        ensures creates { Creates P.MountedPool name.now guid self.old result self.new.place }
         ensures same_run { IsSameRun self.old self.new }
     {
         match self.take_or_make_device() {
@@ -118,46 +215,12 @@ impl Session {
         }
     }
 
-    fn import(&mut self, dirty_max: u64) -> Result<Answer, BadCommand>
-        ensures needs { is_ok result ≡ has_device self.old.place }
-        ensures left { has_device self.new.place ≡ has_device self.old.place }
-        ensures imports { IfOk result (λ told. IfSome (device_in self.old.place)
-            (λ device. Imports dirty_max self.old.moment device told self.new.place)) }
-        ensures kept { IfOk result (λ told. (past : Past) → IsLastRunIn past self.old.place
-            → FindsLeft past dirty_max self.new.place) }
-        ensures unchanged { IsErr result → self.new.place ≡ self.old.place }
-        ensures same_run { IsSameRun self.old self.new }
-    {
-        let Some(device) = self.take_device() else {
-            return Err(BadCommand);
-        };
-        match import(self.alloc, device, dirty_max, self.moment) {
-            Ok(imported) => Ok(self.keep_pool(imported)),
-            Err((error, device)) => Ok(self.place.give_back(error, device)),
-        }
-    }
-
-    // Keeps an imported pool, and tells what it is.
-    fn keep_pool(&mut self, imported: Imported<MemDevice>) -> Answer
-        ensures pool { IfPool self.new.place (IsImportedPool imported.device imported.mounted) }
-        ensures begins { IfPool self.new.place BeginsKept }
-        ensures told { result ≡ imported_answer imported.mounted }
-        ensures same_run { IsSameRun self.old self.new }
-    {
-        let answer = Answer::imported(&imported);
-        self.place = Place::Pool(PoolState::new(imported));
-        answer
-    }
-
     fn crash(&mut self, pieces: &[Piece]) -> Result<Answer, BadCommand>
-        ensures crash { Crashes (device_in self.old.place) pieces.now result self.new.place }
-        ensures kept { (past : Past) → IsLastRunIn past self.old.place
-            → IfSome (device_in self.old.place) (IsFairCrash pieces.now past)
-            → IsLastRunIn past self.new.place }
         ensures needs { IsOk result → IsTrue (has_device self.old.place) }
         ensures left { has_device self.new.place ≡ has_device self.old.place }
-        ensures same_run { IsSameRun self.old self.new }
         ensures no_pool { has_pool self.new.place ≡ false }
+        ensures crashes { Crashes P.MountedPool pieces.now self.old.place result self.new.place }
+        ensures same_run { IsSameRun self.old self.new }
     {
         let Some(device) = self.take_device() else {
             return Err(BadCommand);
@@ -170,47 +233,31 @@ impl Session {
         ensures left { has_device self.new.place ≡ has_device self.old.place }
         ensures no_other { has_pool self.new.place ≡ has_pool self.old.place }
         ensures fails { IfOk result (λ told.
-            PlansFault (IsPlannedOn fault n) fault n self.old.place told self.new.place) }
+            PlansFault P.plans fault n self.old.place told self.new.place) }
+        ensures kept { (past : Past) → IsRunIn ghosts P.MountedPool past self.old.place
+            → IsRunIn ghosts P.MountedPool past self.new.place }
         ensures unchanged { IsErr result → self.new.place ≡ self.old.place }
-        ensures kept { (past : Past) → IsLastRunIn past self.old.place
-            → IsLastRunIn past self.new.place }
         ensures same_run { IsSameRun self.old self.new }
     {
-        match &mut self.place {
+        match mem::replace(&mut self.place, Place::Nothing) {
             Place::Nothing => Err(BadCommand),
-            Place::Device(device) => {
+            Place::Device(mut device) => {
                 device.fail(fault, n);
+                self.place = Place::Device(device);
                 Ok(Answer::Reply(Reply::Done))
             }
             Place::Pool(pool) => {
-                pool.fail(fault, n);
+                self.place = Place::Pool(pool.fail(self.rt, fault, n));
                 Ok(Answer::Reply(Reply::Done))
             }
-        }
-    }
-
-    fn run_on_pool(&mut self, command: PoolCommand) -> Result<Answer, BadCommand>
-        ensures needs { is_ok result ≡ has_pool self.old.place }
-        ensures left { has_pool self.new.place ≡ has_pool self.old.place }
-        ensures asked { IfOk result (λ told. AsksIn
-            (Asks IsStepOf open_plan command self.old.moment) self.old.place told self.new.place) }
-        ensures unchanged { IsErr result → self.new.place ≡ self.old.place }
-        ensures same_run { IsSameRun self.old self.new }
-    {
-        match &mut self.place {
-            Place::Pool(pool) => {
-                let reply = run_pool_command(self.alloc, pool, self.moment, command);
-                Ok(Answer::Reply(reply))
-            }
-            _ => Err(BadCommand),
         }
     }
 }
 
-impl CommandRunner for Session {
+impl<'r, R, P: FaultyPool<R>> CommandRunner for Session<'r, R, MemDevice, P> {
     ghost use Rattle.scripts.specs.Sessions.{Runs};
 
-    ghost runs = { Runs };
+    ghost runs = { Runs P.MountedPool P.plans };
 
     fn run(&mut self, command: Command) -> Result<Answer, BadCommand> {
         Session::run(self, command)
@@ -220,7 +267,7 @@ impl CommandRunner for Session {
 /// A device in memory of zeros, of `size` div 512 sectors.
 ///
 /// # Errors
-/// `BadGeometry` where no pool may have its size; `NoMemory`.
+/// `BadGeometry` if no pool may have its size; `NoMemory`.
 pub fn new_device(alloc: Global, size: u64) -> Result<MemDevice, PoolError>
     ensures device { IfOk result (λ device. device ≡ new_state (size / 512)) }
     ensures size { OnOk result (IsGeometry (512 * (size / 512))) }

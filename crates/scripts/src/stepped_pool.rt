@@ -8,7 +8,7 @@ ghost use Rattle.base.specs.declared.step.Reply.{Reply};
 ghost use Rattle.base.specs.declared.step.Step.{Step};
 
 use base::{Plan, Reply, Step, TxId};
-use device_model::MemDevice;
+use device_model::SectorDevice;
 use pool_core::PoolState;
 
 /// A pool of which a command makes steps, one at a time: one that a session owns, or one that it calls.
@@ -28,8 +28,8 @@ pub trait SteppedPool {
         ensures { option_map (λ p. p.now) result ≡ plan_in tx self.now };
 }
 
-impl SteppedPool for PoolState<MemDevice> {
-    ghost use Rattle.scripts.specs.Pools.{IsStepOf, open_plan};
+impl<D: SectorDevice> SteppedPool for PoolState<D> {
+    ghost use Rattle.scripts.specs.OwnPools.{IsStepOf, open_plan};
 
     ghost makes = { IsStepOf };
 

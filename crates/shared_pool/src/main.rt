@@ -1,23 +1,14 @@
-//! Four threads share a pool in memory: each makes an object and writes a line to it. Then the pool is synced, the power is lost,
-//! and what was synced is imported and read. With the argument `--times` it measures what a turn costs instead (`times`).
+//! Four threads share a pool in memory: each makes an object and writes a line to it. Then the pool is synced, the
+//! power is lost, and what was synced is opened again and read.
 #![tactic(auto)]
 
-mod times;
-
 use anyhow::{Context, Result};
-use base::{Bytes, MAX_LENGTH, Mode, ObjectId, Op, Ops, Owner, Plan, PoolError, Range, Receipt};
-use device_model::MemDevice;
-use import_replay::{create, import};
-use pool_core::{PoolState, Progress};
-use pool_threads::Pool;
 use std::alloc::Global;
-use std::env;
 use std::sync::Wait;
 use std::thread::{Threads, map_vec};
-
-const WHOLE: Range = Range {
-    low: 0,
-    high: MAX_LENGTH,
+use topzerad::{
+    Bytes, DEFAULT_DIRTY_MAX, MemDevice, Mode, ObjectId, Op, Ops, Owner, Pool, PoolError, Range,
+    Receipt, create,
 };
 
 /// The line of an owner, which goes into an object of its own.
@@ -53,26 +44,20 @@ const NOTES: [Note; 4] = [
 
 fn main(rt: HostRuntime) -> Result<()> {
     let alloc = rt.alloc();
-    if env::args(&rt)?.any(|word| word.as_str() == "--times") {
-        return times::time_turns(&rt, alloc);
-    }
     let pool = new_pool(alloc)?;
     let receipts = write_lines(&rt, alloc, &pool)?;
-    let mut pool = pool.close().context("a thread has the pool")?;
-    sync(&mut pool)?;
+    let mut state = pool.close().context("a thread has the pool")?;
+    let synced = state.sync_open_group(0)?;
     let mut ordinals: Vec<u64> = receipts
         .iter()
         .map(|receipt| receipt.ordinal.0)
         .collect(alloc)?;
     ordinals.sort_unstable();
-    println!(rt;
-        "ordinals {ordinals:?}, and group {} is synced",
-        pool.status().synced.0
-    )?;
-    let mut pool = mount(alloc, pool.into_device().crash(&[]))?;
+    println!(rt; "ordinals {ordinals:?}, and group {} is synced", synced.0)?;
+    // The power is lost: the device in memory keeps what was flushed.
+    let pool = mount(alloc, state.into_device().crash(&[]))?;
     for (note, receipt) in NOTES.iter().zip(receipts.as_slice()) {
-        pool.lock(note.owner, note.object, WHOLE, Mode::Reader)?;
-        let line = pool.read(note.owner, note.object, WHOLE)?;
+        let line = read_line(&rt, &pool, note)?;
         let (object, group) = (note.object.0, receipt.group.0);
         println!(rt;
             "object {object}, group {group}: {}",
@@ -82,17 +67,16 @@ fn main(rt: HostRuntime) -> Result<()> {
     Ok(())
 }
 
-// A pool of 8 MiB, to be shared. The limit of dirty bytes is a megabyte.
+// A pool of 8 MiB, to be shared.
 fn new_pool(alloc: Global) -> Result<Pool<MemDevice>, PoolError> {
-    let disk = MemDevice::new(alloc, 16_384)?;
-    let disk = create(disk, b"tank", 77, 0).map_err(|(error, _)| error)?;
-    Pool::open(alloc, disk, 1_048_576, 0).map_err(|(error, _)| error)
+    let disk = create(MemDevice::new(alloc, 16_384)?, b"tank", 77, 0)?;
+    mount(alloc, disk)
 }
 
-// The pool that a disk mounts, for one thread alone.
-fn mount(alloc: Global, disk: MemDevice) -> Result<PoolState<MemDevice>, PoolError> {
-    let imported = import(alloc, disk, 1_048_576, 0).map_err(|(error, _)| error)?;
-    Ok(PoolState::new(imported))
+// The pool on a disk, to be shared. The moment of its syncs is 0, since no clock is read.
+fn mount(alloc: Global, disk: MemDevice) -> Result<Pool<MemDevice>, PoolError> {
+    let pool = Pool::open(alloc, disk, DEFAULT_DIRTY_MAX, 0)?;
+    Ok(pool)
 }
 
 // Each line is written by a thread of its own. The receipts are in the order of the lines.
@@ -110,40 +94,22 @@ fn write_lines<R: Threads + Wait + Sync>(
     Ok(receipts)
 }
 
-// What a thread does: with a handle of its own it makes an object and writes a line to it, in one transaction. A create needs a
-// lock of the whole object.
+// What a thread does: with a handle of its own it makes an object and writes a line to it, in one transaction.
 fn write_line<W: Wait>(
     rt: &W,
     alloc: Global,
     pool: &Pool<MemDevice>,
     note: Note,
 ) -> Result<Receipt, PoolError> {
-    let Note {
-        owner,
-        object,
-        line,
-    } = note;
+    let line = Bytes::from_slice(alloc, note.line.as_bytes())?;
     let mut ops = Vec::new(alloc);
-    ops.push(Op::Create(object))?;
-    ops.push(Op::Write(object, 0, Bytes::from_slice(alloc, line.as_bytes())?))?;
-    let ops = Ops::new(ops);
-    let mut handle = pool.handle();
-    let lock = handle.lock(rt, owner, object, WHOLE, Mode::Writer)?;
-    let (tx, _) = handle.begin(rt, owner, Plan::of(alloc, &ops)?)?;
-    let receipt = handle.commit(rt, tx, ops)?;
-    handle.unlock(rt, owner, lock)?;
-    Ok(receipt)
+    ops.push(Op::Create(note.object))?;
+    ops.push(Op::Write(note.object, 0, line))?;
+    pool.handle().transact(rt, alloc, note.owner, Ops::new(ops))
 }
 
-// Closes the open group and syncs it. Each step makes one device call, and the last answers the group.
-fn sync(pool: &mut PoolState<MemDevice>) -> Result<(), PoolError> {
-    pool.close_group()?;
-    pool.mark_quiesced()?;
-    pool.start_sync(0)?;
-    for _ in 0..u64::MAX {
-        if let Progress::Synced(_) = pool.sync_step()? {
-            break;
-        }
-    }
-    Ok(())
+fn read_line<W: Wait>(rt: &W, pool: &Pool<MemDevice>, note: &Note) -> Result<Bytes, PoolError> {
+    let mut handle = pool.handle();
+    handle.lock(rt, note.owner, note.object, Range::WHOLE, Mode::Reader)?;
+    handle.read(rt, note.owner, note.object, Range::WHOLE)
 }

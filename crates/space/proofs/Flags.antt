@@ -30,7 +30,7 @@ none_below k (true ∷ flags) q low =
     ap (λ b. b || is_among q (addresses_from (k + 1) flags)) (other (block_address k) q ne) ∙ none_below (k + 1) flags q (omega arith)
 none_below k (false ∷ flags) q low = none_below (k + 1) flags q (omega arith)
 
--- a block's address is among the free ones exactly where its flag says so
+-- a block's address is among the free ones exactly if its flag says so
 among : (k : ℕ) (flags : List Bool) (i q : ℕ) → q ≡ block_address (k + i) → is_among q (addresses_from k flags) ≡ get_or flags i false
 unfolding addresses_from
 among k [] i q e = refl
@@ -64,7 +64,7 @@ from_among k (false ∷ flags) q e = one_more k false flags q (from_among (k + 1
 contains-is_among : (flags : List Bool) (q : ℕ) → set.contains (free_of flags) q ≡ is_among q (addresses_from 0 flags)
 contains-is_among flags q = contains-from_list_nat (addresses_from 0 flags) q
 
--- a block is free exactly where its flag says so
+-- a block is free exactly if its flag says so
 pub contains-free_of : (flags : List Bool) (i : ℕ) → set.contains (free_of flags) (block_address i) ≡ get_or flags i false
 contains-free_of flags i = contains-is_among flags (block_address i) ∙ among 0 flags i (block_address i) (omega arith)
 

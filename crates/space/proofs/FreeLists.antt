@@ -142,7 +142,7 @@ all_kept first k [] low = refl
 all_kept first k (true ∷ flags) low = rw (kept_at first k low) (ap (λ l. block_address k ∷ l) (all_kept first (k + 1) flags (omega arith)))
 all_kept first k (false ∷ flags) low = all_kept first (k + 1) flags (omega arith)
 
--- of the free addresses from a block on, those from a later block on are those of the flags behind it
+-- of the free addresses from a block on, those from a later block on are those of the flags after it
 some_kept : (k i first : ℕ) (flags : List Bool) → first ≡ k + i → filter (is_from first) (addresses_from k flags) ≡ addresses_from first (drop i flags)
 unfolding addresses_from
 some_kept k zero first flags is = let e : k ≡ first = omega (arith, is) in all_kept first k flags (omega (arith, is)) ∙ ap (λ j. addresses_from j flags) e

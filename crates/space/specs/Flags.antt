@@ -27,7 +27,7 @@ pub record IsFirstFree (first : ℕ) (flags : List Bool) (block : ℕ) : Type 0 
   pub free : get_or flags block false ≡ true
   pub lowest : AreTaken first block flags
 
--- the hint is at the lowest free block, or behind the last block where none is free
+-- the hint is at the lowest free block, or after the last block where none is free
 pub record IsHint (flags : List Bool) (hint : ℕ) : Type 0 where
   pub below : AreTaken 0 hint flags
   pub free : hint < length flags → get_or flags hint false ≡ true

@@ -8,8 +8,8 @@ use Rattle.base.specs.common.Rising.{rising}
 use Rattle.base.specs.formats.Geometry.{block_address, block_area, block_size, IsBlockAddress}
 use Rattle.base.specs.steps.Charges.{available_of}
 
--- how many blocks the area has, the addresses of the free ones, how many blocks the unsynced transactions have reserved, and how many the
--- syncing group has taken
+-- how many blocks the area has, the addresses of the free ones, how many blocks the unsynced transactions have
+-- reserved, and how many the syncing group has taken
 pub record FreeSpace : Type 0 where
   pub blocks : ℕ
   pub free : FinSet nat_cmp

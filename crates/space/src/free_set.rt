@@ -1,12 +1,12 @@
 //! The free blocks of a pool, and what is reserved of them (`metaslab.c`, `dsl_dir.c`).
 //!
-//! A flag for each block says whether it is free. Beside the flags stand counts that are kept with each change, and a hint:
-//! the lowest free block. Taking that block moves it up to the next free one, and giving a lower one moves it down. So the
-//! lowest free block is found at once, and a count is a look at a field.
+//! A flag for each block says whether it is free. Beside the flags stand counts that are kept with each change, and a
+//! hint: the lowest free block. Taking that block moves it up to the next free one, and giving a lower one moves it
+//! down. So the lowest free block is found at once, and a count is a look at a field.
 //!
-//! A transaction reserves the blocks that its sync may take, before it begins. They stay reserved until its group is synced.
-//! What the syncing group has taken is counted apart, for it is in its own reservation: the blocks that are available are
-//! those that are free, but for what is reserved and not yet taken.
+//! A transaction reserves the blocks that its sync may take, before it begins. They stay reserved until its group is
+//! synced. What the syncing group has taken is counted apart, for it is in its own reservation: the blocks that are
+//! available are those that are free, except what is reserved and not yet taken.
 
 ghost use Rattle.std.specs.Prelude.{◌≡◌, ◌+◌, ◌<◌, ◌≤◌, ◌∷◌, [], ◌↔◌, IsErr, IsTrue, IfErr, IfNone, IfOk, IfSome, OnErr, OnOk, false, get_or, length};
 ghost use Rattle.std.specs.FinSet as set;
@@ -18,12 +18,13 @@ use base::PoolError;
 use std::alloc::{AllocError, Global};
 use std::marker::Model;
 
-/// Which blocks are free, by their index in the block area, how many are reserved, and how many the syncing group has taken.
+/// Which blocks are free, by their index in the block area, how many are reserved, and how many the syncing group has
+/// taken.
 #[derive(Debug, Drop)]
 pub struct FreeSet {
     // whether the block of each index is free
     flags: Vec<bool>,
-    // the lowest free block, or the number of blocks where none is free
+    // the lowest free block, or the number of blocks if none is free
     hint: usize,
     // how many blocks are free
     free: u64,
@@ -46,7 +47,7 @@ impl Model for FreeSet {
 }
 
 impl FreeSet {
-    /// All of so many blocks are free, and nothing is reserved. It is refused where there is no memory.
+    /// All of so many blocks are free, and nothing is reserved. It is refused if no memory is left.
     pub fn new(alloc: Global, blocks: usize) -> Result<Self, AllocError>
         ensures blocks { IfOk result (λ set. set.blocks ≡ blocks) }
         ensures all { IfOk result (λ set. HasAllOf blocks set.free) }
@@ -77,8 +78,8 @@ impl FreeSet {
         self.free
     }
 
-    /// How many of the free blocks no unsynced transaction may still ask for: all but those that are reserved and that the
-    /// syncing group has not taken.
+    /// How many of the free blocks no unsynced transaction may still ask for: all but those that are reserved and that
+    /// the syncing group has not taken.
     pub fn available(&self) -> u64
         ensures count { result ≡ available_in self.now }
         ensures within { result ≤ set.len self.now.free }
@@ -94,7 +95,7 @@ impl FreeSet {
         is_set(&self.flags, block)
     }
 
-    /// The lowest free block from this one on. `None` where there is none, or where the set has no such block.
+    /// The lowest free block from this one on. `None` if there is none, or if the set has no such block.
     pub fn next_from(&self, first: usize) -> Option<usize>
         ensures within { IfSome result (λ block. block < self.now.blocks) }
         ensures from { IfSome result (λ block. first ≤ block) }
@@ -134,7 +135,7 @@ impl FreeSet {
     /// The lowest free block is taken, and answered. It takes no memory.
     ///
     /// # Errors
-    /// `NoSpace` exactly where no block is free. Then nothing has changed.
+    /// `NoSpace` exactly if no block is free. Then nothing has changed.
     pub fn take_lowest(&mut self) -> Result<usize, PoolError>
         ensures lowest { IfOk result (IsLowestFree self.old) }
         ensures taken { IfOk result (λ block. self.new ≡ after_take block self.old) }
@@ -155,7 +156,7 @@ impl FreeSet {
     /// reservation, and stay available. It takes no memory.
     ///
     /// # Errors
-    /// `NoSpace` exactly where both together are more than are available. Then nothing has changed.
+    /// `NoSpace` exactly if both together are more than are available. Then nothing has changed.
     pub fn reserve(&mut self, count: u64, kept_back: u64) -> Result<(), PoolError>
         ensures refused { IsErr result ↔ IsTrue (is_short count kept_back self.old) }
         ensures error { IfErr result (λ e. e ≡ PoolError.NoSpace) }
@@ -187,8 +188,8 @@ impl FreeSet {
         self.taken += 1;
     }
 
-    /// The syncing group is synced: what it had reserved is reserved no more, and it counts no block as taken. The blocks stay
-    /// taken. It takes no memory.
+    /// The syncing group is synced: what it had reserved is reserved no more, and it counts no block as taken. The
+    /// blocks stay taken. It takes no memory.
     pub fn end_sync(&mut self, reserved: u64)
         requires { reserved ≤ self.old.reserved }
         ensures { self.new ≡ after_sync_end reserved self.old }
@@ -206,7 +207,7 @@ fn is_set(flags: &[bool], block: usize) -> bool
     block < flags.len() && flags[block]
 }
 
-// The hint at the lowest free block, or behind the last block where none is free. No block below the given hint is free.
+// The hint at the lowest free block, or after the last block if none is free. No block below the given hint is free.
 fn raised(flags: &[bool], hint: usize) -> usize
     requires { AreTaken 0 hint flags.now }
     ensures { IsHint flags.now result }

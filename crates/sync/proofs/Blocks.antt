@@ -102,7 +102,7 @@ blocks_written base image run sound made = record {
       out k b below at_b (subst (λ (u : Target). IsInRange u.place u.size i) (sym same) here));
 }
 
--- the flush behind the blocks
+-- the flush after the blocks
 pub flush_stands : (run : SyncRun) → slice_get (calls_of run) (vec_len run.blocks) ≡ Some Flush
 flush_stands run =
     others_stand (vec_len run.blocks) (is_some run.stages) (first_labels run.stages) (last_labels run.stages) (vec_len run.blocks) 0 (omega arith) ∙ by_cases run.stages
@@ -143,7 +143,7 @@ last_cleans run call before after last at makes =
     let same : call ≡ Flush = cc in
     flush_cleans run before after (subst (λ (d : DeviceCall). MakesCall run d before (Ok tt) after) same makes)
 
--- behind the flush that follows the blocks no byte of the block area is unflushed
+-- after the flush that follows the blocks no byte of the block area is unflushed
 pub blocks_settled : (run : SyncRun) (m : Moment) → IsSound run → HasPending run m → vec_len run.blocks < run.done
     → (i : ℕ) → block_area ≤ i → i < block_area + block_size * block_count run.geometry → IsTouched m.unflushed i → ⊥
 blocks_settled run m sound pending behind i from to touched =

@@ -48,7 +48,7 @@ block_stands count staged first last k below =
     ∙ slice_get-get_or (blocks_in_order count) k Flush inside
     ∙ ap (λ (call : DeviceCall). Some call) (get_or-map-range_with_len (λ k. Block k) 0 count k k Flush below (omega arith))
 
--- the others stand behind them
+-- the others stand after them
 pub others_stand : (count : ℕ) (staged : Bool) (first last : List ℕ) (place position : ℕ) → count + position ≡ place → slice_get (calls_in_order count staged first last) place ≡ slice_get (calls_in_order 0 staged first last) position
 others_stand count staged first last place position at =
     ap (λ (calls : List DeviceCall). slice_get calls place) (blocks_first count staged first last)

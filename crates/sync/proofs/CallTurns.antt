@@ -1,5 +1,6 @@
--- Which call is next, by how many were made: before the uberblocks a block, a config of the first stage or a flush, and a flush last; then the
--- uberblock of each label, and a flush; behind them a config of another label than that of the new view, or a flush.
+-- Which call is next, by how many were made: before the uberblocks a block, a config of the first stage or a flush, and
+-- a flush last; then the uberblock of each label, and a flush; after them a config of another label than that of the
+-- new view, or a flush.
 use Rattle.std.proofs.Common.{◌≡◌, ◌⊎◌, inl, inr, ℕ, zero, suc, ◌+◌, ◌-◌, ◌<◌, List, [], ◌∷◌, Option, Some, None, refl, sym, ◌∙◌, ap, subst, arith, vec_len}
 use Rattle.std.specs.Prelude.{◌≢◌, slice_get, is_some}
 use Rattle.std.proofs.lemmas.Bool.{cases_lt}
@@ -26,14 +27,14 @@ abbrev pub IsOtherLabel : Option LabelStages → ℕ → Type 0
 IsOtherLabel None label = ⊥
 IsOtherLabel (Some stages) label = label ≢ first_label stages.first
 
--- a call behind the uberblocks: a config of another label, or a flush
+-- a call after the uberblocks: a config of another label, or a flush
 abbrev pub IsBackCall : Option LabelStages → DeviceCall → Type 0
 IsBackCall stages (Block k) = ⊥
 IsBackCall stages (Config label) = (label < 4) × IsOtherLabel stages label
 IsBackCall stages (Uberblock label) = ⊥
 IsBackCall stages Flush = Unit {0}
 
--- the call of a place behind the blocks, where the uberblocks begin at the place `before`
+-- the call of a place after the blocks, where the uberblocks begin at the place `before`
 abbrev pub IsTurn : Option LabelStages → ℕ → ℕ → DeviceCall → Type 0
 IsTurn stages before place call =
     ((place < before) × IsFrontCall stages call × (place + 1 ≡ before → call ≡ Flush))
@@ -73,7 +74,7 @@ module _ (s : Option LabelStages) (a b c d : ℕ) (is_a : IsFrontCall s (Config 
   staged_turn (suc (suc (suc (suc (suc (suc (suc (suc (suc (suc (suc zero))))))))))) call at = let same : Flush ≡ call = cc in inr (inr (inr (omega arith, subst (IsBackCall s) same tt)))
   staged_turn (suc (suc (suc (suc (suc (suc (suc (suc (suc (suc (suc (suc p)))))))))))) call at = absurd (none_at p call at)
 
--- the call of each place behind the blocks
+-- the call of each place after the blocks
 behind_turn : (stages : Option LabelStages) (p : ℕ) (call : DeviceCall) → slice_get (calls_in_order 0 (is_some stages) (first_labels stages) (last_labels stages)) p ≡ Some call → IsTurn stages (1 + first_stage_calls stages) p call
 behind_turn None p call at = plain_turn p call at
 behind_turn (Some stages) p call at = by_first stages stages.first refl at

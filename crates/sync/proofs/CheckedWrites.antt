@@ -1,4 +1,5 @@
--- Each write of a sync is of a whole place that the format checks. So what a read gives stays fair at each moment of each call.
+-- Each write of a sync is of a whole place that the format checks. So what a read gives stays fair at each moment of
+-- each call.
 use Rattle.std.proofs.Common.{◌≡◌, inl, inr, ℕ, ◌+◌, ◌≤◌, length, Option, Some, None, Result, refl, sym, subst, arith}
 use Rattle.std.specs.Prelude.{IfSome}
 use Rattle.base.specs.declared.error.PoolError.{PoolError}

@@ -1,4 +1,5 @@
--- Each call of a sync keeps the phases: each of its moments is at rest on the old view, between the two, or at rest on the new one.
+-- Each call of a sync keeps the phases: each of its moments is at rest on the old view, between the two, or at rest on
+-- the new one.
 use Rattle.std.proofs.Common.{◌≡◌, ◌⊎◌, inl, inr, ℕ, ◌+◌, ◌<◌, ◌≤◌, List, length, Option, Some, None, Result, refl, sym, ◌∙◌, ap, subst, arith}
 use Rattle.std.specs.Prelude.{IfSome}
 use Rattle.std.proofs.lemmas.Bool.{cases_lt}
@@ -114,7 +115,7 @@ module _ (run : SyncRun) (sound : IsSound run) (call : DeviceCall) (next : IsNex
           ]
         ]
 
-    -- a call behind the uberblocks
+    -- a call after the uberblocks
     back_kept : (c : DeviceCall) → calls_before_slots run + 4 < run.done → IsBackCall run.stages c → MakesCall run c before r after → Kept
     back_kept c above is makes = by_call c is makes
       where

@@ -1,4 +1,4 @@
--- Behind the last flush in front of the uberblocks the new view is laid: its blocks stand, and its config.
+-- After the last flush in front of the uberblocks the new view is laid: its blocks stand, and its config.
 use Rattle.std.proofs.Common.{◌≡◌, ℕ, ◌+◌, ◌<◌, List, [], length, Option, Some, None, refl, sym, ◌∙◌, ap, subst, arith, vec_len}
 use Rattle.std.specs.Prelude.{slice_get, is_some}
 use Rattle.std.proofs.lemmas.Option.{slice_get_within}
@@ -30,7 +30,7 @@ new_label_below v (Some stages) = by_stage stages.first
     by_stage Even = omega arith
     by_stage Odd = omega arith
 
--- the first config of label stages is the second call behind the blocks
+-- the first config of label stages is the second call after the blocks
 first_config_at : (s : LabelStages) → slice_get (calls_in_order 0 (is_some (Some s)) (first_labels (Some s)) (last_labels (Some s))) 1 ≡ Some (Config (first_label s.first))
 first_config_at s = by_stage s.first
   where

@@ -1,4 +1,5 @@
--- What one call makes of the phase of a disk: a quiet write, a flush, or a write of the new uberblock, whatever the device answers.
+-- What one call makes of the phase of a disk: a quiet write, a flush, or a write of the new uberblock, whatever the
+-- device answers.
 use Rattle.std.proofs.Common.{◌≡◌, ◌⊎◌, inl, inr, ℕ, ◌+◌, ◌<◌, Bool, List, [], ◌∷◌, Result, Ok, Err, sym, ◌∙◌, ap, subst, arith}
 use Rattle.base.specs.declared.error.PoolError.{PoolError}
 use Rattle.base.specs.formats.Fields.{part, number_at}
@@ -18,7 +19,8 @@ use Rattle.base.proofs.crash.CallStages.{quiet_calls}
 use Rattle.sync.proofs.KeptWrites.{done_after}
 use Rattle.sync.specs.Phases.{SyncViews, HasPhase, IsBefore, IsBehind}
 
--- a write that could pass for no other config or log block of the new view than its own: of a block of a tree, or of its config
+-- a write that could pass for no other config or log block of the new view than its own: of a block of a tree, or of
+-- its config
 abbrev pub IsNewContent : ℕ → List ℕ → View → Type 0
 IsNewContent size content v = IsTreeContent content ⊎ ((content ≡ v.config) × (number_at content 0 ≡ 1))
 
@@ -137,7 +139,7 @@ module _ (v : SyncViews) (size : ℕ) where
           let each = each_first_flush (omega (arith, below)) flushes in
           (weaker (IsBefore v size) Phase old new (λ m b. inl b.rest.rest) each, first_after done r new.now below (latest (IsBefore v size) old new each))
 
-      -- that one: behind it the new view is laid
+      -- that one: after it the new view is laid
       pub last_flush : done + 1 ≡ before → Flushes old r new → (new.now.unflushed ≡ [] → bytes_of new.now ≡ bytes_of old.now → IsBefore v size new.now → IsLaidAt size v.created v.new_flushed config v.new new.now)
           → Keeps done r old new
       last_flush at flushes laid =
@@ -151,7 +153,7 @@ module _ (v : SyncViews) (size : ℕ) where
               subst (λ (n : ℕ). HasPhase v size before config n new.now) (sym at) (of_switching new.now (inl (b.rest, lies clean.0 clean.1 b)))
           by_answer (Err e) refused lies b = of_first done new.now (omega (arith, at)) b
 
-      -- quiet calls behind the uberblocks
+      -- quiet calls after the uberblocks
       pub behind_write : (place : ℕ) (content : List ℕ) → before + 4 < done → ((labels : FixedLabels) → labels.config ≡ config → IsQuiet size v.new_flushed labels v.new (Put place content)) → Writes old place content r new → Keeps done r old new
       behind_write place content above quiet writes =
           let each : EachMoment (IsBehind v size config) old new = each_write (IsBehind v size config) old old new place content r (starts (IsBehind v size config) old (has.behind above)) writes

@@ -1,4 +1,5 @@
--- A sync begins at rest on its old view, each moment since then is of one of its phases, and it ends at rest on its new view.
+-- A sync begins at rest on its old view, each moment since then is of one of its phases, and it ends at rest on its new
+-- view.
 use Rattle.std.proofs.Common.{◌≡◌, inl, ℕ, ◌+◌, ◌<◌, List, Option, Some, None, sym, ◌∙◌, subst, arith}
 use Rattle.base.specs.disk.Disk.{Disk, EachMoment, bytes_of}
 use Rattle.base.proofs.disk.Moments.{joins, starts}
@@ -20,7 +21,7 @@ begins_at_rest start v run none distinct leads before = record {
   each = starts (IsSyncPhase run v) start (inl before.rest.rest);
 }
 
--- the last call comes behind the uberblocks
+-- the last call comes after the uberblocks
 pub ends_at_rest : (start now : Disk) (v : SyncViews) (run : SyncRun) → run.done ≡ call_count run → HasPhasesSince start v run now → IsBehind v run.geometry (new_config_label v run.stages) now.now
 ends_at_rest start now v run all since = since.phase.behind (omega (arith, all, behind run.stages))
   where

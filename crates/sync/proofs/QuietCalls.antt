@@ -1,5 +1,5 @@
--- What a sync writes is what its place in the order asks: before its uberblocks and behind them writes that leave a view as it lies, between them
--- the uberblock of the new view.
+-- What a sync writes is what its place in the order asks: before its uberblocks and after them writes that leave a view
+-- as it lies, between them the uberblock of the new view.
 use Rattle.std.proofs.Common.{◌≡◌, inl, inr, ℕ, ◌+◌, ◌<◌, ◌≤◌, List, length, Option, Some, None, sym, ◌∙◌, ap, subst, arith}
 use Rattle.std.specs.Prelude.{◌≢◌, slice_get}
 use Rattle.base.specs.formats.Fields.{number_at}
@@ -82,7 +82,7 @@ module _ (base : List ℕ) (run : SyncRun) (sound : IsSound run) (v : SyncViews)
     other_label label None is = absurd is
     other_label label (Some stages) is = is
 
-    -- a write behind the uberblocks
+    -- a write after the uberblocks
     pub back_quiet : (call : DeviceCall) (t : Target) → IsBackCall run.stages call → target_of run call ≡ Some t → (labels : FixedLabels) → labels.config ≡ new_config_label v run.stages
         → IsQuiet run.geometry v.new_flushed labels v.new (Put t.place t.content)
     back_quiet (Block k) t within is labels fixed = absurd within

@@ -1,4 +1,5 @@
--- What a write of the new uberblock, and the flush behind the four, make of the phase of a disk, whatever the device answers.
+-- What a write of the new uberblock, and the flush after the four, make of the phase of a disk, whatever the device
+-- answers.
 use Rattle.std.proofs.Common.{◌≡◌, inl, inr, ℕ, ◌+◌, ◌<◌, ◌≤◌, Bool, true, false, List, [], ◌∷◌, length, Result, Ok, Err, refl, sym, ◌∙◌, ap, subst, arith}
 use Rattle.std.specs.Prelude.{◌≢◌}
 use Rattle.std.proofs.lemmas.Bool.{cases_lt}
@@ -45,7 +46,7 @@ module _ (v : SyncViews) (size before config : ℕ) (above : v.old.u.group < v.n
   size_of m (inl rest) = rest.0.rest.laid.firm.size_is
   size_of m (inr b) = b.between.old_laid.firm.size_is
 
-  -- what a slot's label has behind a good write of it
+  -- what a slot's label has after a good write of it
   slot_stands : (place : ℕ) (content : List ℕ) (m : Moment) (moment label : ℕ) → IsSlotCall size v.flushed v.new_flushed config v.fixed v.old v.new place content → Switching m → length content ≡ slot_size
       → place ≡ slot_place size label (slot_of v.new.u.group) → label ≡ 3 → part (bytes_of (wrote moment place content true m)) (slot_place size 3 (slot_of v.new.u.group)) slot_size ≡ v.new.slot
   slot_stands place content m moment label is switching short there last =
@@ -87,7 +88,7 @@ module _ (v : SyncViews) (size before config : ℕ) (above : v.old.u.group < v.n
       by_answer (Err e) (inl noted) = subst (λ (d : Disk). HasPhase v size before config done d.now) (sym noted) (refused_phase (written place content false old).now (between_then false))
       by_answer (Err e) (inr same) = subst (λ (d : Disk). HasPhase v size before config done d.now) (sym same) has
 
-  -- the flush behind the four
+  -- the flush after the four
   pub slot_flush : (done : ℕ) (r : Result (Unit {0}) PoolError) (old new : Disk) → HasPhase v size before config done old.now → done ≡ before + 4 → Flushes old r new → Keeps v size before config done r old new
   slot_flush done r old new has at flushes =
       (each_flush (Phase v size before config) old old new r (starts (Phase v size before config) old (inr (inl b.between))) flushes (λ p. inr (inr behind.rest.rest)), by_answer r flushes)

@@ -1,4 +1,5 @@
--- Which whole places spare what a view fixes: a block that its tree and its flushed log have not, the config of another label, another slot.
+-- Which whole places spare what a view fixes: a block that its tree and its flushed log have not, the config of another
+-- label, another slot.
 use Rattle.std.proofs.Common.{◌≡◌, ◌⊎◌, inl, inr, ℕ, zero, suc, ◌+◌, ◌<◌, ◌≤◌, List, [], ◌∷◌, length, refl, sym, subst, arith}
 use Rattle.std.specs.Prelude.{◌≢◌, slice_get, Some, None}
 use Rattle.std.proofs.lemmas.Bool.{cases_order}

@@ -33,7 +33,7 @@ each-at P [] k call each at = absurd (let no_way : None ≡ Some call = at in cc
 each-at P (c ∷ calls) zero call each at = let same : c ≡ call = cc in subst P same each.0
 each-at P (c ∷ calls) (suc k) call each at = each-at P calls k call each.1 at
 
--- the calls behind the blocks
+-- the calls after the blocks
 behind_in_labels : (stages : Option LabelStages) → AllByRecursion InLabels (calls_in_order 0 (is_some stages) (first_labels stages) (last_labels stages))
 behind_in_labels None = (tt, (omega arith, (omega arith, (omega arith, (omega arith, (tt, tt))))))
 behind_in_labels (Some stages) = by_stage stages.first
@@ -57,7 +57,7 @@ pub mapped : {A B : Type 0} (f : A → B) (o : Option A) (y : B) → option_map 
 mapped f None y is = absurd (let no_way : None ≡ Some y = is in cc)
 mapped f (Some x) y is = let same : f x ≡ y = cc in (x, refl, same)
 
--- the call behind a target
+-- the call after a target
 pub call_of_target : (run : SyncRun) (k : ℕ) (t : Target) → IsTarget (targets_of run) k t → (call : DeviceCall) × (slice_get (calls_of run) k ≡ Some call) × (target_of run call ≡ Some t)
 call_of_target run k t at = mapped (target_of run) (slice_get (calls_of run) k) (Some t) (sym (slice_get-map (target_of run) (calls_of run) k) ∙ at)
 
@@ -88,7 +88,7 @@ target_writable run sound (Uberblock label) t within is =
     subst (λ (u : Target). IsWritable run.geometry u.place u.size) same (slot-writable run.geometry label run.slot within sound.slot)
 target_writable run sound Flush t within is = absurd (let no_way : None ≡ Some t = is in cc)
 
--- Every write of a sync lies in the block area or behind the boot header of a label.
+-- Every write of a sync lies in the block area or after the boot header of a label.
 pub calls-writable : (run : SyncRun) → IsSound run → (k : ℕ) (t : Target) → IsTarget (targets_of run) k t → IsWritable run.geometry t.place t.size
 calls-writable run sound k t at =
     let (call, stands, is) = call_of_target run k t at in

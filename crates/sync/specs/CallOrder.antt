@@ -20,10 +20,10 @@ abbrev pub stage_after : Stage → Stage
 stage_after Even = Odd
 stage_after Odd = Even
 
--- the calls behind the blocks, without label stages
+-- the calls after the blocks, without label stages
 abbrev pub calls_behind_blocks : List DeviceCall
 calls_behind_blocks = calls_in_order 0 false [] []
 
--- the calls behind the blocks, with label stages
+-- the calls after the blocks, with label stages
 abbrev pub calls_behind_staged_blocks : Stage → List DeviceCall
 calls_behind_staged_blocks first = calls_in_order 0 true (labels_of first) (labels_of (stage_after first))

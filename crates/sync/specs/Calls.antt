@@ -44,7 +44,8 @@ block_target b = record { place = block_address b.index; size = block_size; cont
 abbrev pub config_target : ℕ → ℕ → LabelStages → Target
 config_target size label stages = record { place = config_place size label; size = block_size; content = stages.config }
 
--- A block is written at its address, a config into its label, the uberblock into its slot of a label. A flush writes nothing.
+-- A block is written at its address, a config into its label, the uberblock into its slot of a label. A flush writes
+-- nothing.
 abbrev pub target_among : (size : ℕ) (blocks : List PlannedBlock) (stages : Option LabelStages) (slot : ℕ) (uberblock : List ℕ) → DeviceCall → Option Target
 target_among size blocks stages slot uberblock (Block k) = option_map block_target (slice_get blocks k)
 target_among size blocks stages slot uberblock (Config label) = option_map (config_target size label) stages
@@ -85,7 +86,8 @@ refusal_of Flush = refusal.Flush
 abbrev pub TargetFits : SyncRun → DeviceCall → Type 0
 TargetFits run call = IfSome (target_of run call) (λ t. (length t.content ≡ t.size) × (t.place + t.size ≤ run.geometry))
 
--- The call that a sync makes next is made, on a device that keeps the model, and where it is refused, it is as what it is.
+-- The call that a sync makes next is made, on a device that keeps the model, and where it is refused, it is as what it
+-- is.
 pub record MakesNextCall (keeps : Type 0) (run : SyncRun) (answer : Result (Unit {0}) PoolError) (old new : Disk) : Type 0 where
   pub call : DeviceCall
   pub next : IsNextCall run call

@@ -9,7 +9,7 @@ use Rattle.sync.specs.Made.{BlocksWritten, HasDistinctBlocks, HasMade, HasPendin
 use Rattle.sync.specs.Phases.{SyncViews, LeadsViews, IsBefore, IsBehind, IsWrittenNext, HasPhasesSince, KeepsPhases, new_config_label}
 use Rattle.sync.specs.Runs.{SameSync, call_count}
 
--- all that a sync writes lies in the block area, or behind the boot header of a label
+-- all that a sync writes lies in the block area, or after the boot header of a label
 abbrev pub CallsAreWritable : Type 0
 CallsAreWritable = (run : SyncRun) → IsGeometry run.geometry → (k : ℕ) (t : Target) → IsTarget (targets_of run) k t → IsWritable run.geometry t.place t.size
 
@@ -21,7 +21,7 @@ SyncsBeginWithNothing = (base : List ℕ) (run : SyncRun) → run.done ≡ 0 →
 abbrev pub BlocksAreWritten : Type 0
 BlocksAreWritten = (base image : List ℕ) (run : SyncRun) → IsGeometry run.geometry → HasMade base run image → BlocksWritten base run.geometry run.blocks.items run.done image
 
--- behind the flush that follows its blocks no byte of the block area is unflushed
+-- after the flush that follows its blocks no byte of the block area is unflushed
 abbrev pub BlocksAreSettled : Type 0
 BlocksAreSettled = (run : SyncRun) (m : Moment) → IsGeometry run.geometry → HasPending run m → vec_len run.blocks < run.done
     → (i : ℕ) → block_area ≤ i → i < block_area + block_size * block_count run.geometry → IsTouched m.unflushed i → ⊥
@@ -36,7 +36,7 @@ abbrev pub SyncsKeepPhases : Type 0
 SyncsKeepPhases = (start before after : Disk) (v : SyncViews) (old new : SyncRun) → SameSync old new → KeepsWritten old new before.now after.now → KeepsPhases old new before after
     → HasPhasesSince start v old before → HasPhasesSince start v new after
 
--- behind its last call a sync is at rest on its new view
+-- after its last call a sync is at rest on its new view
 abbrev pub SyncsEndAtRest : Type 0
 SyncsEndAtRest = (start now : Disk) (v : SyncViews) (run : SyncRun) → run.done ≡ call_count run → HasPhasesSince start v run now → IsBehind v run.geometry (new_config_label v run.stages) now.now
 

@@ -1,5 +1,5 @@
 -- What a sync has written so far.
-use Rattle.std.specs.Prelude.{ℕ, ◌≡◌, ◌+◌, ◌*◌, ◌<◌, ◌≤◌, List, map, Option, Some, None, nat_eq, length, slice_get, slice_index}
+use Rattle.std.specs.Prelude.{ℕ, ◌≡◌, ◌+◌, ◌*◌, ◌<◌, ◌≤◌, List, [], map, Option, Some, None, nat_eq, length, slice_get, slice_index}
 use Rattle.std.specs.List.{IsDistinct}
 use Rattle.base.specs.formats.Fields.{part}
 use Rattle.base.specs.disk.Disk.{Moment, bytes_of, IsInRange, IsTouched}
@@ -7,6 +7,7 @@ use Rattle.base.specs.formats.Geometry.{block_address, block_area, block_count, 
 use Rattle.tree_plans.specs.declared.planner.PlannedBlock.{PlannedBlock}
 use Rattle.sync.specs.declared.run.SyncRun.{SyncRun}
 use Rattle.sync.specs.Calls.{Target, target_of, calls_of}
+use Rattle.sync.specs.Runs.{call_count}
 
 -- the targets of a sync's calls, in order; a flush has none
 abbrev pub targets_of : SyncRun → List (Option Target)
@@ -16,8 +17,8 @@ targets_of run = map (target_of run) (calls_of run)
 abbrev pub IsTarget : List (Option Target) → ℕ → Target → Type 0
 IsTarget targets k t = slice_get targets k ≡ Some (Some t)
 
--- Of these targets the first so many are written, and no other byte: each written target has its bytes, and each byte outside of
--- them is as in the base.
+-- Of these targets the first so many are written, and no other byte: each written target has its bytes, and each byte
+-- outside of them is as in the base.
 pub record AreWritten (base : List ℕ) (targets : List (Option Target)) (done : ℕ) (image : List ℕ) : Type 0 where
   pub size : length image ≡ length base
   pub each : (k : ℕ) (t : Target) → k < done → IsTarget targets k t → part image t.place t.size ≡ t.content
@@ -31,7 +32,8 @@ HasMade base run image = AreWritten base (targets_of run) run.done image
 abbrev pub HasDistinctBlocks : SyncRun → Type 0
 HasDistinctBlocks run = IsDistinct nat_eq (map (λ (b : PlannedBlock). b.index) run.blocks.items)
 
--- Of these targets the first so many are written. The byte lies in one of them, or in the next, and no flush came behind it.
+-- Of these targets the first so many are written. The byte lies in one of them, or in the next, and no flush came after
+-- it.
 pub record IsPending (targets : List (Option Target)) (done i : ℕ) : Type 0 where
   pub k : ℕ
   pub target : Target
@@ -44,12 +46,15 @@ pub record IsPending (targets : List (Option Target)) (done i : ℕ) : Type 0 wh
 abbrev pub HasPending : SyncRun → Moment → Type 0
 HasPending run m = (i : ℕ) → IsTouched m.unflushed i → IsPending (targets_of run) run.done i
 
--- What a sync has written is all that is, and what is not flushed is its own, as before: the first where no two blocks have one place.
+-- As before, what a sync has written is all that is (if no two blocks have one place), and what is unflushed is its
+-- own. After the last call nothing is unflushed.
 pub record KeepsWritten (old new : SyncRun) (before after : Moment) : Type 0 where
   pub made : HasDistinctBlocks old → (base : List ℕ) → HasMade base old (bytes_of before) → HasMade base new (bytes_of after)
   pub pending : HasPending old before → HasPending new after
+  pub settled : new.done ≡ call_count new → after.unflushed ≡ []
 
--- Of the block area these bytes have changed: the first so many blocks stand in it, and each other byte is as in the base.
+-- Of the block area these bytes have changed: the first so many blocks stand in it, and each other byte is as in the
+-- base.
 pub record BlocksWritten (base : List ℕ) (size : ℕ) (blocks : List PlannedBlock) (done : ℕ) (image : List ℕ) : Type 0 where
   pub each : (k : ℕ) (b : PlannedBlock) → k < done → slice_get blocks k ≡ Some b → part image (block_address b.index) block_size ≡ b.block
   pub others : (i : ℕ) → block_area ≤ i → i < block_area + block_size * block_count size

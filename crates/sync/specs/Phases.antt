@@ -1,5 +1,6 @@
--- Each moment of a sync, for crashes: what a read gives stays fair, what counts is its own, and a disk at rest on the view of
--- before is so until the uberblocks are written, then between it and the view of the sync, and behind the flush at rest on that.
+-- Each moment of a sync, for crashes: what a read gives stays fair, what counts is its own, and a disk at rest on the
+-- view of before is so until the uberblocks are written, then between it and the view of the sync, and after the flush
+-- at rest on that.
 use Rattle.std.specs.Prelude.{ℕ, ◌≡◌, ◌≢◌, ◌≤◌, ◌<◌, ◌+◌, All, List, Option, Some, None, length, slice_get, vec_len}
 use Rattle.base.specs.formats.Fields.{part, no_pointer, number_at}
 use Rattle.base.specs.formats.Geometry.{block_address, slot_place, slot_of}
@@ -20,8 +21,8 @@ use Rattle.sync.specs.declared.run.SyncRun.{SyncRun}
 use Rattle.sync.specs.Calls.{Target}
 use Rattle.sync.specs.Made.{BlocksWritten, HasDistinctBlocks, HasMade, IsTarget, targets_of}
 
--- The two views of a sync, with how many log blocks of each are flushed, and the labels that have what is fixed of the old one. The create of
--- their pool began at this moment.
+-- The two views of a sync, with how many log blocks of each are flushed, and the labels that have what is fixed of the
+-- old one. The create of their pool began at this moment.
 pub record SyncViews : Type 0 where
   pub created : ℕ
   pub fixed : FixedLabels
@@ -48,8 +49,8 @@ abbrev pub new_config_label : SyncViews → Option LabelStages → ℕ
 new_config_label v None = v.fixed.config
 new_config_label v (Some stages) = first_label stages.first
 
--- Without label stages the new view has the old one's config. With them it has theirs, of a group above the old one's, and no label of the
--- first stage has the config that the old view needs.
+-- Without label stages the new view has the old one's config. With them it has theirs, of a group above the old one's,
+-- and no label of the first stage has the config that the old view needs.
 abbrev pub HasConfigOf : Option LabelStages → SyncViews → Type 0
 HasConfigOf None v = v.new.config ≡ v.old.config
 HasConfigOf (Some stages) v =
@@ -74,7 +75,8 @@ abbrev pub MakesTree : List ℕ → SyncRun → View → Type 0
 MakesTree base run v = (image : List ℕ) → length image ≡ length base → BlocksWritten base run.geometry run.blocks.items (vec_len run.blocks) image
     → HoldsTree image (view_frame run.geometry v) v.pointers v.synced.objects
 
--- The sync leads from the old view to the new one, over these bytes: what it writes is the new view's, and its blocks are none of the old one's.
+-- The sync leads from the old view to the new one, over these bytes: what it writes is the new view's, and its blocks
+-- are none of the old one's.
 pub record LeadsViews (base : List ℕ) (run : SyncRun) (v : SyncViews) : Type 0 where
   pub view : IsView run.geometry v.new
   pub above : v.old.u.group < v.new.u.group
@@ -98,8 +100,9 @@ pub record IsBehind (v : SyncViews) (size config : ℕ) (m : Moment) : Type 0 wh
   pub config_is : labels.config ≡ config
   pub rest : IsAtRestAt size v.created v.new_flushed labels v.new m
 
--- The phase of a disk when so many calls are made and the first write of the uberblock comes behind so many: before it at rest on the old view,
--- from its first try to the flush behind the four between the two, then at rest on the new view.
+-- The phase of a disk when so many calls are made and the first write of the uberblock comes after so many: before it
+-- at rest on the old view, from its first try to the flush after the four between the two, then at rest on the new
+-- view.
 pub record HasPhase (v : SyncViews) (size before config done : ℕ) (m : Moment) : Type 0 where
   pub first : done < before → IsBefore v size m
   pub switching : done ≡ before → IsSwitching size v.created v.flushed v.new_flushed config v.fixed v.old v.new m
@@ -122,16 +125,17 @@ pub record IsWrittenNext (run : SyncRun) (place : ℕ) (content : List ℕ) : Ty
   pub place_is : target.place ≡ place
   pub content_is : target.content ≡ content
 
--- What each moment of a call keeps, whatever the device answers: what a read gives stays fair; what counts is what counted, and the call's own
--- write; and for every two views between which the sync leads, it is one of the three phases, by the calls that the sync has made.
+-- What each moment of a call keeps, whatever the device answers: what a read gives stays fair; what counts is what
+-- counted, and the call's own write; and for every two views between which the sync leads, it is one of the three
+-- phases, by the calls that the sync has made.
 pub record KeepsPhases (run new : SyncRun) (before after : Disk) : Type 0 where
   pub fair : (t : ℕ) → t ≤ moments before → HasFairBytes run.geometry t before.now → EachMoment (HasFairBytes run.geometry t) before after
   pub hands : (t : ℕ) → EachMoment (HandsOnly t (IsWrittenNext run) (handed before.now)) before after
   pub phases : (base : List ℕ) (v : SyncViews) → LeadsViews base run v → HasMade base run (bytes_of before.now) → HasPhaseOf run v before.now
       → EachMoment (IsSyncPhase run v) before after × HasPhaseOf new v after.now
 
--- A sync that leads between these views since it began on this disk, over its bytes: each moment since then was of one of the phases, and the
--- disk now has the one of the calls that were made.
+-- A sync that leads between these views since it began on this disk, over its bytes: each moment since then was of one
+-- of the phases, and the disk now has the one of the calls that were made.
 pub record HasPhasesSince (start : Disk) (v : SyncViews) (run : SyncRun) (now : Disk) : Type 0 where
   pub leads : LeadsViews (bytes_of start.now) run v
   pub distinct : HasDistinctBlocks run

@@ -29,7 +29,7 @@ pub record SameSync (old new : SyncRun) : Type 0 where
   pub slot : new.slot ≡ old.slot
   pub stages : new.stages ≡ old.stages
 
--- it has made one call more, which is told as the last exactly where it is, or as many where that was refused
+-- it has made one call more, which is told as the last exactly if it is, or as many where that was refused
 pub record CountsCall (old : SyncRun) (result : Result SyncCall PoolError) (new : SyncRun) : Type 0 where
   pub same : SameSync old new
   pub done : new.done ≡ (if is_ok result then old.done + 1 else old.done)

@@ -30,7 +30,7 @@ fn other(stage: Stage) -> Stage
     }
 }
 
-/// The calls behind the blocks of a sync that leaves the labels' configs: a flush, four uberblocks, a flush.
+/// The calls after the blocks of a sync that leaves the labels' configs: a flush, four uberblocks, a flush.
 pub(crate) fn plain_call(position: usize) -> Call
     requires { position < 6 }
     ensures { slice_get calls_behind_blocks position ≡ Some (call_said result) }
@@ -41,7 +41,7 @@ pub(crate) fn plain_call(position: usize) -> Call
     }
 }
 
-/// The calls behind the blocks of a sync that changes the labels' configs: a flush, two configs and a flush, four
+/// The calls after the blocks of a sync that changes the labels' configs: a flush, two configs and a flush, four
 /// uberblocks and a flush, two configs and a flush.
 pub(crate) fn staged_call(first: Stage, position: usize) -> Call
     requires { position < 12 }

@@ -3,7 +3,8 @@
 ghost use Rattle.sync.specs.Laws.{CallsAreWritable, SyncsBeginWithNothing, BlocksAreWritten, BlocksAreSettled};
 ghost use Rattle.sync.specs.Laws.{ConfigsAreStaged, SyncsBeginAtRest, SyncsEndAtRest, SyncsKeepPhases};
 
-/// All that a sync writes lies in the block area or behind the boot header of a label (On-Disk Specification, chapter 1).
+/// All that a sync writes lies in the block area or after the boot header of a label (On-Disk Specification, chapter
+/// 1).
 pub fn calls_are_writable()
     ensures { CallsAreWritable }
 {}
@@ -18,23 +19,24 @@ pub fn blocks_are_written()
     ensures { BlocksAreWritten }
 {}
 
-/// Behind the flush that follows a sync's blocks no byte of the block area is unflushed.
+/// After the flush that follows a sync's blocks no byte of the block area is unflushed.
 pub fn blocks_are_settled()
     ensures { BlocksAreSettled }
 {}
 
-/// A sync begins at rest on the view of before, where what counts could pass for no other config or log block of the view
-/// of the sync.
+/// A sync begins at rest on the old view, if what counts could pass for no other config or log block of the
+/// view of the sync.
 pub fn syncs_begin_at_rest()
     ensures { SyncsBeginAtRest }
 {}
 
-/// Since then each moment of the sync was of one of its phases: what `SyncRun::next` says of a call goes on over all calls.
+/// Since then each moment of the sync was of one of its phases: what `SyncRun::next` says of a call goes on over all
+/// calls.
 pub fn syncs_keep_phases()
     ensures { SyncsKeepPhases }
 {}
 
-/// Behind its last call a sync is at rest on its own view.
+/// After its last call a sync is at rest on its own view.
 pub fn syncs_end_at_rest()
     ensures { SyncsEndAtRest }
 {}

@@ -1,7 +1,29 @@
-//! The device calls of a sync, one at a time: its blocks and a flush, for a new name or an import the configs of two
-//! labels and a flush, the uberblock in each label and a flush, and then the other two labels.
+//! The device calls of a sync, one at a time, in an order in which a crash at any moment leaves the old group or the
+//! new one.
+//!
+//! A disk may tear and reorder what was written since its last flush, so only flushes make an order. OpenZFS writes
+//! its labels in the same order (`vdev_config_sync` in `vdev_label.c`; On-Disk Specification, chapter 1). A place is
+//! a block, a label's config or an uberblock slot. It is *settled* if none of its writes is unflushed. Before a sync
+//! and after it these rules hold, if s is the synced group and U its uberblock:
+//!
+//! 1. U is settled in its slot in all four labels, and each other uberblock that counts has a lower group: U is active.
+//! 2. The config that is chosen for U is settled in both labels of one stage at least.
+//! 3. Each block of U's tree is settled.
+//! 4. Each flushed block of U's log chain is settled. A later one may be torn: the chain ends at the first such block.
+//! 5. The transactions whose records are in that chain, with those of the groups up to s, are closed under conflicts.
+//! 6. What was acknowledged as durable is in U's tree or in a flushed log block.
+//!
+//! (No log is written yet, so U's chain is empty, and 4 to 6 speak of the tree alone.) The calls keep the rules so:
+//!
+//! 7. First the blocks, each at a place that is free in U's tree, and a flush. So no write touches 3, and an uberblock
+//!    never names a block that isn't settled.
+//! 8. If the configs change: those of the first stage, and a flush. The other stage keeps 2 meanwhile.
+//! 9. The uberblock in labels 0 to 3, and a flush. Its slot is not U's, so a crash leaves U or the new one active.
+//! 10. If the configs change: those of the other stage, and a flush.
+//! 11. Only after the last flush is the group synced, and only then may the blocks that it replaced be written again.
+//! 12. If the device refuses a call, that call is still the next one, and what the calls before it left stays.
 
-ghost use Rattle.std.specs.Prelude.{◌≡◌, ◌<◌, ◌+◌, All, IfErr, IfOk, IsTrue, if◌then◌else◌, vec_len};
+ghost use Rattle.std.specs.Prelude.{◌≡◌, ◌<◌, ◌+◌, All, IfErr, IsTrue, if◌then◌else◌, vec_len};
 ghost use Rattle.base.specs.formats.Geometry.{IsGeometry, block_count};
 ghost use Rattle.tree_plans.specs.declared.planner.PlannedBlock.{PlannedBlock};
 
@@ -15,14 +37,16 @@ use tree_plans::PlannedBlock;
 /// The configs of a sync that changes the labels: their block, and which pair of labels comes first.
 #[derive(Debug, Drop, PartialEq, Eq)]
 pub struct LabelStages {
+    /// The sealed block of the config, the same for each label.
     pub config: Block,
+    /// The pair of labels that is written before the uberblocks.
     pub first: Stage,
 }
 
 /// Which call of a sync was made.
 #[derive(Clone, Copy, Debug, PartialEq, Eq)]
 pub enum SyncCall {
-    /// One that has others behind it.
+    /// One that others follow.
     More,
     /// The last.
     Last,
@@ -31,11 +55,15 @@ pub enum SyncCall {
 /// A sync that runs.
 #[derive(Debug, Drop)]
 pub struct SyncRun {
+    /// The size of the device.
     pub geometry: Geometry,
+    /// The sealed blocks with their places, in the order in which they are written.
     pub blocks: Vec<PlannedBlock>,
+    /// The bytes of the uberblock's slot, the same for each label.
     pub uberblock: [u8; 1024],
     /// The slot of the uberblock's group.
     pub slot: usize,
+    /// The configs, if the sync changes them.
     pub stages: Option<LabelStages>,
     /// How many device calls were made.
     pub done: usize,
@@ -45,7 +73,7 @@ pub struct SyncRun {
 }
 
 impl SyncRun {
-    ghost use Rattle.std.specs.Prelude.{[], length};
+    ghost use Rattle.std.specs.Prelude.{length};
     ghost use Rattle.base.specs.disk.SyncOrder.{DeviceCall};
     ghost use Rattle.base.specs.disk.Calls.{counted};
     ghost use Rattle.sync.specs.CallOrder.{call_said};
@@ -54,8 +82,8 @@ impl SyncRun {
     ghost use Rattle.sync.specs.Phases.{KeepsPhases};
     ghost use Rattle.sync.specs.Runs.{CountsCall, HasPlaces, call_count};
 
-    /// A sync that has made no call yet: it writes these blocks, then this uberblock into this slot of each label, and with
-    /// label stages their configs.
+    /// Returns a sync that has made no call yet. It writes these blocks, then this uberblock into this slot of each
+    /// label, and the configs if there are label stages.
     pub fn new(
         geometry: Geometry,
         blocks: Vec<PlannedBlock>,
@@ -81,7 +109,7 @@ impl SyncRun {
         }
     }
 
-    /// How many device calls the sync has in all.
+    /// Returns how many device calls the sync has in all.
     pub fn total(&self) -> usize
         ensures count { result ≡ call_count self.now }
         ensures calls { result ≡ length (calls_of self.now) }
@@ -92,19 +120,19 @@ impl SyncRun {
         }
     }
 
-    /// Makes the next device call, the one that has this place in the order of the sync's calls, and says whether others
-    /// are behind it. A call that the device refused is the next one still.
+    /// Makes the next device call in the order of rules 7 to 10, and returns whether others follow. If the device
+    /// refused the call, it is still the next one.
     ///
-    /// What the sync has written, and that it has written nothing else, holds after each call: `HasMade`, where no two
-    /// blocks have one place. So does that what is not flushed are its own writes since its last flush: `HasPending`. After
-    /// the last call nothing is unflushed.
+    /// After each call the sync has written just what its calls so far write (`HasMade`, if no two blocks have one
+    /// place). What is unflushed are its own writes since its last flush (`HasPending`); after the last call nothing
+    /// is.
     ///
-    /// At each moment of the call, whatever it answers, a disk that was at rest on the view of before is so, or between it
-    /// and the view of the sync, or at rest on that: `HasPhaseOf`, by the calls that were made. Which premises the blocks,
-    /// the config and the uberblock take is in `LeadsViews`.
+    /// At each moment of the call, also of a refused one, the disk is at rest on the old view, between the old and
+    /// the new one, or at rest on the new one (`HasPhaseOf`). `LeadsViews` has the premises on blocks, config and
+    /// uberblock.
     ///
     /// # Errors
-    /// `Write`, `Flush`: what the call was, where the device refused it.
+    /// `Write` or `Flush`, if the device refused such a call.
     pub fn next<D: SectorDevice>(&mut self, device: &mut D) -> Result<SyncCall, PoolError>
         requires sized { D.size device.old ≡ self.old.geometry }
         requires left { self.old.done < call_count self.old }
@@ -117,8 +145,6 @@ impl SyncRun {
             → KeepsWritten self.old self.new (D.disk device.old).now (D.disk device.new).now }
         ensures phases { IsTrue D.keeps_model
             → KeepsPhases self.old self.new (D.disk device.old) (D.disk device.new) }
-        ensures finished { IsTrue D.keeps_model
-            → IfOk result (λ call. call ≡ SyncCall.Last → (D.disk device.new).now.unflushed ≡ []) }
     {
         self.make(device, self.call())?;
         self.done += 1;

@@ -152,7 +152,7 @@ fn a_pool_ends_behind_a_handle(rt: HostRuntime) -> Result<(), Fail> {
     let mut handle = pool.handle();
     handle.step(&rt, Step::CloseGroup);
     let last = handle.leave();
-    let state = pool.close_behind(last);
+    let state = pool.close_after(last);
     assert!(rt; state.is_some_and(|state| state.status().open_group == Group(10)));
     Ok(())
 }

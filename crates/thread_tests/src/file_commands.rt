@@ -1,6 +1,7 @@
 //! What is printed where a script can't be opened, and the commands on a pool in a file, on a file of their own.
 
-use commands::{CreateArguments, ScriptArguments, run_create, run_opened, run_show};
+use commands::{CreateArguments, ScriptArguments, ScriptDevice, run_create, run_opened, run_show};
+use device_model::FileDevice;
 use std::fs::{self, File};
 use std::io::{self, ErrorKind};
 use std::test::Fail;
@@ -8,7 +9,7 @@ use std::test::Fail;
 #[test]
 fn tells_of_a_script_that_is_not_opened(rt: HostRuntime) -> Result<(), Fail> {
     let arguments = ScriptArguments {
-        size: 8_388_608,
+        device: ScriptDevice::Memory(8_388_608),
         script: "no/script",
         moment: 0,
     };
@@ -29,6 +30,7 @@ fn tank<'a>(file: &'a str) -> CreateArguments<'a> {
         name: "tank",
         guid: 77,
         size: 8_388_608,
+        only_new: false,
         moment: 0,
     }
 }
@@ -47,7 +49,7 @@ fn a_pool_is_made_in_a_file(rt: HostRuntime) -> Result<(), Fail> {
     let status = run_show(
         rt.alloc(),
         "made.pool",
-        File::open(&rt, "made.pool"),
+        FileDevice::open_to_read(&rt, "made.pool"),
         &mut out,
         &mut errors,
     );
@@ -67,6 +69,64 @@ fn a_pool_is_made_in_a_file(rt: HostRuntime) -> Result<(), Fail> {
     assert!(rt; out.as_slice() == b"created pond 384 blocks\n".as_slice());
     assert_eq!(rt; fs::metadata(&rt, "made.pool")?.len(), 6_291_500);
     fs::remove_file(&rt, "made.pool")?;
+    Ok(())
+}
+
+#[test]
+fn a_file_that_is_there_is_no_new_one(rt: HostRuntime) -> Result<(), Fail> {
+    let given = CreateArguments {
+        only_new: true,
+        ..tank("new.pool")
+    };
+    let mut out = Vec::new(rt.alloc());
+    let mut errors = Vec::new(rt.alloc());
+    assert_eq!(rt; run_create(&rt, given, &mut out, &mut errors), 0);
+    let made = fs::read(&rt, "new.pool")?;
+    let other = CreateArguments {
+        name: "pond",
+        ..given
+    };
+    out.clear();
+    assert_eq!(rt; run_create(&rt, other, &mut out, &mut errors), 3);
+    assert!(rt; out.is_empty());
+    assert!(rt; errors.as_slice() == b"ztxg: cannot use new.pool\n".as_slice());
+    assert!(rt; fs::read(&rt, "new.pool")? == made);
+    fs::remove_file(&rt, "new.pool")?;
+    Ok(())
+}
+
+#[test]
+fn a_file_that_a_device_holds_is_left(rt: HostRuntime) -> Result<(), Fail> {
+    let mut out = Vec::new(rt.alloc());
+    let mut errors = Vec::new(rt.alloc());
+    assert_eq!(rt;
+        run_create(&rt, tank("held.pool"), &mut out, &mut errors),
+        0
+    );
+    let made = fs::read(&rt, "held.pool")?;
+    let text = b"ztxg: cannot use held.pool\n";
+    let Ok(reader) = FileDevice::open_to_read(&rt, "held.pool") else {
+        return Err(Fail::from("the file is held"));
+    };
+    let smaller = CreateArguments {
+        size: 6_291_456,
+        ..tank("held.pool")
+    };
+    out.clear();
+    assert_eq!(rt; run_create(&rt, smaller, &mut out, &mut errors), 3);
+    assert!(rt; out.is_empty() && errors.as_slice() == text.as_slice());
+    drop(reader);
+    let Ok(writer) = FileDevice::open(&rt, "held.pool") else {
+        return Err(Fail::from("the file is held"));
+    };
+    let opened = FileDevice::open_to_read(&rt, "held.pool");
+    errors.clear();
+    let status = run_show(rt.alloc(), "held.pool", opened, &mut out, &mut errors);
+    assert_eq!(rt; status, 3);
+    assert!(rt; out.is_empty() && errors.as_slice() == text.as_slice());
+    drop(writer);
+    assert!(rt; fs::read(&rt, "held.pool")? == made);
+    fs::remove_file(&rt, "held.pool")?;
     Ok(())
 }
 
@@ -119,7 +179,7 @@ fn tells_of_a_file_that_shows_no_pool(rt: HostRuntime) -> Result<(), Fail> {
         (6_291_456, "ztxg: refused 6 NoPool\n"),
     ] {
         File::create(&rt, "zeros.pool")?.set_len(size)?;
-        let opened = File::open(&rt, "zeros.pool");
+        let opened = FileDevice::open_to_read(&rt, "zeros.pool");
         let mut out = Vec::new(rt.alloc());
         let mut errors = Vec::new(rt.alloc());
         let status = run_show(rt.alloc(), "zeros.pool", opened, &mut out, &mut errors);
@@ -128,13 +188,13 @@ fn tells_of_a_file_that_shows_no_pool(rt: HostRuntime) -> Result<(), Fail> {
         assert!(rt; errors.as_slice() == text.as_bytes());
     }
     fs::remove_file(&rt, "zeros.pool")?;
-    for file in [".", "no/file"] {
+    for file in [".", "no/file", "/dev/full"] {
         let mut out = Vec::new(rt.alloc());
         let mut errors = Vec::new(rt.alloc());
         let status = run_show(
             rt.alloc(),
             file,
-            File::open(&rt, file),
+            FileDevice::open_to_read(&rt, file),
             &mut out,
             &mut errors,
         );

@@ -14,7 +14,7 @@ use std::thread::{Threads, map_chunks};
 
 const OBJECTS: u32 = 100;
 
-/// Objects to be made: `first` and those behind it, up to but not `end`.
+/// Objects to be made: `first` and those after it, up to but not `end`.
 #[derive(Clone, Copy)]
 struct Job {
     owner: Owner,
@@ -125,7 +125,8 @@ fn check_objects<R: Wait + Abort>(
     Ok(())
 }
 
-// With all locks let go: a lock is granted and let go, a create without a lock is refused, and so is an unlock of no lock.
+// With all locks released: a lock is granted and released, a create without a lock is refused, and so is an unlock of
+// no lock.
 fn check_last_calls<R: Wait + Abort>(
     rt: &R,
     alloc: Global,

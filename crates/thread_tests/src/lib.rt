@@ -1,6 +1,6 @@
-//! Threads over one pool: each has a handle of its own, and what they do together is one run of the pool. What is expected
-//! is told by the rules of the pool: ordinals count the commits, a pool that was created and imported has group 9 open, and
-//! a history replayed on plain bytes is what the pool reads.
+//! Threads over one pool: each has a handle of its own, and what they do together is one run of the pool. What is
+//! expected is told by the rules of the pool: ordinals count the commits, a pool that was created and imported has
+//! group 9 open, and a history replayed on plain bytes is what the pool reads.
 //!
 //! Beside them stand the tests of crates above the pool: commands on a file, and scripts whose reader or writer fails.
 #![tactic(auto)]
@@ -23,3 +23,5 @@ mod replay;
 mod script_readers;
 #[cfg(test)]
 mod syncs;
+#[cfg(test)]
+mod transacts;

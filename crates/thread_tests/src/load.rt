@@ -146,8 +146,8 @@ fn in_order(
     Ok(all)
 }
 
-// The entries have the ordinals behind those of the creates, each the group in which its transaction began, and each write was
-// read back.
+// The entries have the ordinals after those of the creates, each the group in which its transaction began, and each
+// write was read back.
 fn check_entries<A: Abort>(rt: &A, entries: &[Entry]) {
     assert_eq!(rt; entries.len(), 10_000);
     for (place, entry) in entries.iter().enumerate() {

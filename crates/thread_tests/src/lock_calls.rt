@@ -25,8 +25,8 @@ struct Signs {
     freed: AtomicBool,
 }
 
-/// What one sees who asks for a lock that another holds: the reply to a step that does not wait, the lock that it gets at
-/// last, and whether the other was about to let it go by then.
+/// What one sees who asks for a lock that another holds: the reply to a step that does not wait, the lock that it gets
+/// at last, and whether the other was about to let it go by then.
 #[derive(Debug, PartialEq, Drop)]
 struct Asked {
     at_once: Reply,

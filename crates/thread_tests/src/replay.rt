@@ -16,8 +16,8 @@ pub struct Write {
 }
 
 impl Write {
-    /// The write of a thread in a round: every third one to the shared object, the others to that of the thread. Places, lengths
-    /// from 8 to 64 bytes, and bytes vary, and each write ends below 4 KiB.
+    /// The write of a thread in a round: every third one to the shared object, the others to that of the thread.
+    /// Places, lengths from 8 to 64 bytes, and bytes vary, and each write ends below 4 KiB.
     pub fn of_round(thread: u8, round: u16) -> Self {
         let mixed = u32::from(round)
             .wrapping_mul(40_503)

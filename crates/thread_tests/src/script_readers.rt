@@ -10,8 +10,8 @@ const SCRIPT: &[u8] = b"create t 77\ncreate t 77\ncreate t 77\n";
 /// What each of them prints.
 const ANSWER: &str = "refused 8 BadGeometry\n";
 
-/// How many reads and writes are made before one fails, the status, and how many answers are printed. The sixth read has the end
-/// of the last line, and the seventh the end of the script. A write has one answer.
+/// How many reads and writes are made before one fails, the status, and how many answers are printed. The sixth read
+/// has the end of the last line, and the seventh the end of the script. A write has one answer.
 const ROWS: [(u8, u8, u8, usize); 13] = [
     (0, 9, 3, 0),
     (1, 9, 3, 0),

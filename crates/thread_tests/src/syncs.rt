@@ -1,7 +1,7 @@
 //! A thread that closes groups and syncs them.
 //!
-//! The three groups of a pool that take or have transactions go their way side by side: while one is synced the next may be
-//! quiesced and the third is open (`txg.c`).
+//! The three groups of a pool that take or have transactions go their way side by side: while one is synced the next
+//! may be quiesced and the third is open (`txg.c`).
 
 use base::{Group, PoolError, Reply, Step};
 use device_model::MemDevice;
@@ -10,8 +10,8 @@ use std::alloc::Global;
 use std::sync::Wait;
 use std::sync::atomic::{AtomicBool, Ordering};
 
-/// Syncs group after group until the flag is set, and three more, with which all that was committed by then is synced. It
-/// answers the groups in the order of their syncs.
+/// Syncs group after group until the flag is set, and three more, with which all that was committed by then is synced.
+/// It answers the groups in the order of their syncs.
 pub fn sync_until<W: Wait>(
     rt: &W,
     alloc: Global,

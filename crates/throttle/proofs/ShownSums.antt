@@ -1,4 +1,5 @@
--- What a pool shows of its sums and their blocks: after an admission, an abort and a sync, and that its totals are theirs.
+-- What a pool shows of its sums and their blocks: after an admission, an abort and a sync, and that its totals are
+-- theirs.
 use Rattle.std.proofs.Common.{rules, ◌≡◌, ◌≢◌, ℕ, ◌+◌, ◌-◌, ◌%◌, ◌<◌, ◌≤◌, true, List, [], ◌∷◌, refl, ap, sym, subst, ◌∙◌, arith, ◌⊎◌, inl, inr}
 use Rattle.std.specs.Prelude.{unwrap_or, sum_by}
 use Rattle.std.specs.List.{fold}

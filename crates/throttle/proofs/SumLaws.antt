@@ -14,7 +14,7 @@ use Rattle.throttle.specs.DirtyBytes.{DirtyBytes, AreWithinLimit, sum_of, total_
 use Rattle.throttle.specs.Laws.{AreSumsOf}
 use Rattle.throttle.proofs.GroupSums.{with_sum-some, unwrap_or-entry_of, get-with_sum_own, get-with_sum_other}
 
--- one to three groups are behind the synced one
+-- one to three groups are after the synced one
 width : (l : Line) → IsLine l → (l.open_group - l.synced ≡ 1) ⊎ (l.open_group - l.synced ≡ 2) ⊎ (l.open_group - l.synced ≡ 3)
 width l x = search rules
 

@@ -1,4 +1,5 @@
--- The blocks that the dirty bytes stand for. Each unsynced group has as many reserved as it is charged for, so no count of them is stored.
+-- The blocks that the dirty bytes stand for. Each unsynced group has as many reserved as it is charged for, so no count
+-- of them is stored.
 use Rattle.std.specs.Prelude.{ℕ, ◌≡◌, ◌<◌, ◌≤◌, ◌/◌, ◌%◌, ◌==◌, List, map, sum_by, unwrap_or, if◌then◌else◌}
 use Rattle.std.specs.Ordering.{nat_cmp}
 use Rattle.std.specs.FinMap as finite
@@ -25,7 +26,7 @@ block_sum_of d group = unwrap_or (finite.get (blocks_of d.sums) group) 0
 pub record AreWholeBlocks (d : DirtyBytes) : Type 0 where
   pub each : (group : ℕ) → sum_of d group % block_size ≡ 0
 
--- the sums are of whole blocks, and of the groups of a line: those behind its open group have none
+-- the sums are of whole blocks, and of the groups of a line: those after its open group have none
 pub record AreSumsOn (l : Line) (d : DirtyBytes) : Type 0 where
   pub synced : l.synced ≡ d.synced
   pub not_open_yet : (group : ℕ) → l.open_group < group → sum_of d group ≡ 0

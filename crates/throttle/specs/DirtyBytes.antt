@@ -7,7 +7,8 @@ use Rattle.std.specs.FinMap as finite
 use Rattle.std.specs.FinMap.{FinMap}
 use Rattle.base.specs.steps.Charges.{with_sum}
 
--- the limit of all sums, the synced group, and the bytes charged to each group behind it; a group without bytes has no entry
+-- the limit of all sums, the synced group, and the bytes charged to each group after it; a group without bytes has no
+-- entry
 pub record DirtyBytes : Type 0 where
   pub limit : ℕ
   pub synced : ℕ
@@ -26,7 +27,7 @@ MayBeUnsynced d group = (d.synced < group) × (group ≤ d.synced + 3)
 abbrev pub sum_of : DirtyBytes → ℕ → ℕ
 sum_of d group = unwrap_or (finite.get d.sums group) 0
 
--- those of the three groups behind the synced one
+-- those of the three groups after the synced one
 abbrev pub total_of : DirtyBytes → ℕ
 total_of d = sum_by (sum_of d) (range_with_len (d.synced + 1) 3)
 

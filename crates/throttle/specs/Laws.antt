@@ -12,7 +12,7 @@ use Rattle.base.specs.steps.Steps.{State, state_after_abort, state_after_charged
 use Rattle.throttle.specs.Blocks.{blocks_in, blocks_of, block_sum_of, AreOpenOnesCharged, AreSumsOn, AreWholeBlocks, ShowsSums}
 use Rattle.throttle.specs.DirtyBytes.{DirtyBytes, AreWithinLimit, MayBeUnsynced, sum_of, total_of, is_throttled, dirty_behind, after_admit, after_cancel, after_synced}
 
--- the sums are those of a pool: the groups behind its open one have none
+-- the sums are those of a pool: the groups after its open one have none
 pub record AreSumsOf (s : Shown) (d : DirtyBytes) : Type 0 where
   pub synced : s.line.synced ≡ d.synced
   pub dirty : (group : ℕ) → s.line.synced < group → dirty_of s group ≡ sum_of d group
@@ -94,8 +94,8 @@ pub record StaySumsOn (l : Line) (d : DirtyBytes) : Type 0 where
 abbrev pub SumsStayOnLines : Type 0
 SumsStayOnLines = (l : Line) (d : DirtyBytes) → AreSumsOn l d → StaySumsOn l d
 
--- The groups stay charged for the open transactions: for one more that is charged, for the others once one has ended, for the others
--- without the charge of one that is given up, and once a group is synced of which none is open.
+-- The groups stay charged for the open transactions: for one more that is charged, for the others once one has ended,
+-- for the others without the charge of one that is given up, and once a group is synced of which none is open.
 pub record StayCharged (transactions : List Admission) (d : DirtyBytes) : Type 0 where
   pub admitted : (a : Admission) → AreOpenOnesCharged (transactions ++ a ∷ []) (after_admit a.group (charge_of a.plan) d)
   pub ended : (tx : ℕ) → AreOpenOnesCharged (transactions_without tx transactions) d

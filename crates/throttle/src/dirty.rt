@@ -2,8 +2,8 @@
 //! group; that a charge past the limit is refused at once is this project's rule). A transaction is charged before it
 //! begins. Its group's sum has the charge until the transaction is given up or the group is synced.
 //!
-//! Three groups at most are unsynced, one that is syncing, one in the middle and the open one, and they are numbered one
-//! after another. So there are three sums, from that of the group after the synced one on, and no memory is taken.
+//! Three groups at most are unsynced, one that is syncing, one in the middle and the open one, and they are numbered
+//! one after another. So there are three sums, from that of the group after the synced one on, and no memory is taken.
 
 ghost use Rattle.std.specs.Prelude.{◌≡◌, ◌+◌, ◌-◌, ◌<◌, ◌≤◌, ◌↔◌, IsErr, IsTrue, IfErr, OnErr, OnOk};
 ghost use Rattle.throttle.specs.DirtyBytes.{
@@ -95,7 +95,7 @@ impl Dirty {
     /// So many bytes are charged to a group, one of the three after the synced one.
     ///
     /// # Errors
-    /// `Throttled` exactly where all charges would pass the limit. Then nothing has changed.
+    /// `Throttled` exactly if all charges would pass the limit. Then nothing has changed.
     pub fn admit(&mut self, group: Group, charge: u64) -> Result<(), PoolError>
         requires { MayBeUnsynced self.old group.0 }
         ensures throttled { IsErr result ↔ IsTrue (is_throttled charge self.old) }

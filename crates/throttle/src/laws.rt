@@ -1,7 +1,7 @@
 //! What holds of the dirty bytes: each function's contract is a law, and its body does nothing.
 //!
-//! A transaction is charged a block's bytes for each block that it is estimated at, and so many blocks are reserved for it.
-//! So a pool stores its sums of bytes alone: what it shows as reserved is their blocks.
+//! A transaction is charged a block's bytes for each block that it is estimated at, and so many blocks are reserved for
+//! it. So a pool stores its sums of bytes alone: what it shows as reserved is their blocks.
 
 ghost use Rattle.throttle.specs.Laws.{
   AbortsAreShown,
@@ -65,7 +65,8 @@ pub fn syncs_are_shown()
     ensures { SyncsAreShown }
 {}
 
-/// The totals of a pool that shows the sums of its line are theirs: that of its dirty bytes, and that of its reserved blocks.
+/// The totals of a pool that shows the sums of its line are theirs: that of its dirty bytes, and that of its reserved
+/// blocks.
 pub fn shown_totals_agree()
     ensures { ShownTotalsAgree }
 {}
@@ -85,7 +86,8 @@ pub fn sums_stay_on_lines()
     ensures { SumsStayOnLines }
 {}
 
-/// Where each group is charged for its open transactions it stays so: with one more, as they end, and as groups are synced.
+/// Where each group is charged for its open transactions it stays so: with one more, as they end, and as groups are
+/// synced.
 pub fn open_ones_stay_charged()
     ensures { OpenOnesStayCharged }
 {}

@@ -107,7 +107,7 @@ split_again count front rest long =
     let enough : ltb (length (front ++ rest)) count ≡ false = le-ltb _ _ (omega (arith, length-append front rest)) in
     rw (enough, take_at front rest count long, drop_at front rest count long) refl
 
--- bytes behind their number
+-- bytes after their number
 abbrev pub string : List ℕ → List ℕ
 string bytes = to_le_bytes w32 (length bytes) ++ bytes
 

@@ -1,4 +1,5 @@
--- Ranges of plans within the limits: their ends fit 64 bits, so what is asked of them is asked of the ranges that definitions speak of.
+-- Ranges of plans within the limits: their ends fit 64 bits, so what is asked of them is asked of the ranges that
+-- definitions speak of.
 use Rattle.std.proofs.Common.{ℕ, ◌≡◌, ◌<◌, ◌+◌, ◌-◌, ◌^◌, Bool, true, false, ◌&&◌, ◌||◌, List, [], ◌∷◌, length, map, get_or, take, nat_lt, nat_le, refl, sym, ap, ◌∙◌, arith}
 use Rattle.std.specs.Prelude.{min}
 use Rattle.std.specs.List.{list_any, list_all}

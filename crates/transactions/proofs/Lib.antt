@@ -9,3 +9,5 @@ pub mod OpsRead
 pub mod WrittenOps
 pub mod Loop
 pub mod RecordsRead
+pub mod LockPlans
+pub mod RisingRanges

@@ -25,7 +25,7 @@ has_allowed_plan a = is_plan_allowed a.plan
 differs : {X : Type 0} (f : ℕ → X) (k key : ℕ) (x y : X) → f k ≡ x → f key ≡ y → (x ≡ y → ⊥) → k ≢ key
 differs f k key x y a b apart same = apart (sym a ∙ ap f same ∙ b)
 
--- names stay apart with the next one behind them, and without one of them
+-- names stay apart with the next one after them, and without one of them
 pub named_push : (next : ℕ) (ts : List Admission) (a : Admission) → a.tx ≡ next → AreNamed next ts → AreNamed (next + 1) (ts ++ a ∷ [])
 named_push next ts a is named = record {
   apart = all_pairs_push (λ (x y : Admission). x.tx ≢ y.tx) ts a named.apart (λ k d below same. let low = named.before k d below in omega (arith, low, same, is));
@@ -70,7 +70,7 @@ module _ (old new : Slab OpenTransaction) (key : ℕ) (t : OpenTransaction) (vac
         named = subst (AreNamed (next + 1)) (sym (admissions-push keys held.present)) (named_push next (admissions_at old keys) (admission_of t) named held.named);
       }
 
--- behind a reserve of room, which leaves the slots
+-- after a reserve of room, which leaves the slots
 module _ (slots reserved new : Slab OpenTransaction) (order keys : List ℕ) (key next : ℕ) (t : OpenTransaction) (same : reserved.slots ≡ slots.slots) (vacant : get reserved key ≡ None) (updates : Updates reserved new key (Some t))
     (keys_are : keys ≡ order ++ key ∷ []) (held : AreOpenAt slots order next) where
   get_same : (k : ℕ) → get reserved k ≡ get slots k

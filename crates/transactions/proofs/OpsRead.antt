@@ -15,7 +15,7 @@ use Rattle.transactions.specs.Records.{is_op_allowed}
 use Rattle.transactions.specs.Reading.{◌>>=◌, number_in, string_in, create_in, remove_in, write_in, set_length_in, set_name_in, tagged_in, op_in, ops_in}
 use Rattle.transactions.proofs.Fields.{IsBytes, bind_some, bind-some, some_is, Takes, Takes-then, wide32, wide64, number_takes, number_again, string, string_takes, string_again}
 
--- the bytes of an operation behind its tag
+-- the bytes of an operation after its tag
 abbrev fields : Op → List ℕ
 fields (Create n) = to_le_bytes w32 n.0
 fields (Remove n) = to_le_bytes w32 n.0
@@ -37,7 +37,7 @@ tag-fields (Write n offset bytes) = refl
 tag-fields (SetLength n new) = refl
 tag-fields (SetName bytes) = refl
 
--- bytes are those of an operation of this tag behind its tag, and a rest
+-- bytes are those of an operation of this tag after its tag, and a rest
 abbrev TakesOp : ℕ → List ℕ → Op × List ℕ → Type 0
 TakesOp tag bytes x = Takes bytes (fields x.0) x.1 × (tag_of x.0 ≡ tag)
 

@@ -33,7 +33,7 @@ allowed_from_parts (op ∷ ops) h k =
     let q = and_parts (is_content_allowed op) (list_all is_content_allowed ops) k in
     rw (p.0, q.0, allowed_from_parts ops p.1 q.1) refl
 
--- the bytes of a record behind its length
+-- the bytes of a record after its length
 abbrev body_bytes : Record → List ℕ
 body_bytes r = to_le_bytes w64 r.group ++ (to_le_bytes w64 r.ordinal ++ (to_le_bytes w16 (length r.ops) ++ flat_map op_bytes r.ops))
 

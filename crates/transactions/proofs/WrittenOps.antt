@@ -1,4 +1,4 @@
--- Operations that are written one after the other have room, each behind those before it.
+-- Operations that are written one after the other have room, each after those before it.
 use Rattle.std.proofs.Common.{◌≡◌, ℕ, ◌+◌, ◌<◌, ◌≤◌, List, ◌++◌, length, length-append, get_or, map, take, sym, ap, ◌∙◌, append_assoc, arith}
 use Rattle.std.specs.Prelude.{sum_by}
 use Rattle.std.specs.List.{flat_map}
@@ -41,7 +41,7 @@ Appends-then a b c x y p q =
       room = omega arith;
     }
 
--- the parts of a record, one behind the other
+-- the parts of a record, one after the other
 pub five : (a b c d e f : Vec ℕ) (size group ordinal count ops : List ℕ) → AppendsBytes a b size → AppendsBytes b c group → AppendsBytes c d ordinal → AppendsBytes d e count → AppendsBytes e f ops
     → AppendsBytes a f (size ++ group ++ ordinal ++ count ++ ops)
 five a b c d e f size group ordinal count ops p q r s t =

@@ -6,3 +6,4 @@ pub mod Ranges
 pub mod Lengths
 pub mod Open
 pub mod Laws
+pub mod LockRanges

@@ -1,5 +1,5 @@
 -- The open transactions of a pool: their admissions in order, and how one is admitted.
-use Rattle.std.specs.Prelude.{ℕ, ◌≡◌, ◌≢◌, ◌<◌, ◌==◌, ◌+◌, ◌||◌, ◌++◌, ◌∷◌, [], All, Bool, true, false, not, List, length, filter, filter_map, nat_le, nat_lt, Option, is_some, option_map}
+use Rattle.std.specs.Prelude.{ℕ, ◌≡◌, ◌<◌, ◌==◌, ◌+◌, ◌||◌, ◌++◌, ◌∷◌, [], All, Bool, true, false, not, List, length, filter, filter_map, nat_le, nat_lt, Option, is_some, option_map}
 use Rattle.std.specs.List.{find, list_all, list_any}
 use Rattle.std.specs.Option.{option_map_or}
 use Rattle.slab.specs.Slab.{Slab, get}

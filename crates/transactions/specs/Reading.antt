@@ -23,7 +23,7 @@ abbrev pub Gives : {X Y : Type 0} → (X → Y) → Result X ReadError → Optio
 Gives view (Ok x) read = read ≡ Some (view x)
 Gives view (Err e) read = Fails e read
 
--- Each of these gives what it reads and the bytes behind it: so many bytes,
+-- Each of these gives what it reads and the bytes after it: so many bytes,
 abbrev pub split_at : ℕ → List ℕ → Option (List ℕ × List ℕ)
 split_at count bytes = if nat_lt (length bytes) count then None else Some (take count bytes, drop count bytes)
 
@@ -31,7 +31,7 @@ split_at count bytes = if nat_lt (length bytes) count then None else Some (take 
 abbrev pub number_in : Width → List ℕ → Option (ℕ × List ℕ)
 number_in w bytes = if nat_lt (length bytes) (byte_len w) then None else Some (from_le_bytes w (take (byte_len w) bytes), drop (byte_len w) bytes)
 
--- bytes behind their number,
+-- bytes after their number,
 unfoldable pub string_in : List ℕ → Option (List ℕ × List ℕ)
 string_in bytes = do
   count ← number_in w32 bytes
@@ -90,11 +90,11 @@ ops_in (suc n) bytes = do
   others ← ops_in n first.1
   Some (first.0 ∷ others.0, others.1)
 
--- whether a record's group, ordinal or number of operations is outside its limits, or bytes stand behind its operations
+-- whether a record's group, ordinal or number of operations is outside its limits, or bytes stand after its operations
 abbrev pub is_body_refused : ℕ → ℕ → ℕ → List ℕ → Bool
 is_body_refused group ordinal count rest = nat_lt last_number group || nat_lt last_number ordinal || (count == 0) || not (length rest == 0)
 
--- the record of which these are all the bytes behind its length
+-- the record of which these are all the bytes after its length
 unfoldable pub body_in : List ℕ → Option Record
 body_in bytes = do
   group ← number_in w64 bytes
@@ -103,7 +103,7 @@ body_in bytes = do
   ops ← ops_in count.0 count.1
   if is_body_refused group.0 ordinal.0 count.0 ops.1 then None else Some (record { group = group.0; ordinal = ordinal.0; ops = ops.0 })
 
--- the record at the front, by its length, and the bytes behind it
+-- the record at the front, by its length, and the bytes after it
 unfoldable pub record_in : List ℕ → Option (Record × List ℕ)
 record_in bytes = do
   size ← number_in w32 bytes

@@ -24,7 +24,7 @@ is_op_allowed op = is_shape_allowed (shape_of op) && is_content_allowed op
 abbrev pub are_ops_allowed : List Op → Bool
 are_ops_allowed ops = is_plan_allowed (map shape_of ops) && list_all is_content_allowed ops
 
--- whether a record is within its limits, but for its size
+-- whether a record is within its limits, except for its size
 abbrev pub is_in_limits : formats.Record → Bool
 is_in_limits r = nat_le r.group last_number && nat_le r.ordinal last_number && are_ops_allowed r.ops
 
@@ -37,7 +37,7 @@ encode_tests r =
 abbrev pub encode_refusal : formats.Record → Option PoolError
 encode_refusal r = first_refusal (encode_tests r)
 
--- bytes are decoded as this record and these bytes behind it, unless memory runs out
+-- bytes are decoded as this record and these bytes after it, unless memory runs out
 abbrev pub Decodes : Result (Option (Record × Bor (List ℕ))) PoolError → formats.Record → List ℕ → Type 0
 Decodes (Ok (Some (found, after))) r rest = (record_fields found ≡ r) × (after.now ≡ rest)
 Decodes (Ok None) r rest = ⊥

@@ -3,13 +3,15 @@
 
 mod clients;
 mod laws;
+mod lock_plan;
 mod open;
 mod plan;
 mod reading;
 mod record;
 mod writing;
 
-pub use laws::{records_agree, records_read_back};
+pub use laws::{lock_ranges_rise, records_agree, records_read_back};
+pub use lock_plan::lock_ranges;
 pub use open::{OpenTransaction, OpenTransactions};
 pub use plan::{
     charge, estimate, is_in_plan, is_plan_allowed, is_shrinking, is_too_large, plans_overlap,

@@ -1,10 +1,10 @@
 //! The transactions that were admitted and have not ended.
 //!
-//! They lie in a slab, whose keys are used again; their names never are. `order` has the keys in order of admission, which is
-//! the order of the names. Contracts see the admissions in that order, and the name of the next one.
+//! They lie in a slab, whose keys are used again; their names never are. `order` has the keys in order of admission,
+//! which is the order of the names. Contracts see the admissions in that order, and the name of the next one.
 //!
-//! A transaction is admitted where no range of its plan overlaps one of an open transaction. So open transactions commute, and
-//! those of a group may be committed in any order.
+//! A transaction is admitted if no range of its plan overlaps one of an open transaction. So open transactions commute,
+//! and those of a group may be committed in any order.
 
 ghost use Rattle.std.specs.Prelude.{◌≡◌, [], IfErr, IfOk, None, OnErr, OnOk, count_by, option_map, true};
 ghost use Rattle.std.specs.List.{find, list_any};
@@ -66,8 +66,8 @@ impl OpenTransactions {
         }
     }
 
-    /// Whether a range of a plan overlaps one of an open transaction. The plan should be allowed: else the ranges are those of
-    /// `range_of`.
+    /// Whether a range of a plan overlaps one of an open transaction. The plan should be allowed: else the ranges are
+    /// those of `range_of`.
     pub fn is_blocked(&self, plan: &[Shape]) -> bool
         ensures blocked { is_plan_allowed plan.now ≡ true
             → result ≡ is_plan_blocked plan.now self.now.transactions }
@@ -87,8 +87,8 @@ impl OpenTransactions {
     ///
     /// # Errors
     ///
-    /// After a refusal all is as before. `Busy` where a range of the plan overlaps one of an open transaction; then `TooMany`
-    /// where 64 are open or the next name is past the last one; then `NoMemory` where there is none for it.
+    /// After a refusal all is as before. `Busy` if a range of the plan overlaps one of an open transaction; then
+    /// `TooMany` if 64 are open or the next name is past the last one; then `NoMemory` if there is none for it.
     pub fn admit(&mut self, owner: Owner, group: Group, plan: Plan) -> Result<TxId, PoolError>
         requires { is_plan_allowed plan ≡ true }
         ensures name { IfOk result (λ tx. tx.0 ≡ self.old.next) }
@@ -127,7 +127,8 @@ impl OpenTransactions {
         self.slots.get(key)
     }
 
-    /// The transaction of this name is open no more, and comes back. `None` where there is none, and then all is as before.
+    /// The transaction of this name is open no more, and comes back. `None` if there is none, and then all is as
+    /// before.
     pub fn end(&mut self, tx: TxId) -> Option<OpenTransaction>
         ensures ended { option_map admission_of result
             ≡ admission_of_name tx.0 self.old.transactions }
@@ -141,7 +142,7 @@ impl OpenTransactions {
         self.slots.try_remove(key)
     }
 
-    /// Whether a range of an open transaction lies in this one: where it is a writer lock's, the lock is in use.
+    /// Whether a range of an open transaction lies in this one: if it is a writer lock's, the lock is in use.
     pub fn is_lock_in_use(&self, range: &ObjectRange) -> bool
         ensures { result ≡ is_range_in_use (number_range range.now) self.now.transactions }
     {
@@ -156,7 +157,7 @@ impl OpenTransactions {
     }
 }
 
-/// Whether, where so many are open and this is the next name, one more is too many.
+/// Whether, if so many are open and this is the next name, one more is too many.
 fn is_too_many(count: usize, next: u64) -> bool
     ensures { result ≡ words.is_too_many count next }
 {

@@ -18,8 +18,8 @@ use base::{
 /// The bytes of a log record before its operations: its length, group, ordinal and number of operations.
 pub(crate) const RECORD_HEAD: u64 = 22;
 
-/// Whether a plan has a shape, and each is within its limits: an object below 5,292, bytes that end at 338,688 at most (of a
-/// write at least one), a name of 1 to 64 bytes.
+/// Whether a plan has a shape, and each is within its limits: an object below 5,292, bytes that end at 338,688 at most
+/// (of a write at least one), a name of 1 to 64 bytes.
 pub fn is_plan_allowed(plan: &[Shape]) -> bool
     ensures { result ≡ plans.is_plan_allowed plan.now }
 {
@@ -67,7 +67,7 @@ pub fn is_too_large(plan: &[Shape]) -> bool
     false
 }
 
-/// How many bytes a log record of so many bytes has with an operation of this shape more. `None` where these
+/// How many bytes a log record of so many bytes has with an operation of this shape more. `None` if these
 /// are above 4,008.
 pub(crate) fn with_shape(size: u64, shape: &Shape) -> Option<u64>
     ensures size { IfSome result (λ larger. larger ≡ size + plans.size_of_shape shape.now) }
@@ -90,8 +90,9 @@ fn size_of(shape: &Shape) -> u64
     }
 }
 
-/// The range that a shape touches: of a write its bytes, of every other the whole object, or of a name the whole range of the
-/// number behind the last object. The end of a write stays within 64 bits, which that of one within its limits does.
+/// The range that a shape touches: of a write its bytes, of every other the whole object, or of a name the whole range
+/// of the number after the last object. The end of a write stays within 64 bits, which that of one within its limits
+/// does.
 pub fn range_of(shape: &Shape) -> ObjectRange
     ensures range { plans.is_shape_allowed shape.now ≡ true
         → number_range result ≡ plans.range_of shape.now }
@@ -125,7 +126,8 @@ fn whole(object: ObjectId) -> ObjectRange
     }
 }
 
-/// Whether a range of a plan overlaps one of the other. Both plans should be allowed: else the ranges are those of `range_of`.
+/// Whether a range of a plan overlaps one of the other. Both plans should be allowed: else the ranges are those of
+/// `range_of`.
 pub fn plans_overlap(plan: &[Shape], other: &[Shape]) -> bool
     ensures overlap { plans.is_plan_allowed plan.now ≡ true
         → plans.is_plan_allowed other.now ≡ true
@@ -178,8 +180,8 @@ fn have_shapes(ops: &[Op], plan: &[Shape]) -> bool
     true
 }
 
-/// The most blocks that a sync takes for a plan: 2 for a create or a remove, 4 for a new length, 1 for a new name, and for a
-/// write 3 and the records that it touches.
+/// The most blocks that a sync takes for a plan: 2 for a create or a remove, 4 for a new length, 1 for a new name, and
+/// for a write 3 and the records that it touches.
 pub fn estimate(plan: &[Shape]) -> u64
     requires allowed { plans.is_plan_allowed plan.now ≡ true }
     requires small { plans.log_record_size plan.now ≤ max_log_record }
@@ -223,8 +225,8 @@ pub fn charge(plan: &[Shape]) -> u64
     BLOCK_SIZE as u64 * estimate(plan)
 }
 
-/// Whether a plan only removes objects and sets the lengths of present ones to no more than they have. The caller tells the
-/// length of each object, and `None` for one that is absent.
+/// Whether a plan only removes objects and sets the lengths of present ones to no more than they have. The caller gives
+/// the length of each object, and `None` for one that is absent.
 pub fn is_shrinking<F: Fn(ObjectId) -> Option<u64>>(plan: &[Shape], lengths: &F) -> bool
     requires { F.IsAlwaysCallable lengths.now }
     ensures { (c : Contents) → TellsLengths (F.post lengths.now) c

@@ -1,4 +1,4 @@
-//! The bytes of a record as its fields, from left to right. Each function gives what it read and the bytes behind it.
+//! The bytes of a record as its fields, from left to right. Each function gives what it read and the bytes after it.
 
 ghost use Rattle.std.specs.Prelude.{◌≡◌};
 ghost use Rattle.std.specs.Int.{w16, w32, w64};
@@ -183,7 +183,7 @@ fn read_ops(alloc: Global, count: u16, bytes: &[u8]) -> Result<(Vec<Op>, &[u8]),
     Ok((ops, rest))
 }
 
-/// The record of which these are all the bytes behind its length.
+/// The record of which these are all the bytes after its length.
 #[tactic(auto, unfolding(crate::specs::Reading::body_in))]
 fn read_body(alloc: Global, bytes: &[u8]) -> Result<Record, ReadError>
     ensures { Gives (λ r. record_fields r) result (body_in bytes.now) }

@@ -32,8 +32,8 @@ pub struct Record {
 ///
 /// # Errors
 ///
-/// `BadRange` where there is no operation, or one of them, the group or the ordinal is outside its limits; then `TooLarge`
-/// where it would be longer than 4,008 bytes; then `NoMemory` where there is no memory for the bytes.
+/// `BadRange` if there is no operation, or one of them, the group or the ordinal is outside its limits; then `TooLarge`
+/// if it would be longer than 4,008 bytes; then `NoMemory` if there is no memory for the bytes.
 pub fn encode_record(alloc: Global, committed: &Record) -> Result<Vec<u8>, PoolError>
     ensures bytes { IfOk result
         (λ bytes. bytes.items ≡ bytes_of_record (record_fields committed.now)) }
@@ -45,11 +45,11 @@ pub fn encode_record(alloc: Global, committed: &Record) -> Result<Vec<u8>, PoolE
     Ok(bytes)
 }
 
-/// Appends the bytes of a record. All room is taken first: where it is refused the bytes stay as they are.
+/// Appends the bytes of a record. All room is taken first: if it is refused, the bytes stay as they are.
 ///
 /// # Errors
 ///
-/// As those of `encode_record`, and `NoMemory` only where the bytes have no room for the record.
+/// As those of `encode_record`, and `NoMemory` only if the bytes have no room for the record.
 pub fn encode_into(out: &mut Vec<u8>, committed: &Record) -> Result<(), PoolError>
     ensures bytes { OnOk result
         (out.new.items ≡ out.old.items ++ bytes_of_record (record_fields committed.now)) }
@@ -71,7 +71,7 @@ pub fn encode_into(out: &mut Vec<u8>, committed: &Record) -> Result<(), PoolErro
     Ok(())
 }
 
-/// Whether a record is within its limits, but for its size.
+/// Whether a record is within its limits, except for its size.
 fn is_in_limits(committed: &Record) -> bool
     ensures { result ≡ words.is_in_limits (record_fields committed.now) }
 {
@@ -93,7 +93,7 @@ fn is_each_allowed(ops: &[Op]) -> bool
     ops.iter().all(|op| is_op_allowed(op))
 }
 
-/// How many bytes the record of these operations has. `None` where these are above 4,008.
+/// How many bytes the record of these operations has. `None` if these are above 4,008.
 fn size_of(ops: &[Op]) -> Option<u32>
     ensures size { IfSome result (λ size. size ≡ log_record_size (map shape_of ops.now)) }
     ensures small { IfSome result (λ size. size ≤ max_log_record) }
@@ -106,13 +106,13 @@ fn size_of(ops: &[Op]) -> Option<u32>
     Some(size as u32)
 }
 
-/// The record that stands at the front of these bytes, and the bytes behind it. `None` where no front of them is a record: of
-/// 22 bytes and those of its operations, 4,008 at most, with a group and an ordinal of at most 2^60 and operations within
-/// their limits.
+/// The record that stands at the front of these bytes, and the bytes after it. `None` if no front of them is a record:
+/// of 22 bytes and those of its operations, 4,008 at most, with a group and an ordinal of at most 2^60 and operations
+/// within their limits.
 ///
 /// # Errors
 ///
-/// `NoMemory` where there is no memory for the operations.
+/// `NoMemory` if there is no memory for the operations.
 pub fn decode_record(alloc: Global, bytes: &[u8]) -> Result<Option<(Record, &[u8])>, PoolError>
     ensures found { IfOk result (λ found. IfSome found
         (λ (read, rest). IsDecoded bytes.now (record_fields read) rest.now)) }

@@ -1,4 +1,4 @@
-//! The fields of a record as bytes, behind those that a list of bytes has. The caller has taken their room.
+//! The fields of a record as bytes, after those that a list of bytes has. The caller has taken their room.
 
 ghost use Rattle.std.specs.Prelude.{◌≡◌, ◌+◌, ◌≤◌, ◌++◌, ◌∷◌, length, map, sum_by};
 ghost use Rattle.std.specs.List.{flat_map};
@@ -72,7 +72,7 @@ fn write_object(out: &mut Vec<u8>, tag: u8, object: ObjectId)
     write_bytes(out, &object.0.to_le_bytes());
 }
 
-/// AppendsBytes bytes behind their number.
+/// Appends bytes after their number.
 fn write_string(out: &mut Vec<u8>, content: &[u8])
     requires small { length content.now ≤ max_log_record }
     requires room { HasRoomFor out.old (4 + length content.now) }

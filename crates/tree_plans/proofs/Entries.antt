@@ -24,7 +24,7 @@ number_at-part bytes a n i fits = ap (λ (l : List ℕ). from_le_bytes w64 l) (p
 same_pointer : {x y z w : ℕ} {a b : List ℕ} → x ≡ y → z ≡ w → a ≡ b → ◌≡◌ {A = Pointer} (record { address = x; birth = z; check = a }) (record { address = y; birth = w; check = b })
 same_pointer e f g = rw (e, f, g) refl
 
--- three fields that are written one behind the other
+-- three fields that are written one after the other
 module _ (at size : ℕ) (p : Pointer) (bytes one two three : List ℕ) (fits : at + 64 ≤ length bytes) (long : length p.check ≡ 32)
     (e1 : one ≡ put at (number_bytes 1) bytes) (e2 : two ≡ put (at + 8) (number_bytes size) one) (e3 : three ≡ put (at + 16) (pointer_bytes p) two) where
   l1 : length one ≡ length bytes

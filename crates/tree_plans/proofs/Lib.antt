@@ -4,6 +4,7 @@ pub mod Entries
 pub mod Walks
 pub mod Planned
 pub mod Marked
+pub mod DirtyRecords
 pub mod Uses
 pub mod Order
 pub mod Room

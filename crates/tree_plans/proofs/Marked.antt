@@ -1,6 +1,6 @@
 -- What operations do to the objects, one after another, is what the definitions say.
-use Rattle.std.proofs.Common.{◌≡◌, ◌==◌, ℕ, zero, suc, ◌+◌, ◌<◌, ◌&&◌, ◌||◌, max, Bool, true, false, List, [], ◌∷◌, ◌++◌, length, take, Option, Some, None, Ok, refl, sym, ◌∙◌, ap, arith}
-use Rattle.std.specs.Prelude.{All, nat_lt, option_map, replicate, slice_index_or, unwrap_or, if◌then◌else◌}
+use Rattle.std.proofs.Common.{◌≡◌, ◌==◌, ℕ, ◌+◌, ◌<◌, ◌&&◌, ◌||◌, max, Bool, true, false, List, [], ◌∷◌, ◌++◌, length, take, Option, Some, None, Ok, refl, sym, ◌∙◌, ap, arith}
+use Rattle.std.specs.Prelude.{All, nat_lt, option_map, slice_index_or, unwrap_or, if◌then◌else◌}
 use Rattle.std.specs.List.{list_any}
 use Rattle.std.specs.Option.{option_map_or}
 use Rattle.std.specs.FinMap as finite
@@ -24,17 +24,6 @@ use Rattle.base.proofs.tree.RecordStates.{at-object, bytes-changed, bytes-create
 use Rattle.object_maps.specs.declared.tree.ObjectMap.{ObjectMap}
 use Rattle.tree_plans.specs.declared.changes.ObjectChanges.{ObjectChanges}
 use Rattle.tree_plans.specs.Marks.{AreToldSoFar, NotesOp, length_so_far, length_with, sets_length, object_size, marked_after}
-
--- a value in a row of equal ones
-pub in_row : {A : Type 0} (count r : ℕ) (a d : A) → r < count → slice_index_or (replicate count a) r d ≡ a
-in_row zero r a d low = absurd (omega (arith, low))
-in_row (suc count) zero a d low = refl
-in_row (suc count) (suc r) a d low = in_row count r a d (omega (arith, low))
-
-pub row_of : {A : Type 0} (count r : ℕ) (a : A) → slice_index_or (replicate count a) r a ≡ a
-row_of zero r a = refl
-row_of (suc count) zero a = refl
-row_of (suc count) (suc r) a = row_of count r a
 
 -- a longer run of operations
 or_swapped : (a b : Bool) → (b || a) ≡ (a || (b || false))

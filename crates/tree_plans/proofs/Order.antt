@@ -342,7 +342,7 @@ changed_among {X} xs p is (e ∷ es) =
 pub entries-touched : (objects : List (ObjectId × ObjectChanges)) (d : ℕ) → list_any (λ n. is_some (entry_of objects n)) (object_numbers d) ≡ is_directory_touched objects d
 entries-touched objects d = changed_among (range_with_len (63 * d) 63) (λ k. (k / 63) == d) (λ k. is_number k d) objects
 
--- an object changes exactly where a directory of it does
+-- an object changes exactly if a directory of it does
 pub any_directory : (count : ℕ) (objects : List (ObjectId × ObjectChanges)) → ((n : ℕ) → is_some (entry_of objects n) ≡ true → n / 63 < count) → list_any (is_directory_touched objects) (range_with_len 0 count) ≡ is_any_touched objects
 any_directory count [] within = none_of (λ n. false) (λ n. refl) (range_with_len 0 count)
 any_directory count (e ∷ es) within =

@@ -10,7 +10,7 @@ use Rattle.base.proofs.disk.Put.{Apart, part-put_apart}
 use Rattle.base.proofs.formats.FieldsRead.{length-number_bytes, number_at-put_apart, pointers_read_back}
 use Rattle.checked_blocks.specs.Sealing.{padded}
 
--- a payload that is full has no zeros behind it
+-- a payload that is full has no zeros after it
 pub padded-full : (payload : List ℕ) → length payload ≡ 4032 → padded payload ≡ payload
 padded-full payload long = rw long (append-nil payload)
 

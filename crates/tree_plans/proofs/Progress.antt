@@ -129,7 +129,7 @@ front_of [] a d i low = absurd (omega arith)
 front_of (x ∷ xs) a d zero low = refl
 front_of (x ∷ xs) a d (suc i) low = front_of xs a d i (omega arith)
 
--- what holds of each element below a number, and of the next one that is put behind them
+-- what holds of each element below a number, and of the next one that is put after them
 pub each_push : {A : Type 0} (P : ℕ → A → Type 0) (xs : List A) (a d : A) (i : ℕ) → length xs ≡ i → ((r : ℕ) → r < i → P r (slice_index_or xs r d)) → P i a
     → (r : ℕ) → r < i + 1 → P r (slice_index_or (xs ++ a ∷ []) r d)
 each_push P xs a d i long each here r low = go (cases_lt r i)

@@ -118,7 +118,7 @@ all_length : (g : GroupChanges) (map_of : ℕ → Option ObjectMap) (count : ℕ
 unfolding all_addresses all_blocks object_blocks
 all_length g map_of count = flat_length (λ n. object_addresses g n (map_of n)) (places_of_object g) (λ n. object_length g n (map_of n)) (range_with_len 0 count)
 
--- the records of an object that are written, and its indirect block behind them
+-- the records of an object that are written, and its indirect block after them
 blocks_are : (g : GroupChanges) (n : ℕ) → object_blocks g n ≡ count_where (is_record_written g n) 84 + count_if (is_indirect_written g n)
 unfolding object_blocks count_where
 blocks_are g n =
@@ -199,7 +199,7 @@ module _ (free : FinSet nat_cmp) (objects : List (ObjectId × ObjectChanges)) (p
       ∙ ap (λ (l : List ℕ). all_blocks group 5292 + (length l + count_if (is_root_written group))) (written-directories objects pointers after)
       ∙ ap (λ (t : Bool). all_blocks group 5292 + (length (filter (is_directory_dirty objects after) (range_with_len 0 84)) + count_if t)) (root-written objects pointers after within)
 
-  -- the objects of a walk are refused, or its directories behind them, or its root behind these
+  -- the objects of a walk are refused, or its directories after them, or its root after these
   pub objects_lack : (s : Progress) → Lacks free s (all_blocks group 5292) → Lacks free s all
   objects_lack s lacks = let sum = tree_length in lacks_more free s (all_blocks group 5292) all (omega (arith, sum)) lacks
 

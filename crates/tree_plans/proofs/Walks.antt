@@ -1,5 +1,5 @@
 -- What a walk plans, step by step.
-use Rattle.std.proofs.Common.{◌≡◌, ◌==◌, ℕ, zero, suc, ◌+◌, ◌<◌, ◌⊎◌, inl, inr, Bool, true, false, not, cond, List, [], ◌∷◌, ◌++◌, length, Option, Ordering, Some, refl, sym, ◌∙◌, ap, arith}
+use Rattle.std.proofs.Common.{◌≡◌, ◌≢◌, ◌==◌, ℕ, zero, suc, ◌+◌, ◌<◌, ◌⊎◌, inl, inr, Bool, true, false, not, cond, List, [], ◌∷◌, ◌++◌, length, Option, Ordering, Some, None, refl, sym, ◌∙◌, ap, arith}
 use Rattle.std.specs.Prelude.{slice_get, slice_index_or, is_some, unwrap_or, All, IsTrue}
 use Rattle.std.specs.Map.{lookup}
 use Rattle.std.specs.BTreeMap as tree
@@ -9,7 +9,7 @@ use Rattle.std.specs.Ordering.{nat_cmp}
 use Rattle.std.specs.FinMap as finite
 use Rattle.std.specs.FinMap.{FinMap}
 use Rattle.std.specs.FinSet.{FinSet}
-use Rattle.std.proofs.lemmas.Bool.{eq-eqb, eqb-true}
+use Rattle.std.proofs.lemmas.Bool.{eq-eqb, eqb-true, ne_eqb}
 use Rattle.base.specs.declared.pointer.Pointer.{Pointer}
 use Rattle.base.specs.declared.names.ObjectId.{ObjectId}
 use Rattle.base.specs.declared.record_state.RecordState.{RecordState}
@@ -196,6 +196,16 @@ module _ (R : ObjectId → ObjectId → Ordering) (ties : (a b : ObjectId) → i
   put_of old new id m updates n =
       let q : ObjectId = record { 0 = n } in
       sym (entry_of-get new q) ∙ updates q ∙ ap (λ b. cond b (Some m) (tree.get R old q)) (ties id q) ∙ ap (λ o. cond (id.0 == n) (Some m) o) (entry_of-get old q)
+
+  pub taken_of : {X : Type 0} (old : BTreeMap ObjectId X) (id : ObjectId) (m : X) → Some m ≡ tree.get R old id → entry_of old.entries id.0 ≡ Some m
+  taken_of old id m is = sym (is ∙ entry_of-get old id)
+
+  pub left_of : {X : Type 0} (old new : BTreeMap ObjectId X) (id : ObjectId) → ((q : ObjectId) → tree.get R new q ≡ cond (is_at (R id) q) None (tree.get R old q))
+      → (n : ℕ) → n ≢ id.0 → entry_of new.entries n ≡ entry_of old.entries n
+  left_of old new id updates n other =
+      let q : ObjectId = record { 0 = n } in
+      let apart : is_at (R id) q ≡ false = ties id q ∙ ne_eqb id.0 n (λ e. other (sym e)) in
+      sym (entry_of-get new q) ∙ updates q ∙ ap (λ b. cond b None (tree.get R old q)) apart ∙ entry_of-get old q
 
   pub found_of : (m : BTreeMap ObjectId ObjectChanges) → All (λ (e : ObjectId × ObjectChanges). tree.get R m e.0 ≡ Some e.1) m.entries → All (λ (e : ObjectId × ObjectChanges). entry_of m.entries e.0.0 ≡ Some e.1) m.entries
   found_of m all k d low = sym (entry_of-get m (slice_index_or m.entries k d).0) ∙ all k d low

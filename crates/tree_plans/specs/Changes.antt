@@ -1,5 +1,6 @@
 -- What a plan is told of the objects that operations are on, and what it says of its tree.
-use Rattle.std.specs.Prelude.{ℕ, ◌≡◌, ◌⊎◌, ◌<◌, ◌≤◌, ◌*◌, ◌==◌, Bool, true, false, not, List, length, slice_index_or, None, IfSome, is_some}
+use Rattle.std.specs.Prelude.{ℕ, ◌≡◌, ◌⊎◌, ◌<◌, ◌≤◌, ◌*◌, ◌==◌, Bool, true, false, not, List, length, None, IfSome, is_some, nat_le, if◌then◌else◌}
+use Rattle.std.specs.BTreeSet.{contains}
 use Rattle.std.specs.Option.{option_map_or}
 use Rattle.std.specs.Ordering.{nat_cmp}
 use Rattle.std.specs.FinMap as finite
@@ -20,9 +21,10 @@ use Rattle.base.specs.tree.Syncs.{GroupChanges}
 use Rattle.tree_plans.specs.declared.changes.ObjectChanges.{ObjectChanges}
 use Rattle.tree_plans.specs.Pointers.{entry_of}
 
--- the state of a record by the changes of its object
+-- the state of a record by the changes of its object: one that is not written is a hole from the first hole on
 abbrev pub state_at : ObjectChanges → ℕ → RecordState
-state_at changes r = slice_index_or changes.records r Unchanged
+state_at changes r = if contains nat_cmp changes.dirty r then Dirty
+    else option_map_or (λ first. if nat_le first r then Hole else Unchanged) changes.first_hole Unchanged
 
 -- the state of record r of object n: one that no operation is on stays
 abbrev pub state_in : List (ObjectId × ObjectChanges) → ℕ → ℕ → RecordState
@@ -46,13 +48,15 @@ changes_of_group objects pointers after = record {
   is_present = λ n. finite.contains_key after n;
 }
 
--- what the changes say of the objects before and after: unchanged records and objects that no operation is on are as before, holes have zeros
+-- what the changes say of the objects before and after: unchanged records and objects that no operation is on are as
+-- before, holes have zeros
 pub record IsCoveredBy (objects : List (ObjectId × ObjectChanges)) (pointers : Place → Pointer) (before after : FinMap nat_cmp (List ℕ)) : Type 0 where
   pub records : (n r : ℕ) → n < object_count → r < pointer_count → state_in objects n r ≡ Unchanged → SameRecord (pointers (Data n r)) r (finite.get before n) (finite.get after n)
   pub holes : (n r : ℕ) → n < object_count → r < pointer_count → state_in objects n r ≡ Hole → IsZeroRecord r (finite.get after n)
   pub entries : (n : ℕ) → n < object_count → entry_of objects n ≡ None → SameEntry (finite.get before n) (finite.get after n)
 
--- each dirty record begins within its object, an object that is absent after or was only created has holes alone, and no object is too long
+-- each dirty record begins within its object, an object that is absent after or was only created has holes alone, and
+-- no object is too long
 pub record AreChanges (objects : List (ObjectId × ObjectChanges)) (after : FinMap nat_cmp (List ℕ)) : Type 0 where
   pub within : (n r : ℕ) → n < object_count → r < pointer_count → state_in objects n r ≡ Dirty → IfSome (finite.get after n) (λ bytes. record_size * r < length bytes)
   pub holes : (n r : ℕ) → n < object_count → r < pointer_count → is_some (entry_of objects n) ≡ true

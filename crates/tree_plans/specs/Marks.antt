@@ -67,8 +67,8 @@ sets_length n (SetName bytes) = false
 abbrev pub IsLengthTold : List Op → List ObjectMap → Contents → ℕ → Type 0
 IsLengthTold ops maps c n = list_any (sets_length n) ops ≡ true → map_length maps n ≡ length_of c n
 
--- Entries of just the objects that operations are on. From contents on which the operations take place, each record has the state that the
--- definitions give it, where the tree has the length of its object if an operation sets it.
+-- Entries of exactly the objects that operations are on. From contents on which the operations take place, each record
+-- has the state that the definitions give it, where the tree has the length of its object if an operation sets it.
 pub record AreChangesOf (ops : List Op) (maps : List ObjectMap) (objects : List (ObjectId × ObjectChanges)) : Type 0 where
   pub there : (n : ℕ) → is_some (entry_of objects n) ≡ list_any (is_on n) ops
   pub changed : (n : ℕ) → is_changed_in objects n ≡ list_any (is_change_of n) ops

@@ -4,6 +4,7 @@ use Rattle.std.specs.Ordering.{nat_cmp}
 use Rattle.std.specs.FinMap as finite
 use Rattle.std.specs.FinMap.{FinMap}
 use Rattle.base.specs.declared.names.ObjectId.{ObjectId}
+use Rattle.base.specs.formats.Limits.{pointer_count}
 use Rattle.base.specs.formats.Fields.{no_pointer, pointer_in}
 use Rattle.base.specs.formats.Blocks.{IsBlock}
 use Rattle.base.specs.tree.Places.{Place}
@@ -44,4 +45,4 @@ HasNewRecord source after objects plan = (before : FinMap nat_cmp (List ℕ)) (b
 abbrev pub HasNewIndirect : PlanSource → FinMap nat_cmp (List ℕ) → List (ObjectId × ObjectChanges) → TreePlan → Type 0
 HasNewIndirect source after objects plan = (before : FinMap nat_cmp (List ℕ)) → IsScene source after objects before
     → IsNewPlace source plan (Indirect 7)
-    → (payload : List ℕ) × HasBlockOf source plan 4 7 payload × ((r : ℕ) → r < 84 → pointer_in payload r ≡ planned_pointers source.tree.now plan (Data 7 r))
+    → (payload : List ℕ) × HasBlockOf source plan 4 7 payload × ((r : ℕ) → r < pointer_count → pointer_in payload r ≡ planned_pointers source.tree.now plan (Data 7 r))

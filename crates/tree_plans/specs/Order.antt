@@ -14,7 +14,7 @@ use Rattle.tree_plans.specs.Pointers.{record_in}
 abbrev pub addresses_of : List NewBlock → List ℕ
 addresses_of blocks = map (λ (b : NewBlock). b.address) blocks
 
--- blocks after a step of a plan: those before it, and behind them blocks with these addresses
+-- blocks after a step of a plan: those before it, and after them blocks with these addresses
 abbrev pub Adds : List NewBlock → List NewBlock → List ℕ → Type 0
 Adds old new added = addresses_of new ≡ addresses_of old ++ added
 
@@ -26,7 +26,8 @@ address_if made pointer = if made then pointer.address ∷ [] else []
 unfoldable pub addresses_where : (ℕ → Bool) → (ℕ → Pointer) → ℕ → List ℕ
 addresses_where is_marked pointers count = map (λ i. (pointers i).address) (filter is_marked (range_with_len 0 count))
 
--- of an object: the addresses of its dirty records, rising, and behind them that of its indirect block, if it is written
+-- of an object: the addresses of its dirty records, rising, and after them that of its indirect block, if it is
+-- written
 unfoldable pub object_addresses : GroupChanges → ℕ → Option ObjectMap → List ℕ
 object_addresses group n o = addresses_where (is_record_written group n) (λ r. option_map_or (λ (m : ObjectMap). record_in m r) o no_pointer) pointer_count
     ++ address_if (is_indirect_written group n) (option_map_or (λ (m : ObjectMap). m.indirect) o no_pointer)

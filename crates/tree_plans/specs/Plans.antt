@@ -43,7 +43,8 @@ place_of (Directory d) = AtDirectory d
 place_of (Indirect id) = AtIndirect id.0
 place_of (Data id r) = AtData id.0 r
 
--- a plan so far: the first block that may be taken next, the new blocks, the addresses that come back, and whose blocks they are
+-- a plan so far: the first block that may be taken next, the new blocks, the addresses that come back, and whose blocks
+-- they are
 pub record Progress : Type 0 where
   pub next : ℕ
   pub blocks : List NewBlock
@@ -164,7 +165,8 @@ RecordsFree old new changes was count = (address : ℕ) → IsAmong new address 
 abbrev pub state_above : Bool → Bool → RecordState
 state_above touched left = if touched then (if left then Dirty else Hole) else Unchanged
 
--- that of an object's indirect block: it is written where an operation wrote the object or set its length, and a record has a block
+-- that of an object's indirect block: it is written where an operation wrote the object or set its length, and a record
+-- has a block
 abbrev pub indirect_state : Bool → List Pointer → RecordState
 indirect_state is_changed records = if is_changed && list_any has_address records then Dirty else Hole
 

@@ -1,4 +1,4 @@
--- Where the blocks are that a plan makes: each is behind a pointer of the new tree.
+-- Where the blocks are that a plan makes: each is after a pointer of the new tree.
 use Rattle.std.specs.Prelude.{ℕ, ◌≡◌, ◌<◌, ◌⊎◌, List, slice_get, slice_index_or, Some, None}
 use Rattle.base.specs.declared.pointer.Pointer.{Pointer}
 use Rattle.base.specs.declared.names.ObjectId.{ObjectId}
@@ -22,7 +22,7 @@ pub record IsPointedAt (pointers : List Pointer) (count address : ℕ) : Type 0 
   pub low : index < count
   pub is : (slice_index_or pointers index no_pointer).address ≡ address
 
--- those that are new are behind the first so many pointers alone: of records, or of directories
+-- those that are new are after the first so many pointers alone: of records, or of directories
 abbrev pub PointersUse : List NewBlock → List NewBlock → List Pointer → ℕ → Type 0
 PointersUse old new pointers count = (address : ℕ) → IsTaken new address → IsTaken old address ⊎ IsPointedAt pointers count address
 

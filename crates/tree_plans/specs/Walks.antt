@@ -8,7 +8,7 @@ use Rattle.std.specs.FinMap as finite
 use Rattle.std.specs.FinMap.{FinMap}
 use Rattle.base.specs.declared.pointer.Pointer.{Pointer}
 use Rattle.base.specs.declared.names.ObjectId.{ObjectId}
-use Rattle.base.specs.formats.Limits.{object_count, pointer_count, entry_count}
+use Rattle.base.specs.formats.Limits.{object_count, pointer_count, entry_count, entry_size}
 use Rattle.base.specs.formats.Fields.{no_pointer, pointer_in, entry_in, entry_present, entry_length, entry_pointer}
 use Rattle.base.specs.declared.record_state.RecordState.{RecordState}
 use Rattle.base.specs.tree.Places.Place.{Root, Directory}
@@ -25,7 +25,7 @@ indirect_after maps planned n = option_map_or (λ (m : ObjectMap). m.indirect) (
 
 -- an entry of a directory, for an object of this length
 abbrev pub IsEntryOfLength : List ℕ → Pointer → Option ℕ → Type 0
-IsEntryOfLength entry indirect None = entry ≡ replicate 64 0
+IsEntryOfLength entry indirect None = entry ≡ replicate entry_size 0
 IsEntryOfLength entry indirect (Some size) = (entry_present entry ≡ 1) × (entry_length entry ≡ size) × (entry_pointer entry ≡ indirect)
 
 -- an entry of a directory, as it is written
@@ -37,7 +37,8 @@ abbrev pub AreEntriesWritten : List ObjectMap → List (ObjectId × ObjectMap) �
 AreEntriesWritten maps planned after d count payload = (k : ℕ) → k < count
     → IsEntryWritten (entry_in payload k) (indirect_after maps planned (entry_count * d + k)) (finite.get after (entry_count * d + k))
 
--- where an object comes from that is planned: its changes, and the pointers that it had; it has the length that it has after them
+-- where an object comes from that is planned: its changes, and the pointers that it had; it has the length that it has
+-- after them
 pub record IsPlannedFrom (s : Progress) (maps : List ObjectMap) (after : FinMap nat_cmp (List ℕ)) (objects : List (ObjectId × ObjectChanges)) (n : ℕ) (new : ObjectMap) : Type 0 where
   pub low : n < object_count
   pub changes : ObjectChanges

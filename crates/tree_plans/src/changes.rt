@@ -1,35 +1,38 @@
 //! What the operations of a group do to the records of each object, in their order.
 //!
 //! - A write makes each record dirty that it has a byte of.
-//! - A new length below the old one is a cut: the record that it goes into is dirty, and those wholly past it are holes.
+//! - A new length below the old one is a cut: the record that it goes into is dirty, and those wholly past it are
+//!   holes.
 //! - A created or removed object has holes alone.
 //! - A later write or cut may make a hole dirty again.
 //!
 //! OpenZFS does the same in `dbuf_dirty` and `dnode_free_range`.
 
-ghost use Rattle.std.specs.Prelude.{◌≡◌, ◌<◌, ◌++◌, ◌∷◌, [], ℕ, List, unwrap_or, IfErr, IfOk, OnOk};
+ghost use Rattle.std.specs.Prelude.{◌≡◌, ◌≢◌, ◌<◌, ◌≤◌, ◌+◌, ◌*◌, ◌↔◌, ◌++◌, ◌∷◌, [], ℕ, List, unwrap_or, IfErr, IfOk, OnOk};
 ghost use Rattle.base.specs.declared.error.PoolError.TheVariants as error;
 ghost use Rattle.base.specs.declared.operation.Op.{Op};
-ghost use Rattle.base.specs.tree.Syncs.{is_record_touched, state_after_cut};
+ghost use Rattle.base.specs.formats.Limits.{max_length, record_count, record_size};
 ghost use Rattle.object_maps.specs.Lengths.{map_length};
 ghost use Rattle.tree_plans.specs.Changes.{is_changed_in, state_at, state_in};
 ghost use Rattle.tree_plans.specs.Marks.{AreChangesOf, AreToldSoFar, NotesOp, length_so_far, pending_ops};
-ghost use Rattle.tree_plans.specs.Pointers.{IsPut};
+ghost use Rattle.tree_plans.specs.Pointers.{IsPut, entry_of};
 
 use crate::planner::Committed;
-use base::{Group, ObjectId, Op, POINTER_COUNT, PoolError, RECORD_SIZE, RecordState};
+use base::{Group, MAX_LENGTH, ObjectId, Op, PoolError, RECORD_SIZE, RecordState};
 use object_maps::ObjectMap;
 use std::alloc::Global;
-use std::collections::BTreeMap;
+use std::collections::{BTreeMap, BTreeSet};
 
 /// What the operations of a group do to an object.
-#[derive(Clone, Copy, Debug, PartialEq, Eq, Drop)]
+#[derive(Debug, PartialEq, Eq, Drop)]
 pub struct ObjectChanges {
-    /// What the sync does with each of its records.
-    pub records: [RecordState; 84],
+    // The records that the sync writes, by their numbers.
+    dirty: BTreeSet<usize>,
+    // From this record on all others are holes.
+    first_hole: Option<usize>,
     /// Whether an operation writes it or sets its length.
     pub is_changed: bool,
-    /// Its length after them in bytes, 0 where it is absent.
+    /// Its length after them in bytes, 0 if it is absent.
     pub length: u64,
 }
 
@@ -39,98 +42,143 @@ impl ObjectChanges {
     ghost use Rattle.base.specs.tree.Syncs.{is_record_touched, state_after_cut};
     ghost use Rattle.tree_plans.specs.Changes.{state_at};
 
-    /// No operation yet, on an object of this length.
-    pub fn none(length: u64) -> Self
+    /// No operation yet, on an object of this length in bytes. It takes no memory.
+    pub fn none(alloc: Global, length: u64) -> Self
         ensures records { (r : ℕ) → state_at result r ≡ state.Unchanged }
         ensures changed { result.is_changed ≡ false }
         ensures length { result.length ≡ length }
     {
         ObjectChanges {
-            records: [RecordState::Unchanged; POINTER_COUNT],
+            dirty: BTreeSet::new(alloc),
+            first_hole: None,
             is_changed: false,
             length,
         }
     }
 
-    /// The object is created or removed.
+    /// What the sync does with a record of the object.
+    pub fn state(&self, index: usize) -> RecordState
+        ensures { result ≡ state_at self.now index }
+    {
+        if self.dirty.contains(&index) {
+            return RecordState::Dirty;
+        }
+        match self.first_hole {
+            Some(first) if first <= index => RecordState::Hole,
+            _ => RecordState::Unchanged,
+        }
+    }
+
+    /// The object is created or removed. It takes no memory.
     pub fn clear(&mut self)
-        ensures records { (r : ℕ) → r < 84 → state_at self.new r ≡ state.Hole }
+        ensures records { (r : ℕ) → r < record_count → state_at self.new r ≡ state.Hole }
         ensures changed { self.new.is_changed ≡ self.old.is_changed }
         ensures length { self.new.length ≡ 0 }
     {
-        self.records = [RecordState::Hole; POINTER_COUNT];
+        self.drop_from(0);
         self.length = 0;
     }
 
     /// So many bytes are written at an offset.
-    pub fn write(&mut self, offset: u64, count: usize)
-        ensures records { (r : ℕ) → r < 84 → state_at self.new r
-            ≡ (if is_record_touched r offset count then state.Dirty else state_at self.old r) }
-        ensures changed { self.new.is_changed ≡ true }
-        ensures length { offset + count ≤ 338688
-            → self.new.length ≡ max self.old.length (offset + count) }
+    ///
+    /// # Errors
+    /// `NoMemory`.
+    pub fn write(&mut self, offset: u64, count: usize) -> Result<(), PoolError>
+        ensures records { OnOk result ((r : ℕ) → r < record_count → state_at self.new r
+            ≡ (if is_record_touched r offset count then state.Dirty else state_at self.old r)) }
+        ensures changed { OnOk result (self.new.is_changed ≡ true) }
+        ensures length { OnOk result (offset + count ≤ max_length
+            → self.new.length ≡ max self.old.length (offset + count)) }
+        ensures refused { IfErr result (λ e. e ≡ error.NoMemory) }
     {
-        self.mark(offset, count);
+        self.mark(offset, count)?;
         self.is_changed = true;
         self.length = self.length.max(offset.saturating_add(count as u64));
+        Ok(())
     }
 
-    /// The object gets this length.
-    pub fn set_length(&mut self, length: u64)
-        ensures records { (r : ℕ) → r < 84 → state_at self.new r ≡ (if nat_lt length self.old.length
-            then state_after_cut r length (state_at self.old r) else state_at self.old r) }
-        ensures changed { self.new.is_changed ≡ true }
-        ensures length { self.new.length ≡ length }
+    /// The object gets this length in bytes.
+    ///
+    /// # Errors
+    /// `NoMemory`.
+    pub fn set_length(&mut self, length: u64) -> Result<(), PoolError>
+        ensures records { OnOk result ((r : ℕ) → r < record_count → state_at self.new r
+            ≡ (if nat_lt length self.old.length
+            then state_after_cut r length (state_at self.old r) else state_at self.old r)) }
+        ensures changed { OnOk result (self.new.is_changed ≡ true) }
+        ensures length { OnOk result (self.new.length ≡ length) }
+        ensures refused { IfErr result (λ e. e ≡ error.NoMemory) }
     {
         if length < self.length {
-            self.cut(length);
+            self.cut(length)?;
         }
         self.is_changed = true;
         self.length = length;
+        Ok(())
     }
 
     // Each record that has a byte of a write is dirty.
-    fn mark(&mut self, offset: u64, count: usize)
-        ensures records { (r : ℕ) → r < 84 → state_at self.new r
-            ≡ (if is_record_touched r offset count then state.Dirty else state_at self.old r) }
+    fn mark(&mut self, offset: u64, count: usize) -> Result<(), PoolError>
+        ensures records { OnOk result ((r : ℕ) → r < record_count → state_at self.new r
+            ≡ (if is_record_touched r offset count then state.Dirty else state_at self.old r)) }
         ensures length { self.new.length ≡ self.old.length }
+        ensures refused { IfErr result (λ e. e ≡ error.NoMemory) }
     {
-        for index in 0..POINTER_COUNT {
-            if is_touched(index, offset, count) {
-                self.records[index] = RecordState::Dirty;
-            }
+        let first = first_touched(offset);
+        let end = touched_end(offset, count);
+        for index in first..end {
+            self.dirty.insert(index)?;
         }
+        Ok(())
     }
 
     // Each record past a cut is a hole, and the one that it goes into is dirty.
-    fn cut(&mut self, length: u64)
-        ensures records { (r : ℕ) → r < 84
-            → state_at self.new r ≡ state_after_cut r length (state_at self.old r) }
+    fn cut(&mut self, length: u64) -> Result<(), PoolError>
+        ensures records { OnOk result ((r : ℕ) → r < record_count
+            → state_at self.new r ≡ state_after_cut r length (state_at self.old r)) }
+        ensures refused { IfErr result (λ e. e ≡ error.NoMemory) }
     {
-        for index in 0..POINTER_COUNT {
-            self.records[index] = state_after(index, length, self.records[index]);
+        let whole = length as usize / RECORD_SIZE;
+        self.drop_from(whole);
+        if length as usize % RECORD_SIZE != 0 {
+            self.dirty.insert(whole)?;
         }
+        Ok(())
+    }
+
+    // All records from this one on are holes.
+    fn drop_from(&mut self, index: usize)
+        ensures records { (r : ℕ) → state_at self.new r
+            ≡ (if nat_lt r index then state_at self.old r else state.Hole) }
+        ensures changed { self.new.is_changed ≡ self.old.is_changed }
+        ensures length { self.new.length ≡ self.old.length }
+    {
+        self.dirty.retain(|record| *record < index);
+        self.first_hole = match self.first_hole {
+            Some(first) => Some(first.min(index)),
+            None => Some(index),
+        };
     }
 }
 
-// The state of a record after a cut to this length.
-fn state_after(index: usize, length: u64, state: RecordState) -> RecordState
-    requires { index < 84 }
-    ensures { result ≡ state_after_cut index length state }
+// The first record that has a byte from an offset on, and the one after the last that has a byte of a write: at most
+// that after an object's last record.
+fn first_touched(offset: u64) -> usize
+    ensures { (r : ℕ) → r < record_count → (result ≤ r) ↔ (offset < record_size * (r + 1)) }
 {
-    let low = (RECORD_SIZE * index) as u64;
-    if length <= low {
-        RecordState::Hole
-    } else if length < low + RECORD_SIZE as u64 {
-        RecordState::Dirty
-    } else {
-        state
-    }
+    offset.min(MAX_LENGTH) as usize / RECORD_SIZE
+}
+
+fn touched_end(offset: u64, count: usize) -> usize
+    ensures { (r : ℕ) → r < record_count → (r < result) ↔ (record_size * r < offset + count) }
+{
+    let end = offset.saturating_add(count as u64).min(MAX_LENGTH);
+    (end as usize).div_ceil(RECORD_SIZE)
 }
 
 /// The objects that a group's operations are on, rising, with what they do to each.
 ///
-/// `maps` are those of the tree before the group, with the length of each object there: a set length is a cut where it is
+/// `maps` are those of the tree before the group, with the length of each object there: a set length is a cut if it is
 /// below the length that the object has by then.
 ///
 /// # Errors
@@ -147,12 +195,13 @@ pub fn changed_objects(
 {
     let mut objects = BTreeMap::new(alloc);
     for committed in pending {
-        note_committed(&mut objects, maps, committed, group)?;
+        note_committed(alloc, &mut objects, maps, committed, group)?;
     }
     Ok(objects)
 }
 
 fn note_committed(
+    alloc: Global,
     objects: &mut BTreeMap<ObjectId, ObjectChanges>,
     maps: &[ObjectMap],
     committed: &Committed,
@@ -166,11 +215,12 @@ fn note_committed(
     if committed.group != group {
         return Ok(());
     }
-    note_ops(objects, maps, committed.ops.as_slice())?;
+    note_ops(alloc, objects, maps, committed.ops.as_slice())?;
     Ok(())
 }
 
 fn note_ops(
+    alloc: Global,
     objects: &mut BTreeMap<ObjectId, ObjectChanges>,
     maps: &[ObjectMap],
     ops: &[Op],
@@ -181,12 +231,13 @@ fn note_ops(
     ensures refused { IfErr result (λ e. e ≡ error.NoMemory) }
 {
     for op in ops {
-        note_op(objects, maps, op)?;
+        note_op(alloc, objects, maps, op)?;
     }
     Ok(())
 }
 
 fn note_op(
+    alloc: Global,
     objects: &mut BTreeMap<ObjectId, ObjectChanges>,
     maps: &[ObjectMap],
     op: &Op,
@@ -197,41 +248,44 @@ fn note_op(
 {
     match op {
         Op::Create(id) | Op::Remove(id) => {
-            let mut changes = changes_of(objects, maps, *id);
+            let mut changes = take_changes(alloc, objects, maps, *id);
             changes.clear();
             put_changes(objects, *id, changes)
         }
         Op::Write(id, offset, bytes) => {
-            let mut changes = changes_of(objects, maps, *id);
-            changes.write(*offset, bytes.len());
+            let mut changes = take_changes(alloc, objects, maps, *id);
+            changes.write(*offset, bytes.len())?;
             put_changes(objects, *id, changes)
         }
         Op::SetLength(id, length) => {
-            let mut changes = changes_of(objects, maps, *id);
-            changes.set_length(*length);
+            let mut changes = take_changes(alloc, objects, maps, *id);
+            changes.set_length(*length)?;
             put_changes(objects, *id, changes)
         }
         Op::SetName(_) => Ok(()),
     }
 }
 
-// What was done to an object so far.
-fn changes_of(
-    objects: &BTreeMap<ObjectId, ObjectChanges>,
+// Takes out what was done to an object so far.
+fn take_changes(
+    alloc: Global,
+    objects: &mut BTreeMap<ObjectId, ObjectChanges>,
     maps: &[ObjectMap],
     id: ObjectId,
 ) -> ObjectChanges
-    ensures records { (r : ℕ) → state_at result r ≡ state_in objects.now.entries id.0 r }
-    ensures changed { result.is_changed ≡ is_changed_in objects.now.entries id.0 }
-    ensures length { result.length ≡ length_so_far maps.now objects.now.entries id.0 }
+    ensures records { (r : ℕ) → state_at result r ≡ state_in objects.old.entries id.0 r }
+    ensures changed { result.is_changed ≡ is_changed_in objects.old.entries id.0 }
+    ensures length { result.length ≡ length_so_far maps.now objects.old.entries id.0 }
+    ensures others { (n : ℕ) → n ≢ id.0
+        → entry_of objects.new.entries n ≡ entry_of objects.old.entries n }
 {
-    match objects.get(&id) {
-        Some(changes) => *changes,
-        None => ObjectChanges::none(length_before(maps, id)),
+    match objects.remove(&id) {
+        Some(changes) => changes,
+        None => ObjectChanges::none(alloc, length_before(maps, id)),
     }
 }
 
-// The length of an object before the group, 0 where it is absent.
+// The length of an object before the group, 0 if it is absent.
 fn length_before(maps: &[ObjectMap], id: ObjectId) -> u64
     ensures { result ≡ unwrap_or (map_length maps.now id.0) 0 }
 {
@@ -250,14 +304,4 @@ fn put_changes(
 {
     objects.insert(id, changes)?;
     Ok(())
-}
-
-/// Whether a record has a byte of a write.
-pub fn is_touched(index: usize, offset: u64, count: usize) -> bool
-    requires { index < 84 }
-    ensures { result ≡ is_record_touched index offset count }
-{
-    let end = offset.saturating_add(count as u64);
-    let low = (RECORD_SIZE * index) as u64;
-    offset < low + RECORD_SIZE as u64 && low < end
 }

@@ -1,5 +1,5 @@
-//! What callers rest on: one function for each promise of this crate's calls, proved from the contract of the call alone. So it
-//! is refused as soon as that contract says less.
+//! What callers rest on: one function for each promise of this crate's calls, proved from the contract of the call
+//! alone. So it is refused as soon as that contract says less.
 
 ghost use Rattle.std.specs.Prelude.{◌≡◌, ◌<◌, ◌≤◌, ◌∷◌, [], ℕ, All, IfErr, IfOk, None, Ok, Some, false, is_some, length, map, nat_eq, true};
 ghost use Rattle.std.specs.FinMap as finite;
@@ -25,45 +25,51 @@ ghost use Rattle.tree_plans.specs.Walks.{is_any_touched};
 use crate::changes::{ObjectChanges, changed_objects};
 use crate::planner::{Committed, TreePlan};
 use crate::walk::{PlanSource, plan};
-use base::{Group, ObjectId, PoolError};
+use base::{Group, ObjectId, PoolError, RecordState};
 use object_maps::{ObjectMap, ObjectSource};
 use std::alloc::Global;
 use std::collections::BTreeMap;
 
 // A write of one byte makes its own record dirty, and no other.
-fn a_write_makes_its_own_record_dirty() -> ObjectChanges
-    ensures before { state_at result 0 ≡ state.Unchanged }
-    ensures here { state_at result 1 ≡ state.Dirty }
-    ensures changed { result.is_changed ≡ true }
-    ensures length { result.length ≡ 4033 }
+fn a_write_makes_its_own_record_dirty(alloc: Global) -> Result<ObjectChanges, PoolError>
+    ensures before { IfOk result (λ changes. state_at changes 0 ≡ state.Unchanged) }
+    ensures here { IfOk result (λ changes. state_at changes 1 ≡ state.Dirty) }
+    ensures changed { IfOk result (λ changes. changes.is_changed ≡ true) }
+    ensures length { IfOk result (λ changes. changes.length ≡ 4033) }
 {
-    let mut changes = ObjectChanges::none(0);
-    changes.write(4_032, 1);
-    changes
+    let mut changes = ObjectChanges::none(alloc, 0);
+    changes.write(4_032, 1)?;
+    Ok(changes)
 }
 
 // A cut to 5,000 bytes keeps record 0, goes into record 1 and leaves nothing of record 2.
-fn a_cut_makes_the_record_that_it_goes_into_dirty() -> ObjectChanges
-    ensures before { state_at result 0 ≡ state.Unchanged }
-    ensures here { state_at result 1 ≡ state.Dirty }
-    ensures behind { state_at result 2 ≡ state.Hole }
-    ensures length { result.length ≡ 5000 }
+fn a_cut_makes_the_record_that_it_goes_into_dirty(alloc: Global) -> Result<ObjectChanges, PoolError>
+    ensures before { IfOk result (λ changes. state_at changes 0 ≡ state.Unchanged) }
+    ensures here { IfOk result (λ changes. state_at changes 1 ≡ state.Dirty) }
+    ensures after { IfOk result (λ changes. state_at changes 2 ≡ state.Hole) }
+    ensures length { IfOk result (λ changes. changes.length ≡ 5000) }
 {
-    let mut changes = ObjectChanges::none(12_096);
-    changes.set_length(5_000);
-    changes
+    let mut changes = ObjectChanges::none(alloc, 12_096);
+    changes.set_length(5_000)?;
+    Ok(changes)
 }
 
 // A removed object has only holes, even if it was written before.
-fn a_removed_object_has_holes_alone() -> ObjectChanges
-    ensures first { state_at result 0 ≡ state.Hole }
-    ensures last { state_at result 83 ≡ state.Hole }
-    ensures length { result.length ≡ 0 }
+fn a_removed_object_has_holes_alone(alloc: Global) -> Result<ObjectChanges, PoolError>
+    ensures first { IfOk result (λ changes. state_at changes 0 ≡ state.Hole) }
+    ensures last { IfOk result (λ changes. state_at changes 83 ≡ state.Hole) }
+    ensures length { IfOk result (λ changes. changes.length ≡ 0) }
 {
-    let mut changes = ObjectChanges::none(0);
-    changes.write(0, 5);
+    let mut changes = ObjectChanges::none(alloc, 0);
+    changes.write(0, 5)?;
     changes.clear();
-    changes
+    Ok(changes)
+}
+
+// A record that no operation came to stays as it is.
+fn a_record_without_operations_is_unchanged(alloc: Global) {
+    let changes = ObjectChanges::none(alloc, 5_000);
+    prove!(changes.state(1) == RecordState::Unchanged);
 }
 
 // Operations of group 5 change nothing in group 6.

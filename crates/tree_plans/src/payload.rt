@@ -3,6 +3,7 @@
 ghost use Rattle.std.specs.Prelude.{◌≡◌, ◌≢◌, ◌&&◌, ◌<◌, ◌≤◌, ℕ, length, replicate, slice_index_or};
 ghost use Rattle.std.specs.List.{list_any};
 ghost use Rattle.base.specs.formats.Fields.{entry_in, entry_length, entry_pointer, entry_present, no_pointer, pointer_in};
+ghost use Rattle.base.specs.formats.Limits.{entry_count, entry_size, object_count, payload_size, pointer_count};
 ghost use Rattle.checked_blocks.specs.Sealing.{zeros};
 ghost use Rattle.tree_plans.specs.Changes.{has_address};
 ghost use Rattle.tree_plans.specs.Walks.{AreEntriesWritten, IsEntryOfLength, indirect_after};
@@ -13,21 +14,21 @@ use object_maps::{ObjectMap, ObjectSource, Tree};
 use std::collections::BTreeMap;
 
 /// A payload of pointers.
-pub fn payload_of(pointers: &[Pointer]) -> [u8; 4032]
-    requires { length pointers.now ≡ 84 }
-    ensures size { length result ≡ 4032 }
-    ensures pointers { (r : ℕ) → r < 84
+pub fn payload_of(pointers: &[Pointer]) -> [u8; PAYLOAD_SIZE]
+    requires { length pointers.now ≡ pointer_count }
+    ensures size { length result ≡ payload_size }
+    ensures pointers { (r : ℕ) → r < pointer_count
         → pointer_in result r ≡ slice_index_or pointers.now r no_pointer }
 {
     let mut payload = [0; PAYLOAD_SIZE];
     for (index, pointer) in pointers.iter().enumerate() {
-        put_pointer(&mut payload, index, pointer);
+        put_pointer(&mut payload, index, *pointer);
     }
     payload
 }
 
-/// Whether an indirect block over these pointers is written: an operation wrote its object or set its length, and one of
-/// them names a block.
+/// Whether an indirect block over these pointers is written: an operation wrote its object or set its length, and one
+/// of them names a block.
 pub fn is_indirect_written(is_changed: bool, records: &[Pointer]) -> bool
     ensures { result ≡ (is_changed && list_any has_address records.now) }
 {
@@ -42,17 +43,14 @@ fn has_block(pointers: &[Pointer]) -> bool
 }
 
 // Writes the pointer of this number.
-fn put_pointer(payload: &mut [u8], index: usize, pointer: &Pointer)
-    requires size { length payload.old ≡ 4032 }
-    requires index { index < 84 }
-    ensures size { length payload.new ≡ 4032 }
-    ensures here { pointer_in payload.new index ≡ pointer.now }
+fn put_pointer(payload: &mut [u8], index: usize, pointer: Pointer)
+    requires size { length payload.old ≡ payload_size }
+    requires index { index < pointer_count }
+    ensures size { length payload.new ≡ payload_size }
+    ensures here { pointer_in payload.new index ≡ pointer }
     ensures others { (r : ℕ) → r ≢ index → pointer_in payload.new r ≡ pointer_in payload.old r }
 {
-    // Their types bound its numbers.
-    let _address = pointer.address;
-    let _birth = pointer.birth;
-    write_pointer(payload, POINTER_SIZE * index, pointer);
+    write_pointer(payload, POINTER_SIZE * index, &pointer);
 }
 
 /// The payload of a directory: an entry for each of its objects that is there, and zeros for the others.
@@ -61,29 +59,29 @@ pub fn directory_payload<O: ObjectSource>(
     tree: &Tree,
     maps: &BTreeMap<ObjectId, ObjectMap>,
     directory: usize,
-) -> [u8; 4032]
-    requires { directory < 84 }
-    ensures size { length result ≡ 4032 }
+) -> [u8; PAYLOAD_SIZE]
+    requires { directory < pointer_count }
+    ensures size { length result ≡ payload_size }
     ensures entries { AreEntriesWritten tree.now.maps.items maps.now.entries
-        (O.objects after.now) directory 63 result }
+        (O.objects after.now) directory entry_count result }
 {
     let mut payload = empty_payload();
     for index in 0..ENTRY_COUNT {
         let id = ObjectId((ENTRY_COUNT * directory + index) as u32);
         let indirect = planned_indirect(tree, maps, id);
-        put_object(&mut payload, index, after.length(id), &indirect);
+        put_object(&mut payload, index, after.length(id), indirect);
     }
     payload
 }
 
 // Writes the entry of an object, if it is there. The entry is zeros before.
-fn put_object(payload: &mut [u8], index: usize, size: Option<u64>, indirect: &Pointer)
-    requires size { length payload.old ≡ 4032 }
-    requires in_range { index < 63 }
-    requires empty { entry_in payload.old index ≡ replicate 64 0 }
-    ensures size { length payload.new ≡ 4032 }
-    ensures here { IsEntryOfLength (entry_in payload.new index) indirect.now size }
-    ensures others { (k : ℕ) → k < 63 → k ≢ index
+fn put_object(payload: &mut [u8], index: usize, size: Option<u64>, indirect: Pointer)
+    requires size { length payload.old ≡ payload_size }
+    requires in_range { index < entry_count }
+    requires empty { entry_in payload.old index ≡ replicate entry_size 0 }
+    ensures size { length payload.new ≡ payload_size }
+    ensures here { IsEntryOfLength (entry_in payload.new index) indirect size }
+    ensures others { (k : ℕ) → k < entry_count → k ≢ index
         → entry_in payload.new k ≡ entry_in payload.old k }
 {
     if let Some(size) = size {
@@ -92,15 +90,15 @@ fn put_object(payload: &mut [u8], index: usize, size: Option<u64>, indirect: &Po
 }
 
 /// A payload of zeros.
-pub fn empty_payload() -> [u8; 4032]
-    ensures { result ≡ zeros 4032 }
+pub fn empty_payload() -> [u8; PAYLOAD_SIZE]
+    ensures { result ≡ zeros payload_size }
 {
     [0; PAYLOAD_SIZE]
 }
 
 // The pointer to the indirect block of an object after the plan.
 fn planned_indirect(tree: &Tree, maps: &BTreeMap<ObjectId, ObjectMap>, id: ObjectId) -> Pointer
-    requires { id.0 < 5292 }
+    requires { id.0 < object_count }
     ensures { result ≡ indirect_after tree.now.maps.items maps.now.entries id.0 }
 {
     match maps.get(&id) {
@@ -110,21 +108,18 @@ fn planned_indirect(tree: &Tree, maps: &BTreeMap<ObjectId, ObjectMap>, id: Objec
 }
 
 // Writes the entry of an object that is there: 1, its length, and the pointer to its indirect block.
-fn write_entry(payload: &mut [u8], index: usize, size: u64, indirect: &Pointer)
-    requires size { length payload.old ≡ 4032 }
-    requires in_range { index < 63 }
-    ensures size { length payload.new ≡ 4032 }
+fn write_entry(payload: &mut [u8], index: usize, size: u64, indirect: Pointer)
+    requires size { length payload.old ≡ payload_size }
+    requires in_range { index < entry_count }
+    ensures size { length payload.new ≡ payload_size }
     ensures present { entry_present (entry_in payload.new index) ≡ 1 }
     ensures length { entry_length (entry_in payload.new index) ≡ size }
-    ensures pointer { entry_pointer (entry_in payload.new index) ≡ indirect.now }
-    ensures others { (k : ℕ) → k < 63 → k ≢ index
+    ensures pointer { entry_pointer (entry_in payload.new index) ≡ indirect }
+    ensures others { (k : ℕ) → k < entry_count → k ≢ index
         → entry_in payload.new k ≡ entry_in payload.old k }
 {
-    // Their types bound its numbers.
-    let _address = indirect.address;
-    let _birth = indirect.birth;
     let at = ENTRY_SIZE * index;
     write_u64(payload, at, 1);
     write_u64(payload, at + 8, size);
-    write_pointer(payload, at + 16, indirect);
+    write_pointer(payload, at + 16, &indirect);
 }

@@ -1,8 +1,9 @@
-//! The plan of a sync's tree: which blocks a group's operations make, where they lie, and what they replace. Live blocks
-//! are never overwritten (On-Disk Specification, chapter 2): each block is written to a free place.
+//! The plan of a sync's tree: which blocks a group's operations make, where they lie, and what they replace. Live
+//! blocks are never overwritten (On-Disk Specification, chapter 2): each block is written to a free place.
 
 ghost use Rattle.std.specs.Prelude.{◌≡◌, ◌<◌, All, length, vec_len};
-ghost use Rattle.base.specs.formats.Geometry.{block_count};
+ghost use Rattle.base.specs.formats.Geometry.{block_count, block_size};
+ghost use Rattle.base.specs.formats.Limits.{object_count, payload_size, pointer_count, record_count};
 ghost use Rattle.tree_plans.specs.declared.planner.PlannedBlock.{PlannedBlock};
 
 use crate::changes::ObjectChanges;
@@ -45,7 +46,7 @@ pub struct TreePlan {
     pub root: Pointer,
     /// The blocks that are replaced, by their addresses.
     pub freed: Vec<u64>,
-    ghost all_directories: { vec_len directories ≡ 84 },
+    ghost all_directories: { vec_len directories ≡ pointer_count },
 }
 
 /// The blocks that a plan has taken so far.
@@ -60,7 +61,7 @@ pub struct Planner {
     pub blocks: Vec<PlannedBlock>,
     pub freed: Vec<u64>,
     ghost placed: { All (λ (b : PlannedBlock). b.index < block_count geometry) blocks.items },
-    ghost whole: { All (λ (b : PlannedBlock). length b.block ≡ 4096) blocks.items },
+    ghost whole: { All (λ (b : PlannedBlock). length b.block ≡ block_size) blocks.items },
 }
 
 impl Planner {
@@ -72,7 +73,7 @@ impl Planner {
     ghost use Rattle.std.specs.FinMap as finite;
     ghost use Rattle.space.specs.FreeSets.{free_from};
     ghost use Rattle.base.specs.tree.Syncs.{is_dirty};
-    ghost use Rattle.tree_plans.specs.Parts.{ClearsPlace, PlansIndirect, PlansObject, PlansRecord, PlansRecords, TakesBlock, TellsLack};
+    ghost use Rattle.tree_plans.specs.Parts.{ClearsPlace, PlansIndirect, PlansObject, PlansRecord, PlansRecords, ReadsObjects, TakesBlock, TellsLack};
     ghost use Rattle.tree_plans.specs.Plans.{IsWant, IsWantOr, indirect_state, is_dirty_in, place_of};
     ghost use Rattle.tree_plans.specs.Room.{count_if, count_where, needed_blocks};
 
@@ -85,7 +86,7 @@ impl Planner {
         replaced: &Pointer,
     ) -> Result<Pointer, PoolError>
         requires place { IsPlace (place_of place) }
-        requires payload { length payload.now ≤ 4032 }
+        requires payload { length payload.now ≤ payload_size }
         requires free { free.now.blocks ≡ block_count self.old.geometry }
         ensures geometry { self.new.geometry ≡ self.old.geometry }
         ensures taken { IfOk result
@@ -131,16 +132,14 @@ impl Planner {
         old: &Pointer,
         state: RecordState,
     ) -> Result<Pointer, PoolError>
-        requires number { place.id.0 < 5292 }
-        requires index { place.index < 84 }
+        requires number { place.id.0 < object_count }
+        requires index { place.index < record_count }
         requires free { free.now.blocks ≡ block_count self.old.geometry }
         ensures geometry { self.new.geometry ≡ self.old.geometry }
-        ensures same_objects { O.objects after.new ≡ O.objects after.old }
         ensures planned { IfOk result (PlansRecord free.now place
             (object_bytes (O.objects after.old) place.id.0) old.now state self.old self.new) }
         ensures full { IfErr result (TellsLack free.now self.old (count_if (is_dirty state))) }
-        ensures refused { IfErr result (IsWantOr O.may_refuse) }
-        ensures counted { O.refused after.new ≡ counted result (O.refused after.old) }
+        ensures reads { ReadsObjects O.objects O.may_refuse O.refused result after.old after.new }
     {
         match state {
             RecordState::Unchanged => Ok(*old),
@@ -162,30 +161,28 @@ impl Planner {
         old: &ObjectMap,
         changes: &ObjectChanges,
     ) -> Result<Vec<Pointer>, PoolError>
-        requires number { id.0 < 5292 }
+        requires number { id.0 < object_count }
         requires free { free.now.blocks ≡ block_count self.old.geometry }
         ensures geometry { self.new.geometry ≡ self.old.geometry }
-        ensures count { IfOk result (λ records. vec_len records ≡ 84) }
-        ensures same_objects { O.objects after.new ≡ O.objects after.old }
+        ensures count { IfOk result (λ records. vec_len records ≡ record_count) }
         ensures planned { IfOk result (λ records.
             PlansRecords free.now id (object_bytes (O.objects after.old) id.0) old.now changes.now
             self.old self.new records.items) }
         ensures full { IfErr result
-            (TellsLack free.now self.old (count_where (is_dirty_in changes.now) 84)) }
-        ensures refused { IfErr result (IsWantOr O.may_refuse) }
-        ensures counted { O.refused after.new ≡ counted result (O.refused after.old) }
+            (TellsLack free.now self.old (count_where (is_dirty_in changes.now) record_count)) }
+        ensures reads { ReadsObjects O.objects O.may_refuse O.refused result after.old after.new }
     {
         let mut records = Vec::with_capacity(self.alloc, POINTER_COUNT)?;
         for index in 0..POINTER_COUNT {
             let place = RecordPlace { id, index };
             let was = old.record(index);
-            let pointer = self.place_record(free, place, after, &was, changes.records[index])?;
+            let pointer = self.place_record(free, place, after, &was, changes.state(index))?;
             records.push_reserved(pointer);
         }
         Ok(records)
     }
 
-    // The pointer to the indirect block over these records: it is written where some record has a block.
+    // The pointer to the indirect block over these records: it is written if some record has a block.
     fn place_indirect(
         &mut self,
         free: &FreeSet,
@@ -194,8 +191,8 @@ impl Planner {
         old: &Pointer,
         is_changed: bool,
     ) -> Result<Pointer, PoolError>
-        requires number { id.0 < 5292 }
-        requires count { length records.now ≡ 84 }
+        requires number { id.0 < object_count }
+        requires count { length records.now ≡ pointer_count }
         requires free { free.now.blocks ≡ block_count self.old.geometry }
         ensures geometry { self.new.geometry ≡ self.old.geometry }
         ensures planned { IfOk result
@@ -219,18 +216,16 @@ impl Planner {
         old: &ObjectMap,
         changes: &ObjectChanges,
     ) -> Result<ObjectMap, PoolError>
-        requires number { id.0 < 5292 }
+        requires number { id.0 < object_count }
         requires free { free.now.blocks ≡ block_count self.old.geometry }
         ensures geometry { self.new.geometry ≡ self.old.geometry }
-        ensures same_objects { O.objects after.new ≡ O.objects after.old }
         ensures planned { IfOk result (PlansObject free.now id
             (finite.get (O.objects after.old) id.0) old.now changes.now self.old self.new) }
         ensures length { IfOk result (λ map.
             map.length ≡ object_length (O.objects after.old) id.0) }
         ensures full { IfErr result
             (TellsLack free.now self.old (needed_blocks changes.now old.now)) }
-        ensures refused { IfErr result (IsWantOr O.may_refuse) }
-        ensures counted { O.refused after.new ≡ counted result (O.refused after.old) }
+        ensures reads { ReadsObjects O.objects O.may_refuse O.refused result after.old after.new }
     {
         let length = after.length(id);
         let records = self.place_records(free, id, after, old, changes)?;

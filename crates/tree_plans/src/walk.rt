@@ -1,28 +1,29 @@
 //! The walk of a sync over a tree: which blocks it writes, and in which order.
 //!
-//! Live blocks are never overwritten (On-Disk Specification, chapter 2), so a block that changes moves, and what points to
-//! it changes too: a record changes its indirect block, that its directory, and that the root. A pointer has the check of
-//! its block, so the walk goes from the records up:
+//! Live blocks are never overwritten (On-Disk Specification, chapter 2), so a block that changes moves, and what points
+//! to it changes too: a record changes its indirect block, that its directory, and that the root. A pointer has the
+//! check of its block, so the walk goes from the records up:
 //!
-//! 1. each object that an operation is on, rising: its dirty records, rising, and behind them its indirect block;
+//! 1. each object that an operation is on, rising: its dirty records, rising, and after them its indirect block;
 //! 2. each directory with such an object, rising;
-//! 3. the root, where there is such an object.
+//! 3. the root, if there is such an object.
 //!
-//! A block above the records is written where something below it is left: a record with a block, an object that is there.
+//! A block above the records is written if something below it is left: a record with a block, an object that is there.
 //! Otherwise its place has no block any more, and what it had comes back. So does the block of a record that is a hole.
 //!
-//! Each block takes the lowest free place behind the one before it. No flag of the free set changes here, so a plan that is
-//! refused has changed nothing.
+//! Each block takes the lowest free place after the one before it. No flag of the free set changes here, so a plan that
+//! is refused has changed nothing.
 
 ghost use Rattle.std.specs.Prelude.{◌≡◌, ◌<◌, ◌||◌, [], List, Some, false, length, vec_len, IfOk, IfErr, OnOk};
 ghost use Rattle.base.specs.declared.error.PoolError.TheVariants as error;
 ghost use Rattle.base.specs.declared.names.ObjectId.{ObjectId};
 ghost use Rattle.base.specs.disk.Calls.{counted};
 ghost use Rattle.base.specs.formats.Geometry.{block_count};
+ghost use Rattle.base.specs.formats.Limits.{pointer_count};
 ghost use Rattle.base.specs.tree.Syncs.{is_dirty};
 ghost use Rattle.tree_plans.specs.Changes.{AreInRange};
 ghost use Rattle.tree_plans.specs.declared.changes.ObjectChanges.{ObjectChanges};
-ghost use Rattle.tree_plans.specs.Parts.{GoesOver, HasNothing, PlansDirectories, PlansDirectory, PlansObjects, PlansRoot, PlansTree, TellsLack, group_in};
+ghost use Rattle.tree_plans.specs.Parts.{GoesOver, HasNothing, PlansDirectories, PlansDirectory, PlansObjects, PlansRoot, PlansTree, ReadsObjects, TellsLack, group_in};
 ghost use Rattle.tree_plans.specs.Plans.{IsWant, IsWantOr, state_above};
 ghost use Rattle.tree_plans.specs.Pointers.{entry_of};
 ghost use Rattle.tree_plans.specs.Room.{changed_blocks, count_if, directory_blocks, object_blocks, tree_blocks};
@@ -53,7 +54,7 @@ fn is_touched(objects: &BTreeMap<ObjectId, ObjectChanges>, directory: usize) -> 
 
 // Whether an object of a directory is there.
 fn has_object_in<O: ObjectSource>(after: &O, directory: usize) -> bool
-    requires { directory < 84 }
+    requires { directory < pointer_count }
     ensures { result ≡ has_object (O.objects after.now) directory }
 {
     let first = ENTRY_COUNT * directory;
@@ -81,7 +82,7 @@ fn is_replaced(objects: &BTreeMap<ObjectId, ObjectChanges>, emptied: bool, direc
     emptied || is_touched(objects, directory)
 }
 
-// What the sync does with a place above the records, where something below it changes, and something is left there.
+// What the sync does with a place above the records, if something below it changes, and something is left there.
 fn state_of(touched: bool, left: bool) -> RecordState
     ensures { result ≡ state_above touched left }
 {
@@ -104,26 +105,27 @@ pub struct PlanSource<'a> {
     pub free: &'a FreeSet,
 }
 
-/// Plans the tree after a group whose operations do this to objects: for rising objects their dirty records rising and then
-/// their indirect block; then directories rising; then the root. Each takes the lowest free block. Live blocks are not
-/// overwritten (On-Disk Specification, chapter 2): what is replaced, or has no place any more, comes back by its address.
+/// Plans the tree after a group whose operations do this to objects: for rising objects their dirty records rising and
+/// then their indirect block; then directories rising; then the root. Each takes the lowest free block. Live blocks are
+/// not overwritten (On-Disk Specification, chapter 2): what is replaced, or has no place any more, comes back by its
+/// address.
 ///
 /// `after` gives the objects after the group. Only the records that are written are read.
 ///
-/// - `taken`: the blocks are whole and the lowest free ones. Where each object that an operation is on has a number below
+/// - `taken`: the blocks are whole and the lowest free ones. If each object that an operation is on has a number below
 ///   5,292 they stand in the order of the places that the definitions write, one for each.
-/// - `tree`: what becomes of each place of the tree. The states of the records have to cover all that differs from before
-///   (`IsCoveredBy`), and to fit the objects after (`AreChanges`); the pointers before have to be those of a tree
-///   (`AreTreePointers`). Each block is behind a pointer, and the root stays where no operation is on an object.
+/// - `tree`: what becomes of each place of the tree. The states of the records have to cover all that differs from
+///   before (`IsCoveredBy`), and to fit the objects after (`AreChanges`); the pointers before have to be those of a
+///   tree (`AreTreePointers`). Each block has a pointer to it, and the root stays if no operation is on an object.
 /// - `lengths`: of each object that an operation is on, the tree has the length that it has after the group, and of any
 ///   other the one that it had.
 /// - `freed`: what comes back lies in the block area, and is what the plan replaces or clears, each once if no two
 ///   places had blocks at one address (`AreApart`).
-/// - `counted`: a read of the objects that a device refused is told as that, and nothing else is.
+/// - `counted`: a read of the objects that a device refused is reported as such, and nothing else is.
 ///
 /// # Errors
-/// `NoSpace`, where each such object has a number below 5,292 only if fewer blocks are free than there are places to write
-/// (`full`); `NoMemory`; and what a read of the objects may be refused with (`refused`).
+/// `NoSpace`; if each such object has a number below 5,292, only if fewer blocks are free than there are places to
+/// write (`full`); `NoMemory`; and what a read of the objects may be refused with (`refused`).
 pub fn plan<O: ObjectSource>(
     source: &PlanSource<'_>,
     after: &mut O,
@@ -184,9 +186,7 @@ fn place_tree<O: ObjectSource>(
         → TellsLack source.now.free.now planner.old
         (tree_blocks (group_in source.now (O.objects after.old) objects.now.entries)) e) }
     ensures kept { OnOk result (objects.now.entries ≡ [] → planner.new ≡ planner.old) }
-    ensures same_objects { O.objects after.new ≡ O.objects after.old }
-    ensures refused { IfErr result (IsWantOr O.may_refuse) }
-    ensures counted { O.refused after.new ≡ counted result (O.refused after.old) }
+    ensures reads { ReadsObjects O.objects O.may_refuse O.refused result after.old after.new }
 {
     let maps = place_objects(planner, source, after, objects)?;
     let directories = place_directories(planner, source, after, objects, &maps)?;
@@ -198,7 +198,7 @@ fn place_tree<O: ObjectSource>(
     })
 }
 
-// The root, where an operation is on an object.
+// The root, if an operation is on an object.
 fn place_root<O: ObjectSource>(
     planner: &mut Planner,
     source: &PlanSource<'_>,
@@ -208,7 +208,7 @@ fn place_root<O: ObjectSource>(
 ) -> Result<Pointer, PoolError>
     requires geometry { planner.old.geometry ≡ source.now.geometry }
     requires free { source.now.free.now.blocks ≡ block_count source.now.geometry }
-    requires count { length directories.now ≡ 84 }
+    requires count { length directories.now ≡ pointer_count }
     ensures geometry { planner.new.geometry ≡ planner.old.geometry }
     ensures planned { IfOk result
         (PlansRoot source.now (O.objects after.now) objects.now directories.now
@@ -249,9 +249,7 @@ fn place_objects<O: ObjectSource>(
         → TellsLack source.now.free.now planner.old
         (changed_blocks (group_in source.now (O.objects after.old) objects.now.entries)) e) }
     ensures kept { OnOk result (objects.now.entries ≡ [] → planner.new ≡ planner.old) }
-    ensures same_objects { O.objects after.new ≡ O.objects after.old }
-    ensures refused { IfErr result (IsWantOr O.may_refuse) }
-    ensures counted { O.refused after.new ≡ counted result (O.refused after.old) }
+    ensures reads { ReadsObjects O.objects O.may_refuse O.refused result after.old after.new }
 {
     let mut maps = BTreeMap::new(source.alloc);
     for (id, changes) in objects.iter() {
@@ -279,9 +277,7 @@ fn place_changed<O: ObjectSource>(
         → entry_of objects id.0 ≡ Some changes.now
         → TellsLack source.now.free.now planner.old
         (object_blocks (group_in source.now (O.objects after.old) objects) id.0) e) }
-    ensures same_objects { O.objects after.new ≡ O.objects after.old }
-    ensures refused { IfErr result (IsWantOr O.may_refuse) }
-    ensures counted { O.refused after.new ≡ counted result (O.refused after.old) }
+    ensures reads { ReadsObjects O.objects O.may_refuse O.refused result after.old after.new }
 {
     if id.0 >= OBJECT_COUNT {
         return Ok(());
@@ -302,7 +298,7 @@ fn place_directories<O: ObjectSource>(
     requires geometry { planner.old.geometry ≡ source.now.geometry }
     requires free { source.now.free.now.blocks ≡ block_count source.now.geometry }
     ensures geometry { planner.new.geometry ≡ planner.old.geometry }
-    ensures count { IfOk result (λ directories. vec_len directories ≡ 84) }
+    ensures count { IfOk result (λ directories. vec_len directories ≡ pointer_count) }
     ensures planned { IfOk result (λ directories. PlansDirectories
         source.now (O.objects after.now) objects.now maps.now
         planner.old planner.new directories.items) }
@@ -322,7 +318,7 @@ fn place_directories<O: ObjectSource>(
     Ok(directories)
 }
 
-// A directory, where something of it changes.
+// A directory, if something of it changes.
 fn place_directory<O: ObjectSource>(
     planner: &mut Planner,
     source: &PlanSource<'_>,
@@ -333,7 +329,7 @@ fn place_directory<O: ObjectSource>(
 ) -> Result<Pointer, PoolError>
     requires geometry { planner.old.geometry ≡ source.now.geometry }
     requires free { source.now.free.now.blocks ≡ block_count source.now.geometry }
-    requires index { index < 84 }
+    requires index { index < pointer_count }
     ensures geometry { planner.new.geometry ≡ planner.old.geometry }
     ensures planned { IfOk result
         (PlansDirectory source.now (O.objects after.now) maps.now index touched

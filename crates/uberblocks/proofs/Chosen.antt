@@ -13,7 +13,8 @@ use Rattle.uberblocks.proofs.Places.{StandsInRing-at, StandsAtPosition-count, co
 abbrev StandsAfter : List ℕ → ℕ → Fields → Type 0
 StandsAfter ring count u = StandsAtPosition ring (position_of count) u
 
--- of those that stand at the first n positions that are looked at the one of the highest group, and the first that has that group
+-- of those that stand at the first n positions that are looked at the one of the highest group, and the first that has
+-- that group
 pub record IsFirstHighest (ring : List ℕ) (n : ℕ) (u : Fields) : Type 0 where
   pub count : ℕ
   pub in_range : count < n

@@ -1,4 +1,4 @@
--- Fields that lie one behind the other.
+-- Fields that lie one after the other.
 use Rattle.std.proofs.Common.{ℕ, ◌≡◌, ◌+◌, ◌^◌, ◌<◌, List, ◌++◌, length, take, drop, refl, sym, ap, ◌∙◌, arith}
 use Rattle.std.proofs.lemmas.List.{take_at, drop_at, drop-drop, append_assoc, length-append}
 use Rattle.std.specs.Int.{from_le_bytes, w64}
@@ -21,7 +21,7 @@ number_first bytes rest at n left small =
 pub number_behind : (bytes rest : List ℕ) (at n : ℕ) → drop at bytes ≡ number_bytes n ++ rest → drop (at + 8) bytes ≡ rest
 number_behind bytes rest at n left = drop_first bytes (number_bytes n) rest at 8 left (length-number_bytes n)
 
--- the three parts of a pointer, and what is behind it
+-- the three parts of a pointer, and what is after it
 pub pointer_parts : (bytes rest : List ℕ) (at : ℕ) (p : Pointer) → drop at bytes ≡ pointer_bytes p ++ rest → drop at bytes ≡ number_bytes p.address ++ (number_bytes p.birth ++ (p.check ++ rest))
 pointer_parts bytes rest at p left =
     left ∙ append_assoc (number_bytes p.address) (number_bytes p.birth ++ p.check) rest

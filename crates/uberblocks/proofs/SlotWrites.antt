@@ -23,7 +23,7 @@ pub drop-zeros : (m n : ℕ) → drop m (zeros n) ≡ zeros (n - m)
 unfolding zeros
 drop-zeros m n = drop-replicate m n 0
 
--- a field is put behind those that were put at the front
+-- a field is put after those that were put at the front
 pub put_next : (at : ℕ) (done field bytes before after : List ℕ) → length done ≡ at → at + length field ≤ length bytes
     → before ≡ put 0 done bytes → after ≡ put at field before → after ≡ put 0 (done ++ field) bytes
 put_next at done field bytes before after long fits was now =
@@ -60,7 +60,7 @@ length-field_bytes u long =
 pub length-checked_bytes : (u : Fields) → length u.root.check ≡ 32 → length (checked_bytes u) ≡ 992
 length-checked_bytes u long = length-two (field_bytes u) (zeros 880) 112 880 (length-field_bytes u long) (length-zeros 880)
 
--- the fields one behind the other, from the front on
+-- the fields one after the other, from the front on
 nest : (a b c d e f g h i rest : List ℕ) → a ++ b ++ c ++ d ++ e ++ f ++ g ++ h ++ i ++ rest ≡ a ++ (b ++ (c ++ (d ++ (e ++ (f ++ (g ++ (h ++ (i ++ rest))))))))
 nest a b c d e f g h i rest = simp append_assoc
 

@@ -7,7 +7,7 @@ pub fn slots_read_back()
     ensures { SlotsReadBack }
 {}
 
-/// Bytes that are an uberblock are those that encoding it gives.
+/// Bytes that are an uberblock are those that encoding it writes.
 pub fn slots_are_spelled_once()
     ensures { SlotsSpelledOnce }
 {}
@@ -29,7 +29,7 @@ pub fn slots_differ()
     ensures { SlotsDiffer }
 {}
 
-/// What is active in the arrays of an image is what is active in the image, and none is where none is.
+/// The active uberblock of an image is that of its arrays; if the one has none, so does the other.
 pub fn rings_show_images()
     ensures active { RingsShowActives }
     ensures none { RingsShowNone }

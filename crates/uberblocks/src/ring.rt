@@ -1,17 +1,19 @@
 //! The uberblock arrays of the four labels, and the active uberblock in them.
 //!
-//! The rule is that of chapter 1 of the On-Disk Specification, which `vdev_uberblock_load` in OpenZFS's `vdev_label.c`
-//! carries out: of all valid uberblocks of all labels the active one has the highest transaction group. An uberblock is
-//! written to each label, so up to four have that group. They are the same, unless a crash came between their writes.
-//! OpenZFS goes on to compare their times; here the lowest label wins, since the times come from the caller.
+//! The rule is that of chapter 1 of the On-Disk Specification, which `vdev_uberblock_load` in OpenZFS's
+//! `vdev_label.c` carries out: of all valid uberblocks of all labels the active one has the highest transaction
+//! group. An uberblock is written to each label, so up to four have that group. They are the same, unless a crash
+//! came between their writes. OpenZFS goes on to compare their times; here the lowest label wins, since the times
+//! come from the caller.
 //!
-//! An uberblock counts in the slot of its group alone, which is the group modulo 128. So 128 groups pass before a slot
-//! is written again, and the uberblock of the group before stands untouched while the next is written. A valid one
-//! elsewhere was never written there, and is passed over.
+//! An uberblock counts in the slot of its group alone, which is the group modulo 128. So 128 groups pass before a
+//! slot is written again, and the uberblock of the group before stands untouched while the next is written. A valid
+//! one elsewhere was never written there, and is passed over.
 //!
 //! The search keeps the best uberblock so far and looks at 512 slots, label by label. In a label the last slot comes
-//! first, as groups rise from slot to slot: then most others are below the best. Fields cost little and the check much,
-//! so a slot's check is made only where its fields say that it would be better. What is found does not depend on it:
+//! first, as groups rise from slot to slot: then most others are below the best. Fields cost little and the check
+//! much, so a slot's check is made only if its fields say that it would be better. What is found does not depend
+//! on it:
 //!
 //! 1. after each slot the best is the active uberblock of the slots that were looked at (`IsBetterAt` says it of one);
 //! 2. a slot that is not above the best changes nothing, so of equal groups the first label's stays;
@@ -45,8 +47,8 @@ pub fn slot(group: Group) -> usize
 /// The active uberblock of the arrays of labels 0 to 3, which follow one another, 131,072 bytes each.
 ///
 /// Of the valid uberblocks that lie in the slot of their group it is the one of the highest group, and
-/// where several labels have that group, the lowest label's (On-Disk Specification, chapter 1). None
-/// where no valid one lies in the slot of its group. In a ring that syncs wrote few checks are made.
+/// if several labels have that group, the lowest label's (On-Disk Specification, chapter 1). None
+/// if no valid one lies in the slot of its group. In a ring that syncs wrote few checks are made.
 pub fn active(ring: &[u8]) -> Option<Uberblock>
     requires { length ring.now ≡ 4 * 131072 }
     ensures active { IfSome result (λ u. IsActiveInRing ring.now (fields_of u)) }
@@ -59,10 +61,11 @@ pub fn active(ring: &[u8]) -> Option<Uberblock>
     best
 }
 
-/// The position that is looked at after so many others, where the slots of label 0 have the positions 0 to 127, those of
-/// label 1 128 to 255, and so on.
+/// The position that is looked at after so many others, where the slots of label 0 have the positions 0 to 127, those
+/// of label 1 128 to 255, and so on.
 ///
-/// In a label groups mostly rise from slot to slot. So the last slot is looked at first: then most of the others are not above it.
+/// In a label groups mostly rise from slot to slot. So the last slot is looked at first: then most of the others are
+/// not above it.
 fn position(count: usize) -> usize
     requires { count < 512 }
     ensures position { result ≡ position_of count }
@@ -71,9 +74,9 @@ fn position(count: usize) -> usize
     SLOT_COUNT * (count / SLOT_COUNT) + (SLOT_COUNT - 1 - count % SLOT_COUNT)
 }
 
-/// The uberblock that stands at a position where its group is above that of the best so far, and otherwise the best.
+/// The uberblock that stands at a position if its group is above that of the best so far, and otherwise the best.
 ///
-/// A slot's check costs more than all its fields, and is made only where these say that it would be better.
+/// A slot's check costs more than all its fields, and is made only if these say that it would be better.
 fn better(ring: &[u8], position: usize, best: Option<Uberblock>) -> Option<Uberblock>
     requires size { length ring.now ≡ 4 * 131072 }
     requires in_range { position < 512 }

@@ -21,7 +21,7 @@ pub const SLOT_SIZE: usize = 1024;
 /// The number that an uberblock begins with.
 pub const MAGIC: u64 = 0x00ba_b10c;
 
-/// Where the zeros behind the fields begin.
+/// Where the zeros after the fields begin.
 const ZEROS_PLACE: usize = 112;
 
 /// Where the check begins, and how many bytes it covers.
@@ -71,8 +71,8 @@ impl Uberblock {
 
     /// The uberblock that a slot holds.
     ///
-    /// None where the bytes are no uberblock: the magic, the zeros or the check disagree, the version is none that is known, the
-    /// group is not 4 to 2^60, or the import number or the log number is above 2^60.
+    /// None if the bytes are no uberblock: the magic, the zeros or the check disagree, the version is none that is
+    /// known, the group is not 4 to 2^60, or the import number or the log number is above 2^60.
     pub fn decode(bytes: &[u8; SLOT_SIZE]) -> Option<Uberblock>
         ensures uberblock { IfSome result (λ u. IsUberblock bytes.now (fields_of u)) }
         ensures found { (u : Uberblock) → IsUberblock bytes.now (fields_of u) → result ≡ Some u }
@@ -160,7 +160,7 @@ fn has_magic(bytes: &[u8]) -> bool
     read_u64(bytes, 0) == MAGIC
 }
 
-/// Whether a slot has zeros behind its fields.
+/// Whether a slot has zeros after its fields.
 fn is_clear(bytes: &[u8]) -> bool
     requires { length bytes.now ≡ 1024 }
     ensures { IsTrue result ↔ HasZeros bytes.now }

@@ -88,7 +88,8 @@ module _ {T V : Type 0} where
       pub each_seat : (j : ℕ) (d : Sight V) → get_elem? s.views j ≡ some d → Knows grows truth (slice_index s.words 0) holder j d.seen d.stage
       -- a seat's turns are all that the line has of it, and a number that no seat has yet has none
       pub own : (j : ℕ) (d : Sight V) → get_elem? s.views j ≡ some d → d.stage ≢ Spent → d.turns ≡ turns_of j turns
-      -- a seat with the number 0 is the only one that ever was, and has seen the truth; a lock with a source of seats has none
+      -- a seat with the number 0 is the only one that ever was, and has seen the truth; a lock with a source of seats
+      -- has none
       pub alone : (i j : ℕ) (d e : Sight V) → get_elem? s.views i ≡ some d → get_elem? s.views j ≡ some e → d.kin ≡ 0 → j ≡ i
       pub sees : (j : ℕ) (d : Sight V) → get_elem? s.views j ≡ some d → d.kin ≡ 0 → d.seen ≡ truth
       pub apart : first_kin ≢ 0 → (j : ℕ) (d : Sight V) → get_elem? s.views j ≡ some d → d.kin ≢ 0

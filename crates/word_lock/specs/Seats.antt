@@ -34,7 +34,8 @@ module _ {T R V : Type 0} where
   abbrev pub taken : Seat T R V → List (Turn V)
   taken s = s.inside.me.0.taken
 
-  -- The seat's number: 0 while it is the only one that the lock ever had, 1 at a new seat of a lock that has others. Each split adds 1, and nothing makes it less.
+  -- The seat's number: 0 while it is the only one that the lock ever had, 1 at a new seat of a lock that has others.
+  -- Each split adds 1, and nothing makes it less.
   abbrev pub kin : Seat T R V → ℕ
   kin s = s.inside.me.0.kin
 
@@ -72,7 +73,8 @@ module _ {T R V : Type 0} where
   abbrev pub HasTurned : Seat T R V → Seat T R V → V → Type 0
   HasTurned s t v = (turns t ≡ turns s ++ turn (seen s) v ∷ []) × HasMetNone s t
 
-  -- The seat has got the lock with this value, which a view explains that goes on from what the seat had seen. It has met no other. The only seat that the lock ever had takes just what it had seen.
+  -- The seat has got the lock with this value, which a view explains that goes on from what the seat had seen. It has
+  -- met no other. The only seat that the lock ever had takes just what it had seen.
   abbrev pub HasTaken : (V → V → Type 0) → (V → T → Type 0) → Seat T R V → Seat T R V → T → Type 0
   HasTaken grows explains s t x = IsHolding t × (turns t ≡ turns s) × grows (seen s) (seen t) × explains (seen t) x × HasMetNone s t × (kin s ≡ 0 → seen t ≡ seen s)
 
@@ -105,6 +107,7 @@ module _ {T R A V : Type 0} where
   abbrev pub IsSourceOf : WordLock T R A V → SeatSource T R V → Type 0
   IsSourceOf l c = (source_table c ≡ lock_table l) × HasSource l
 
-  -- A value that the lock leaves: a view explains it that goes on from what the seat has seen, and the turns of all seats lead to this view. The only seat that the lock ever had has seen just this view.
+  -- A value that the lock leaves: a view explains it that goes on from what the seat has seen, and the turns of all
+  -- seats lead to this view. The only seat that the lock ever had has seen just this view.
   abbrev pub IsLastValue : (V → V → Type 0) → (V → T → Type 0) → WordLock T R A V → Seat T R V → T → Type 0
   IsLastValue grows explains l s x = (v : V) × explains v x × grows (seen s) v × IsTurnHistory grows (opening l) (seat_number s) (turns s) v × (kin s ≡ 0 → v ≡ seen s)

@@ -1,14 +1,15 @@
-//! What callers rest on: one function for each promise of this crate's calls, proved from the contract of the call alone. So it
-//! is refused as soon as that contract says less.
+//! What callers rest on: one function for each promise of this crate's calls, proved from the contract of the call
+//! alone. So it is refused as soon as that contract says less.
 //!
-//! The lock is one over a number that may only rise, and whose view is the number itself. Once 255 was put back, a seat that
-//! knows of it finds nothing else.
+//! The lock is one over a number that may only rise, and whose view is the number itself. Once 255 was put back, a
+//! seat that knows of it finds nothing else.
 ghost use Rattle.std.specs.Prelude.{◌≡◌, [], ◌∷◌, ◌++◌, ◌+◌, ◌≤◌, IfErr, IfOk, IfSome, IsSome};
 ghost use Rattle.std.proofs.Math.Nat.{le_refl, le_trans};
 ghost use Rattle.word_lock.specs.Seats.{kin, lock_table, opening, seat_table, seen, taken, turns, HasMetNone, IsIdle, IsSourceOf};
 ghost use Rattle.word_lock.specs.Turns.{turn};
 
-use crate::{Held, LockRule, Seat, SeatSource, Told, WordLock, release};
+use crate::{Held, LockRule, Seat, SeatSource, WordLock, release};
+use base::Told;
 use std::alloc::Global;
 use std::sync::Wait;
 
@@ -71,7 +72,8 @@ fn a_turn_is_from_what_was_taken_to_what_was_left<W: Wait>(
     found
 }
 
-// One turn of the seat itself, for which no other seat had one. The only seat of a lock always gets it and finds what it left.
+// One turn of the seat itself, for which no other seat had one. The only seat of a lock always gets it and finds what
+// it left.
 fn a_try_is_one_turn_and_the_only_seat_finds_what_it_left(
     seat: &mut Seat<u8, Rising>,
     lock: &Lock,

@@ -5,10 +5,11 @@
 //! in the slot while bit 0 is clear. While it is set the slot is that of the one seat that set the bit, which takes the
 //! value out and puts one back before it frees the lock.
 //!
-//! A seat takes the lock by a `fetch_or` of bit 0: where that bit was clear, the value in the slot is its own. It frees
+//! A seat takes the lock by a `fetch_or` of bit 0: if that bit was clear, the value in the slot is its own. It frees
 //! the lock in three steps, whose order is the rule of this crate:
 //!
-//! 1. a `fetch_or` of nothing, by which it goes on to the view that explains the new value, while the value is still out;
+//! 1. a `fetch_or` of nothing, by which it goes on to the view that explains the new value, while the value is still
+//!    out;
 //! 2. the value goes into the slot;
 //! 3. a `swap` clears both bits and counts one release more.
 //!
@@ -17,24 +18,24 @@
 //! clears bit 1 for all that sleep, so the one that wakes sets it again before it tries.
 //!
 //! `specs/Kept` is what holds between any two steps: the turns of all seats are one line from the view that the lock
-//! opened with to the view that explains the value; each idle seat has seen a view that this one goes on from; one seat
-//! at most has the lock; a seat's own turns are all that the line has of it; and a seat with the number 0 is the only one
-//! that the lock ever had, and has seen the view that explains the value. Nothing is promised of who gets the lock next.
-//! The crate's root says how this lock stands to those of OpenZFS.
+//! opened with to the view that explains the value; each idle seat has seen a view that this one goes on from; one
+//! seat at most has the lock; a seat's own turns are all that the line has of it; and a seat with the number 0 is the
+//! only one that the lock ever had, and has seen the view that explains the value. Nothing is promised of who gets
+//! the lock next. The crate's root says how this lock stands to those of OpenZFS.
 ghost use Rattle.std.specs.Prelude.{◌≡◌, [], ◌∷◌, Some, IfOk, IfErr};
 
 use crate::rule::{Keeps, LockRule, Opening, Sight};
 use crate::seat::Seat;
 use crate::source::SeatSource;
-use crate::told::Told;
 use crate::word::{FREE, is_held};
 use atomic_table::{Refused, Table};
-use base::PoolError;
+use base::{PoolError, Told};
 use std::alloc::{Allocator, Global};
 
 /// A lock over a value of type `T` under the rule `R`. Threads share it by reference, each with a seat of its own.
 ///
-/// It is one word and one slot. While the word is free, a view explains the value in the slot, and that view goes on from what every seat has seen. While it is held, this is so of the holder's view and value.
+/// It is one word and one slot. While the word is free, a view explains the value in the slot, and that view goes on
+/// from what every seat has seen. While it is held, this is so of the holder's view and value.
 #[derive(Drop)]
 pub struct WordLock<T, R: LockRule<T>, A: Allocator = Global> {
     pub(crate) table: Table<Option<T>, Sight<R::View>, Told<Opening<R::View>>, Keeps<R>, A>,
@@ -80,9 +81,11 @@ impl<T, R: LockRule<T>, A: Allocator> WordLock<T, R, A> {
     ghost use Rattle.base.specs.declared.error.PoolError.TheVariants.{NoMemory};
     ghost use Rattle.word_lock.specs.Seats.{kin, seen, seat_table, lock_table, opening, IsFirstSeat, IsIdle, IsLastValue, IsOpeningSeat, IsSourceOf};
 
-    /// A free lock over the value, which the view `first` explains, and its first seat, which has seen that view. All other seats of this lock come from that one by `Seat::split`: the first seat's number is 0, and while it is, the seat is the only one.
+    /// A free lock over the value, which the view `first` explains, and its first seat, which has seen that view. All
+    /// other seats of this lock come from that one by `Seat::split`: the first seat's number is 0, and while it is,
+    /// the seat is the only one.
     ///
-    /// Refused with `NoMemory` where there is no memory for the word and the slot. The value then comes back.
+    /// Refused with `NoMemory` if there is no memory for the word and the slot. The value then comes back.
     pub fn new(
         alloc: A,
         value: T,
@@ -99,7 +102,8 @@ impl<T, R: LockRule<T>, A: Allocator> WordLock<T, R, A> {
         WordLock::open(alloc, value, &without_source(first))
     }
 
-    /// A free lock over the value, which the view `first` explains, and its source of seats. No seat of this lock has the number 0, since the source may make one more at any time.
+    /// A free lock over the value, which the view `first` explains, and its source of seats. No seat of this lock has
+    /// the number 0, since the source may make one more at any time.
     ///
     /// Refused as `new`.
     pub fn with_source(
@@ -150,13 +154,14 @@ impl<T, R: LockRule<T>, A: Allocator> WordLock<T, R, A> {
         }
     }
 
-    /// The lock's word as it is at this moment, for a monitor: bit 0 says that the lock is held, bit 1 that a seat waits, and the
-    /// bits above count the releases. It never waits, and no clause rests on it.
+    /// The lock's word as it is at this moment, for a monitor: bit 0 says that the lock is held, bit 1 that a seat
+    /// waits, and the bits above count the releases. It never waits, and no clause rests on it.
     pub fn word(&self) -> u64 {
         self.table.shared.peek(0)
     }
 
-    /// The value, with a view that explains it and goes on from the one that the lock opened with. `None` only where the word stands held: a guard was never released.
+    /// The value, with a view that explains it and goes on from the one that the lock opened with. `None` only if
+    /// the word stands held: a guard was never released.
     pub fn close(self) -> Option<T>
     where
         T: Drop,
@@ -169,7 +174,9 @@ impl<T, R: LockRule<T>, A: Allocator> WordLock<T, R, A> {
         if held { None } else { value }
     }
 
-    /// The same, with a view that goes on from what the seat has seen too. The turns of all seats lead from the view that the lock opened with to this one, and the seat's own among them are just those that it knows of. The only seat that the lock ever had gets the value, and it is the one that the seat left.
+    /// The same, with a view that goes on from what the seat has seen too. The turns of all seats lead from the view
+    /// that the lock opened with to this one, and the seat's own among them are exactly those that it knows of. The
+    /// only seat that the lock ever had gets the value, and it is the one that the seat left.
     pub fn close_with(self, seat: Seat<T, R>) -> Option<T>
     where
         T: Drop,

@@ -1,4 +1,4 @@
-//! What each step on the table tells the seat that makes it.
+//! What a seat learns from each of its steps on the table.
 ghost use Rattle.std.specs.Prelude.{[], ◌+◌, ◌++◌};
 ghost use Rattle.word_lock.specs.Kept.{tried, stays, noted, freed, settled, sat, away, spent, met, with_split};
 
@@ -6,7 +6,7 @@ use crate::rule::{LockRule, Sight};
 use atomic_table::{Join, Play, Split};
 use std::marker::{Brand, PhantomData};
 
-// A `fetch_or` of the held bit: it gets the lock where that bit was clear.
+// A `fetch_or` of the held bit: it gets the lock if that bit was clear.
 pub(crate) struct Try<R> {
     rule: PhantomData<R>,
 }

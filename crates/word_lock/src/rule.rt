@@ -1,12 +1,13 @@
 //! The rule of the value under a lock, and what the table below keeps of it.
 ghost use Rattle.std.specs.Prelude.{◌≡◌, ℕ, List};
 
-use crate::told::Told;
 use atomic_table::TableRule;
+use base::Told;
 use std::collections::LinkedList;
 use std::marker::PhantomData;
 
-/// How the value under a lock may change. A view is what can be known of the value, as its history. It is a type of the rule's own, and no value of it is made.
+/// How the value under a lock may change. A view is what can be known of the value, as its history. It is a type of
+/// the rule's own, and no value of it is made.
 ///
 /// The last two members are the laws of a preorder, so an impl for a rule that is none is refused.
 pub trait LockRule<T> {
@@ -19,7 +20,7 @@ pub trait LockRule<T> {
     // The second view goes on from the first.
     ghost grows: { Self.View → Self.View → Type 0 };
 
-    // Any view, for a seat that a join has used up. Nothing is said of it.
+    // Any view, for a seat that a join has used up. Nothing is claimed of it.
     ghost blank: { Self.View };
 
     // Each view goes on from itself.
@@ -29,13 +30,18 @@ pub trait LockRule<T> {
     ghost onward: { (a b c : Self.View) → grows a b → grows b c → grows a c };
 }
 
-/// One turn of a seat with the lock: the view that explained the value as the seat took it, and the view that it put back. No value of it is made.
+/// One turn of a seat with the lock: the view that explained the value as the seat took it, and the view that it put
+/// back. No value of it is made.
+#[derive(Debug)]
 pub struct Turn<V> {
+    /// The view as the seat took the lock.
     pub took: V,
+    /// The view that it put back.
     pub left: V,
 }
 
-// Where a seat stands: it does not have the lock; it has met another seat in a join; it has the lock; it was used up by a join.
+// Where a seat stands: it does not have the lock; it has met another seat in a join; it has the lock; it was used up
+// by a join.
 pub(crate) enum Stage<V> {
     Away,
     Met(V),
@@ -50,14 +56,15 @@ pub(crate) struct Sight<V> {
     pub(crate) turns: LinkedList<Turn<V>>,
     // The turns of the seats that it joined, and of those that they had joined.
     pub(crate) taken: LinkedList<Turn<V>>,
-    // 0 while the seat is the only one that the lock ever had, 1 at a new seat of a lock that has others. Each split adds 1.
+    // 0 while the seat is the only one that the lock ever had, 1 at a new seat of a lock that has others. Each split
+    // adds 1.
     pub(crate) kin: u64,
 }
 
 // How a lock opens. No value of it is made.
 pub(crate) struct Opening<V> {
     pub(crate) view: V,
-    // The `kin` of the first seat: 0 where all other seats come from it by splits, 1 where a source makes seats too.
+    // The `kin` of the first seat: 0 if all other seats come from it by splits, 1 if a source makes seats too.
     pub(crate) kin: u64,
 }
 

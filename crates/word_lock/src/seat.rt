@@ -9,8 +9,8 @@ use crate::guard::{Guard, Held, seen_view};
 use crate::lock::WordLock;
 use crate::plays::{Copy, Free, Meet, Next, Note, Settle, Stay, Try};
 use crate::rule::{LockRule, Sight};
-use crate::told::Told;
 use crate::word::{HELD, WAITER, freed_word, is_held};
+use base::Told;
 use crossbeam_utils::Backoff;
 use std::alloc::Allocator;
 use std::marker::Brand;
@@ -19,16 +19,21 @@ use std::sync::Wait;
 // How often a seat tries for the lock before it sleeps. It is a tuning on which no clause rests.
 const TRIES: u32 = 16;
 
-/// A right to ask for a lock. It has no bytes, and a thread may hand it to another. It has seen a view, which all later views of the value go on from, and knows the turns that it has had with the lock.
+/// A right to ask for a lock. It has no bytes, and a thread may hand it to another. It has seen a view, which all
+/// later views of the value go on from, and knows the turns that it has had with the lock.
 ///
-/// It also has a number in the proofs, `kin`, which each `split` makes one more and no call makes less. So a contract that says that the number stays says that no seat was split off: a body that had its steps made by such a seat shows it for ever. What a seat that was joined had done is told by the list `taken`. A seat with the number 0 is the only one that its lock ever had, and finds the value as it left it.
+/// It also has a number in the proofs, `kin`, which each `split` makes one more and no call makes less. So a contract
+/// that says that the number stays says that no seat was split off: a body that had its steps made by such a seat
+/// shows it for ever. The list `taken` has what a seat that was joined had done. A seat with the number 0 is
+/// the only one that its lock ever had, and finds the value as it left it.
 #[derive(Drop)]
 pub struct Seat<T, R: LockRule<T>> {
     pub(crate) inside: atomic_table::Seat<Option<T>, Sight<R::View>>,
 }
 
 impl<T, R: LockRule<T>> Seat<T, R> {
-    /// Takes the lock where it is free, by one `fetch_or` of the held bit. It never waits. `None` where that bit was set, and then nothing has changed. The only seat that the lock ever had gets it always.
+    /// Takes the lock if it is free, by one `fetch_or` of the held bit. It never waits. `None` if that bit was
+    /// set, and then nothing has changed. The only seat that the lock ever had gets it always.
     ///
     /// The guard has the value, and the view that explains it, which goes on from what the seat had seen.
     pub fn try_acquire<'s, 'l, A: Allocator>(
@@ -62,7 +67,8 @@ impl<T, R: LockRule<T>> Seat<T, R> {
 
     /// Takes the lock, and waits while it is held. The guard is as that of `try_acquire`.
     ///
-    /// It tries 16 times with a back-off. Then it sets the waiter bit, sleeps where the word was held, and once woken sets the bit again before it tries, since the release that woke it has cleared the bit for all that sleep.
+    /// It tries 16 times with a back-off. Then it sets the waiter bit, sleeps if the word was held, and once woken
+    /// sets the bit again before it tries, since the release that woke it has cleared the bit for all that sleep.
     pub fn acquire<'s, 'l, A: Allocator, W: Wait>(
         &'s mut self,
         rt: &W,
@@ -85,7 +91,7 @@ impl<T, R: LockRule<T>> Seat<T, R> {
         }
     }
 
-    // The value, where the lock is free.
+    // The value, if the lock is free.
     fn try_take<A: Allocator>(&mut self, lock: &WordLock<T, R, A>) -> Option<T>
         requires own { seat_table self.old ≡ lock_table lock.now }
         requires idle { IsIdle self.old }
@@ -128,7 +134,7 @@ impl<T, R: LockRule<T>> Seat<T, R> {
         unreachable!()
     }
 
-    // Asks to be woken, sleeps where the lock is held, and asks again for those that still sleep.
+    // Asks to be woken, sleeps if the lock is held, and asks again for those that still sleep.
     fn sleep<A: Allocator, W: Wait>(&mut self, rt: &W, lock: &WordLock<T, R, A>)
         requires { seat_table self.old ≡ lock_table lock.now }
         ensures { IsSameSeat self.old self.new × (self.new.inside.me ≡ self.old.inside.me) }
@@ -141,11 +147,16 @@ impl<T, R: LockRule<T>> Seat<T, R> {
         }
     }
 
-    /// Frees the lock with this value, which the view `next` has to explain. It is `release` for a guard that was taken apart.
+    /// Frees the lock with this value, which the view `next` has to explain. It is `release` for a guard that was
+    /// taken apart.
     ///
-    /// The caller owes that the seat has this lock, as `acquire` and `try_acquire` leave it, and that `next` goes on from the view that the seat took. Afterwards the seat is idle, has seen `next`, and has had one turn more, from the view that it took to `next`.
+    /// The caller owes that the seat has this lock, as `acquire` and `try_acquire` leave it, and that `next` goes on
+    /// from the view that the seat took. Afterwards the seat is idle, has seen `next`, and has had one turn more,
+    /// from the view that it took to `next`.
     ///
-    /// The steps are: a `fetch_or` of nothing, by which the seat takes the view while the value is out still, the value into the slot, a `swap` that clears both bits of the word and counts one more, and where the waiter bit was set one wake. It never waits and is never refused.
+    /// The steps are: a `fetch_or` of nothing, by which the seat takes the view while the value is out still, the
+    /// value into the slot, a `swap` that clears both bits of the word and counts one more, and if the waiter bit
+    /// was set one wake. It never waits and is never refused.
     pub fn put_back<A: Allocator>(
         &mut self,
         lock: &WordLock<T, R, A>,
@@ -170,7 +181,8 @@ impl<T, R: LockRule<T>> Seat<T, R> {
         }
     }
 
-    /// One more seat, which has seen what this one has, and has had no turn. This one's number is one more afterwards, and nothing else of it changes. It never waits.
+    /// One more seat, which has seen what this one has, and has had no turn. This one's number is one more
+    /// afterwards, and nothing else of it changes. It never waits.
     pub fn split<A: Allocator>(&mut self, lock: &WordLock<T, R, A>) -> Seat<T, R>
         requires own { seat_table self.old ≡ lock_table lock.now }
         requires idle { IsIdle self.old }
@@ -183,7 +195,9 @@ impl<T, R: LockRule<T>> Seat<T, R> {
         }
     }
 
-    /// Takes in what another seat has seen, and uses that seat up. Afterwards this one has seen a view that goes on from both. Its turns are still its own alone: those of the other, and those that the other had taken over, follow in `taken`. It never waits.
+    /// Takes in what another seat has seen, and uses that seat up. Afterwards this one has seen a view that goes on
+    /// from both. Its turns are still its own alone: those of the other, and those that the other had taken over,
+    /// follow in `taken`. It never waits.
     pub fn join<A: Allocator>(&mut self, lock: &WordLock<T, R, A>, other: Seat<T, R>)
         requires own { seat_table self.old ≡ lock_table lock.now }
         requires same_lock { seat_table other ≡ lock_table lock.now }
@@ -200,7 +214,8 @@ impl<T, R: LockRule<T>> Seat<T, R> {
     }
 }
 
-// The holder's view becomes the one that `J` names, which is one more turn of its own. The bits of the word stay, and the slot is still empty.
+// The holder's view becomes the one that `J` names, which is one more turn of its own. The bits of the word stay, and
+// the slot is still empty.
 fn note<T, R: LockRule<T>, J: Next, A: Allocator>(
     lock: &WordLock<T, R, A>,
     seat: &mut atomic_table::Seat<Option<T>, Sight<R::View>>,

@@ -6,12 +6,15 @@ use crate::lock::WordLock;
 use crate::plays::Sit;
 use crate::rule::LockRule;
 use crate::seat::Seat;
-use crate::told::Told;
+use base::Told;
 use std::alloc::Allocator;
 
-/// A right to make seats of one lock. It has no bytes, threads share it by reference, and only `WordLock::with_source` makes one.
+/// A right to make seats of one lock. It has no bytes, threads share it by reference, and only
+/// `WordLock::with_source` makes one.
 ///
-/// It is no part of the lock, so whoever has a lock and a seat of it makes no other seat but by `Seat::split`, which the seat's number tells. So a call that has been given a lock and a seat makes no step on the value by a seat that its caller does not see.
+/// It is no part of the lock, so whoever has a lock and a seat of it makes no other seat but by `Seat::split`, which
+/// the seat's number shows. So a call that has been given a lock and a seat makes no step on the value by a seat that
+/// its caller does not see.
 #[derive(Drop)]
 pub struct SeatSource<T, R: LockRule<T>> {
     // The seat that the lock opened with, which names the lock's table.
@@ -28,7 +31,8 @@ impl<T, R: LockRule<T>> SeatSource<T, R> {
         }
     }
 
-    /// One more seat of the source's lock, at any time. It has seen a view that goes on from the one that the lock opened with, and has had no turn. It never waits.
+    /// One more seat of the source's lock, at any time. It has seen a view that goes on from the one that the lock
+    /// opened with, and has had no turn. It never waits.
     pub fn seat<A: Allocator>(&self, lock: &WordLock<T, R, A>) -> Seat<T, R>
         requires own { IsSourceOf lock.now self.now }
         ensures seat { IsNewSeat lock.now result }

@@ -1,14 +1,16 @@
 //! The command line: its words, their help, and the numbers that they spell.
 
-use clap::{Arg, ArgMatches, Command, Error, value_parser};
-use commands::{Arguments, CreateArguments, ScriptArguments};
+use crate::help;
+use clap::{Arg, ArgAction, ArgMatches, Command, Error, value_parser};
+use commands::{Arguments, CreateArguments, ScriptArguments, ScriptDevice};
 use std::alloc::{AllocError, Global};
 
+const SIZE_HELP: &str =
+    "The bytes of the device, in whole sectors of 512 bytes (a rest is ignored): \
+    6291456 to 1073741824, a multiple of 262144";
+
 fn number<'a>(alloc: Global, name: &'a str, help: &'a str) -> Arg<'a> {
-    Arg::new(alloc, name)
-        .required(true)
-        .help(help)
-        .value_parser(value_parser!(u64))
+    word(alloc, name, help).value_parser(value_parser!(u64))
 }
 
 fn word<'a>(alloc: Global, name: &'a str, help: &'a str) -> Arg<'a> {
@@ -25,26 +27,36 @@ fn moment<'a>(alloc: Global) -> Arg<'a> {
 }
 
 fn script_command<'a>(alloc: Global) -> Result<Command<'a>, AllocError> {
+    let size = Arg::new(alloc, "SIZE")
+        .help(SIZE_HELP)
+        .value_parser(value_parser!(u64))
+        .required_unless_present("file")?
+        .conflicts_with("file")?;
+    let file = Arg::new(alloc, "file").long("file").value_name("FILE").help(
+        "The path of a file to work on, in place of a device in memory of SIZE bytes",
+    );
     Command::new(alloc, "script")
-        .about("Runs a script on a pool in memory, and prints a line for each of its commands")
-        .after_help("Example: ztxg script 8388608 - < stdin")
-        .arg(number(
-            alloc,
-            "SIZE",
-            "The bytes of the device in memory: 6291456 to 1073741824, a multiple of 262144",
-        ))?
+        .about("Runs a script on a pool, and prints a line for each of its commands")
+        .after_help(help::SCRIPT)
+        .allow_missing_positional(true)
+        .arg(size)?
         .arg(word(
             alloc,
             "SCRIPT",
             "The path of the script, or - for standard input",
         ))?
+        .arg(file)?
         .arg(moment(alloc))
 }
 
 fn create_command<'a>(alloc: Global) -> Result<Command<'a>, AllocError> {
+    let only_new = Arg::new(alloc, "new")
+        .long("new")
+        .help("Refuses a FILE that exists already, which is left as it is")
+        .action(ArgAction::SetTrue);
     Command::new(alloc, "create")
         .about("Makes a new pool in a file, over what the file held, and prints its blocks")
-        .after_help("Example: ztxg create tank.pool tank 77 8388608")
+        .after_help(help::CREATE)
         .arg(word(
             alloc,
             "FILE",
@@ -56,29 +68,27 @@ fn create_command<'a>(alloc: Global) -> Result<Command<'a>, AllocError> {
             "The pool's name: 1 to 64 bytes, first a letter, then letters, digits, '-', '_', '.'",
         ))?
         .arg(number(alloc, "GUID", "The pool's guid: a number below 2^64"))?
-        .arg(number(
-            alloc,
-            "SIZE",
-            "The bytes of the file: 6291456 to 1073741824, a multiple of 262144",
-        ))?
+        .arg(number(alloc, "SIZE", SIZE_HELP))?
+        .arg(only_new)?
         .arg(moment(alloc))
 }
 
 fn show_command<'a>(alloc: Global) -> Result<Command<'a>, AllocError> {
     Command::new(alloc, "show")
-        .about("Tells what an import of the pool in a file would mount; it only reads the file")
-        .after_help("Example: ztxg show tank.pool")
+        .about("Reports what an import of the pool in a file would mount; it only reads the file")
+        .after_help(help::SHOW)
         .arg(word(
             alloc,
             "FILE",
-            "The path of the file, of 6291456 to 1073741824 bytes",
+            "The path of the file, a regular file that no process has open as a pool to write",
         ))
 }
 
 fn command<'a>(alloc: Global) -> Result<Command<'a>, AllocError> {
     Command::new(alloc, "ztxg")
         .about("The write engine of a copy-on-write storage pool, in memory or in a file")
-        .after_help("Example: ztxg create tank.pool tank 77 8388608")
+        .version(help::VERSION)
+        .after_help(help::PROGRAM)
         .subcommand_required(true)
         .subcommand(create_command(alloc)?)?
         .subcommand(show_command(alloc)?)?
@@ -88,12 +98,12 @@ fn command<'a>(alloc: Global) -> Result<Command<'a>, AllocError> {
 /// Matches the program's words, its name first, against the command line.
 ///
 /// # Errors
-/// A fault of the command line, or its help, with the text to print and the status to end with.
+/// A fault of the command line, or the help or the version, with the text to print and the exit status.
 pub fn parse_arguments<'a>(alloc: Global, words: &'a [String]) -> Result<ArgMatches<'a>, Error> {
     command(alloc)?.try_get_matches_from(words)
 }
 
-/// What was given to the command that was named.
+/// The arguments of the command that was named.
 pub fn read_arguments<'a>(matches: &ArgMatches<'a>) -> Option<Arguments<'a>> {
     let (name, given) = matches.subcommand()?;
     match name {
@@ -106,10 +116,17 @@ pub fn read_arguments<'a>(matches: &ArgMatches<'a>) -> Option<Arguments<'a>> {
 
 fn read_script<'a>(given: &ArgMatches<'a>) -> Option<ScriptArguments<'a>> {
     Some(ScriptArguments {
-        size: given.get_one::<u64>("SIZE")?,
+        device: read_device(given)?,
         script: given.get_str("SCRIPT")?,
         moment: given.get_one::<u64>("moment")?,
     })
+}
+
+fn read_device<'a>(given: &ArgMatches<'a>) -> Option<ScriptDevice<'a>> {
+    match given.get_str("file") {
+        Some(file) => Some(ScriptDevice::File(file)),
+        None => Some(ScriptDevice::Memory(given.get_one::<u64>("SIZE")?)),
+    }
 }
 
 fn read_create<'a>(given: &ArgMatches<'a>) -> Option<CreateArguments<'a>> {
@@ -118,6 +135,7 @@ fn read_create<'a>(given: &ArgMatches<'a>) -> Option<CreateArguments<'a>> {
         name: given.get_str("NAME")?,
         guid: given.get_one::<u64>("GUID")?,
         size: given.get_one::<u64>("SIZE")?,
+        only_new: given.get_flag("new"),
         moment: given.get_one::<u64>("moment")?,
     })
 }

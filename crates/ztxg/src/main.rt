@@ -1,8 +1,10 @@
 //! The command line of the pool's write engine. `ztxg script SIZE SCRIPT` runs a script on a device in memory, and
-//! `ztxg create FILE NAME GUID SIZE` makes a pool in a file, which `ztxg show FILE` shows.
+//! `ztxg create FILE NAME GUID SIZE` makes a pool in a file, which `ztxg show FILE` shows and on which
+//! `ztxg script --file FILE SCRIPT` runs a script.
 #![tactic(auto)]
 
 mod arguments;
+mod help;
 
 use arguments::{parse_arguments, read_arguments};
 use commands::run;
@@ -11,6 +13,9 @@ use std::process::ExitCode;
 
 /// The status of a fault of the command line.
 const BAD_ARGUMENTS: u8 = 2;
+
+/// The status of a help or a version that can't be written.
+const UNWRITTEN: u8 = 3;
 
 fn main(rt: HostRuntime) -> ExitCode {
     let Ok(words) = read_words(&rt) else {
@@ -24,8 +29,11 @@ fn main(rt: HostRuntime) -> ExitCode {
             None => ExitCode::from(BAD_ARGUMENTS),
         },
         Err(error) => {
-            let _ = error.print(&rt);
-            ExitCode::from(error.exit_code() as u8)
+            let printed = error.print(&rt);
+            match error.exit_code() as u8 {
+                0 if printed.is_err() => ExitCode::from(UNWRITTEN),
+                status => ExitCode::from(status),
+            }
         }
     }
 }

@@ -1,4 +1,5 @@
--- Elements of lists by their places: one more at the end, what a front has, what a filter keeps, and what holds of each.
+-- Elements of lists by their places: one more at the end, what a front has, what a filter keeps, and what holds of
+-- each.
 use Rattle.std.proofs.Common.{◌≡◌, ℕ, zero, suc, ◌<◌, Bool, true, false, ◌||◌, List, [], ◌∷◌, ◌++◌, length, map, refl, ap, sym, ◌∙◌, arith, subst, ◌⊎◌, inl, inr, take, replicate, get_or}
 use Rattle.std.specs.Prelude.{Some, None, slice_get, filter, cond, find, All}
 use Rattle.std.specs.List.{list_any, list_all}
@@ -190,7 +191,7 @@ at_take (suc n) [] i x at = at
 at_take (suc n) (y ∷ ys) zero x at = at
 at_take (suc n) (y ∷ ys) (suc i) x at = at_take n ys i x at
 
--- each byte of zeros, and behind them, is read as zero
+-- each byte of zeros, and after them, is read as zero
 pub get_or-zeros : (n k : ℕ) → get_or (replicate n 0) k 0 ≡ zero
 get_or-zeros zero k = refl
 get_or-zeros (suc n) zero = refl

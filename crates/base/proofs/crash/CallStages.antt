@@ -133,7 +133,7 @@ module _ (size t flushed new_flushed new_config : ℕ) (at : FixedLabels) (old n
   switching_phase m (inl rest) = inl rest.0.rest
   switching_phase m (inr b) = inr (inl b.between)
 
-  -- the last write of the new uberblock and the flush behind it, both answered Ok
+  -- the last write of the new uberblock and the flush after it, both answered Ok
   switched : (place label : ℕ) (in_range : label < 4) (config_below : new_config < 4) → place ≡ slot_place size label (slot_of new.u.group)
       → IsSlotCall size flushed new_flushed new_config at old new place new.slot → (disk : Disk) → Switching disk.now
       → IsAtRestAt size t new_flushed (record { config = new_config; config_below = config_below; slot = label; slot_below = in_range }) new
@@ -159,8 +159,8 @@ module _ (size t flushed new_flushed new_config : ℕ) (at : FixedLabels) (old n
       size_before disk (inl rest) = rest.0.rest.laid.firm.size_is
       size_before disk (inr b) = b.between.old_laid.firm.size_is
 
-  -- Each moment of a whole sync, of a group or of an import, wherever it stops, is one of the three phases: at rest on the old view,
-  -- between the two, at rest on the new one.
+  -- Each moment of a whole sync, of a group or of an import, wherever it stops, is one of the three phases: at rest on
+  -- the old view, between the two, at rest on the new one.
   pub sync_phases : (front slots back : List PoolCall) (d0 new_disk : Disk) (path : IsSyncPath size t flushed new_flushed new_config at old new front slots back d0 new_disk) → IsAtRestAt size t flushed at old d0.now
       → AreQuiet size flushed at old front → AreSlotCalls size flushed new_flushed new_config at old new slots → EachMoment Phase d0 new_disk
   sync_phases front slots back d0 dn (inl begun) rest quiet are =

@@ -1,5 +1,5 @@
--- The crash rule: each phase mounts what its views mount, a crash leads from each to rest, and rounds of imports and runs leave a client
--- what it may expect.
+-- The crash rule: each phase mounts what its views mount, a crash leads from each to rest, and rounds of imports and
+-- runs leave a client what it may expect.
 use Rattle.std.proofs.Common.{◌≡◌, inl, inr, ⊎_elim, true, ℕ, zero, suc, ◌≤◌, List, [], ◌∷◌, length, map, take, refl, sym, ◌∙◌, ap, subst, arith, ◌⊎◌}
 use Rattle.base.specs.history.Contents.{Contents}
 use Rattle.base.specs.disk.Disk.{Write, Disk, Moment, moments, MayLeave, HandedSince, bytes_of, handed, disk_size, settled, certain, certain_with}
@@ -49,7 +49,8 @@ phase_mounts t m image left fair old new contents old_mounts new_mounts (inr (in
 phase_mounts t m image left fair old new contents old_mounts new_mounts (inr (inr rest)) =
     found_mounts image new contents new_mounts (rest_found t m image left fair (length new.logged) new rest)
 
--- so each moment of an import, from its first flush on and wherever it stops, leaves only fair images that mount the same
+-- so each moment of an import, from its first flush on and wherever it stops, leaves only fair images that mount the
+-- same
 pub steady_mounts : (before after : Disk) (created guid : ℕ) (contents : Contents) → HasSteadyPhases (disk_size before) created before after guid contents → AllMountTo before after created contents
 steady_mounts before after created guid contents steady =
     weaker (IsImportMoment (disk_size before) created steady.old steady.new) (LeavesFair (disk_size before) created (λ image. MountsTo image contents)) before after
@@ -112,7 +113,8 @@ clients_find_cuts created guid first (past ∷ pasts) before after own (same, (e
     let r = clients_find_cuts created guid left_by.0 pasts (certain image ended) after own_next (later left_by.0 own_next) in
     (r.0, (round.base, (left_by.0, left_by.1, r.1)), r.2)
 
--- a moment of the create that is later than each write that counts is none: a place that is sealed now was handed by no write since
+-- a moment of the create that is later than each write that counts is none: a place that is sealed now was handed by no
+-- write since
 pub no_late_create : (disk : Disk) (created place n : ℕ) (P : List ℕ → Type 0) → LeavesFairNow disk created P → passes_check (disk_size disk) place n (part (bytes_of disk.now) place n) ≡ true
     → ((p : ℕ) (content : List ℕ) → HandedSince created (handed disk.now) p content → ⊥) → ⊥
 no_late_create disk created place n P left sealed none = none place (part (bytes_of disk.now) place n) (left.bytes.fair place n sealed)

@@ -1,4 +1,5 @@
--- Every fair image that a crash leaves of a disk at rest on a view is found as that view, and between two views as one of them.
+-- Every fair image that a crash leaves of a disk at rest on a view is found as that view, and between two views as one
+-- of them.
 use Rattle.std.proofs.Common.{◌≡◌, ◌⊎◌, inl, inr, ℕ, zero, suc, ◌+◌, ◌-◌, ◌<◌, ◌≤◌, Bool, true, false, List, [], ◌∷◌, length, map, take, refl, sym, ◌∙◌, ap, subst, arith}
 use Rattle.std.specs.Prelude.{slice_get, Some, None}
 use Rattle.std.specs.Str.{bytes_eq}
@@ -136,7 +137,7 @@ module _ (t : ℕ) (m : Moment) (image : List ℕ) (left : MayLeave m image) (fa
       (λ place in_range some. part_stands m image (v.pointers place).address block_size left (fixed.settled place in_range some)) in
       subst (λ (p : Pointer). IsTree image (frame_of image v.u) p v.synced.objects) root (holds-tree image (view_frame (length image) v) v.pointers v.synced.objects holds)
 
-  -- what counts as a log block of this chain, from a number on and up to the one behind these, is one of these
+  -- what counts as a log block of this chain, from a number on and up to the one after these, is one of these
   abbrev AreOnlyThese : ℕ → ℕ → ℕ → List Logged → Type 0
   AreOnlyThese guid chain from ls = (k number : ℕ) (content : List ℕ) (block : LogBlock) → k < block_count (length image) → HandedSince t (handed m) (block_address k) content
       → IsLogContent content guid chain number block → from ≤ number → number ≤ from + length ls → (i : ℕ) × (l : Logged) × (slice_get ls i ≡ Some l) × (l.number ≡ number) × (l.content ≡ content)

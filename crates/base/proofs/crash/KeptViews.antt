@@ -1,5 +1,5 @@
--- A write apart from what a view fixes, a good flush and a crash leave the view laid; the first write of a new uberblock leads from rest to
--- between two views, and a flush or a crash back to rest.
+-- A write apart from what a view fixes, a good flush and a crash leave the view laid; the first write of a new
+-- uberblock leads from rest to between two views, and a flush or a crash back to rest.
 use Rattle.std.proofs.Common.{◌≡◌, ◌⊎◌, inl, inr, ⊎_elim, ℕ, ◌+◌, ◌<◌, ◌≤◌, Bool, true, false, List, [], ◌∷◌, length, filter, cond, refl, sym, ◌∙◌, ap, subst, arith}
 use Rattle.std.specs.Prelude.{◌≢◌}
 use Rattle.std.proofs.lemmas.Slice.Eq.{bytes_eq-Decides}

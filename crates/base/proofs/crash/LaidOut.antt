@@ -121,7 +121,8 @@ chain-unplaced : (chain : List LogBlock) → map (λ (p : Placed). p.logged) (pl
 chain-unplaced [] = refl
 chain-unplaced (b ∷ bs) = map-append (λ (p : Placed). p.logged) _ (placed_records bs) ∙ (λ i. unplaced b.address b.records i ++ chain-unplaced bs i)
 
--- a chain of kept blocks has, above a group, the records of the entries of some front of the history, and so leads to the same contents
+-- a chain of kept blocks has, above a group, the records of the entries of some front of the history, and so leads to
+-- the same contents
 pub chain_replays : (entries : List Entry) (group : ℕ) (ks : List KeptBlock) (chain : List LogBlock) (zs : List Committed) (base : Contents) → AreBlocksOf entries ks chain → length chain ≤ length ks
     → committed_above group (flat_map (λ (b : KeptBlock). b.committed) ks) ++ zs ≡ committed_above group (committed_entries entries)
     → (n : ℕ) × (committed_above group (flat_map (λ (b : KeptBlock). b.committed) (take (length chain) ks)) ≡ committed_above group (committed_entries (take n entries)))

@@ -1,5 +1,5 @@
--- Once a flush has answered Ok behind the blocks and the first configs of a sync, its new view is laid: what it needs stands, and what counts
--- could pass for no other config or log block.
+-- Once a flush has answered Ok after the blocks and the first configs of a sync, its new view is laid: what it needs
+-- stands, and what counts could pass for no other config or log block.
 use Rattle.std.proofs.Common.{◌≡◌, ◌⊎◌, inl, inr, ⊎_elim, ℕ, zero, suc, ◌+◌, ◌-◌, ◌<◌, ◌≤◌, List, [], ◌∷◌, length, drop, sym, ◌∙◌, ap, subst, arith, length-drop}
 use Rattle.std.specs.Prelude.{slice_get, Some, None}
 use Rattle.std.proofs.lemmas.Bool.{cases_lt}

@@ -1,4 +1,5 @@
--- Where a disk in one of the phases ends, it is the pool's own: an import ends on what it mounted, and a run on a cut of its entries.
+-- Where a disk in one of the phases ends, it is the pool's own: an import ends on what it mounted, and a run on a cut
+-- of its entries.
 use Rattle.std.proofs.Common.{◌≡◌, ◌⊎◌, inl, inr, ⊎_elim, ℕ, ◌+◌, ◌≤◌, List, [], ◌∷◌, length, map, take, Ok, refl, sym, ◌∙◌, ap, subst, arith}
 use Rattle.std.specs.Prelude.{IfSome}
 use Rattle.base.specs.declared.pointer.Pointer.{Pointer}

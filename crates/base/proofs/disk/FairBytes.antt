@@ -1,4 +1,5 @@
--- What a read gives stays fair: under a write of a whole place that the format checks, refused or not, and under a flush.
+-- What a read gives stays fair: under a write of a whole place that the format checks, refused or not, and under a
+-- flush.
 use Rattle.std.proofs.Common.{◌≡◌, ◌⊎◌, inl, inr, ℕ, zero, suc, ◌+◌, ◌*◌, ◌<◌, ◌≤◌, Bool, true, false, ◌&&◌, ◌||◌, List, [], ◌∷◌, length, refl, sym, ◌∙◌, ap, subst, arith}
 use Rattle.std.specs.Prelude.{◌==◌, nat_lt, not}
 use Rattle.std.specs.List.{list_any}
@@ -29,7 +30,8 @@ some_label p h = elim (or_cases (p 0) (list_any p (1 ∷ 2 ∷ 3 ∷ [])) h) [
 abbrev is_slot_of : ℕ → ℕ → ℕ → Bool
 is_slot_of size place l = nat_lt (slot_at size l place) 128 && (place == slot_place size l (slot_at size l place))
 
--- What passes the test is as long as a block, at the place of a block or a config, or as a slot, at the place of one; and it begins with its mark.
+-- What passes the test is as long as a block, at the place of a block or a config, or as a slot, at the place of one;
+-- and it begins with its mark.
 passes-cases : (size place n : ℕ) (bytes : List ℕ) → passes_check size place n bytes ≡ true
     → ((n ≡ block_size) × ((is_block_place size place || is_config_place size place) ≡ true) × (begins_with_mark bytes ≡ true))
     ⊎ ((n ≡ slot_size) × (is_slot_place size place ≡ true) × (begins_with_mark bytes ≡ true))

@@ -1,5 +1,5 @@
--- What a write of a block or of an uberblock makes of the labels: a block touches none, and an uberblock of a later group is the active
--- one from its first label on, with the config as it was.
+-- What a write of a block or of an uberblock makes of the labels: a block touches none, and an uberblock of a later
+-- group is the active one from its first label on, with the config as it was.
 use Rattle.std.proofs.Common.{◌≡◌, ℕ, ◌+◌, ◌<◌, ◌≤◌, List, length, ap, sym, subst, ◌∙◌, arith, ◌⊎◌, inl, inr}
 use Rattle.std.specs.Prelude.{◌≢◌}
 use Rattle.std.proofs.lemmas.Bool.{cases_lt, cases_order}

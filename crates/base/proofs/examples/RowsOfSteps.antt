@@ -154,7 +154,8 @@ row_removal = simp (finite.get-empty {X = ℕ} nat_cmp, set.len-insert nat_cmp_t
 row_append : refusal.append_refusal 1 1 fresh ≡ Some error.NoObject
 row_append = simp (finite.get-empty {X = List ℕ} nat_cmp) refl
 
--- the log: a record of group 9 and one of group 10 are written to two blocks, and the first block comes back with group 9
+-- the log: a record of group 9 and one of group 10 are written to two blocks, and the first block comes back with group
+-- 9
 abbrev create_in : ℕ → ℕ → ℕ → Record
 create_in group ordinal n = record { group = group; ordinal = ordinal; ops = op.Create (object n) ∷ [] }
 

@@ -42,7 +42,8 @@ rename_tenth = refl
 counted : length (sync_calls 4 (op.SetName (codes "pond") ∷ [])) ≡ 4 + other_step_count (op.SetName (codes "pond") ∷ [])
 counted = refl
 
--- an import of four blocks, none of the odd labels with the chosen config: they are first, and a flush follows the uberblocks
+-- an import of four blocks, none of the odd labels with the chosen config: they are first, and a flush follows the
+-- uberblocks
 import_flush : slice_get (import_calls 4 false) 12 ≡ Some Flush
 import_flush = refl
 

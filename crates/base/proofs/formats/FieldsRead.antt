@@ -41,7 +41,7 @@ unfolding number_at
 number_at-put_apart place content bytes at fits apart =
     ap (λ (l : List ℕ). from_le_bytes w64 l) (part-put_apart place content bytes at 8 fits apart)
 
--- what is put behind what was put, as one
+-- what is put after what was put, as one
 pub put-put_behind : (at : ℕ) (first second bytes : List ℕ) → at + length first + length second ≤ length bytes
     → put (at + length first) second (put at first bytes) ≡ put at (first ++ second) bytes
 put-put_behind at first second bytes fits =
@@ -59,7 +59,7 @@ put-put_behind at first second bytes fits =
     ∙ append_assoc (take at bytes) first (second ++ drop (at + length (first ++ second)) bytes)
     ∙ ap (λ (l : List ℕ). take at bytes ++ l) (sym (append_assoc first second (drop (at + length (first ++ second)) bytes)))
 
--- three fields, one behind the other
+-- three fields, one after the other
 pub put-three : (at : ℕ) (a b c bytes : List ℕ) → at + length a + length b + length c ≤ length bytes
     → put at (a ++ (b ++ c)) bytes ≡ put (at + length a + length b) c (put (at + length a) b (put at a bytes))
 put-three at a b c bytes fits =

@@ -6,7 +6,7 @@ use Rattle.base.specs.disk.Disk.{Apart}
 use Rattle.base.specs.formats.Geometry.{block_area, block_size, block_count, block_address, label_place, config_place, slot_place, IsGeometry, IsBlockAddress}
 use Rattle.base.proofs.formats.Geometry.{IsGeometry-IsSize, label-on_device, labels-apart, blocks-end}
 
--- so many bytes from a place of a label on lie on the device, before or behind the block area
+-- so many bytes from a place of a label on lie on the device, before or after the block area
 pub label-apart : (size label place n : ℕ) → IsGeometry size → label < 4 → label_place size label ≤ place → place + n ≤ label_place size label + 262144
     → (place + n ≤ size) × ((place + n ≤ block_area) ⊎ (block_area + block_size * block_count size ≤ place))
 label-apart size label place n geometry below from to = (omega (arith, (label-on_device size label geometry below).within, to), side label from to)

@@ -1,4 +1,4 @@
--- A lock is refused as busy exactly where granting it would leave the held locks unsound.
+-- A lock is refused as busy exactly if granting it would leave the held locks unsound.
 use Rattle.std.proofs.Common.{◌≡◌, ℕ, ◌<◌, Bool, true, false, not, ◌&&◌, List, [], ◌∷◌, ◌++◌, length, refl, ap, sym, ◌∙◌, arith, inl, inr}
 use Rattle.std.specs.Prelude.{Some, slice_get}
 use Rattle.std.proofs.lemmas.Option.{slice_get_within}
@@ -44,7 +44,7 @@ blocked-unsound locks g blocked sound =
     let readers : (found.1.mode ≡ Reader) × (g.mode ≡ Reader) = sound found.0 (length locks) found.1 g (slice_get_within locks found.0 found.1 found.2) (at_old locks g found.1 found.0 found.2) (at_last locks g) parts.0 in
     let no_way : false ≡ true = (λ k. not (is_reader (sym readers.0 k) && is_reader (sym readers.1 k))) ∙ parts.1 in cc
 
--- so it is blocked exactly where granting it would break that
+-- so it is blocked exactly if granting it would break that
 pub busy_is_unsound : BusyIsUnsound
 busy_is_unsound locks g sound = (blocked-unsound locks g, by (is_blocked g.range g.mode locks) refl)
   where

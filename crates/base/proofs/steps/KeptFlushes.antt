@@ -1,4 +1,5 @@
--- Each flush of the log that is answered keeps what is shown of the log exact: what awaited it is acknowledged, and no other.
+-- Each flush of the log that is answered keeps what is shown of the log exact: what awaited it is acknowledged, and no
+-- other.
 use Rattle.std.proofs.Common.{◌≡◌, ℕ, zero, suc, ◌+◌, ◌-◌, ◌<◌, Bool, true, false, not, ◌&&◌, ◌||◌, List, [], ◌∷◌, ◌++◌, length, map, refl, ap, sym, subst, ◌∙◌, arith, inl, inr}
 use Rattle.std.specs.Prelude.{Option, Some, None, slice_get, filter, cond, nat_lt, nat_le, ◌==◌, option_map}
 use Rattle.std.specs.List.{list_any, flat_map, enumerate_from}
@@ -28,7 +29,8 @@ block_before bs i b at = go (slice_get bs i) refl (sym (slice_get-map flushed_bl
     go None is h = absurd (let no_way : None ≡ Some b = h in cc)
     go (Some c) is h = (c, is, Some-injective h)
 
--- among the ordinals of what a block holds is that of a record of this group exactly where the block has the record, where it holds no other of that ordinal
+-- among the ordinals of what a block holds is that of a record of this group exactly if the block has the record, where
+-- it holds no other of that ordinal
 ordinal_held : (o g : ℕ) (cs : List Committed) → ((i : ℕ) (c : Committed) → slice_get cs i ≡ Some c → (o == c.ordinal) ≡ true → (g == c.group) ≡ true)
     → is_in o (map (λ (c : Committed). c.ordinal) cs) ≡ list_any (is_same (record { ordinal = o; group = g })) cs
 ordinal_held o g [] only = refl

@@ -44,7 +44,7 @@ module _ (s : Shown) (p : Past) (x : AreLocksExact s p) where
       last : cond (not (is_in g.id p.let_go)) (g ∷ []) [] ≡ g ∷ []
       last = ap (λ b. cond (not b) (g ∷ []) []) fresh
 
-  -- a lock that is let go
+  -- a lock that is released
   pub unlock_keeps : (id i : ℕ) (g : Grant) → slice_get s.locks i ≡ Some g → g.id ≡ id
       → AreLocksExact (record s { locks = filter (λ (h : Grant). not (h.id == id)) s.locks }) (record p { let_go = p.let_go ++ id ∷ [] })
   unlock_keeps id i g at named = record {

@@ -108,7 +108,7 @@ ordinals_within group k o (e ∷ entries) is = go (e.group == group) (λ h. ordi
     ]
     go false rest h = let both = rest h in (omega (arith, both.0), omega (arith, both.1))
 
--- an entry's ordinal is among them exactly where the entry is of the group
+-- an entry's ordinal is among them exactly if the entry is of the group
 ordinals_have : (group k o : ℕ) (entries : List Entry) (e : Entry) → slice_get entries o ≡ Some e → is_in (k + o) (ordinals_from group k entries) ≡ (e.group == group)
 ordinals_have group k o [] e at = absurd (none_at o e at)
 ordinals_have group k zero (f ∷ entries) e at =
@@ -183,7 +183,7 @@ module _ (s t : Shown) (p q : Past) (x : IsLogExact s p) (z : IsSyncExact s) (gr
       go (inr below) = and_left (nat_lt group r.group) (not (is_written_in left (committed_of r))) (le-ltb group r.group below)
           ∙ sym (and_left (nat_lt group r.group) (nat_lt s.line.synced r.group && not (is_written_in s.log (committed_of r))) (le-ltb group r.group below))
 
-  -- an entry is acknowledged exactly where it is durable
+  -- an entry is acknowledged exactly if it is durable
   acknowledged_after : (o : ℕ) (e : Entry) → slice_get p.entries o ≡ Some e
       → is_in o (p.acknowledged ++ ordinals_of group p.entries) ≡ (nat_le e.group group || is_flushed_in left (record { ordinal = o; group = e.group }))
   acknowledged_after o e at = list_any-append (λ y. o == y) p.acknowledged (ordinals_of group p.entries) ∙ (λ k. before k || now k) ∙ go (cases_lt group e.group)

@@ -1,4 +1,5 @@
--- What is reserved for a group suffices for its sync: its operations are its transactions', each once, and the free blocks cover what is reserved.
+-- What is reserved for a group suffices for its sync: its operations are its transactions', each once, and the free
+-- blocks cover what is reserved.
 use Rattle.std.proofs.Common.{◌≡◌, ℕ, ◌+◌, ◌-◌, ◌<◌, ◌≤◌, Bool, true, false, not, ◌&&◌, List, [], ◌∷◌, length, get_or, map, refl, ap, sym, subst, ◌∙◌, arith}
 use Rattle.std.specs.Prelude.{Option, Some, None, IfSome, is_some, option_map, unwrap_or, slice_get, cond, sum_by, ◌==◌}
 use Rattle.std.specs.List.{flat_map}
@@ -88,7 +89,7 @@ reserved_within s group above below =
     get_or-range_with_len (s.line.synced + 1) (s.line.open_group - s.line.synced) (group - (s.line.synced + 1)) 0 (omega arith) ∙ (let back : s.line.synced + 1 + (group - (s.line.synced + 1)) ≡ group = omega arith in back) in
     subst (λ g. reserved_of s g ≤ reserved_total s) there (get_or-le-sum_by (reserved_of s) (unsynced_groups s.line) (group - (s.line.synced + 1)) 0 inside)
 
--- the quiesced group is the one behind the synced group while no sync runs
+-- the quiesced group is the one after the synced group while no sync runs
 pub quiesced_next : (l : Line) (group : ℕ) → IsLine l → l.syncing ≡ None → quiesced_group l ≡ Some group → (l.synced < group) × (group ≤ l.open_group)
 quiesced_next l group x idle quiesced =
     let middle : l.middle ≡ Some (record { group = group; quiesced = true }) = quiesced_is l group quiesced in

@@ -135,7 +135,7 @@ locks_are_seen owner n range mode id before after m =
         ap (λ (x : LockId). x.0) same ∙ done.1.0
     name (Err e, is, h) = absurd (let no_way : reply.Locked id ≡ reply.Refused e = is in cc)
 
--- the held lock of a name and an owner is a grant of that name, which was not let go
+-- the held lock of a name and an owner is a grant of that name, which was not released
 held-grant : (owner id : ℕ) (s : Shown) (p : Past) → IsExplainedNow s p → (g : Grant) → refusal.lock_of owner id s ≡ Some g
     → (slice_get p.grants id ≡ Some g) × (g.owner ≡ owner) × (is_in id p.let_go ≡ false)
 held-grant owner id s p x g is =

@@ -1,4 +1,5 @@
--- Which effect on a pool each step with its reply has, and how it is refused: so what holds of each effect holds of each step.
+-- Which effect on a pool each step with its reply has, and how it is refused: so what holds of each effect holds of
+-- each step.
 use Rattle.std.proofs.Common.{◌≡◌, ℕ, ◌+◌, ◌<◌, ◌≤◌, true, false, not, List, length, arith, refl, ap, sym, subst, ◌∙◌, ◌⊎◌, inl, inr}
 use Rattle.std.specs.Prelude.{Option, Some, None, Result, Ok, Err, is_some, is_none, nat_lt, nat_le, ◌==◌}
 use Rattle.std.specs.Option.{option_map_or}
@@ -39,7 +40,8 @@ pub data Answered (s : declared_step.Step) (r : declared_reply.Reply) (old new :
   untested : (e : PoolError) → r ≡ reply.Refused e → is_untested e ≡ true → (is_suspending e ≡ true → new.shown.suspended ≡ true) → refusal_of_step s old.shown ≡ None → Answered s r old new
   made : is_refusal r ≡ false → refusal_of_step s old.shown ≡ None → Answered s r old new
 
--- What a step with a reply does: its effect, what it adds to the past, and how it was answered. As of this stage none writes the log.
+-- What a step with a reply does: its effect, what it adds to the past, and how it was answered. As of this stage none
+-- writes the log.
 pub record StepDoes (s : declared_step.Step) (r : declared_reply.Reply) (old new : State) : Type 0 where
   pub has : HasEffect old new
   pub past : new.past ≡ past_after s r old

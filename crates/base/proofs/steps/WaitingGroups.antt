@@ -1,4 +1,5 @@
--- A group that waits for its sync: its operations lead from the synced contents to those after it, and are of built shapes.
+-- A group that waits for its sync: its operations lead from the synced contents to those after it, and are of built
+-- shapes.
 use Rattle.std.proofs.Common.{◌≡◌, ℕ, zero, suc, ◌+◌, Bool, true, false, cond, List, [], ◌∷◌, map, filter, refl, ap, sym, subst, ◌∙◌}
 use Rattle.std.specs.Prelude.{Option, Some, None, Ok, IfSome, slice_get, unwrap_or, All}
 use Rattle.std.specs.List.{list_all}

@@ -58,7 +58,7 @@ module _ (now : List ℕ) (s : Shown) (pointers : Place → Pointer) (past : Pas
       shown (inl (low, y)) = inl (let below = slice_get_within old.blocks old.done b at in omega (arith, below), synced-later now later s past stays y)
       shown (inr (high, y)) = absurd (let below = slice_get_within old.blocks old.done b at in omega (arith, below, high))
 
-  -- nothing is written, behind the blocks
+  -- nothing is written, after the blocks
   settle-made : (old.done ≡ length old.blocks) ⊎ (old.done ≡ length old.blocks + 5) → IsKept now s pointers (Some more) past
   settle-made is = record {
     stored = x.stored;

@@ -1,4 +1,5 @@
--- What a pool keeps of its device has the log, the synced tree and what a sync takes at distinct places; so each step keeps them so.
+-- What a pool keeps of its device has the log, the synced tree and what a sync takes at distinct places; so each step
+-- keeps them so.
 use Rattle.std.proofs.Common.{◌≡◌, ℕ, zero, suc, Bool, true, false, List, [], ◌∷◌, ◌++◌, map, refl, ap, sym, subst, ◌∙◌, inl, inr}
 use Rattle.std.specs.Prelude.{Option, Some, None, slice_get}
 use Rattle.base.specs.declared.pointer.Pointer.{Pointer}

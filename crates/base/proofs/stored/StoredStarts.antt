@@ -159,7 +159,7 @@ pub idle-shows : (now : List ℕ) (s : Shown) (p : Past) (pointers : Place → P
 idle-shows now s p pointers None idle y labels = labels
 idle-shows now s p pointers (Some new) idle y labels = absurd (let no_way : None ≡ Some y.group = sym idle ∙ y.syncing in cc)
 
--- what is kept of the device before a sync is started, but for its tree
+-- what is kept of the device before a sync is started, except for its tree
 pub record IsIdle (now : List ℕ) (s : Shown) (past : Past) : Type 0 where
   pub shows : ShowsSynced now s past
   pub geometry : IsGeometry (length now)

@@ -86,7 +86,8 @@ module _ (now : List ℕ) (s t : Shown) (pointers : Place → Pointer) (p q : Pa
     written = x.written;
   }
 
-  -- all stays where the line moves on in the middle, there are more admissions, and entries above the group that is syncing
+  -- all stays where the line moves on in the middle, there are more admissions, and entries above the group that is
+  -- syncing
   pub kept-state : (running : Option NewTree) → AreSameUpTo s p.entries q.entries → IsKept now s pointers running p
       → IsKept now (record t { guid = s.guid; import_number = s.import_number; blocks = s.blocks; line = record t.line { synced = s.line.synced; syncing = s.line.syncing }; free = s.free; log = record t.log { kept = s.log.kept; next = s.log.next }; root = s.root; sync = s.sync })
       pointers running (record q { base = p.base })
@@ -204,8 +205,8 @@ module _ (now : List ℕ) (pointers : Place → Pointer) (running : Option NewTr
   effect_keeps FlushesLog s off logging explained x may = absurd (false≢true (sym logging))
   effect_keeps e s off no_log explained x may = let t : State = state_after e s in stays s.shown t.shown s.past t.past x
 
-  -- Each step but the start of a sync and its end keeps what is kept, over the same bytes and pointers. (The bytes that the step itself
-  -- names are any.)
+  -- Each step but the start of a sync and its end keeps what is kept, over the same bytes and pointers. (The bytes that
+  -- the step itself names are any.)
   pub steps_keep_kept : (keeps : Type 0) (bytes : List ℕ) (s : declared_step.Step) (r : declared_reply.Reply) (old new : State) → Step keeps bytes s r old new → is_turn r ≡ false → IsExplainedNow old.shown old.past
       → IsKept now old.shown pointers running old.past → IsKept now new.shown pointers running new.past
   steps_keep_kept keeps bytes s r old new h off explained x =

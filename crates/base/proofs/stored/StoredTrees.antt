@@ -211,7 +211,7 @@ module _ (now later : List ℕ) (s : Shown) (pointers : Place → Pointer) (past
   pub same-stored : IsStored now s pointers past → SameBlocks s.blocks now later → IsStored later s pointers past
   same-stored x same = stored-along x same.size (blocks-along s.blocks now later pointers (stored-placed now s pointers past x) same)
 
-  -- a call of a running sync behind its blocks
+  -- a call of a running sync after its blocks
   pub same-syncing : (new : NewTree) → IsSyncing now s pointers new past → length new.blocks ≤ new.done → new.done + 1 ≤ total_calls new → SameBlocks s.blocks now later
       → IsSyncing later s pointers (record new { done = new.done + 1 }) past
   same-syncing new y behind bound same = syncing-along new (new.done + 1) y bound (λ i b below at. record {

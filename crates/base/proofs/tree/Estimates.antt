@@ -1,4 +1,5 @@
--- A sync writes at most as many blocks as its operations are estimated at: each block is one that some operation may change.
+-- A sync writes at most as many blocks as its operations are estimated at: each block is one that some operation may
+-- change.
 use Rattle.std.proofs.Common.{◌≡◌, ℕ, ◌≢◌, ◌+◌, ◌*◌, ◌/◌, ◌<◌, ◌≤◌, Bool, true, false, not, ◌&&◌, List, [], ◌∷◌, ◌++◌, length, map, filter, refl, sym, ◌∙◌, arith, length-append}
 use Rattle.std.specs.Prelude.{◌==◌, nat_lt, nat_le, sum_by, if◌then◌else◌}
 use Rattle.std.specs.Option.{option_map_or}

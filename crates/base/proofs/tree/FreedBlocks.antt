@@ -1,4 +1,5 @@
--- Which addresses the tree that a sync plans has: those of the new blocks, and of the old tree those that are not freed.
+-- Which addresses the tree that a sync plans has: those of the new blocks, and of the old tree those that are not
+-- freed.
 use Rattle.std.proofs.Common.{◌≡◌, ℕ, ◌*◌, ◌<◌, List, length, refl, ap, sym, subst, ◌∙◌, arith, ◌⊎◌, inl, inr}
 use Rattle.std.specs.Prelude.{Option, Some, None, IfSome, ◌≢◌, slice_get}
 use Rattle.std.specs.Ordering.{nat_cmp}

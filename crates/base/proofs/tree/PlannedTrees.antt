@@ -1,4 +1,5 @@
--- What becomes of a tree told by places, in another image: it stands where its blocks do, and so does what a sync makes of it.
+-- What becomes of a tree told by places, in another image: it stands where its blocks do, and so does what a sync makes
+-- of it.
 use Rattle.std.proofs.Common.{◌≡◌, ℕ, zero, ◌+◌, ◌-◌, ◌*◌, ◌<◌, ◌≤◌, List, [], ◌++◌, length, get_or, take, drop, replicate, refl, ap, sym, subst, ◌∙◌, arith, ◌⊎◌, inl, inr, length-take, length-drop}
 use Rattle.std.specs.Prelude.{Option, Some, None, IfSome, slice_get}
 use Rattle.std.proofs.lemmas.Bool.{cases_lt}

@@ -1,4 +1,5 @@
--- What the state of a record says after the operations of a group: an unchanged record has the bytes from before, a dirty one is there, and a hole has zeros.
+-- What the state of a record says after the operations of a group: an unchanged record has the bytes from before, a
+-- dirty one is there, and a hole has zeros.
 use Rattle.std.proofs.Common.{◌≡◌, ℕ, zero, ◌≢◌, ◌+◌, ◌-◌, ◌*◌, ◌<◌, ◌≤◌, Bool, true, false, ◌&&◌, ◌||◌, List, [], ◌∷◌, ◌++◌, length, get_or, drop, replicate, Option, Some, None, Result, Ok, Err, refl, ap, sym, ◌∙◌, subst, arith, ◌⊎◌, inl, inr, length-append, length-take}
 use Rattle.std.specs.Prelude.{◌==◌, nat_lt, nat_le, option_map, unwrap_or, if◌then◌else◌}
 use Rattle.std.specs.List.{list_any}
@@ -59,7 +60,7 @@ same-record r xs ys each = ext_get_or 0 (padded_record r xs) (padded_record r ys
         let below : k < record_size = subst (λ (n : ℕ). k < n) (length-padded_record r xs) inside in
         get_or-padded_record r xs k below ∙ each (record_size * r + k) (omega arith) (omega arith) ∙ sym (get_or-padded_record r ys k below)
 
--- a write that does not touch a record lies before it or behind it
+-- a write that does not touch a record lies before it or after it
 write-apart : (r offset count : ℕ) → is_record_touched r offset count ≡ false → (record_size * (r + 1) ≤ offset) ⊎ (offset + count ≤ record_size * r)
 write-apart r offset count untouched = elim (cases_lt offset (record_size * (r + 1))) [
   | inr behind ↦ inl behind
@@ -132,7 +133,7 @@ state-cut s r new x y is = either (λ t. IsInState t r x (resize new y)) (nat_le
     let high = ltb-false new (record_size * (r + 1)) behind in
     state-kept s r x y (resize new y) (λ k from to. sym (get_or-resize new y k (omega (arith, high, to)))) (λ before. begins) is))
 
--- a new length: a cut only where it shortens
+-- a new length: a cut only if it shortens
 state-resized : (s : RecordState) (r new : ℕ) (x : List ℕ) (o p : Option (List ℕ)) → changed (resize new) o ≡ Ok p → IsInState s r x (bytes_or_none o)
     → IsInState (if option_map_or (λ old. nat_lt new old) (option_map length o) false then state_after_cut r new s else s) r x (bytes_or_none p)
 state-resized s r new x None p h is = cc

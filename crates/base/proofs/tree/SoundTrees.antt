@@ -63,7 +63,7 @@ module _ (image : List ℕ) (frame : Frame) where
   object-form n p bytes (inl h) = inl h.0
   object-form n p bytes (inr h) = inr (opens-address 4 n p h.0 h.1)
 
-  record-form : (n r : ℕ) (p : Pointer) (bytes : List ℕ) → IsRecord image frame n r p bytes → IsRecordPointerForm (length bytes) r p
+  record-form : (n r : ℕ) (p : Pointer) (bytes : List ℕ) → IsRecord image frame n r p bytes → IsRecordPointerForm (length bytes) (record_size * r) p
   record-form n r p bytes (inl h) = (λ _. inl h.0, λ _. h.0)
   record-form n r p bytes (inr h) = (λ _. inr (opens-address 5 (pointer_count * n + r) p _ h.1), λ le. absurd (omega (arith, h.0)))
 
@@ -126,7 +126,7 @@ module _ (image : List ℕ) (frame : Frame) where
       | inl none ↦ inl none
       | inr h ↦ elim (h.2) as (λ _. IsSoundAt image frame root (Indirect n)) [
         | inl hole ↦ inl hole.0
-        | inr o ↦ inr (o.0, o.1, λ r r_below. subst (λ (x : ℕ). IsRecordPointerForm x r (pointer_in o.0 r)) (sym h.1) (record-form n r (pointer_in o.0 r) h.0 (o.2 r r_below)))
+        | inr o ↦ inr (o.0, o.1, λ r r_below. subst (λ (x : ℕ). IsRecordPointerForm x (record_size * r) (pointer_in o.0 r)) (sym h.1) (record-form n r (pointer_in o.0 r) h.0 (o.2 r r_below)))
       ]
     ]
 

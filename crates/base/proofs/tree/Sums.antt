@@ -44,7 +44,8 @@ module _ {X : Type 0} where
           let one : cond (p x) (f x) 0 ≡ 0 = ap (λ b. cond b (f x) 0) is in
           omega (arith, rest, sum_by-cons (λ y. cond (p y) (f y) 0) x xs)
 
-  -- two functions that agree on a list's elements have the same sum; where they differ at one place, the sums differ by that
+  -- two functions that agree on a list's elements have the same sum; where they differ at one place, the sums differ by
+  -- that
   pub sum_by-same : (f g : X → ℕ) (xs : List X) → ((i : ℕ) (x : X) → slice_get xs i ≡ Some x → f x ≡ g x) → sum_by f xs ≡ sum_by g xs
   sum_by-same f g [] agree = refl
   sum_by-same f g (x ∷ xs) agree =

@@ -1,4 +1,5 @@
--- Which places a sync writes is told by what its group makes of the records and objects of a tree, all of which are in range.
+-- Which places a sync writes is told by what its group makes of the records and objects of a tree, all of which are in
+-- range.
 use Rattle.std.proofs.Common.{◌≡◌, ℕ, zero, suc, ◌+◌, ◌*◌, ◌<◌, ◌≤◌, Bool, true, ◌&&◌, ◌||◌, List, [], ◌∷◌, ◌++◌, length, map, filter, Some, Ok, inl, inr, refl, ap, sym, subst, ◌∙◌, arith}
 use Rattle.std.specs.Prelude.{All, ◌==◌, nat_le, nat_lt, slice_get, is_some, if◌then◌else◌}
 use Rattle.std.specs.List.{list_all, list_any, flat_map, range_with_len}

@@ -1,5 +1,6 @@
--- The device calls of a sync in three stages, each with what it asks of a call: quiet ones in front, by which the old view stays at rest; the
--- writes of the new uberblock, between the two views; quiet ones behind, at rest on the new view. Calls may stop, or be refused, anywhere.
+-- The device calls of a sync in three stages, each with what it asks of a call: quiet ones in front, by which the old
+-- view stays at rest; the writes of the new uberblock, between the two views; quiet ones after, at rest on the new
+-- view. Calls may stop, or be refused, anywhere.
 use Rattle.std.specs.Prelude.{ℕ, ◌≡◌, ◌≢◌, ◌≤◌, ◌<◌, ◌+◌, ◌⊎◌, ⊤, Bool, true, List, [], ◌∷◌, length, slice_get, Some, Ok, Err, Result}
 use Rattle.base.specs.declared.error.PoolError.{PoolError}
 use Rattle.base.specs.formats.Fields.{no_pointer}
@@ -44,7 +45,7 @@ AreWholeCalls size [] = ⊤
 AreWholeCalls size (Put place content ∷ cs) = IsCheckedPlace size place (length content) × (place + length content ≤ size) × AreWholeCalls size cs
 AreWholeCalls size (Settle ∷ cs) = AreWholeCalls size cs
 
--- what is written could pass for no config of the pool of a group above this one, but for one of these of its group
+-- what is written could pass for no config of the pool of a group above this one, except for one of these of its group
 abbrev pub WriteConfigsUpTo : ℕ → ℕ → ℕ → (ℕ → List ℕ → Type 0) → List PoolCall → Type 0
 WriteConfigsUpTo size guid top IsOther [] = ⊤
 WriteConfigsUpTo size guid top IsOther (Put place content ∷ cs) =
@@ -64,7 +65,8 @@ pub record IsAtRestAt (size t flushed : ℕ) (at : FixedLabels) (v : View) (m : 
   pub config : IsFixed m (config_place size at.config) v.config
   pub slot : IsFixed m (slot_place size at.slot (slot_of v.u.group)) v.slot
 
--- so many bytes are a whole place on the device, and have none of what a view fixes in these labels, in its tree and in its flushed log
+-- so many bytes are a whole place on the device, and have none of what a view fixes in these labels, in its tree and in
+-- its flushed log
 pub record SparesAt (size flushed : ℕ) (at : FixedLabels) (v : View) (place n : ℕ) : Type 0 where
   pub whole : IsCheckedPlace size place n
   pub fits : place + n ≤ size
@@ -73,7 +75,8 @@ pub record SparesAt (size flushed : ℕ) (at : FixedLabels) (v : View) (place n 
   pub not_tree : (p : Place) → IsPlace p → v.pointers p ≢ no_pointer → Apart place n (v.pointers p).address block_size
   pub not_log : (i : ℕ) (l : Logged) → i < flushed → slice_get v.logged i ≡ Some l → Apart place n l.block.address (length l.content)
 
--- a call that leaves a view as it lies: a flush, or a write of a block of a tree or of another config, apart from what is fixed
+-- a call that leaves a view as it lies: a flush, or a write of a block of a tree or of another config, apart from what
+-- is fixed
 abbrev pub IsQuiet : ℕ → ℕ → FixedLabels → View → PoolCall → Type 0
 IsQuiet size flushed at v (Put place content) = (IsTreeContent content ⊎ IsOtherConfig size content v) × SparesAt size flushed at v place (length content)
 IsQuiet size flushed at v Settle = ⊤
@@ -120,8 +123,8 @@ abbrev pub AreAllMade : List PoolCall → Disk → Disk → Type 0
 AreAllMade [] old new = new ≡ old
 AreAllMade (c ∷ cs) old new = (mid : Disk) × MakesPoolCall c old (Ok tt) mid × AreAllMade cs mid new
 
--- All but the last write of the new uberblock are made, and so is this one; then the flush is refused, or answers Ok and the quiet
--- calls behind it are begun.
+-- All but the last write of the new uberblock are made, and so is this one; then the flush is refused, or answers Ok
+-- and the quiet calls after it are begun.
 pub record IsLastPath (size t flushed new_flushed new_config : ℕ) (at : FixedLabels) (old new : View) (slots back : List PoolCall) (d1 dn : Disk) : Type 0 where
   pub d2 : Disk
   pub all : AreAllMade slots d1 d2
@@ -135,8 +138,8 @@ pub record IsLastPath (size t flushed new_flushed new_config : ℕ) (at : FixedL
   pub behind : (dn ≡ written place new.slot true d2)
       ⊎ AreBegun back (certain (bytes_of (written place new.slot true d2).now) (written place new.slot true d2)) dn
 
--- A sync, begun: the quiet calls in front, up to a stop; or all of them, after which the new view is laid, and then the writes of its
--- uberblock but the last, up to a stop; or all of these, and the rest.
+-- A sync, begun: the quiet calls in front, up to a stop; or all of them, after which the new view is laid, and then the
+-- writes of its uberblock but the last, up to a stop; or all of these, and the rest.
 abbrev pub IsSyncPath : ℕ → ℕ → ℕ → ℕ → ℕ → FixedLabels → View → View → List PoolCall → List PoolCall → List PoolCall → Disk → Disk → Type 0
 IsSyncPath size t flushed new_flushed new_config at old new front slots back d0 dn =
     AreBegun front d0 dn

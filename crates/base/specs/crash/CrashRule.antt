@@ -1,6 +1,6 @@
--- The crash rule for a pool's disk from its create on: what an import keeps, what a step keeps, what a run leaves, and what a client finds
--- after any number of rounds, each an import with its run and then a crash. `created` is never free: it is the moment with which the disk is
--- the pool's own.
+-- The crash rule for a pool's disk from its create on: what an import keeps, what a step keeps, what a run leaves, and
+-- what a client finds after any number of rounds, each an import with its run and then a crash. `created` is never
+-- free: it is the moment with which the disk is the pool's own.
 use Rattle.std.specs.Prelude.{ℕ, ◌≡◌, ◌≤◌, ◌+◌, ◌⊎◌, List, [], ◌∷◌, length, map, Ok}
 use Rattle.base.specs.history.Contents.{Contents}
 use Rattle.base.specs.disk.Disk.{Moment, Disk, moments, EachMoment, MayLeave, bytes_of, handed, certain, disk_size}
@@ -32,7 +32,8 @@ pub record AreImportViews (old new : View) (guid : ℕ) (contents : Contents) : 
   pub old_log : old.logged ≡ []
   pub new_log : new.logged ≡ []
 
--- a moment of an import: what a read gives is fair, no config counts that an import of the old view does not write, and it is one of the phases
+-- a moment of an import: what a read gives is fair, no config counts that an import of the old view does not write, and
+-- it is one of the phases
 pub record IsImportMoment (size t : ℕ) (old new : View) (m : Moment) : Type 0 where
   pub bytes : HasFairBytes size t m
   pub configs : AreConfigsBelowImport size t (handed m) old
@@ -49,22 +50,24 @@ pub record HasSteadyPhases (size t : ℕ) (before after : Disk) (guid : ℕ) (co
 abbrev pub IsOwnOnceFlushed : Disk → ℕ → ℕ → Contents → Type 0
 IsOwnOnceFlushed disk created guid contents = IsOwnWith (certain (bytes_of disk.now) disk) created guid contents
 
--- from the first good flush of the old disk on each moment mounts these contents, and a crash, or another import, finds a disk that this pool
--- alone wrote
+-- from the first good flush of the old disk on each moment mounts these contents, and a crash, or another import, finds
+-- a disk that this pool alone wrote
 pub record IsSteady (old new : Disk) (created guid : ℕ) (contents : Contents) : Type 0 where
   pub phases : HasSteadyPhases (disk_size old) created (certain (bytes_of old.now) old) new guid contents
   pub own : IsOwnWith new created guid contents
 
--- An import, wherever it stops and whatever it answers: no flush answered Ok and the disk is as it was, or all since its first good flush is steady.
+-- An import, wherever it stops and whatever it answers: no flush answered Ok and the disk is as it was, or all since
+-- its first good flush is steady.
 abbrev pub IsImportKept : Disk → Disk → (created guid : ℕ) → Contents → Type 0
 IsImportKept old new created guid contents = (new ≡ old) ⊎ IsSteady old new created guid contents
 
--- It is asked of an import of each disk that is the pool's own once it is flushed, with the moment of the create and the contents with which it is.
--- So is one that the pool alone wrote, and one that a run gave up.
+-- It is asked of an import of each disk that is the pool's own once it is flushed, with the moment of the create and
+-- the contents with which it is. So is one that the pool alone wrote, and one that a run gave up.
 abbrev pub KeepsOwn : Disk → Disk → Type 0
 KeepsOwn old new = (created guid : ℕ) (contents : Contents) → IsOwnOnceFlushed old created guid contents → IsImportKept old new created guid contents
 
--- What is steady mounts: a crash at any moment since the first good flush leaves only fair images that mount these contents.
+-- What is steady mounts: a crash at any moment since the first good flush leaves only fair images that mount these
+-- contents.
 abbrev pub SteadyImportsMount : Type 0
 SteadyImportsMount = (old new : Disk) (created guid : ℕ) (contents : Contents) → IsSteady old new created guid contents
     → AllMountTo (certain (bytes_of old.now) old) new created contents
@@ -79,8 +82,8 @@ abbrev pub IsStepKept : Disk → Disk → Shown → Shown → Past → Past → 
 IsStepKept before after s t old new =
     EachMoment (λ m. IsPoolDisk (disk_size before) m s old ⊎ IsPoolDisk (disk_size before) m t new) before after
 
--- What a run leaves, suspended or not: every fair image is one that this pool alone wrote, and mounts the replay of a cut of the run's
--- entries with every acknowledged one.
+-- What a run leaves, suspended or not: every fair image is one that this pool alone wrote, and mounts the replay of a
+-- cut of the run's entries with every acknowledged one.
 pub record IsRunLeft (disk : Disk) (past : Past) (guid : ℕ) : Type 0 where
   pub began : past.created ≤ moments disk
   pub left : LeavesFairNow disk past.created (λ image. (c : Contents) × IsLeftBy past c × IsOwnImage (disk_size disk) past.created image disk.now guid c)
@@ -90,9 +93,9 @@ abbrev pub LeadsTo : Contents → List Past → Contents → Type 0
 LeadsTo first [] last = last ≡ first
 LeadsTo first (past ∷ pasts) last = (past.base ≡ first) × ((left : Contents) × IsLeftBy past left × LeadsTo left pasts last)
 
--- One round: a disk of this pool is imported and run, with this past, until it ends on a disk, in a step or between two; a stopped
--- import is a round whose past has no entry. Then a crash makes some fair image certain; for a device that is given back it is the
--- first flush of the next import, and the image is what a read gives.
+-- One round: a disk of this pool is imported and run, with this past, until it ends on a disk, in a step or between
+-- two; a stopped import is a round whose past has no entry. Then a crash makes some fair image certain; for a device
+-- that is given back it is the first flush of the next import, and the image is what a read gives.
 pub record IsCrashRound (guid : ℕ) (first : Contents) (past : Past) (before ended : Disk) (image : List ℕ) : Type 0 where
   pub base : past.base ≡ first
   pub run_left : IsOwnWith before past.created guid first → IsRunLeft ended past guid
@@ -105,8 +108,8 @@ AreRounds created guid first [] before after = after ≡ before
 AreRounds created guid first (past ∷ pasts) before after = (past.created ≡ created) × ((ended : Disk) × ((image : List ℕ) × IsCrashRound guid first past before ended image
     × ((next : Contents) → IsOwnWith (certain image ended) created guid next → AreRounds created guid next pasts (certain image ended) after)))
 
--- The client's theorem: what stands at last mounts the replay of a cut of each round's entries, one round upon the other, with every
--- acknowledged entry, and this pool alone has written it.
+-- The client's theorem: what stands at last mounts the replay of a cut of each round's entries, one round upon the
+-- other, with every acknowledged entry, and this pool alone has written it.
 abbrev pub ClientsFindCuts : Type 0
 ClientsFindCuts = (created guid : ℕ) (first : Contents) (pasts : List Past) (before after : Disk) → IsOwnWith before created guid first → AreRounds created guid first pasts before after
     → (last : Contents) × LeadsTo first pasts last × (IsOwnWith after created guid last × MountsTo (bytes_of after.now) last)

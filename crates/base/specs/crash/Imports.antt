@@ -49,7 +49,8 @@ pub record IsFirstLogBlock (image : List ℕ) (u : Uberblock) (chain : List LogB
   pub not_new : IsInTree now root address → ⊥
   pub lowest : (other : ℕ) → other < address → IsBlockAddress (block_count (length image)) other → IsUsed image u.root chain other ⊎ IsInTree now root other
 
--- an import of an image that answers Ok and leaves these bytes: what it mounts, how many records it applied, and the pool that it gives
+-- an import of an image that answers Ok and leaves these bytes: what it mounts, how many records it applied, and the
+-- pool that it gives
 pub record IsImportOf (image now : List ℕ) (dirty_max records : ℕ) (s : Shown) : Type 0 where
   pub u : Uberblock
   pub chain : List LogBlock

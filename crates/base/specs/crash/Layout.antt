@@ -31,8 +31,8 @@ pub record IsBlockOf (entries : List Entry) (kept : KeptBlock) (block : LogBlock
   pub noted : map committed_of block.records ≡ kept.committed
   pub records : (i : ℕ) (c : Committed) (r : Record) → slice_get kept.committed i ≡ Some c → slice_get block.records i ≡ Some r → IsRecordOf entries c r
 
--- The image mounts the synced tree of this group, and of the kept log from this header on a front that has all that was flushed. A block
--- whose write was refused is a kept one too: it may stand after a crash.
+-- The image mounts the synced tree of this group, and of the kept log from this header on a front that has all that was
+-- flushed. A block whose write was refused is a kept one too: it may stand after a crash.
 pub record LiesAs (image : List ℕ) (s : Shown) (past : Past) (group : ℕ) (root : Pointer) (header : Header) : Type 0 where
   pub u : Uberblock
   pub synced : Contents

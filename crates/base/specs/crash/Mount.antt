@@ -72,7 +72,8 @@ pub record IsFound (image : List ℕ) (u : Uberblock) (synced : Contents) (chain
   pub tree : IsTree image (frame_of image u) u.root synced.objects
   pub chain_is : IsChainOf image u chain
 
--- the image mounts these contents: the tree and name of its active uberblock, with the chain's records above it applied in order
+-- the image mounts these contents: the tree and name of its active uberblock, with the chain's records above it applied
+-- in order
 pub record Mounts (image : List ℕ) (u : Uberblock) (chain : List LogBlock) (contents : Contents) : Type 0 where
   pub synced : Contents
   pub found : IsFound image u synced chain

@@ -1,5 +1,5 @@
--- The phases of a pool's disk, at rest on one view or between two while the uberblocks of the new one are written; and when a pool alone has
--- written a disk since its create.
+-- The phases of a pool's disk, at rest on one view or between two while the uberblocks of the new one are written; and
+-- when a pool alone has written a disk since its create.
 use Rattle.std.specs.Prelude.{ℕ, ◌≡◌, ◌≢◌, ◌≤◌, ◌<◌, ◌+◌, ◌⊎◌, List, [], length, map, Ok}
 use Rattle.base.specs.history.Contents.{Contents}
 use Rattle.base.specs.formats.Fields.{part, number_at}
@@ -16,8 +16,8 @@ pub record IsAtRest (size t flushed : ℕ) (m : Moment) (v : View) : Type 0 wher
   pub slot : HasFixedSlot size m v
   pub slots : AreSlotsKnown size t (handed m) v.u.group (λ content. content ≡ v.slot)
 
--- While the uberblocks of the new view are written: both are laid, the old one's uberblock is fixed, no other counts than theirs and
--- lower ones, and the new one's is among the unflushed writes alone.
+-- While the uberblocks of the new view are written: both are laid, the old one's uberblock is fixed, no other counts
+-- than theirs and lower ones, and the new one's is among the unflushed writes alone.
 pub record IsBetween (size t flushed new_flushed : ℕ) (m : Moment) (old new : View) : Type 0 where
   pub old_laid : IsLaid size t flushed m old
   pub new_laid : IsLaid size t new_flushed m new
@@ -31,7 +31,8 @@ pub record IsBetween (size t flushed new_flushed : ℕ) (m : Moment) (old new : 
 abbrev pub IsPhase : ℕ → ℕ → ℕ → ℕ → Moment → View → View → Type 0
 IsPhase size t flushed new_flushed m old new = IsAtRest size t flushed m old ⊎ (IsBetween size t flushed new_flushed m old new ⊎ IsAtRest size t new_flushed m new)
 
--- no config of the pool that counts is of a group that an import of this view may reach, but for the one that it writes
+-- no config of the pool that counts is of a group that an import of this view may reach, except for the one that it
+-- writes
 abbrev pub AreConfigsBelowImport : ℕ → ℕ → List Write → View → Type 0
 AreConfigsBelowImport size t ws v = AreConfigsUpTo size t ws v.u.guid (v.u.group + 3) (λ group content. (group ≡ v.u.group + 4) × (content ≡ config_content size v.u.guid group v.name))
 
@@ -45,13 +46,14 @@ pub record IsOwnImage (size t : ℕ) (image : List ℕ) (m : Moment) (guid : ℕ
   pub no_log : v.logged ≡ []
   pub applied : apply_records (records_above v.u.group (map (λ (l : Logged). l.block) v.logged)) v.synced ≡ Ok contents
 
--- A disk was written by this pool alone since its create, which began at this moment: what a read gives is fair, and every fair image is the
--- pool's own with these contents.
+-- A disk was written by this pool alone since its create, which began at this moment: what a read gives is fair, and
+-- every fair image is the pool's own with these contents.
 pub record IsOwnWith (disk : Disk) (created guid : ℕ) (contents : Contents) : Type 0 where
   pub began : created ≤ moments disk
   pub left : LeavesFairNow disk created (λ image. IsOwnImage (disk_size disk) created image disk.now guid contents)
 
--- all that counts of a new pool's create, whose config and uberblock are those of this view: each write begins with zeros, or is one of the two
+-- all that counts of a new pool's create, whose config and uberblock are those of this view: each write begins with
+-- zeros, or is one of the two
 abbrev pub AreFirstWrites : ℕ → List Write → View → Type 0
 AreFirstWrites t ws v = (place : ℕ) (content : List ℕ) → HandedSince t ws place content → (number_at content 0 ≡ 0) ⊎ ((content ≡ v.config) ⊎ (content ≡ v.slot))
 
@@ -60,8 +62,9 @@ abbrev pub AreHandedOrZero : ℕ → ℕ → Moment → Type 0
 AreHandedOrZero size t m = (place n : ℕ) → IsCheckedPlace size place n
     → (number_at (part (bytes_of m) place n) 0 ≡ 0) ⊎ HandedSince t (handed m) place (part (bytes_of m) place n)
 
--- What a create leaves: all is flushed, the config and the uberblock of the view of a new pool stand in a label each, and the tree of its
--- objects; only first writes count, and each place that the format checks begins with zeros or was handed whole.
+-- What a create leaves: all is flushed, the config and the uberblock of the view of a new pool stand in a label each,
+-- and the tree of its objects; only first writes count, and each place that the format checks begins with zeros or was
+-- handed whole.
 pub record IsCreatedDisk (size t : ℕ) (m : Moment) (v : View) : Type 0 where
   pub view : IsView size v
   pub no_log : v.logged ≡ []

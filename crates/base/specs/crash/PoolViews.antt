@@ -1,4 +1,5 @@
--- The views that a running pool keeps on its disk: the one of its synced group, and, while a sync runs, also the one of that sync's group.
+-- The views that a running pool keeps on its disk: the one of its synced group, and, while a sync runs, also the one of
+-- that sync's group.
 use Rattle.std.specs.Prelude.{ℕ, ◌≡◌, ◌<◌, ◌⊎◌, true, List, length, slice_get, Some, Ok}
 use Rattle.std.specs.List.{list_any}
 use Rattle.base.specs.declared.pointer.Pointer.{Pointer}
@@ -17,7 +18,8 @@ use Rattle.base.specs.crash.Layout.{IsBlockOf, kept_from, header_now}
 use Rattle.base.specs.crash.Views.{View, Logged, AreConfigsUpTo, config_content}
 use Rattle.base.specs.crash.Own.{IsAtRest, IsBetween}
 
--- the view is that of a group of the pool, with this root and the kept log from this header on; so many of its log blocks are fixed
+-- the view is that of a group of the pool, with this root and the kept log from this header on; so many of its log
+-- blocks are fixed
 pub record IsViewOf (flushed : ℕ) (v : View) (s : Shown) (past : Past) (group : ℕ) (root : Pointer) (header : Header) : Type 0 where
   pub guid : v.u.guid ≡ s.guid
   pub group_is : v.u.group ≡ group
@@ -62,8 +64,8 @@ pub record IsSyncConfig (size : ℕ) (s : Shown) (past : Past) (group : ℕ) (co
   pub replayed : replay (entries_up_to group past.entries) past.base ≡ Ok contents
   pub content_is : content ≡ config_content size s.guid group contents.name
 
--- all that a running pool keeps of its disk: what a read gives is fair, no config of the pool that counts is above the synced group but for
--- that of a running sync, and its views are laid
+-- all that a running pool keeps of its disk: what a read gives is fair, no config of the pool that counts is above the
+-- synced group except for that of a running sync, and its views are laid
 pub record IsPoolDisk (size : ℕ) (m : Moment) (s : Shown) (past : Past) : Type 0 where
   pub bytes : HasFairBytes size past.created m
   pub configs : AreConfigsUpTo size past.created (handed m) s.guid s.line.synced (IsSyncConfig size s past)

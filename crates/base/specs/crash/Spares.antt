@@ -1,4 +1,5 @@
--- Which writes leave a view as it lies: those apart from what is fixed of it, of bytes that could pass for nothing it needs.
+-- Which writes leave a view as it lies: those apart from what is fixed of it, of bytes that could pass for nothing it
+-- needs.
 use Rattle.std.specs.Prelude.{ℕ, ◌≡◌, ◌≢◌, ◌<◌, ◌⊎◌, List, length, slice_get, Some}
 use Rattle.base.specs.formats.Fields.{no_pointer, number_at}
 use Rattle.base.specs.formats.Geometry.{block_size, config_place, slot_place, slot_of}

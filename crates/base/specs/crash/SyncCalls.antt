@@ -1,5 +1,5 @@
--- The device calls of a running sync, one by one, and what each makes of the bytes. (A sync with label stages has others between these:
--- none runs so far.)
+-- The device calls of a running sync, one by one, and what each makes of the bytes. (A sync with label stages has
+-- others between these: none runs so far.)
 use Rattle.std.specs.Prelude.{ℕ, ◌≡◌, ◌<◌, ◌+◌, ◌⊎◌, List, length, slice_get, Some}
 use Rattle.base.specs.declared.pointer.Pointer.{Pointer}
 use Rattle.base.specs.formats.Geometry.{slot_place, slot_of}
@@ -17,7 +17,8 @@ abbrev pub bytes_made : PoolCall → List ℕ → List ℕ
 bytes_made (Put place content) now = put place content now
 bytes_made Settle now = now
 
--- what a running sync makes: the pointers of the new tree, its blocks, the bytes of its uberblock, and how many of its calls it has made
+-- what a running sync makes: the pointers of the new tree, its blocks, the bytes of its uberblock, and how many of its
+-- calls it has made
 pub record NewTree : Type 0 where
   pub pointers : Place → Pointer
   pub blocks : List NewBlock
@@ -28,8 +29,8 @@ pub record NewTree : Type 0 where
 abbrev pub total_calls : NewTree → ℕ
 total_calls new = length new.blocks + 6
 
--- The call of this number, of the sync of a group on a device of so many bytes: first each block is written, then there is a flush, then
--- the uberblock is written into the labels 0 to 3, and last there is a flush.
+-- The call of this number, of the sync of a group on a device of so many bytes: first each block is written, then there
+-- is a flush, then the uberblock is written into the labels 0 to 3, and last there is a flush.
 abbrev pub IsCallAt : ℕ → ℕ → NewTree → ℕ → PoolCall → Type 0
 IsCallAt size group new number call =
     ((b : NewBlock) × (slice_get new.blocks number ≡ Some b) × (call ≡ Put b.address b.content))

@@ -11,8 +11,8 @@ pub record IsOnDevice (size place n : ℕ) : Type 0 where
   pub whole : n % 512 ≡ 0
   pub within : place + n ≤ size
 
--- A write that answers Ok is done. One that fails may count as a write for a crash, so any bytes may then stand in its range; that what a read
--- gives stays as it was until then is a condition on each device that keeps the model.
+-- A write that answers Ok is done. One that fails may count as a write for a crash, so any bytes may then stand in its
+-- range; that what a read gives stays as it was until then is a condition on each device that keeps the model.
 abbrev pub Writes : Disk → ℕ → List ℕ → Result (Unit {0}) PoolError → Disk → Type 0
 Writes old place content (Ok x) new = new ≡ written place content true old
 Writes old place content (Err e) new = (new ≡ written place content false old) ⊎ (new ≡ old)
@@ -33,7 +33,7 @@ with_refusal Write calls = record calls { writes = one_more calls.writes }
 with_refusal Flush calls = record calls { flushes = one_more calls.flushes }
 with_refusal _ calls = calls
 
--- the refused calls of a device after an answer: one more of its kind exactly where that is the device's refusal
+-- the refused calls of a device after an answer: one more of its kind exactly if that is the device's refusal
 abbrev pub counted : {T : Type 0} → Result T PoolError → RefusedCalls → RefusedCalls
 counted (Ok x) calls = calls
 counted (Err e) calls = with_refusal e calls

@@ -51,7 +51,8 @@ abbrev pub IsTouched : List Write → ℕ → Type 0
 IsTouched [] i = ⊥
 IsTouched (w ∷ ws) i = ((w.place ≤ i) × (i < w.place + length w.content)) ⊎ IsTouched ws i
 
--- A crash at this moment may leave this image: any bytes where a write is not yet flushed, and elsewhere what a read gives.
+-- A crash at this moment may leave this image: any bytes where a write is not yet flushed, and elsewhere what a read
+-- gives.
 pub record MayLeave (m : Moment) (image : List ℕ) : Type 0 where
   pub size : length image ≡ length (bytes_of m)
   pub others : (i : ℕ) → (IsTouched m.unflushed i → ⊥) → slice_index image i ≡ slice_index (bytes_of m) i

@@ -35,11 +35,13 @@ slot_at size label place = (place - slot_place size label 0) / slot_size
 abbrev pub is_slot_place : ℕ → ℕ → Bool
 is_slot_place size place = list_any (λ label. nat_lt (slot_at size label place) 128 && (place == slot_place size label (slot_at size label place))) label_numbers
 
--- whether bytes begin with a number other than 0, as those of each block and of each uberblock do: with its kind, or its magic
+-- whether bytes begin with a number other than 0, as those of each block and of each uberblock do: with its kind, or
+-- its magic
 abbrev pub begins_with_mark : List ℕ → Bool
 begins_with_mark bytes = not (number_at bytes 0 == 0)
 
--- whether the format checks so many bytes at a place, and these bytes pass: a block, a config or a slot whose check agrees
+-- whether the format checks so many bytes at a place, and these bytes pass: a block, a config or a slot whose check
+-- agrees
 abbrev pub passes_check : ℕ → ℕ → ℕ → List ℕ → Bool
 passes_check size place n bytes =
     ((n == block_size) && ((is_block_place size place || is_config_place size place) && (is_sealed bytes && begins_with_mark bytes)))
@@ -60,8 +62,8 @@ pub record HasFairBytes (size t : ℕ) (m : Moment) : Type 0 where
   pub size_is : length (bytes_of m) ≡ size
   pub fair : IsFair (passes_check size) t (handed m) (bytes_of m)
 
--- At this moment what a read gives is fair, and a crash leaves only images that have P, or that are not fair. So P is said of one image at
--- least, and t is no later than the writes that handed the sealed places of what a read gives.
+-- At this moment what a read gives is fair, and a crash leaves only images that have P, or that are not fair. So P
+-- holds for one image at least, and t is no later than the writes that handed the sealed places of what a read gives.
 pub record LeavesFair (size t : ℕ) (P : List ℕ → Type 0) (m : Moment) : Type 0 where
   pub bytes : HasFairBytes size t m
   pub each : (image : List ℕ) → MayLeave m image → IsFair (passes_check size) t (handed m) image → P image

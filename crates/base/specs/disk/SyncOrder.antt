@@ -16,7 +16,8 @@ pub data DeviceCall : Type 0 where
 abbrev pub label_stage : List ℕ → List DeviceCall
 label_stage labels = map (λ l. Config l) labels ++ Flush ∷ []
 
--- so many blocks and a flush, a label stage if there are any, the uberblock of each label and a flush, the other label stage
+-- so many blocks and a flush, a label stage if there are any, the uberblock of each label and a flush, the other label
+-- stage
 abbrev pub calls_in_order : ℕ → Bool → List ℕ → List ℕ → List DeviceCall
 calls_in_order count has_stages first second =
     map (λ k. Block k) (range_with_len 0 count) ++ Flush ∷ []

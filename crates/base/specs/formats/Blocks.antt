@@ -37,7 +37,8 @@ abbrev pub sealed_block : ℕ → ℕ → ℕ → ℕ → List ℕ → List ℕ
 sealed_block kind guid group number payload =
     block_head_bytes kind guid group number ++ sha256 (block_head_bytes kind guid group number ++ replicate 32 0 ++ payload) ++ payload
 
--- the version by whose rules a tree is read or written, the pool's guid, the number of blocks of its area, and the group that no birth may pass
+-- the version by whose rules a tree is read or written, the pool's guid, the number of blocks of its area, and the
+-- group that no birth may pass
 pub record Frame : Type 0 where
   pub version : ℕ
   pub guid : ℕ

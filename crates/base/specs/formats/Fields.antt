@@ -23,7 +23,8 @@ pointer_at bytes at = record { address = number_at bytes at; birth = number_at b
 abbrev pub no_pointer : Pointer
 no_pointer = record { address = 0; birth = 0; check = replicate 32 0 }
 
--- the pointer of this number in the payload of a root or an indirect block, and the entry of this number in a directory's
+-- the pointer of this number in the payload of a root or an indirect block, and the entry of this number in a
+-- directory's
 abbrev pub pointer_in : List ℕ → ℕ → Pointer
 pointer_in payload k = pointer_at payload (48 * k)
 

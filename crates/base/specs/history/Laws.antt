@@ -7,11 +7,11 @@ use Rattle.base.specs.history.Contents.{Contents, apply, object_after}
 use Rattle.base.specs.history.Plans.{NumberRange, IsRange, ranges, plan_ranges, shape_of, clash, HaveCommon, touched, overlaps}
 use Rattle.base.specs.history.History.{Entry, MayFollow, Admitted, AreAdmitted, HasAcknowledged, IsDurable, IsWithin, IsHistory, conflicts, run, replay, kept, IsCut, IsInGroupOrder, entries_up_to, entries_above, entries_in, group_by_group, left_marks}
 
--- ranges overlap exactly where they have a byte in common
+-- ranges overlap exactly if they have a byte in common
 abbrev pub OverlapsAreCommon : Type 0
 OverlapsAreCommon = (a b : NumberRange) → IsRange a → IsRange b → (overlaps a b ≡ true) ↔ HaveCommon a b
 
--- and lists of ranges clash exactly where a range of the one overlaps one of the other
+-- and lists of ranges clash exactly if a range of the one overlaps one of the other
 abbrev pub ClashesAreOverlaps : Type 0
 ClashesAreOverlaps = (xs ys : List NumberRange) → (clash xs ys ≡ true) ↔ Any (λ x. Any (λ y. overlaps x y ≡ true) ys) xs
 
@@ -62,7 +62,8 @@ abbrev pub GroupsGiveContents : Type 0
 GroupsGiveContents = (entries : List Entry) (synced count : ℕ) (base now : Contents) → IsHistory entries base now → All (λ (e : Entry). e.group ≤ synced + count) entries
     → (tree : Contents) × (replay (entries_up_to synced entries) base ≡ Ok tree) × (replay (group_by_group (synced + 1) count entries) tree ≡ Ok now)
 
--- a tree and the log's records of higher groups give the replay of a cut, that of the tree's entries and the logged ones
+-- a tree and the log's records of higher groups give the replay of a cut, that of the tree's entries and the logged
+-- ones
 abbrev pub LogsReplay : Type 0
 LogsReplay = (entries : List Entry) (synced logged : ℕ) (base now : Contents) → IsHistory entries base now
     → IsCut (left_marks synced logged entries) entries

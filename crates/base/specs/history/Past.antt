@@ -14,7 +14,7 @@ pub record Past : Type 0 where
   pub dirty_max : ℕ
   -- the committed transactions, in order
   pub entries : List Entry
-  -- the range locks that were granted, and the names of those let go
+  -- the range locks that were granted, and the names of those released
   pub grants : List Grant
   pub let_go : List ℕ
   -- the transactions that were admitted, and the names of those aborted

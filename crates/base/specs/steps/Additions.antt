@@ -11,10 +11,10 @@ use Rattle.base.specs.steps.Runs.{Step}
 use Rattle.base.specs.steps.Steps.{State}
 use Rattle.base.specs.steps.ExactNow.{IsRun}
 
--- The past after a step. A commit adds its entry, a lock its grant, an unlock the name that is let go, a begin its admission and an abort
--- the name of its transaction; the step that answers that a group is synced, and no other of these, acknowledges entries: those of that
--- group. No refusal adds anything. A step that is not built yet will: a good flush of the log adds the ordinals that await one in the log
--- of the state before to those acknowledged.
+-- The past after a step. A commit adds its entry, a lock its grant, an unlock the name that is released, a begin its
+-- admission and an abort the name of its transaction; the step that answers that a group is synced, and no other of
+-- these, acknowledges entries: those of that group. No refusal adds anything. A step that is not built yet will: a good
+-- flush of the log adds the ordinals that await one in the log of the state before to those acknowledged.
 abbrev pub past_after : declared_step.Step → declared_reply.Reply → State → Past
 past_after (step.Lock owner n range mode) (reply.Locked id) s =
     record s.past { grants = s.past.grants ++ record { id = id.0; owner = owner.0; range = object_range n.0 range.low range.high; mode = mode } ∷ [] }

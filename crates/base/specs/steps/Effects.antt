@@ -1,4 +1,5 @@
--- What a step does to a pool, and what its tests have made sure of before: the facts of each step are facts of these effects.
+-- What a step does to a pool, and what its tests have made sure of before: the facts of each step are facts of these
+-- effects.
 use Rattle.std.specs.Prelude.{ℕ, ◌≡◌, ◌+◌, ◌≤◌, ◌<◌, ◌==◌, ◌⊎◌, Bool, true, false, List, Some, None, Ok}
 use Rattle.std.specs.List.{list_all}
 use Rattle.base.specs.declared.operation.Op.{Op}
@@ -15,14 +16,16 @@ use Rattle.base.specs.steps.Steps as steps
 use Rattle.base.specs.steps.Steps.{State, IsPlanned, TakesForLog}
 use Rattle.base.specs.steps.Stage.{is_plan_built}
 
--- An effect: nothing, that the pool is suspended, or a change of the locks, the transactions, the line of groups, the running sync or the log.
+-- An effect: nothing, that the pool is suspended, or a change of the locks, the transactions, the line of groups, the
+-- running sync or the log.
 pub data Effect : Type 0 where
   Stays : Effect
   Suspends : Effect
-  -- a lock is granted; the owner's lock of a name is let go
+  -- a lock is granted; the owner's lock of a name is released
   AddsGrant : Grant → Effect
   LetsGo : ℕ → ℕ → Effect
-  -- a transaction is admitted; the one of a name, with this admission, is committed with operations that lead to some contents
+  -- a transaction is admitted; the one of a name, with this admission, is committed with operations that lead to some
+  -- contents
   AddsAdmission : Admission → Effect
   AddsEntry : ℕ → Admission → List Op → Contents → Effect
   -- the one of a name, with this admission, is given up
@@ -34,7 +37,8 @@ pub data Effect : Type 0 where
   PlansSync : ℕ → SyncPlan → Effect
   CountsStep : SyncPlan → Effect
   EndsSync : ℕ → SyncPlan → Effect
-  -- a log block is written with records from the front of the pending ones, with those left and the next block's address; all are flushed
+  -- a log block is written with records from the front of the pending ones, with those left and the next block's
+  -- address; all are flushed
   WritesLog : List Record → List Record → ℕ → Effect
   FlushesLog : Effect
 
@@ -54,8 +58,8 @@ state_after (EndsSync group plan) s = steps.state_after_sync group plan s
 state_after (WritesLog taken rest address) s = steps.state_after_log_write taken rest address s
 state_after FlushesLog s = steps.state_after_log_flush s
 
--- an admission of the next name, to the open group, of a plan that is built, not too large, covered by locks and not blocked, whose charge
--- is within the limit and whose estimate is available
+-- an admission of the next name, to the open group, of a plan that is built, not too large, covered by locks and not
+-- blocked, whose charge is within the limit and whose estimate is available
 pub record MayAddAdmission (a : Admission) (s : State) : Type 0 where
   pub named : a.tx ≡ s.shown.next_tx
   pub in_open : a.group ≡ s.shown.line.open_group
@@ -73,10 +77,11 @@ pub record MayAddEntry (tx : ℕ) (a : Admission) (ops : List Op) (contents : Co
   pub applied : apply_all ops s.shown.contents ≡ Ok contents
   pub allowed : list_all is_content_allowed ops ≡ true
 
--- What the tests of a step have made sure of before its effect, as the facts of the tables need it. A grant has the next name, and no held
--- lock blocks it; a lock that is let go is the owner's, and in no use; a transaction that is given up is open; the open group is closed while
--- there is no middle one; a group without a hold quiesces; while none runs the sync of the quiesced group is planned, and one that runs has
--- more steps, or ends; a log write takes a block that is available.
+-- What the tests of a step have made sure of before its effect, as the facts of the tables need it. A grant has the
+-- next name, and no held lock blocks it; a lock that is released is the owner's, and in no use; a transaction that is
+-- given up is open; the open group is closed while there is no middle one; a group without a hold quiesces; while none
+-- runs the sync of the quiesced group is planned, and one that runs has more steps, or ends; a log write takes a block
+-- that is available.
 abbrev pub MayHave : Effect → State → Type 0
 MayHave Stays s = Unit {0}
 MayHave Suspends s = Unit {0}

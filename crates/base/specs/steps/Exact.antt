@@ -18,7 +18,7 @@ use Rattle.base.specs.steps.Logs.{Log, KeptBlock, Committed, committed_of, commi
 use Rattle.base.specs.steps.Shown.{Shown, SyncPlan, dirty_of, reserved_of, dirty_total, reserved_total, free_count, taken_of, is_durable}
 use Rattle.base.specs.steps.Refusals.{is_plan_covered}
 
--- the held locks are the grants that were not let go, and are sound
+-- the held locks are the grants that were not released, and are sound
 pub record AreLocksExact (s : Shown) (past : Past) : Type 0 where
   pub held : s.locks ≡ held_locks past.grants past.let_go
   pub sound : AreLocksSound s.locks
@@ -33,7 +33,8 @@ pub record AreGroupsExact (s : Shown) (past : Past) : Type 0 where
   pub transactions : s.transactions ≡ open_transactions past.admissions past.entries past.aborted
   pub next : s.next_tx ≡ length past.admissions
 
--- open transactions touch no common byte, entries that conflict with one have no higher group, and each is covered by writer locks of its owner
+-- open transactions touch no common byte, entries that conflict with one have no higher group, and each is covered by
+-- writer locks of its owner
 pub record AreIsolated (s : Shown) (past : Past) : Type 0 where
   pub admitted : AreAdmitted past.entries s.line.open_group (map admitted_of s.transactions)
   pub covered : (i : ℕ) (a : Admission) → slice_get s.transactions i ≡ Some a → is_plan_covered a.owner a.plan s.locks ≡ true
@@ -50,12 +51,14 @@ pub record HasReservedBlocks (s : Shown) : Type 0 where
   pub taken : IfSome s.line.syncing (λ g. length (taken_of s.sync) ≤ reserved_of s g)
   pub room : reserved_total s ≤ free_count s + length (taken_of s.sync)
 
--- the log has the records of unsynced entries and no others, and an entry is acknowledged exactly where its receipt is durable
+-- the log has the records of unsynced entries and no others, and an entry is acknowledged exactly if its receipt is
+-- durable
 pub record IsLogExact (s : Shown) (past : Past) : Type 0 where
   pub next : s.next_ordinal ≡ length past.entries
   pub allowed : (o : ℕ) (e : Entry) → slice_get past.entries o ≡ Some e → IsAllowed (record { group = e.group; ordinal = o; ops = e.ops })
   pub pending : s.log.pending ≡ pending_records s.line.synced s.log past.entries
-  -- what is written and then what is pending of unsynced groups is in the order of the commits, each once and none left out
+  -- what is written and then what is pending of unsynced groups is in the order of the commits, each once and none left
+  -- out
   pub in_order : committed_above s.line.synced (committed_in s.log) ++ map committed_of s.log.pending ≡ committed_above s.line.synced (committed_entries past.entries)
   pub known : (i : ℕ) (b : KeptBlock) (r : Committed) → slice_get s.log.kept i ≡ Some b → has_record b r ≡ true
       → (e : Entry) × (slice_get past.entries r.ordinal ≡ Some e) × (e.group ≡ r.group)
@@ -63,7 +66,8 @@ pub record IsLogExact (s : Shown) (past : Past) : Type 0 where
   pub acknowledged : (o : ℕ) (e : Entry) → slice_get past.entries o ≡ Some e → is_in o past.acknowledged ≡ is_durable s o e.group
   pub no_others : (o : ℕ) → is_in o past.acknowledged ≡ true → o < length past.entries
 
--- a sync runs exactly while a group is syncing: it has steps left, and no log block before its header has a record above its group
+-- a sync runs exactly while a group is syncing: it has steps left, and no log block before its header has a record
+-- above its group
 pub record IsSyncExact (s : Shown) : Type 0 where
   pub running : is_some s.sync ≡ is_some s.line.syncing
   pub steps : IfSome s.sync (λ plan. 0 < plan.steps_left)
@@ -105,8 +109,8 @@ pub record AreFree (now : List ℕ) (s : Shown) : Type 0 where
 abbrev pub log_addresses : Log → List ℕ
 log_addresses log = map (λ (b : KeptBlock). b.address) log.kept ++ log.next.address ∷ []
 
--- The log, with the block that is written next, and what the syncing group has taken lie in the area, each block at an address of its own:
--- none is one of the synced tree, and none is of both.
+-- The log, with the block that is written next, and what the syncing group has taken lie in the area, each block at an
+-- address of its own: none is one of the synced tree, and none is of both.
 pub record AreDistinctPlaces (now : List ℕ) (s : Shown) : Type 0 where
   pub log_in_area : (address : ℕ) → IsInLog s.log address → IsBlockAddress s.blocks address
   pub log_distinct : (i j address : ℕ) → slice_get (log_addresses s.log) i ≡ Some address → slice_get (log_addresses s.log) j ≡ Some address → i ≡ j

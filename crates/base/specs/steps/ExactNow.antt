@@ -21,7 +21,8 @@ pub record IsTreeOf (group : ℕ) (past : Past) (c : Contents) (by_object : ℕ 
   pub bounded : IsBounded c
   pub lengths : AreLengthsOf c by_object
 
--- the contents of the synced tree are those of the synced group, and those that a running sync writes are those of its group
+-- the contents of the synced tree are those of the synced group, and those that a running sync writes are those of its
+-- group
 pub record AreTreesExact (s : Shown) (past : Past) : Type 0 where
   pub synced : IsTreeOf s.line.synced past s.synced_contents s.lengths
   pub planned : (group : ℕ) (plan : SyncPlan) → s.line.syncing ≡ Some group → s.sync ≡ Some plan → IsTreeOf group past plan.contents plan.lengths
@@ -45,7 +46,8 @@ GoesOn before after = (steps : List declared_step.Step) × (replies : List decla
 abbrev pub IsLogStep : State → State → Type 0
 IsLogStep old new = ((answer : Result ℕ PoolError) × LogWrite answer old new) ⊎ ((answer : Result (Unit {0}) PoolError) × LogFlush answer old new)
 
--- each step keeps this, over a device of which nothing is known: the steps over a device that keeps the disk model are among these
+-- each step keeps this, over a device of which nothing is known: the steps over a device that keeps the disk model are
+-- among these
 abbrev pub StepsKeepTables : Type 0
 StepsKeepTables = (now : List ℕ) (step : declared_step.Step) (reply : declared_reply.Reply) (old new : State) → Step ⊥ now step reply old new
     → IsExplainedNow old.shown old.past → IsExplainedNow new.shown new.past

@@ -32,16 +32,18 @@ pub record MountsToCut (image : List ℕ) (past : Past) : Type 0 where
   pub left : IsLeftBy past contents
   pub mounts : MountsTo image contents
 
--- What a read gives is fair, and every fair image that a crash now may leave mounts to a cut. So a moment of the create that is later than
--- the writes of the pool explains nothing.
+-- What a read gives is fair, and every fair image that a crash now may leave mounts to a cut. So a moment of the create
+-- that is later than the writes of the pool explains nothing.
 abbrev pub AreSafe : Disk → Past → Type 0
 AreSafe disk past = LeavesFairNow disk past.created (λ image. MountsToCut image past)
 
--- at each moment of a call what a read gives was fair, and every fair image mounts to a cut with all that was acknowledged before the call
+-- at each moment of a call what a read gives was fair, and every fair image mounts to a cut with all that was
+-- acknowledged before the call
 abbrev pub WereSafe : Disk → Disk → Past → Past → Type 0
 WereSafe before after old new = LeavesFairSince before after new.created (λ image. MountsToCut image (record new { acknowledged = old.acknowledged }))
 
--- the entries are a history that leads to the contents, all that is shown is exact, and the synced tree and the free blocks are what the device holds
+-- the entries are a history that leads to the contents, all that is shown is exact, and the synced tree and the free
+-- blocks are what the device holds
 pub record ExplainsNow (keeps : Type 0) (now : List ℕ) (s : Shown) (past : Past) : Type 0 where
   pub exact : IsExact s past
   pub history : keeps → IsHistory past.entries past.base s.contents

@@ -1,4 +1,4 @@
--- Range locks: the grants of a run, and those that were let go.
+-- Range locks: the grants of a run, and those that were released.
 use Rattle.std.specs.Prelude.{ℕ, ◌≡◌, ◌==◌, ◌<◌, ◌↔◌, ◌&&◌, ◌++◌, ◌∷◌, [], Bool, true, false, not, List, filter, length, slice_get, Some, nat_lt, nat_le}
 use Rattle.std.specs.List.{list_any}
 use Rattle.base.specs.declared.range.Mode.{Mode}
@@ -49,10 +49,10 @@ is_covered owner range locks = list_any (λ (g : Grant). (g.owner == owner) && l
 abbrev pub is_covered_for_writing : ℕ → NumberRange → List Grant → Bool
 is_covered_for_writing owner range locks = list_any (λ (g : Grant). not (is_reader g.mode) && ((g.owner == owner) && lies_in range g.range)) locks
 
--- what was let go had been granted
+-- what was released had been granted
 abbrev pub AreGranted : List ℕ → List Grant → Type 0
 AreGranted let_go grants = (i id : ℕ) → slice_get let_go i ≡ Some id → id < length grants
 
--- where the held locks are sound, one more is blocked exactly where granting it would leave them unsound
+-- where the held locks are sound, one more is blocked exactly if granting it would leave them unsound
 abbrev pub BusyIsUnsound : Type 0
 BusyIsUnsound = (locks : List Grant) (g : Grant) → AreLocksSound locks → (is_blocked g.range g.mode locks ≡ true) ↔ (AreLocksSound (locks ++ g ∷ []) → ⊥)

@@ -1,5 +1,5 @@
--- When each step is refused, and why first. Want of memory and what a device refuses come after these. The words with whole_ are of the steps
--- that Stage has less of.
+-- When each step is refused, and why first. Want of memory and what a device refuses come after these. The words with
+-- whole_ are of the steps that Stage has less of.
 use Rattle.std.specs.Prelude.{ℕ, ◌+◌, ◌==◌, ◌&&◌, ◌||◌, Bool, true, false, not, List, [], ◌∷◌, ◌++◌, map, length, nat_lt, nat_le, Option, Some, None, is_some, is_none, option_map, find, Result, Ok, Err, if◌then◌else◌}
 use Rattle.std.specs.List.{list_any, list_all}
 use Rattle.std.specs.Option.{option_map_or}
@@ -97,7 +97,7 @@ is_plan_blocked plan transactions = list_any (λ (a : Admission). plans_overlap 
 abbrev pub blocks_wanted : Contents → List Shape → ℕ
 blocks_wanted c plan = estimate_of plan + (if is_shrinking c plan then 0 else kept_back)
 
--- the tests of a begin behind the one of its plan's limits
+-- the tests of a begin after the one of its plan's limits
 abbrev pub admission_tests : ℕ → List Shape → Shown → List Test
 admission_tests owner plan s =
     refused_if (nat_lt max_log_record (log_record_size plan)) TooLarge

@@ -1,4 +1,5 @@
--- What the reply to a thread means, by the state that it had seen before its call and the one that it has seen after it.
+-- What the reply to a thread means, by the state that it had seen before its call and the one that it has seen after
+-- it.
 use Rattle.std.specs.Prelude.{ℕ, ◌≡◌, ◌≤◌, ◌<◌, ◌⊎◌, true, false, List, take, length, slice_get, Some, Ok, Option}
 use Rattle.std.specs.FinMap as finite
 use Rattle.base.specs.declared.error.PoolError.{PoolError}
@@ -51,7 +52,7 @@ pub record IsGranted (owner : ℕ) (range : NumberRange) (mode : Mode) (id : ℕ
   pub grant : slice_get after.past.grants id ≡ Some (record { id = id; owner = owner; range = range; mode = mode })
   pub fresh : length before.past.grants ≤ id
 
--- unlock answered Ok: the lock was this owner's, and was let go during the call
+-- unlock answered Ok: the lock was this owner's, and was released during the call
 pub record IsLetGo (owner id : ℕ) (before after : State) : Type 0 where
   pub grant : Grant
   pub granted : slice_get after.past.grants id ≡ Some grant
@@ -86,16 +87,19 @@ pub record IsStatusBetween (status : Status) (before after : State) : Type 0 whe
   pub explained : IsExplainedNow state.shown state.past
   pub told : status ≡ status_of state.shown
 
--- durable answered yes, or fsync Ok: the receipt's group is synced, or the entry at its ordinal is there, has its group and is acknowledged
+-- durable answered yes, or fsync Ok: the receipt's group is synced, or the entry at its ordinal is there, has its group
+-- and is acknowledged
 abbrev pub IsKnownDurable : ℕ → ℕ → State → Type 0
 IsKnownDurable ordinal group s = (group ≤ s.shown.line.synced)
     ⊎ ((e : Entry) × (slice_get s.past.entries ordinal ≡ Some e) × (e.group ≡ group) × (is_in ordinal s.past.acknowledged ≡ true))
 
--- a sync of the whole pool answered Ok: the group that was open in the state seen before the call is synced in the one seen after it
+-- a sync of the whole pool answered Ok: the group that was open in the state seen before the call is synced in the one
+-- seen after it
 abbrev pub IsPoolSynced : State → State → Type 0
 IsPoolSynced before after = before.shown.line.open_group ≤ after.shown.line.synced
 
--- a refusal is that of the call in some state between the two that its past explains, and `Suspended` is one of a suspended pool alone
+-- a refusal is that of the call in some state between the two that its past explains, and `Suspended` is one of a
+-- suspended pool alone
 pub record IsRefusedBetween (refuses : Shown → Option PoolError) (given : PoolError) (before after : State) : Type 0 where
   pub state : State
   pub no_earlier : GoesOn before state
@@ -104,7 +108,7 @@ pub record IsRefusedBetween (refuses : Shown → Option PoolError) (given : Pool
   pub refused : refuses state.shown ≡ Some given
   pub suspended : given ≡ error.Suspended → state.shown.suspended ≡ true
 
--- a begin that tries again is refused as throttled only where its plan's charge alone is above the limit
+-- a begin that tries again is refused as throttled only if its plan's charge alone is above the limit
 abbrev pub IsThrottledForGood : List Shape → State → Type 0
 IsThrottledForGood plan s = s.shown.dirty_max < charge_of plan
 

@@ -26,7 +26,8 @@ use Rattle.base.specs.steps.Seen.{IsMadeBetween, IsContentsBetween, IsCommitted,
 abbrev pub ContentsAreBetween : Type 0
 ContentsAreBetween = (before s after : State) → IsExplainedNow s.shown s.past → GoesOn before s → GoesOn s after → IsContentsBetween before after s.shown.contents
 
--- a commit that was answered a receipt made that entry, and so of the admission of a begin, the grant of a lock and the end of a lock
+-- a commit that was answered a receipt made that entry, and so of the admission of a begin, the grant of a lock and the
+-- end of a lock
 abbrev pub CommitsAreSeen : Type 0
 CommitsAreSeen = (tx : TxId) (ops : List Op) (receipt : Receipt) (before after : State) → IsMadeBetween ⊥ (step.Commit tx ops) (reply.Committed receipt) before after
     → IsCommitted tx.0 ops receipt.ordinal.0 receipt.group.0 before after

@@ -19,7 +19,8 @@ use Rattle.base.specs.steps.Steps.{State, SyncProgress, Lock, LockAppend, Unlock
 use Rattle.base.specs.crash.Imports.{IsImported}
 use Rattle.base.specs.steps.Exact.{AreGroupsExact, AreChargesExact, IsSyncExact, HasReservedBlocks}
 
--- a sync writes no more blocks than the estimates of its operations add up to, whatever the synced contents and the tree are
+-- a sync writes no more blocks than the estimates of its operations add up to, whatever the synced contents and the
+-- tree are
 abbrev pub SyncsFit : Type 0
 SyncsFit = (ops : List Op) (synced : Contents) (had_block : Place → Bool) → length (written_places ops synced had_block) ≤ estimate_of (map shape_of ops)
 

@@ -1,4 +1,5 @@
--- What each step answers, and what it makes of a pool and of the past of its run. The words with Whole are the steps that Stage has less of.
+-- What each step answers, and what it makes of a pool and of the past of its run. The words with Whole are the steps
+-- that Stage has less of.
 use Rattle.std.specs.Prelude.{ℕ, ◌≡◌, ◌≤◌, ◌<◌, ◌-◌, ◌+◌, ◌==◌, ◌⊎◌, ◌++◌, Bool, true, false, not, List, [], ◌∷◌, map, filter, length, take, Option, Some, None, Result, Ok, Err, IfSome}
 use Rattle.std.specs.List.{flat_map, list_all}
 use Rattle.std.specs.FinMap as finite
@@ -37,7 +38,8 @@ pub record State : Type 0 where
 abbrev pub suspended_state : State → State
 suspended_state s = record s { shown = record s.shown { suspended = true } }
 
--- what a step answers: the first refusal that applies, after which all stands; else what it does, or a refusal of its own
+-- what a step answers: the first refusal that applies, after which all stands; else what it does, or a refusal of its
+-- own
 abbrev pub Answers : {A : Type 0} → Option PoolError → Result A PoolError → State → State → (A → Type 0) → (PoolError → Type 0) → Type 0
 Answers (Some e) answer old new does own = (answer ≡ Err e) × (new ≡ old)
 Answers None (Ok a) old new does own = does a
@@ -83,7 +85,7 @@ state_after_unlock id s = record {
   past = record s.past { let_go = s.past.let_go ++ id ∷ [] };
 }
 
--- a lock is let go
+-- a lock is released
 abbrev pub Unlock : ℕ → ℕ → Result (Unit {0}) PoolError → State → State → Type 0
 Unlock owner id answer old new = Answers (refusal.unlock_refusal owner id old.shown) answer old new
     (λ _. new ≡ state_after_unlock id old) Never
@@ -196,8 +198,8 @@ IsReplayUpTo group past c = replay (entries_up_to group past.entries) past.base 
 abbrev pub AreLengthsOf : Contents → (ℕ → Option ℕ) → Type 0
 AreLengthsOf c lengths = (n : ℕ) → n < object_count → lengths n ≡ length_of c n
 
--- A sync of a group takes the lowest free addresses, no more than its operations are estimated at, has a step for each and its other
--- steps, names the log header for its group, and writes what the entries up to its group leave.
+-- A sync of a group takes the lowest free addresses, no more than its operations are estimated at, has a step for each
+-- and its other steps, names the log header for its group, and writes what the entries up to its group leave.
 pub record IsPlanned (s : State) (moment group : ℕ) (plan : SyncPlan) : Type 0 where
   pub moment_is : plan.moment ≡ moment
   pub taken : plan.taken ≡ lowest_free (length plan.taken) s.shown
@@ -266,7 +268,8 @@ SyncStep answer old new = Answers (refusal.sync_step_refusal old.shown) answer o
     (λ progress. (group : ℕ) × (plan : SyncPlan) × (old.shown.line.syncing ≡ Some group) × (old.shown.sync ≡ Some plan)
     × IsProgress group progress plan old new) (λ e. ((e ≡ error.Write) ⊎ (e ≡ error.Flush)) × (new ≡ suspended_state old))
 
--- the log's next block is written with what fits of the pending records, and the lowest free address is the one after it
+-- the log's next block is written with what fits of the pending records, and the lowest free address is the one after
+-- it
 abbrev pub state_after_log_write : List Record → List Record → ℕ → State → State
 state_after_log_write taken rest address s = record s {
   shown = record s.shown {
@@ -275,7 +278,8 @@ state_after_log_write taken rest address s = record s {
   };
 }
 
--- what a log write takes from the front of the pending records, and the address that it takes for the block after its own
+-- what a log write takes from the front of the pending records, and the address that it takes for the block after its
+-- own
 pub record TakesForLog (s : State) (taken rest : List Record) (address : ℕ) : Type 0 where
   pub packed : IsPacked s.shown.log.pending taken rest
   pub next : lowest_free 1 s.shown ≡ address ∷ []
@@ -303,8 +307,8 @@ abbrev pub LogFlush : Result (Unit {0}) PoolError → State → State → Type 0
 LogFlush answer old new = Answers (refusal.log_flush_refusal old.shown) answer old new
     (λ _. new ≡ state_after_log_flush old) (λ e. (e ≡ error.Flush) × (new ≡ suspended_state old))
 
--- Of every pool, a suspended one too, these three tell what they are asked, and nothing changes: they are never refused.
--- The pool's name.
+-- Of every pool, a suspended one too, these three tell what they are asked, and nothing changes: they are never
+-- refused. The pool's name.
 abbrev pub Name : List ℕ → State → State → Type 0
 Name answer old new = (answer ≡ old.shown.contents.name) × (new ≡ old)
 

@@ -16,7 +16,7 @@ is_refusal _ = false
 abbrev pub IsAnswer : Reply → Type 0
 IsAnswer r = is_refusal r ≡ false
 
--- the reply to a step of a group's sync behind which so many are left
+-- the reply to a step of a group's sync after which so many are left
 abbrev pub reply_with_left : ℕ → ℕ → Reply
 reply_with_left group zero = reply.Synced (record { 0 = group })
 reply_with_left group (suc left) = reply.More
@@ -26,8 +26,8 @@ abbrev pub sync_replies : ℕ → ℕ → List Reply
 sync_replies group zero = []
 sync_replies group (suc left) = reply_with_left group left ∷ sync_replies group left
 
--- Steps of a started sync that are not refused answer that there is more, and the last of those that the sync has, and no other, that
--- its group is synced.
+-- Steps of a started sync that are not refused answer that there is more, and the last of those that the sync has, and
+-- no other, that its group is synced.
 abbrev pub SyncsEndOnTime : Type 0
 SyncsEndOnTime = (s new : State) (group : ℕ) (plan : SyncPlan) (replies : List Reply) → s.shown.suspended ≡ false → s.shown.line.syncing ≡ Some group → s.shown.sync ≡ Some plan
     → IsRun ⊥ (replicate (length replies) step.SyncStep) replies s new → All IsAnswer replies → length replies ≤ plan.steps_left
@@ -43,8 +43,8 @@ suspended_reply s step.Name = reply.Name s.contents.name
 suspended_reply s step.Status = reply.Status (status_of s)
 suspended_reply s _ = reply.Refused error.Suspended
 
--- It refuses each step that is built but those of its name and its status. The third that only tells something of the pool, whether a receipt
--- is durable, is not among them yet.
+-- It refuses each step that is built but those of its name and its status. The third that only tells something of the
+-- pool, whether a receipt is durable, is not among them yet.
 abbrev pub SuspendedPoolsRefuse : Type 0
 SuspendedPoolsRefuse = (steps : List declared_step.Step) (replies : List Reply) (s new : State) → s.shown.suspended ≡ true → IsRun ⊥ steps replies s new
     → replies ≡ map (suspended_reply s.shown) steps

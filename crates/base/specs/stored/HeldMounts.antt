@@ -26,8 +26,8 @@ pub record MountsUpTo (group : ℕ) (now : List ℕ) (s : Shown) (past : Past) :
   pub group_is : u.group ≡ group
   pub import_is : u.import_number ≡ s.import_number
 
--- The bytes of a pool's device, where no block is a log block, mount the synced group; or, once a running sync has written an
--- uberblock, the group of the sync.
+-- The bytes of a pool's device, where no block is a log block, mount the synced group; or, once a running sync has
+-- written an uberblock, the group of the sync.
 abbrev pub HeldMounts : Type 0
 HeldMounts = (h : Held) → IsHeld h → HasNoLogBlock h.now
     → MountsUpTo h.state.shown.line.synced h.now h.state.shown h.state.past

@@ -14,7 +14,8 @@ use Rattle.base.specs.steps.Shown.{Shown, SyncPlan, uberblock_of}
 use Rattle.base.specs.crash.Layout.{header_now}
 use Rattle.base.specs.crash.SyncCalls.{NewTree}
 
--- the active uberblock of these bytes, and the config that is chosen with this name for its group and for each later one
+-- the active uberblock of these bytes, and the config that is chosen with this name for its group and for each later
+-- one
 pub record ShowsUberblock (now : List ℕ) (u : Uberblock) (name : List ℕ) : Type 0 where
   pub active : IsActive now u
   pub config_group : ℕ
@@ -50,8 +51,8 @@ pub record ShowsSyncing (now : List ℕ) (s : Shown) (past : Past) : Type 0 wher
   pub replayed : replay (entries_up_to group past.entries) past.base ≡ Ok contents
   pub shows : ShowsUberblock now (uberblock_of s group plan) contents.name
 
--- The labels show the synced group, until the running sync, if there is one, has written its uberblock into the first label: then they
--- show that one.
+-- The labels show the synced group, until the running sync, if there is one, has written its uberblock into the first
+-- label: then they show that one.
 abbrev pub AreLabelsShown : List ℕ → Shown → Option NewTree → Past → Type 0
 AreLabelsShown now s None past = ShowsSynced now s past
 AreLabelsShown now s (Some new) past =

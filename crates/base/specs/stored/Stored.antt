@@ -1,5 +1,5 @@
--- What a pool keeps of its device: the synced tree with its pointers, the free blocks, of a running sync the tree, the blocks and the
--- uberblock that it writes, and what the labels show.
+-- What a pool keeps of its device: the synced tree with its pointers, the free blocks, of a running sync the tree, the
+-- blocks and the uberblock that it writes, and what the labels show.
 use Rattle.std.specs.Prelude.{ℕ, ◌≡◌, ◌≢◌, ◌≤◌, ◌<◌, Bool, true, false, List, [], map, length, slice_get, Option, Some, None, Ok}
 use Rattle.std.specs.Ordering.{nat_cmp}
 use Rattle.std.specs.FinMap.{FinMap}
@@ -47,8 +47,8 @@ AreUsed bs new = (i : ℕ) (b : NewBlock) → slice_get bs i ≡ Some b → (pla
 abbrev pub frame_at : Shown → ℕ → Frame
 frame_at s group = record { version = written_version; guid = s.guid; blocks = s.blocks; group = group }
 
--- The bytes hold the synced tree with these pointers, and the free blocks are the others but for the next log block. As of this stage no log
--- block is kept.
+-- The bytes hold the synced tree with these pointers, and the free blocks are the others except for the next log block.
+-- As of this stage no log block is kept.
 pub record IsStored (now : List ℕ) (s : Shown) (pointers : Place → Pointer) (past : Past) : Type 0 where
   pub synced : Contents
   pub replayed : replay (entries_up_to s.line.synced past.entries) past.base ≡ Ok synced
@@ -60,7 +60,8 @@ pub record IsStored (now : List ℕ) (s : Shown) (pointers : Place → Pointer) 
   pub log_block : IsBlockAddress s.blocks s.log.next.address
   pub log_apart : IsInTree now s.root s.log.next.address → ⊥
 
--- from the tree of the old pointers, of the objects before, a sync makes one of the new pointers and the objects after by writing these blocks
+-- from the tree of the old pointers, of the objects before, a sync makes one of the new pointers and the objects after
+-- by writing these blocks
 pub record IsPlannedSync (frame : Frame) (old new : Place → Pointer) (bs : List NewBlock) (before after : FinMap nat_cmp (List ℕ)) (plan : SyncPlan) : Type 0 where
   pub planned : IsTreePlan bs frame old new before after
   pub taken : map (λ (b : NewBlock). b.address) bs ≡ plan.taken
@@ -69,8 +70,9 @@ pub record IsPlannedSync (frame : Frame) (old new : Place → Pointer) (bs : Lis
   pub used : AreUsed bs new
   pub root : new Root ≡ plan.root
 
--- The sync of the syncing group runs: it makes the tree of its plan's contents, none of its blocks is one of the old tree or of the log, none
--- is a log block, and those are written whose calls were made. Its uberblock is the one of its plan.
+-- The sync of the syncing group runs: it makes the tree of its plan's contents, none of its blocks is one of the old
+-- tree or of the log, none is a log block, and those are written whose calls were made. Its uberblock is the one of its
+-- plan.
 pub record IsSyncing (now : List ℕ) (s : Shown) (old : Place → Pointer) (new : NewTree) (past : Past) : Type 0 where
   pub group : ℕ
   pub plan : SyncPlan

@@ -1,10 +1,10 @@
 -- The faults of a tree, and the first of them in the order of its walk.
 use Rattle.std.specs.Prelude.{ℕ, ◌≡◌, ◌≢◌, ◌≤◌, ◌<◌, ◌*◌, ◌-◌, ◌/◌, ◌%◌, ◌⊎◌, List, drop, replicate}
 use Rattle.base.specs.declared.pointer.Pointer.{Pointer}
-use Rattle.base.specs.formats.Limits.{max_length, record_size, pointer_count, entry_count}
+use Rattle.base.specs.formats.Limits.{max_length, record_size, pointer_count, entry_count, entry_size}
 use Rattle.base.specs.formats.Fields.{pointer_in, entry_in, entry_present, entry_length, entry_pointer, no_pointer}
 use Rattle.base.specs.formats.Blocks.{Frame, Opens, payload_at}
-use Rattle.base.specs.tree.Places.{Place, IsPlace, kind_of, number_of_place, walk_index_of, pointer_of, directory_pointer}
+use Rattle.base.specs.tree.Places.{Place, IsPlace, kind_of, number_of_place, walk_index_of, pointer_of, directory_pointer, object_of_indirect, record_start}
 use Rattle.base.specs.tree.Places.Place.{Root, Directory, Indirect, Data}
 
 -- a pointer has an address, or is 48 zero bytes
@@ -13,24 +13,25 @@ IsPointerForm pointer = (pointer ≡ no_pointer) ⊎ (pointer.address ≢ 0)
 
 -- an entry is absent and all zeros, or present with a length and a pointer
 abbrev pub IsEntryForm : List ℕ → Type 0
-IsEntryForm entry = (entry ≡ replicate 64 0)
+IsEntryForm entry = (entry ≡ replicate entry_size 0)
     ⊎ ((entry_present entry ≡ 1) × (entry_length entry ≤ max_length) × IsPointerForm (entry_pointer entry))
 
 -- the length that the directory's entry of object n gives
 abbrev pub length_in : List ℕ → Pointer → ℕ → ℕ
 length_in image root n = entry_length (entry_in (payload_at image (directory_pointer image root (n / entry_count)).address) (n % entry_count))
 
--- a pointer to record r of an object of this length: none where the record begins at or past the length
+-- a pointer to the record that begins at an offset of an object of this length: none from the end of the object on
 abbrev pub IsRecordPointerForm : ℕ → ℕ → Pointer → Type 0
-IsRecordPointerForm length r pointer = (record_size * r < length → IsPointerForm pointer) × (length ≤ record_size * r → pointer ≡ no_pointer)
+IsRecordPointerForm length start pointer = (start < length → IsPointerForm pointer) × (length ≤ start → pointer ≡ no_pointer)
 
 -- what the block at a place holds is well formed, whatever lies below it
 abbrev pub IsWellFormed : List ℕ → Pointer → Place → List ℕ → Type 0
 IsWellFormed image root Root payload = (d : ℕ) → d < pointer_count → IsPointerForm (pointer_in payload d)
 IsWellFormed image root (Directory d) payload = (k : ℕ) → k < entry_count → IsEntryForm (entry_in payload k)
-IsWellFormed image root (Indirect n) payload = (r : ℕ) → r < pointer_count → IsRecordPointerForm (length_in image root n) r (pointer_in payload r)
-IsWellFormed image root (Data n r) payload =
-    let past = length_in image root n - record_size * r in drop past payload ≡ replicate (record_size - past) 0
+IsWellFormed image root (Indirect m) payload =
+    (k : ℕ) → k < pointer_count → IsRecordPointerForm (length_in image root (object_of_indirect m)) (record_start m k) (pointer_in payload k)
+IsWellFormed image root (Data m k) payload =
+    let past = length_in image root (object_of_indirect m) - record_start m k in drop past payload ≡ replicate (record_size - past) 0
 
 -- nothing stands at a place, or a block that opens there and is well formed
 abbrev pub IsSoundAt : List ℕ → Frame → Pointer → Place → Type 0

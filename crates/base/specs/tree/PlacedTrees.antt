@@ -4,21 +4,21 @@ use Rattle.std.specs.Ordering.{nat_cmp}
 use Rattle.std.specs.FinMap as map
 use Rattle.std.specs.FinMap.{FinMap}
 use Rattle.base.specs.declared.pointer.Pointer.{Pointer}
-use Rattle.base.specs.formats.Limits.{object_count, max_length, record_size, pointer_count, entry_count}
+use Rattle.base.specs.formats.Limits.{object_count, max_length, record_size, pointer_count, entry_count, entry_size}
 use Rattle.base.specs.formats.Fields.{pointer_in, entry_in, entry_present, entry_length, entry_pointer, no_pointer}
 use Rattle.base.specs.formats.Geometry.{IsBlockAddress}
 use Rattle.base.specs.formats.Blocks.{Frame}
-use Rattle.base.specs.tree.Places.{Place, IsPlace}
+use Rattle.base.specs.tree.Places.{Place, IsPlace, object_of_indirect}
 use Rattle.base.specs.tree.Places.Place.{Root, Directory, Indirect, Data}
 use Rattle.base.specs.tree.Tree.{OpensAt, IsRecord, record_bytes}
 
 -- what the entry of an object says: nothing, or its length and the pointer to its indirect block
 abbrev pub IsEntryFor : List ℕ → Pointer → Option (List ℕ) → Type 0
-IsEntryFor entry indirect None = (entry ≡ replicate 64 0) × (indirect ≡ no_pointer)
+IsEntryFor entry indirect None = (entry ≡ replicate entry_size 0) × (indirect ≡ no_pointer)
 IsEntryFor entry indirect (Some bytes) =
     (entry_present entry ≡ 1) × (entry_length entry ≡ length bytes) × (length bytes ≤ max_length) × (entry_pointer entry ≡ indirect)
 
--- the bytes of an object in its record r, with zeros behind its end
+-- the bytes of an object in its record r, with zeros after its end
 abbrev pub padded_record : ℕ → List ℕ → List ℕ
 padded_record r bytes = record_bytes r bytes ++ replicate (record_size - length (record_bytes r bytes)) 0
 
@@ -35,7 +35,8 @@ StandsAt image frame pointers objects (Directory d) =
 StandsAt image frame pointers objects (Indirect n) =
     ((pointers (Indirect n) ≡ no_pointer) × ((r : ℕ) → r < pointer_count → pointers (Data n r) ≡ no_pointer))
     ⊎ ((payload : List ℕ) × OpensAt image frame (Indirect n) (pointers (Indirect n)) payload × ((r : ℕ) → r < pointer_count → pointer_in payload r ≡ pointers (Data n r)))
-StandsAt image frame pointers objects (Data n r) = IfSome (map.get objects n) (λ bytes. IsRecord image frame n r (pointers (Data n r)) bytes)
+StandsAt image frame pointers objects (Data m k) =
+    IfSome (map.get objects (object_of_indirect m)) (λ bytes. IsRecord image frame m k (pointers (Data m k)) bytes)
 
 -- the image holds a tree of these objects, with these pointers at its places
 pub record HoldsTree (image : List ℕ) (frame : Frame) (pointers : Place → Pointer) (objects : FinMap nat_cmp (List ℕ)) : Type 0 where

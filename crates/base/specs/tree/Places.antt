@@ -1,7 +1,7 @@
 -- The places of a tree, their order in its walk, and the pointers that stand there.
 use Rattle.std.specs.Prelude.{length, slice_get, Some, ℕ, ◌≡◌, ◌≢◌, ◌<◌, ◌+◌, ◌*◌, ◌/◌, ◌%◌, ◌==◌, Bool, not, List, if◌then◌else◌}
 use Rattle.base.specs.declared.pointer.Pointer.{Pointer}
-use Rattle.base.specs.formats.Limits.{object_count, pointer_count, entry_count}
+use Rattle.base.specs.formats.Limits.{indirect_count, record_size, pointer_count, entry_count, object_stride, directory_stride}
 use Rattle.base.specs.formats.Fields.{pointer_in, entry_in, entry_pointer, no_pointer}
 use Rattle.base.specs.formats.Blocks.{payload_at}
 
@@ -15,8 +15,15 @@ pub data Place : Type 0 where
 abbrev pub IsPlace : Place → Type 0
 IsPlace Root = Unit {0}
 IsPlace (Directory d) = d < pointer_count
-IsPlace (Indirect n) = n < object_count
-IsPlace (Data n r) = (n < object_count) × (r < pointer_count)
+IsPlace (Indirect m) = m < indirect_count
+IsPlace (Data m k) = (m < indirect_count) × (k < pointer_count)
+
+-- the object of an indirect block, and where the record of its k-th pointer begins in that object
+abbrev pub object_of_indirect : ℕ → ℕ
+object_of_indirect m = m
+
+abbrev pub record_start : ℕ → ℕ → ℕ
+record_start m k = record_size * k
 
 -- the kind and the number of the block at a place
 abbrev pub kind_of : Place → ℕ
@@ -33,11 +40,11 @@ number_of_place (Data n r) = pointer_count * n + r
 
 -- the index of a place in the walk: each directory before its objects, each indirect block before its records
 abbrev pub walk_index_of_indirect : ℕ → ℕ
-walk_index_of_indirect n = 2 + 5356 * (n / entry_count) + 85 * (n % entry_count)
+walk_index_of_indirect n = 2 + directory_stride * (n / entry_count) + object_stride * (n % entry_count)
 
 abbrev pub walk_index_of : Place → ℕ
 walk_index_of Root = 0
-walk_index_of (Directory d) = 1 + 5356 * d
+walk_index_of (Directory d) = 1 + directory_stride * d
 walk_index_of (Indirect n) = walk_index_of_indirect n
 walk_index_of (Data n r) = walk_index_of_indirect n + 1 + r
 

@@ -8,7 +8,7 @@ use Rattle.base.specs.formats.Limits.{record_size, pointer_count, entry_count}
 use Rattle.base.specs.formats.Fields.{part, pointer_in, entry_in, no_pointer}
 use Rattle.base.specs.formats.Geometry.{block_size, IsBlockAddress}
 use Rattle.base.specs.formats.Blocks.{Frame, IsBlock}
-use Rattle.base.specs.tree.Places.{Place, IsPlace, kind_of, number_of_place}
+use Rattle.base.specs.tree.Places.{Place, IsPlace, kind_of, number_of_place, object_of_indirect, record_start}
 use Rattle.base.specs.tree.Places.Place.{Root, Directory, Indirect, Data}
 use Rattle.base.specs.tree.Tree.{record_bytes}
 use Rattle.base.specs.tree.PlacedTrees.{IsEntryFor, padded_record}
@@ -32,7 +32,8 @@ pub record IsNewAt (blocks : List NewBlock) (frame : Frame) (place : Place) (poi
 abbrev pub SameEntry : Option (List ℕ) → Option (List ℕ) → Type 0
 SameEntry before after = option_map length before ≡ option_map length after
 
--- Record r of an object that is there has the same bytes as before, where no object has none. If it has a block, it begins before the end.
+-- Record r of an object that is there has the same bytes as before, where no object has none. If it has a block, it
+-- begins before the end.
 abbrev pub SameRecord : Pointer → ℕ → Option (List ℕ) → Option (List ℕ) → Type 0
 SameRecord pointer r before after =
     IfSome after (λ bytes. (padded_record r (unwrap_or before []) ≡ padded_record r bytes) × ((pointer ≡ no_pointer) ⊎ (record_size * r < length bytes)))
@@ -49,7 +50,8 @@ module _ (blocks : List NewBlock) (frame : Frame) (old new : Place → Pointer) 
   StaysAt (Directory d) = (new (Directory d) ≡ old (Directory d)) × ((k : ℕ) → k < entry_count
       → (new (Indirect (entry_count * d + k)) ≡ old (Indirect (entry_count * d + k))) × SameEntry (map.get before (entry_count * d + k)) (map.get after (entry_count * d + k)))
   StaysAt (Indirect n) = (new (Indirect n) ≡ old (Indirect n)) × ((r : ℕ) → r < pointer_count → new (Data n r) ≡ old (Data n r))
-  StaysAt (Data n r) = (new (Data n r) ≡ old (Data n r)) × SameRecord (old (Data n r)) r (map.get before n) (map.get after n)
+  StaysAt (Data m k) = (new (Data m k) ≡ old (Data m k))
+      × SameRecord (old (Data m k)) k (map.get before (object_of_indirect m)) (map.get after (object_of_indirect m))
 
   -- a place is written: it has a new block, which says what it has to say after
   abbrev pub IsWrittenAt : Place → Type 0
@@ -58,7 +60,8 @@ module _ (blocks : List NewBlock) (frame : Frame) (old new : Place → Pointer) 
       × ((k : ℕ) → k < entry_count → IsEntryFor (entry_in payload k) (new (Indirect (entry_count * d + k))) (map.get after (entry_count * d + k)))
   IsWrittenAt (Indirect n) = (payload : List ℕ) × IsNewAt blocks frame (Indirect n) (new (Indirect n)) payload
       × ((r : ℕ) → r < pointer_count → pointer_in payload r ≡ new (Data n r))
-  IsWrittenAt (Data n r) = IfSome (map.get after n) (λ bytes. (record_size * r < length bytes) × IsNewAt blocks frame (Data n r) (new (Data n r)) (padded_record r bytes))
+  IsWrittenAt (Data m k) = IfSome (map.get after (object_of_indirect m))
+      (λ bytes. (record_start m k < length bytes) × IsNewAt blocks frame (Data m k) (new (Data m k)) (padded_record k bytes))
 
   -- a place has no block any more, and nothing below it has one: its objects are absent, or its record has only zeros
   abbrev pub HasNoneAt : Place → Type 0
@@ -66,7 +69,7 @@ module _ (blocks : List NewBlock) (frame : Frame) (old new : Place → Pointer) 
   HasNoneAt (Directory d) = (new (Directory d) ≡ no_pointer) × ((k : ℕ) → k < entry_count
       → (map.get after (entry_count * d + k) ≡ None) × (new (Indirect (entry_count * d + k)) ≡ no_pointer))
   HasNoneAt (Indirect n) = (new (Indirect n) ≡ no_pointer) × ((r : ℕ) → r < pointer_count → new (Data n r) ≡ no_pointer)
-  HasNoneAt (Data n r) = (new (Data n r) ≡ no_pointer) × IsZeroRecord r (map.get after n)
+  HasNoneAt (Data m k) = (new (Data m k) ≡ no_pointer) × IsZeroRecord k (map.get after (object_of_indirect m))
 
   -- what becomes of a place
   abbrev pub IsPlannedAt : Place → Type 0

@@ -7,7 +7,7 @@ use Rattle.base.specs.declared.record_state.RecordState.{RecordState}
 use Rattle.base.specs.declared.record_state.RecordState.TheVariants.{Unchanged, Dirty, Hole}
 use Rattle.base.specs.declared.operation.Op.{Op}
 use Rattle.base.specs.declared.operation.Op.TheVariants.{Create, Remove, Write, SetLength, SetName}
-use Rattle.base.specs.formats.Limits.{object_count, record_size, pointer_count, entry_count}
+use Rattle.base.specs.formats.Limits.{object_count, record_count, record_size, pointer_count, entry_count}
 use Rattle.base.specs.history.Contents.{Contents, apply, length_of}
 use Rattle.base.specs.tree.Places.{Place}
 use Rattle.base.specs.tree.Places.Place.{Root, Directory, Indirect, Data}
@@ -76,18 +76,19 @@ has_block_after Dirty before = true
 has_block_after Hole before = false
 
 abbrev pub record_numbers : List ℕ
-record_numbers = range_with_len 0 pointer_count
+record_numbers = range_with_len 0 record_count
 
 -- a test of what is below: the objects of a directory
 abbrev pub object_numbers : ℕ → List ℕ
 object_numbers d = range_with_len (entry_count * d) entry_count
 
--- how many steps a sync has besides its block writes: two flushes and four uberblocks, and for a new name two label stages
+-- how many steps a sync has besides its block writes: two flushes and four uberblocks, and for a new name two label
+-- stages
 abbrev pub other_step_count : List Op → ℕ
 other_step_count ops = 6 + (if list_any is_rename ops then 6 else 0)
 
--- What a group makes of the objects of a tree: of each record its state, and whether it had a block; of each object whether it was written or
--- its length set, whether it had any operation, and whether it is there after them.
+-- What a group makes of the objects of a tree: of each record its state, and whether it had a block; of each object
+-- whether it was written or its length set, whether it had any operation, and whether it is there after them.
 pub record GroupChanges : Type 0 where
   pub state : ℕ → ℕ → RecordState
   pub had_block : ℕ → ℕ → Bool

@@ -4,10 +4,10 @@ use Rattle.std.specs.Ordering.{nat_cmp}
 use Rattle.std.specs.FinMap as map
 use Rattle.std.specs.FinMap.{FinMap}
 use Rattle.base.specs.declared.pointer.Pointer.{Pointer}
-use Rattle.base.specs.formats.Limits.{object_count, max_length, record_size, pointer_count, entry_count}
+use Rattle.base.specs.formats.Limits.{object_count, max_length, record_size, pointer_count, entry_count, entry_size}
 use Rattle.base.specs.formats.Fields.{part, pointer_in, entry_in, entry_present, entry_length, entry_pointer, no_pointer}
 use Rattle.base.specs.formats.Blocks.{Frame, Opens}
-use Rattle.base.specs.tree.Places.{Place, kind_of, number_of_place}
+use Rattle.base.specs.tree.Places.{Place, kind_of, number_of_place, record_start}
 use Rattle.base.specs.tree.Places.Place.{Root, Directory, Indirect, Data}
 
 -- the block at a place
@@ -22,7 +22,7 @@ record_bytes r bytes = part bytes (record_size * r) record_size
 abbrev pub IsRecord : List ℕ → Frame → ℕ → ℕ → Pointer → List ℕ → Type 0
 IsRecord image frame n r pointer bytes =
     ((pointer ≡ no_pointer) × (record_bytes r bytes ≡ replicate (length (record_bytes r bytes)) 0))
-    ⊎ ((record_size * r < length bytes)
+    ⊎ ((record_start n r < length bytes)
     × OpensAt image frame (Data n r) pointer (record_bytes r bytes ++ replicate (record_size - length (record_bytes r bytes)) 0))
 
 -- the bytes of object n: a hole, or what the pointers of its indirect block name
@@ -34,7 +34,7 @@ IsObject image frame n pointer bytes =
 
 -- an entry of a directory: object n is absent, or has these bytes
 abbrev pub IsEntry : List ℕ → Frame → ℕ → List ℕ → Option (List ℕ) → Type 0
-IsEntry image frame n entry None = entry ≡ replicate 64 0
+IsEntry image frame n entry None = entry ≡ replicate entry_size 0
 IsEntry image frame n entry (Some bytes) =
     (entry_present entry ≡ 1) × (entry_length entry ≡ length bytes) × (length bytes ≤ max_length) × IsObject image frame n (entry_pointer entry) bytes
 

@@ -5,7 +5,7 @@ ghost use Rattle.extents.specs.Objects.{written_in};
 
 use crate::basis::Basis;
 use crate::object::ObjectPatch;
-use std::alloc::AllocError;
+use std::alloc::{AllocError, Global};
 
 // A second cut keeps no more of the object below than the first one did.
 fn a_second_cut_keeps_no_more() {
@@ -36,6 +36,15 @@ fn a_cut_object_has_its_own_length() {
     prove!(cut.length_over(None).is_none());
     prove!(Basis::Grown(10).length_over(Some(4)) == Some(10));
     prove!(Basis::Gone.length_over(Some(4)).is_none());
+}
+
+// An object that the group has not changed has the bytes of the one below.
+fn an_unchanged_object_has_no_written_byte(alloc: Global) -> ObjectPatch
+    ensures { written_in result 5 ≡ None }
+{
+    let patch = ObjectPatch::new(alloc);
+    prove!(patch.basis == Basis::Grown(0));
+    patch
 }
 
 // An object that is created is empty, whatever was written before.

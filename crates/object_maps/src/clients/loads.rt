@@ -22,7 +22,8 @@ use checked_blocks::Frame;
 use device_model::SectorDevice;
 use std::alloc::Global;
 
-// A root that was born after the newest group is told damaged, by its address, unless memory or a read is refused.
+// A root that was born after the newest group is reported as damaged, by its address, unless memory or a read is
+// refused.
 fn a_root_of_a_later_group_is_told<D: SectorDevice>(
     alloc: Global,
     device: &mut D,

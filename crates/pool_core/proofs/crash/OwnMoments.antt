@@ -89,7 +89,7 @@ moment_left size m s past explained none bytes known group plan flushed new_flus
   each = λ image left fair. phase_left size m s past explained none bytes known image left fair group plan flushed new_flushed old new syncing running old_is new_is phase;
 }
 
--- what was left with a past that is the later one but for what was acknowledged
+-- what was left with a past that is the later one except for what was acknowledged
 pub were_left : (before after : Disk) (p q r : Past) (guid other : ℕ) → record q { acknowledged = p.acknowledged } ≡ r → other ≡ guid → EachMoment (LeavesOwn (disk_size before) r guid) before after
     → EachMoment (LeavesOwn (disk_size before) (record q { acknowledged = p.acknowledged }) other) before after
 were_left before after p q r guid other same of_guid each =

@@ -1,4 +1,5 @@
--- Each device call of a running sync keeps its pool's disk, and with the last it is at rest on the view of the group that is synced then.
+-- Each device call of a running sync keeps its pool's disk, and with the last it is at rest on the view of the group
+-- that is synced then.
 use Rattle.std.proofs.Common.{◌≡◌, ◌∙◌, ◌⊎◌, inl, inr, ℕ, ◌+◌, ◌<◌, ◌≤◌, List, [], Option, Some, None, filter, nat_le, refl, ap, sym, subst, arith}
 use Rattle.std.specs.Prelude.{IfSome}
 use Rattle.base.specs.crash.Layout.{header_now}
@@ -69,7 +70,7 @@ module _ (run next : SyncRun) (before after : Disk) (s : Shown) (p : Past) (bega
       (both (λ m. HasFairBytes run.geometry p.created m × KnowsConfigs m) (IsSyncPhase run x.views) before after
       (both (HasFairBytes run.geometry p.created) KnowsConfigs before after bytes_each configs_each) call.0))
 
-  -- After a call with more behind it, or a refused one, the disk is kept with what is shown then.
+  -- After a call with more after it, or a refused one, the disk is kept with what is shown then.
   pub call_kept : (t : Shown) (q : Past) → s.log.kept ≡ [] → t.log.kept ≡ [] → SameSyncing s t p q → next.done < call_count next → IsSyncOnDisk next after t q
   call_kept t q none still same left =
       let later = same.plans x.plan x.running in

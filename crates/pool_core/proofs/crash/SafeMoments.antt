@@ -1,4 +1,5 @@
--- At each moment of a disk that is kept, and of each call of a sync on it, every fair image mounts to a cut with every acknowledged entry.
+-- At each moment of a disk that is kept, and of each call of a sync on it, every fair image mounts to a cut with every
+-- acknowledged entry.
 use Rattle.std.proofs.Common.{◌≡◌, ◌∙◌, inl, inr, ℕ, ◌+◌, List, length, Option, Some, None, refl, sym, subst, arith}
 use Rattle.std.proofs.lemmas.Bool.{cases_lt}
 use Rattle.base.specs.crash.CallStages.{IsAtRestAt, IsBetweenAt}
@@ -42,7 +43,7 @@ phase_laid m image s past group plan flushed new_flushed old new syncing running
 abbrev pub IsSafeMoment : ℕ → Past → Moment → Type 0
 IsSafeMoment size past m = LeavesFair size past.created (λ image. MountsToCut image past) m
 
--- what was safe with a past that is the later one but for what was acknowledged
+-- what was safe with a past that is the later one except for what was acknowledged
 pub were_safe : (before after : Disk) (p q r : Past) → record q { acknowledged = p.acknowledged } ≡ r → EachMoment (IsSafeMoment (disk_size before) r) before after → WereSafe before after p q
 were_safe before after p q r same each = subst (λ (x : Past). EachMoment (IsSafeMoment (disk_size before) x) before after) (sym same) each
 

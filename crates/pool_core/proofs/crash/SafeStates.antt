@@ -47,7 +47,7 @@ module _ {Dev : Type 0} {G : Ghosts Dev} where
         let turn = turns past in
         let h : Held = held_after s r (told old) (told new) past in
         subst (λ (y : OnDisk). IsSafeStep s r (on_disk old past) y) (λ k. record { held = h; disk = G.disk (sym device k); run = sym run k })
-        (still_safe (on_disk old past) x s r h (ap (λ (d : Dev). bytes_of (G.disk d).now) device) (turn.over x.held) off (turn.held keeps x.held))
+        (still_safe (on_disk old past) x s r h (ap (λ (d : Dev). bytes_of (G.disk d).now) device) (turn.over keeps x.held) off (turn.held keeps x.held))
 
     -- the start of a sync
     started_keeps : (moment : ℕ) (group : Group) → ((d : Dev) → length (bytes_of (G.disk d).now) ≡ G.size d) → device_of new ≡ device_of old → Leads (reply.Syncing group) (told old) (told new)
@@ -61,7 +61,7 @@ module _ {Dev : Type 0} {G : Ghosts Dev} where
         let was = pool.running r.0 r.1 in
         subst (λ (y : OnDisk). IsSafeStep (step.StartSync moment) (reply.Syncing group) (on_disk old past) y)
         (λ k. record { held = h; disk = G.disk (sym device k); run = option_map (λ (q : RunningSync). q.run) (sym r.1 k) })
-        (start_safe (on_disk old past) x moment group h (r.0).run (tree_after r.0 pool.tree) (turn.over x.held) (turn.held keeps x.held)
+        (start_safe (on_disk old past) x moment group h (r.0).run (tree_after r.0 pool.tree) (turn.over keeps x.held) (turn.held keeps x.held)
         (ap (λ (d : Dev). bytes_of (G.disk d).now) device) (ap (λ (o : Option RunningSync). option_map (new_tree_of pool.tree) o) r.1)
         (was.geometry ∙ sym new.sized ∙ ap (λ (d : Dev). G.size d) device ∙ sym (sized old.device)) (none_there (r.0).run.stages (r.0).no_stages)
         (λ g syncing. was.uberblock.slot ∙ ap (λ (n : ℕ). slot_of n) (Some-injective (sym (was_syncing pool r.0 r.1) ∙ syncing))) (ap (λ (t : NewTree). t.done) r.2) was.left)
@@ -82,22 +82,22 @@ module _ {Dev : Type 0} {G : Ghosts Dev} where
         let turn = turns past in
         let h : Held = held_after step.SyncStep reply.More (told old) (told new) past in
         subst (λ (y : OnDisk). IsSafeStep step.SyncStep reply.More (on_disk old past) y) (λ k. record { held = h; disk = disk_of new; run = sym is k })
-        (more_safe (on_disk old past) x h (disk_of new) refl run next was tries (turn.held keeps x.held) reply.More (turn.over x.held) refl refl (left_of new.pool next is))
+        (more_safe (on_disk old past) x h (disk_of new) refl run next was tries (turn.held keeps x.held) reply.More (turn.over keeps x.held) refl refl (left_of new.pool next is))
     stepped_keeps (Ok (Synced group)) (run, next, was, is, all, tries) turns past x =
         let turn = turns past in
         let h : Held = held_after step.SyncStep (reply.Synced group) (told old) (told new) past in
         subst (λ (y : OnDisk). IsSafeStep step.SyncStep (reply.Synced group) (on_disk old past) y) (λ k. record { held = h; disk = disk_of new; run = sym is k })
-        (last_safe (on_disk old past) x h (disk_of new) refl run next was tries (turn.held keeps x.held) group (turn.over x.held) all)
+        (last_safe (on_disk old past) x h (disk_of new) refl run next was tries (turn.held keeps x.held) group (turn.over keeps x.held) all)
     stepped_keeps (Err e) (inl (run, disk)) turns past x =
         let turn = turns past in
         let h : Held = held_after step.SyncStep (reply.Refused e) (told old) (told new) past in
         subst (λ (y : OnDisk). IsSafeStep step.SyncStep (reply.Refused e) (on_disk old past) y) (λ k. record { held = h; disk = sym disk k; run = sym run k })
-        (still_safe (on_disk old past) x step.SyncStep (reply.Refused e) h (ap (λ (d : Disk). bytes_of d.now) disk) (turn.over x.held) refl (turn.held keeps x.held))
+        (still_safe (on_disk old past) x step.SyncStep (reply.Refused e) h (ap (λ (d : Disk). bytes_of d.now) disk) (turn.over keeps x.held) refl (turn.held keeps x.held))
     stepped_keeps (Err e) (inr (run, next, was, is, tries)) turns past x =
         let turn = turns past in
         let h : Held = held_after step.SyncStep (reply.Refused e) (told old) (told new) past in
         subst (λ (y : OnDisk). IsSafeStep step.SyncStep (reply.Refused e) (on_disk old past) y) (λ k. record { held = h; disk = disk_of new; run = sym is k })
-        (more_safe (on_disk old past) x h (disk_of new) refl run next was tries (turn.held keeps x.held) (reply.Refused e) (turn.over x.held) refl refl (left_of new.pool next is))
+        (more_safe (on_disk old past) x h (disk_of new) refl run next was tries (turn.held keeps x.held) (reply.Refused e) (turn.over keeps x.held) refl refl (left_of new.pool next is))
 
     pub sync_keeps : (answer : Result Progress PoolError) (r : declared_reply.Reply) → r ≡ sync_step_reply answer → StepsPhases answer (run_of old) (run_of new) (disk_of old) (disk_of new)
         → Turns step.SyncStep r old new → KeepsSafe step.SyncStep r old new

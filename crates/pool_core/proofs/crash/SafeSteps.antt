@@ -247,7 +247,7 @@ module _ (x : OnDisk) (safe : IsKeptSafe x) where
     later : moments x.disk ≤ moments after
     later = moments_grow (IsSafeMoment (disk_size x.disk) p) x.disk after each
 
-    -- with more behind it, or refused
+    -- with more after it, or refused
     pub more_safe : (r : declared_reply.Reply) → IsStepOver step.SyncStep r x.held h → is_turn r ≡ false → h.state.past ≡ p → next.done < call_count next
         → IsSafeStep step.SyncStep r x (record { held = h; disk = after; run = Some next })
     more_safe r made off same_past left =

@@ -1,5 +1,5 @@
--- The start of a sync leads from the view of the synced group to that of its own: its blocks are those of a tree, apart from the one of before,
--- and once they stand its tree does.
+-- The start of a sync leads from the view of the synced group to that of its own: its blocks are those of a tree, apart
+-- from the one of before, and once they stand its tree does.
 use Rattle.std.proofs.Common.{◌≡◌, ◌∙◌, inl, inr, ℕ, zero, suc, ◌+◌, ◌-◌, ◌*◌, ◌/◌, ◌<◌, ◌≤◌, All, false, List, [], ◌∷◌, length, map, Option, Some, None, refl, ap, sym, subst, arith, vec_len, nat_eq}
 use Rattle.std.specs.Prelude.{◌≢◌, IfSome, Ok, slice_get}
 use Rattle.std.specs.FinMap as finite

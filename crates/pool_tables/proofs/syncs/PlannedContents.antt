@@ -1,4 +1,5 @@
--- What a sync is planned to write: its group's changes over the synced contents are what the entries up to the group leave.
+-- What a sync is planned to write: its group's changes over the synced contents are what the entries up to the group
+-- leave.
 use Rattle.std.proofs.Common.{◌≡◌, ℕ, ◌+◌, ◌<◌, true, List, [], map, sym, subst, ◌∙◌, arith}
 use Rattle.std.specs.Prelude.{Some, None, Ok}
 use Rattle.base.specs.declared.operation.Op.{Op}
@@ -21,7 +22,8 @@ use Rattle.tree_plans.specs.Marks.{pending_ops}
 use Rattle.pool_tables.specs.Shows.{record_of as shown_record}
 use Rattle.pool_tables.proofs.PendingOps.{flat_replay, pending_are}
 
--- the pending operations of a group lead from the synced contents to these, within the limits, and the entries up to the group leave them
+-- the pending operations of a group lead from the synced contents to these, within the limits, and the entries up to
+-- the group leave them
 pub record LeadsTo (s : Shown) (p : Past) (group : ℕ) (pending : List Committed) (after : Contents) : Type 0 where
   pub leads : apply_all (pending_ops group pending) s.synced_contents ≡ Ok after
   pub replayed : IsReplayUpTo group p after

@@ -1,4 +1,5 @@
--- The places that the sync of a group writes, told by the changes of its plan: it takes one block for each, in their order.
+-- The places that the sync of a group writes, told by the changes of its plan: it takes one block for each, in their
+-- order.
 use Rattle.std.proofs.Common.{◌≡◌, ℕ, ◌<◌, ◌≤◌, Bool, List, [], length, map, refl, ap, sym, subst, ◌∙◌, arith}
 use Rattle.std.specs.Prelude.{Some, None, Ok, ◌==◌, not}
 use Rattle.std.proofs.lemmas.List.{length-map}

@@ -108,7 +108,7 @@ RunsIn pool r =
     IsRunning pool.geometry (uberblock_with pool.guid pool.import_number pool.log_address r.group.0 r.moment r.root) (tree_after r pool.tree)
     (changes_at pool.changes 0) pool.synced.slots.items r.run
 
--- behind a call with others left, a run of the same blocks and uberblock is one still
+-- after a call with others left, a run of the same blocks and uberblock is one still
 pub runs_on : (pool : PoolTables) (r : RunningSync) (new : SyncRun) → SameSync r.run new → new.done < call_count new → RunsIn pool r
     → IsRunning pool.geometry (uberblock_with pool.guid pool.import_number pool.log_address r.group.0 r.moment r.root) (tree_after r pool.tree)
     (changes_at pool.changes 0) pool.synced.slots.items new

@@ -38,7 +38,8 @@ use Rattle.pool_tables.proofs.StillSteps.{still_pool}
 pub may_still : (pool : PoolTables) (old : List ℕ → Told) → pool_told pool ≡ old → (group : ℕ) → MayStart group (old []).shown.line → MayStart group pool.groups.line
 may_still pool old kept group may = subst (MayStart group) (sym (ap (λ (f : List ℕ → Told). (f []).shown.line) kept)) may
 
--- A start that is refused, of a pool that tells what it told before: it takes no step, and its bytes, its tree and its sync stand.
+-- A start that is refused, of a pool that tells what it told before: it takes no step, and its bytes, its tree and its
+-- sync stand.
 module _ (old : PoolTables) (moment : ℕ) where
   refused_by : (e : PoolError) → ((calls : RefusedCalls) → with_refusal e calls ≡ calls) → ((keeps : Type 0) (now : List ℕ) (past : Past) → IsExplainedNow (pool_shown old) past → StartsAt keeps now moment (Err e) past (pool_shown old) (pool_shown old))
       → IsSyncStart moment (Err e) (pool_told old) (pool_told old)
@@ -62,7 +63,7 @@ module _ (old : PoolTables) (moment : ℕ) where
   want_refuses_start new kept group e stands may refused wants = subst (IsSyncStart moment (Err e) (pool_told old)) (sym kept)
       (refused_by e (plan_own e refused) (λ keeps now past x. start_wants keeps now past (pool_shown old) moment group e stands may.0 may.1 (wants past x)))
 
--- a plan that is refused wants memory: its blocks are there
+-- a plan that is refused needs memory: its blocks are there
 pub plan_wants : (pool : PoolTables) (old : List ℕ → Told) → pool_told pool ≡ old → (group : ℕ) → MayStart group (old []).shown.line → (e : PoolError) → (e ≡ error.NoMemory) ⊎ (e ≡ error.NoSpace) → IsRefusedShort pool group e
     → (past : Past) → IsExplainedNow (old []).shown past → e ≡ error.NoMemory
 plan_wants pool old kept group may e refused short past x =

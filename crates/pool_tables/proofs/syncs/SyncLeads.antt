@@ -44,7 +44,8 @@ call_at P n [] k call each at = absurd (let no_way : None ≡ Some call = at in 
 call_at P n (c ∷ calls) zero call each at = let same : c ≡ call = cc in let place : n ≡ n + zero = omega arith in subst (λ (m : ℕ). P m call) place (subst (P n) same each.0)
 call_at P n (c ∷ calls) (suc k) call each at = let place : n + 1 + k ≡ n + suc k = omega arith in subst (λ (m : ℕ). P m call) place (call_at P (n + 1) calls k call each.1 at)
 
--- Without label stages the calls behind the blocks are a flush, the uberblocks of the labels 0 to 3 in their order, and a flush.
+-- Without label stages the calls after the blocks are a flush, the uberblocks of the labels 0 to 3 in their order, and
+-- a flush.
 abbrev IsBehind : ℕ → DeviceCall → Type 0
 IsBehind place (Block k) = ⊥
 IsBehind place (Config label) = ⊥

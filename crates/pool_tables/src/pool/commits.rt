@@ -1,4 +1,4 @@
-//! The transactions of a pool: they begin, commit and are given up. A call that is refused leaves the pool as it was.
+//! The transactions of a pool: they begin, commit and are given up. A call that is refused leaves the pool unchanged.
 
 ghost use Rattle.std.specs.Prelude.{◌≡◌, ◌<◌, ◌+◌, ◌≤◌, ◌^◌, OnOk, nat_lt, option_map, true, vec_capacity, vec_len};
 ghost use Rattle.base.specs.formats.Limits.{max_log_record};
@@ -29,9 +29,9 @@ impl PoolTables {
     ghost use Rattle.pool_tables.specs.StepAnswers.{Aborts, Begins, Commits};
     ghost use Rattle.pool_tables.specs.Targets.{is_kept_covered};
 
-    /// Opens a transaction of the open group: charges it 4,096 bytes for each block that the plan is estimated at, and reserves
-    /// these blocks. Refused, in this order, `Suspended`, `BadRange`, `TooLarge`, `NotLocked`, `Busy`, `TooMany`, `Throttled`,
-    /// `NoSpace` or `NoMemory`.
+    /// Opens a transaction of the open group: charges it 4,096 bytes for each block that the plan is estimated at, and
+    /// reserves these blocks. Refused, in this order, `Suspended`, `BadRange`, `TooLarge`, `NotLocked`, `Busy`,
+    /// `TooMany`, `Throttled`, `NoSpace` or `NoMemory`.
     pub fn begin(&mut self, owner: Owner, plan: &Plan) -> Result<(TxId, Group), PoolError>
         ensures step { Begins owner plan.now result (pool_shown self.old) (pool_shown self.new) }
         ensures kept { KeepsTree self.old self.new }
@@ -63,7 +63,7 @@ impl PoolTables {
         charge(plan) > self.dirty.limit()
     }
 
-    // Refused where a begin is, but for want of memory.
+    // Refused where a begin is, except for want of memory.
     fn check_begin(&self, owner: Owner, plan: &[Shape]) -> Result<(), PoolError>
         ensures { ChecksBegin owner plan.now result (pool_shown self.now) }
     {
@@ -73,7 +73,7 @@ impl PoolTables {
         self.check_room(plan)
     }
 
-    // Each range of a plan lies in a writer lock of the owner, and overlaps none of an open transaction.
+    // Each range of a plan lies in a writer lock of the owner, and overlaps none of an open transaction (rule 3).
     fn check_ranges(&self, owner: Owner, plan: &[Shape]) -> Result<(), PoolError>
         requires { is_plan_built plan.now ≡ true }
         ensures { Passes (range_tests owner.0 plan.now (pool_shown self.now)) result }
@@ -87,7 +87,8 @@ impl PoolTables {
         Ok(())
     }
 
-    // One more transaction may be open, its charge passes no limit, and the blocks that it may take are available.
+    // One more transaction may be open, its charge passes no limit, and the blocks that it may take are available (rule
+    // 5).
     fn check_room(&self, plan: &[Shape]) -> Result<(), PoolError>
         requires built { is_plan_built plan.now ≡ true }
         requires small { log_record_size plan.now ≤ max_log_record }
@@ -146,7 +147,7 @@ impl PoolTables {
         Some(&transaction.plan)
     }
 
-    // The group of a transaction that may commit. Refused where a commit is, but for want of memory.
+    // The group of a transaction that may commit. Refused where a commit is, except for want of memory.
     fn check_commit(&self, tx: TxId, ops: &[Op]) -> Result<Group, PoolError>
         ensures refusal { ChecksCommit tx ops.now result (pool_shown self.now) }
         ensures allowed { OnOk result (AreOpsAllowed ops.now) }
@@ -175,9 +176,9 @@ impl PoolTables {
         (group.0 - self.groups.synced().0 - 1) as usize
     }
 
-    /// Commits a transaction whole, in its own group. Refused, in this order, `Suspended`, `NoSuchTransaction`, `OutOfPlan`,
-    /// `NoObject` or `Exists` for the first operation that cannot take place, `TooMany` or `NoMemory`; the transaction stays open
-    /// then.
+    /// Commits a transaction whole, in its own group. Refused, in this order, `Suspended`, `NoSuchTransaction`,
+    /// `OutOfPlan`, `NoObject` or `Exists` for the first operation that cannot take place, `TooMany` or `NoMemory`; the
+    /// transaction stays open then.
     pub fn commit(&mut self, tx: TxId, ops: Ops) -> Result<Receipt, PoolError>
         ensures step { Commits tx ops result (pool_shown self.old) (pool_shown self.new) }
         ensures kept { KeepsTree self.old self.new }

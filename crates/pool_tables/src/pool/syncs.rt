@@ -1,5 +1,5 @@
-//! The groups of a pool and their syncs. A group closes, is quiesced, and is written out call by call; after the last call the
-//! pool lays its changes into the synced objects, and what the sync replaced is free.
+//! The groups of a pool and their syncs. A group closes, is quiesced, and is written out call by call; after the last
+//! call the pool lays its changes into the synced objects, and what the sync replaced is free.
 
 ghost use Rattle.std.specs.Prelude.{◌≡◌, ◌⊎◌, IfErr, IfOk, IsTrue, OnErr, OnOk, false, is_some};
 ghost use Rattle.base.specs.formats.Geometry.{block_count};
@@ -47,8 +47,8 @@ impl PoolTables {
         self.groups.close_open()
     }
 
-    /// The closed group is quiesced. Refused, in this order, `Suspended`, or `NotReady` if none quiesces or a transaction of it
-    /// is open.
+    /// The closed group is quiesced. Refused, in this order, `Suspended`, or `NotReady` if none quiesces or a
+    /// transaction of it is open.
     pub fn mark_quiesced(&mut self) -> Result<Group, PoolError>
         ensures step { MarksQuiesced result (pool_shown self.old) (pool_shown self.new) }
         ensures kept { KeepsTree self.old self.new }
@@ -57,8 +57,8 @@ impl PoolTables {
         self.groups.mark_quiesced()
     }
 
-    /// Starts the sync of the quiesced group, with this moment in its uberblocks, and takes the blocks that it writes. Refused,
-    /// in this order, `Suspended`, `NotReady` or `NoMemory`, and then nothing is shown changed.
+    /// Starts the sync of the quiesced group, with this moment in its uberblocks, and takes the blocks that it writes.
+    /// Refused, in this order, `Suspended`, `NotReady` or `NoMemory`, and then nothing is shown changed.
     pub fn start_sync(&mut self, moment: u64) -> Result<Group, PoolError>
         ensures geometry { geometry_of self.new ≡ geometry_of self.old }
         ensures start { IsSyncStart moment result (pool_told self.old) (pool_told self.new) }
@@ -85,7 +85,7 @@ impl PoolTables {
         self.groups.ready_to_sync()
     }
 
-    // Takes the room in the synced objects that the end of the next sync needs, where none runs.
+    // Takes the room in the synced objects that the end of the next sync needs, if none runs (rule 8).
     fn reserve_synced(&mut self) -> Result<(), PoolError>
         requires { is_some self.old.groups.line.syncing ≡ false }
         ensures geometry { self.new.geometry ≡ self.old.geometry }
@@ -204,7 +204,7 @@ impl PoolTables {
         }
     }
 
-    // The synced group's tree is the pool's, and what it replaced is free.
+    // The synced group's tree is the pool's, and what it replaced is free (rule 6).
     fn finish_tree(&mut self, running: RunningSync)
         requires none { is_some self.old.sync ≡ false }
         requires geometry { running.run.geometry ≡ self.old.geometry }

@@ -11,25 +11,25 @@ pub returns-in-Ok-clause-found : goal.returns-in-Ok-clause-found
 returns-in-Ok-clause-found g c = λ keeps contents holds.
     let image : List ℕ = bytes_of (g.D.SectorDevice.disk c.args.device).now in
     let u : Uberblock = holds.mounts.0 in
-    let of = c.in-Ok.ensures.imported keeps u holds.mounts.2.found.pool.active (no_chain image u holds.no_log) in
+    let of = (c.in-Ok.ensures.imported keeps).imported u holds.mounts.2.found.pool.active (no_chain image u holds.no_log) in
     of.imported.contents_are ∙ (mounts_agree image of.u u of.chain holds.mounts.1 of.contents contents of.mounts holds.mounts.2).2
 
 pub returns-in-Ok-clause-no_log : goal.returns-in-Ok-clause-no_log
 returns-in-Ok-clause-no_log g c = λ keeps none.
     let old : List ℕ = bytes_of (g.D.SectorDevice.disk c.args.device).now in
     let new : List ℕ = bytes_of (g.D.SectorDevice.disk c.in-Ok.imported.device).now in
-    same-no_log old new none (c.in-Ok.ensures.blocks keeps)
+    same-no_log old new none (c.in-Ok.ensures.imported keeps).blocks
 
 pub returns-in-Ok-clause-opened : goal.returns-in-Ok-clause-opened
 returns-in-Ok-clause-opened g c = λ keeps.
-    let synced = c.in-Ok.ensures.synced keeps in
+    let synced = (c.in-Ok.ensures.written keeps).synced in
     record {
       before = synced.u;
       was_active = synced.active;
-      after = record { u = uberblock_of_import c.args.moment c.in-Ok.imported.mounted; active = c.in-Ok.ensures.active keeps; moment_is = refl };
+      after = record { u = uberblock_of_import c.args.moment c.in-Ok.imported.mounted; active = (c.in-Ok.ensures.written keeps).active; moment_is = refl };
       guid = synced.guid;
       group = synced.group;
     }
 
-pub returns-in-Ok-clause-limit : goal.returns-in-Ok-clause-limit
-returns-in-Ok-clause-limit g c = (c.in-Ok.ensures.explained 0).exact.charges.limit
+pub returns-clause-reason : goal.returns-clause-reason
+returns-clause-reason g c = λ keeps. let refused = c.in-Err.ensures.refused in (refused.reason keeps, refused.found keeps)

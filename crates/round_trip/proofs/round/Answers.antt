@@ -26,7 +26,7 @@ returns-clause-went g c = λ keeps before holds.
     let opened : IsOpened image (told state).now c.args.moment =
     subst (λ d. IsOpened image (bytes_of (disk d).now) c.args.moment) (sym c.new-state.ensures.device) (c.in_ok-imported.ensures.opened keeps) in
     ∥∥₁_map c.new-state.ensures.held (λ anew.
-    let limit : (shown state).dirty_max ≡ c.args.dirty_max = ap (λ (s : Shown). s.dirty_max) c.new-state.ensures.shown ∙ c.in_ok-imported.ensures.limit in
+    let limit : (shown state).dirty_max ≡ c.args.dirty_max = ap (λ (s : Shown). s.dirty_max) c.new-state.ensures.shown ∙ c.in_ok-imported.ensures.mounted.limit in
     let based : IsHeld (held_with (told state) (new_past before 0 (shown state).dirty_max)) =
     subst (λ (base : Contents). IsHeld (held_with (told state) (new_past base 0 (shown state).dirty_max))) shows (anew keeps 0) in
     let held : IsHeld (held_with (told state) (new_past before 0 c.args.dirty_max)) =
@@ -37,4 +37,4 @@ returns-clause-went g c = λ keeps before holds.
 pub returns-in_err-replies-clause-refusal : goal.returns-in_err-replies-clause-refusal
 returns-in_err-replies-clause-refusal g c =
     let p = err_from_is_err_and c.from_residual-in_err-replies.result c.from_residual-in_err-replies.ensures.1 in
-    rw (p.1, p.2, c.in_err-replies.ensures.refused) (c.in_ok-imported.ensures.made, search rules)
+    rw (p.1, p.2, c.in_err-replies.ensures.refused) (c.in_ok-imported.ensures.mounted.made, search rules)

@@ -9,7 +9,7 @@ pub returns-clause-refused : goal.returns-clause-refused
 returns-clause-refused g c = is_refused c.inspect.result _ c.inspect.ensures.made (λ is. let no : false ≡ true = subst IsGeometry c.requires is in cc)
 
 pub returns-clause-reason : goal.returns-clause-reason
-returns-clause-reason g c = IfErr-weaker c.inspect.result _ _ (λ e told. by_size e (subst (λ (n : ℕ). IsInspectionRefusal n e) c.requires told)) c.inspect.ensures.refused
+returns-clause-reason g c = IfErr-weaker c.inspect.result _ _ (λ e told. by_size e (subst (λ (n : ℕ). IsInspectionRefusal n e) c.requires told.kind)) c.inspect.ensures.refused
 
 pub returns-clause-unchanged : goal.returns-clause-unchanged
-returns-clause-unchanged g c = inspection_untouched c.inspect.result _ _ c.requires c.inspect.ensures.made c.inspect.ensures.refused c.inspect.ensures.untouched
+returns-clause-unchanged g c = inspection_untouched g.D.SectorDevice c.inspect.result _ _ c.requires c.inspect.ensures.made c.inspect.ensures.refused

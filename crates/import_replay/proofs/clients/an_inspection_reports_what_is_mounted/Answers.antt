@@ -6,4 +6,4 @@ pub returns-clause-reported : goal.returns-clause-reported
 returns-clause-reported g c = λ keeps. IfOk-weaker c.inspect.result _ _ (λ i told u contents mounts. told_of _ u contents mounts i told) (c.inspect.ensures.mounted keeps)
 
 pub returns-clause-found : goal.returns-clause-found
-returns-clause-found g c = λ keeps. IfErr-weaker c.inspect.result _ _ (λ e told u contents mounts. mounted_found _ u contents mounts e told) (c.inspect.ensures.reason keeps)
+returns-clause-found g c = λ keeps. IfErr-weaker c.inspect.result _ _ (λ e told u contents mounts. mounted_found _ u contents mounts e (told.reason keeps)) c.inspect.ensures.refused

@@ -4,4 +4,4 @@ use Rattle.import_replay.proofs.clients.memory_lacks_before_the_first_write.Goal
 
 pub returns : goal.returns
 returns g c = λ keeps. IfErr-weaker c.import.result _ _ (λ e told.
-    not_written (g.D.SectorDevice.disk c.args.device) (g.D.SectorDevice.disk e.1) e.0 told) (c.import.ensures.unchanged keeps)
+    not_written (g.D.SectorDevice.disk c.args.device) (g.D.SectorDevice.disk e.1) e.0 (told.unchanged keeps)) c.import.ensures.refused

@@ -1,4 +1,4 @@
-use Rattle.std.proofs.Common.{◌≡◌, ◌∙◌, List, ℕ, refl, sym, subst}
+use Rattle.std.proofs.Common.{rules, ◌≡◌, ◌∙◌, List, ℕ, refl, sym, subst}
 use Rattle.base.specs.disk.Disk.{bytes_of, moments}
 use Rattle.base.specs.formats.Geometry.{IsGeometry}
 use Rattle.import_replay.specs.CreateCalls.{IsStoppedIn, after_calls, create_calls}
@@ -13,20 +13,22 @@ use Rattle.import_replay.proofs.creation.create.Goals as goal
 
 pub returns-in-Ok-initialize-clause-created : goal.returns-in-Ok-initialize-clause-created
 returns-in-Ok-initialize-clause-created g c = λ keeps.
-    created_from c.in-Ok.geometry _ c.args.name.now c.args.guid c.args.moment (subst IsGeometry (sym c.in-Ok.ensures.size) (c.in-Ok.ensures.ok.0 refl))
-    (g.met.D.SectorDevice.sized keeps c.initialize.new.device ∙ c.initialize.ensures.calls.size ∙ sym c.sectors.ensures.size ∙ sym c.in-Ok.ensures.size)
-    (subst (λ (l : List ℕ). IsLabelled c.in-Ok.geometry l c.args.guid c.args.moment (bytes_of (g.D.SectorDevice.disk c.initialize.new.device).now)) c.in-Some.ensures.name.0 (c.in-Ok-initialize.ensures.labels keeps))
-
-pub returns-in-Ok-initialize-clause-settled : goal.returns-in-Ok-initialize-clause-settled
-returns-in-Ok-initialize-clause-settled g c = λ keeps.
-    settled_from (λ (image : List ℕ). IsCreatedOn image c.args.name.now c.args.guid) (g.D.SectorDevice.disk c.initialize.new.device).now (c.in-Ok-initialize.ensures.settled keeps) (returns-in-Ok-initialize-clause-created g c keeps)
-
-pub returns-in-Ok-initialize-clause-written : goal.returns-in-Ok-initialize-clause-written
-returns-in-Ok-initialize-clause-written g c = λ keeps.
-    settled_from (λ (image : List ℕ). IsNewPool image c.args.name.now c.args.guid c.args.moment) (g.D.SectorDevice.disk c.initialize.new.device).now (c.in-Ok-initialize.ensures.settled keeps)
-    (new_pool_from c.in-Ok.geometry _ c.args.name.now c.args.guid c.args.moment (subst IsGeometry (sym c.in-Ok.ensures.size) (c.in-Ok.ensures.ok.0 refl))
-    (g.met.D.SectorDevice.sized keeps c.initialize.new.device ∙ c.initialize.ensures.calls.size ∙ sym c.sectors.ensures.size ∙ sym c.in-Ok.ensures.size)
-    (subst (λ (l : List ℕ). IsLabelled c.in-Ok.geometry l c.args.guid c.args.moment (bytes_of (g.D.SectorDevice.disk c.initialize.new.device).now)) c.in-Some.ensures.name.0 (c.in-Ok-initialize.ensures.labels keeps)))
+    let size : ℕ = c.in-Ok.geometry in
+    let name : List ℕ = c.args.name.now in
+    let start = g.D.SectorDevice.disk c.args.device in
+    let now = g.D.SectorDevice.disk c.initialize.new.device in
+    let done = c.in-Ok-initialize.ensures in
+    let sized : IsGeometry size = subst IsGeometry (sym c.in-Ok.ensures.size) (c.in-Ok.ensures.ok.0 refl) in
+    let long = g.met.D.SectorDevice.sized keeps c.initialize.new.device ∙ c.initialize.ensures.calls.size ∙ sym c.sectors.ensures.size ∙ sym c.in-Ok.ensures.size in
+    let labelled = subst (λ (l : List ℕ). IsLabelled size l c.args.guid c.args.moment (bytes_of now.now)) c.in-Some.ensures.name.0 (done.labels keeps) in
+    let created : IsCreatedOn (bytes_of now.now) name c.args.guid = created_from size _ name c.args.guid c.args.moment sized long labelled in
+    record {
+      created = created;
+      settled = settled_from (λ (image : List ℕ). IsCreatedOn image name c.args.guid) now.now (done.settled keeps) created;
+      written = settled_from (λ (image : List ℕ). IsNewPool image name c.args.guid c.args.moment) now.now (done.settled keeps) (new_pool_from size _ name c.args.guid c.args.moment sized long labelled);
+      called = subst (λ (n : ℕ). now ≡ after_calls (create_calls n name c.args.guid c.args.moment) start) (c.in-Ok.ensures.size ∙ c.sectors.ensures.size)
+          (subst (λ (l : List ℕ). now ≡ after_calls (create_calls size l c.args.guid c.args.moment) start) c.in-Some.ensures.name.0 (done.ordered keeps));
+    }
 
 pub returns-in-Ok-initialize-clause-own : goal.returns-in-Ok-initialize-clause-own
 returns-in-Ok-initialize-clause-own g c = λ keeps.
@@ -44,17 +46,15 @@ returns-in-Ok-initialize-clause-outside g c = λ keeps.
     let now = g.D.SectorDevice.disk c.initialize.new.device in
     subst (λ (n : ℕ). WritesPoolBytes n start now) (c.in-Ok.ensures.size ∙ c.sectors.ensures.size) (c.initialize.ensures.outside keeps start (none_outside c.in-Ok.geometry start))
 
-pub returns-in-Ok-initialize-clause-called : goal.returns-in-Ok-initialize-clause-called
-returns-in-Ok-initialize-clause-called g c = λ keeps.
-    let start = g.D.SectorDevice.disk c.args.device in
-    let now = g.D.SectorDevice.disk c.initialize.new.device in
-    subst (λ (n : ℕ). now ≡ after_calls (create_calls n c.args.name.now c.args.guid c.args.moment) start) (c.in-Ok.ensures.size ∙ c.sectors.ensures.size)
-    (subst (λ (l : List ℕ). now ≡ after_calls (create_calls c.in-Ok.geometry l c.args.guid c.args.moment) start) c.in-Some.ensures.name.0 (c.in-Ok-initialize.ensures.ordered keeps))
-
-pub returns-in-Err-initialize-clause-stopped : goal.returns-in-Err-initialize-clause-stopped
-returns-in-Err-initialize-clause-stopped g c = λ keeps refused.
+pub returns-in-Err-initialize-clause-refused : goal.returns-in-Err-initialize-clause-refused
+returns-in-Err-initialize-clause-refused g c =
     let start = g.D.SectorDevice.disk c.args.device in
     let now = g.D.SectorDevice.disk c.initialize.new.device in
     let e = c.in-Err-initialize.error in
-    subst (λ (n : ℕ). IsStoppedIn (create_calls n c.args.name.now c.args.guid c.args.moment) e start now) (c.in-Ok.ensures.size ∙ c.sectors.ensures.size)
-    (subst (λ (l : List ℕ). IsStoppedIn (create_calls c.in-Ok.geometry l c.args.guid c.args.moment) e start now) c.in-Some.ensures.name.0 (c.in-Err-initialize.ensures.ordered keeps))
+    record {
+      kind = search rules;
+      untouched = search rules;
+      stopped = λ keeps refused.
+          subst (λ (n : ℕ). IsStoppedIn (create_calls n c.args.name.now c.args.guid c.args.moment) e start now) (c.in-Ok.ensures.size ∙ c.sectors.ensures.size)
+          (subst (λ (l : List ℕ). IsStoppedIn (create_calls c.in-Ok.geometry l c.args.guid c.args.moment) e start now) c.in-Some.ensures.name.0 (c.in-Err-initialize.ensures.ordered keeps));
+    }

@@ -4,7 +4,8 @@ use Rattle.base.specs.formats.Fields.{part}
 use Rattle.base.specs.formats.Geometry.{slot_place}
 use Rattle.import_replay.proofs.finding.read_uberblock.Given as goal
 
--- the device keeps its size, its disk and its count of refused calls, and the ring's parts so far are the labels' arrays
+-- the device keeps its size, its disk and its count of refused calls, and the ring's parts so far are the labels'
+-- arrays
 abbrev pub invariant-loop-label : goal.invariant-loop-label
 invariant-loop-label g l = record {
   sized : g.D.SectorDevice.size l.device ≡ l.fn.geometry;

@@ -1,11 +1,11 @@
-use Rattle.std.proofs.Common.{ℕ, List, refl}
+use Rattle.std.proofs.Common.{◌≡◌, ℕ, List, false, true, refl, subst, sym}
 use Rattle.base.specs.declared.error.PoolError.TheVariants.{NoMemory}
 use Rattle.base.specs.disk.Disk.{bytes_of}
+use Rattle.base.specs.formats.Geometry.{IsGeometry}
 use Rattle.uberblocks.specs.Slots.{fields_of}
-use Rattle.import_replay.specs.ImportRefusals.{FindsOwn}
 use Rattle.import_replay.proofs.Inspections.{agrees_with_imports, is_inspection, is_told_bounded}
-use Rattle.import_replay.proofs.OwnRefusals.{bad_geometry, finds_own, no_memory}
 use Rattle.import_replay.proofs.Reasons.{passed_on}
+use Rattle.import_replay.proofs.Refused.{memory_refused, size_refused, walk_refused}
 use Rattle.import_replay.proofs.inspection.inspect.Goals as goal
 
 pub returns-clause-mounted : goal.returns-clause-mounted
@@ -29,25 +29,29 @@ returns-clause-bounded g c =
     is_told_bounded g.D.SectorDevice.keeps_model image c.in_ok-geometry.geometry (fields_of found.uberblock) found.name c.in_ok-found.tree c.in_ok-found.ensures.surveyed
     c.in_ok-lengths.lengths.items c.in_ok-lengths.ensures c.in_ok-free.free.free c.tell.result c.tell.ensures found.named
 
-pub returns-in_err-geometry-clause-found : goal.returns-in_err-geometry-clause-found
-returns-in_err-geometry-clause-found g c = λ keeps.
-    let disk = g.D.SectorDevice.disk c.args.device.now in
+pub returns-in_err-geometry-clause-refused : goal.returns-in_err-geometry-clause-refused
+returns-in_err-geometry-clause-refused g c =
     let x = c.in_err-geometry.field-0.0 in
-    passed_on c.from_residual.result x (FindsOwn disk) c.from_residual.ensures.1 (bad_geometry disk x c.in_err-geometry.ensures.refused)
+    let is = c.in_err-geometry.ensures.refused in
+    passed_on c.from_residual.result x _ c.from_residual.ensures.1
+    (size_refused g.D.SectorDevice c.args.device.now x is (λ sized. let no : false ≡ true = c.in_err-geometry.ensures.ok.1 (subst IsGeometry (sym c.sectors.ensures.size) sized) in cc))
 
-pub returns-in_err-found-clause-found : goal.returns-in_err-found-clause-found
-returns-in_err-found-clause-found g c = λ keeps.
-    let disk = g.D.SectorDevice.disk c.args.device.now in
+pub returns-in_err-found-clause-refused : goal.returns-in_err-found-clause-refused
+returns-in_err-found-clause-refused g c =
     let x = c.in_err-found.field-0.0 in
-    passed_on c.from_residual-in_err-found.result x (FindsOwn disk) c.from_residual-in_err-found.ensures.1 (finds_own disk x (c.in_err-found.ensures.reason keeps))
+    let sized : IsGeometry (g.D.SectorDevice.size c.args.device.now) = subst IsGeometry c.sectors.ensures.size (c.in_ok-geometry.ensures.ok.0 refl) in
+    passed_on c.from_residual-in_err-found.result x _ c.from_residual-in_err-found.ensures.1
+    (walk_refused g.D.SectorDevice c.args.device.now _ x sized c.in_err-found.ensures.refused c.in_err-found.ensures.reason)
 
-pub returns-in_err-free-clause-found : goal.returns-in_err-free-clause-found
-returns-in_err-free-clause-found g c = λ keeps.
-    let disk = g.D.SectorDevice.disk c.args.device.now in
+pub returns-in_err-free-clause-refused : goal.returns-in_err-free-clause-refused
+returns-in_err-free-clause-refused g c =
     let x = c.in_err-free.field-0.0 in
-    passed_on c.from_residual-in_err-free.result x (FindsOwn disk) c.from_residual-in_err-free.ensures.1 (no_memory disk x c.in_err-free.ensures.refused)
+    let sized : IsGeometry (g.D.SectorDevice.size c.args.device.now) = subst IsGeometry c.sectors.ensures.size (c.in_ok-geometry.ensures.ok.0 refl) in
+    passed_on c.from_residual-in_err-free.result x _ c.from_residual-in_err-free.ensures.1
+    (memory_refused g.D.SectorDevice c.args.device.now _ x sized c.in_err-free.ensures.refused)
 
-pub returns-in_err-lengths-clause-found : goal.returns-in_err-lengths-clause-found
-returns-in_err-lengths-clause-found g c = λ keeps.
-    let disk = g.D.SectorDevice.disk c.args.device.now in
-    passed_on c.from_residual-in_err-lengths.result NoMemory (FindsOwn disk) c.from_residual-in_err-lengths.ensures.1 (no_memory disk NoMemory refl)
+pub returns-in_err-lengths-clause-refused : goal.returns-in_err-lengths-clause-refused
+returns-in_err-lengths-clause-refused g c =
+    let sized : IsGeometry (g.D.SectorDevice.size c.args.device.now) = subst IsGeometry c.sectors.ensures.size (c.in_ok-geometry.ensures.ok.0 refl) in
+    passed_on c.from_residual-in_err-lengths.result NoMemory _ c.from_residual-in_err-lengths.ensures.1
+    (memory_refused g.D.SectorDevice c.args.device.now _ NoMemory sized refl)

@@ -88,49 +88,30 @@ loop-run-preserved g c =
           (c.next.ensures.written keeps).made (distinct_blocks c.args.geometry config u c.args.first c.loop-run.run i.run) (bytes_of (g.D.SectorDevice.disk c.args.device.now).now) (i.made keeps);
     }
 
-pub returns-clause-same_blocks : goal.returns-clause-same_blocks
-returns-clause-same_blocks g c = λ keeps.
+pub returns-clause-written : goal.returns-clause-written
+returns-clause-written g c = λ keeps.
     let i = c.loop-run.invariant in
     let call = c.in_ok-next.ensures.called in
+    let size : ℕ = c.args.geometry in
+    let config : Config = c.args.config.now in
+    let u : Uberblock = fields_of c.args.uberblock.now in
+    let first = c.args.first in
+    let start = g.D.SectorDevice.disk c.args.device.now in
     let old = g.D.SectorDevice.disk c.loop-run.device in
     let new = g.D.SectorDevice.disk c.next.new.device in
-    let long : length (bytes_of old.now) ≡ c.args.geometry = g.met.D.SectorDevice.sized keeps c.loop-run.device ∙ i.sized in
-    blocks_then c.args.geometry (bytes_of (g.D.SectorDevice.disk c.args.device.now).now) (bytes_of old.now) (bytes_of new.now) (i.blocks keeps)
-    (call_keeps c.args.geometry c.args.config.now (fields_of c.args.uberblock.now) c.args.first c.loop-run.run old new c.requires.geometry i.run long call.call (call.made keeps))
-
-pub returns-clause-synced : goal.returns-clause-synced
-returns-clause-synced g c = λ keeps.
-    let i = c.loop-run.invariant in
-    let call = c.in_ok-next.ensures.called in
-    let config : Config = c.args.config.now in
-    let u : Uberblock = fields_of c.args.uberblock.now in
+    let base : List ℕ = bytes_of start.now in
     let all : c.next.new.self.done ≡ call_count c.next.new.self = c.in_ok-next.ensures.counts.last.0 c.in_default.is in
-    let run = sync_goes_on c.args.geometry config u c.args.first c.loop-run.run c.next.new.self c.next.ensures.counts.same i.run in
-    after_next c.args.geometry config u c.args.first c.loop-run.run i.run (g.D.SectorDevice.disk c.args.device.now) (g.D.SectorDevice.disk c.loop-run.device) (g.D.SectorDevice.disk c.next.new.device)
-    call.call call.next (i.called keeps) (call.made keeps) c.next.new.self.done c.in_ok-next.ensures.counts.done
-    ∙ ap (λ (l : List DeviceCall). after_calls c.args.geometry config u l (g.D.SectorDevice.disk c.args.device.now)) (whole c.args.geometry config u c.args.first c.next.new.self run all)
-
-pub returns-clause-labelled : goal.returns-clause-labelled
-returns-clause-labelled g c = λ keeps.
-    let i = c.loop-run.invariant in
-    let config : Config = c.args.config.now in
-    let u : Uberblock = fields_of c.args.uberblock.now in
-    let all : c.next.new.self.done ≡ call_count c.next.new.self = c.in_ok-next.ensures.counts.last.0 c.in_default.is in
-    let run = sync_goes_on c.args.geometry config u c.args.first c.loop-run.run c.next.new.self c.next.ensures.counts.same i.run in
-    let base : List ℕ = bytes_of (g.D.SectorDevice.disk c.args.device.now).now in
-    hold_labels c.args.geometry config u c.args.first c.next.new.self run base (bytes_of (g.D.SectorDevice.disk c.next.new.device).now)
-    ((c.next.ensures.written keeps).made (distinct_blocks c.args.geometry config u c.args.first c.loop-run.run i.run) base (i.made keeps)) all
-
-pub returns-clause-other_slots : goal.returns-clause-other_slots
-returns-clause-other_slots g c = λ keeps.
-    let i = c.loop-run.invariant in
-    let config : Config = c.args.config.now in
-    let u : Uberblock = fields_of c.args.uberblock.now in
-    let all : c.next.new.self.done ≡ call_count c.next.new.self = c.in_ok-next.ensures.counts.last.0 c.in_default.is in
-    let run = sync_goes_on c.args.geometry config u c.args.first c.loop-run.run c.next.new.self c.next.ensures.counts.same i.run in
-    let base : List ℕ = bytes_of (g.D.SectorDevice.disk c.args.device.now).now in
-    other_slots c.args.geometry config u c.args.first c.next.new.self run base (bytes_of (g.D.SectorDevice.disk c.next.new.device).now)
-    ((c.next.ensures.written keeps).made (distinct_blocks c.args.geometry config u c.args.first c.loop-run.run i.run) base (i.made keeps)) all c.requires.geometry
+    let run = sync_goes_on size config u first c.loop-run.run c.next.new.self c.next.ensures.counts.same i.run in
+    let made = (c.next.ensures.written keeps).made (distinct_blocks size config u first c.loop-run.run i.run) base (i.made keeps) in
+    let long : length (bytes_of old.now) ≡ size = g.met.D.SectorDevice.sized keeps c.loop-run.device ∙ i.sized in
+    record {
+      synced = after_next size config u first c.loop-run.run i.run start old new call.call call.next (i.called keeps) (call.made keeps) c.next.new.self.done c.in_ok-next.ensures.counts.done
+          ∙ ap (λ (l : List DeviceCall). after_calls size config u l start) (whole size config u first c.next.new.self run all);
+      labelled = hold_labels size config u first c.next.new.self run base (bytes_of new.now) made all;
+      other_slots = other_slots size config u first c.next.new.self run base (bytes_of new.now) made all c.requires.geometry;
+      same_blocks = blocks_then size base (bytes_of old.now) (bytes_of new.now) (i.blocks keeps) (call_keeps size config u first c.loop-run.run old new c.requires.geometry i.run long call.call (call.made keeps));
+      settled = (c.next.ensures.written keeps).settled all;
+    }
 
 pub returns-clause-views : goal.returns-clause-views
 returns-clause-views g c = λ keeps created at v began ready behind spares.

@@ -9,7 +9,8 @@ use Rattle.import_replay.specs.LabelSyncs.{HasSameBlocks, IsLabelSync, after_cal
 use Rattle.import_replay.proofs.LabelViews.{HasImportSince}
 use Rattle.import_replay.proofs.label_sync.sync_labels.Given as goal
 
--- the sync is one of the labels and has calls left, the device keeps its size, its count of refused calls and its blocks, its disk is what the calls so far made of it, and each moment is one of an import
+-- the sync is one of the labels and has calls left, the device keeps its size, its count of refused calls and its
+-- blocks, its disk is what the calls so far made of it, and each moment is one of an import
 abbrev pub invariant-loop-run : goal.invariant-loop-run
 invariant-loop-run g l = record {
   sized : g.D.SectorDevice.size l.device ≡ l.fn.geometry;

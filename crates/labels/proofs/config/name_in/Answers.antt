@@ -6,7 +6,7 @@ use Rattle.base.specs.formats.Labels.{IsConfigPayload}
 use Rattle.labels.proofs.ConfigBlocks.{zeros-behind, IsConfigPayload-by}
 use Rattle.labels.proofs.config.name_in.Goals as goal
 
--- zeros behind so many bytes of the name
+-- zeros after so many bytes of the name
 Zeros : List ℕ → ℕ → Type 0
 Zeros payload n = drop (24 + n) payload ≡ replicate (length (drop (24 + n) payload)) 0
 

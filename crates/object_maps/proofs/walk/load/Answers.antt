@@ -25,21 +25,14 @@ returns-clause-placed g c =
     c.load_tree.new.objects.maps.items c.in_ok-directories.directories.len (c.load_tree.auto.directories ∙ c.deref_mut.ensures.len) tree (objects_of c.load_tree.new.objects.slots.items) stands.0 in
     whole.placed
 
-pub returns-clause-bounded : goal.returns-clause-bounded
-returns-clause-bounded g c =
+pub returns-clause-objects : goal.returns-clause-objects
+returns-clause-objects g c =
     let image : List ℕ = bytes_of (g.D.SectorDevice.disk c.args.device.now).now in
     let maps : List ObjectMap = c.in_ok-maps.maps.items in
     let (objects, stands, tree) = c.in_ok-load_tree.ensures.loaded image (λ keeps. refl) finite.empty (all_absent c.in_ok-slots.slots.items c.in_ok-slots.ensures.absent, no_lengths maps c.in_ok-maps.ensures.empty) (none_there maps c.in_ok-maps.ensures.empty) in
     let whole = whole_tree g.D.SectorDevice.keeps_model image c.args.frame.now c.args.root c.load_tree.new.directories c.in_ok-directories.directories.items objects
     c.load_tree.new.objects.maps.items c.in_ok-directories.directories.len (c.load_tree.auto.directories ∙ c.deref_mut.ensures.len) tree (objects_of c.load_tree.new.objects.slots.items) stands.0 in
-    whole.bounded
-
-pub returns-clause-lengths : goal.returns-clause-lengths
-returns-clause-lengths g c = λ n low.
-    let image : List ℕ = bytes_of (g.D.SectorDevice.disk c.args.device.now).now in
-    let maps : List ObjectMap = c.in_ok-maps.maps.items in
-    let (objects, stands, tree) = c.in_ok-load_tree.ensures.loaded image (λ keeps. refl) finite.empty (all_absent c.in_ok-slots.slots.items c.in_ok-slots.ensures.absent, no_lengths maps c.in_ok-maps.ensures.empty) (none_there maps c.in_ok-maps.ensures.empty) in
-    subst (λ (m : FinMap nat_cmp (List ℕ)). HaveLengthsOf c.load_tree.new.objects.maps.items m) (sym stands.0) stands.1 n
+    (whole.bounded, λ n low. subst (λ (m : FinMap nat_cmp (List ℕ)). HaveLengthsOf c.load_tree.new.objects.maps.items m) (sym stands.0) stands.1 n)
 
 pub returns-clause-tree : goal.returns-clause-tree
 returns-clause-tree g c =

@@ -3,5 +3,12 @@ use Rattle.pool_threads.proofs.turn.next_view.Goals as goal
 
 pub of-requires : goal.of-requires
 of-requires g c κs t =
-    let a = t.0.0 in let b = t.0.1.0 in let d = t.0.1.1.0 in let e = t.0.1.1.1.0 in let x = t.1.0 in let y = t.1.1.0 in let z = t.1.1.1 in
-    (⊑_static κs.1.0, search (⊑_meet, ⊑_static, a, b, d, e, x, y, z) depth 60 fits 1000000)
+    let none = ⊑_static κs.1.1.0 in
+    let the_call = ⊑_meet _ _ _ t.1.1.0 none in
+    let call = ⊑_meet _ _ _ t.0.1.0 (⊑_meet _ _ _ the_call (⊑_meet _ _ _ (⊑_meet _ _ _ the_call none) none)) in
+    let the_answer = ⊑_meet _ _ _ t.1.1.1.0 none in
+    let answer = ⊑_meet _ _ _ t.0.1.1.0 (⊑_meet _ _ _ the_answer (⊑_meet _ _ _ the_answer none)) in
+    let the_device = ⊑_meet _ _ _ t.1.0 none in
+    let state = ⊑_meet _ _ _ t.0.1.1.1.0 (⊑_meet _ _ _ the_device the_device) in
+    let shown = ⊑_meet _ _ _ (⊑_meet _ _ _ t.0.0 none) (⊑_meet _ _ _ call (⊑_meet _ _ _ answer (⊑_meet _ _ _ state none))) in
+    (⊑_static κs.1.0, ⊑_meet _ _ _ shown shown)

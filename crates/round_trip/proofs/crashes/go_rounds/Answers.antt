@@ -36,5 +36,5 @@ returns-in_err-imported-clause-reason c =
       c.loop-round.answers.items,
       all_over c.args.rounds.items (into_iter_items c.loop-round.round-iterator) c.loop-round.answers.items c.args.device.disk c.loop-round.device.disk (Err e)
           (sym c.loop-round.round-iterator.rest.ok.0 ∙ c.in-None.ensures.steps.0) c.loop-round.invariant.3
-          (λ past was. last_refusal past c.loop-round.device.disk e was (refused.sound refl) (refused.reason refl)),
+          (λ past was. last_refusal past c.loop-round.device.disk e was (refused.reason refl).1 (refused.reason refl).0),
     ))

@@ -4,7 +4,7 @@ use Rattle.tree_plans.proofs.payload.put_pointer.Goals as goal
 
 pub returns-clause-here : goal.returns-clause-here
 returns-clause-here c =
-    let p = c.args.pointer.now in
+    let p = c.args.pointer in
     let low : p.address < 2 ^ 64 = search (rules, arith) in
     let born : p.birth < 2 ^ 64 = search (rules, arith) in
     let long : length p.check ≡ 32 = search rules in
@@ -12,6 +12,6 @@ returns-clause-here c =
 
 pub returns-clause-others : goal.returns-clause-others
 returns-clause-others c = λ r ne.
-    let p = c.args.pointer.now in
+    let p = c.args.pointer in
     let long : length p.check ≡ 32 = search rules in
     rw c.write_pointer.ensures (pointer_in-put_other c.args.index r p c.args.payload.now c.requires.size c.requires.index long ne)

@@ -1,4 +1,4 @@
-use Rattle.std.proofs.Common.{List, ℕ, ap, map, subst}
+use Rattle.std.proofs.Common.{List, ℕ, ap, map, rules, subst}
 use Rattle.std.specs.Ordering.{nat_cmp}
 use Rattle.std.specs.FinMap.{FinMap}
 use Rattle.base.specs.tree.Syncs.{is_dirty}
@@ -23,7 +23,7 @@ returns-clause-planned g c =
     let planned = c.in_ok-maps.maps.entries in
     let directories = c.in_ok-directories.directories.items in
     let first = c.in_ok-maps.ensures.planned in
-    let same = c.in_ok-maps.ensures.same_objects in
+    let same = c.in_ok-maps.ensures.reads.0 in
     let then = rw same at c.in_ok-directories.ensures.planned in
     let last = rw same at c.in_ok-root.ensures.planned in
     let begun = ap (map new_block) c.requires.begun.planned in
@@ -50,7 +50,7 @@ returns-in_err-directories-clause-full g c =
     let source = c.args.source.now in
     let objects = c.args.objects.now.entries in
     let after = g.O.ObjectSource.objects c.args.after.now in
-    let lacks = subst (λ (m : FinMap nat_cmp (List ℕ)). TellsLack source.free.now c.place_objects.new.planner (directory_blocks objects m) c.in_err-directories.field-0.0) c.in_ok-maps.ensures.same_objects c.in_err-directories.ensures.full in
+    let lacks = subst (λ (m : FinMap nat_cmp (List ℕ)). TellsLack source.free.now c.place_objects.new.planner (directory_blocks objects m) c.in_err-directories.field-0.0) c.in_ok-maps.ensures.reads.0 c.in_err-directories.ensures.full in
     handed_on c.from_residual-in_err-directories.result _ _ c.from_residual-in_err-directories.ensures.1 (λ within no_space. directories_lack _ objects (pointers_before source.tree.now) after within _ _ _ c.in_ok-maps.ensures.planned.goes (c.in_ok-maps.ensures.planned.adds within) (lacks no_space))
 
 pub returns-in_err-root-clause-full : goal.returns-in_err-root-clause-full
@@ -58,8 +58,11 @@ returns-in_err-root-clause-full g c =
     let source = c.args.source.now in
     let objects = c.args.objects.now.entries in
     let after = g.O.ObjectSource.objects c.args.after.now in
-    let same = c.in_ok-maps.ensures.same_objects in
+    let same = c.in_ok-maps.ensures.reads.0 in
     let then = subst (λ (m : FinMap nat_cmp (List ℕ)). PlansDirectories source m c.args.objects.now c.in_ok-maps.maps c.place_objects.new.planner c.place_directories.new.planner c.in_ok-directories.directories.items) same c.in_ok-directories.ensures.planned in
     let lacks = subst (λ (m : FinMap nat_cmp (List ℕ)). TellsLack source.free.now c.place_directories.new.planner (count_if (is_dirty (root_state objects m))) c.in_err-root.field-0.0) same c.in_err-root.ensures.full in
     handed_on c.from_residual-in_err-root.result _ _ c.from_residual-in_err-root.ensures.1 (λ within no_space. root_lacks _ objects (pointers_before source.tree.now) after within _ _ _ _ _ c.in_ok-maps.ensures.planned.goes (c.in_ok-maps.ensures.planned.adds within)
     then.goes then.adds (lacks no_space))
+
+pub returns-in_err-root-clause-reads : goal.returns-in_err-root-clause-reads
+returns-in_err-root-clause-reads g c = (c.in_ok-maps.ensures.reads.0, (search rules, search rules))

@@ -3,7 +3,8 @@ use Rattle.extents.specs.Patches.{with_ops}
 use Rattle.extents.specs.Tables.{CanApplyAll, CanStillApply, IsSame, patches_of}
 use Rattle.extents.proofs.extents.Extents.apply.Given as goal
 
--- all operations have their room, as others still have, and those that are left make of the changes what all make of the old ones
+-- all operations have their room, as others still have, and those that are left make of the changes what all make of
+-- the old ones
 abbrev pub invariant-loop-op : goal.invariant-loop-op
 invariant-loop-op l = record {
   room : CanApplyAll l.self l.ops;

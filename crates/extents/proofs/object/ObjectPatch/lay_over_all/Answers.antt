@@ -1,6 +1,5 @@
-use Rattle.std.proofs.Common.{rules, arith, ◌∙◌}
+use Rattle.std.proofs.Common.{arith, ◌∙◌}
 use Rattle.extents.specs.Objects.{written_in}
-use Rattle.extents.proofs.RecordWrites.{past_last}
 use Rattle.extents.proofs.LaidBytes.{next_laid, all_laid}
 use Rattle.extents.proofs.object.ObjectPatch.lay_over_all.Goals as goal
 
@@ -12,4 +11,4 @@ loop-index-preserved c = record {
 }
 
 pub returns-clause-bytes : goal.returns-clause-bytes
-returns-clause-bytes c = λ k inside. all_laid c.loop-index.index (written_in c.args.self.now) c.args.bytes.now k _ (λ past. past_last c.args.self.now.records.items k (search (rules, arith))) (c.loop-index.invariant.laid k inside)
+returns-clause-bytes c = λ k inside. all_laid c.loop-index.index (written_in c.args.self.now) c.args.bytes.now k _ (λ past. absurd (omega (arith, past, inside, c.loop-index-test.false, c.div_ceil-index-end.ensures))) (c.loop-index.invariant.laid k inside)

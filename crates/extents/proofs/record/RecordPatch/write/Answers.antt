@@ -5,6 +5,6 @@ use Rattle.extents.proofs.record.RecordPatch.write.Goals as goal
 pub invariant_of-self-clause-marked : goal.invariant_of-self-clause-marked
 invariant_of-self-clause-marked c = rw c.mark.ensures.marks (put_marks c.args.offset _ _ c.args.self.now.mask.items refl c.args.self.now.marked)
 
-pub returns-clause-bytes : goal.returns-clause-bytes
-returns-clause-bytes c = λ k. rw (c.overwrite.ensures.bytes, c.mark.ensures.marks)
+pub returns : goal.returns
+returns c = λ k. rw (c.overwrite.ensures.bytes, c.mark.ensures.marks)
     (written_bytes c.args.offset c.args.content.now c.args.self.now.bytes.items c.args.self.now.mask.items (search (rules, arith)) (search (rules, arith)) k)

@@ -1,4 +1,4 @@
-use Rattle.std.proofs.Common.{◌≡◌, ◌+◌, ◌∙◌, ℕ, List, length, drop, refl, sym, subst, ap, arith, Some}
+use Rattle.std.proofs.Common.{◌≡◌, ◌+◌, ◌*◌, ◌∙◌, ℕ, List, length, drop, refl, sym, subst, ap, arith, Some}
 use Rattle.std.specs.Prelude.{IsTrue}
 use Rattle.std.proofs.lemmas.List.{take_at}
 use Rattle.base.specs.declared.pointer.Pointer.{Pointer}
@@ -10,6 +10,7 @@ use Rattle.object_maps.specs.Loading.{IsLoadedObject, AreLoadedRecords}
 use Rattle.object_maps.proofs.LoadedBlocks.{still_shows}
 use Rattle.object_maps.proofs.LoadedRecords.{zero_records, hole_loaded, object_loaded}
 use Rattle.std.proofs.lemmas.Result.{err_from_is_err_and}
+use Rattle.base.specs.formats.Limits.{record_size}
 use Rattle.base.specs.disk.Disk.{Disk, bytes_of}
 use Rattle.base.specs.tree.Places.{walk_index_of_indirect}
 use Rattle.object_maps.proofs.WalkOrder.{sound_more}
@@ -33,7 +34,7 @@ load_records-requires-clause-records g c =
     let items : c.deref.result.now ≡ new = c.deref.ensures.value ∙ take_at new (drop (length new) c.in_ok-records.records.items) c.in_ok-records.records.len long in
     record {
       count = ap (λ (l : List Pointer). length l) items ∙ long ∙ c.in_ok-records.ensures.len;
-      each = λ r low. subst (λ (p : Pointer). IsRecordPointerForm (length c.args.bytes.now) r p) (sym (ap (λ (l : List Pointer). pointer_of_list l r) items ∙ c.read_pointers.ensures r low))
+      each = λ r low. subst (λ (p : Pointer). IsRecordPointerForm (length c.args.bytes.now) (record_size * r) p) (sym (ap (λ (l : List Pointer). pointer_of_list l r) items ∙ c.read_pointers.ensures r low))
           (c.if-not-are_records.ensures.0 refl r low);
     }
 

@@ -1,9 +1,24 @@
-use Rattle.std.proofs.Common.{◌∙◌, refl}
-use Rattle.pool_threads.proofs.Looked.{looked_by}
+use Rattle.std.proofs.Common.{◌++◌, ◌∷◌, [], ap, refl, sym, subst, ◌∙◌}
+use Rattle.pool_threads.proofs.Looked.{explained_still, looked_by}
+use Rattle.pool_threads.specs.Views.{Explains, GrowsTo, grows_same}
+use Rattle.word_lock.specs.Seats.{lock_table, seen, turns}
+use Rattle.word_lock.specs.Turns.{turn}
 use Rattle.pool_threads.proofs.calls.Handle+MemDevice.fail.Goals as goal
+
+pub release-requires : goal.release-requires
+release-requires g c =
+    let a = c.acquire-guard in
+    let v = a.result.held.view.value in
+    let before : Explains c.deref_mut.result.now v = subst (λ st. Explains st v) (sym c.deref_mut.ensures.value) (subst (Explains a.result.held.value.value) (sym a.ensures.view) a.ensures.held.3) in
+    record {
+      own = a.ensures.same.0 ∙ c.args.self.now.own ∙ ap (λ l. lock_table l.now) (sym a.ensures.lock);
+      held = a.ensures.held.0;
+      grows = subst (GrowsTo _ (seen a.result.seat.now)) (sym a.ensures.view) (grows_same _ (seen a.result.seat.now));
+      explains = explained_still c.deref_mut.result.now c.fail.new.self c.fail.ensures.told c.fail.ensures.disk v before;
+    }
 
 pub returns : goal.returns
 returns g c =
-    let held = c.acquire-guard.ensures.held in
-    let done = c.fail_guarded.ensures in
-    looked_by _ _ _ _ (done.same.0.0 ∙ c.acquire-guard.ensures.same.0, refl) held.1 held.2 held.5 done.seen done.turn.0 (done.turn.1.0 ∙ held.4.0, done.turn.1.1 ∙ held.4.1)
+    let a = c.acquire-guard in
+    let r = c.release.ensures in
+    looked_by _ _ _ _ (r.same.0 ∙ a.ensures.same.0, refl) a.ensures.held.1 a.ensures.held.2 a.ensures.held.5 (r.seen ∙ a.ensures.view) (r.turn.0 ∙ ap (λ w. turns a.result.seat.now ++ turn (seen a.result.seat.now) w ∷ []) (sym r.seen)) (r.turn.1.0 ∙ a.ensures.held.4.0, r.turn.1.1 ∙ a.ensures.held.4.1)

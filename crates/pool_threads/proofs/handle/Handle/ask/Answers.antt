@@ -1,22 +1,18 @@
 use Rattle.std.proofs.Common.{refl, sym, subst, ◌∙◌}
-use Rattle.pool_threads.proofs.Fits.{fitting}
 use Rattle.pool_threads.proofs.Made.{made_by}
 use Rattle.pool_threads.specs.Views.{Explains}
 use Rattle.pool_threads.proofs.handle.Handle.ask.Goals as goal
 
-pub step_guarded-reply-requires-clause-explains : goal.step_guarded-reply-requires-clause-explains
-step_guarded-reply-requires-clause-explains g c =
+pub turn-answer-requires-clause-explains : goal.turn-answer-requires-clause-explains
+turn-answer-requires-clause-explains g c =
     let held = c.acquire-guard.ensures.held in
     subst (λ v. Explains c.acquire-guard.result.held.value.value v) (sym c.acquire-guard.ensures.view) held.3
 
-pub returns-clause-made : goal.returns-clause-made
-returns-clause-made g c =
+pub returns : goal.returns
+returns g c =
     let held = c.acquire-guard.ensures.held in
-    let done = c.step_guarded-reply.ensures in
+    let done = c.turn-answer.ensures in
     record {
       same_pool = (done.same.0.0 ∙ c.acquire-guard.ensures.same.0, refl);
       made = made_by _ _ _ _ _ _ held.1 held.2 held.4 held.5 done.stepped;
     }
-
-pub returns-clause-fits : goal.returns-clause-fits
-returns-clause-fits g c = fitting _ _ _ _ _ c.step_guarded-reply.ensures.stepped.made

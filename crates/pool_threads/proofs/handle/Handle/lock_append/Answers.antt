@@ -1,18 +1,9 @@
 use Rattle.pool_threads.proofs.Seen.{appends_are_seen}
-use Rattle.pool_threads.proofs.Tried.{at_last, no_tries, sees_last, sees_last_refusal, tried_again}
+use Rattle.pool_threads.proofs.Tried.{sees_last, sees_last_refusal}
 use Rattle.pool_threads.proofs.handle.Handle.lock_append.Goals as goal
 
-pub loop-init : goal.loop-init
-loop-init g c = no_tries _ _ c.args.self.now
+pub returns-clause-granted : goal.returns-clause-granted
+returns-clause-granted g c = sees_last _ _ _ c.retry.result c.retry.ensures.made _ (λ a. appends_are_seen _ _ a.0 a.1)
 
-pub loop-preserved : goal.loop-preserved
-loop-preserved g c = tried_again _ _ _ c.append_once-answer.result c.is_busy.ensures c.if-not-is_busy.false c.loop.invariant c.append_once-answer.ensures
-
-pub returns-then-not-is_busy-clause-made : goal.returns-then-not-is_busy-clause-made
-returns-then-not-is_busy-clause-made g c = at_last _ _ c.loop.invariant c.append_once-answer.ensures
-
-pub returns-then-not-is_busy-clause-granted : goal.returns-then-not-is_busy-clause-granted
-returns-then-not-is_busy-clause-granted g c = sees_last _ _ _ c.append_once-answer.result c.loop.invariant c.append_once-answer.ensures _ (λ a. appends_are_seen _ _ a.0 a.1)
-
-pub returns-then-not-is_busy-clause-refused : goal.returns-then-not-is_busy-clause-refused
-returns-then-not-is_busy-clause-refused g c = sees_last_refusal _ _ _ c.append_once-answer.result c.loop.invariant c.append_once-answer.ensures
+pub returns-clause-refused : goal.returns-clause-refused
+returns-clause-refused g c = sees_last_refusal _ _ _ c.retry.result c.retry.ensures.made

@@ -1,12 +1,9 @@
 use Rattle.pool_threads.proofs.Seen.{reads_are_made}
-use Rattle.pool_threads.proofs.Answered.{makes_answer, sees_answer, sees_refusal}
+use Rattle.pool_threads.proofs.Answered.{sees_answer, sees_refusal}
 use Rattle.pool_threads.proofs.handle.Handle.read.Goals as goal
 
-pub returns-clause-made : goal.returns-clause-made
-returns-clause-made g c = makes_answer _ _ _ c.bytes.result c.bytes.ensures c.ask.ensures.made
-
 pub returns-clause-bytes : goal.returns-clause-bytes
-returns-clause-bytes g c = sees_answer _ _ _ c.bytes.result c.bytes.ensures c.ask.ensures.made _ (λ b. reads_are_made _ _ _ b)
+returns-clause-bytes g c = sees_answer _ _ c.ask.result c.ask.ensures _ (λ b. reads_are_made _ _ _ b)
 
 pub returns-clause-refused : goal.returns-clause-refused
-returns-clause-refused g c = sees_refusal _ _ _ c.bytes.result c.bytes.ensures c.ask.ensures.made
+returns-clause-refused g c = sees_refusal _ _ c.ask.result c.ask.ensures

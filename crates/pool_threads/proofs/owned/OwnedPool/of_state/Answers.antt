@@ -1,4 +1,4 @@
-use Rattle.std.proofs.Common.{◌∙◌, sym, subst}
+use Rattle.std.proofs.Common.{sym, subst}
 use Rattle.pool_threads.specs.Views.{Explains}
 use Rattle.pool_threads.proofs.owned.OwnedPool.of_state.Goals as goal
 

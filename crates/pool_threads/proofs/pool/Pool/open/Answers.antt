@@ -4,43 +4,43 @@ use Rattle.import_replay.specs.ImportSyncs.{IsImportSynced}
 use Rattle.import_replay.specs.RunStarts.{StartsRun}
 use Rattle.std.specs.Prelude.{IsTrue}
 use Rattle.pool_threads.specs.Handles.{LeavesSame, OpensBehind, StartsBehind, opening_view, shared_of}
-use Rattle.round_trip.proofs.CrashRounds.{import_left}
+use Rattle.base.proofs.crash.LeftDisks.{import_left}
 use Rattle.pool_threads.proofs.pool.Pool.open.Goals as goal
 
-pub share_behind-requires : goal.share_behind-requires
-share_behind-requires g c =
+pub share_after-requires : goal.share_after-requires
+share_after-requires g c =
     let disk = g.D.SectorDevice.disk in
     let m = c.in-Ok.imported.mounted in
     let new = disk c.in-Ok.imported.device in
-    let limit = (c.in-Ok.ensures.explained 0).exact.charges.limit in
+    let limit = (c.in-Ok.ensures.mounted.explained 0).exact.charges.limit in
     subst (λ d. IsTrue g.D.SectorDevice.keeps_model → StartsBehind (disk d) m new) (sym c.of-before.ensures)
     (λ keeps. record { starts = subst (λ n. StartsRun (disk c.args.device) n new m) (sym limit) (c.in-Ok.ensures.starts keeps); own = c.in-Ok.ensures.own keeps })
 
-pub returns-in-Ok-share_behind-clause-opened : goal.returns-in-Ok-share_behind-clause-opened
-returns-in-Ok-share_behind-clause-opened g c =
+pub returns-in-Ok-share_after-clause-opened : goal.returns-in-Ok-share_after-clause-opened
+returns-in-Ok-share_after-clause-opened g c =
     let disk = g.D.SectorDevice.disk in
     let keeps = IsTrue g.D.SectorDevice.keeps_model in
-    let view = opening_view (shared_of c.in-Ok-share_behind.pool) in
-    let limit = (c.in-Ok.ensures.explained 0).exact.charges.limit in
-    subst (λ d. OpensBehind keeps (disk d) c.args.dirty_max view) c.of-before.ensures (subst (λ n. OpensBehind keeps (disk c.of-before.result.value) n view) limit c.in-Ok-share_behind.ensures.opened)
+    let view = opening_view (shared_of c.in-Ok-share_after.pool) in
+    let limit = (c.in-Ok.ensures.mounted.explained 0).exact.charges.limit in
+    subst (λ d. OpensBehind keeps (disk d) c.args.dirty_max view) c.of-before.ensures (subst (λ n. OpensBehind keeps (disk c.of-before.result.value) n view) limit c.in-Ok-share_after.ensures.opened)
 
-pub returns-in-Ok-share_behind-clause-imported : goal.returns-in-Ok-share_behind-clause-imported
-returns-in-Ok-share_behind-clause-imported g c = λ keeps. record {
+pub returns-in-Ok-share_after-clause-imported : goal.returns-in-Ok-share_after-clause-imported
+returns-in-Ok-share_after-clause-imported g c = λ keeps. record {
   mounted = c.in-Ok.imported.mounted;
-  synced = subst (λ d. IsImportSynced (g.D.SectorDevice.disk c.args.device) d c.args.moment c.in-Ok.imported.mounted) (sym c.in-Ok-share_behind.ensures.shown.disk_is) (c.in-Ok.ensures.synced keeps);
-  shown = c.in-Ok-share_behind.ensures.shown.shown;
+  synced = subst (λ d. IsImportSynced (g.D.SectorDevice.disk c.args.device) d c.args.moment c.in-Ok.imported.mounted) (sym c.in-Ok-share_after.ensures.shown.disk_is) (c.in-Ok.ensures.written keeps).synced;
+  shown = c.in-Ok-share_after.ensures.shown.shown;
 }
 
 pub returns-in-Err-clause-given_back : goal.returns-in-Err-clause-given_back
-returns-in-Err-clause-given_back g c = λ keeps. inl (record { reason = c.in-Err.ensures.reason keeps; unchanged = c.in-Err.ensures.unchanged keeps; stopped = c.in-Err.ensures.stopped keeps })
+returns-in-Err-clause-given_back g c = λ keeps. inl (record { reason = c.in-Err.ensures.refused.reason keeps; unchanged = c.in-Err.ensures.refused.unchanged keeps; stopped = c.in-Err.ensures.refused.stopped keeps })
 
 pub returns-clause-given_back : goal.returns-clause-given_back
 returns-clause-given_back g c = λ keeps.
     let disk = g.D.SectorDevice.disk in
-    let same = c.into_device.ensures ∙ c.in-Err-share_behind.ensures.given_back.device_is in
+    let same = c.into_device.ensures ∙ c.in-Err-share_after.ensures.given_back.device_is in
     inr (
-      c.in-Err-share_behind.ensures.refused,
-      (c.in-Ok.imported.mounted, subst (λ d. IsImportSynced (disk c.args.device) (disk d) c.args.moment c.in-Ok.imported.mounted) (sym same) (c.in-Ok.ensures.synced keeps)),
+      c.in-Err-share_after.ensures.refused,
+      (c.in-Ok.imported.mounted, subst (λ d. IsImportSynced (disk c.args.device) (disk d) c.args.moment c.in-Ok.imported.mounted) (sym same) (c.in-Ok.ensures.written keeps).synced),
     )
 
 pub returns-in-Err-clause-still_left : goal.returns-in-Err-clause-still_left
@@ -51,11 +51,11 @@ returns-in-Err-clause-still_left g c = λ keeps past was.
 pub returns-clause-still_left : goal.returns-clause-still_left
 returns-clause-still_left g c = λ keeps.
     let disk = g.D.SectorDevice.disk in
-    let same = c.into_device.ensures ∙ c.in-Err-share_behind.ensures.given_back.device_is in
+    let same = c.into_device.ensures ∙ c.in-Err-share_after.ensures.given_back.device_is in
     subst (λ d. LeavesSame (disk c.args.device) (disk d)) (sym same)
     (λ past was. (import_left past (disk c.args.device) (disk c.in-Ok.imported.device) was (c.in-Ok.ensures.own keeps)).left)
 
 pub returns-clause-counted : goal.returns-clause-counted
 returns-clause-counted g c =
     let refused = g.D.SectorDevice.refused in
-    ap refused (c.into_device.ensures ∙ c.in-Err-share_behind.ensures.given_back.device_is) ∙ c.in-Ok.ensures.count ∙ ap (λ e. with_refusal e (refused c.args.device)) (sym c.in-Err-share_behind.ensures.refused)
+    ap refused (c.into_device.ensures ∙ c.in-Err-share_after.ensures.given_back.device_is) ∙ c.in-Ok.ensures.count ∙ ap (λ e. with_refusal e (refused c.args.device)) (sym c.in-Err-share_after.ensures.refused)

@@ -1,32 +1,23 @@
-use Rattle.std.proofs.Common.{◌∙◌, refl, sym}
-use Rattle.scripts.proofs.Kept.{import_kept, import_refused_kept, left_in, pool_found}
+use Rattle.std.proofs.Common.{subst, sym}
+use Rattle.scripts.specs.Kept.{FindsRun, KeepsOverImport}
+use Rattle.scripts.specs.Sessions.{Imports}
 use Rattle.scripts.proofs.session.Session.import.Goals as goal
 
 pub returns-in-Ok-clause-imports : goal.returns-in-Ok-clause-imports
-returns-in-Ok-clause-imports c =
-    rw (← c.in-Some.ensures.device, c.keep_pool.ensures.told, ← c.take_device.ensures.same_run.0)
-    (record {
-      device = c.in-Ok.imported.device;
-      mounted = c.in-Ok.imported.mounted;
-      imported = record { limit = (c.in-Ok.ensures.explained 0).exact.charges.limit; counted = c.in-Ok.ensures.count; synced = c.in-Ok.ensures.synced refl };
-      told_is = refl;
-      pool = c.keep_pool.ensures.pool;
-    })
+returns-in-Ok-clause-imports g c = (
+  c.in-Some.device,
+  c.in-Some.ensures.device,
+  (rw (← c.take_device.ensures.same_run.0) c.in-Ok.ensures.mounted, λ keep past run. c.in-Ok.ensures.begun keep past (c.in-Some.ensures.kept keep past run)),
+)
 
 pub returns-in-Err-clause-imports : goal.returns-in-Err-clause-imports
-returns-in-Err-clause-imports c =
+returns-in-Err-clause-imports g c =
+    let V = g.D.SectorDevice in
+    let G = g.P.MountedPool in
     let left = c.in-Err.ensures in
-    rw (← c.in-Some.ensures.device, c.give_back.ensures.refused, c.give_back.ensures.device, ← c.take_device.ensures.same_run.0)
-    (record { size = left.given_back; refused = left.refused; counted = left.counted; reason = left.reason refl; untouched = left.untouched; unchanged = left.unchanged refl; stopped = left.stopped refl })
-
-pub returns-in-Ok-clause-kept : goal.returns-in-Ok-clause-kept
-returns-in-Ok-clause-kept c = λ past kept.
-    let was = left_in c.args.self.now.place c.in-Some.device past (sym c.take_device.ensures.device ∙ c.in-Some.is) kept in
-    pool_found past c.args.dirty_max c.keep_pool.new.self.place c.in-Ok.imported.device c.in-Ok.imported.mounted c.keep_pool.ensures.pool c.keep_pool.ensures.begins
-    (λ pool imported begins. import_kept c.args.dirty_max past c.in-Some.device.disk c.in-Ok.imported.mounted c.in-Ok.imported.device pool was (c.in-Ok.ensures.own refl) (c.in-Ok.ensures.starts refl)
-    (c.in-Ok.ensures.explained 0).exact.charges.limit c.in-Ok.imported.sized imported begins)
-
-pub returns-in-Err-clause-kept : goal.returns-in-Err-clause-kept
-returns-in-Err-clause-kept c = λ past kept.
-    let was = left_in c.args.self.now.place c.in-Some.device past (sym c.take_device.ensures.device ∙ c.in-Some.is) kept in
-    rw c.give_back.ensures.device (import_refused_kept past c.in-Some.device.disk c.in-Err.device.disk was (c.in-Err.ensures.own refl))
+    let imports : Imports V G c.args.dirty_max c.args.self.now.moment c.in-Some.device c.give_back.result c.give_back.new.self = rw (c.give_back.ensures.device, ← c.take_device.ensures.same_run.0)
+    (record { error = c.in-Err.error; told_is = c.give_back.ensures.refused; still = left.still; left = left.refused }) in
+    let keeps : KeepsOverImport V G c.args.dirty_max c.args.self.now.place c.give_back.new.self = λ keep past run.
+    subst (λ place. FindsRun V G past c.args.dirty_max place) (sym c.give_back.ensures.device)
+    (g.met.P.MountedPool.carries past (V.disk c.in-Some.device) (V.disk c.in-Err.device) (left.still keep past) (c.in-Some.ensures.kept keep past run)) in
+    (c.in-Some.device, c.in-Some.ensures.device, (imports, keeps))

@@ -1,9 +1,7 @@
-use Rattle.std.proofs.Common.{◌≡◌, ◌+◌, Ok, Err, IsTrue, ◌∙◌, refl, arith}
+use Rattle.std.proofs.Common.{◌∙◌, Ok, Err, IsTrue, refl}
 use Rattle.std.proofs.lemmas.Result.{err_from_is_err_and}
 use Rattle.sync.specs.Calls.{MakesNextCall}
 use Rattle.sync.specs.CallOrder.{call_said}
-use Rattle.sync.specs.Runs.{call_count}
-use Rattle.sync.proofs.Blocks.{last_cleans}
 use Rattle.sync.proofs.KeptPhases.{kept_phases}
 use Rattle.sync.proofs.KeptWrites.{keeps_written}
 use Rattle.sync.proofs.Targets.{is_sound}
@@ -20,26 +18,20 @@ returns-in_err-make-clause-called g c =
 pub returns-in_err-make-clause-written : goal.returns-in_err-make-clause-written
 returns-in_err-make-clause-written g c = λ keeps.
     keeps_written c.args.self.now _ (call_said c.call.result) (g.D.SectorDevice.disk c.args.device.now) (g.D.SectorDevice.disk c.make.new.device) (Err c.in_err-make.field-0.0)
-    (is_sound c.args.self.now c.args.self.now.sized) refl refl c.call.ensures.next c.in_err-make.ensures.fits
+    (is_sound c.args.self.now c.args.self.now.sized) refl refl refl c.requires.left c.call.ensures.next c.in_err-make.ensures.fits
     (g.met.D.SectorDevice.sized keeps c.args.device.now ∙ c.requires.sized) (c.in_err-make.ensures.called keeps)
 
 pub returns-then-self-total-clause-written : goal.returns-then-self-total-clause-written
 returns-then-self-total-clause-written g c = λ keeps.
     keeps_written c.args.self.now _ (call_said c.call.result) (g.D.SectorDevice.disk c.args.device.now) (g.D.SectorDevice.disk c.make.new.device) (Ok tt)
-    (is_sound c.args.self.now c.args.self.now.sized) refl refl c.call.ensures.next c.in_ok-make.ensures.fits
+    (is_sound c.args.self.now c.args.self.now.sized) refl refl refl c.requires.left c.call.ensures.next c.in_ok-make.ensures.fits
     (g.met.D.SectorDevice.sized keeps c.args.device.now ∙ c.requires.sized) (c.in_ok-make.ensures.called keeps)
 
 pub returns-else-self-total-clause-written : goal.returns-else-self-total-clause-written
 returns-else-self-total-clause-written g c = λ keeps.
     keeps_written c.args.self.now _ (call_said c.call.result) (g.D.SectorDevice.disk c.args.device.now) (g.D.SectorDevice.disk c.make.new.device) (Ok tt)
-    (is_sound c.args.self.now c.args.self.now.sized) refl refl c.call.ensures.next c.in_ok-make.ensures.fits
+    (is_sound c.args.self.now c.args.self.now.sized) refl refl refl c.requires.left c.call.ensures.next c.in_ok-make.ensures.fits
     (g.met.D.SectorDevice.sized keeps c.args.device.now ∙ c.requires.sized) (c.in_ok-make.ensures.called keeps)
-
-pub returns-then-self-total-clause-finished : goal.returns-then-self-total-clause-finished
-returns-then-self-total-clause-finished g c = λ keeps last.
-    let run = c.args.self.now in
-    let count : run.done + 1 ≡ call_count run = omega (arith, c.if-self-total.true, c.total.ensures.count) in
-    last_cleans run (call_said c.call.result) (g.D.SectorDevice.disk c.args.device.now) (g.D.SectorDevice.disk c.make.new.device) count c.call.ensures.next (c.in_ok-make.ensures.called keeps)
 
 pub returns-in_err-make-clause-phases : goal.returns-in_err-make-clause-phases
 returns-in_err-make-clause-phases g c = λ keeps.

@@ -1,4 +1,5 @@
-use Rattle.std.proofs.Common.{◌≡◌, length, arith, inl, refl, rules, ◌∙◌}
+use Rattle.std.proofs.Common.{◌≡◌, length, ap, arith, inl, refl, rules, ◌∙◌}
+use Rattle.base.specs.tree.Syncs.{is_dirty}
 use Rattle.tree_plans.specs.Plans.{is_dirty_in}
 use Rattle.tree_plans.proofs.Once.{once_push}
 use Rattle.tree_plans.proofs.Order.{adds_begun, adds_push}
@@ -29,14 +30,14 @@ loop-index-preserved g c =
       geometry = c.in_ok-pointer.ensures.geometry ∙ c.loop-index.invariant.geometry;
       count = omega (arith, c.push_reserved.ensures.len, c.loop-index.invariant.count);
       room = omega (arith, c.push_reserved.ensures.capacity, c.loop-index.invariant.room);
-      same_objects = c.in_ok-pointer.ensures.same_objects ∙ c.loop-index.invariant.same_objects;
+      same_objects = c.in_ok-pointer.ensures.reads.0 ∙ c.loop-index.invariant.same_objects;
       goes = goes_twice c.loop-index.invariant.goes c.in_ok-pointer.ensures.planned.goes;
-      planned = rw c.push_reserved.ensures.items (records_push _ _ c.args.changes.now c.args.old.now _ _ _ _ _ c.in_ok-pointer.ensures.planned.goes long c.record-was.ensures refl c.loop-index.invariant.planned (rw c.loop-index.invariant.same_objects at c.in_ok-pointer.ensures.planned.planned));
-      frees = frees_push _ _ _ c.args.changes.now c.args.old.now _ _ _ c.record-was.ensures refl c.loop-index.invariant.frees c.in_ok-pointer.ensures.planned.frees;
-      once = λ apart. once_push _ _ _ c.args.changes.now c.args.old.now _ _ _ c.record-was.ensures refl c.loop-index-test.true apart c.loop-index.invariant.frees (c.loop-index.invariant.once apart) c.in_ok-pointer.ensures.planned.once;
-      counted = c.in_ok-pointer.ensures.counted ∙ c.loop-index.invariant.counted;
+      planned = rw c.push_reserved.ensures.items (records_push _ _ c.args.changes.now c.args.old.now _ _ _ _ _ c.in_ok-pointer.ensures.planned.goes long c.record-was.ensures c.state.ensures c.loop-index.invariant.planned (rw c.loop-index.invariant.same_objects at c.in_ok-pointer.ensures.planned.planned));
+      frees = frees_push _ _ _ c.args.changes.now c.args.old.now _ _ _ c.record-was.ensures c.state.ensures c.loop-index.invariant.frees c.in_ok-pointer.ensures.planned.frees;
+      once = λ apart. once_push _ _ _ c.args.changes.now c.args.old.now _ _ _ c.record-was.ensures c.state.ensures c.loop-index-test.true apart c.loop-index.invariant.frees (c.loop-index.invariant.once apart) c.in_ok-pointer.ensures.planned.once;
+      counted = c.in_ok-pointer.ensures.reads.1.1 ∙ c.loop-index.invariant.counted;
       uses = rw c.push_reserved.ensures.items (pointers_use_push _ _ _ _ _ _ long c.loop-index.invariant.uses c.in_ok-pointer.ensures.planned.uses);
-      adds = rw c.push_reserved.ensures.items (adds_push (is_dirty_in c.args.changes.now) _ _ _ _ _ _ _ long refl c.loop-index.invariant.adds c.in_ok-pointer.ensures.planned.adds);
+      adds = rw c.push_reserved.ensures.items (adds_push (is_dirty_in c.args.changes.now) _ _ _ _ _ _ _ long (ap is_dirty c.state.ensures) c.loop-index.invariant.adds c.in_ok-pointer.ensures.planned.adds);
     }
 
 pub returns-clause-planned : goal.returns-clause-planned
@@ -53,5 +54,5 @@ returns-clause-planned g c =
 
 pub returns-in_err-pointer-clause-full : goal.returns-in_err-pointer-clause-full
 returns-in_err-pointer-clause-full g c =
-    handed_on c.from_residual-in_err-pointer.result _ _ c.from_residual-in_err-pointer.ensures.1 (λ no_space. lacks_at _ _ _ (is_dirty_in c.args.changes.now) _ c.loop-index.index 84 _ c.loop-index-test.true refl
+    handed_on c.from_residual-in_err-pointer.result _ _ c.from_residual-in_err-pointer.ensures.1 (λ no_space. lacks_at _ _ _ (is_dirty_in c.args.changes.now) _ c.loop-index.index 84 _ c.loop-index-test.true (ap is_dirty c.state.ensures)
     c.loop-index.invariant.goes c.loop-index.invariant.adds (c.in_err-pointer.ensures.full no_space))

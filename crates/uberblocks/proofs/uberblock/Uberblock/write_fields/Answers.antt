@@ -8,7 +8,7 @@ use Rattle.uberblocks.proofs.SlotParts.{length-pointer_bytes}
 use Rattle.uberblocks.proofs.SlotWrites.{put_next, length-two}
 use Rattle.uberblocks.proofs.uberblock.Uberblock.write_fields.Goals as goal
 
--- nine fields, one behind the other
+-- nine fields, one after the other
 nine : (a b c d e f g h i bytes b1 b2 b3 b4 b5 b6 b7 b8 b9 : List ℕ)
     → length a ≡ 8 → length b ≡ 8 → length c ≡ 8 → length d ≡ 8 → length e ≡ 8 → length f ≡ 48 → length g ≡ 8 → length h ≡ 8 → length i ≡ 8 → length bytes ≡ 1024
     → b1 ≡ put 0 a bytes → b2 ≡ put 8 b b1 → b3 ≡ put 16 c b2 → b4 ≡ put 24 d b3 → b5 ≡ put 32 e b4 → b6 ≡ put 40 f b5 → b7 ≡ put 88 g b6 → b8 ≡ put 96 h b7 → b9 ≡ put 104 i b8

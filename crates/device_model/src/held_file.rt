@@ -1,0 +1,174 @@
+//! The lock of a device's file, and how a file is opened for a device.
+//!
+//! 1. A device that writes holds its file's exclusive lock, and one that only reads a shared one, as long as it
+//!    lives: so a pool in a file has one owner at a time (SQLite locks its database file so).
+//! 2. The lock is taken before the file is sized or read, and without waiting.
+//! 3. Only a regular file is opened. Opening a pipe could wait for its other end, and a terminal has no sectors.
+//!
+//! The lock is advisory (`flock`): a process that opens the file without taking it isn't kept out.
+
+ghost use Rattle.std.specs.Prelude.{◌≡◌, IfOk, IsOk, OnOk};
+ghost use Rattle.device_model.specs.FileState.{none_refused};
+
+use crate::file::FileDevice;
+use crate::sector_file::SectorFile;
+use std::fs::{File, OpenFile, OpenOptions, TryLockError};
+use std::io;
+use std::rt::Files;
+use thiserror::Error;
+
+/// What a device does with its file, and so which lock of it the device holds.
+#[derive(Clone, Copy, Debug, PartialEq, Eq)]
+pub enum Access {
+    /// It reads alone, and holds a shared lock. Other devices may read the file at the same time.
+    Read,
+    /// It reads and writes, and holds the exclusive lock. No other device may hold the file.
+    Write,
+}
+
+/// Why a file can't be the file of a device.
+#[derive(Debug, Drop, Error)]
+pub enum FileRefusal {
+    /// The system refused to open, to lock or to size the file.
+    #[error("the file can't be used: {0}")]
+    System(#[from] io::Error),
+    /// The file is a directory, a pipe or another kind of file that is no regular one.
+    #[error("the file is no regular file")]
+    NotRegular,
+    /// Another device holds the file, in this process or in another one.
+    #[error("the file is in use by another device")]
+    InUse,
+}
+
+/// A file whose lock a device can hold until the file is closed.
+pub trait HeldFile {
+    ghost use Rattle.device_model.specs.declared.held_file.Access.{Access};
+
+    /// Whether the file's lock is held for this access. Of a system's file nothing is claimed.
+    ghost is_held: { Self → Access → Type 0 };
+
+    /// Takes the lock of the whole file, without waiting for it. It is released when the file is closed.
+    ///
+    /// # Errors
+    /// `InUse` if another open of the file holds a lock that excludes this one; `System` if the file can't be locked.
+    fn try_hold(&self, access: Access) -> Result<(), FileRefusal>
+        ensures { OnOk result (is_held self.now access) };
+}
+
+impl HeldFile for File {
+    ghost is_held = { λ _ _. Unit };
+
+    fn try_hold(&self, access: Access) -> Result<(), FileRefusal> {
+        let taken = match access {
+            Access::Read => self.try_lock_shared(),
+            Access::Write => self.try_lock(),
+        };
+        match taken {
+            Ok(()) => Ok(()),
+            Err(TryLockError::WouldBlock) => Err(FileRefusal::InUse),
+            Err(TryLockError::Error(error)) => Err(FileRefusal::System(error)),
+        }
+    }
+}
+
+impl<F: SectorFile + HeldFile + OpenFile + Drop> FileDevice<F> {
+    /// A device on the file at a path, to read and to write. It holds the file's exclusive lock until it is dropped.
+    ///
+    /// # Errors
+    /// `NotRegular` if the file is no regular file, `System` if it can't be opened to read and to write, `InUse` if
+    /// another device holds it.
+    pub fn open<R: Files<File = F>>(files: &R, path: &str) -> Result<Self, FileRefusal>
+        ensures { IfOk result (λ device. device.refused ≡ none_refused) }
+    {
+        let mut how = File::options();
+        how.read(true).write(true);
+        let file = open_regular(files, &how, path)?;
+        FileDevice::hold(file, Access::Write)
+    }
+
+    /// A device on the file at a path, to read alone. It holds a shared lock of the file until it is dropped, and
+    /// refuses each write.
+    ///
+    /// # Errors
+    /// `NotRegular` if the file is no regular file, `System` if it can't be opened to read, `InUse` if a device that
+    /// writes holds it.
+    pub fn open_to_read<R: Files<File = F>>(files: &R, path: &str) -> Result<Self, FileRefusal>
+        ensures { IfOk result (λ device. device.refused ≡ none_refused) }
+    {
+        let mut how = File::options();
+        how.read(true);
+        let file = open_regular(files, &how, path)?;
+        FileDevice::hold(file, Access::Read)
+    }
+
+    /// A device on a file of `size` bytes. If there is no file at the path, it is made; a file that is there is cut or
+    /// lengthened by zeros, once its lock is held. The device holds the exclusive lock until it is dropped.
+    ///
+    /// # Errors
+    /// `NotRegular` if the file is no regular file, `System` if it can't be opened, made or sized, `InUse` if another
+    /// device holds it. A file that is refused so keeps its size, unless sizing it failed.
+    pub fn create<R: Files<File = F>>(files: &R, path: &str, size: u64) -> Result<Self, FileRefusal>
+        ensures { IfOk result (λ device. device.refused ≡ none_refused) }
+    {
+        let mut how = File::options();
+        how.read(true).write(true).create(true);
+        let file = open_regular(files, &how, path)?;
+        FileDevice::hold_sized(file, size)
+    }
+
+    /// A device on a new file of `size` bytes, as [`FileDevice::create`] makes it.
+    ///
+    /// # Errors
+    /// Those of `create`; and `System`, if there is a file at the path already.
+    pub fn create_new<R: Files<File = F>>(
+        files: &R,
+        path: &str,
+        size: u64,
+    ) -> Result<Self, FileRefusal>
+        ensures { IfOk result (λ device. device.refused ≡ none_refused) }
+    {
+        let mut how = File::options();
+        how.read(true).write(true).create_new(true);
+        let file = open_regular(files, &how, path)?;
+        FileDevice::hold_sized(file, size)
+    }
+
+    /// A device on a file that is open for this access. It takes the file's lock, and holds it until it is dropped.
+    ///
+    /// # Errors
+    /// `InUse` if another open of the file holds a lock that excludes this one; `System` if the file can't be locked;
+    /// `NotRegular` if it is no regular file, or doesn't return its length.
+    pub fn hold(file: F, access: Access) -> Result<Self, FileRefusal>
+        ensures held { IsOk result → F.is_held file access }
+        ensures none_refused { IfOk result (λ device. device.refused ≡ none_refused) }
+        ensures disk { IfOk result (λ device. device.disk ≡ F.disk file) }
+    {
+        file.try_hold(access)?;
+        FileDevice::new(file).map_err(|_| FileRefusal::NotRegular)
+    }
+
+    // Holds a file that is open for writing, and then gives it its size.
+    fn hold_sized(file: F, size: u64) -> Result<Self, FileRefusal>
+        ensures held { IsOk result → F.is_held file Access.Write }
+        ensures none_refused { IfOk result (λ device. device.refused ≡ none_refused) }
+    {
+        file.try_hold(Access::Write)?;
+        file.set_len(size)?;
+        FileDevice::new(file).map_err(|_| FileRefusal::NotRegular)
+    }
+}
+
+// Opens a file of which it is known before that it is regular, or is not there yet.
+fn open_regular<R: Files>(
+    files: &R,
+    how: &OpenOptions,
+    path: &str,
+) -> Result<R::File, FileRefusal> {
+    if let Ok(metadata) = files.metadata(path) {
+        if !metadata.is_file() {
+            return Err(FileRefusal::NotRegular);
+        }
+    }
+    let file = how.open(files, path)?;
+    Ok(file)
+}

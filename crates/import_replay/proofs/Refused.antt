@@ -1,0 +1,179 @@
+-- What each stop of an import says of the image, and leaves of the device.
+use Rattle.std.proofs.Common.{◌≡◌, ◌⊎◌, inl, inr, ℕ, ◌≢◌, Bool, List, Ok, IsTrue, refl, sym, ◌∙◌, subst}
+use Rattle.base.specs.declared.error.PoolError.{PoolError}
+use Rattle.base.specs.declared.error.PoolError.TheVariants.{BadGeometry, BadRange, Damaged, Flush, NoMemory, NoPool, NoSpace, Read, TooMany, Write}
+use Rattle.base.specs.disk.Calls.{Flushes}
+use Rattle.base.specs.disk.Disk.{Disk, bytes_of}
+use Rattle.base.specs.formats.Geometry.{IsGeometry, block_count}
+use Rattle.base.specs.formats.Uberblocks.{Uberblock}
+use Rattle.device_model.specs.declared.device.SectorDevice.{Ghosts}
+use Rattle.object_maps.specs.Pointers.{pointers_of}
+use Rattle.object_maps.specs.declared.tree.Tree.{Tree}
+use Rattle.import_replay.specs.FreeBlocks.{AreAllNamed}
+use Rattle.import_replay.specs.ImportRefusals.{CanImport, HasLastNumbers, HasNoFreeBlock, IsImportRefusal, IsInspectionRefusal, IsMountRefusal, IsOpenRefusal, IsReadingRefusal, IsReason, IsSyncRefusal, IsWalkRefusal}
+use Rattle.import_replay.specs.ImportStops.{IsImportStopped, IsOpenStopped}
+use Rattle.import_replay.specs.Refused.{IsImportRefused, IsInspectionRefused, IsMountRefused, IsOpenRefused}
+use Rattle.import_replay.proofs.OwnRefusals.{finds_own}
+use Rattle.import_replay.proofs.ReadPools.{flushed}
+use Rattle.import_replay.proofs.Reasons.{not_both, reason-many, reason-open}
+
+-- the labels of an import
+module _ (keeps : Bool) (size : ℕ) (u : Uberblock) (name : List ℕ) (tree : Tree) (moment : ℕ) (even_first : Bool) (old new : Disk) (e : PoolError) where
+  abbrev Refused : Type 0
+  Refused = IsOpenRefused keeps size u name tree moment even_first old new e
+
+  -- there was no memory for the free set
+  pub open_lacks_memory : e ≡ NoMemory → new ≡ old → Refused
+  open_lacks_memory is same = record {
+    kind = inl is;
+    full = λ full. let no : NoMemory ≡ NoSpace = sym is ∙ full in cc;
+    unchanged = λ keep reading. same;
+    stopped = λ keep sync. absurd (not_both e (subst IsReadingRefusal (sym is) tt) sync);
+  }
+
+  -- no block was free for the log
+  pub open_lacks_block : e ≡ NoSpace → AreAllNamed (pointers_of tree) (block_count size) → new ≡ old → Refused
+  open_lacks_block is named same = record {
+    kind = inr (inl is);
+    full = λ full. named;
+    unchanged = λ keep reading. same;
+    stopped = λ keep sync. absurd (not_both e (subst IsReadingRefusal (sym is) tt) sync);
+  }
+
+  not_full : IsSyncRefusal e → e ≡ NoSpace → ⊥
+  not_full (inl is) full = let no : Write ≡ NoSpace = sym is ∙ full in cc
+  not_full (inr is) full = let no : Flush ≡ NoSpace = sym is ∙ full in cc
+
+  -- the device refused a write or a flush
+  pub open_stopped : IsSyncRefusal e → (IsTrue keeps → IsOpenStopped size u name tree moment even_first e old new) → Refused
+  open_stopped sync stop = record {
+    kind = inr (inr sync);
+    full = λ full. absurd (not_full sync full);
+    unchanged = λ keep reading. absurd (not_both e reading sync);
+    stopped = λ keep again. stop keep;
+  }
+
+-- an import that had begun
+module _ (keeps : Bool) (moment : ℕ) (old mid new : Disk) (e : PoolError) where
+  -- the first flush was refused
+  pub flush_refused : e ≡ Flush → (IsTrue keeps → new ≡ old) → IsMountRefused keeps moment old new e
+  flush_refused is same = record {
+    kind = subst IsMountRefusal (sym is) tt;
+    reason = λ keep. reason-open (bytes_of old.now) e (inr (inr (inr is))) (λ full. let no : Flush ≡ NoSpace = sym is ∙ full in cc);
+    unchanged = λ keep reading. absurd (not_both e reading (inr is));
+    stopped = λ keep sync. inl (is, same keep);
+  }
+
+  of_walk : (x : PoolError) → IsWalkRefusal x → IsMountRefusal x × IsReadingRefusal x
+  of_walk NoMemory walk = (tt, tt)
+  of_walk Read walk = (tt, tt)
+  of_walk NoPool walk = (tt, tt)
+  of_walk (Damaged kind address) walk = (tt, tt)
+  of_walk _ walk = absurd walk
+
+  module _ (flushes : IsTrue keeps → Flushes old (Ok tt) mid) where
+    -- after it nothing was written
+    unwritten : IsMountRefusal e → IsReadingRefusal e → (IsTrue keeps → IsReason (bytes_of old.now) e) → (IsTrue keeps → new ≡ mid) → IsMountRefused keeps moment old new e
+    unwritten kind reading reason same = record {
+      kind = kind;
+      reason = reason;
+      unchanged = λ keep again. same keep ∙ flushes keep;
+      stopped = λ keep sync. absurd (not_both e reading sync);
+    }
+
+    -- the labels or the tree were refused
+    pub reading_refused : IsWalkRefusal e → (IsTrue keeps → IsReason (bytes_of mid.now) e) → (IsTrue keeps → new ≡ mid) → IsMountRefused keeps moment old new e
+    reading_refused walk reason same =
+        let kinds = of_walk e walk in
+        unwritten kinds.0 kinds.1 (λ keep. subst (λ (image : List ℕ). IsReason image e) (flushed old mid (flushes keep)) (reason keep)) same
+
+    -- the numbers would pass the last one
+    pub numbers_refused : e ≡ TooMany → (IsTrue keeps → HasLastNumbers (bytes_of old.now)) → (IsTrue keeps → new ≡ mid) → IsMountRefused keeps moment old new e
+    numbers_refused is last same =
+        unwritten (subst IsMountRefusal (sym is) tt) (subst IsReadingRefusal (sym is) tt)
+        (λ keep. subst (λ (x : PoolError). IsReason (bytes_of old.now) x) (sym is) (reason-many (bytes_of old.now) (last keep))) same
+
+    of_open : (x : PoolError) → IsOpenRefusal x → IsMountRefusal x
+    of_open x (inl is) = subst IsMountRefusal (sym is) tt
+    of_open x (inr (inl is)) = subst IsMountRefusal (sym is) tt
+    of_open x (inr (inr (inl is))) = subst IsMountRefusal (sym is) tt
+    of_open x (inr (inr (inr is))) = subst IsMountRefusal (sym is) tt
+
+    -- the labels were not written
+    pub open_refused : (before : Disk) (size : ℕ) (u : Uberblock) (name : List ℕ) (tree : Tree) (even_first : Bool) → IsOpenRefused keeps size u name tree moment even_first before new e
+        → (IsTrue keeps → before ≡ mid) → (IsTrue keeps → AreAllNamed (pointers_of tree) (block_count size) → HasNoFreeBlock (bytes_of old.now))
+        → (IsTrue keeps → IsOpenStopped size u name tree moment even_first e before new → IsImportStopped old new moment e) → IsMountRefused keeps moment old new e
+    open_refused before size u name tree even_first refused same all stops = record {
+      kind = of_open e refused.kind;
+      reason = λ keep. reason-open (bytes_of old.now) e refused.kind (λ is. all keep (refused.full is));
+      unchanged = λ keep reading. refused.unchanged keep reading ∙ same keep ∙ flushes keep;
+      stopped = λ keep sync. stops keep (refused.stopped keep sync);
+    }
+
+-- an import and an inspection, on any device
+module _ {Dev : Type 0} (D : Ghosts Dev) where
+  -- the kinds of an import that had begun are none by size or limit
+  of_mount : (size dirty_max : ℕ) (e : PoolError) → CanImport size dirty_max → IsMountRefusal e → IsImportRefusal size dirty_max e
+  of_mount size dirty_max BadGeometry can kind = absurd kind
+  of_mount size dirty_max BadRange can kind = absurd kind
+  of_mount size dirty_max _ can kind = (can, kind)
+
+  begun : (e : PoolError) → IsMountRefusal e → (e ≡ BadGeometry) ⊎ (e ≡ BadRange) → ⊥
+  begun e kind (inl is) = subst IsMountRefusal is kind
+  begun e kind (inr is) = subst IsMountRefusal is kind
+
+  pub mount_refused : (dirty_max moment : ℕ) (old new : Dev) (e : PoolError) → CanImport (D.size old) dirty_max → IsMountRefused D.keeps_model moment (D.disk old) (D.disk new) e → IsImportRefused D dirty_max moment old new e
+  mount_refused dirty_max moment old new e can refused =
+      record {
+        kind = of_mount (D.size old) dirty_max e can refused.kind;
+        reason = refused.reason;
+        found = λ keep. finds_own (D.disk old) e (refused.reason keep);
+        untouched = λ bad. absurd (begun e refused.kind bad);
+        unchanged = refused.unchanged;
+        stopped = refused.stopped;
+      }
+
+  -- by size or limit
+  no_reason : (image : List ℕ) (e : PoolError) → (e ≡ BadGeometry) ⊎ (e ≡ BadRange) → IsReason image e
+  no_reason image e (inl is) = record { no_pool = λ f. let no : BadGeometry ≡ NoPool = sym is ∙ f in cc; damaged = λ k a f. let no : BadGeometry ≡ Damaged k a = sym is ∙ f in cc; too_many = λ f. let no : BadGeometry ≡ TooMany = sym is ∙ f in cc; no_space = λ f. let no : BadGeometry ≡ NoSpace = sym is ∙ f in cc }
+  no_reason image e (inr is) = record { no_pool = λ f. let no : BadRange ≡ NoPool = sym is ∙ f in cc; damaged = λ k a f. let no : BadRange ≡ Damaged k a = sym is ∙ f in cc; too_many = λ f. let no : BadRange ≡ TooMany = sym is ∙ f in cc; no_space = λ f. let no : BadRange ≡ NoSpace = sym is ∙ f in cc }
+
+  not_begun : (e : PoolError) → (e ≡ BadGeometry) ⊎ (e ≡ BadRange) → (IsReadingRefusal e → ⊥) × (IsSyncRefusal e → ⊥)
+  not_begun e (inl is) = (λ reading. subst IsReadingRefusal is reading, λ sync. elim sync [ | inl of_write ↦ let no : BadGeometry ≡ Write = sym is ∙ of_write in cc | inr of_flush ↦ let no : BadGeometry ≡ Flush = sym is ∙ of_flush in cc ])
+  not_begun e (inr is) = (λ reading. subst IsReadingRefusal is reading, λ sync. elim sync [ | inl of_write ↦ let no : BadRange ≡ Write = sym is ∙ of_write in cc | inr of_flush ↦ let no : BadRange ≡ Flush = sym is ∙ of_flush in cc ])
+
+  pub bounds_refused : (dirty_max moment : ℕ) (old : Dev) (e : PoolError) → (e ≡ BadGeometry) ⊎ (e ≡ BadRange) → IsImportRefusal (D.size old) dirty_max e → IsImportRefused D dirty_max moment old old e
+  bounds_refused dirty_max moment old e bad kind = record {
+    kind = kind;
+    reason = λ keep. no_reason (bytes_of (D.disk old).now) e bad;
+    found = λ keep. finds_own (D.disk old) e (no_reason (bytes_of (D.disk old).now) e bad);
+    untouched = λ again. refl;
+    unchanged = λ keep reading. absurd ((not_begun e bad).0 reading);
+    stopped = λ keep sync. absurd ((not_begun e bad).1 sync);
+  }
+
+  -- an inspection, by size, for what it reads, or for memory
+  pub size_refused : (old : Dev) (e : PoolError) → e ≡ BadGeometry → (IsGeometry (D.size old) → ⊥) → IsInspectionRefused D old old e
+  size_refused old e is not_sized = record {
+    kind = subst (IsInspectionRefusal (D.size old)) (sym is) not_sized;
+    reason = λ keep. no_reason (bytes_of (D.disk old).now) e (inl is);
+    found = λ keep. finds_own (D.disk old) e (no_reason (bytes_of (D.disk old).now) e (inl is));
+    untouched = λ again. refl;
+  }
+
+  of_inspection : (size : ℕ) (e : PoolError) → IsGeometry size → IsWalkRefusal e → IsInspectionRefusal size e × (e ≢ BadGeometry)
+  of_inspection size NoMemory sized walk = ((sized, tt), λ is. let no : NoMemory ≡ BadGeometry = is in cc)
+  of_inspection size Read sized walk = ((sized, tt), λ is. let no : Read ≡ BadGeometry = is in cc)
+  of_inspection size NoPool sized walk = ((sized, tt), λ is. let no : NoPool ≡ BadGeometry = is in cc)
+  of_inspection size (Damaged kind address) sized walk = ((sized, tt), λ is. let no : Damaged kind address ≡ BadGeometry = is in cc)
+  of_inspection size _ sized walk = absurd walk
+
+  pub walk_refused : (old new : Dev) (e : PoolError) → IsGeometry (D.size old) → IsWalkRefusal e → (IsTrue D.keeps_model → IsReason (bytes_of (D.disk old).now) e) → IsInspectionRefused D old new e
+  walk_refused old new e sized walk reason =
+      let kinds = of_inspection (D.size old) e sized walk in
+      record { kind = kinds.0; reason = reason; found = λ keep. finds_own (D.disk old) e (reason keep); untouched = λ bad. absurd (kinds.1 bad) }
+
+  pub memory_refused : (old new : Dev) (e : PoolError) → IsGeometry (D.size old) → e ≡ NoMemory → IsInspectionRefused D old new e
+  memory_refused old new e sized is =
+      walk_refused old new e sized (subst IsWalkRefusal (sym is) tt)
+      (λ keep. reason-open (bytes_of (D.disk old).now) e (inl is) (λ full. let no : NoMemory ≡ NoSpace = sym is ∙ full in cc))

@@ -1,0 +1,239 @@
+//! The import of a pool: what its image mounts, and a sync that makes the image the run's own.
+//!
+//! OpenZFS opens a pool in the same order (`spa_load` in `spa.c`); the labels are those of the On-Disk Specification,
+//! chapter 1. If the active uberblock has group u and import number i, an import does this:
+//!
+//! 1. It refuses a size that no pool has and a limit that isn't allowed. No device call is made before that.
+//! 2. It flushes the device. What an earlier run wrote and left unflushed is then settled, so a crash leaves what is
+//!    read.
+//! 3. It reads the labels: the active uberblock, and the config that is chosen for it, which has the pool's name.
+//! 4. It reads the tree, each block checked against its pointer. The first block that fails is reported as `Damaged`.
+//! 5. It refuses u + 5 or i + 1 above 2^60. The lowest block that the tree doesn't name becomes the first log block. No
+//!    memory is taken after that.
+//! 6. It syncs group u + 4 with import number i + 1, the same root and the new config, and no block (`sync_labels`).
+//!    The run before may have written for the groups u + 1 to u + 3; the jump keeps the new group apart from them.
+//! 7. If label 1 or 3 holds the chosen config, labels 0 and 2 are written first, else labels 1 and 3. So a stage that
+//!    holds the chosen config is written last, when the new uberblock is settled (rules 2, 8 and 10 of
+//!    `sync/src/run.rt`).
+//!
+//! A crash before 6 leaves the flushed image. A crash in 6 leaves the old uberblock or the new one active. Both have
+//! the same tree and name, so the next import mounts the same contents. If the device refuses a call, the calls
+//! before it are made, and the import can be made again.
+
+ghost use Rattle.std.specs.Prelude.{◌≡◌, ◌+◌, ℕ, true, false, IfErr, IfOk, IsTrue, MatchResult};
+ghost use Rattle.base.specs.crash.CrashRule.{KeepsOwn};
+ghost use Rattle.base.specs.crash.Imports as numbers;
+ghost use Rattle.base.specs.crash.Imports.{is_dirty_max_allowed};
+ghost use Rattle.base.specs.disk.Calls.{counted, with_refusal};
+ghost use Rattle.base.specs.disk.Disk.{bytes_of};
+ghost use Rattle.base.specs.formats.Geometry.{IsGeometry, block_count};
+ghost use Rattle.base.specs.tree.PlacedTrees.{ArePlaced};
+ghost use Rattle.uberblocks.specs.Slots.{IsWithinLimits, fields_of};
+ghost use Rattle.object_maps.specs.Pointers.{pointers_of};
+ghost use Rattle.import_replay.specs.ImportSyncs.{IsImportWritten, config_of_import, uberblock_of_import};
+ghost use Rattle.import_replay.specs.ImportViews.{EndsFound, KeepsFound};
+ghost use Rattle.import_replay.specs.LabelSyncs.{AreLabelsSynced, is_even};
+ghost use Rattle.import_replay.specs.Mounts.{IsImport, IsMountedAnew, IsMountedFrom};
+ghost use Rattle.import_replay.specs.Refused.{IsImportRefused, IsMountRefused, IsOpenRefused};
+ghost use Rattle.import_replay.specs.RunStarts.{StartsRun};
+
+use crate::finding::{Found, copy_name};
+use crate::free_blocks::free_set;
+use crate::imported::Imported;
+use crate::label_sync::sync_labels;
+use crate::mounted::Mounted;
+use crate::reading::read_pool;
+use base::{GREATEST_DIRTY_MAX, Group, LAST_NUMBER, LEAST_DIRTY_MAX, PoolError, WRITTEN_VERSION};
+use device_model::SectorDevice;
+use labels::{Geometry, LabelConfig};
+use object_maps::{Contents, Loaded};
+use std::alloc::Global;
+use uberblocks::Uberblock;
+
+/// Imports the pool on a device. At most `dirty_max` bytes may be dirty then, and `moment`, in seconds, is stored in
+/// the uberblocks.
+///
+/// It flushes the device and loads the tree of the active uberblock, of group u and import number i. Then it syncs
+/// group u + 4 with import number i + 1 and both label stages (On-Disk Specification, chapter 1). Group u + 5 is then
+/// open. All memory is taken before the first write.
+///
+/// If the pool alone wrote the disk, a crash at any moment after the first good flush leaves the same contents,
+/// unless a torn block passes its check by chance (clause `own` with the law `steady_imports_mount` of `base`).
+///
+/// # Errors
+/// In this order:
+/// - `BadGeometry`, and `BadRange` if the limit is not 4,096 to 2^40 bytes. The device is as it was.
+/// - `NoPool`; `Damaged` with the first fault of the tree; `TooMany` if u + 5 or i + 1 would pass 2^60; `NoSpace` if no
+///   block is free for the log. `NoMemory` and `Read` when they happen. The device is flushed and else as it was.
+/// - `Write` and `Flush`, if the device refused such a call. The calls before it are made.
+pub fn import<D: SectorDevice>(
+    alloc: Global,
+    mut device: D,
+    dirty_max: u64,
+    moment: u64,
+) -> Result<Imported<D>, (PoolError, D)>
+    // If the active uberblock has no log chain, it is the pool of that. The device holds its tree; all blocks stay.
+    ensures imported { IsTrue D.keeps_model
+        → IfOk result (λ i. IsImport (bytes_of (D.disk device).now) (bytes_of (D.disk i.device).now)
+        dirty_max i.mounted) }
+    // It makes just its calls, in their order. Then each label has its config and its uberblock, this is the active
+    // one, and nothing is unflushed.
+    ensures written { IsTrue D.keeps_model
+        → IfOk result (λ i. IsImportWritten (D.disk device) (D.disk i.device) moment i.mounted) }
+
+    // If its pool alone wrote the disk, or a run of it gave the disk up, it is the pool's own from the first good
+    // flush on, also if the import is refused or a crash stops it: each moment mounts what the disk mounted then. A
+    // run starts from just that.
+    ensures own { IsTrue D.keeps_model → MatchResult result
+        (λ i. KeepsOwn (D.disk device) (D.disk i.device))
+        (λ e. KeepsOwn (D.disk device) (D.disk e.1)) }
+    ensures starts { IsTrue D.keeps_model
+        → IfOk result (λ i. StartsRun (D.disk device) dirty_max (D.disk i.device) i.mounted) }
+
+    // On each device: what is shown is exact, the size stays, and each call that the device refused is reported.
+    ensures mounted { IfOk result (λ i. IsMountedAnew (D.size device) dirty_max i.mounted) }
+    ensures size { MatchResult result
+        (λ i. D.size i.device ≡ D.size device) (λ e. D.size e.1 ≡ D.size device) }
+    ensures count { MatchResult result (λ i. D.refused i.device ≡ D.refused device)
+        (λ e. D.refused e.1 ≡ with_refusal e.0 (D.refused device)) }
+    ensures refused { IfErr result
+        (λ e. IsImportRefused D.SectorDevice dirty_max moment device e.1 e.0) }
+{
+    match mount(alloc, &mut device, dirty_max, moment) {
+        Ok(mounted) => Ok(Imported { device, mounted }),
+        Err(error) => Err((error, device)),
+    }
+}
+
+fn mount<D: SectorDevice>(
+    alloc: Global,
+    device: &mut D,
+    dirty_max: u64,
+    moment: u64,
+) -> Result<Mounted, PoolError>
+    ensures size { D.size device.new ≡ D.size device.old }
+    ensures count { D.refused device.new ≡ counted result (D.refused device.old) }
+    ensures mounted { IfOk result (IsMountedAnew (D.size device.old) dirty_max) }
+    ensures refused { IfErr result
+        (IsImportRefused D.SectorDevice dirty_max moment device.old device.new) }
+    ensures imported { IsTrue D.keeps_model → IfOk result
+        (IsImport (bytes_of (D.disk device.old).now) (bytes_of (D.disk device.new).now) dirty_max) }
+    ensures written { IsTrue D.keeps_model
+        → IfOk result (IsImportWritten (D.disk device.old) (D.disk device.new) moment) }
+    ensures own { IsTrue D.keeps_model → KeepsOwn (D.disk device.old) (D.disk device.new) }
+    ensures starts { IsTrue D.keeps_model
+        → IfOk result (StartsRun (D.disk device.old) dirty_max (D.disk device.new)) }
+{
+    let geometry = Geometry::of(device.sectors())?;
+    if dirty_max < LEAST_DIRTY_MAX || GREATEST_DIRTY_MAX < dirty_max {
+        return Err(PoolError::BadRange);
+    }
+    mount_pool(alloc, device, geometry, dirty_max, moment)
+}
+
+// The import, once size and limit are within bounds.
+fn mount_pool<D: SectorDevice>(
+    alloc: Global,
+    device: &mut D,
+    geometry: Geometry,
+    dirty_max: u64,
+    moment: u64,
+) -> Result<Mounted, PoolError>
+    requires sized { D.size device.old ≡ geometry }
+    requires geometry { IsGeometry geometry }
+    requires limit { is_dirty_max_allowed dirty_max ≡ true }
+    ensures size { D.size device.new ≡ D.size device.old }
+    ensures count { D.refused device.new ≡ counted result (D.refused device.old) }
+    ensures mounted { IfOk result (IsMountedAnew geometry dirty_max) }
+    ensures refused { IfErr result
+        (IsMountRefused D.keeps_model moment (D.disk device.old) (D.disk device.new)) }
+    ensures imported { IsTrue D.keeps_model → IfOk result
+        (IsImport (bytes_of (D.disk device.old).now) (bytes_of (D.disk device.new).now) dirty_max) }
+    ensures written { IsTrue D.keeps_model
+        → IfOk result (IsImportWritten (D.disk device.old) (D.disk device.new) moment) }
+    ensures own { IsTrue D.keeps_model → KeepsOwn (D.disk device.old) (D.disk device.new) }
+    ensures starts { IsTrue D.keeps_model
+        → IfOk result (StartsRun (D.disk device.old) dirty_max (D.disk device.new)) }
+{
+    device.flush()?;
+    let (found, loaded) = read_pool(alloc, device, geometry)?;
+    if is_past_last(&found.uberblock) {
+        return Err(PoolError::TooMany);
+    }
+    open_pool(alloc, device, geometry, found, loaded, dirty_max, moment)
+}
+
+// Returns whether an import would pass the last number.
+fn is_past_last(uberblock: &Uberblock) -> bool
+    requires { IsWithinLimits (fields_of uberblock.now) }
+    ensures { result ≡ numbers.is_past_last uberblock.now.group.0 uberblock.now.import_number }
+{
+    uberblock.group.0 + 5 > LAST_NUMBER || uberblock.import_number + 1 > LAST_NUMBER
+}
+
+// Makes a loaded tree the run's own: takes a block for the log, and writes the labels.
+fn open_pool<D: SectorDevice>(
+    alloc: Global,
+    device: &mut D,
+    geometry: Geometry,
+    found: Found,
+    loaded: Loaded,
+    dirty_max: u64,
+    moment: u64,
+) -> Result<Mounted, PoolError>
+    requires sized { D.size device.old ≡ geometry }
+    requires geometry { IsGeometry geometry }
+    requires within { numbers.is_past_last found.uberblock.group.0 found.uberblock.import_number
+        ≡ false }
+    requires placed { ArePlaced (block_count geometry) (pointers_of loaded.tree) }
+    requires root { loaded.tree.root ≡ found.uberblock.root }
+    ensures size { D.size device.new ≡ D.size device.old }
+    ensures count { D.refused device.new ≡ counted result (D.refused device.old) }
+    ensures geometry { IfOk result (λ m. m.geometry ≡ geometry) }
+    ensures mounted { IfOk result (IsMountedFrom (fields_of found.uberblock) found.name
+        loaded.slots.items loaded.tree dirty_max) }
+    ensures refused { IfErr result (IsOpenRefused D.keeps_model geometry
+        (fields_of found.uberblock) found.name loaded.tree moment (is_even found.first)
+        (D.disk device.old) (D.disk device.new)) }
+    ensures written { IsTrue D.keeps_model → IfOk result (λ m. AreLabelsSynced geometry
+        (config_of_import m) (uberblock_of_import moment m) (is_even found.first)
+        (D.disk device.old) (D.disk device.new)) }
+    ensures views { IsTrue D.keeps_model
+        → KeepsFound geometry (fields_of found.uberblock) found.name found.first
+        (D.disk device.old) (D.disk device.new) }
+    ensures behind { IsTrue D.keeps_model
+        → IfOk result (λ m. EndsFound geometry (fields_of found.uberblock) found.name found.first
+        (config_of_import m) (uberblock_of_import moment m)
+        (D.disk device.old) (D.disk device.new)) }
+{
+    let mut free = free_set(alloc, geometry, &loaded.tree)?;
+    let log_block = free.take_lowest()?;
+    let next = Uberblock {
+        version: WRITTEN_VERSION,
+        group: Group(found.uberblock.group.0 + 4),
+        moment,
+        import_number: found.uberblock.import_number + 1,
+        log_address: geometry.block_address(log_block as u64),
+        log_number: 0,
+        ..found.uberblock
+    };
+    let config = LabelConfig::new(
+        next.guid,
+        next.group,
+        geometry.size(),
+        copy_name(&found.name),
+    );
+    sync_labels(alloc, device, geometry, &next, &config, found.first)?;
+    Ok(Mounted {
+        alloc,
+        geometry,
+        guid: next.guid,
+        group: next.group,
+        import_number: next.import_number,
+        contents: Contents::of(found.name, loaded.slots),
+        tree: loaded.tree,
+        free,
+        log_address: next.log_address,
+        dirty_max,
+    })
+}

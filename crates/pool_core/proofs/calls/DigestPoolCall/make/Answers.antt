@@ -1,0 +1,6 @@
+use Rattle.std.proofs.Common.{refl}
+use Rattle.pool_core.proofs.MadeSteps.{plain_read}
+use Rattle.pool_core.proofs.calls.DigestPoolCall.make.Goals as goal
+
+pub returns : goal.returns
+returns g c = plain_read (λ r x y h. h) refl (λ b. refl) (λ r d. d) c.digest.ensures.step c.digest.ensures.unchanged c.digest.ensures.no_call

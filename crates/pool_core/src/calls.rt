@@ -1,0 +1,342 @@
+//! Calls on a pool as values, each with an answer of its own type.
+//!
+//! A `PoolCall` makes one step, and says which one and what its answer is as a reply. So whoever makes steps for
+//! others, as a handle does under a lock, is written once for all calls. `Step` is a call too, for scripts and runs. A
+//! new step costs its call here, an arm of `Step`'s in `runs.rt`, and nothing above.
+
+ghost use Rattle.std.specs.Prelude.{ℕ};
+ghost use Rattle.base.specs.declared.step.Reply.{Reply};
+ghost use Rattle.base.specs.declared.step.Reply.TheVariants as reply;
+ghost use Rattle.base.specs.declared.step.Step.{Step};
+ghost use Rattle.base.specs.declared.step.Step.TheVariants as step;
+ghost use Rattle.base.specs.steps.Runs as runs;
+ghost use Rattle.base.specs.steps.Runs.{reply_of};
+ghost use Rattle.pool_core.specs.Turns.{MakesStep};
+ghost use Rattle.pool_tables.specs.Progresses.{plain_progress};
+
+use crate::state::PoolState;
+use base::{
+    Bytes, Group, LockId, Mode, ObjectId, Ops, Owner, Plan, PoolError, PoolName, Range, Receipt,
+    Status, TxId,
+};
+use device_model::SectorDevice;
+use pool_tables::Progress;
+
+/// A call on a pool: one step, with an answer of its own type.
+pub trait PoolCall<D: SectorDevice> {
+    /// What it returns if it is not refused.
+    type Answer: Drop;
+
+    /// The step that it makes.
+    ghost step: { Self → Step };
+
+    /// The reply of a step with this answer.
+    ghost reply: { Self.Answer → Reply };
+
+    /// Makes the step, with the refusals of the call of `PoolState` that it is named after.
+    fn make(self, state: &mut PoolState<D>) -> Result<Self::Answer, PoolError>
+        ensures { MakesStep (step self) (reply_of reply result) state.old state.new };
+
+    /// Whether a step with this answer released a lock, a transaction, or what a group was charged. Then a call of
+    /// another thread that was refused `Busy` or `Throttled` may pass. No clause rests on it.
+    fn releases(_answer: &Self::Answer) -> bool {
+        false
+    }
+}
+
+/// `PoolState::lock` as a value.
+#[derive(Clone, Copy, Debug, PartialEq, Eq)]
+pub struct Lock {
+    /// Who gets the lock.
+    pub owner: Owner,
+    /// The object, or the number after the last object, which stands for the pool's name.
+    pub object: ObjectId,
+    /// The bytes.
+    pub range: Range,
+    /// Whether readers may share it.
+    pub mode: Mode,
+}
+
+impl<D: SectorDevice> PoolCall<D> for Lock {
+    type Answer = LockId;
+
+    ghost step = { λ c. step.Lock c.owner c.object c.range c.mode };
+
+    ghost reply = { λ id. reply.Locked id };
+
+    fn make(self, state: &mut PoolState<D>) -> Result<LockId, PoolError> {
+        state.lock(self.owner, self.object, self.range, self.mode)
+    }
+}
+
+/// `PoolState::lock_append` as a value.
+#[derive(Clone, Copy, Debug, PartialEq, Eq)]
+pub struct LockAppend {
+    /// Who gets the lock.
+    pub owner: Owner,
+    /// The object.
+    pub object: ObjectId,
+}
+
+impl<D: SectorDevice> PoolCall<D> for LockAppend {
+    type Answer = (LockId, Range);
+
+    ghost step = { λ c. step.LockAppend c.owner c.object };
+
+    ghost reply = { λ a. reply.Appended a.0 a.1 };
+
+    fn make(self, state: &mut PoolState<D>) -> Result<(LockId, Range), PoolError> {
+        state.lock_append(self.owner, self.object)
+    }
+}
+
+/// `PoolState::unlock` as a value.
+#[derive(Clone, Copy, Debug, PartialEq, Eq)]
+pub struct Unlock {
+    /// Who has the lock.
+    pub owner: Owner,
+    /// The lock.
+    pub id: LockId,
+}
+
+impl<D: SectorDevice> PoolCall<D> for Unlock {
+    type Answer = ();
+
+    ghost step = { λ c. step.Unlock c.owner c.id };
+
+    ghost reply = { λ _. reply.Done };
+
+    fn make(self, state: &mut PoolState<D>) -> Result<(), PoolError> {
+        state.unlock(self.owner, self.id)
+    }
+
+    fn releases(_answer: &()) -> bool {
+        true
+    }
+}
+
+/// `PoolState::begin` as a value. The plan stays the caller's, so the call can be made again.
+#[derive(Clone, Copy, Debug)]
+pub struct Begin<'a> {
+    /// Who begins the transaction.
+    pub owner: Owner,
+    /// The shapes of its operations.
+    pub plan: &'a Plan,
+}
+
+impl<'a, D: SectorDevice> PoolCall<D> for Begin<'a> {
+    type Answer = (TxId, Group);
+
+    ghost step = { λ c. step.Begin c.owner c.plan.now };
+
+    ghost reply = { λ a. reply.Began a.0 a.1 };
+
+    fn make(self, state: &mut PoolState<D>) -> Result<(TxId, Group), PoolError> {
+        state.begin(self.owner, self.plan)
+    }
+}
+
+/// `PoolState::commit` as a value.
+#[derive(Debug, Drop, PartialEq, Eq)]
+pub struct Commit {
+    /// The transaction.
+    pub tx: TxId,
+    /// Its operations.
+    pub ops: Ops,
+}
+
+impl<D: SectorDevice> PoolCall<D> for Commit {
+    type Answer = Receipt;
+
+    ghost step = { λ c. step.Commit c.tx c.ops };
+
+    ghost reply = { λ r. reply.Committed r };
+
+    fn make(self, state: &mut PoolState<D>) -> Result<Receipt, PoolError> {
+        state.commit(self.tx, self.ops)
+    }
+}
+
+/// `PoolState::abort` as a value.
+#[derive(Clone, Copy, Debug, PartialEq, Eq)]
+pub struct Abort {
+    /// The transaction.
+    pub tx: TxId,
+}
+
+impl<D: SectorDevice> PoolCall<D> for Abort {
+    type Answer = ();
+
+    ghost step = { λ c. step.Abort c.tx };
+
+    ghost reply = { λ _. reply.Done };
+
+    fn make(self, state: &mut PoolState<D>) -> Result<(), PoolError> {
+        state.abort(self.tx)
+    }
+
+    fn releases(_answer: &()) -> bool {
+        true
+    }
+}
+
+/// `PoolState::read` as a value.
+#[derive(Clone, Copy, Debug, PartialEq, Eq)]
+pub struct Read {
+    /// Who has a lock that covers the range.
+    pub owner: Owner,
+    /// The object.
+    pub object: ObjectId,
+    /// The bytes.
+    pub range: Range,
+}
+
+impl<D: SectorDevice> PoolCall<D> for Read {
+    type Answer = Bytes;
+
+    ghost step = { λ c. step.Read c.owner c.object c.range };
+
+    ghost reply = { λ b. reply.Bytes b };
+
+    fn make(self, state: &mut PoolState<D>) -> Result<Bytes, PoolError> {
+        state.read(self.owner, self.object, self.range)
+    }
+}
+
+/// `PoolState::length` as a value.
+#[derive(Clone, Copy, Debug, PartialEq, Eq)]
+pub struct Length {
+    /// The object.
+    pub object: ObjectId,
+}
+
+impl<D: SectorDevice> PoolCall<D> for Length {
+    type Answer = u64;
+
+    ghost step = { λ c. step.Length c.object };
+
+    ghost reply = { λ n. reply.Length n };
+
+    fn make(self, state: &mut PoolState<D>) -> Result<u64, PoolError> {
+        state.length(self.object)
+    }
+}
+
+/// `PoolState::digest` as a value.
+#[derive(Clone, Copy, Debug, PartialEq, Eq)]
+pub struct Digest;
+
+impl<D: SectorDevice> PoolCall<D> for Digest {
+    type Answer = [u8; 32];
+
+    ghost step = { λ c. step.Digest };
+
+    ghost reply = { λ d. reply.Digest d };
+
+    fn make(self, state: &mut PoolState<D>) -> Result<[u8; 32], PoolError> {
+        state.digest()
+    }
+}
+
+/// `PoolState::name` as a value. It is never refused.
+#[derive(Clone, Copy, Debug, PartialEq, Eq)]
+pub struct Name;
+
+impl<D: SectorDevice> PoolCall<D> for Name {
+    type Answer = PoolName;
+
+    ghost step = { λ c. step.Name };
+
+    ghost reply = { λ n. reply.Name n };
+
+    fn make(self, state: &mut PoolState<D>) -> Result<PoolName, PoolError> {
+        Ok(state.name())
+    }
+}
+
+/// `PoolState::status` as a value. It is never refused.
+#[derive(Clone, Copy, Debug, PartialEq, Eq)]
+pub struct ReadStatus;
+
+impl<D: SectorDevice> PoolCall<D> for ReadStatus {
+    type Answer = Status;
+
+    ghost step = { λ c. step.Status };
+
+    ghost reply = { λ s. reply.Status s };
+
+    fn make(self, state: &mut PoolState<D>) -> Result<Status, PoolError> {
+        Ok(state.status())
+    }
+}
+
+/// `PoolState::close_group` as a value.
+#[derive(Clone, Copy, Debug, PartialEq, Eq)]
+pub struct CloseGroup;
+
+impl<D: SectorDevice> PoolCall<D> for CloseGroup {
+    type Answer = Group;
+
+    ghost step = { λ c. step.CloseGroup };
+
+    ghost reply = { λ g. reply.Opened g };
+
+    fn make(self, state: &mut PoolState<D>) -> Result<Group, PoolError> {
+        state.close_group()
+    }
+}
+
+/// `PoolState::mark_quiesced` as a value.
+#[derive(Clone, Copy, Debug, PartialEq, Eq)]
+pub struct MarkQuiesced;
+
+impl<D: SectorDevice> PoolCall<D> for MarkQuiesced {
+    type Answer = Group;
+
+    ghost step = { λ c. step.MarkQuiesced };
+
+    ghost reply = { λ g. reply.Quiesced g };
+
+    fn make(self, state: &mut PoolState<D>) -> Result<Group, PoolError> {
+        state.mark_quiesced()
+    }
+}
+
+/// `PoolState::start_sync` as a value.
+#[derive(Clone, Copy, Debug, PartialEq, Eq)]
+pub struct StartSync {
+    /// The moment in seconds that the group's uberblocks get.
+    pub moment: u64,
+}
+
+impl<D: SectorDevice> PoolCall<D> for StartSync {
+    type Answer = Group;
+
+    ghost step = { λ c. step.StartSync c.moment };
+
+    ghost reply = { λ g. reply.Syncing g };
+
+    fn make(self, state: &mut PoolState<D>) -> Result<Group, PoolError> {
+        state.start_sync(self.moment)
+    }
+}
+
+/// `PoolState::sync_step` as a value.
+#[derive(Clone, Copy, Debug, PartialEq, Eq)]
+pub struct SyncStep;
+
+impl<D: SectorDevice> PoolCall<D> for SyncStep {
+    type Answer = Progress;
+
+    ghost step = { λ c. step.SyncStep };
+
+    ghost reply = { λ p. runs.progress_reply (plain_progress p) };
+
+    fn make(self, state: &mut PoolState<D>) -> Result<Progress, PoolError> {
+        state.sync_step()
+    }
+
+    fn releases(answer: &Progress) -> bool {
+        matches!(answer, Progress::Synced(_))
+    }
+}

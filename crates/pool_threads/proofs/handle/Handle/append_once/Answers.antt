@@ -1,5 +1,0 @@
-use Rattle.pool_threads.proofs.Answered.{makes_answer}
-use Rattle.pool_threads.proofs.handle.Handle.append_once.Goals as goal
-
-pub returns : goal.returns
-returns g c = makes_answer _ _ _ c.appended.result c.appended.ensures c.ask.ensures.made

@@ -1,0 +1,121 @@
+//! A whole transaction in one call: the locks of its plan, a begin, a commit, and the unlocks.
+ghost use Rattle.std.specs.Prelude.{◌≡◌, ◌≤◌, ◌⊎◌, [], IfErr, IfOk, length, vec_capacity};
+ghost use Rattle.base.specs.declared.error.PoolError.TheVariants as error;
+ghost use Rattle.pool_threads.specs.Answers.{Sees};
+ghost use Rattle.pool_threads.specs.Handles.{StaysInPool};
+ghost use Rattle.pool_threads.specs.Transacts.{Ends, IsTransacted, IsTransactRefusal, LocksAll, LocksAndEnds, TransactsOrLacks, Unlocks};
+ghost use Rattle.word_lock.specs.Seats.{HasMetNone};
+
+use crate::handle::Handle;
+use base::{LockId, Mode, ObjectRange, Ops, Owner, Plan, PoolError, Receipt};
+use device_model::SectorDevice;
+use std::alloc::Global;
+use std::sync::Wait;
+use transactions::lock_ranges;
+
+impl<'p, D: SectorDevice> Handle<'p, D> {
+    /// Commits operations as one entry, in a transaction of its own.
+    ///
+    /// It locks the ranges of the operations' plan as a writer, in rising order of object and low end, with those that
+    /// overlap joined to one. Then it begins, commits, and unlocks all. `lock` and `begin` wait as the calls of that
+    /// name do. After a refusal it aborts the transaction, if it was begun, and unlocks what it locked.
+    ///
+    /// As the order rises, no two calls of `transact` wait for each other's locks. A caller that holds a lock of its
+    /// own that overlaps one of these ranges waits for itself.
+    ///
+    /// The receipt is returned also if an unlock is refused: `Suspended` if a sync of another thread failed, or
+    /// `NoSuchLock` or `LockInUse` if another handle uses the same owner.
+    ///
+    /// # Errors
+    /// `NoMemory` if there is none for the plan, its ranges and the names of the locks; then no step was made. Else the
+    /// first refusal of `lock`, `begin` or `commit`, in this order, and none of the operations takes place.
+    pub fn transact<'a, 'b, W: Wait>(
+        &'a mut self,
+        rt: &'b W,
+        alloc: Global,
+        owner: Owner,
+        ops: Ops,
+    ) -> Result<Receipt, PoolError>
+        ensures made { TransactsOrLacks owner ops result self.old self.new }
+        ensures committed { IfOk result (λ r. Sees (IsTransacted ops r) self.old self.new) }
+        ensures refused { IfErr result (λ e. (e ≡ PoolError.NoMemory)
+            ⊎ Sees (IsTransactRefusal owner ops e) self.old self.new) }
+        ensures same_pool { StaysInPool self.old self.new }
+        ensures met_none { HasMetNone self.old.seat self.new.seat }
+    {
+        let plan = Plan::of(alloc, &ops)?;
+        let ranges = lock_ranges(alloc, plan.as_slice())?;
+        let mut locks = Vec::with_capacity(alloc, ranges.len())?;
+        let result = self.lock_and_commit(rt, owner, &ranges, &mut locks, plan, ops);
+        self.unlock_all(rt, owner, &locks);
+        result
+    }
+
+    // Locks these ranges, and commits operations in a transaction of this plan if it gets them all. It adds each lock
+    // that it gets to `locks`.
+    fn lock_and_commit<'a, 'b, W: Wait>(
+        &'a mut self,
+        rt: &'b W,
+        owner: Owner,
+        ranges: &[ObjectRange],
+        locks: &mut Vec<LockId>,
+        plan: Plan,
+        ops: Ops,
+    ) -> Result<Receipt, PoolError>
+        requires none { locks.old.items ≡ [] }
+        requires room { length ranges.now ≤ vec_capacity locks.old }
+        ensures { LocksAndEnds owner ranges.now plan ops locks.new.items result
+            self.old self.new }
+    {
+        self.lock_all(rt, owner, ranges, locks)?;
+        self.begin_and_commit(rt, owner, plan, ops)
+    }
+
+    // Locks these ranges as a writer, in order, up to the first that is refused. It adds each lock that it gets to
+    // `locks`.
+    fn lock_all<'a, 'b, W: Wait>(
+        &'a mut self,
+        rt: &'b W,
+        owner: Owner,
+        ranges: &[ObjectRange],
+        locks: &mut Vec<LockId>,
+    ) -> Result<(), PoolError>
+        requires none { locks.old.items ≡ [] }
+        requires room { length ranges.now ≤ vec_capacity locks.old }
+        ensures { LocksAll owner ranges.now locks.new.items result self.old self.new }
+    {
+        for range in ranges {
+            let id = self.lock(rt, owner, range.object, range.range, Mode::Writer)?;
+            locks.push_reserved(id);
+        }
+        Ok(())
+    }
+
+    // Commits operations in a transaction, under locks that the owner has. It aborts the transaction if the commit is
+    // refused.
+    fn begin_and_commit<'a, 'b, W: Wait>(
+        &'a mut self,
+        rt: &'b W,
+        owner: Owner,
+        plan: Plan,
+        ops: Ops,
+    ) -> Result<Receipt, PoolError>
+        ensures { Ends owner plan ops result self.old self.new }
+    {
+        let (tx, _) = self.begin(rt, owner, plan)?;
+        let committed = self.commit(rt, tx, ops);
+        if committed.is_err() {
+            let _ = self.abort(rt, tx);
+        }
+        committed
+    }
+
+    // Unlocks these locks in order, and goes on after a refusal.
+    fn unlock_all<'a, 'b, W: Wait>(&'a mut self, rt: &'b W, owner: Owner, locks: &[LockId])
+        ensures { Unlocks owner locks.now self.old self.new }
+    {
+        for id in locks {
+            let _ = self.unlock(rt, owner, *id);
+        }
+    }
+}

@@ -1,0 +1,33 @@
+-- A pool that an import gave is opened as it was imported, at once or at the second time, and none of its transactions
+-- is open.
+use Rattle.std.proofs.Common.{◌≡◌, ◌∙◌, ap, sym, subst}
+use Rattle.std.specs.Prelude.{IsTrue, List, [], true}
+use Rattle.base.specs.disk.Disk.{Disk}
+use Rattle.base.specs.steps.Shown.{Shown}
+use Rattle.device_model.specs.MemState.{MemState}
+use Rattle.import_replay.specs.Mounts.{shown_of_import}
+use Rattle.import_replay.specs.declared.mounted.Mounted.{Mounted}
+use Rattle.pool_threads.specs.Handles.{IsReadyBehind, OpensBehind, ShowsMounted}
+use Rattle.pool_threads.specs.Views.{SeenPool, view_behind_disk, viewed_state}
+use Rattle.scripts.specs.OwnPools.{MemPool}
+use Rattle.scripts.specs.Plans.{ArePlansOf, plan_named}
+use Rattle.scripts.specs.declared.begun_plans.BegunPlan.{BegunPlan}
+use Rattle.base.specs.steps.Refusals.{transaction_of}
+use Rattle.base.specs.steps.Groups.{Admission}
+use Rattle.std.specs.Option.{option_map}
+
+module _ (old : Disk) (m : Mounted) (device : MemState) (s : MemPool) (ready : IsReadyBehind old m device s) (v : SeenPool) (is : v ≡ view_behind_disk s old) where
+  pub opens_so : OpensBehind (IsTrue true) old (shown_of_import m).dirty_max v
+  opens_so = subst (λ (w : SeenPool). OpensBehind (IsTrue true) old (shown_of_import m).dirty_max w) (sym is) ready.opens
+
+  pub shows_so : ShowsMounted m device.disk v
+  shows_so = record {
+    shown = ap (λ (w : SeenPool). (viewed_state w).shown) is ∙ ap (λ a. a.shown) ready.explains.state ∙ ready.shown_is;
+    disk_is = ap (λ (w : SeenPool). w.disk) is ∙ ap (λ (d : MemState). d.disk) ready.device_is;
+  }
+
+-- nothing has begun
+pub none_open : (m : Mounted) (disk : Disk) (v w : SeenPool) (plans : List BegunPlan) → ShowsMounted m disk v → w ≡ v → plans ≡ [] → ArePlansOf plans w
+none_open m disk v w plans shows is none tx =
+    ap (λ (l : List BegunPlan). plan_named tx l) none
+    ∙ ap (λ (x : Shown). option_map (λ (a : Admission). a.plan) (transaction_of tx.0 x)) (sym (ap (λ (u : SeenPool). (viewed_state u).shown) is ∙ shows.shown))

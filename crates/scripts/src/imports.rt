@@ -1,0 +1,42 @@
+//! The import of a pool that is to be mounted.
+
+ghost use Rattle.std.specs.Prelude.{◌≡◌, IfErr, IfOk, IsTrue, MatchResult};
+ghost use Rattle.pool_threads.specs.Handles.{LeavesSame, StartsBehind};
+ghost use Rattle.script_lines.specs.Answers.{imported_answer};
+ghost use Rattle.scripts.specs.Devices.{IsImportRun, IsLeftByImport};
+
+use base::PoolError;
+use device_model::SectorDevice;
+use import_replay::{Imported, import};
+use script_lines::Answer;
+use std::alloc::Global;
+
+/// Imports the pool on a device, as `import_replay::import` does, and says what was imported.
+///
+/// # Errors
+/// Those of that call. The device comes back as the import left it.
+pub(crate) fn import_for_mount<D: SectorDevice>(
+    alloc: Global,
+    device: D,
+    dirty_max: u64,
+    moment: u64,
+) -> Result<(Imported<D>, Answer), (PoolError, D)>
+    ensures run { IfOk result (λ p.
+        IsImportRun D.SectorDevice dirty_max moment device p.0.device p.0.mounted) }
+    ensures answer { IfOk result (λ p. p.1 ≡ imported_answer p.0.mounted) }
+    ensures starts { IsTrue D.keeps_model → IfOk result (λ p.
+        StartsBehind (D.disk device) p.0.mounted (D.disk p.0.device)) }
+    ensures refused { IfErr result (λ e.
+        IsLeftByImport D.SectorDevice dirty_max moment device e.0 e.1) }
+    ensures still { IsTrue D.keeps_model → MatchResult result
+        (λ p. LeavesSame (D.disk device) (D.disk p.0.device))
+        (λ e. LeavesSame (D.disk device) (D.disk e.1)) }
+{
+    match import(alloc, device, dirty_max, moment) {
+        Ok(imported) => {
+            let answer = Answer::imported(&imported);
+            Ok((imported, answer))
+        }
+        Err(refused) => Err(refused),
+    }
+}

@@ -1,5 +1,0 @@
-use Rattle.shared_scripts.proofs.LastLeft.{crash_takes}
-use Rattle.shared_scripts.proofs.clients.a_crash_takes_the_disk_that_the_last_command_left.Goals as goal
-
-pub returns : goal.returns
-returns g c = λ old device was is. crash_takes c.args.session.now.place old was c.args.pieces.items c.run.result c.run.new.self.place device c.requires is c.run.ensures.done

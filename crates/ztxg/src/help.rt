@@ -1,0 +1,77 @@
+//! What the program's help says after its arguments: examples, exit statuses and the lines of a script.
+
+/// The program's version, and the kit that it was tested with. `tools/version.py` compares it with README.md and with
+/// the kit that runs the gate.
+pub const VERSION: &str = "0.1.0 (rattle-kit-13f logic dac8208d650f15bf)";
+
+/// What stands after the help of the program.
+pub const PROGRAM: &str = "\
+Example: ztxg create tank.pool tank 77 8388608
+
+Exit status:
+  0  the command was done
+  1  the engine refused it: 'ztxg: refused N NAME' on standard error
+  2  a fault of the command line, or a line of a script that is no command
+  3  a file that can't be used: 'ztxg: cannot use FILE' on standard error;
+     or a script that can't be read, or output that can't be written
+
+docs/FORMATS.md lists every refusal with its meaning, and the bytes of a pool.";
+
+/// What stands after the help of `create`.
+pub const CREATE: &str = "\
+Example: ztxg create tank.pool tank 77 8388608
+
+Prints 'created NAME B blocks'. FILE has to be a regular file that no other
+process has open as a pool; else it can't be used, and is left as it was.
+
+Refusals, with status 1:
+   3 Write        the device refused a write
+   4 Flush        the device refused a flush
+   8 BadGeometry  SIZE is none that a pool may have; FILE is left as it was
+  11 BadRange     NAME is no name of a pool; FILE is left as it was";
+
+/// What stands after the help of `show`.
+pub const SHOW: &str = "\
+Example: ztxg show tank.pool
+
+Prints the name, guid, group, import number, blocks, log records and objects,
+a line each, and then a line for each object with its number and length.
+
+Refusals, with status 1:
+   1 NoMemory              there is no memory
+   2 Read                  the device refused a read
+   6 NoPool                no label has a valid uberblock with a config
+   7 Damaged KIND ADDRESS  a block is not what the pool's tree says of it
+   8 BadGeometry           FILE's size is none that a pool may have";
+
+/// What stands after the help of `script`.
+pub const SCRIPT: &str = "\
+Examples:
+  ztxg script 8388608 - < stdin
+  ztxg script --file tank.pool - < stdin
+
+A line is a command, or empty, or begins with #. Each command prints one line:
+  create NAME GUID             ok
+  import DIRTYMAX              synced G open G records R
+  lock OWNER OBJECT r LOW HIGH lock ID, to read; with w to write
+  append OWNER OBJECT          lock ID LOW HIGH
+  unlock OWNER ID              ok
+  begin OWNER SHAPE ..         tx ID group G
+  commit TX BYTES ..           entry ORDINAL group G
+  abort TX                     ok
+  read OWNER OBJECT LOW HIGH   bytes LENGTH HEX
+  length OBJECT                length N
+  digest, name, status         the contents' SHA-256; the name; the groups
+  close, quiesce, start        the open group, then quiesced, then syncing
+  step, finish                 one step of a sync; all that are left
+  sync                         close, quiesce, start and finish
+  fail read N                  ok; the N-th read fails. Also write, flush
+  crash LETTERS                crashed U; k keeps a write, l loses, t tears it
+
+A SHAPE is c:OBJECT to create, d:OBJECT to remove, w:OBJECT:OFFSET:LENGTH to
+write, l:OBJECT:LENGTH to set a length. A commit has BYTES for each write:
+printable ASCII, or @COUNT:C for COUNT copies of C.
+
+A refused command prints 'refused N NAME', and the script goes on. A line that
+is no command prints 'line N: bad command' and ends it with status 2. With --file, crash
+and fail are no commands.";
