@@ -4,10 +4,10 @@ ghost use Rattle.std.proofs.Math.Nat.{le_refl, le_trans};
 ghost use Rattle.word_lock.specs.Seats.{kin, seen, turns, seat_table, lock_table, HasMetNone, IsIdle, IsHolding, IsSameSeat, IsAsBefore, IsSourceOf};
 ghost use Rattle.word_lock.specs.Turns.{turn};
 
-use base::PoolError;
+use base::{PoolError, Told};
 use std::alloc::Global;
 use std::sync::Wait;
-use word_lock::{Guard, Held, LockRule, Seat, SeatSource, Told, WordLock, release};
+use word_lock::{Guard, Held, LockRule, Seat, SeatSource, WordLock, release};
 
 /// So many additions of 1 were made to a counter that was 0 and wraps.
 pub struct Additions;
