@@ -25,9 +25,3 @@ module _ (old : Disk) (m : Mounted) (device : MemState) (s : MemPool) (ready : I
     shown = ap (λ (w : SeenPool). (viewed_state w).shown) is ∙ ap (λ a. a.shown) ready.explains.state ∙ ready.shown_is;
     disk_is = ap (λ (w : SeenPool). w.disk) is ∙ ap (λ (d : MemState). d.disk) ready.device_is;
   }
-
--- nothing has begun
-pub none_open : (m : Mounted) (disk : Disk) (v w : SeenPool) (plans : List BegunPlan) → ShowsMounted m disk v → w ≡ v → plans ≡ [] → ArePlansOf plans w
-none_open m disk v w plans shows is none tx =
-    ap (λ (l : List BegunPlan). plan_named tx l) none
-    ∙ ap (λ (x : Shown). option_map (λ (a : Admission). a.plan) (transaction_of tx.0 x)) (sym (ap (λ (u : SeenPool). (viewed_state u).shown) is ∙ shows.shown))

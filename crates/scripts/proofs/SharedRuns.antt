@@ -71,12 +71,6 @@ begins_shared earlier dirty_max old left mounted moment shared was limit m =
       };
     }
 
--- a plan to fail leaves what is seen of a pool
-pub look_keeps : (past : Past) (old new : SharedPool) → LooksAt old new → IsRunOf past old → IsRunOf past new
-look_keeps past old new looks run =
-    let same : view_in new ≡ view_in old = looks.same_view in
-    record { seen_is = ap (λ (v : SeenPool). since past.created v.past) same ∙ run.seen_is; followed = subst (λ (v : SeenPool). IsFollowed v.rule past.created) (sym same) run.followed }
-
 -- between two views lie safe steps, of a pool whose create began at this moment
 abbrev AreSafeSteps : ℕ → SeenPool → SeenPool → Type 0
 AreSafeSteps created v w = (ss : List declared_step.Step) × (rs : List declared_reply.Reply) × Run (StepsSafely created) ss rs v w

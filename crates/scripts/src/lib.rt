@@ -8,6 +8,7 @@
 mod begun_plans;
 mod clients;
 mod command_runner;
+mod debug;
 mod device_clients;
 mod device_session;
 mod imports;
