@@ -7,7 +7,7 @@ use Rattle.std.proofs.lemmas.List.Elements.{All-from_get_or}
 use Rattle.base.specs.declared.pointer.Pointer.{Pointer}
 use Rattle.base.specs.formats.Fields.{part, number_at, number_bytes, pointer_at, entry_in, entry_present, entry_length, entry_pointer, no_pointer}
 use Rattle.base.specs.formats.Limits.{max_length}
-use Rattle.base.specs.tree.Faults.{IsPointerForm, IsEntryForm}
+use Rattle.base.specs.tree.Faults.{IsPointerForm, IsOneLevelForm}
 use Rattle.checked_blocks.proofs.Placed.{number_bytes-number_at}
 use Rattle.object_maps.proofs.Records.{part-split}
 
@@ -80,12 +80,12 @@ unfolding number_at
 no_entry = refl
 
 -- an entry that is not present is all zeros
-pub entry_absent : (entry : List ℕ) → IsEntryForm entry → entry_present entry ≢ 1 → entry ≡ replicate 64 0
+pub entry_absent : (entry : List ℕ) → IsOneLevelForm entry → entry_present entry ≢ 1 → entry ≡ replicate 64 0
 entry_absent entry (inl zeros) not = zeros
 entry_absent entry (inr form) not = absurd (not form.0)
 
 -- an entry that is present has a length within the limit
-pub entry_short : (entry : List ℕ) → IsEntryForm entry → entry_present entry ≡ 1 → entry_length entry ≤ max_length
+pub entry_short : (entry : List ℕ) → IsOneLevelForm entry → entry_present entry ≡ 1 → entry_length entry ≤ max_length
 entry_short entry (inl zeros) is = let e : entry_present entry ≡ 0 = ap entry_present zeros ∙ no_entry in absurd (omega (arith, e, is))
 entry_short entry (inr form) is = form.1
 
@@ -98,14 +98,14 @@ unfolding number_at
 no_entry_length = refl
 
 -- an entry in its form that is not present has no length and no pointer
-pub absent_fields : (entry : List ℕ) (present : ℕ) → IsEntryForm entry → present ≡ entry_present entry → present ≢ 1
+pub absent_fields : (entry : List ℕ) (present : ℕ) → IsOneLevelForm entry → present ≡ entry_present entry → present ≢ 1
     → (present ≡ 0) × ((entry_length entry ≡ 0) × (entry_pointer entry ≡ no_pointer))
 absent_fields entry present form is not =
     let zeros = entry_absent entry form (λ e. not (is ∙ e)) in
     (is ∙ ap entry_present zeros ∙ no_entry, (ap entry_length zeros ∙ no_entry_length, ap entry_pointer zeros ∙ no_entry_pointer))
 
 -- and one that is present has a length and a pointer within their limits
-pub present_fields : (entry : List ℕ) (present : ℕ) → IsEntryForm entry → present ≡ entry_present entry → present ≡ 1
+pub present_fields : (entry : List ℕ) (present : ℕ) → IsOneLevelForm entry → present ≡ entry_present entry → present ≡ 1
     → (entry_length entry ≤ max_length) × IsPointerForm (entry_pointer entry)
 present_fields entry present (inl zeros) is one = let e : entry_present entry ≡ 0 = ap entry_present zeros ∙ no_entry in absurd (omega (arith, e, is, one))
 present_fields entry present (inr form) is one = (form.1, form.2)
@@ -114,6 +114,6 @@ pub not_true : false ≡ true → ⊥
 not_true e = cc
 
 -- an entry in its form is present or not
-pub present_or_not : (entry : List ℕ) (present : ℕ) → IsEntryForm entry → present ≡ entry_present entry → (present ≡ 0) ⊎ (present ≡ 1)
+pub present_or_not : (entry : List ℕ) (present : ℕ) → IsOneLevelForm entry → present ≡ entry_present entry → (present ≡ 0) ⊎ (present ≡ 1)
 present_or_not entry present (inl zeros) is = inl (is ∙ ap entry_present zeros ∙ no_entry)
 present_or_not entry present (inr form) is = inr (is ∙ form.0)

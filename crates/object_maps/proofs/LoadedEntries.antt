@@ -15,7 +15,7 @@ use Rattle.base.specs.formats.Geometry.{IsBlockAddress}
 use Rattle.base.specs.formats.Blocks.{Frame}
 use Rattle.base.specs.tree.Places.Place.{Directory}
 use Rattle.base.specs.tree.Tree.{OpensAt}
-use Rattle.base.specs.tree.PlacedTrees.{IsEntryFor}
+use Rattle.base.specs.tree.PlacedTrees.{IsOneLevelEntry}
 use Rattle.object_maps.specs.declared.tree.ObjectMap.{ObjectMap}
 use Rattle.object_maps.specs.Pointers.{pointer_of_list, indirect_of, records_of}
 use Rattle.object_maps.specs.Loading.{IsLoadedObject, IsLoadedAt, IsEntryAt, IsEmptyAt, AreEmptyFrom, DirectoryStands, SameBut, AreLoadedEntries, IsLoadedDirectory, LoadsDirectory, AreLoadedDirectories}
@@ -31,12 +31,12 @@ same_loaded keeps image frame n old_objects objects old_maps maps eo em h =
     subst (λ (o : Option (List ℕ)). IsLoadedObject keeps image frame n o (indirect_of maps n) (records_of maps n)) (sym eo)
     (subst (λ (m : Option ObjectMap). IsLoadedObject keeps image frame n (finite.get old_objects n) (option_map_or (λ (o : ObjectMap). o.indirect) m no_pointer) (option_map_or (λ (o : ObjectMap). o.records.items) m [])) (sym em) h)
 
-same_entry : (n : ℕ) (entry : List ℕ) (old_objects objects : FinMap nat_cmp (List ℕ)) (old_maps maps : List ObjectMap)
+same_entry : (frame : Frame) (n : ℕ) (entry : List ℕ) (old_objects objects : FinMap nat_cmp (List ℕ)) (old_maps maps : List ObjectMap)
     → finite.get objects n ≡ finite.get old_objects n → slice_get maps n ≡ slice_get old_maps n
-    → IsEntryAt old_objects old_maps n entry → IsEntryAt objects maps n entry
-same_entry n entry old_objects objects old_maps maps eo em h =
-    subst (λ (o : Option (List ℕ)). IsEntryFor entry (indirect_of maps n) o) (sym eo)
-    (subst (λ (m : Option ObjectMap). IsEntryFor entry (option_map_or (λ (o : ObjectMap). o.indirect) m no_pointer) (finite.get old_objects n)) (sym em) h)
+    → IsEntryAt frame old_objects old_maps n entry → IsEntryAt frame objects maps n entry
+same_entry frame n entry old_objects objects old_maps maps eo em h =
+    subst (λ (o : Option (List ℕ)). IsOneLevelEntry entry (indirect_of maps n) o) (sym eo)
+    (subst (λ (m : Option ObjectMap). IsOneLevelEntry entry (option_map_or (λ (o : ObjectMap). o.indirect) m no_pointer) (finite.get old_objects n)) (sym em) h)
 
 same_empty : (n : ℕ) (old_objects objects : FinMap nat_cmp (List ℕ)) (old_maps maps : List ObjectMap) → finite.get objects n ≡ finite.get old_objects n → slice_get maps n ≡ slice_get old_maps n
     → IsEmptyAt old_objects old_maps n → IsEmptyAt objects maps n
@@ -52,9 +52,9 @@ empty_loaded keeps image frame n objects maps h =
     (subst (λ (p : Pointer). IsLoadedObject keeps image frame n None p (records_of maps n)) (sym h.indirect)
     (subst (λ (l : List Pointer). IsLoadedObject keeps image frame n None no_pointer l) (sym h.records) (none_loaded keeps image frame n)))
 
-empty_entry : (n : ℕ) (entry : List ℕ) (objects : FinMap nat_cmp (List ℕ)) (maps : List ObjectMap) → IsEmptyAt objects maps n → entry ≡ replicate 64 0 → IsEntryAt objects maps n entry
-empty_entry n entry objects maps h absent =
-    subst (λ (o : Option (List ℕ)). IsEntryFor entry (indirect_of maps n) o) (sym h.object) (absent, h.indirect)
+empty_entry : (frame : Frame) (n : ℕ) (entry : List ℕ) (objects : FinMap nat_cmp (List ℕ)) (maps : List ObjectMap) → IsEmptyAt objects maps n → entry ≡ replicate 64 0 → IsEntryAt frame objects maps n entry
+empty_entry frame n entry objects maps h absent =
+    subst (λ (o : Option (List ℕ)). IsOneLevelEntry entry (indirect_of maps n) o) (sym h.object) (absent, h.indirect)
 
 -- the object of the entry that comes next is not there yet
 next_empty : (keeps : Bool) (image : List ℕ) (frame : Frame) (d : ℕ) (payload : List ℕ) (count : ℕ) (old_objects objects : FinMap nat_cmp (List ℕ)) (old_maps maps : List ObjectMap)
@@ -94,8 +94,8 @@ entries_skip keeps image frame d payload count old_objects objects old_maps maps
     object k low (inl e) = rw e (empty_loaded keeps image frame (entry_count * d + count) objects maps empty)
     object k low (inr ne) = so_far.each k (omega (arith, low))
 
-    entry : (k : ℕ) → k < count + 1 → (k ≡ count) ⊎ (k ≢ count) → IsEntryAt objects maps (entry_count * d + k) (entry_in payload k)
-    entry k low (inl e) = rw e (empty_entry (entry_count * d + count) (entry_in payload count) objects maps empty absent)
+    entry : (k : ℕ) → k < count + 1 → (k ≡ count) ⊎ (k ≢ count) → IsEntryAt frame objects maps (entry_count * d + k) (entry_in payload k)
+    entry k low (inl e) = rw e (empty_entry frame (entry_count * d + count) (entry_in payload count) objects maps empty absent)
     entry k low (inr ne) = so_far.entries k (omega (arith, low))
 
 -- an object that is put into its place, with its pointers
@@ -106,12 +106,12 @@ put_loaded keeps image frame n objects maps bytes m eo em h =
     subst (λ (o : Option (List ℕ)). IsLoadedObject keeps image frame n o (indirect_of maps n) (records_of maps n)) (sym eo)
     (subst (λ (o : Option ObjectMap). IsLoadedObject keeps image frame n (Some bytes) (option_map_or (λ (p : ObjectMap). p.indirect) o no_pointer) (option_map_or (λ (p : ObjectMap). p.records.items) o [])) (sym em) h)
 
-put_entry : (n : ℕ) (entry : List ℕ) (objects : FinMap nat_cmp (List ℕ)) (maps : List ObjectMap) (bytes : List ℕ) (m : ObjectMap)
+put_entry : (frame : Frame) (n : ℕ) (entry : List ℕ) (objects : FinMap nat_cmp (List ℕ)) (maps : List ObjectMap) (bytes : List ℕ) (m : ObjectMap)
     → finite.get objects n ≡ Some bytes → slice_get maps n ≡ Some m
-    → IsEntryFor entry m.indirect (Some bytes) → IsEntryAt objects maps n entry
-put_entry n entry objects maps bytes m eo em h =
-    subst (λ (o : Option (List ℕ)). IsEntryFor entry (indirect_of maps n) o) (sym eo)
-    (subst (λ (o : Option ObjectMap). IsEntryFor entry (option_map_or (λ (p : ObjectMap). p.indirect) o no_pointer) (Some bytes)) (sym em) h)
+    → IsOneLevelEntry entry m.indirect (Some bytes) → IsEntryAt frame objects maps n entry
+put_entry frame n entry objects maps bytes m eo em h =
+    subst (λ (o : Option (List ℕ)). IsOneLevelEntry entry (indirect_of maps n) o) (sym eo)
+    (subst (λ (o : Option ObjectMap). IsOneLevelEntry entry (option_map_or (λ (p : ObjectMap). p.indirect) o no_pointer) (Some bytes)) (sym em) h)
 
 -- one entry more, with its object
 pub entries_put : (keeps : Bool) (image : List ℕ) (frame : Frame) (d : ℕ) (payload : List ℕ) (count : ℕ) (old_objects objects : FinMap nat_cmp (List ℕ)) (old_maps maps : List ObjectMap) (bytes : List ℕ) (m : ObjectMap)
@@ -155,11 +155,11 @@ entries_put keeps image frame d payload count old_objects objects old_maps maps 
         same_loaded keeps image frame (entry_count * d + k) objects new maps (set maps n m)
         (get-stored_other objects n (Some bytes) (entry_count * d + k) other) (map-set_other maps n m (entry_count * d + k) other) (so_far.each k (omega (arith, low)))
 
-    entry : (k : ℕ) → k < count + 1 → (k ≡ count) ⊎ (k ≢ count) → IsEntryAt new (set maps n m) (entry_count * d + k) (entry_in payload k)
-    entry k low (inl e) = rw e (put_entry n (entry_in payload count) new (set maps n m) bytes m eo em (is_present, size, short, pointer))
+    entry : (k : ℕ) → k < count + 1 → (k ≡ count) ⊎ (k ≢ count) → IsEntryAt frame new (set maps n m) (entry_count * d + k) (entry_in payload k)
+    entry k low (inl e) = rw e (put_entry frame n (entry_in payload count) new (set maps n m) bytes m eo em (is_present, size, short, pointer))
     entry k low (inr ne) =
         let other : entry_count * d + k ≢ n = λ e. ne (omega (arith, e)) in
-        same_entry (entry_count * d + k) (entry_in payload k) objects new maps (set maps n m)
+        same_entry frame (entry_count * d + k) (entry_in payload k) objects new maps (set maps n m)
         (get-stored_other objects n (Some bytes) (entry_count * d + k) other) (map-set_other maps n m (entry_count * d + k) other) (so_far.entries k (omega (arith, low)))
 
 -- a directory with all its entries
@@ -214,7 +214,7 @@ same_directory keeps image frame d pointer old_objects objects old_maps maps eo 
   where
     go : DirectoryStands image frame d pointer old_objects old_maps → DirectoryStands image frame d pointer objects maps
     go (inl none) = inl (none.0, λ k low. same_empty (entry_count * d + k) old_objects objects old_maps maps (eo k low) (em k low) (none.1 k low))
-    go (inr block) = inr (block.0, block.1, λ k low. same_entry (entry_count * d + k) (entry_in block.0 k) old_objects objects old_maps maps (eo k low) (em k low) (block.2 k low))
+    go (inr block) = inr (block.0, block.1, λ k low. same_entry frame (entry_count * d + k) (entry_in block.0 k) old_objects objects old_maps maps (eo k low) (em k low) (block.2 k low))
 
 -- what comes after a directory is as empty as before
 empty_behind : (count : ℕ) (old_objects objects : FinMap nat_cmp (List ℕ)) (old_maps maps : List ObjectMap) → AreEmptyFrom (entry_count * count) old_objects old_maps

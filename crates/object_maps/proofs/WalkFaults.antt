@@ -39,14 +39,14 @@ below_block image frame kind number above payload f opens =
 
 -- a place with its block, and what the block holds well formed
 pub sound_at : (image : List ℕ) (frame : Frame) (root : Pointer) (place : Place) (pointer : Pointer) (payload : List ℕ) → pointer_of image root place ≡ pointer
-    → Opens image frame (kind_of place) (number_of_place place) pointer payload → IsWellFormed image root place payload → IsSoundAt image frame root place
+    → Opens image frame (kind_of place) (number_of_place place) pointer payload → IsWellFormed image frame root place payload → IsSoundAt image frame root place
 sound_at image frame root place pointer payload at opens formed =
     inr (payload, subst (λ (p : Pointer). Opens image frame (kind_of place) (number_of_place place) p payload) (sym at) opens, formed)
 
 -- the fault of a place that the walk has reached
 pub fault_at : (image : List ℕ) (frame : Frame) (root : Pointer) (place : Place) (start kind address : ℕ) (pointer : Pointer) → IsPlace place → start ≡ walk_index_of place
     → pointer_of image root place ≡ pointer → pointer ≢ no_pointer → kind_of place ≡ kind → pointer.address ≡ address
-    → ((payload : List ℕ) → Opens image frame (kind_of place) (number_of_place place) pointer payload → IsWellFormed image root place payload → ⊥)
+    → ((payload : List ℕ) → Opens image frame (kind_of place) (number_of_place place) pointer payload → IsWellFormed image frame root place payload → ⊥)
     → IsFaultFrom image frame root start kind address
 fault_at image frame root place start kind address pointer in_range here at named is_kind is_address bad = record {
   place = place;
@@ -122,13 +122,13 @@ missing_fault image frame root place start pointer e in_range here at named tell
 
 -- a block that is not well formed is the fault that its refusal tells
 pub formless_fault : (image : List ℕ) (frame : Frame) (root : Pointer) (place : Place) (start : ℕ) (pointer : Pointer) (payload : List ℕ) (e : PoolError) → IsPlace place → start ≡ walk_index_of place
-    → pointer_of image root place ≡ pointer → pointer ≢ no_pointer → Opens image frame (kind_of place) (number_of_place place) pointer payload → (IsWellFormed image root place payload → ⊥)
+    → pointer_of image root place ≡ pointer → pointer ≢ no_pointer → Opens image frame (kind_of place) (number_of_place place) pointer payload → (IsWellFormed image frame root place payload → ⊥)
     → e ≡ Damaged (kind_of place) pointer.address → TellsFault image frame root start e
 formless_fault image frame root place start pointer payload e in_range here at named opens not is = λ kind address d.
     let told : Damaged (kind_of place) pointer.address ≡ Damaged kind address = sym is ∙ d in
     fault_at image frame root place start kind address pointer in_range here at named (same-kind (kind_of place) pointer.address kind address told)
     (same-address (kind_of place) pointer.address kind address told)
-    (λ other opened formed. not (subst (λ (l : List ℕ). IsWellFormed image root place l) (same_payload image frame (kind_of place) (number_of_place place) pointer other payload opened opens) formed))
+    (λ other opened formed. not (subst (λ (l : List ℕ). IsWellFormed image frame root place l) (same_payload image frame (kind_of place) (number_of_place place) pointer other payload opened opens) formed))
 
 -- a record whose padding is not zeros is a fault
 pub record_fault : (image : List ℕ) (frame : Frame) (root : Pointer) (n r size count : ℕ) (pointer : Pointer) (payload : List ℕ) (e : PoolError) → n < object_count → r < pointer_count

@@ -4,6 +4,7 @@ use Rattle.std.specs.Ordering.{nat_cmp}
 use Rattle.std.specs.FinMap.{FinMap}
 use Rattle.base.specs.declared.pointer.Pointer.{Pointer}
 use Rattle.base.specs.disk.Disk.{Disk, bytes_of}
+use Rattle.base.specs.formats.Blocks.{Frame}
 use Rattle.base.specs.formats.Fields.{entry_in}
 use Rattle.base.specs.formats.Limits.{entry_count, record_size, pointer_count}
 use Rattle.base.specs.tree.Faults.{IsEntryForm, IsRecordPointerForm}
@@ -30,9 +31,9 @@ LoadsFrom start stands_for maps old new P =
 
 -- the payload of a directory has the size of one, and each of its entries is absent and all zeros, or present and
 -- within its limits
-pub record IsEntryPayload (payload : List ℕ) : Type 0 where
+pub record IsEntryPayload (frame : Frame) (payload : List ℕ) : Type 0 where
   pub size : length payload ≡ record_size
-  pub each : (k : ℕ) → k < entry_count → IsEntryForm (entry_in payload k)
+  pub each : (k : ℕ) → k < entry_count → IsEntryForm frame (entry_in payload k)
 
 -- these are the pointers to the records of an object of so many bytes: from its end on there are none
 pub record AreRecordPointers (size : ℕ) (records : List Pointer) : Type 0 where

@@ -76,8 +76,8 @@ pub record AreEmptyFrom (start : ℕ) (objects : FinMap nat_cmp (List ℕ)) (map
   pub each : (n : ℕ) → start ≤ n → IsEmptyAt objects maps n
 
 -- the entry of object n
-abbrev pub IsEntryAt : FinMap nat_cmp (List ℕ) → List ObjectMap → ℕ → List ℕ → Type 0
-IsEntryAt objects maps n entry = IsEntryFor entry (indirect_of maps n) (finite.get objects n)
+abbrev pub IsEntryAt : Frame → FinMap nat_cmp (List ℕ) → List ObjectMap → ℕ → List ℕ → Type 0
+IsEntryAt frame objects maps n entry = IsEntryFor frame entry (indirect_of maps n) (finite.get objects n)
 
 -- all but so many objects from this one on are as before
 pub record SameBut (start count : ℕ) (old_objects objects : FinMap nat_cmp (List ℕ)) (old_maps maps : List ObjectMap) : Type 0 where
@@ -88,7 +88,7 @@ pub record SameBut (start count : ℕ) (old_objects objects : FinMap nat_cmp (Li
 pub record AreLoadedEntries (keeps : Bool) (image : List ℕ) (frame : Frame) (d : ℕ) (payload : List ℕ) (count : ℕ)
     (old_objects objects : FinMap nat_cmp (List ℕ)) (old_maps maps : List ObjectMap) : Type 0 where
   pub each : (k : ℕ) → k < count → IsLoadedAt keeps image frame objects maps (entry_count * d + k)
-  pub entries : (k : ℕ) → k < count → IsEntryAt objects maps (entry_count * d + k) (entry_in payload k)
+  pub entries : (k : ℕ) → k < count → IsEntryAt frame objects maps (entry_count * d + k) (entry_in payload k)
   pub others : SameBut (entry_count * d) count old_objects objects old_maps maps
 
 -- no directory and none of its objects, or the block with their entries
@@ -96,7 +96,7 @@ abbrev pub DirectoryStands : List ℕ → Frame → ℕ → Pointer → FinMap n
 DirectoryStands image frame d pointer objects maps =
     ((pointer ≡ no_pointer) × ((k : ℕ) → k < entry_count → IsEmptyAt objects maps (entry_count * d + k)))
     ⊎ ((payload : List ℕ) × OpensAt image frame (Directory d) pointer payload
-    × ((k : ℕ) → k < entry_count → IsEntryAt objects maps (entry_count * d + k) (entry_in payload k)))
+    × ((k : ℕ) → k < entry_count → IsEntryAt frame objects maps (entry_count * d + k) (entry_in payload k)))
 
 -- the objects of directory d, with this pointer to it
 pub record IsLoadedDirectory (keeps : Bool) (image : List ℕ) (frame : Frame) (d : ℕ) (pointer : Pointer) (objects : FinMap nat_cmp (List ℕ)) (maps : List ObjectMap) : Type 0 where

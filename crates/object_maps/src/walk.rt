@@ -11,7 +11,7 @@ ghost use Rattle.base.specs.disk.Disk.{bytes_of};
 ghost use Rattle.base.specs.formats.Geometry.{block_address, IsBlockAddress};
 ghost use Rattle.base.specs.formats.Blocks.{Opens};
 ghost use Rattle.base.specs.tree.Tree.{record_bytes};
-ghost use Rattle.base.specs.tree.Faults.{IsPointerForm, IsEntryForm, IsRecordPointerForm, IsFirstFault};
+ghost use Rattle.base.specs.tree.Faults.{IsPointerForm, IsEntryForm, IsOneLevelForm, IsRecordPointerForm, IsFirstFault};
 ghost use Rattle.base.specs.tree.PlacedTrees.{HoldsTree, ArePlaced};
 ghost use Rattle.device_model.specs.Reading.{OnlyReads};
 ghost use Rattle.checked_blocks.proofs.NamedBlocks.{IsNamed};
@@ -30,7 +30,7 @@ use crate::objects::{Maps, ObjectSink, Objects};
 use crate::tree::{ObjectMap, Tree, empty_maps};
 use base::{
     BLOCK_SIZE, ENTRY_COUNT, ENTRY_SIZE, Group, MAX_LENGTH, POINTER_COUNT, POINTER_SIZE, Pointer,
-    PoolError, RECORD_SIZE, are_zeros, read_pointer, read_u64, write_bytes,
+    PoolError, RECORD_SIZE, Version, are_zeros, read_pointer, read_u64, write_bytes,
 };
 use checked_blocks::{Expected, Frame, HEAD_SIZE, Kind, open};
 use device_model::SectorDevice;
@@ -142,11 +142,12 @@ fn read_entry(payload: &[u8], index: usize) -> Entry
     }
 }
 
-// Whether an entry is absent and all zeros, or present with a length and a pointer within their limits.
+// Whether an entry of one level of indirect blocks is absent and all zeros, or present with a length and a pointer
+// within their limits.
 fn is_entry(payload: &[u8], index: usize) -> bool
     requires size { length payload.now ≡ payload_size }
     requires in_range { index < entry_count }
-    ensures { IsTrue result ↔ IsEntryForm (entry_in payload.now index) }
+    ensures { IsTrue result ↔ IsOneLevelForm (entry_in payload.now index) }
 {
     let entry = read_entry(payload, index);
     match entry.present {
@@ -156,12 +157,24 @@ fn is_entry(payload: &[u8], index: usize) -> bool
     }
 }
 
-fn are_entries(payload: &[u8]) -> bool
+// Whether an entry has its form in the version that the frame has.
+fn has_entry_form(frame: &Frame, payload: &[u8], index: usize) -> bool
+    requires size { length payload.now ≡ payload_size }
+    requires in_range { index < entry_count }
+    ensures { IsTrue result ↔ IsEntryForm frame.now (entry_in payload.now index) }
+{
+    match frame.version() {
+        Version::One => is_entry(payload, index),
+    }
+}
+
+fn are_entries(frame: &Frame, payload: &[u8]) -> bool
     requires { length payload.now ≡ payload_size }
-    ensures { IsTrue result ↔ ((k : ℕ) → k < entry_count → IsEntryForm (entry_in payload.now k)) }
+    ensures { IsTrue result ↔
+        ((k : ℕ) → k < entry_count → IsEntryForm frame.now (entry_in payload.now k)) }
 {
     for index in 0..ENTRY_COUNT {
-        if !is_entry(payload, index) {
+        if !has_entry_form(frame, payload, index) {
             return false;
         }
     }
@@ -411,7 +424,7 @@ impl Loader<'_> {
         };
         self.read_block(device, place, pointer, &mut buffer)?;
         let payload = payload_of(&buffer);
-        if !are_entries(payload) {
+        if !are_entries(self.frame, payload) {
             return Err(damaged(Kind::Directory, pointer));
         }
         self.load_entries(device, directory, payload, objects)
@@ -427,7 +440,7 @@ impl Loader<'_> {
     ) -> Result<(), PoolError>
         requires fits { block_address self.now.frame.now.blocks ≤ D.size device.old }
         requires in_range { directory < pointer_count }
-        requires payload { IsEntryPayload payload.now }
+        requires payload { IsEntryPayload self.now.frame.now payload.now }
         ensures reads { OnlyReads D.SectorDevice result device.old device.new }
         ensures cause { IfErr result IsLoadRefusal }
         ensures loaded { OnImage D.keeps_model (D.disk device.old) (λ image. OnOk result

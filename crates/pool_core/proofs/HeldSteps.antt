@@ -18,7 +18,7 @@ use Rattle.base.specs.tree.Places.Place.{Root, Directory, Indirect, Data}
 use Rattle.base.specs.steps.Shown.{Shown}
 use Rattle.base.specs.stored.Stored.{IsHeld, IsStored, NewTree, RunsAs, frame_at}
 use Rattle.base.specs.tree.Tree.{IsRecord, OpensAt}
-use Rattle.base.specs.tree.PlacedTrees.{IsEntryFor}
+use Rattle.base.specs.tree.PlacedTrees.{IsOneLevelEntry}
 use Rattle.base.specs.formats.Fields.{entry_in}
 use Rattle.base.proofs.stored.StoredRuns.{moves-keep}
 use Rattle.pool_tables.specs.Told.{Leads, SamePlaces, Told, held_with}
@@ -36,7 +36,7 @@ module _ (image : List ℕ) (frame : Frame) (old new : Place → Pointer) (same 
       inr (
         payload,
         subst (λ (p : Pointer). OpensAt image frame (Directory d) p payload) (sym (same (Directory d) is)) opens,
-        λ k low. subst (λ (p : Pointer). IsEntryFor (entry_in payload k) p (finite.get objects (entry_count * d + k))) (sym (same (Indirect (entry_count * d + k)) (omega (arith, is, low)))) (below k low),
+        λ k low. subst (λ (p : Pointer). IsOneLevelEntry (entry_in payload k) p (finite.get objects (entry_count * d + k))) (sym (same (Indirect (entry_count * d + k)) (omega (arith, is, low)))) (below k low),
       )
   stands_as (Indirect n) is (inl (none, below)) = inl (same (Indirect n) is ∙ none, λ r low. same (Data n r) (is, low) ∙ below r low)
   stands_as (Indirect n) is (inr (payload, opens, below)) =

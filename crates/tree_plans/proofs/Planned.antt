@@ -20,7 +20,7 @@ use Rattle.base.specs.formats.Geometry.{IsBlockAddress, block_address}
 use Rattle.base.specs.formats.Blocks.{Frame}
 use Rattle.base.specs.tree.Places.{Place, IsPlace}
 use Rattle.base.specs.tree.Places.Place.{Root, Directory, Indirect, Data}
-use Rattle.base.specs.tree.PlacedTrees.{IsEntryFor, IsPlaced, ArePlaced, padded_record}
+use Rattle.base.specs.tree.PlacedTrees.{IsOneLevelEntry, IsPlaced, ArePlaced, padded_record}
 use Rattle.base.specs.tree.PlannedTrees.{IsNewAt, IsPlannedAt, IsTreePlan, NewBlock, AreFreed}
 use Rattle.base.specs.common.Rising.{rising}
 use Rattle.space.specs.FreeSets.{free_from}
@@ -104,7 +104,7 @@ get_or-slice_get (y ∷ xs) zero x d e = cc
 get_or-slice_get (y ∷ xs) (suc i) x d e = get_or-slice_get xs i x d e
 
 -- an entry as it is written is the object's
-entry_for : (entry : List ℕ) (indirect : Pointer) (o : Option (List ℕ)) → IsEntryWritten entry indirect o → (o ≡ None → indirect ≡ no_pointer) → IfSome o (λ bytes. length bytes ≤ max_length) → IsEntryFor entry indirect o
+entry_for : (entry : List ℕ) (indirect : Pointer) (o : Option (List ℕ)) → IsEntryWritten entry indirect o → (o ≡ None → indirect ≡ no_pointer) → IfSome o (λ bytes. length bytes ≤ max_length) → IsOneLevelEntry entry indirect o
 entry_for entry indirect None written absent size = (written, absent refl)
 entry_for entry indirect (Some bytes) written absent size = (written.0, written.1, size, written.2)
 

@@ -15,7 +15,7 @@ use Rattle.base.specs.formats.Blocks.{Frame, Opens}
 use Rattle.base.specs.tree.Places.{Place, IsPlace, kind_of, number_of_place, pointer_below, pointer_of, directory_pointer, indirect_pointer, data_pointer, IsInTree}
 use Rattle.base.specs.tree.Places.Place.{Root, Directory, Indirect, Data}
 use Rattle.base.specs.tree.Tree.{OpensAt, IsTree, IsDirectory, IsEntry, IsObject, IsRecord, record_bytes}
-use Rattle.base.specs.tree.PlacedTrees.{IsEntryFor, HoldsTree, IsPlaced, ArePlaced}
+use Rattle.base.specs.tree.PlacedTrees.{IsOneLevelEntry, HoldsTree, IsPlaced, ArePlaced}
 use Rattle.base.proofs.tree.SoundTrees.{zero_entry, opens-address, pointer_below-opens, pointer_below-none}
 use Rattle.base.proofs.common.KeptLists.{get_or-zeros}
 
@@ -71,7 +71,7 @@ module _ (image : List ℕ) (frame : Frame) (pointers : Place → Pointer) (obje
   ByDirectory n =
       ((pointers (Directory (n / entry_count)) ≡ no_pointer) × (map.get objects n ≡ None) × (pointers (Indirect n) ≡ no_pointer))
       ⊎ ((payload : List ℕ) × OpensAt image frame (Directory (n / entry_count)) (pointers (Directory (n / entry_count))) payload
-      × IsEntryFor (entry_in payload (n % entry_count)) (pointers (Indirect n)) (map.get objects n))
+      × IsOneLevelEntry (entry_in payload (n % entry_count)) (pointers (Indirect n)) (map.get objects n))
 
   by_directory : (n : ℕ) → n < object_count → ByDirectory n
   by_directory n below =
@@ -86,7 +86,7 @@ module _ (image : List ℕ) (frame : Frame) (pointers : Place → Pointer) (obje
         | inr h ↦ inr (
           h.0,
           h.1,
-          subst (λ (m : ℕ). IsEntryFor (entry_in h.0 (n % entry_count)) (pointers (Indirect m)) (map.get objects m)) (div-add-mod n entry_count) (h.2 (n % entry_count) k_below),
+          subst (λ (m : ℕ). IsOneLevelEntry (entry_in h.0 (n % entry_count)) (pointers (Indirect m)) (map.get objects m)) (div-add-mod n entry_count) (h.2 (n % entry_count) k_below),
         )
       ]
 
@@ -94,7 +94,7 @@ module _ (image : List ℕ) (frame : Frame) (pointers : Place → Pointer) (obje
   pub absent-indirect : (n : ℕ) → n < object_count → map.get objects n ≡ None → pointers (Indirect n) ≡ no_pointer
   absent-indirect n below absent = elim (by_directory n below) as (λ _. pointers (Indirect n) ≡ no_pointer) [
     | inl h ↦ h.2
-    | inr h ↦ (subst (λ (o : Option (List ℕ)). IsEntryFor (entry_in h.0 (n % entry_count)) (pointers (Indirect n)) o) absent h.2).1
+    | inr h ↦ (subst (λ (o : Option (List ℕ)). IsOneLevelEntry (entry_in h.0 (n % entry_count)) (pointers (Indirect n)) o) absent h.2).1
   ]
 
   below_no_indirect : (n r : ℕ) → n < object_count → r < pointer_count → pointers (Indirect n) ≡ no_pointer → pointers (Data n r) ≡ no_pointer
@@ -122,7 +122,7 @@ module _ (image : List ℕ) (frame : Frame) (pointers : Place → Pointer) (obje
     | inr h ↦ inr (h.0, h.1, λ r r_below. subst (λ (p : Pointer). IsRecord image frame n r p bytes) (sym (h.2 r r_below)) (record_at n r bytes below r_below there))
   ]
 
-  entry_at : (n : ℕ) (entry : List ℕ) (o : Option (List ℕ)) → n < object_count → map.get objects n ≡ o → IsEntryFor entry (pointers (Indirect n)) o → IsEntry image frame n entry o
+  entry_at : (n : ℕ) (entry : List ℕ) (o : Option (List ℕ)) → n < object_count → map.get objects n ≡ o → IsOneLevelEntry entry (pointers (Indirect n)) o → IsEntry image frame n entry o
   entry_at n entry None below is h = h.0
   entry_at n entry (Some bytes) below is h =
       (h.0, h.1, h.2, subst (λ (p : Pointer). IsObject image frame n p bytes) (sym h.3) (object_at n bytes below is h.2))
@@ -169,7 +169,7 @@ module _ (image : List ℕ) (frame : Frame) (pointers : Place → Pointer) (obje
   abbrev entry_reads : ℕ → List ℕ → Pointer
   entry_reads n payload = entry_pointer (entry_in payload (n % entry_count))
 
-  entry-told : (entry : List ℕ) (indirect : Pointer) (o : Option (List ℕ)) → IsEntryFor entry indirect o → entry_pointer entry ≡ indirect
+  entry-told : (entry : List ℕ) (indirect : Pointer) (o : Option (List ℕ)) → IsOneLevelEntry entry indirect o → entry_pointer entry ≡ indirect
   entry-told entry indirect None h = ap entry_pointer h.0 ∙ zero_entry ∙ sym h.1
   entry-told entry indirect (Some bytes) h = h.3
 

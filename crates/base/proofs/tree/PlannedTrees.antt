@@ -15,7 +15,7 @@ use Rattle.base.specs.formats.Blocks.{Frame, IsBlock, Opens}
 use Rattle.base.specs.tree.Places.{Place, IsPlace, kind_of, number_of_place}
 use Rattle.base.specs.tree.Places.Place.{Root, Directory, Indirect, Data}
 use Rattle.base.specs.tree.Tree.{OpensAt, IsRecord, record_bytes}
-use Rattle.base.specs.tree.PlacedTrees.{IsEntryFor, padded_record, StandsAt, HoldsTree}
+use Rattle.base.specs.tree.PlacedTrees.{IsOneLevelEntry, padded_record, StandsAt, HoldsTree}
 use Rattle.base.specs.tree.PlannedTrees.{NewBlock, IsNewAt, SameEntry, SameRecord, IsZeroRecord, IsPlannedAt, IsTreePlan, SameBlock, IsBlockWritten}
 use Rattle.base.proofs.tree.PlacedTrees.{opens-some, absent-data}
 use Rattle.base.proofs.common.KeptLists.{get_or-zeros}
@@ -57,7 +57,7 @@ absent-stays None None same is = refl
 absent-stays None (Some y) same is = absurd (let no_way : None ≡ Some (length y) = same in cc)
 absent-stays (Some x) a same is = absurd (let no_way : Some x ≡ None = is in cc)
 
-entry-stays : (entry : List ℕ) (p q : Pointer) (b a : Option (List ℕ)) → q ≡ p → SameEntry b a → IsEntryFor entry p b → IsEntryFor entry q a
+entry-stays : (entry : List ℕ) (p q : Pointer) (b a : Option (List ℕ)) → q ≡ p → SameEntry b a → IsOneLevelEntry entry p b → IsOneLevelEntry entry q a
 entry-stays entry p q None None top same h = (h.0, top ∙ h.1)
 entry-stays entry p q None (Some y) top same h = absurd (let no_way : None ≡ Some (length y) = same in cc)
 entry-stays entry p q (Some x) None top same h = absurd (let no_way : Some (length x) ≡ None = same in cc)

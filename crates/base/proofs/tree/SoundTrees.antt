@@ -16,7 +16,7 @@ use Rattle.base.specs.formats.Blocks.{Frame, Opens, payload_at}
 use Rattle.base.specs.tree.Places.{Place, IsPlace, pointer_below, directory_pointer, indirect_pointer, data_pointer}
 use Rattle.base.specs.tree.Places.Place.{Root, Directory, Indirect, Data}
 use Rattle.base.specs.tree.Tree.{IsTree, IsDirectory, IsEntry, IsObject, IsRecord, record_bytes}
-use Rattle.base.specs.tree.Faults.{IsPointerForm, IsEntryForm, IsRecordPointerForm, IsSoundAt, IsFirstFault, length_in}
+use Rattle.base.specs.tree.Faults.{IsPointerForm, IsOneLevelForm, IsRecordPointerForm, IsSoundAt, IsFirstFault, length_in}
 
 -- past the length of an object the payload of its record is zeros
 zeros-past : (r : ℕ) (bytes : List ℕ) (size : ℕ) → size ≡ length bytes
@@ -67,7 +67,7 @@ module _ (image : List ℕ) (frame : Frame) where
   record-form n r p bytes (inl h) = (λ _. inl h.0, λ _. h.0)
   record-form n r p bytes (inr h) = (λ _. inr (opens-address 5 (pointer_count * n + r) p _ h.1), λ le. absurd (omega (arith, h.0)))
 
-  entry-form : (n : ℕ) (entry : List ℕ) (o : Option (List ℕ)) → IsEntry image frame n entry o → IsEntryForm entry
+  entry-form : (n : ℕ) (entry : List ℕ) (o : Option (List ℕ)) → IsEntry image frame n entry o → IsOneLevelForm entry
   entry-form n entry None h = inl h
   entry-form n entry (Some bytes) h = inr (h.0, subst (λ x. x ≤ max_length) (sym h.1) h.2, object-form n (entry_pointer entry) bytes h.3)
 

@@ -12,11 +12,15 @@ use Rattle.base.specs.tree.Places.{Place, IsPlace, object_of_indirect}
 use Rattle.base.specs.tree.Places.Place.{Root, Directory, Indirect, Data}
 use Rattle.base.specs.tree.Tree.{OpensAt, IsRecord, record_bytes}
 
--- what the entry of an object says: nothing, or its length and the pointer to its indirect block
-abbrev pub IsEntryFor : List ℕ → Pointer → Option (List ℕ) → Type 0
-IsEntryFor entry indirect None = (entry ≡ replicate entry_size 0) × (indirect ≡ no_pointer)
-IsEntryFor entry indirect (Some bytes) =
+-- what the entry of an object of one level says: nothing, or its length and the pointer to its indirect block
+abbrev pub IsOneLevelEntry : List ℕ → Pointer → Option (List ℕ) → Type 0
+IsOneLevelEntry entry indirect None = (entry ≡ replicate entry_size 0) × (indirect ≡ no_pointer)
+IsOneLevelEntry entry indirect (Some bytes) =
     (entry_present entry ≡ 1) × (entry_length entry ≡ length bytes) × (length bytes ≤ max_length) × (entry_pointer entry ≡ indirect)
+
+-- what the entry of an object says by the version that the frame has: all known ones have one level
+abbrev pub IsEntryFor : Frame → List ℕ → Pointer → Option (List ℕ) → Type 0
+IsEntryFor frame entry indirect object = IsOneLevelEntry entry indirect object
 
 -- the bytes of an object in its record r, with zeros after its end
 abbrev pub padded_record : ℕ → List ℕ → List ℕ
@@ -31,7 +35,7 @@ StandsAt image frame pointers objects (Directory d) =
     ((pointers (Directory d) ≡ no_pointer) × ((k : ℕ) → k < entry_count
     → (map.get objects (entry_count * d + k) ≡ None) × (pointers (Indirect (entry_count * d + k)) ≡ no_pointer)))
     ⊎ ((payload : List ℕ) × OpensAt image frame (Directory d) (pointers (Directory d)) payload
-    × ((k : ℕ) → k < entry_count → IsEntryFor (entry_in payload k) (pointers (Indirect (entry_count * d + k))) (map.get objects (entry_count * d + k))))
+    × ((k : ℕ) → k < entry_count → IsEntryFor frame (entry_in payload k) (pointers (Indirect (entry_count * d + k))) (map.get objects (entry_count * d + k))))
 StandsAt image frame pointers objects (Indirect n) =
     ((pointers (Indirect n) ≡ no_pointer) × ((r : ℕ) → r < pointer_count → pointers (Data n r) ≡ no_pointer))
     ⊎ ((payload : List ℕ) × OpensAt image frame (Indirect n) (pointers (Indirect n)) payload × ((r : ℕ) → r < pointer_count → pointer_in payload r ≡ pointers (Data n r)))

@@ -57,7 +57,7 @@ module _ (blocks : List NewBlock) (frame : Frame) (old new : Place → Pointer) 
   abbrev pub IsWrittenAt : Place → Type 0
   IsWrittenAt Root = (payload : List ℕ) × IsNewAt blocks frame Root (new Root) payload × ((d : ℕ) → d < pointer_count → pointer_in payload d ≡ new (Directory d))
   IsWrittenAt (Directory d) = (payload : List ℕ) × IsNewAt blocks frame (Directory d) (new (Directory d)) payload
-      × ((k : ℕ) → k < entry_count → IsEntryFor (entry_in payload k) (new (Indirect (entry_count * d + k))) (map.get after (entry_count * d + k)))
+      × ((k : ℕ) → k < entry_count → IsEntryFor frame (entry_in payload k) (new (Indirect (entry_count * d + k))) (map.get after (entry_count * d + k)))
   IsWrittenAt (Indirect n) = (payload : List ℕ) × IsNewAt blocks frame (Indirect n) (new (Indirect n)) payload
       × ((r : ℕ) → r < pointer_count → pointer_in payload r ≡ new (Data n r))
   IsWrittenAt (Data m k) = IfSome (map.get after (object_of_indirect m))
