@@ -3,8 +3,12 @@
 #![tactic(auto)]
 
 mod chains;
+mod kept;
+mod kept_block;
 mod packing;
 mod records;
 
 pub use chains::{ChainHeader, LoggedBlock, chain};
+pub use kept::Log;
+pub use kept_block::LogHeader;
 pub use packing::{LOG_BLOCK_ROOM, NewBlock, PackedBlock, pack};
