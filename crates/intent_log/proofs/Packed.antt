@@ -73,6 +73,7 @@ front_at records i r bytes allowed within at spelled fits over =
         fits = subst (λ (n : ℕ). n ≤ log_block_room) size fits;
         no_more = subst (λ (l : List Record). IfSome (slice_get l 0) (λ x. log_block_room < total_size (taken ++ x ∷ []))) (sym behind) (subst (λ (n : ℕ). 4008 < n) more over);
       };
+      within = omega (arith, within);
       spelled = spelled;
       fits = fits;
     }
@@ -91,6 +92,7 @@ front_all records bytes n all some spelled fits =
         fits = subst (λ (k : ℕ). k ≤ log_block_room) size fits;
         no_more = subst (λ (l : List Record). IfSome (slice_get l 0) (λ x. log_block_room < total_size (take n records ++ x ∷ []))) (sym behind) tt;
       };
+      within = omega (arith, all);
       spelled = spelled;
       fits = fits;
     }

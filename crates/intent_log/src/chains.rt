@@ -30,8 +30,11 @@ use transactions::Record;
 /// The first block of a chain: where it lies, its log number, and the import number of the chain's run.
 #[derive(Clone, Copy, Debug, PartialEq, Eq)]
 pub struct ChainHeader {
+    /// The block's address in bytes. That of no block begins the empty chain.
     pub address: u64,
+    /// The block's log number.
     pub number: u64,
+    /// The import number of the run that wrote the chain.
     pub import_number: u64,
 }
 
@@ -61,7 +64,7 @@ impl LoggedBlock {
     ghost use Rattle.std.specs.Prelude.{◌≡◌, map};
     ghost use Rattle.transactions.specs.Records.{record_fields};
 
-    /// Where the block lies.
+    /// The address of the block in bytes.
     pub fn address(&self) -> u64
         ensures { result ≡ self.now.address }
     {
@@ -76,7 +79,7 @@ impl LoggedBlock {
     }
 }
 
-/// Reads the chain from a header on.
+/// Reads the longest chain from a header on. It reads each block once, and the one at which the chain ends.
 ///
 /// # Errors
 /// `Read` if the device refuses a read, `NoMemory` if there is no memory for a block's records.

@@ -1,6 +1,6 @@
 //! Packing: as many whole records from the front of the pending ones as fit a log block, and the block that holds them.
 //!
-//! A record is encoded once, when its block is written: a record whose group is synced before that is never encoded.
+//! A record is encoded once, when its block is written. A record whose group is synced before that is never encoded.
 
 ghost use Rattle.std.specs.Prelude.{◌≡◌, ◌<◌, ◌≤◌, ◌+◌, ◌^◌, All, IfErr, IfOk, length, map, take};
 ghost use Rattle.base.specs.formats.Records.{IsAllowed};
@@ -23,28 +23,35 @@ pub const LOG_BLOCK_ROOM: usize = PAYLOAD_SIZE - RECORDS_AT;
 /// after it.
 #[derive(Clone, Copy, Debug, PartialEq, Eq)]
 pub struct NewBlock {
+    /// The pool's guid.
     pub guid: u64,
+    /// The open group, in which the block is packed.
     pub group: Group,
+    /// The block's own address, log number and import number.
     pub header: ChainHeader,
+    /// The address of the block after it, in bytes.
     pub next: u64,
 }
 
-/// A log block that is to be written, and how many of the pending records it holds.
+/// A log block that is to be written, and how many records from the front of the pending ones it holds.
 #[derive(Debug, Drop)]
 pub struct PackedBlock {
+    /// The block, with its check.
     pub block: Block,
+    /// The number of its records.
     pub count: usize,
 }
 
 /// Packs as many whole records from the front as fit. The first one always fits.
 ///
 /// # Errors
-/// `NoMemory`.
+/// `NoMemory` if there is no memory for the bytes of the records.
 pub fn pack(alloc: Global, place: &NewBlock, pending: &[Record]) -> Result<PackedBlock, PoolError>
     requires some { 0 < length pending.now }
     requires allowed { All IsAllowed (map record_fields pending.now) }
     ensures packed { IfOk result
         (λ p. IsPackedFront (map record_fields pending.now) p.count) }
+    ensures within { IfOk result (λ p. p.count ≤ length pending.now) }
     ensures content { IfOk result (λ p. HoldsRecords place.now p.block
         (take p.count (map record_fields pending.now))) }
     ensures refused { IfErr result (λ e. e ≡ PoolError.NoMemory) }
