@@ -67,13 +67,15 @@ front_at records i r bytes allowed within at spelled fits over =
     let more : length (bytes ++ bytes_of_record r) ≡ total_size (taken ++ r ∷ []) =
     ap (λ (l : List ℕ). length (l ++ bytes_of_record r)) spelled ∙ ap (λ (l : List ℕ). length l) (sym (bytes_more taken r)) ∙ length-bytes_of_records (taken ++ r ∷ []) in
     record {
-      packed = record {
-        front = sym (take-append-drop i records);
-        some = subst (λ (n : ℕ). 0 < n) (sym as_many) some;
-        fits = subst (λ (n : ℕ). n ≤ log_block_room) size fits;
-        no_more = subst (λ (l : List Record). IfSome (slice_get l 0) (λ x. log_block_room < total_size (taken ++ x ∷ []))) (sym behind) (subst (λ (n : ℕ). 4008 < n) more over);
+      front = record {
+        within = omega (arith, within);
+        packed = record {
+          front = sym (take-append-drop i records);
+          some = subst (λ (n : ℕ). 0 < n) (sym as_many) some;
+          fits = subst (λ (n : ℕ). n ≤ log_block_room) size fits;
+          no_more = subst (λ (l : List Record). IfSome (slice_get l 0) (λ x. log_block_room < total_size (taken ++ x ∷ []))) (sym behind) (subst (λ (n : ℕ). 4008 < n) more over);
+        };
       };
-      within = omega (arith, within);
       spelled = spelled;
       fits = fits;
     }
@@ -86,13 +88,15 @@ front_all records bytes n all some spelled fits =
     let behind : drop n records ≡ [] = drop_all n records (omega (arith, all)) in
     let size : length bytes ≡ total_size (take n records) = ap (λ (l : List ℕ). length l) spelled ∙ length-bytes_of_records (take n records) in
     record {
-      packed = record {
-        front = sym (take-append-drop n records);
-        some = subst (λ (l : List Record). 0 < length l) (sym taken) some;
-        fits = subst (λ (k : ℕ). k ≤ log_block_room) size fits;
-        no_more = subst (λ (l : List Record). IfSome (slice_get l 0) (λ x. log_block_room < total_size (take n records ++ x ∷ []))) (sym behind) tt;
+      front = record {
+        within = omega (arith, all);
+        packed = record {
+          front = sym (take-append-drop n records);
+          some = subst (λ (l : List Record). 0 < length l) (sym taken) some;
+          fits = subst (λ (k : ℕ). k ≤ log_block_room) size fits;
+          no_more = subst (λ (l : List Record). IfSome (slice_get l 0) (λ x. log_block_room < total_size (take n records ++ x ∷ []))) (sym behind) tt;
+        };
       };
-      within = omega (arith, all);
       spelled = spelled;
       fits = fits;
     }
@@ -134,7 +138,7 @@ pub holds_records : (place : NewBlock) (block : List ℕ) (all : List Record) (c
 holds_records place block all count bytes allowed front holds = record {
   payload = padded (log_bytes place.header.import_number place.next bytes);
   sealed = holds.sealed;
-  fields = payload_is place bytes (take count all) holds.chain_fits holds.next_fits front.spelled front.fits front.packed.some (All-take IsAllowed count all allowed);
+  fields = payload_is place bytes (take count all) holds.chain_fits holds.next_fits front.spelled front.fits front.front.packed.some (All-take IsAllowed count all allowed);
 }
 
 -- the record at a place

@@ -3,6 +3,7 @@
 #![tactic(auto)]
 
 mod chains;
+mod clients;
 mod kept;
 mod kept_block;
 mod packing;

@@ -51,7 +51,6 @@ pub fn pack(alloc: Global, place: &NewBlock, pending: &[Record]) -> Result<Packe
     requires allowed { All IsAllowed (map record_fields pending.now) }
     ensures packed { IfOk result
         (λ p. IsPackedFront (map record_fields pending.now) p.count) }
-    ensures within { IfOk result (λ p. p.count ≤ length pending.now) }
     ensures content { IfOk result (λ p. HoldsRecords place.now p.block
         (take p.count (map record_fields pending.now))) }
     ensures refused { IfErr result (λ e. e ≡ PoolError.NoMemory) }
