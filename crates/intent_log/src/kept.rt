@@ -89,8 +89,9 @@ impl Log {
         Ok(())
     }
 
-    /// A block with the records of these receipts was handed to the device at the next header, and the one after it
-    /// goes to this address. It takes no memory: the room is there.
+    /// A block with the records of these receipts goes to the device at the next header, and the one after it to this
+    /// address. It is noted before the write, so that its address stays taken if the device refuses it. It takes no
+    /// memory: the room is there.
     pub fn written(&mut self, receipts: Vec<Receipt>, address: u64)
         requires room { HasRoom self.old }
         requires number { self.old.next.number < last_number }

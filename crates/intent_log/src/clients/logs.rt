@@ -64,6 +64,27 @@ fn a_record_is_durable_once_its_block_is_flushed(log: &mut Log, receipts: Vec<Re
     prove!(next.address == 4_198_400 && next.number == 4);
 }
 
+// Not only the last one.
+fn a_flush_makes_each_block_certain(log: &mut Log)
+    requires { log.old.kept
+        ≡ record { address = 4194304; number = 0; committed = record { ordinal = 0; group = 5 } ∷ []; flushed = false }
+        ∷ record { address = 4198400; number = 1; committed = record { ordinal = 1; group = 6 } ∷ []; flushed = false }
+        ∷ [] }
+{
+    let first = Receipt {
+        ordinal: Ordinal(0),
+        group: Group(5),
+    };
+    let last = Receipt {
+        ordinal: Ordinal(1),
+        group: Group(6),
+    };
+    log.flushed();
+    prove!(log.has_flushed(first));
+    prove!(log.has_flushed(last));
+    prove!(!log.awaits_flush());
+}
+
 // The header of a sync is the first block with a record above its group, and the blocks before it come back.
 fn a_sync_keeps_the_blocks_above_its_group(log: &mut Log)
     requires kept { log.old.kept
