@@ -9,11 +9,10 @@
 //! The first block that isn't so ends the chain. Whatever the device holds, a chain has no more blocks than the area:
 //! each has a number of its own, and so an address of its own.
 
-ghost use Rattle.std.specs.Prelude.{◌≡◌, ◌≤◌, ◌<◌, ◌^◌, ℕ, List, All, IfErr, IfOk, IfSome, IfNone, IsTrue, drop, length, map};
+ghost use Rattle.std.specs.Prelude.{◌≡◌, ◌≤◌, ◌<◌, ◌^◌, All, IfErr, IfOk, IfSome, IfNone, IsTrue, length, map};
 ghost use Rattle.base.specs.disk.Disk.{bytes_of};
 ghost use Rattle.base.specs.formats.Geometry.{block_address};
 ghost use Rattle.base.specs.formats.Chain.{IsLogPayload};
-ghost use Rattle.base.specs.formats.Fields.{number_at};
 ghost use Rattle.device_model.specs.Reading.{OnlyReads};
 ghost use Rattle.transactions.specs.Records.{record_fields};
 ghost use Rattle.intent_log.specs.Chains.{HasNoBlock, HasNoPayload, IsBlockOf, IsChainFrom, IsChainRefusal, IsLogExpected, IsSoundBlock};

@@ -5,7 +5,7 @@
 //!    the front of them.
 //! 3. A flush makes all of them certain at once. So it is enough to know how many are, counted from the front.
 
-ghost use Rattle.std.specs.Prelude.{◌≡◌, ◌≤◌, ◌<◌, ◌+◌, ◌^◌, ◌++◌, ◌∷◌, [], ℕ, IfErr, IfNone, IfSome, IsOk, OnOk, nat_le};
+ghost use Rattle.std.specs.Prelude.{◌≡◌, ◌≤◌, ◌<◌, ◌+◌, ◌++◌, ◌∷◌, [], IfErr, IfNone, IfSome, IsOk, OnOk, nat_le};
 ghost use Rattle.base.specs.formats.Limits.{last_number};
 ghost use Rattle.base.specs.steps.Logs as logs;
 ghost use Rattle.base.specs.steps.Logs.{blocks_before, is_flushed_in, log_after_flush};

@@ -1,6 +1,6 @@
 //! The records of a log block, from its front to its end.
 
-ghost use Rattle.std.specs.Prelude.{◌≡◌, ◌≤◌, IfErr, IfOk, IfSome, IfNone, length, map};
+ghost use Rattle.std.specs.Prelude.{◌≡◌, IfErr, IfOk, IfSome, IfNone, map};
 ghost use Rattle.transactions.specs.Records.{record_fields};
 ghost use Rattle.intent_log.specs.Chains.{AreRecordsOf, HasNoRecords};
 

@@ -4,7 +4,6 @@ ghost use Rattle.std.specs.Prelude.{◌≡◌, ◌∷◌, [], IsOk, false, true}
 ghost use Rattle.intent_log.specs.Kept.{HasRoom};
 
 use crate::kept::Log;
-use crate::kept_block::LogHeader;
 use base::{Group, Ordinal, PoolError, Receipt};
 use std::alloc::Global;
 

@@ -1,6 +1,6 @@
 //! What callers rest on of a block that is packed.
 
-ghost use Rattle.std.specs.Prelude.{◌≡◌, ◌<◌, ◌≤◌, ℕ, List, All, IfErr, IfOk, length, map, take};
+ghost use Rattle.std.specs.Prelude.{◌≡◌, ◌<◌, ℕ, List, All, IfErr, IfOk, length, map, take};
 ghost use Rattle.base.specs.formats.Blocks.{Frame};
 ghost use Rattle.base.specs.formats.Fields.{number_at, part};
 ghost use Rattle.base.specs.formats.Geometry.{IsBlockAddress};
