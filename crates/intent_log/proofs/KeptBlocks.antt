@@ -1,10 +1,10 @@
 -- Kept blocks, as contracts see them, after a write, after a flush, and after the first one was given back.
-use Rattle.std.proofs.Common.{◌≡◌, ℕ, zero, suc, ◌+◌, ◌-◌, ◌<◌, ◌≤◌, ◌||◌, ◌&&◌, Bool, true, false, cond, List, [], ◌∷◌, ◌++◌, length, length-append, length-drop, take, drop, map, refl, sym, ap, subst, ◌∙◌, append_assoc, arith}
+use Rattle.std.proofs.Common.{◌≡◌, ℕ, zero, suc, ◌+◌, ◌-◌, ◌<◌, ◌≤◌, ◌||◌, ◌&&◌, Bool, true, false, cond, List, [], ◌∷◌, ◌++◌, length, length-append, length-drop, take, drop, map, refl, sym, ap, subst, ◌∙◌, arith}
 use Rattle.std.specs.Prelude.{not, nat_lt, Option, Some, option_map, unwrap_or, find, slice_get, slice_index_or}
 use Rattle.std.specs.List.{list_any}
 use Rattle.std.proofs.lemmas.Bool.{le-ltb}
 use Rattle.std.proofs.lemmas.Bool.Decides.{nat_tests}
-use Rattle.std.proofs.lemmas.List.{append-nil, take_all, drop_all, take-append-drop, take-append-le, drop-append-le, map-append}
+use Rattle.std.proofs.lemmas.List.{append-nil, take_all, drop_all, take-append-drop, map-append}
 use Rattle.std.proofs.lemmas.List.Folds.{list_any-append}
 use Rattle.base.specs.declared.names.Receipt.{Receipt}
 use Rattle.base.specs.formats.Chain.{Header}
@@ -42,14 +42,6 @@ all_flushed f bs =
 pub flushed_log : (f n : ℕ) (bs : List code.KeptBlock) (next : Header) → n ≡ length bs
     → log_with n bs next ≡ log_after_flush (log_with f bs next)
 flushed_log f n bs next all = λ i. record { pending = []; kept = (ap (λ (k : ℕ). shown_blocks k bs) all ∙ all_flushed f bs) i; next = next }
-
--- one that is written is after them, and awaits a flush
-pub push_block : (f : ℕ) (bs new : List code.KeptBlock) (b : code.KeptBlock) → f ≤ length bs → new ≡ bs ++ b ∷ [] → shown_blocks f new ≡ shown_blocks f bs ++ shown_block false b ∷ []
-push_block f bs new b within is =
-    ap (λ (l : List code.KeptBlock). shown_blocks f l) is
-    ∙ (λ i. map (shown_block true) (take-append-le f bs (b ∷ []) within i) ++ map (shown_block false) (drop-append-le f bs (b ∷ []) within i))
-    ∙ ap (λ (l : List KeptBlock). map (shown_block true) (take f bs) ++ l) (map-append (shown_block false) (drop f bs) (b ∷ []))
-    ∙ sym (append_assoc (map (shown_block true) (take f bs)) (map (shown_block false) (drop f bs)) (shown_block false b ∷ []))
 
 positive : (n : ℕ) → nat_lt 0 (suc n) ≡ true
 positive n = grind (arith, nat_tests)

@@ -1,5 +1,5 @@
 -- A block that opens as a header names it, with the payload of a log block, is the log block there.
-use Rattle.std.proofs.Common.{◌≡◌, ℕ, List, drop, sym, ap, subst, ◌∙◌}
+use Rattle.std.proofs.Common.{◌≡◌, ℕ, List, sym, subst, ◌∙◌}
 use Rattle.std.specs.Prelude.{Result, Ok, Err, Option, Some, None, IfOk, IfSome}
 use Rattle.base.specs.formats.Blocks.{Frame, IsBlock}
 use Rattle.base.specs.formats.Chain.{LogBlock, IsLogPayload}
@@ -7,7 +7,7 @@ use Rattle.base.specs.formats.Fields.{part}
 use Rattle.base.specs.formats.Geometry.{IsBlockAddress}
 use Rattle.checked_blocks.specs.declared.expected.Expected.{Expected}
 use Rattle.checked_blocks.specs.Opening.{IsExpected}
-use Rattle.intent_log.specs.Chains.{HasNoBlock, HasNoPayload, IsBlockOf, IsLogExpected}
+use Rattle.intent_log.specs.Chains.{HasNoBlock, IsBlockOf, IsLogExpected}
 use Rattle.intent_log.specs.declared.chains.ChainHeader.{ChainHeader}
 
 pub is_block_of : (image : List ℕ) (frame : Frame) (h : ChainHeader) (e : Expected) (bytes payload : List ℕ) (group : ℕ) (block : LogBlock) → IsLogExpected frame h e
@@ -43,13 +43,6 @@ none_opens image frame h e bytes named at other block is =
       group = rw named.group_is tt;
       check = rw named.check_is tt;
     })
-
--- nor if its payload is none of the chain
-pub none_reads : (image : List ℕ) (frame : Frame) (h : ChainHeader) (bytes payload : List ℕ) → bytes ≡ part image h.address 4096 → drop 64 bytes ≡ payload
-    → HasNoPayload payload h.import_number → HasNoBlock image frame h
-none_reads image frame h bytes payload at behind none block is =
-    let same : is.payload ≡ payload = sym is.sealed.payload_is ∙ ap (λ (l : List ℕ). drop 64 l) (sym at) ∙ behind in
-    none block (subst (λ (l : List ℕ). IsLogPayload l h.import_number block) same is.fields)
 
 -- what follows of a value that was found
 pub found_also : {A E : Type 0} (P Q R : A → Type 0) (found : Result (Option A) E) → IfOk found (λ o. IfSome o P) → IfOk found (λ o. IfSome o Q) → ((a : A) → P a → Q a → R a)

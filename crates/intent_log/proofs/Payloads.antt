@@ -1,5 +1,5 @@
 -- A payload is that of a log block exactly if it has the chain's number, and whole records with zeros after them.
-use Rattle.std.proofs.Common.{◌≡◌, ℕ, ◌+◌, ◌-◌, ◌<◌, ◌≤◌, List, ◌++◌, length, take, drop, replicate, sym, ap, subst, ◌∙◌, arith, length-drop}
+use Rattle.std.proofs.Common.{◌≡◌, ℕ, ◌+◌, ◌-◌, ◌≤◌, List, ◌++◌, length, take, drop, replicate, sym, ap, subst, ◌∙◌, arith, length-drop}
 use Rattle.std.proofs.lemmas.List.{drop-drop, take-append-drop, length-take-le, length-replicate}
 use Rattle.std.proofs.Math.Seq.{drop-append_seam, take-append_seam}
 use Rattle.base.specs.formats.Limits.{log_block_room}
@@ -34,7 +34,6 @@ is_payload payload chain used block long fits chain_is next_is used_is are zeros
 
 -- what a payload has if it is that of a log block
 pub record HasParts (payload : List ℕ) (used : ℕ) (records : List Record) : Type 0 where
-  pub fits : used ≤ 4008
   pub are : AreRecordsOf (take used (drop 24 payload)) records
   pub zeros : drop (24 + used) payload ≡ replicate (length (drop (24 + used) payload)) 0
 
@@ -46,18 +45,11 @@ has_parts payload chain used block used_is p =
     let front : take used (drop 24 payload) ≡ bytes = rw (size, p.rest) (take-append_seam {A = ℕ} bytes zeros) in
     let back : drop (24 + used) payload ≡ zeros = sym (behind payload used) ∙ rw (size, p.rest) (drop-append_seam {A = ℕ} bytes zeros) in
     record {
-      fits = subst (λ (n : ℕ). n ≤ 4008) (sym size) p.fits;
       are = record { some = p.some; allowed = p.allowed; spelled = front };
       zeros = back ∙ ap (λ (n : ℕ). replicate n 0) (sym (ap (λ (l : List ℕ). length l) back ∙ length-replicate (log_block_room - length bytes) 0));
     }
 
--- no payload has another chain's number, too many bytes, bytes that are no records, or other bytes after them
-pub none_of_chain : (payload : List ℕ) (chain : ℕ) → (number_at payload 0 ≡ chain → ⊥) → HasNoPayload payload chain
-none_of_chain payload chain other block p = other p.chain_is
-
-pub none_of_size : (payload : List ℕ) (chain used : ℕ) → number_at payload 16 ≡ used → 4008 < used → HasNoPayload payload chain
-none_of_size payload chain used used_is large block p = let parts = has_parts payload chain used block used_is p in let fits = parts.fits in omega (arith, large, fits)
-
+-- no payload has bytes that are no records, or other bytes than zeros after its records
 pub none_of_zeros : (payload : List ℕ) (chain used : ℕ) → number_at payload 16 ≡ used
     → (drop (24 + used) payload ≡ replicate (length (drop (24 + used) payload)) 0 → ⊥) → HasNoPayload payload chain
 none_of_zeros payload chain used used_is other block p = other (has_parts payload chain used block used_is p).zeros

@@ -1,9 +1,11 @@
 //! What callers rest on of the kept blocks of a log.
 
-ghost use Rattle.std.specs.Prelude.{◌≡◌, ◌∷◌, [], IsOk, false, true};
-ghost use Rattle.intent_log.specs.Kept.{HasRoom};
+ghost use Rattle.std.specs.Prelude.{ℕ, ◌≡◌, ◌∷◌, [], IsOk, false, true};
+ghost use Rattle.base.specs.steps.Logs.{log_after_sync};
+ghost use Rattle.intent_log.specs.Kept.{HasRoom, header_fields, log_of};
 
 use crate::kept::Log;
+use crate::kept_block::LogHeader;
 use base::{Group, Ordinal, PoolError, Receipt};
 use std::alloc::Global;
 
@@ -101,4 +103,12 @@ fn a_sync_keeps_the_blocks_above_its_group(log: &mut Log)
     prove!(log.awaits_flush());
     prove!(log.give_back(past) == Some(4_198_400));
     prove!(!log.awaits_flush());
+}
+
+// One call after another gives all blocks before a header back, and the log is as after that sync.
+fn a_sync_keeps_its_log_from_the_header_on(log: &mut Log, header: LogHeader)
+    ensures { (group : ℕ) → log_of log.new
+        ≡ log_after_sync group (header_fields header) (log_of log.old) }
+{
+    while log.give_back(header).is_some() {}
 }
