@@ -1,0 +1,91 @@
+//! What callers rest on of a chain that is read.
+
+ghost use Rattle.std.specs.Prelude.{◌≡◌, ◌≤◌, ◌<◌, ◌^◌, ◌⊎◌, [], All, IfErr, IfOk, IfSome, IsTrue, length, map};
+ghost use Rattle.base.specs.disk.Disk.{bytes_of};
+ghost use Rattle.base.specs.formats.Chain.{LogBlock};
+ghost use Rattle.base.specs.formats.Geometry.{IsBlockAddress, block_address};
+ghost use Rattle.base.specs.formats.Records.{IsAllowed};
+ghost use Rattle.transactions.specs.Records.{record_fields};
+ghost use Rattle.intent_log.specs.Chains.{IsBlockOf};
+
+use crate::chains::{ChainHeader, LoggedBlock, chain};
+use base::PoolError;
+use checked_blocks::Frame;
+use device_model::SectorDevice;
+use std::alloc::Global;
+use transactions::Record;
+
+// The uberblock of a pool without a log names address 0.
+fn no_chain_begins_at_address_0<D: SectorDevice>(
+    alloc: Global,
+    device: &mut D,
+    frame: &Frame,
+) -> Result<Vec<LoggedBlock>, PoolError>
+    requires fits { block_address frame.now.blocks ≤ D.size device.old }
+    ensures { IsTrue D.keeps_model → IfOk result (λ blocks. blocks.items ≡ []) }
+{
+    chain(
+        alloc,
+        device,
+        frame,
+        &ChainHeader {
+            address: 0,
+            number: 0,
+            import_number: 1,
+        },
+    )
+}
+
+fn a_log_block_that_stands_is_read<D: SectorDevice>(
+    alloc: Global,
+    device: &mut D,
+    frame: &Frame,
+    header: &ChainHeader,
+) -> Result<Vec<LoggedBlock>, PoolError>
+    requires fits { block_address frame.now.blocks ≤ D.size device.old }
+    requires number { header.now.number ≤ 2 ^ 60 }
+    ensures { IsTrue D.keeps_model → (block : LogBlock)
+        → IsBlockOf (bytes_of (D.disk device.old).now) frame.now header.now block
+        → IfOk result (λ blocks. 0 < length blocks.items) }
+{
+    chain(alloc, device, frame, header)
+}
+
+fn a_chain_is_read_without_a_write<D: SectorDevice>(
+    alloc: Global,
+    device: &mut D,
+    frame: &Frame,
+    header: &ChainHeader,
+) -> Result<usize, PoolError>
+    requires fits { block_address frame.now.blocks ≤ D.size device.old }
+    requires number { header.now.number ≤ 2 ^ 60 }
+    ensures same { IsTrue D.keeps_model → D.disk device.new ≡ D.disk device.old }
+    ensures refused { IfErr result (λ e. (e ≡ PoolError.NoMemory) ⊎ (e ≡ PoolError.Read)) }
+{
+    Ok(chain(alloc, device, frame, header)?.len())
+}
+
+// Whatever the device holds.
+fn a_chain_begins_in_the_area<D: SectorDevice>(
+    alloc: Global,
+    device: &mut D,
+    frame: &Frame,
+    header: &ChainHeader,
+) -> Result<Option<u64>, PoolError>
+    requires fits { block_address frame.now.blocks ≤ D.size device.old }
+    requires number { header.now.number ≤ 2 ^ 60 }
+    ensures { IfOk result (λ found. IfSome found (IsBlockAddress frame.now.blocks)) }
+{
+    let blocks = chain(alloc, device, frame, header)?;
+    let Some(first) = blocks.first() else {
+        return Ok(None);
+    };
+    Ok(Some(first.address()))
+}
+
+fn records_of_a_sound_block_are_allowed(block: &LoggedBlock) -> &[Record]
+    requires { All IsAllowed block.now.records }
+    ensures { All IsAllowed (map record_fields result.now) }
+{
+    block.records()
+}

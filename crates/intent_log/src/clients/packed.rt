@@ -1,0 +1,99 @@
+//! What callers rest on of a block that is packed.
+
+ghost use Rattle.std.specs.Prelude.{◌≡◌, ◌<◌, ℕ, List, All, IfErr, IfOk, length, map, take};
+ghost use Rattle.base.specs.formats.Blocks.{Frame};
+ghost use Rattle.base.specs.formats.Fields.{number_at, part};
+ghost use Rattle.base.specs.formats.Geometry.{IsBlockAddress};
+ghost use Rattle.base.specs.formats.Records.{IsAllowed};
+ghost use Rattle.base.specs.steps.Logs.{total_size};
+ghost use Rattle.transactions.specs.Records.{record_fields};
+ghost use Rattle.intent_log.specs.Chains.{IsBlockOf};
+ghost use Rattle.intent_log.specs.Packing.{logged};
+
+use crate::packing::{NewBlock, PackedBlock, pack};
+use base::PoolError;
+use std::alloc::Global;
+use transactions::Record;
+
+fn a_record_is_packed(
+    alloc: Global,
+    place: &NewBlock,
+    pending: &[Record],
+) -> Result<PackedBlock, PoolError>
+    requires one { length pending.now ≡ 1 }
+    requires allowed { All IsAllowed (map record_fields pending.now) }
+    ensures { IfOk result (λ p. p.count ≡ 1) }
+{
+    pack(alloc, place, pending)
+}
+
+fn two_records_of_4008_bytes_fill_a_block(
+    alloc: Global,
+    place: &NewBlock,
+    pending: &[Record],
+) -> Result<PackedBlock, PoolError>
+    requires two { length pending.now ≡ 2 }
+    requires full { total_size (map record_fields pending.now) ≡ 4008 }
+    requires allowed { All IsAllowed (map record_fields pending.now) }
+    ensures { IfOk result (λ p. p.count ≡ 2) }
+{
+    pack(alloc, place, pending)
+}
+
+fn a_record_that_does_not_fit_stays_pending(
+    alloc: Global,
+    place: &NewBlock,
+    pending: &[Record],
+) -> Result<PackedBlock, PoolError>
+    requires two { length pending.now ≡ 2 }
+    requires over { total_size (map record_fields pending.now) ≡ 4009 }
+    requires allowed { All IsAllowed (map record_fields pending.now) }
+    ensures { IfOk result (λ p. p.count ≡ 1) }
+{
+    pack(alloc, place, pending)
+}
+
+fn packing_is_refused_for_memory_alone(
+    alloc: Global,
+    place: &NewBlock,
+    pending: &[Record],
+) -> Result<PackedBlock, PoolError>
+    requires some { 0 < length pending.now }
+    requires allowed { All IsAllowed (map record_fields pending.now) }
+    ensures { IfErr result (λ e. e ≡ PoolError.NoMemory) }
+{
+    pack(alloc, place, pending)
+}
+
+// Group, chain number and next address lie at bytes 16, 64 and 72 of the block.
+fn a_packed_block_names_its_group_its_chain_and_the_next(
+    alloc: Global,
+    place: &NewBlock,
+    pending: &[Record],
+) -> Result<PackedBlock, PoolError>
+    requires some { 0 < length pending.now }
+    requires allowed { All IsAllowed (map record_fields pending.now) }
+    ensures group { IfOk result (λ p. number_at p.block 16 ≡ place.now.group.0) }
+    ensures chain { IfOk result
+        (λ p. number_at p.block 64 ≡ place.now.header.import_number) }
+    ensures next { IfOk result (λ p. number_at p.block 72 ≡ place.now.next) }
+{
+    pack(alloc, place, pending)
+}
+
+// A block that stands at its place is the one that its header names, with the records that were packed.
+fn a_packed_block_is_read_back(
+    alloc: Global,
+    place: &NewBlock,
+    pending: &[Record],
+) -> Result<PackedBlock, PoolError>
+    requires some { 0 < length pending.now }
+    requires allowed { All IsAllowed (map record_fields pending.now) }
+    ensures { IfOk result (λ p. (image : List ℕ) (frame : Frame) → frame.guid ≡ place.now.guid
+        → IsBlockAddress frame.blocks place.now.header.address
+        → part image place.now.header.address 4096 ≡ p.block
+        → IsBlockOf image frame place.now.header
+        (logged place.now (take p.count (map record_fields pending.now)))) }
+{
+    pack(alloc, place, pending)
+}

@@ -1,0 +1,158 @@
+//! The kept log blocks of a run, from the header on, and where the next one goes (`zil.c`).
+//!
+//! 1. A block is kept from its write until the end of the sync that gives it back, oldest first.
+//! 2. Kept blocks are numbered one after another, up to the number of the next one. So the blocks before a header are
+//!    the front of them.
+//! 3. A flush makes all of them certain at once. So it is enough to know how many are, counted from the front.
+
+ghost use Rattle.std.specs.Prelude.{◌≡◌, ◌≤◌, ◌<◌, ◌+◌, ◌++◌, ◌∷◌, [], IfErr, IfNone, IfSome, IsOk, OnOk, nat_le};
+ghost use Rattle.base.specs.formats.Limits.{last_number};
+ghost use Rattle.base.specs.steps.Logs as logs;
+ghost use Rattle.base.specs.steps.Logs.{blocks_before, is_flushed_in, log_after_flush};
+ghost use Rattle.intent_log.specs.Receipts.{committed};
+ghost use Rattle.intent_log.specs.Kept.{AreNumbered, HasRoom, IsFrontGiven, block_at, header_fields, log_of};
+
+use crate::kept_block::{KeptBlock, LogHeader};
+use base::{Group, LAST_NUMBER, PoolError, Receipt};
+use std::alloc::Global;
+use std::collections::VecDeque;
+use std::marker::Model;
+
+/// The log of a run: its kept blocks, and where the next one goes. Contracts see the kept blocks with their receipts,
+/// each flushed or not, the next header, and for how many blocks more there is room.
+#[derive(Debug, Drop)]
+pub struct Log {
+    blocks: VecDeque<KeptBlock>,
+    // so many from the front are certain
+    flushed: usize,
+    next: LogHeader,
+}
+
+impl Model for Log {
+    ghost use Rattle.intent_log.specs.Kept.{IsLogSound, KeptLog, kept_log};
+
+    ghost Value = { KeptLog };
+
+    ghost view = { kept_log };
+
+    ghost invariant = { IsLogSound };
+}
+
+impl Log {
+    /// No block is kept, and the first one goes to this address with number 0. It takes no memory.
+    pub fn new(alloc: Global, address: u64) -> Self
+        ensures none { result.kept ≡ [] }
+        ensures next { result.next ≡ record { address = address; number = 0 } }
+    {
+        Log {
+            blocks: VecDeque::new(alloc),
+            flushed: 0,
+            next: LogHeader { address, number: 0 },
+        }
+    }
+
+    /// Where the next block goes.
+    pub fn next(&self) -> LogHeader
+        ensures header { header_fields result ≡ self.now.next }
+        ensures fits { result.number ≤ last_number }
+        ensures numbered { AreNumbered self.now }
+    {
+        self.next
+    }
+
+    /// Whether the next block is the last one that has a number: none is written to it, as none could follow it.
+    pub fn is_at_last(&self) -> bool
+        ensures { result ≡ nat_le last_number self.now.next.number }
+    {
+        self.next.number >= LAST_NUMBER
+    }
+
+    /// Whether a kept block awaits a flush. It costs a constant.
+    pub fn awaits_flush(&self) -> bool
+        ensures { result ≡ logs.awaits_flush (log_of self.now) }
+    {
+        self.flushed < self.blocks.len()
+    }
+
+    /// Takes the room for a block more.
+    ///
+    /// # Errors
+    /// `NoMemory` if there is no memory for it. Then nothing has changed.
+    pub fn reserve(&mut self) -> Result<(), PoolError>
+        ensures room { OnOk result (HasRoom self.new) }
+        ensures succeeds { HasRoom self.old → IsOk result }
+        ensures kept { self.new.kept ≡ self.old.kept }
+        ensures next { self.new.next ≡ self.old.next }
+        ensures refused { IfErr result (λ e. e ≡ PoolError.NoMemory) }
+    {
+        self.blocks.reserve(1)?;
+        Ok(())
+    }
+
+    /// A block with the records of these receipts goes to the device at the next header, and the one after it to this
+    /// address. It is noted before the write, so that its address stays taken if the device refuses it. It takes no
+    /// memory: the room is there.
+    pub fn written(&mut self, receipts: Vec<Receipt>, address: u64)
+        requires room { HasRoom self.old }
+        requires number { self.old.next.number < last_number }
+        ensures kept { self.new.kept
+            ≡ self.old.kept ++ block_at self.old.next receipts.items ∷ [] }
+        ensures next { self.new.next
+            ≡ record { address = address; number = self.old.next.number + 1 } }
+    {
+        let block = KeptBlock::new(self.next, receipts);
+        let Ok(()) = self.blocks.push_back(block) else {
+            unreachable!();
+        };
+        self.next = LogHeader {
+            address,
+            number: self.next.number + 1,
+        };
+    }
+
+    /// A flush was answered: each kept block is certain. It costs a constant, and takes no memory.
+    pub fn flushed(&mut self)
+        ensures { log_of self.new ≡ log_after_flush (log_of self.old) }
+    {
+        self.flushed = self.blocks.len();
+    }
+
+    /// The header for the sync of a group: the first kept block with a record of a group above it, or else the next
+    /// one. It looks only at that block and at those before it, which the sync gives back.
+    pub fn header_for(&self, group: Group) -> LogHeader
+        ensures { header_fields result ≡ logs.header_for group.0 (log_of self.now) }
+    {
+        match self.blocks.iter().find(|block| block.highest.0 > group.0) {
+            Some(block) => block.header,
+            None => self.next,
+        }
+    }
+
+    /// Gives the first kept block back if its number is below that of a header: its address. It takes no memory.
+    pub fn give_back(&mut self, header: LogHeader) -> Option<u64>
+        ensures given { IfSome result
+            (IsFrontGiven (header_fields header) self.old.kept self.new.kept) }
+        ensures none { IfNone result
+            (blocks_before (header_fields header) self.old.kept ≡ []) }
+        ensures next { self.new.next ≡ self.old.next }
+        ensures unchanged { IfNone result (self.new ≡ self.old) }
+    {
+        if self.blocks.front()?.header.number >= header.number {
+            return None;
+        }
+        let block = self.blocks.pop_front()?;
+        self.flushed = self.flushed.saturating_sub(1);
+        Some(block.header.address)
+    }
+
+    /// Whether the record of a receipt lies in a kept block that is certain. It looks at the ordinals of each such
+    /// block, and at the receipts of those alone whose ordinals are on both sides.
+    pub fn has_flushed(&self, receipt: Receipt) -> bool
+        ensures { result ≡ is_flushed_in (log_of self.now) (committed receipt) }
+    {
+        self.blocks
+            .iter()
+            .take(self.flushed)
+            .any(|block| block.has(receipt))
+    }
+}
