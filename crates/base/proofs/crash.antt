@@ -22,7 +22,6 @@ pub mod PoolLogs
 pub mod LogRoom
 pub mod PoolRoom
 pub mod LogUnwritten
-pub mod LogHoles
 pub mod LogChains
 pub mod LogStages
 pub mod PoolSpares

@@ -1,6 +1,6 @@
 -- What a pool keeps of its device has the log, the synced tree and what a sync takes at distinct places; so each step
 -- keeps them so.
-use Rattle.std.proofs.Common.{◌≡◌, ℕ, zero, suc, Bool, true, false, List, [], ◌∷◌, ◌++◌, map, refl, ap, sym, subst, ◌∙◌, inl, inr}
+use Rattle.std.proofs.Common.{◌≡◌, ℕ, Bool, true, false, List, [], refl, ap, sym, subst, ◌∙◌}
 use Rattle.std.specs.Prelude.{Option, Some, None, slice_get}
 use Rattle.base.specs.declared.pointer.Pointer.{Pointer}
 use Rattle.base.specs.formats.Geometry.{IsBlockAddress}
@@ -8,9 +8,8 @@ use Rattle.base.specs.steps.Locks.{is_in}
 use Rattle.base.specs.tree.Places.{Place, IsInTree}
 use Rattle.base.specs.tree.PlannedTrees.{NewBlock}
 use Rattle.base.specs.history.Past.{Past}
-use Rattle.base.specs.steps.Logs.{KeptBlock}
 use Rattle.base.specs.steps.Shown.{Shown, SyncPlan, taken_of}
-use Rattle.base.specs.steps.Exact.{IsInLog, AreDistinctPlaces, log_addresses}
+use Rattle.base.specs.steps.Exact.{IsInLog, AreDistinctPlaces}
 use Rattle.base.specs.stored.Stored.{NewTree, IsStored, IsSyncing, IsKept, RunsAs, frame_at}
 use Rattle.base.proofs.tree.PlacedTrees.{in-tree}
 use Rattle.base.proofs.stored.StoredSets.{IsAt, in-at, at-map}

@@ -24,20 +24,23 @@ MountsAs v contents = apply_records (records_above v.u.group (map (λ (l : Logge
 abbrev pub AllMountTo : Disk → Disk → ℕ → Contents → Type 0
 AllMountTo old new created contents = LeavesFairSince old new created (λ image. MountsTo image contents)
 
--- the two views of an import: of one pool, four groups apart, both mount these contents, and both have room for an import
+-- the two views of an import: of one pool, four groups apart, both mount these contents, and both have room for an
+-- import
 pub record AreImportViews (blocks : ℕ) (old new : View) (guid : ℕ) (contents : Contents) : Type 0 where
   pub old_guid : old.u.guid ≡ guid
   pub new_guid : new.u.guid ≡ guid
   pub next_group : new.u.group ≡ old.u.group + 4
   pub old_mounts : MountsAs old contents
   pub new_mounts : MountsAs new contents
+  -- no log block is written at this stage
+  pub old_log : old.logged ≡ []
   -- the new one begins a log of its own
   pub new_log : new.logged ≡ []
   pub old_room : HasImportRoom blocks old
   pub new_room : HasImportRoom blocks new
 
--- a moment of an import: what a read gives is fair, no config counts that an import of the old view does not write, no log block of a later chain
--- than the old view's does, and it is one of the phases
+-- a moment of an import: what a read gives is fair, no config counts that an import of the old view does not write, no
+-- log block of a later chain than the old view's does, and it is one of the phases
 pub record IsImportMoment (size t : ℕ) (old new : View) (m : Moment) : Type 0 where
   pub bytes : HasFairBytes size t m
   pub configs : AreConfigsBelowImport size t (handed m) old

@@ -37,12 +37,15 @@ IsPhase size t flushed new_flushed m old new = IsAtRest size t flushed m old ⊎
 abbrev pub AreConfigsBelowImport : ℕ → ℕ → List Write → View → Type 0
 AreConfigsBelowImport size t ws v = AreConfigsUpTo size t ws v.u.guid (v.u.group + 3) (λ group content. (group ≡ v.u.group + 4) × (content ≡ config_content size v.u.guid group v.name))
 
--- an image that is certain is one that this pool alone has written since its create, mounts these contents, and has room for its import
+-- an image that is certain is one that this pool alone has written since its create, mounts these contents, and has
+-- room for its import
 pub record IsOwnImage (size t : ℕ) (image : List ℕ) (m : Moment) (guid : ℕ) (contents : Contents) : Type 0 where
   pub v : View
   pub guid_is : v.u.guid ≡ guid
   pub rest : IsAtRest size t (length v.logged) (settled image m) v
   pub configs : AreConfigsBelowImport size t (handed (settled image m)) v
+  -- no log block is written at this stage
+  pub no_log : v.logged ≡ []
   pub applied : apply_records (records_above v.u.group (map (λ (l : Logged). l.block) v.logged)) v.synced ≡ Ok contents
   pub room : HasImportRoom (block_count size) v
 

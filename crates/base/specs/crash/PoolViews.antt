@@ -1,5 +1,5 @@
--- The views that a running pool keeps on its disk: the one of its synced group, and, while a sync runs, also the one of that sync's group, each with
--- the kept log from its header on.
+-- The views that a running pool keeps on its disk: the one of its synced group, and, while a sync runs, also the one of
+-- that sync's group, each with the kept log from its header on.
 use Rattle.std.specs.Prelude.{ℕ, ◌≡◌, ◌<◌, ◌⊎◌, true, List, length, slice_get, Some, Ok}
 use Rattle.std.specs.List.{list_any}
 use Rattle.base.specs.declared.pointer.Pointer.{Pointer}
@@ -19,8 +19,8 @@ use Rattle.base.specs.crash.Views.{View, Logged, AreConfigsUpTo, config_content,
 use Rattle.base.specs.crash.LogRule.{IsLogHeld}
 use Rattle.base.specs.crash.Own.{IsAtRest, IsBetween}
 
--- the view is that of a group of the pool, with this root and the kept log from this header on, behind which the next log block goes; so many of its
--- log blocks are fixed
+-- the view is that of a group of the pool, with this root and the kept log from this header on, after which the next
+-- log block goes; so many of its log blocks are fixed
 pub record IsViewOf (flushed : ℕ) (v : View) (s : Shown) (past : Past) (group : ℕ) (root : Pointer) (header : Header) : Type 0 where
   pub guid : v.u.guid ≡ s.guid
   pub group_is : v.u.group ≡ group
@@ -57,8 +57,8 @@ pub record IsPoolBetween (size : ℕ) (m : Moment) (s : Shown) (past : Past) : T
   pub old_held : IsLogHeld size past.created flushed s.suspended m old
   pub new_held : IsLogHeld size past.created new_flushed s.suspended m new
 
--- At rest on the view of the sync that runs: a flush has come behind a write of its uberblock, and it has calls left. So it is where the log is
--- flushed between two of these writes.
+-- At rest on the view of the sync that runs: a flush has come after a write of its uberblock, and it has calls left.
+-- So it is where the log is flushed between two of these writes.
 pub record IsPoolSwitched (size : ℕ) (m : Moment) (s : Shown) (past : Past) : Type 0 where
   pub group : ℕ
   pub plan : SyncPlan

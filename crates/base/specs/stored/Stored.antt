@@ -1,6 +1,6 @@
 -- What a pool keeps of its device: the synced tree with its pointers, the free blocks, of a running sync the tree, the
 -- blocks and the uberblock that it writes, and what the labels show.
-use Rattle.std.specs.Prelude.{ℕ, ◌≡◌, ◌≢◌, ◌≤◌, ◌<◌, Bool, true, false, List, [], map, length, slice_get, Option, Some, None, Ok}
+use Rattle.std.specs.Prelude.{ℕ, ◌≡◌, ◌≢◌, ◌≤◌, ◌<◌, Bool, true, false, List, map, length, slice_get, Option, Some, None, Ok}
 use Rattle.std.specs.Ordering.{nat_cmp}
 use Rattle.std.specs.FinMap.{FinMap}
 use Rattle.base.specs.declared.pointer.Pointer.{Pointer}
@@ -48,8 +48,8 @@ AreUsed bs new = (i : ℕ) (b : NewBlock) → slice_get bs i ≡ Some b → (pla
 abbrev pub frame_at : Shown → ℕ → Frame
 frame_at s group = record { version = written_version; guid = s.guid; blocks = s.blocks; group = group }
 
--- The bytes hold the synced tree with these pointers, and the free blocks are the others but for the log, with its next block: these lie in the area,
--- each at an address of its own, and none is of the tree.
+-- The bytes hold the synced tree with these pointers, and the free blocks are the others but for the log, with its next
+-- block: these lie in the area, each at an address of its own, and none is of the tree.
 pub record IsStored (now : List ℕ) (s : Shown) (pointers : Place → Pointer) (past : Past) : Type 0 where
   pub synced : Contents
   pub replayed : replay (entries_up_to s.line.synced past.entries) past.base ≡ Ok synced
