@@ -14,3 +14,17 @@ pub mod NewViews
 pub mod NewDisks
 pub mod MountLaws
 pub mod LeftDisks
+pub mod LogFronts
+pub mod LogCalls
+pub mod LogHeaders
+pub mod LogSpares
+pub mod PoolLogs
+pub mod LogRoom
+pub mod PoolRoom
+pub mod LogUnwritten
+pub mod LogChains
+pub mod LogStages
+pub mod PoolSpares
+pub mod LogImports
+pub mod LogStarts
+pub mod PoolLogSteps

@@ -9,3 +9,7 @@ pub mod PoolViews
 pub mod CallStages
 pub mod CrashRule
 pub mod LeftDisks
+pub mod LogRule
+pub mod LogSteps
+pub mod LogRoom
+pub mod LogChains

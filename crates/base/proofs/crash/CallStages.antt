@@ -57,7 +57,7 @@ module _ (t : ℕ) (P : Moment → Type 0) where
   later_all (c ∷ cs) disk new began (mid, makes, rest) = later_all cs mid new (later c disk mid began makes) rest
 
 module _ (size t flushed : ℕ) (at : FixedLabels) (v : View) where
-  spares_of : (m : Moment) (place n : ℕ) → IsFixed m (config_place size at.config) v.config → SparesAt size flushed at v place n → Spares size flushed m v place n
+  pub spares_of : (m : Moment) (place n : ℕ) → IsFixed m (config_place size at.config) v.config → SparesAt size flushed at v place n → Spares size flushed m v place n
   spares_of m place n fixed spares = record {
     config = record { label = at.config; in_range = at.config_below; fixed = fixed };
     not_config = spares.not_config;
@@ -65,7 +65,7 @@ module _ (size t flushed : ℕ) (at : FixedLabels) (v : View) where
     not_log = spares.not_log;
   }
 
-  slot_of_label : (m : Moment) (place n : ℕ) → IsFixed m (slot_place size at.slot (slot_of v.u.group)) v.slot → SparesAt size flushed at v place n → SparesSlot size m v place n
+  pub slot_of_label : (m : Moment) (place n : ℕ) → IsFixed m (slot_place size at.slot (slot_of v.u.group)) v.slot → SparesAt size flushed at v place n → SparesSlot size m v place n
   slot_of_label m place n fixed spares = record { slot = record { label = at.slot; in_range = at.slot_below; fixed = fixed }; apart = spares.not_slot }
 
   -- quiet calls keep a pool at rest: the blocks and the flush of a sync, both label stages, and no call at all

@@ -1,7 +1,8 @@
 -- Where a disk in one of the phases ends, it is the pool's own: an import ends on what it mounted, and a run on a cut
 -- of its entries.
-use Rattle.std.proofs.Common.{◌≡◌, ◌⊎◌, inl, inr, ⊎_elim, ℕ, ◌+◌, ◌≤◌, List, [], ◌∷◌, length, map, take, Ok, refl, sym, ◌∙◌, ap, subst, arith}
-use Rattle.std.specs.Prelude.{IfSome}
+use Rattle.std.proofs.Common.{◌≡◌, ◌⊎◌, inl, inr, ⊎_elim, ℕ, ◌+◌, ◌≤◌, List, [], ◌∷◌, length, take, Ok, refl, sym, ◌∙◌, ap, subst, arith}
+use Rattle.std.specs.Prelude.{Some, IfSome, filter, nat_le}
+use Rattle.std.proofs.Math.Seq.{take-nil}
 use Rattle.base.specs.declared.pointer.Pointer.{Pointer}
 use Rattle.base.specs.history.Contents.{Contents}
 use Rattle.base.specs.history.History.{IsHistory}
@@ -11,27 +12,36 @@ use Rattle.base.specs.formats.Chain.{Header}
 use Rattle.base.specs.crash.Mount.{apply_records, records_above}
 use Rattle.base.specs.steps.Groups.{IsLine}
 use Rattle.base.specs.history.Past.{Past}
-use Rattle.base.specs.steps.Logs.{KeptBlock}
-use Rattle.base.specs.steps.Shown.{Shown}
+use Rattle.base.specs.steps.Logs.{Log, KeptBlock}
+use Rattle.base.specs.steps.Shown.{Shown, SyncPlan}
 use Rattle.base.specs.steps.Exact.{IsLogExact, IsSyncExact}
 use Rattle.base.specs.steps.Explains.{IsLeftBy}
 use Rattle.base.specs.crash.Layout.{LiesAs, kept_from, header_now}
 use Rattle.base.specs.crash.Views.{View, Logged, IsFoundAs, AreConfigsUpTo, config_content}
 use Rattle.base.specs.crash.Own.{IsAtRest, AreConfigsBelowImport, IsOwnImage, IsOwnWith}
+use Rattle.base.specs.formats.Geometry.{block_count}
+use Rattle.base.specs.crash.LogRule.{AreLogBlocksBelow, with_front}
+use Rattle.base.specs.crash.LogRoom.{HasImportRoom}
 use Rattle.base.specs.crash.PoolViews.{IsViewOf, IsPoolLaid, IsPoolDisk, IsSyncConfig}
 use Rattle.base.specs.crash.CrashRule.{MountsAs, AreImportViews, IsImportMoment, HasSteadyPhases, IsOwnOnceFlushed, IsSteady, IsRunLeft}
 use Rattle.base.proofs.disk.Moments.{bytes_may_be_left, latest, moments_grow}
 use Rattle.base.proofs.disk.Fairness.{fair_settled}
 use Rattle.base.proofs.crash.KeptViews.{rest_settled}
 use Rattle.base.proofs.crash.FoundViews.{rest_found}
-use Rattle.base.proofs.crash.PoolViews.{found_lies}
+use Rattle.base.proofs.crash.LogFronts.{front_rest}
+use Rattle.base.proofs.crash.LogRoom.{room_front}
+use Rattle.base.proofs.crash.PoolViews.{OfEachView, found_lies}
 use Rattle.base.proofs.crash.SyncPaths.{configs_settled}
-use Rattle.base.proofs.crash.CrashRule.{take_whole, phase_certain}
+use Rattle.base.proofs.crash.CrashRule.{phase_certain}
 use Rattle.base.proofs.crash.LaidOutMounts.{synced_applies, syncing_applies}
 
 no_length : {A : Type 0} (xs : List A) → length xs ≡ 0 → xs ≡ []
 no_length [] none = refl
 no_length (x ∷ xs) some = absurd (omega (arith, some))
+
+-- a log that keeps no block has none from a header on
+pub none_from : (header : Header) (log : Log) → log.kept ≡ [] → kept_from header log ≡ []
+none_from header log none = ap (λ (ks : List KeptBlock). filter (λ (b : KeptBlock). nat_le header.number b.number) ks) none
 
 -- what counts of configs, at a weaker bound
 pub configs_weaker : (size t : ℕ) (ws : List Write) (guid top up : ℕ) (IsOther IsNew : ℕ → List ℕ → Type 0) → top ≤ up → ((group : ℕ) (content : List ℕ) → IsOther group content → (group ≤ up) ⊎ IsNew group content)
@@ -48,26 +58,25 @@ import_configs size t ws old new same higher known =
 
 module _ (size t : ℕ) (m : Moment) (image : List ℕ) (left : MayLeave m image) where
   -- an image that is certain and at rest on a view is the pool's own
-  pub rest_own : (flushed : ℕ) (v : View) (guid : ℕ) (contents : Contents) → v.u.guid ≡ guid → v.logged ≡ [] → MountsAs v contents → AreConfigsBelowImport size t (handed m) v
+  pub rest_own : (flushed : ℕ) (v : View) (guid : ℕ) (contents : Contents) → v.logged ≡ [] → v.u.guid ≡ guid → flushed ≡ length v.logged → MountsAs v contents → HasImportRoom (block_count size) v → AreConfigsBelowImport size t (handed m) v
       → IsAtRest size t flushed (settled image m) v → IsOwnImage size t image m guid contents
-  rest_own flushed v guid contents of_guid no_log mounts configs rest =
-      let none : length v.logged ≡ 0 = ap (λ (l : List Logged). length l) no_log in
-      let all : flushed ≡ length v.logged = omega (arith, none, rest.laid.firm.log.0) in
+  rest_own flushed v guid contents none of_guid all mounts room configs rest =
       record {
         v = v;
         guid_is = of_guid;
         rest = subst (λ (n : ℕ). IsAtRest size t n (settled image m) v) all rest;
         configs = configs_settled size t v.u.guid (v.u.group + 3) (λ group content. (group ≡ v.u.group + 4) × (content ≡ config_content size v.u.guid group v.name)) image m configs;
-        no_log = no_log;
+        no_log = none;
         applied = mounts;
+        room = room;
       }
 
   -- and so is each that a crash leaves at a moment of an import
-  pub import_image : (old new : View) (guid : ℕ) (contents : Contents) → AreImportViews old new guid contents → IsImportMoment size t old new m → IsOwnImage size t image m guid contents
+  pub import_image : (old new : View) (guid : ℕ) (contents : Contents) → AreImportViews (block_count size) old new guid contents → IsImportMoment size t old new m → IsOwnImage size t image m guid contents
   import_image old new guid contents views here = elim (phase_certain size t (length old.logged) (length new.logged) m image left old new here.phase) as (λ _. IsOwnImage size t image m guid contents) [
-    | inl rest ↦ rest_own (length old.logged) old guid contents views.old_guid views.old_log views.old_mounts here.configs rest
+    | inl rest ↦ rest_own (length old.logged) old guid contents views.old_log views.old_guid refl views.old_mounts views.old_room here.configs rest
     | inr rest ↦
-        rest_own (length new.logged) new guid contents views.new_guid views.new_log views.new_mounts
+        rest_own (length new.logged) new guid contents views.new_log views.new_guid refl views.new_mounts views.new_room
         (import_configs size t (handed m) old new (views.new_guid ∙ sym views.old_guid) views.next_group here.configs) rest
   ]
 
@@ -97,7 +106,7 @@ import_kept old new created guid contents own steady =
 -- A run, wherever it ends, leaves a disk that is the pool's own, with a cut of its entries.
 module _ (size : ℕ) (m : Moment) (s : Shown) (past : Past) (now : Contents) (image : List ℕ) (left : MayLeave m image) (kept : IsPoolDisk size m s past)
     (fair : IsFair (passes_check size) past.created (handed m) image) (log : IsLogExact s past) (sync : IsSyncExact s) (line : IsLine s.line) (history : IsHistory past.entries past.base now)
-    (none : s.log.kept ≡ []) where
+    (none : s.log.kept ≡ []) (room : OfEachView size m s past (λ v. HasImportRoom (block_count size) v) kept.laid) where
   abbrev pub Left : Type 0
   Left = (c : Contents) × IsLeftBy past c × IsOwnImage size past.created image m s.guid c
 
@@ -110,9 +119,6 @@ module _ (size : ℕ) (m : Moment) (s : Shown) (past : Past) (now : Contents) (i
       rest_found past.created (settled image m) image (bytes_may_be_left (settled image m)) certain_fair flushed v
       (subst (λ (n : ℕ). IsAtRest n past.created flushed (settled image m) v) (sym size_is) rest)
 
-  no_log : (flushed : ℕ) (v : View) (group : ℕ) (root : Pointer) (header : Header) → IsViewOf flushed v s past group root header → v.logged ≡ []
-  no_log flushed v group root header is = no_length v.logged (is.as_many ∙ ap (λ (l : List KeptBlock). length (kept_from header (record s.log { kept = l }))) none)
-
   configs : (v : View) → v.u.guid ≡ s.guid → s.line.synced ≤ v.u.group → AreConfigsBelowImport size past.created (handed m) v
   configs v of_guid no_lower =
       subst (λ (guid : ℕ). AreConfigsUpTo size past.created (handed m) guid (v.u.group + 3) (λ group content. (group ≡ v.u.group + 4) × (content ≡ config_content size guid group v.name))) (sym of_guid)
@@ -121,42 +127,58 @@ module _ (size : ℕ) (m : Moment) (s : Shown) (past : Past) (now : Contents) (i
       let next : group ≡ s.line.synced + 1 = subst (λ o. IfSome o (λ g. g ≡ s.line.synced + 1)) other.syncing line.syncing in
       inl (omega (arith, next, no_lower))) kept.configs)
 
-  -- the contents of a view without log blocks
-  view_left : (flushed : ℕ) (v : View) (group : ℕ) (root : Pointer) (header : Header) → IsViewOf flushed v s past group root header → IsAtRest size past.created flushed (settled image m) v → s.line.synced ≤ group
+  no_logged : (v : View) (header : Header) → length v.logged ≡ length (kept_from header s.log) → v.logged ≡ []
+  no_logged v header same = no_length v.logged (same ∙ ap (λ (ks : List KeptBlock). length ks) (none_from header s.log none))
+
+  -- the contents of a view with the front of its log blocks that stands
+  view_left : (flushed : ℕ) (v : View) (group : ℕ) (root : Pointer) (header : Header) → IsViewOf flushed v s past group root header → HasImportRoom (block_count size) v → AreLogBlocksBelow size past.created m.kept v flushed
+      → IsAtRest size past.created flushed (settled image m) v → s.line.synced ≤ group
       → ((l : LiesAs image s past group root header) → (c : Contents) × IsLeftBy past c × (apply_records (records_above l.u.group l.chain) l.synced ≡ Ok c)) → Left
-  view_left flushed v group root header is rest no_lower applies =
+  view_left flushed v group root header is enough kept_below rest no_lower applies =
       let f = found flushed v rest in
       let a = applies (found_lies image flushed v s past group root header f is) in
-      let empty : v.logged ≡ [] = no_log flushed v group root header is in
-      let short : length v.logged ≡ 0 = ap (λ (l : List Logged). length l) empty in
-      let whole : take f.count v.logged ≡ v.logged = take_whole f.count v.logged (omega (arith, short)) in
-      let mounts : MountsAs v a.0 = ap (λ (ls : List Logged). apply_records (records_above v.u.group (map (λ (l : Logged). l.block) ls)) v.synced) (sym whole) ∙ a.2 in
-      let not_below : s.line.synced ≤ v.u.group = let g : v.u.group ≡ group = is.group_is in omega (arith, g, no_lower) in
-      (a.0, a.1, rest_own size past.created m image left flushed v s.guid a.0 is.guid empty mounts (configs v is.guid not_below) rest)
+      let front = front_rest past.created m image left (subst (λ (n : ℕ). IsFair (passes_check n) past.created (handed m) image) (sym size_is) fair) flushed v
+      (subst (λ (n : ℕ). IsAtRest n past.created flushed (settled image m) v) (sym size_is) rest) (subst (λ (n : ℕ). AreLogBlocksBelow n past.created m.kept v flushed) (sym size_is) kept_below) f in
+      let not_below : s.line.synced ≤ v.u.group = let g : v.u.group ≡ group = is.group_is in omega (arith, g, no_lower) in (
+        a.0,
+        a.1,
+        rest_own size past.created m image left (length (take f.count v.logged)) (with_front f.count v) s.guid a.0 (ap (λ (ls : List Logged). take f.count ls) (no_logged v header is.as_many) ∙ take-nil f.count) is.guid refl a.2 (room_front (block_count size) f.count v enough) (configs v is.guid not_below)
+            (subst (λ (n : ℕ). IsAtRest n past.created (length (take f.count v.logged)) (settled image m) (with_front f.count v)) size_is front),
+      )
 
-  by_phase : IsPoolLaid size m s past → Left
-  by_phase (inl pool) =
-      view_left pool.flushed pool.v s.line.synced s.root (header_now s.log) pool.is (rest_settled m image left size past.created pool.flushed pool.v pool.rest) (omega arith)
-      (synced_applies image s past now log sync line history)
-  by_phase (inr pool) = elim (phase_certain size past.created pool.flushed pool.new_flushed m image left pool.old pool.new (inr (inl pool.between))) as (λ _. Left) [
-    | inl rest ↦ view_left pool.flushed pool.old s.line.synced s.root (header_now s.log) pool.old_is rest (omega arith) (synced_applies image s past now log sync line history)
-    | inr rest ↦
-        let next : pool.group ≡ s.line.synced + 1 = subst (λ o. IfSome o (λ g. g ≡ s.line.synced + 1)) pool.syncing line.syncing in
-        view_left pool.new_flushed pool.new pool.group pool.plan.root pool.plan.header pool.new_is rest (omega (arith, next))
-        (syncing_applies image s past now log sync line history pool.group pool.plan pool.syncing pool.running)
+  of_synced : (flushed : ℕ) (v : View) → IsViewOf flushed v s past s.line.synced s.root (header_now s.log) → HasImportRoom (block_count size) v → AreLogBlocksBelow size past.created m.kept v flushed
+      → IsAtRest size past.created flushed (settled image m) v → Left
+  of_synced flushed v is enough kept_below rest =
+      view_left flushed v s.line.synced s.root (header_now s.log) is enough kept_below rest (omega arith) (synced_applies image s past now log sync line history)
+
+  of_syncing : (flushed : ℕ) (v : View) (group : ℕ) (plan : SyncPlan) → s.line.syncing ≡ Some group → s.sync ≡ Some plan → IsViewOf flushed v s past group plan.root plan.header
+      → HasImportRoom (block_count size) v → AreLogBlocksBelow size past.created m.kept v flushed → IsAtRest size past.created flushed (settled image m) v → Left
+  of_syncing flushed v group plan syncing running is enough kept_below rest =
+      let next : group ≡ s.line.synced + 1 = subst (λ o. IfSome o (λ g. g ≡ s.line.synced + 1)) syncing line.syncing in
+      view_left flushed v group plan.root plan.header is enough kept_below rest (omega (arith, next)) (syncing_applies image s past now log sync line history group plan syncing running)
+
+  by_phase : (laid : IsPoolLaid size m s past) → OfEachView size m s past (λ v. HasImportRoom (block_count size) v) laid → Left
+  by_phase (inl pool) enough = of_synced pool.flushed pool.v pool.is enough pool.held.kept (rest_settled m image left size past.created pool.flushed pool.v pool.rest)
+  by_phase (inr (inl pool)) (enough, new_enough) = elim (phase_certain size past.created pool.flushed pool.new_flushed m image left pool.old pool.new (inr (inl pool.between))) as (λ _. Left) [
+    | inl rest ↦ of_synced pool.flushed pool.old pool.old_is enough pool.old_held.kept rest
+    | inr rest ↦ of_syncing pool.new_flushed pool.new pool.group pool.plan pool.syncing pool.running pool.new_is new_enough pool.new_held.kept rest
   ]
+  by_phase (inr (inr pool)) enough =
+      of_syncing pool.flushed pool.v pool.group pool.plan pool.syncing pool.running pool.is enough pool.held.kept (rest_settled m image left size past.created pool.flushed pool.v pool.rest)
 
   pub image_left : Left
-  image_left = by_phase kept.laid
+  image_left = by_phase kept.laid room
 
-pub run_own : (size : ℕ) (disk : Disk) (s : Shown) (past : Past) (now : Contents) → past.created ≤ moments disk → IsPoolDisk size disk.now s past → IsLogExact s past → IsSyncExact s → IsLine s.line
-    → IsHistory past.entries past.base now → s.log.kept ≡ [] → IsRunLeft disk past s.guid
-run_own size disk s past now began kept log sync line history none = record {
+pub run_own : (size : ℕ) (disk : Disk) (s : Shown) (past : Past) (now : Contents) → past.created ≤ moments disk → (kept : IsPoolDisk size disk.now s past) → IsLogExact s past → IsSyncExact s → IsLine s.line
+    → IsHistory past.entries past.base now → s.log.kept ≡ []
+    → OfEachView size disk.now s past (λ v. HasImportRoom (block_count size) v) kept.laid
+    → IsRunLeft disk past s.guid
+run_own size disk s past now began kept log sync line history none room = record {
   began = began;
   left = record {
     bytes = subst (λ (n : ℕ). HasFairBytes n past.created disk.now) (sym kept.bytes.size_is) kept.bytes;
     each = λ image left fair.
-        let here = image_left size disk.now s past now image left kept (subst (λ (n : ℕ). IsFair (passes_check n) past.created (handed disk.now) image) kept.bytes.size_is fair) log sync line history none in
+        let here = image_left size disk.now s past now image left kept (subst (λ (n : ℕ). IsFair (passes_check n) past.created (handed disk.now) image) kept.bytes.size_is fair) log sync line history none room in
         (here.0, here.1, subst (λ (n : ℕ). IsOwnImage n past.created image disk.now s.guid here.0) (sym kept.bytes.size_is) here.2);
   };
 }

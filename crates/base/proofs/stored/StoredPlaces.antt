@@ -1,6 +1,6 @@
 -- What a pool keeps of its device has the log, the synced tree and what a sync takes at distinct places; so each step
 -- keeps them so.
-use Rattle.std.proofs.Common.{◌≡◌, ℕ, zero, suc, Bool, true, false, List, [], ◌∷◌, ◌++◌, map, refl, ap, sym, subst, ◌∙◌, inl, inr}
+use Rattle.std.proofs.Common.{◌≡◌, ℕ, Bool, true, false, List, [], refl, ap, sym, subst, ◌∙◌}
 use Rattle.std.specs.Prelude.{Option, Some, None, slice_get}
 use Rattle.base.specs.declared.pointer.Pointer.{Pointer}
 use Rattle.base.specs.formats.Geometry.{IsBlockAddress}
@@ -8,9 +8,8 @@ use Rattle.base.specs.steps.Locks.{is_in}
 use Rattle.base.specs.tree.Places.{Place, IsInTree}
 use Rattle.base.specs.tree.PlannedTrees.{NewBlock}
 use Rattle.base.specs.history.Past.{Past}
-use Rattle.base.specs.steps.Logs.{KeptBlock}
 use Rattle.base.specs.steps.Shown.{Shown, SyncPlan, taken_of}
-use Rattle.base.specs.steps.Exact.{IsInLog, AreDistinctPlaces, log_addresses}
+use Rattle.base.specs.steps.Exact.{IsInLog, AreDistinctPlaces}
 use Rattle.base.specs.stored.Stored.{NewTree, IsStored, IsSyncing, IsKept, RunsAs, frame_at}
 use Rattle.base.proofs.tree.PlacedTrees.{in-tree}
 use Rattle.base.proofs.stored.StoredSets.{IsAt, in-at, at-map}
@@ -20,20 +19,6 @@ not_true true never = absurd (never refl)
 not_true false never = refl
 
 module _ (now : List ℕ) (s : Shown) (pointers : Place → Pointer) (past : Past) (x : IsStored now s pointers past) where
-  none_kept : (i : ℕ) (b : KeptBlock) → slice_get s.log.kept i ≡ Some b → ⊥
-  none_kept i b at = let no_way : slice_get [] i ≡ Some b = ap (λ l. slice_get l i) (sym x.no_log) ∙ at in cc
-
-  is_next : (address : ℕ) → IsInLog s.log address → address ≡ s.log.next.address
-  is_next address (inl next) = next
-  is_next address (inr (i, b, at, same)) = absurd (none_kept i b at)
-
-  one_address : (i : ℕ) (address : ℕ) → slice_get (log_addresses s.log) i ≡ Some address → i ≡ 0
-  one_address i address at = go i (ap (λ (l : List KeptBlock). slice_get (map (λ (b : KeptBlock). b.address) l ++ s.log.next.address ∷ []) i) (sym x.no_log) ∙ at)
-    where
-      go : (k : ℕ) → slice_get (s.log.next.address ∷ []) k ≡ Some address → k ≡ 0
-      go zero here = refl
-      go (suc k) behind = absurd (let no_way : None ≡ Some address = behind in cc)
-
   -- of what is taken it is known that each is one of the new blocks
   taken_at : (running : Option NewTree) → RunsAs now s pointers running past → (i address : ℕ) → slice_get (taken_of s.sync) i ≡ Some address
       → (new : NewTree) × IsSyncing now s pointers new past × (b : NewBlock) × (slice_get new.blocks i ≡ Some b) × (b.address ≡ address)
@@ -77,16 +62,16 @@ module _ (now : List ℕ) (s : Shown) (pointers : Place → Pointer) (past : Pas
     not_taken address log = not_true (is_in address (taken_of s.sync)) (λ is.
         let i = is_taken address is in
         let t = taken_at running runs i.0 address i.1 in
-        t.1.log_apart i.0 t.2 t.3 (t.4 ∙ is_next address log))
+        t.1.log_apart address log i.0 t.2 t.3 t.4)
 
 -- what a pool keeps of its device has distinct places
 pub kept_distinct : (now : List ℕ) (s : Shown) (pointers : Place → Pointer) (running : Option NewTree) (past : Past) → IsKept now s pointers running past → AreDistinctPlaces now s
 kept_distinct now s pointers running past k =
     let x = k.stored in
     record {
-      log_in_area = λ address log. subst (λ (a : ℕ). IsBlockAddress s.blocks a) (sym (is_next now s pointers past x address log)) x.log_block;
-      log_distinct = λ i j address at_i at_j. one_address now s pointers past x i address at_i ∙ sym (one_address now s pointers past x j address at_j);
-      log_not_in_tree = λ address log tree. x.log_apart (subst (λ (a : ℕ). IsInTree now s.root a) (is_next now s pointers past x address log) tree);
+      log_in_area = x.log_in_area;
+      log_distinct = x.log_places;
+      log_not_in_tree = x.log_apart;
       log_not_taken = not_taken now s pointers past x running k.sync;
       taken_in_area = in_area now s pointers past x running k.sync;
       taken_distinct = taken_once now s pointers past x running k.sync;

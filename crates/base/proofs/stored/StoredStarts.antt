@@ -1,6 +1,6 @@
 -- The start of a sync: what it takes is free, and what it plans is from the synced tree to that of its group.
 use Rattle.std.proofs.Common.{◌≡◌, ℕ, ◌+◌, ◌-◌, ◌*◌, ◌/◌, ◌≤◌, Bool, true, false, not, ◌&&◌, List, length, map, refl, ap, sym, subst, ◌∙◌, arith, ◌⊎◌, inl, inr}
-use Rattle.std.specs.Prelude.{Option, Some, None, Ok, ◌≢◌, is_some, is_none, slice_get, unwrap_or, option_map, find}
+use Rattle.std.specs.Prelude.{Option, Some, None, Ok, ◌≢◌, is_some, is_none, slice_get}
 use Rattle.std.specs.Ordering.{nat_cmp}
 use Rattle.std.specs.FinMap as finite
 use Rattle.std.specs.FinMap.{FinMap}
@@ -20,7 +20,9 @@ use Rattle.base.specs.tree.PlacedTrees.{HoldsTree}
 use Rattle.base.specs.tree.PlannedTrees.{NewBlock, IsTreePlan}
 use Rattle.base.specs.history.Past.{Past}
 use Rattle.base.specs.common.Rising.{rising}
-use Rattle.base.specs.steps.Logs.{KeptBlock, header_at, reaches_above}
+use Rattle.base.specs.formats.Chain.{Header}
+use Rattle.base.specs.crash.LogSteps.{IsHeaderIn}
+use Rattle.base.proofs.crash.LogHeaders.{header_for-in}
 use Rattle.base.specs.formats.Uberblocks.{IsUberblock}
 use Rattle.base.specs.steps.Shown.{Shown, SyncPlan, taken_of, uberblock_of}
 use Rattle.base.specs.steps.Exact.{AreFree, IsBounded, IsInLog}
@@ -97,8 +99,8 @@ module _ (now : List ℕ) (s : Shown) (p : Past) (pointers : Place → Pointer) 
     taken-leaves = free-leaves_tree now (frame_at s s.line.synced) pointers x.synced.objects (λ address. set.contains s.free address) bs x.tree
         (λ address free. subst (λ (root : Pointer). IsInTree now root address → ⊥) (sym x.root) (x.free.not_in_tree address free)) taken-free
 
-    pub taken-not_log : IsUnwritten bs s.log.next.address
-    taken-not_log i b at same = x.free.not_in_log b.address (taken-free i b at) (inl same)
+    pub taken-not_log : (address : ℕ) → IsInLog s.log address → IsUnwritten bs address
+    taken-not_log address in_log i b at same = x.free.not_in_log b.address (taken-free i b at) (subst (λ (a : ℕ). IsInLog s.log a) (sym same) in_log)
 
   -- the free blocks after it
   module _ (plan : SyncPlan) (t : Shown) where
@@ -190,8 +192,8 @@ start-state now moment group plan s pointers new bs slot explained x idle_is mid
       tree = x.tree;
       root = x.root;
       free = free-after now s.shown s.past pointers x explained group idle plan t.shown;
-      no_log = x.no_log;
-      log_block = x.log_block;
+      log_in_area = x.log_in_area;
+      log_places = x.log_places;
       log_apart = x.log_apart;
     }
 
@@ -228,7 +230,7 @@ start-state now moment group plan s pointers new bs slot explained x idle_is mid
       log_apart = taken-not_log now s.shown s.past pointers x explained group idle plan bs planned.taken y.taken;
       not_log = new-not_log now (frame_at s.shown s.shown.line.synced) (frame_at s.shown group) bs pointers new x.synced.objects plan.contents.objects refl refl (omega (arith, next)) x.tree y.planned
           (bounded-no_others plan.contents bounded) are leaves y.used room;
-      header = planned.header ∙ ap (λ (bs : List KeptBlock). unwrap_or (option_map header_at (find (reaches_above group) bs)) s.shown.log.next) x.no_log;
+      header = subst (λ (h : Header). IsHeaderIn h s.shown.log) (sym planned.header) (header_for-in group s.shown.log);
       slot = coded;
       done = omega arith;
       written = λ i b below at. absurd (omega (arith, below));

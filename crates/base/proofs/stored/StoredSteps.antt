@@ -52,14 +52,14 @@ module _ (now : List ℕ) (s t : Shown) (pointers : Place → Pointer) (p q : Pa
     tree = x.tree;
     root = x.root;
     free = free-state now s (record t { guid = s.guid; line = record t.line { synced = s.line.synced } }) taken x.free;
-    no_log = x.no_log;
-    log_block = x.log_block;
+    log_in_area = x.log_in_area;
+    log_places = x.log_places;
     log_apart = x.log_apart;
   }
 
   -- a running sync stays where only its steps are counted
   pub syncing-state : (new : NewTree) (x : IsSyncing now s pointers new p) (left : ℕ) → t.sync ≡ Some (record x.plan { steps_left = left })
-      → IsSyncing now (record t { guid = s.guid; import_number = s.import_number; blocks = s.blocks; line = record t.line { synced = s.line.synced; syncing = s.line.syncing }; log = record t.log { next = s.log.next } })
+      → IsSyncing now (record t { guid = s.guid; import_number = s.import_number; blocks = s.blocks; line = record t.line { synced = s.line.synced; syncing = s.line.syncing }; log = record t.log { kept = s.log.kept; next = s.log.next } })
       pointers new (record q { base = p.base; entries = p.entries })
   syncing-state new x left running = record {
     group = x.group;
@@ -112,8 +112,8 @@ module _ (now : List ℕ) (s t : Shown) (pointers : Place → Pointer) (p q : Pa
         tree = x.stored.tree;
         root = x.stored.root;
         free = free-state now s after refl x.stored.free;
-        no_log = x.stored.no_log;
-        log_block = x.stored.log_block;
+        log_in_area = x.stored.log_in_area;
+        log_places = x.stored.log_places;
         log_apart = x.stored.log_apart;
       }
 

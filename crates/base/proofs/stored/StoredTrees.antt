@@ -106,9 +106,9 @@ module _ (now later : List ℕ) (s : Shown) (pointers : Place → Pointer) (past
     tree = tree;
     root = x.root;
     free = free-along now later s there back x.free;
-    no_log = x.no_log;
-    log_block = x.log_block;
-    log_apart = λ is. x.log_apart (back s.log.next.address is);
+    log_in_area = x.log_in_area;
+    log_places = x.log_places;
+    log_apart = λ address in_log is. x.log_apart address in_log (back address is);
   }
     where
       frame : Frame

@@ -3,12 +3,15 @@
 -- free: it is the moment with which the disk is the pool's own.
 use Rattle.std.specs.Prelude.{ℕ, ◌≡◌, ◌≤◌, ◌+◌, ◌⊎◌, List, [], ◌∷◌, length, map, Ok}
 use Rattle.base.specs.history.Contents.{Contents}
+use Rattle.base.specs.formats.Geometry.{block_count}
 use Rattle.base.specs.disk.Disk.{Moment, Disk, moments, EachMoment, MayLeave, bytes_of, handed, certain, disk_size}
 use Rattle.base.specs.disk.Fairness.{IsFairOn, HasFairBytes, LeavesFairNow, LeavesFairSince}
 use Rattle.base.specs.crash.Mount.{MountsTo, apply_records, records_above}
 use Rattle.base.specs.history.Past.{Past}
 use Rattle.base.specs.steps.Shown.{Shown}
 use Rattle.base.specs.crash.Views.{View, Logged}
+use Rattle.base.specs.crash.LogRule.{AreChainsUpTo}
+use Rattle.base.specs.crash.LogRoom.{HasImportRoom}
 use Rattle.base.specs.steps.Explains.{IsLeftBy}
 use Rattle.base.specs.crash.Own.{IsPhase, AreConfigsBelowImport, IsOwnImage, IsOwnWith}
 use Rattle.base.specs.crash.PoolViews.{IsPoolDisk}
@@ -21,8 +24,9 @@ MountsAs v contents = apply_records (records_above v.u.group (map (λ (l : Logge
 abbrev pub AllMountTo : Disk → Disk → ℕ → Contents → Type 0
 AllMountTo old new created contents = LeavesFairSince old new created (λ image. MountsTo image contents)
 
--- the two views of an import: of one pool, four groups apart, and both mount these contents
-pub record AreImportViews (old new : View) (guid : ℕ) (contents : Contents) : Type 0 where
+-- the two views of an import: of one pool, four groups apart, both mount these contents, and both have room for an
+-- import
+pub record AreImportViews (blocks : ℕ) (old new : View) (guid : ℕ) (contents : Contents) : Type 0 where
   pub old_guid : old.u.guid ≡ guid
   pub new_guid : new.u.guid ≡ guid
   pub next_group : new.u.group ≡ old.u.group + 4
@@ -30,20 +34,24 @@ pub record AreImportViews (old new : View) (guid : ℕ) (contents : Contents) : 
   pub new_mounts : MountsAs new contents
   -- no log block is written at this stage
   pub old_log : old.logged ≡ []
+  -- the new one begins a log of its own
   pub new_log : new.logged ≡ []
+  pub old_room : HasImportRoom blocks old
+  pub new_room : HasImportRoom blocks new
 
--- a moment of an import: what a read gives is fair, no config counts that an import of the old view does not write, and
--- it is one of the phases
+-- a moment of an import: what a read gives is fair, no config counts that an import of the old view does not write, no
+-- log block of a later chain than the old view's does, and it is one of the phases
 pub record IsImportMoment (size t : ℕ) (old new : View) (m : Moment) : Type 0 where
   pub bytes : HasFairBytes size t m
   pub configs : AreConfigsBelowImport size t (handed m) old
+  pub chains : AreChainsUpTo size t (handed m) old.u.guid old.u.import_number
   pub phase : IsPhase size t (length old.logged) (length new.logged) m old new
 
 -- each moment from the one disk to the other is one of an import that mounts these contents
 pub record HasSteadyPhases (size t : ℕ) (before after : Disk) (guid : ℕ) (contents : Contents) : Type 0 where
   pub old : View
   pub new : View
-  pub views : AreImportViews old new guid contents
+  pub views : AreImportViews (block_count size) old new guid contents
   pub each : EachMoment (IsImportMoment size t old new) before after
 
 -- a disk that this pool alone wrote, once what a read gives is certain: as a good flush leaves it

@@ -3,11 +3,12 @@
 use Rattle.std.specs.Prelude.{ℕ, ◌≡◌, ◌≢◌, ◌≤◌, ◌<◌, ◌+◌, ◌⊎◌, List, [], length, map, Ok}
 use Rattle.base.specs.history.Contents.{Contents}
 use Rattle.base.specs.formats.Fields.{part, number_at}
-use Rattle.base.specs.formats.Geometry.{slot_of}
+use Rattle.base.specs.formats.Geometry.{block_count, slot_of}
 use Rattle.base.specs.tree.PlacedTrees.{HoldsTree}
 use Rattle.base.specs.disk.Disk.{Write, Moment, Disk, HandedSince, bytes_of, moments, handed, settled, disk_size}
 use Rattle.base.specs.disk.Fairness.{LeavesFairNow, IsCheckedPlace}
 use Rattle.base.specs.crash.Views.{View, Logged, IsView, IsLaid, HasFixedConfig, HasFixedSlot, view_frame, AreSlotsKnown, AreConfigsUpTo, config_content}
+use Rattle.base.specs.crash.LogRoom.{HasImportRoom}
 use Rattle.base.specs.crash.Mount.{apply_records, records_above}
 
 -- At rest: one view is laid, its uberblock is fixed in a label, and each other that counts is of a lower group.
@@ -36,7 +37,8 @@ IsPhase size t flushed new_flushed m old new = IsAtRest size t flushed m old ⊎
 abbrev pub AreConfigsBelowImport : ℕ → ℕ → List Write → View → Type 0
 AreConfigsBelowImport size t ws v = AreConfigsUpTo size t ws v.u.guid (v.u.group + 3) (λ group content. (group ≡ v.u.group + 4) × (content ≡ config_content size v.u.guid group v.name))
 
--- an image that is certain is one that this pool alone has written since its create, and mounts these contents
+-- an image that is certain is one that this pool alone has written since its create, mounts these contents, and has
+-- room for its import
 pub record IsOwnImage (size t : ℕ) (image : List ℕ) (m : Moment) (guid : ℕ) (contents : Contents) : Type 0 where
   pub v : View
   pub guid_is : v.u.guid ≡ guid
@@ -45,6 +47,7 @@ pub record IsOwnImage (size t : ℕ) (image : List ℕ) (m : Moment) (guid : ℕ
   -- no log block is written at this stage
   pub no_log : v.logged ≡ []
   pub applied : apply_records (records_above v.u.group (map (λ (l : Logged). l.block) v.logged)) v.synced ≡ Ok contents
+  pub room : HasImportRoom (block_count size) v
 
 -- A disk was written by this pool alone since its create, which began at this moment: what a read gives is fair, and
 -- every fair image is the pool's own with these contents.
@@ -75,3 +78,4 @@ pub record IsCreatedDisk (size t : ℕ) (m : Moment) (v : View) : Type 0 where
   pub tree : HoldsTree (bytes_of m) (view_frame size v) v.pointers v.synced.objects
   pub first : AreFirstWrites t (handed m) v
   pub places : AreHandedOrZero size t m
+  pub room : HasImportRoom (block_count size) v

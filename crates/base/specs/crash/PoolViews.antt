@@ -1,5 +1,5 @@
 -- The views that a running pool keeps on its disk: the one of its synced group, and, while a sync runs, also the one of
--- that sync's group.
+-- that sync's group, each with the kept log from its header on.
 use Rattle.std.specs.Prelude.{ℕ, ◌≡◌, ◌<◌, ◌⊎◌, true, List, length, slice_get, Some, Ok}
 use Rattle.std.specs.List.{list_any}
 use Rattle.base.specs.declared.pointer.Pointer.{Pointer}
@@ -15,11 +15,12 @@ use Rattle.base.specs.history.Past.{Past}
 use Rattle.base.specs.steps.Logs.{KeptBlock}
 use Rattle.base.specs.steps.Shown.{Shown, SyncPlan}
 use Rattle.base.specs.crash.Layout.{IsBlockOf, kept_from, header_now}
-use Rattle.base.specs.crash.Views.{View, Logged, AreConfigsUpTo, config_content}
+use Rattle.base.specs.crash.Views.{View, Logged, AreConfigsUpTo, config_content, header_behind}
+use Rattle.base.specs.crash.LogRule.{IsLogHeld}
 use Rattle.base.specs.crash.Own.{IsAtRest, IsBetween}
 
--- the view is that of a group of the pool, with this root and the kept log from this header on; so many of its log
--- blocks are fixed
+-- the view is that of a group of the pool, with this root and the kept log from this header on, after which the next
+-- log block goes; so many of its log blocks are fixed
 pub record IsViewOf (flushed : ℕ) (v : View) (s : Shown) (past : Past) (group : ℕ) (root : Pointer) (header : Header) : Type 0 where
   pub guid : v.u.guid ≡ s.guid
   pub group_is : v.u.group ≡ group
@@ -30,6 +31,7 @@ pub record IsViewOf (flushed : ℕ) (v : View) (s : Shown) (past : Past) (group 
   pub as_many : length v.logged ≡ length (kept_from header s.log)
   pub blocks : (i : ℕ) (k : KeptBlock) (l : Logged) → slice_get (kept_from header s.log) i ≡ Some k → slice_get v.logged i ≡ Some l → IsBlockOf past.entries k l.block
   pub flushed_are : (i : ℕ) (k : KeptBlock) → slice_get (kept_from header s.log) i ≡ Some k → k.flushed ≡ true → i < flushed
+  pub goes_on : header_behind (header_of v.u) v.logged ≡ s.log.next
 
 -- at rest on the synced group's view
 pub record IsPoolAtRest (size : ℕ) (m : Moment) (s : Shown) (past : Past) : Type 0 where
@@ -37,6 +39,7 @@ pub record IsPoolAtRest (size : ℕ) (m : Moment) (s : Shown) (past : Past) : Ty
   pub flushed : ℕ
   pub rest : IsAtRest size past.created flushed m v
   pub is : IsViewOf flushed v s past s.line.synced s.root (header_now s.log)
+  pub held : IsLogHeld size past.created flushed s.suspended m v
 
 -- between it and the view of the sync that runs
 pub record IsPoolBetween (size : ℕ) (m : Moment) (s : Shown) (past : Past) : Type 0 where
@@ -51,10 +54,25 @@ pub record IsPoolBetween (size : ℕ) (m : Moment) (s : Shown) (past : Past) : T
   pub between : IsBetween size past.created flushed new_flushed m old new
   pub old_is : IsViewOf flushed old s past s.line.synced s.root (header_now s.log)
   pub new_is : IsViewOf new_flushed new s past group plan.root plan.header
+  pub old_held : IsLogHeld size past.created flushed s.suspended m old
+  pub new_held : IsLogHeld size past.created new_flushed s.suspended m new
 
--- the one or the other, suspended or not
+-- At rest on the view of the sync that runs: a flush has come after a write of its uberblock, and it has calls left.
+-- So it is where the log is flushed between two of these writes.
+pub record IsPoolSwitched (size : ℕ) (m : Moment) (s : Shown) (past : Past) : Type 0 where
+  pub group : ℕ
+  pub plan : SyncPlan
+  pub syncing : s.line.syncing ≡ Some group
+  pub running : s.sync ≡ Some plan
+  pub v : View
+  pub flushed : ℕ
+  pub rest : IsAtRest size past.created flushed m v
+  pub is : IsViewOf flushed v s past group plan.root plan.header
+  pub held : IsLogHeld size past.created flushed s.suspended m v
+
+-- one of the three, suspended or not
 abbrev pub IsPoolLaid : ℕ → Moment → Shown → Past → Type 0
-IsPoolLaid size m s past = IsPoolAtRest size m s past ⊎ IsPoolBetween size m s past
+IsPoolLaid size m s past = IsPoolAtRest size m s past ⊎ (IsPoolBetween size m s past ⊎ IsPoolSwitched size m s past)
 
 -- the config that a running sync writes, where its group has a new name
 pub record IsSyncConfig (size : ℕ) (s : Shown) (past : Past) (group : ℕ) (content : List ℕ) : Type 0 where

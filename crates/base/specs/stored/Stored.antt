@@ -1,6 +1,6 @@
 -- What a pool keeps of its device: the synced tree with its pointers, the free blocks, of a running sync the tree, the
 -- blocks and the uberblock that it writes, and what the labels show.
-use Rattle.std.specs.Prelude.{ℕ, ◌≡◌, ◌≢◌, ◌≤◌, ◌<◌, Bool, true, false, List, [], map, length, slice_get, Option, Some, None, Ok}
+use Rattle.std.specs.Prelude.{ℕ, ◌≡◌, ◌≢◌, ◌≤◌, ◌<◌, Bool, true, false, List, map, length, slice_get, Option, Some, None, Ok}
 use Rattle.std.specs.Ordering.{nat_cmp}
 use Rattle.std.specs.FinMap.{FinMap}
 use Rattle.base.specs.declared.pointer.Pointer.{Pointer}
@@ -21,7 +21,8 @@ use Rattle.base.specs.formats.Uberblocks.{IsUberblock}
 use Rattle.base.specs.steps.Shown.{Shown, SyncPlan, uberblock_of}
 pub use Rattle.base.specs.crash.SyncCalls.{NewTree, Advances, total_calls}
 use Rattle.base.specs.stored.ShownLabels.{AreLabelsShown}
-use Rattle.base.specs.steps.Exact.{AreFree}
+use Rattle.base.specs.steps.Exact.{AreFree, IsInLog, log_addresses}
+use Rattle.base.specs.crash.LogSteps.{IsHeaderIn}
 use Rattle.base.specs.steps.ExactNow.{IsExplainedNow}
 use Rattle.base.specs.steps.Steps.{State}
 
@@ -47,8 +48,8 @@ AreUsed bs new = (i : ℕ) (b : NewBlock) → slice_get bs i ≡ Some b → (pla
 abbrev pub frame_at : Shown → ℕ → Frame
 frame_at s group = record { version = written_version; guid = s.guid; blocks = s.blocks; group = group }
 
--- The bytes hold the synced tree with these pointers, and the free blocks are the others except for the next log block.
--- As of this stage no log block is kept.
+-- The bytes hold the synced tree with these pointers, and the free blocks are the others but for the log, with its next
+-- block: these lie in the area, each at an address of its own, and none is of the tree.
 pub record IsStored (now : List ℕ) (s : Shown) (pointers : Place → Pointer) (past : Past) : Type 0 where
   pub synced : Contents
   pub replayed : replay (entries_up_to s.line.synced past.entries) past.base ≡ Ok synced
@@ -56,9 +57,9 @@ pub record IsStored (now : List ℕ) (s : Shown) (pointers : Place → Pointer) 
   pub tree : HoldsTree now (frame_at s s.line.synced) pointers synced.objects
   pub root : pointers Root ≡ s.root
   pub free : AreFree now s
-  pub no_log : s.log.kept ≡ []
-  pub log_block : IsBlockAddress s.blocks s.log.next.address
-  pub log_apart : IsInTree now s.root s.log.next.address → ⊥
+  pub log_in_area : (address : ℕ) → IsInLog s.log address → IsBlockAddress s.blocks address
+  pub log_places : (i j address : ℕ) → slice_get (log_addresses s.log) i ≡ Some address → slice_get (log_addresses s.log) j ≡ Some address → i ≡ j
+  pub log_apart : (address : ℕ) → IsInLog s.log address → IsInTree now s.root address → ⊥
 
 -- from the tree of the old pointers, of the objects before, a sync makes one of the new pointers and the objects after
 -- by writing these blocks
@@ -83,9 +84,9 @@ pub record IsSyncing (now : List ℕ) (s : Shown) (old : Place → Pointer) (new
   pub planned : IsPlannedSync (frame_at s group) old new.pointers new.blocks synced.objects plan.contents.objects plan
   pub are : AreBlocks s.blocks new.blocks
   pub leaves : LeavesTree new.blocks old
-  pub log_apart : IsUnwritten new.blocks s.log.next.address
+  pub log_apart : (address : ℕ) → IsInLog s.log address → IsUnwritten new.blocks address
   pub not_log : (i : ℕ) (b : NewBlock) → slice_get new.blocks i ≡ Some b → number_at b.content 0 ≢ 6
-  pub header : plan.header ≡ s.log.next
+  pub header : IsHeaderIn plan.header s.log
   pub slot : IsUberblock new.slot (uberblock_of s group plan)
   pub done : new.done ≤ total_calls new
   pub written : (i : ℕ) (b : NewBlock) → i < new.done → slice_get new.blocks i ≡ Some b → IsBlockWritten now s.blocks b
