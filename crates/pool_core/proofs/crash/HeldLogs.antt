@@ -69,7 +69,7 @@ module _ (base : List ℕ) (run : SyncRun) (views : SyncViews) (leads : LeadsVie
   not_logged guid chain number block (Config label) t is log =
       let stages = mapped (config_target run.geometry label) run.stages t is in
       let no_way : None ≡ Some stages.0 = sym plain ∙ stages.1 in
-      absurd no_way
+      cc
   not_logged guid chain number block (Uberblock label) t is log =
       let short : length t.content ≡ slot_size = ap (λ (u : Target). length u.content) (sym (Some-injective is)) ∙ ap (λ (l : List ℕ). length l) leads.uberblock ∙ leads.view.uberblock.size in
       let long : length t.content ≡ block_size = log.sealed.size in

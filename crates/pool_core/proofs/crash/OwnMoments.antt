@@ -37,7 +37,7 @@ pub record HasSyncViews (size : ℕ) (m : Moment) (s : Shown) (past : Past) : Ty
 
 module _ (size : ℕ) (m : Moment) (s : Shown) (past : Past) (x : HasSyncViews size m s past) (phase : IsPhase size past.created x.flushed x.new_flushed m x.old x.new) where
   -- in each phase the pool is laid, and its views have room
-  laid_with_room : (laid : IsPoolLaid size m s past) × OfEachView size m s past (λ v. HasImportRoom (block_count size) v) laid
+  abbrev laid_with_room : (laid : IsPoolLaid size m s past) × OfEachView size m s past (λ v. HasImportRoom (block_count size) v) laid
   laid_with_room = elim phase as (λ _. (laid : IsPoolLaid size m s past) × OfEachView size m s past (λ v. HasImportRoom (block_count size) v) laid) [
     | inl rest ↦ (inl (record { v = x.old; flushed = x.flushed; rest = rest; is = x.old_is; held = x.old_held }), x.old_room)
     | inr (inl between) ↦
@@ -77,6 +77,7 @@ module _ (size : ℕ) (m : Moment) (s : Shown) (past : Past) (x : HasSyncViews s
 
     -- and what a crash leaves then is the pool's own
     pub moment_left : IsExplainedNow s past → s.log.kept ≡ [] → LeavesOwn size past s.guid m
+    unfolding moment_laid
     moment_left explained none = record {
       bytes = bytes;
       each = λ image left fair.

@@ -81,7 +81,7 @@ module _ (run next : SyncRun) (before after : Disk) (s : Shown) (p : Past) (bega
     new_held : (m : Moment) → Hands m → IsLogHeld run.geometry p.created x.views.new_flushed s.suspended m x.views.new
     new_held m hands = held_call (bytes_of x.start.now) run x.views x.since.leads x.no_stages run.geometry p.created x.views.new_flushed s.suspended before.now m x.views.new new_empty hands x.new_held
 
-    views_at : (m : Moment) → Hands m → HasSyncViews run.geometry m s p
+    abbrev views_at : (m : Moment) → Hands m → HasSyncViews run.geometry m s p
     views_at m hands = record {
       group = x.group;
       plan = x.plan;

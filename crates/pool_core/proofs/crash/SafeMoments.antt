@@ -45,7 +45,7 @@ module _ (s : Shown) (past : Past) (explained : IsExplainedNow s past) where
 
 -- While a sync has calls left its pool's disk is laid.
 module _ (run : SyncRun) (disk : Disk) (s : Shown) (past : Past) (x : IsSyncOnDisk run disk s past) where
-  views : HasSyncViews run.geometry disk.now s past
+  abbrev views : HasSyncViews run.geometry disk.now s past
   views = record {
     group = x.group;
     plan = x.plan;

@@ -206,8 +206,8 @@ module _ (x : OnDisk) (safe : IsKeptSafe x) where
     same : SameSynced s t p q
     same = subst (λ (u : State). SameSynced s u.shown p u.past) (sym begun.1.2) (started_same begun.1.0 begun.1.1 x.held.state)
 
-    still : t.log.kept ≡ []
-    still = same.kept ∙ safe.no_log
+    empty : t.log.kept ≡ []
+    empty = same.kept ∙ safe.no_log
 
     stored : IsStored (bytes_of x.disk.now) t h.pointers q
     stored = subst (λ (l : List ℕ). IsStored l t h.pointers q) same_bytes held.kept.stored
@@ -224,9 +224,9 @@ module _ (x : OnDisk) (safe : IsKeptSafe x) where
     sync_kept : IsSyncOnDisk run x.disk t q
     sync_kept =
         let rest = idle_rest x.disk.now s p begun.0 run.geometry pool.laid in
-        started_kept x.disk t q h.pointers tree run stored syncing held.explained still places run.sized (sym size) (slot syncing.group syncing.syncing) stages rest.flushed rest.v
+        started_kept x.disk t q h.pointers tree run stored syncing held.explained empty places run.sized (sym size) (slot syncing.group syncing.syncing) stages rest.flushed rest.v
         (subst (λ (c : ℕ). IsAtRest run.geometry c rest.flushed x.disk.now rest.v) (sym same.created) rest.rest)
-        (synced_view s t p q safe.no_log still rest.flushed rest.v same rest.is)
+        (synced_view s t p q safe.no_log empty rest.flushed rest.v same rest.is)
         (held_as run.geometry p.created q.created rest.flushed rest.flushed s.suspended t.suspended x.disk.now rest.v (none_logged rest.flushed rest.v s p s.line.synced s.root (header_now s.log) safe.no_log rest.is)
         same.created rest.held)
         (configs_as (handed x.disk.now) run.geometry run.geometry p.created q.created s.guid t.guid s.line.synced t.line.synced refl same.created same.guid same.synced
@@ -237,7 +237,7 @@ module _ (x : OnDisk) (safe : IsKeptSafe x) where
     start_safe =
         let kept : IsKeptSafe (record { held = h; disk = x.disk; run = Some run }) = record {
           held = held;
-          no_log = still;
+          no_log = empty;
           same_bytes = same_bytes;
           began = subst (λ (c : ℕ). c ≤ moments x.disk) (sym same.created) safe.began;
           kept = sync_kept;

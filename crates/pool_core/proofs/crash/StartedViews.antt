@@ -240,11 +240,14 @@ module _ (disk : Disk) (s : Shown) (p : Past) (pointers tree : Place → Pointer
   header_is : y.plan.header ≡ s.log.next
   header_is = header_next y.plan.header s.log none y.header
 
-  same_header : y.plan.header.number ≡ old.u.log_number
-  same_header = ap (λ (h : Header). h.number) (header_is ∙ sym (header-none s.log none) ∙ sym is.header_is)
+  same_number : y.plan.header.number ≡ old.u.log_number
+  same_number = ap (λ (h : Header). h.number) (header_is ∙ sym (header-none s.log none) ∙ sym is.header_is)
+
+  counted : s.blocks ≡ block_count run.geometry
+  counted = x.blocks ∙ ap (λ (n : ℕ). block_count n) long
 
   placed : (i : ℕ) (b : NewBlock) → slice_get (map new_block run.blocks.items) i ≡ Some b → IsBlockAddress (block_count run.geometry) b.address
-  placed i b at = subst (λ (n : ℕ). IsBlockAddress n b.address) (x.blocks ∙ ap (λ (n : ℕ). block_count n) long) (y.are.in_area i b at)
+  placed i b at = subst (λ (n : ℕ). IsBlockAddress n b.address) counted (y.are.in_area i b at)
 
   spare : All (IsSpareBlock views) run.blocks.items
   spare = All-each (IsSpareBlock views) run.blocks.items (λ i b at.
@@ -260,11 +263,10 @@ module _ (disk : Disk) (s : Shown) (p : Past) (pointers tree : Place → Pointer
   makes_tree : (image : List ℕ) → length image ≡ length now → BlocksWritten now run.geometry run.blocks.items (vec_len run.blocks) image
       → HoldsTree image (view_frame run.geometry new) tree y.plan.contents.objects
   makes_tree image same written =
-      let count : s.blocks ≡ block_count run.geometry = x.blocks ∙ ap (λ (n : ℕ). block_count n) long in
       let all : length run.blocks.items ≤ vec_len run.blocks = omega (arith, run.blocks.ok.0) in
-      subst (λ (n : ℕ). HoldsTree image (record { version = written_version; guid = s.guid; blocks = n; group = y.group }) tree y.plan.contents.objects) count
+      subst (λ (n : ℕ). HoldsTree image (record { version = written_version; guid = s.guid; blocks = n; group = y.group }) tree y.plan.contents.objects) counted
       (tree_made now s p pointers (made_by tree run) x y explained geometry image (written_stand now image run.geometry run.blocks.items (vec_len run.blocks) all written)
-      (λ address area other. others_stay now image run.geometry run.blocks.items (vec_len run.blocks) same written placed address (subst (λ (n : ℕ). IsBlockAddress n address) count area) other))
+      (λ address area other. others_stay now image run.geometry run.blocks.items (vec_len run.blocks) same written placed address (subst (λ (n : ℕ). IsBlockAddress n address) counted area) other))
 
   above : old.u.group < y.group
   above = omega (arith, is.group_is, next)
@@ -293,7 +295,7 @@ module _ (disk : Disk) (s : Shown) (p : Past) (pointers tree : Place → Pointer
         (subst (λ (g : ℕ). AreConfigsUpTo run.geometry p.created (handed disk.now) g old.u.group (λ above content. ⊥)) (sym is.guid)
         (subst (λ (g : ℕ). AreConfigsUpTo run.geometry p.created (handed disk.now) s.guid g (λ above content. ⊥)) (sym is.group_is) configs)) rest.laid.configs;
     logs = logs_of_group run.geometry p.created 0 (handed disk.now) old new rest.laid.view (sym is.guid) (sym is.import_is)
-        (omega (arith, same_header)) (omega arith)
+        (omega (arith, same_number)) (omega arith)
         (sym no_logged) rest.laid.logs;
   }
 
@@ -313,13 +315,10 @@ module _ (disk : Disk) (s : Shown) (p : Past) (pointers tree : Place → Pointer
 
   new_held : IsLogHeld run.geometry p.created 0 s.suspended disk.now new
   new_held = held_without run.geometry p.created disk.now new refl 0 s.suspended
-      (below_of_group run.geometry p.created 0 old new (sym is.guid) (sym is.import_is) (omega (arith, same_header)) (omega arith) (sym no_logged) (handed disk.now) 0 (omega arith)
+      (below_of_group run.geometry p.created 0 old new (sym is.guid) (sym is.import_is) (omega (arith, same_number)) (omega arith) (sym no_logged) (handed disk.now) 0 (omega arith)
       (none_counts run.geometry p.created disk.now old no_logged flushed s.suspended held))
 
   -- both views have room for an import
-  counted : s.blocks ≡ block_count run.geometry
-  counted = x.blocks ∙ ap (λ (n : ℕ). block_count n) long
-
   old_room : HasImportRoom (block_count run.geometry) old
   old_room = subst (λ (n : ℕ). HasImportRoom n old) counted
       (synced_room s p explained.exact.log explained.exact.sync explained.exact.charges explained.exact.blocks explained.exact.groups explained.exact.isolated now x.free places flushed old (view_frame run.geometry old)
