@@ -54,8 +54,8 @@ stored_as now s old new past same x = record {
   tree = holds_as now (frame_at s s.line.synced) old new same x.synced.objects x.tree;
   root = same Root tt ∙ x.root;
   free = x.free;
-  no_log = x.no_log;
-  log_block = x.log_block;
+  log_in_area = x.log_in_area;
+  log_places = x.log_places;
   log_apart = x.log_apart;
 }
 

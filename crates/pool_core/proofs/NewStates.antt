@@ -1,15 +1,18 @@
 -- The state that an import gives is held by its device, with a past in which nothing happened.
-use Rattle.std.proofs.Common.{◌≡◌, ◌<◌, ◌≤◌, ℕ, List, length, nat_lt, refl, sym, subst, true}
+use Rattle.std.proofs.Common.{◌≡◌, ◌<◌, ◌≤◌, inl, inr, ℕ, zero, suc, List, [], ◌∷◌, length, nat_lt, refl, sym, subst, true}
 use Rattle.std.proofs.Math.Logic.{∥∥₁_elim}
 use Rattle.std.specs.Coded.{×_prop, Π_prop, Unit-prop, le_prop}
 use Rattle.std.specs.FinMap as finite
 use Rattle.std.specs.List.{list_all}
-use Rattle.std.specs.Prelude.{IfSome, None, Option, Some, option_map}
-use Rattle.base.specs.formats.Geometry.{block_count}
+use Rattle.std.specs.Prelude.{IfSome, None, Option, Some, option_map, slice_get}
+use Rattle.base.specs.formats.Geometry.{IsBlockAddress, block_count}
 use Rattle.base.specs.formats.Limits.{max_length, object_count}
 use Rattle.base.specs.history.Past.{new_past}
+use Rattle.base.specs.steps.Exact.{IsInLog}
 use Rattle.base.specs.steps.Shown.{Shown}
 use Rattle.base.specs.stored.Stored.{IsHeld, IsStored}
+use Rattle.base.specs.tree.Places.{IsInTree}
+use Rattle.base.proofs.common.KeptLists.{none_at}
 use Rattle.object_maps.specs.ContentsShown.{contents_of}
 use Rattle.object_maps.specs.Pointers.{pointers_of}
 use Rattle.object_maps.specs.Sources.{AreWithin}
@@ -21,7 +24,18 @@ use Rattle.pool_tables.specs.Told.{held_with, new_tree_of, pool_told}
 use Rattle.pool_core.specs.NewStates.{IsExplainedAtFirst, IsHeldAtFirst, first_past}
 use Rattle.pool_tables.specs.Shows.{pool_shown}
 
+-- one address has one place
+one_place : (only i j address : ℕ) → slice_get (only ∷ []) i ≡ Some address → slice_get (only ∷ []) j ≡ Some address → i ≡ j
+one_place only zero zero address at_i at_j = refl
+one_place only zero (suc j) address at_i at_j = absurd (none_at j address at_j)
+one_place only (suc i) j address at_i at_j = absurd (none_at i address at_i)
+
 module _ (now : List ℕ) (created : ℕ) (m : Mounted) (sized : block_count m.geometry ≡ block_count (length now)) (on : StandsOn now m) (shows : LabelsShow now m) (explained : IsExplainedAnew m) where
+  -- its log has no block but the next one
+  next_alone : (address : ℕ) → IsInLog (shown_of_import m).log address → address ≡ (shown_of_import m).log.next.address
+  next_alone address (inl same) = same
+  next_alone address (inr (i, b, at, is)) = absurd (none_at i b at)
+
   stored : IsStored now (shown_of_import m) (pointers_of m.tree) (new_past (contents_of m.contents) created m.dirty_max)
   stored = record {
     synced = contents_of m.contents;
@@ -30,9 +44,9 @@ module _ (now : List ℕ) (created : ℕ) (m : Mounted) (sized : block_count m.g
     tree = on.tree;
     root = refl;
     free = on.free;
-    no_log = refl;
-    log_block = on.log_block;
-    log_apart = on.log_apart;
+    log_in_area = λ address in_log. subst (λ (a : ℕ). IsBlockAddress (shown_of_import m).blocks a) (sym (next_alone address in_log)) on.log_block;
+    log_places = one_place (shown_of_import m).log.next.address;
+    log_apart = λ address in_log is. on.log_apart (subst (λ (a : ℕ). IsInTree now (shown_of_import m).root a) (next_alone address in_log) is);
   }
 
   -- all of what a run asks for

@@ -1,4 +1,5 @@
 pub mod ViewsKept
+pub mod HeldLogs
 pub mod SafeMoments
 pub mod ExplainedPools
 pub mod OwnMoments

@@ -1,14 +1,17 @@
 -- What a pool keeps of its disk for crashes, step by step.
-use Rattle.std.specs.Prelude.{ℕ, ◌≡◌, ◌≤◌, ◌<◌, ◌++◌, ◌∷◌, List, Option, Some, None}
+use Rattle.std.specs.Prelude.{ℕ, ◌≡◌, ◌≤◌, ◌<◌, ◌++◌, ◌∷◌, List, [], Option, Some, None}
 use Rattle.base.specs.declared.step.Step as declared_step
 use Rattle.base.specs.declared.step.Reply as declared_reply
 use Rattle.base.specs.crash.CrashRule.{IsRunLeft}
 use Rattle.base.specs.crash.Layout.{header_now}
+use Rattle.base.specs.crash.LogRoom.{HasImportRoom}
+use Rattle.base.specs.crash.LogRule.{IsLogHeld}
 use Rattle.base.specs.crash.Own.{IsOwnImage}
 use Rattle.base.specs.crash.PoolViews.{IsPoolDisk, IsViewOf}
 use Rattle.base.specs.crash.Views.{AreConfigsUpTo}
 use Rattle.base.specs.disk.Disk.{Disk, EachMoment, Moment, bytes_of, disk_size, handed, moments}
 use Rattle.base.specs.disk.Fairness.{HasFairBytes, LeavesFair}
+use Rattle.base.specs.formats.Geometry.{block_count}
 use Rattle.base.specs.history.Contents.{Contents}
 use Rattle.base.specs.history.Past.{Past}
 use Rattle.base.specs.steps.Additions.{past_after}
@@ -34,8 +37,8 @@ pub record OnDisk : Type 0 where
   pub run : Option SyncRun
 
 -- While a sync runs: since it began it leads from the view of the synced group to that of its own, and each moment
--- since then was of one of its phases. What a read gives is fair, and no config of the pool above the synced group
--- counts. (None writes label stages so far.)
+-- since then was of one of its phases. Of both the log is held, and both leave room for an import. What a read gives is
+-- fair, and no config of the pool above the synced group counts. (None writes label stages so far.)
 pub record IsSyncOnDisk (run : SyncRun) (disk : Disk) (s : Shown) (past : Past) : Type 0 where
   pub no_stages : run.stages ≡ None
   pub left : run.done < call_count run
@@ -49,18 +52,25 @@ pub record IsSyncOnDisk (run : SyncRun) (disk : Disk) (s : Shown) (past : Past) 
   pub since : HasPhasesSince start views run disk
   pub old_is : IsViewOf views.flushed views.old s past s.line.synced s.root (header_now s.log)
   pub new_is : IsViewOf views.new_flushed views.new s past group plan.root plan.header
+  pub old_held : IsLogHeld run.geometry past.created views.flushed s.suspended disk.now views.old
+  pub new_held : IsLogHeld run.geometry past.created views.new_flushed s.suspended disk.now views.new
+  pub old_room : HasImportRoom (block_count run.geometry) views.old
+  pub new_room : HasImportRoom (block_count run.geometry) views.new
   pub bytes : HasFairBytes run.geometry past.created disk.now
   pub configs : AreConfigsUpTo run.geometry past.created (handed disk.now) s.guid s.line.synced (λ above content. ⊥)
 
--- the disk is kept: at rest on the view of the synced group, or on the way of the sync that runs
+-- the disk is kept: at rest on the view of the synced group while no group is syncing, or on the way of the sync that
+-- runs
 abbrev pub IsDiskKept : Option SyncRun → Disk → Shown → Past → Type 0
-IsDiskKept None disk s past = IsPoolDisk (disk_size disk) disk.now s past
+IsDiskKept None disk s past = (s.line.syncing ≡ None) × IsPoolDisk (disk_size disk) disk.now s past
 IsDiskKept (Some run) disk s past = IsSyncOnDisk run disk s past
 
 -- The crash rule of a pool with its past: the device holds what it should, a read of its disk gives these bytes, and
--- this disk, on which the create of the pool began at a moment of the past, is kept.
+-- this disk, on which the create of the pool began at a moment of the past, is kept. No log block is written at this
+-- stage.
 pub record IsKeptSafe (x : OnDisk) : Type 0 where
   pub held : IsHeld x.held
+  pub no_log : x.held.state.shown.log.kept ≡ []
   pub same_bytes : x.held.now ≡ bytes_of x.disk.now
   pub began : x.held.state.past.created ≤ moments x.disk
   pub kept : IsDiskKept x.run x.disk x.held.state.shown x.held.state.past

@@ -1,93 +1,88 @@
--- What a crash leaves at a moment of a sync is the pool's own, with a cut of its entries.
-use Rattle.std.proofs.Common.{◌≡◌, ◌∙◌, inl, inr, ℕ, ◌+◌, ◌≤◌, List, [], ◌∷◌, length, map, take, Ok, Some, refl, sym, ap, subst, arith}
-use Rattle.std.specs.Prelude.{IfSome}
-use Rattle.base.specs.declared.pointer.Pointer.{Pointer}
-use Rattle.base.specs.crash.CrashRule.{MountsAs}
-use Rattle.base.specs.crash.Layout.{LiesAs, header_now}
-use Rattle.base.specs.crash.Mount.{apply_records, records_above}
-use Rattle.base.specs.crash.Own.{AreConfigsBelowImport, IsAtRest, IsOwnImage, IsPhase}
-use Rattle.base.specs.crash.PoolViews.{IsViewOf}
-use Rattle.base.specs.crash.Views.{AreConfigsUpTo, IsFoundAs, Logged, View, config_content}
-use Rattle.base.specs.disk.Disk.{Disk, EachMoment, MayLeave, Moment, disk_size, handed, settled}
-use Rattle.base.specs.disk.Fairness.{HasFairBytes, IsFair, passes_check}
-use Rattle.base.specs.formats.Chain.{Header}
-use Rattle.base.specs.history.Contents.{Contents}
+-- A moment of a sync is one of its pool's disk, with room for an import in each view. So what a crash leaves at it is
+-- the pool's own, with a cut of its entries.
+use Rattle.std.proofs.Common.{◌≡◌, inl, inr, ℕ, List, [], Some, sym, subst, arith}
+use Rattle.base.specs.crash.Layout.{header_now}
+use Rattle.base.specs.crash.LogRoom.{HasImportRoom}
+use Rattle.base.specs.crash.LogRule.{IsLogHeld}
+use Rattle.base.specs.crash.Own.{IsPhase}
+use Rattle.base.specs.crash.PoolViews.{IsPoolDisk, IsPoolLaid, IsSyncConfig, IsViewOf}
+use Rattle.base.specs.crash.Views.{AreConfigsUpTo, View}
+use Rattle.base.specs.disk.Disk.{Disk, EachMoment, Moment, disk_size, handed}
+use Rattle.base.specs.disk.Fairness.{HasFairBytes}
+use Rattle.base.specs.formats.Geometry.{block_count}
 use Rattle.base.specs.history.Past.{Past}
 use Rattle.base.specs.steps.ExactNow.{IsExplainedNow}
-use Rattle.base.specs.steps.Explains.{IsLeftBy}
-use Rattle.base.specs.steps.Logs.{KeptBlock}
 use Rattle.base.specs.steps.Shown.{Shown, SyncPlan}
-use Rattle.base.proofs.crash.CrashRule.{phase_certain, take_whole}
-use Rattle.base.proofs.crash.FoundViews.{rest_found}
-use Rattle.base.proofs.crash.LaidOutMounts.{synced_applies, syncing_applies}
-use Rattle.base.proofs.crash.OwnDisks.{configs_weaker, rest_own}
-use Rattle.base.proofs.crash.PoolViews.{found_lies}
-use Rattle.base.proofs.disk.Fairness.{fair_settled}
-use Rattle.base.proofs.disk.Moments.{bytes_may_be_left}
+use Rattle.base.proofs.crash.OwnDisks.{configs_weaker, image_left}
+use Rattle.base.proofs.crash.PoolViews.{OfEachView}
 use Rattle.pool_core.specs.KeptSafe.{LeavesOwn}
-use Rattle.pool_core.proofs.crash.ViewsKept.{none_from}
 
--- An image that a crash leaves at a moment at which no config above the synced group counts.
-module _ (size : ℕ) (m : Moment) (s : Shown) (past : Past) (explained : IsExplainedNow s past) (none : s.log.kept ≡ []) (bytes : HasFairBytes size past.created m)
-    (known : AreConfigsUpTo size past.created (handed m) s.guid s.line.synced (λ above content. ⊥)) (image : List ℕ) (left : MayLeave m image) (fair : IsFair (passes_check size) past.created (handed m) image) where
-  abbrev Left : Type 0
-  Left = (c : Contents) × IsLeftBy past c × IsOwnImage size past.created image m s.guid c
+-- The views of the synced group and of the running sync's group, with what is known of their logs at a moment, and the
+-- room that they leave for an import.
+pub record HasSyncViews (size : ℕ) (m : Moment) (s : Shown) (past : Past) : Type 0 where
+  pub group : ℕ
+  pub plan : SyncPlan
+  pub syncing : s.line.syncing ≡ Some group
+  pub running : s.sync ≡ Some plan
+  pub old : View
+  pub flushed : ℕ
+  pub new : View
+  pub new_flushed : ℕ
+  pub old_is : IsViewOf flushed old s past s.line.synced s.root (header_now s.log)
+  pub new_is : IsViewOf new_flushed new s past group plan.root plan.header
+  pub old_held : IsLogHeld size past.created flushed s.suspended m old
+  pub new_held : IsLogHeld size past.created new_flushed s.suspended m new
+  pub old_room : HasImportRoom (block_count size) old
+  pub new_room : HasImportRoom (block_count size) new
 
-  size_is : size ≡ length image
-  size_is = sym (left.size ∙ bytes.size_is)
+module _ (size : ℕ) (m : Moment) (s : Shown) (past : Past) (x : HasSyncViews size m s past) (phase : IsPhase size past.created x.flushed x.new_flushed m x.old x.new) where
+  -- in each phase the pool is laid, and its views have room
+  abbrev laid_with_room : (laid : IsPoolLaid size m s past) × OfEachView size m s past (λ v. HasImportRoom (block_count size) v) laid
+  laid_with_room = elim phase as (λ _. (laid : IsPoolLaid size m s past) × OfEachView size m s past (λ v. HasImportRoom (block_count size) v) laid) [
+    | inl rest ↦ (inl (record { v = x.old; flushed = x.flushed; rest = rest; is = x.old_is; held = x.old_held }), x.old_room)
+    | inr (inl between) ↦
+        (
+          inr (inl (record {
+            group = x.group;
+            plan = x.plan;
+            syncing = x.syncing;
+            running = x.running;
+            old = x.old;
+            new = x.new;
+            flushed = x.flushed;
+            new_flushed = x.new_flushed;
+            between = between;
+            old_is = x.old_is;
+            new_is = x.new_is;
+            old_held = x.old_held;
+            new_held = x.new_held;
+          })),
+          (x.old_room, x.new_room),
+        )
+    | inr (inr rest) ↦
+        (
+          inr (inr (record { group = x.group; plan = x.plan; syncing = x.syncing; running = x.running; v = x.new; flushed = x.new_flushed; rest = rest; is = x.new_is; held = x.new_held })),
+          x.new_room,
+        )
+  ]
 
-  found : (flushed : ℕ) (v : View) → IsAtRest size past.created flushed (settled image m) v → IsFoundAs image flushed v
-  found flushed v rest =
-      let certain_fair = subst (λ (n : ℕ). IsFair (passes_check n) past.created (handed (settled image m)) image) size_is (fair_settled (passes_check size) past.created image m fair) in
-      rest_found past.created (settled image m) image (bytes_may_be_left (settled image m)) certain_fair flushed v
-      (subst (λ (n : ℕ). IsAtRest n past.created flushed (settled image m) v) size_is rest)
+  -- where no config above the synced group counts, it is a moment of the pool's disk
+  module _ (bytes : HasFairBytes size past.created m) (known : AreConfigsUpTo size past.created (handed m) s.guid s.line.synced (λ above content. ⊥)) where
+    pub moment_laid : IsPoolDisk size m s past
+    moment_laid = record {
+      bytes = bytes;
+      configs = configs_weaker size past.created (handed m) s.guid s.line.synced s.line.synced (λ above content. ⊥) (IsSyncConfig size s past) (omega arith) (λ above content no_way. absurd no_way) known;
+      laid = laid_with_room.0;
+    }
 
-  no_logged : (ls : List Logged) → length ls ≡ 0 → ls ≡ []
-  no_logged [] empty = refl
-  no_logged (l ∷ ls) some = absurd (omega (arith, some))
-
-  configs : (v : View) → v.u.guid ≡ s.guid → s.line.synced ≤ v.u.group → AreConfigsBelowImport size past.created (handed m) v
-  configs v of_guid no_lower =
-      subst (λ (guid : ℕ). AreConfigsUpTo size past.created (handed m) guid (v.u.group + 3) (λ group content. (group ≡ v.u.group + 4) × (content ≡ config_content size guid group v.name))) (sym of_guid)
-      (configs_weaker size past.created (handed m) s.guid s.line.synced (v.u.group + 3) (λ above content. ⊥) (λ group content. (group ≡ v.u.group + 4) × (content ≡ config_content size s.guid group v.name))
-      (omega (arith, no_lower)) (λ group content no_way. absurd no_way) known)
-
-  -- the contents of the view on which it is at rest
-  view_left : (flushed : ℕ) (v : View) (group : ℕ) (root : Pointer) (header : Header) → IsViewOf flushed v s past group root header → IsAtRest size past.created flushed (settled image m) v → s.line.synced ≤ group
-      → ((l : LiesAs image s past group root header) → (c : Contents) × IsLeftBy past c × (apply_records (records_above l.u.group l.chain) l.synced ≡ Ok c)) → Left
-  view_left flushed v group root header is rest no_lower applies =
-      let f = found flushed v rest in
-      let a = applies (found_lies image flushed v s past group root header f is) in
-      let empty : v.logged ≡ [] = no_logged v.logged (is.as_many ∙ ap (λ (ks : List KeptBlock). length ks) (none_from header s.log none)) in
-      let short : length v.logged ≡ 0 = ap (λ (l : List Logged). length l) empty in
-      let whole : take f.count v.logged ≡ v.logged = take_whole f.count v.logged (omega (arith, short)) in
-      let mounts : MountsAs v a.0 = ap (λ (ls : List Logged). apply_records (records_above v.u.group (map (λ (l : Logged). l.block) ls)) v.synced) (sym whole) ∙ a.2 in
-      let not_below : s.line.synced ≤ v.u.group = let g : v.u.group ≡ group = is.group_is in omega (arith, g, no_lower) in
-      (a.0, a.1, rest_own size past.created m image left flushed v s.guid a.0 is.guid empty mounts (configs v is.guid not_below) rest)
-
-  -- of a sync that leads between the views of the synced group and its own
-  pub phase_left : (group : ℕ) (plan : SyncPlan) (flushed new_flushed : ℕ) (old new : View) → s.line.syncing ≡ Some group → s.sync ≡ Some plan → IsViewOf flushed old s past s.line.synced s.root (header_now s.log)
-      → IsViewOf new_flushed new s past group plan.root plan.header → IsPhase size past.created flushed new_flushed m old new → Left
-  phase_left group plan flushed new_flushed old new syncing running old_is new_is phase =
-      let log = explained.exact.log in
-      let sync = explained.exact.sync in
-      let line = explained.exact.groups.line in
-      elim (phase_certain size past.created flushed new_flushed m image left old new phase) as (λ _. Left) [
-        | inl rest ↦ view_left flushed old s.line.synced s.root (header_now s.log) old_is rest (omega arith) (synced_applies image s past s.contents log sync line explained.history)
-        | inr rest ↦
-            let next : group ≡ s.line.synced + 1 = subst (λ o. IfSome o (λ g. g ≡ s.line.synced + 1)) syncing line.syncing in
-            view_left new_flushed new group plan.root plan.header new_is rest (omega (arith, next)) (syncing_applies image s past s.contents log sync line explained.history group plan syncing running)
-      ]
-
--- So at each such moment a crash leaves the pool's own.
-pub moment_left : (size : ℕ) (m : Moment) (s : Shown) (past : Past) → IsExplainedNow s past → s.log.kept ≡ [] → HasFairBytes size past.created m
-    → AreConfigsUpTo size past.created (handed m) s.guid s.line.synced (λ above content. ⊥) → (group : ℕ) (plan : SyncPlan) (flushed new_flushed : ℕ) (old new : View) → s.line.syncing ≡ Some group → s.sync ≡ Some plan
-    → IsViewOf flushed old s past s.line.synced s.root (header_now s.log) → IsViewOf new_flushed new s past group plan.root plan.header → IsPhase size past.created flushed new_flushed m old new
-    → LeavesOwn size past s.guid m
-moment_left size m s past explained none bytes known group plan flushed new_flushed old new syncing running old_is new_is phase = record {
-  bytes = bytes;
-  each = λ image left fair. phase_left size m s past explained none bytes known image left fair group plan flushed new_flushed old new syncing running old_is new_is phase;
-}
+    -- and what a crash leaves then is the pool's own
+    pub moment_left : IsExplainedNow s past → s.log.kept ≡ [] → LeavesOwn size past s.guid m
+    unfolding moment_laid
+    moment_left explained none = record {
+      bytes = bytes;
+      each = λ image left fair.
+          image_left size m s past s.contents image left moment_laid fair explained.exact.log explained.exact.sync explained.exact.groups.line explained.history none laid_with_room.1;
+    }
 
 -- what was left with a past that is the later one except for what was acknowledged
 pub were_left : (before after : Disk) (p q r : Past) (guid other : ℕ) → record q { acknowledged = p.acknowledged } ≡ r → other ≡ guid → EachMoment (LeavesOwn (disk_size before) r guid) before after

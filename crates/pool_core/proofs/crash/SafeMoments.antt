@@ -1,43 +1,29 @@
 -- At each moment of a disk that is kept, and of each call of a sync on it, every fair image mounts to a cut with every
 -- acknowledged entry.
-use Rattle.std.proofs.Common.{◌≡◌, ◌∙◌, inl, inr, ℕ, ◌+◌, List, length, Option, Some, None, refl, sym, subst, arith}
-use Rattle.std.proofs.lemmas.Bool.{cases_lt}
-use Rattle.base.specs.crash.CallStages.{IsAtRestAt, IsBetweenAt}
+use Rattle.std.proofs.Common.{◌≡◌, ◌∙◌, inl, inr, ℕ, ◌≤◌, List, [], length, Option, Some, None, refl, sym, subst}
+use Rattle.base.specs.declared.pointer.Pointer.{Pointer}
 use Rattle.base.specs.crash.CrashRule.{IsRunLeft}
-use Rattle.base.specs.crash.Layout.{IsLaidOut, header_now}
-use Rattle.base.specs.crash.Own.{IsAtRest, IsBetween, IsPhase}
-use Rattle.base.specs.crash.PoolViews.{IsPoolDisk, IsPoolLaid, IsSyncConfig, IsViewOf}
-use Rattle.base.specs.crash.Views.{View}
-use Rattle.base.specs.disk.Disk.{Disk, EachMoment, MayLeave, Moment, disk_size, handed}
-use Rattle.base.specs.disk.Fairness.{HasFairBytes, IsFair, LeavesFair, passes_check}
+use Rattle.base.specs.crash.LogRoom.{HasImportRoom}
+use Rattle.base.specs.crash.Own.{IsPhase}
+use Rattle.base.specs.crash.PoolViews.{IsPoolAtRest, IsPoolDisk, IsPoolLaid}
+use Rattle.base.specs.disk.Disk.{Disk, EachMoment, Moment, bytes_of, disk_size, moments}
+use Rattle.base.specs.disk.Fairness.{LeavesFair}
+use Rattle.base.specs.formats.Geometry.{block_count}
 use Rattle.base.specs.history.Past.{Past}
 use Rattle.base.specs.steps.ExactNow.{IsExplainedNow}
 use Rattle.base.specs.steps.Explains.{AreSafe, MountsToCut, WereSafe}
-use Rattle.base.specs.steps.Shown.{Shown, SyncPlan}
-use Rattle.base.proofs.crash.FoundViews.{between_found, rest_found}
-use Rattle.base.proofs.crash.LaidOutMounts.{laid_out_mounts, laid_out_safe}
-use Rattle.base.proofs.crash.OwnDisks.{configs_weaker, run_own}
-use Rattle.base.proofs.crash.PoolViews.{found_lies, pool_laid_out}
-use Rattle.base.proofs.disk.Moments.{both, starts, weaker}
+use Rattle.base.specs.steps.Shown.{Shown}
+use Rattle.base.specs.stored.Stored.{IsKept, NewTree}
+use Rattle.base.specs.tree.Places.{Place}
+use Rattle.base.proofs.crash.LaidOutMounts.{laid_out_safe}
+use Rattle.base.proofs.crash.OwnDisks.{run_own}
+use Rattle.base.proofs.crash.PoolSpares.{each_has_room}
+use Rattle.base.proofs.crash.PoolViews.{OfEachView, pool_laid_out}
+use Rattle.base.proofs.disk.Moments.{latest, starts}
 use Rattle.sync.specs.declared.run.SyncRun.{SyncRun}
-use Rattle.sync.specs.Phases.{SyncViews, calls_before_slots}
-use Rattle.sync.specs.Runs.{call_count}
+use Rattle.sync.specs.Phases.{IsSyncPhase}
 use Rattle.pool_core.specs.KeptSafe.{IsDiskKept, IsKeptSafe, IsSyncOnDisk, LeavesOwn, OnDisk}
-use Rattle.pool_core.proofs.crash.OwnMoments.{were_left}
-
--- of a disk in one of the phases of a sync every fair image is laid out as the synced group, or as that of the sync
-pub phase_laid : (m : Moment) (image : List ℕ) (s : Shown) (past : Past) (group : ℕ) (plan : SyncPlan) (flushed new_flushed : ℕ) (old new : View) → s.line.syncing ≡ Some group → s.sync ≡ Some plan
-    → IsViewOf flushed old s past s.line.synced s.root (header_now s.log) → IsViewOf new_flushed new s past group plan.root plan.header
-    → MayLeave m image → IsFair (passes_check (length image)) past.created (handed m) image → IsPhase (length image) past.created flushed new_flushed m old new → IsLaidOut image s past
-phase_laid m image s past group plan flushed new_flushed old new syncing running old_is new_is left fair (inl rest) =
-    inl (found_lies image flushed old s past s.line.synced s.root (header_now s.log) (rest_found past.created m image left fair flushed old rest) old_is)
-phase_laid m image s past group plan flushed new_flushed old new syncing running old_is new_is left fair (inr (inl between)) =
-    elim (between_found past.created m image left fair flushed new_flushed old new between) as (λ _. IsLaidOut image s past) [
-      | inl found ↦ inl (found_lies image flushed old s past s.line.synced s.root (header_now s.log) found old_is)
-      | inr found ↦ inr (group, plan, syncing, running, found_lies image new_flushed new s past group plan.root plan.header found new_is)
-    ]
-phase_laid m image s past group plan flushed new_flushed old new syncing running old_is new_is left fair (inr (inr rest)) =
-    inr (group, plan, syncing, running, found_lies image new_flushed new s past group plan.root plan.header (rest_found past.created m image left fair new_flushed new rest) new_is)
+use Rattle.pool_core.proofs.crash.OwnMoments.{HasSyncViews, moment_laid, moment_left, were_left}
 
 -- a safe moment for a past, of a device of so many bytes
 abbrev pub IsSafeMoment : ℕ → Past → Moment → Type 0
@@ -48,89 +34,74 @@ pub were_safe : (before after : Disk) (p q r : Past) → record q { acknowledged
 were_safe before after p q r same each = subst (λ (x : Past). EachMoment (IsSafeMoment (disk_size before) x) before after) (sym same) each
 
 module _ (s : Shown) (past : Past) (explained : IsExplainedNow s past) where
-  -- a moment is safe where every fair image that it may leave is laid out
-  pub moment_safe : (size : ℕ) (m : Moment) → HasFairBytes size past.created m
-      → ((image : List ℕ) → size ≡ length image → MayLeave m image → IsFair (passes_check (length image)) past.created (handed m) image → IsLaidOut image s past) → IsSafeMoment size past m
-  moment_safe size m bytes laid = record {
-    bytes = bytes;
-    each = λ image left fair.
-        let long : size ≡ length image = sym (left.size ∙ bytes.size_is) in
-        laid_out_mounts image s past s.contents explained.exact.log explained.exact.sync explained.exact.groups.line explained.history
-        (laid image long left (subst (λ (n : ℕ). IsFair (passes_check n) past.created (handed m) image) long fair));
-  }
-
   -- a pool's disk is safe
   pub pool_safe : (disk : Disk) → IsPoolDisk (disk_size disk) disk.now s past → AreSafe disk past
   pool_safe disk kept = laid_out_safe disk s past s.contents explained.exact.log explained.exact.sync explained.exact.groups.line explained.history (pool_laid_out disk s past kept.bytes kept.laid)
 
-  -- So is each moment of a sync that leads between the views of two of its groups.
-  module _ (size : ℕ) (v : SyncViews) (group : ℕ) (plan : SyncPlan) (created : v.created ≡ past.created) (syncing : s.line.syncing ≡ Some group) (running : s.sync ≡ Some plan)
-      (old_is : IsViewOf v.flushed v.old s past s.line.synced s.root (header_now s.log)) (new_is : IsViewOf v.new_flushed v.new s past group plan.root plan.header) where
-    phase_safe : (m : Moment) → HasFairBytes size past.created m → IsPhase size v.created v.flushed v.new_flushed m v.old v.new → IsSafeMoment size past m
-    phase_safe m bytes phase = moment_safe size m bytes (λ image long left fair.
-        phase_laid m image s past group plan v.flushed v.new_flushed v.old v.new syncing running old_is new_is left fair
-        (subst (λ (n : ℕ). IsPhase n past.created v.flushed v.new_flushed m v.old v.new) long (subst (λ (t : ℕ). IsPhase size t v.flushed v.new_flushed m v.old v.new) created phase)))
+  -- and so is each moment of one
+  pub moment_safe : (size : ℕ) (m : Moment) → IsPoolDisk size m s past → IsSafeMoment size past m
+  moment_safe size m kept = subst (λ (n : ℕ). IsSafeMoment n past m) kept.bytes.size_is
+      (pool_safe (record { now = m; past = [] }) (subst (λ (n : ℕ). IsPoolDisk n m s past) (sym kept.bytes.size_is) kept))
 
-    pub phases_safe : (before after : Disk) → EachMoment (HasFairBytes size past.created) before after → EachMoment (λ m. IsPhase size v.created v.flushed v.new_flushed m v.old v.new) before after
-        → EachMoment (IsSafeMoment (disk_size before) past) before after
-    phases_safe before after bytes phases = subst (λ (n : ℕ). EachMoment (IsSafeMoment n past) before after) (sym bytes.first.size_is)
-        (weaker (λ m. HasFairBytes size past.created m × IsPhase size v.created v.flushed v.new_flushed m v.old v.new) (IsSafeMoment size past) before after (λ m here. phase_safe m here.0 here.1)
-        (both (HasFairBytes size past.created) (λ m. IsPhase size v.created v.flushed v.new_flushed m v.old v.new) before after bytes phases))
-
--- While a sync has calls left its pool's disk is laid: at rest on the view of before, or between the two.
+-- While a sync has calls left its pool's disk is laid.
 module _ (run : SyncRun) (disk : Disk) (s : Shown) (past : Past) (x : IsSyncOnDisk run disk s past) where
-  count : calls_before_slots run + 5 ≡ call_count run
-  count = rw x.no_stages (omega arith)
-
-  abbrev Laid : Type 0
-  Laid = IsPoolLaid run.geometry disk.now s past
-
-  at_rest : IsAtRestAt run.geometry x.views.created x.views.flushed x.views.fixed x.views.old disk.now → Laid
-  at_rest here = inl (record {
-    v = x.views.old;
-    flushed = x.views.flushed;
-    rest = subst (λ (t : ℕ). IsAtRest run.geometry t x.views.flushed disk.now x.views.old) x.created here.rest;
-    is = x.old_is;
-  })
-
-  between : {config : ℕ} → IsBetweenAt run.geometry x.views.created x.views.flushed x.views.new_flushed config x.views.fixed x.views.old x.views.new disk.now → Laid
-  between here = inr (record {
+  abbrev views : HasSyncViews run.geometry disk.now s past
+  views = record {
     group = x.group;
     plan = x.plan;
     syncing = x.syncing;
     running = x.running;
     old = x.views.old;
-    new = x.views.new;
     flushed = x.views.flushed;
+    new = x.views.new;
     new_flushed = x.views.new_flushed;
-    between = subst (λ (t : ℕ). IsBetween run.geometry t x.views.flushed x.views.new_flushed disk.now x.views.old x.views.new) x.created here.between;
     old_is = x.old_is;
     new_is = x.new_is;
-  })
+    old_held = x.old_held;
+    new_held = x.new_held;
+    old_room = x.old_room;
+    new_room = x.new_room;
+  }
 
-  laid : Laid
-  laid = elim (cases_lt run.done (calls_before_slots run)) as (λ _. Laid) [
-    | inl first ↦ at_rest (x.since.phase.first first).rest
-    | inr from ↦ elim (cases_lt (calls_before_slots run) run.done) as (λ _. Laid) [
-      | inl behind ↦ between (x.since.phase.between behind (omega (arith, x.left, count)))
-      | inr to ↦ elim (x.since.phase.switching (omega (arith, from, to))) as (λ _. Laid) [ inl here ↦ at_rest here.0 | inr here ↦ between here ]
-    ]
-  ]
+  phase : IsPhase run.geometry past.created x.views.flushed x.views.new_flushed disk.now x.views.old x.views.new
+  phase = subst (λ (t : ℕ). IsPhase run.geometry t x.views.flushed x.views.new_flushed disk.now x.views.old x.views.new) x.created (latest (IsSyncPhase run x.views) x.start disk x.since.each)
 
   pub sync_laid : IsPoolDisk (disk_size disk) disk.now s past
-  sync_laid = subst (λ (n : ℕ). IsPoolDisk n disk.now s past) (sym x.bytes.size_is) (record {
-    bytes = x.bytes;
-    configs = configs_weaker run.geometry past.created (handed disk.now) s.guid s.line.synced s.line.synced (λ group content. ⊥) (IsSyncConfig run.geometry s past) (omega arith) (λ group content none. absurd none) x.configs;
-    laid = laid;
-  })
+  sync_laid = subst (λ (n : ℕ). IsPoolDisk n disk.now s past) (sym x.bytes.size_is) (moment_laid run.geometry disk.now s past views phase x.bytes x.configs)
+
+  -- what a crash leaves of it is the pool's own
+  pub sync_left : IsExplainedNow s past → s.log.kept ≡ [] → LeavesOwn (disk_size disk) past s.guid disk.now
+  sync_left explained none = subst (λ (n : ℕ). LeavesOwn n past s.guid disk.now) (sym x.bytes.size_is) (moment_left run.geometry disk.now s past views phase x.bytes x.configs explained none)
 
 disk_laid : (o : Option SyncRun) (disk : Disk) (s : Shown) (past : Past) → IsDiskKept o disk s past → IsPoolDisk (disk_size disk) disk.now s past
-disk_laid None disk s past kept = kept
+disk_laid None disk s past kept = kept.1
 disk_laid (Some run) disk s past kept = sync_laid run disk s past kept
 
+-- While no group is syncing a pool is at rest, and leaves room for an import.
+module _ (m : Moment) (s : Shown) (past : Past) (idle : s.line.syncing ≡ None) where
+  not_syncing : (group : ℕ) → s.line.syncing ≡ Some group → ⊥
+  not_syncing group syncing = let no_way : None ≡ Some group = sym idle ∙ syncing in cc
+
+  pub idle_rest : (size : ℕ) → IsPoolLaid size m s past → IsPoolAtRest size m s past
+  idle_rest size (inl rest) = rest
+  idle_rest size (inr (inl between)) = absurd (not_syncing between.group between.syncing)
+  idle_rest size (inr (inr switched)) = absurd (not_syncing switched.group switched.syncing)
+
+  idle_room : (pointers : Place → Pointer) (running : Option NewTree) → IsExplainedNow s past → IsKept (bytes_of m) s pointers running past → (laid : IsPoolLaid (length (bytes_of m)) m s past)
+      → OfEachView (length (bytes_of m)) m s past (λ v. HasImportRoom (block_count (length (bytes_of m))) v) laid
+  idle_room pointers running explained kept (inl rest) = each_has_room (length (bytes_of m)) m s past pointers running explained kept refl (inl rest) tt
+  idle_room pointers running explained kept (inr (inl between)) = absurd (not_syncing between.group between.syncing)
+  idle_room pointers running explained kept (inr (inr switched)) = absurd (not_syncing switched.group switched.syncing)
+
+disk_left : (o : Option SyncRun) (disk : Disk) (s : Shown) (past : Past) (pointers : Place → Pointer) (running : Option NewTree) → past.created ≤ moments disk → IsExplainedNow s past → s.log.kept ≡ []
+    → IsKept (bytes_of disk.now) s pointers running past → IsDiskKept o disk s past → IsRunLeft disk past s.guid
+disk_left None disk s past pointers running began explained none held (idle, kept) =
+    run_own (disk_size disk) disk s past s.contents began kept explained.exact.log explained.exact.sync explained.exact.groups.line explained.history none (idle_room disk.now s past idle pointers running explained held kept.laid)
+disk_left (Some run) disk s past pointers running began explained none held kept = record { began = began; left = sync_left run disk s past kept explained none }
+
 -- without a sync it is kept where it is laid so
-pub idle_kept : (o : Option SyncRun) (disk : Disk) (s : Shown) (past : Past) → o ≡ None → IsPoolDisk (disk_size disk) disk.now s past → IsDiskKept o disk s past
-idle_kept o disk s past none pool = subst (λ (q : Option SyncRun). IsDiskKept q disk s past) (sym none) pool
+pub idle_kept : (o : Option SyncRun) (disk : Disk) (s : Shown) (past : Past) → o ≡ None → s.line.syncing ≡ None → IsPoolDisk (disk_size disk) disk.now s past → IsDiskKept o disk s past
+idle_kept o disk s past none idle pool = subst (λ (q : Option SyncRun). IsDiskKept q disk s past) (sym none) (idle, pool)
 
 -- so a pool that keeps the crash rule is laid out as one, whether a sync runs or not
 pub kept_laid : (x : OnDisk) → IsKeptSafe x → IsPoolDisk (disk_size x.disk) x.disk.now x.held.state.shown x.held.state.past
@@ -143,8 +114,8 @@ kept_safe x safe = pool_safe x.held.state.shown x.held.state.past safe.held.expl
 -- and what a crash leaves of it is its own
 pub kept_own : (x : OnDisk) → IsKeptSafe x → IsRunLeft x.disk x.held.state.past x.held.state.shown.guid
 kept_own x safe =
-    let e = safe.held.explained in
-    run_own (disk_size x.disk) x.disk x.held.state.shown x.held.state.past x.held.state.shown.contents safe.began (kept_laid x safe) e.exact.log e.exact.sync e.exact.groups.line e.history safe.held.kept.stored.no_log
+    disk_left x.run x.disk x.held.state.shown x.held.state.past x.held.pointers x.held.running safe.began safe.held.explained safe.no_log
+    (subst (λ (l : List ℕ). IsKept l x.held.state.shown x.held.pointers x.held.running x.held.state.past) safe.same_bytes safe.held.kept) safe.kept
 
 -- where no call is made, what is safe then was so
 pub stood_safe : (disk : Disk) (p q : Past) → q.acknowledged ≡ p.acknowledged → AreSafe disk q → WereSafe disk disk p q

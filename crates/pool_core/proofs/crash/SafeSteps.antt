@@ -12,15 +12,18 @@ use Rattle.base.specs.declared.step.Step as declared_step
 use Rattle.base.specs.declared.step.Step.TheVariants as step
 use Rattle.base.specs.declared.step.Reply as declared_reply
 use Rattle.base.specs.declared.step.Reply.TheVariants as reply
-use Rattle.base.specs.crash.Own.{IsAtRest, IsBetween}
-use Rattle.base.specs.crash.PoolViews.{IsPoolDisk, IsPoolLaid, IsSyncConfig}
-use Rattle.base.specs.crash.Views.{AreConfigsUpTo}
+use Rattle.base.specs.crash.Layout.{header_now}
+use Rattle.base.specs.crash.LogRule.{IsLogHeld}
+use Rattle.base.specs.crash.Own.{IsAtRest}
+use Rattle.base.specs.crash.PoolViews.{IsPoolDisk, IsSyncConfig}
+use Rattle.base.specs.crash.Views.{AreConfigsUpTo, View}
 use Rattle.base.specs.disk.Disk.{Disk, EachMoment, Moment, Write, bytes_of, disk_size, handed, moments}
 use Rattle.base.specs.disk.Fairness.{HasFairBytes}
 use Rattle.base.specs.formats.Geometry.{slot_of}
 use Rattle.base.specs.history.History.{Entry, entries_in}
 use Rattle.base.specs.history.Past.{Past}
 use Rattle.base.specs.history.Plans.{shape_of}
+use Rattle.base.specs.steps.Exact.{AreDistinctPlaces}
 use Rattle.base.specs.steps.ExactNow.{IsExplainedNow}
 use Rattle.base.specs.steps.Refusals as refusal
 use Rattle.base.specs.steps.Runs.{reply_of, progress_reply}
@@ -33,19 +36,21 @@ use Rattle.base.specs.steps.Steps.SyncProgress.{More, Synced}
 use Rattle.base.specs.stored.Stored.{Held, IsHeld, IsStored, IsSyncing, NewTree, RunsAs, is_turn}
 use Rattle.base.specs.tree.Places.{Place}
 use Rattle.base.specs.tree.Syncs.{is_rename}
-use Rattle.base.proofs.crash.OwnDisks.{configs_weaker}
+use Rattle.base.proofs.crash.OwnDisks.{configs_weaker, none_from}
 use Rattle.base.proofs.disk.Moments.{moments_grow}
 use Rattle.base.proofs.history.CommitOrder.{ok-none}
 use Rattle.base.proofs.steps.StepEffects.{none_syncs}
+use Rattle.base.proofs.stored.StoredPlaces.{kept_distinct}
 use Rattle.sync.specs.declared.run.SyncRun.{SyncRun}
 use Rattle.sync.specs.Runs.{call_count}
 use Rattle.pool_tables.specs.Told.{made_by}
 use Rattle.pool_core.specs.Holds.{IsStepOver}
 use Rattle.pool_tables.specs.SyncPhases.{TriesNext}
 use Rattle.pool_core.specs.KeptSafe.{IsDiskKept, IsKeptSafe, IsSafeStep, IsSyncOnDisk, LeavesOwn, OnDisk}
+use Rattle.pool_core.proofs.crash.HeldLogs.{header_next, held_as, none_logged}
 use Rattle.pool_core.proofs.crash.OwnMoments.{were_left}
 use Rattle.pool_core.proofs.crash.SafeCalls.{call_kept, call_own, call_safe, last_call_kept}
-use Rattle.pool_core.proofs.crash.SafeMoments.{IsSafeMoment, kept_laid, kept_safe, stood_own, stood_safe, were_safe}
+use Rattle.pool_core.proofs.crash.SafeMoments.{IsSafeMoment, idle_rest, kept_laid, kept_safe, stood_own, stood_safe, were_safe}
 use Rattle.pool_tables.proofs.SamePlans.{renames_none}
 use Rattle.pool_core.proofs.crash.StartedViews.{started_kept}
 use Rattle.pool_core.proofs.crash.ViewsKept.{SameSynced, SameSyncing, configs_as, step_leaves, synced_view, syncing_view}
@@ -80,42 +85,34 @@ module _ (s : Shown) (p : Past) (explained : IsExplainedNow s p) where
       configs_weaker size t ws guid top top (IsSyncConfig size s p) (λ above content. ⊥) (omega arith) (λ group content config. absurd (no_sync_config size group content config)) known
 
 -- What a step leaves that makes no device call, and neither starts a sync nor ends one.
-module _ (s t : Shown) (p q : Past) (none : s.log.kept ≡ []) (still : t.log.kept ≡ []) (explained : IsExplainedNow s p) (same : SameSyncing s t p q) where
+module _ (s t : Shown) (p q : Past) (none : s.log.kept ≡ []) (explained : IsExplainedNow s p) (same : SameSyncing s t p q) where
   abbrev of_synced : SameSynced s t p q
   of_synced = same.synced
 
+  still : t.log.kept ≡ []
+  still = of_synced.kept ∙ none
+
+  -- what is known of the log of a view
+  held_stays : (size flushed : ℕ) (m : Moment) (v : View) → v.logged ≡ [] → IsLogHeld size p.created flushed s.suspended m v → IsLogHeld size q.created flushed t.suspended m v
+  held_stays size flushed m v empty held = held_as size p.created q.created flushed flushed s.suspended t.suspended m v empty of_synced.created held
+
   -- the disk of a pool without a sync
-  pool_stays : (size : ℕ) (m : Moment) → IsPoolDisk size m s p → IsPoolDisk size m t q
-  pool_stays size m kept = record {
-    bytes = subst (λ (c : ℕ). HasFairBytes size c m) (sym of_synced.created) kept.bytes;
-    configs = configs_weaker size q.created (handed m) t.guid t.line.synced t.line.synced (λ above content. ⊥) (IsSyncConfig size t q) (omega arith) (λ group content no_way. absurd no_way)
-        (configs_as (handed m) size size p.created q.created s.guid t.guid s.line.synced t.line.synced refl of_synced.created of_synced.guid of_synced.synced
-        (plain_configs s p explained size p.created (handed m) s.guid s.line.synced kept.configs));
-    laid = by_phase kept.laid;
-  }
-    where
-      by_phase : IsPoolLaid size m s p → IsPoolLaid size m t q
-      by_phase (inl rest) = inl (record {
-        v = rest.v;
-        flushed = rest.flushed;
-        rest = subst (λ (c : ℕ). IsAtRest size c rest.flushed m rest.v) (sym of_synced.created) rest.rest;
-        is = synced_view s t p q none still rest.flushed rest.v of_synced rest.is;
-      })
-      by_phase (inr between) =
-          let later = same.plans between.plan between.running in
-          inr (record {
-            group = between.group;
-            plan = later.0;
-            syncing = same.line ∙ between.syncing;
-            running = later.1;
-            old = between.old;
-            new = between.new;
-            flushed = between.flushed;
-            new_flushed = between.new_flushed;
-            between = subst (λ (c : ℕ). IsBetween size c between.flushed between.new_flushed m between.old between.new) (sym of_synced.created) between.between;
-            old_is = synced_view s t p q none still between.flushed between.old of_synced between.old_is;
-            new_is = syncing_view s t p q none still between.new_flushed between.new between.group between.plan later.0 same between.syncing later.2 later.3 between.new_is;
-          })
+  pool_stays : (size : ℕ) (m : Moment) → s.line.syncing ≡ None → IsPoolDisk size m s p → IsPoolDisk size m t q
+  pool_stays size m idle kept =
+      let rest = idle_rest m s p idle size kept.laid in
+      record {
+        bytes = subst (λ (c : ℕ). HasFairBytes size c m) (sym of_synced.created) kept.bytes;
+        configs = configs_weaker size q.created (handed m) t.guid t.line.synced t.line.synced (λ above content. ⊥) (IsSyncConfig size t q) (omega arith) (λ group content no_way. absurd no_way)
+            (configs_as (handed m) size size p.created q.created s.guid t.guid s.line.synced t.line.synced refl of_synced.created of_synced.guid of_synced.synced
+            (plain_configs s p explained size p.created (handed m) s.guid s.line.synced kept.configs));
+        laid = inl (record {
+          v = rest.v;
+          flushed = rest.flushed;
+          rest = subst (λ (c : ℕ). IsAtRest size c rest.flushed m rest.v) (sym of_synced.created) rest.rest;
+          is = synced_view s t p q none still rest.flushed rest.v of_synced rest.is;
+          held = held_stays size rest.flushed m rest.v (none_logged rest.flushed rest.v s p s.line.synced s.root (header_now s.log) none rest.is) rest.held;
+        });
+      }
 
   -- and of one with a sync
   sync_stays : (run : SyncRun) (disk : Disk) → IsSyncOnDisk run disk s p → IsSyncOnDisk run disk t q
@@ -134,20 +131,24 @@ module _ (s t : Shown) (p q : Past) (none : s.log.kept ≡ []) (still : t.log.ke
         since = x.since;
         old_is = synced_view s t p q none still x.views.flushed x.views.old of_synced x.old_is;
         new_is = syncing_view s t p q none still x.views.new_flushed x.views.new x.group x.plan later.0 same x.syncing later.2 later.3 x.new_is;
+        old_held = held_stays run.geometry x.views.flushed disk.now x.views.old (none_logged x.views.flushed x.views.old s p s.line.synced s.root (header_now s.log) none x.old_is) x.old_held;
+        new_held = held_stays run.geometry x.views.new_flushed disk.now x.views.new (none_logged x.views.new_flushed x.views.new s p x.group x.plan.root x.plan.header none x.new_is) x.new_held;
+        old_room = x.old_room;
+        new_room = x.new_room;
         bytes = subst (λ (c : ℕ). HasFairBytes run.geometry c disk.now) (sym of_synced.created) x.bytes;
         configs = configs_as (handed disk.now) run.geometry run.geometry p.created q.created s.guid t.guid s.line.synced t.line.synced refl of_synced.created of_synced.guid of_synced.synced x.configs;
       }
 
   pub disk_stays : (o : Option SyncRun) (disk : Disk) → IsDiskKept o disk s p → IsDiskKept o disk t q
-  disk_stays None disk kept = pool_stays (disk_size disk) disk.now kept
+  disk_stays None disk (idle, kept) = (same.line ∙ idle, pool_stays (disk_size disk) disk.now idle kept)
   disk_stays (Some run) disk kept = sync_stays run disk kept
 
--- the next log block stands in the header of a running sync
-header_of_sync : (o : Option NewTree) (now : List ℕ) (s : Shown) (pointers : Place → Pointer) (p : Past) (plan : SyncPlan) → RunsAs now s pointers o p → s.sync ≡ Some plan → plan.header ≡ s.log.next
-header_of_sync None now s pointers p plan none is = absurd (let no_way : None ≡ Some plan = sym none ∙ is in cc)
-header_of_sync (Some new) now s pointers p plan y is =
+-- in a log without blocks the next one stands in the header of a running sync
+header_of_sync : (o : Option NewTree) (now : List ℕ) (s : Shown) (pointers : Place → Pointer) (p : Past) (plan : SyncPlan) → s.log.kept ≡ [] → RunsAs now s pointers o p → s.sync ≡ Some plan → plan.header ≡ s.log.next
+header_of_sync None now s pointers p plan empty none is = absurd (let no_way : None ≡ Some plan = sym none ∙ is in cc)
+header_of_sync (Some new) now s pointers p plan empty y is =
     let same : plan ≡ y.plan = let both : Some plan ≡ Some y.plan = sym is ∙ y.running in cc in
-    ap (λ (x : SyncPlan). x.header) same ∙ y.header
+    ap (λ (x : SyncPlan). x.header) same ∙ header_next y.plan.header s.log empty y.header
 
 -- what the start of a sync is, and its end
 start_of : (now : List ℕ) (moment : ℕ) (group : Group) (answer : Result ℕ PoolError) (old new : State) → reply.Syncing group ≡ reply_of (λ (g : ℕ). reply.Syncing (record { 0 = g })) answer
@@ -166,7 +167,7 @@ end_of group (Ok More) old new is h = absurd (let no_way : reply.Synced group �
 end_of group (Err e) old new is h = absurd (let no_way : reply.Synced group ≡ reply.Refused e = is in cc)
 
 started_same : (g : ℕ) (plan : SyncPlan) (s : State) → SameSynced s.shown (steps.state_after_start g plan s).shown s.past (steps.state_after_start g plan s).past
-started_same g plan s = record { guid = refl; import_is = refl; synced = refl; root = refl; log = refl; base = refl; created = refl; acknowledged = refl; entries = refl }
+started_same g plan s = record { guid = refl; import_is = refl; synced = refl; root = refl; log = refl; kept = refl; base = refl; created = refl; acknowledged = refl; entries = refl }
 
 module _ (x : OnDisk) (safe : IsKeptSafe x) where
   abbrev s : Shown
@@ -182,9 +183,10 @@ module _ (x : OnDisk) (safe : IsKeptSafe x) where
       let same : SameSyncing s h.state.shown p h.state.past = step_leaves (Unit {0}) x.held.now st r x.held.state h.state step off safe.held.explained in
       let kept : IsKeptSafe (record x { held = h }) = record {
         held = held;
+        no_log = same.synced.kept ∙ safe.no_log;
         same_bytes = same_bytes;
         began = subst (λ (c : ℕ). c ≤ moments x.disk) (sym same.synced.created) safe.began;
-        kept = disk_stays s h.state.shown p h.state.past safe.held.kept.stored.no_log held.kept.stored.no_log safe.held.explained same x.run x.disk safe.kept;
+        kept = disk_stays s h.state.shown p h.state.past safe.no_log safe.held.explained same x.run x.disk safe.kept;
       } in
       record { step = step; kept = kept; were = stood_safe x.disk p h.state.past same.synced.acknowledged (kept_safe (record x { held = h }) kept); own = stood_own (record x { held = h }) p same.synced.acknowledged kept }
 
@@ -204,6 +206,9 @@ module _ (x : OnDisk) (safe : IsKeptSafe x) where
     same : SameSynced s t p q
     same = subst (λ (u : State). SameSynced s u.shown p u.past) (sym begun.1.2) (started_same begun.1.0 begun.1.1 x.held.state)
 
+    empty : t.log.kept ≡ []
+    empty = same.kept ∙ safe.no_log
+
     stored : IsStored (bytes_of x.disk.now) t h.pointers q
     stored = subst (λ (l : List ℕ). IsStored l t h.pointers q) same_bytes held.kept.stored
 
@@ -213,23 +218,29 @@ module _ (x : OnDisk) (safe : IsKeptSafe x) where
     pool : IsPoolDisk run.geometry x.disk.now s p
     pool = subst (λ (n : ℕ). IsPoolDisk n x.disk.now s p) (sym size) (kept_laid x safe)
 
-    sync_kept : IsPoolLaid run.geometry x.disk.now s p → IsSyncOnDisk run x.disk t q
-    sync_kept (inl rest) =
-        started_kept x.disk t q h.pointers tree run stored syncing held.explained run.sized (sym size) (slot syncing.group syncing.syncing) stages rest.flushed rest.v
+    places : AreDistinctPlaces (bytes_of x.disk.now) t
+    places = subst (λ (l : List ℕ). AreDistinctPlaces l t) same_bytes (kept_distinct h.now t h.pointers h.running q held.kept)
+
+    sync_kept : IsSyncOnDisk run x.disk t q
+    sync_kept =
+        let rest = idle_rest x.disk.now s p begun.0 run.geometry pool.laid in
+        started_kept x.disk t q h.pointers tree run stored syncing held.explained empty places run.sized (sym size) (slot syncing.group syncing.syncing) stages rest.flushed rest.v
         (subst (λ (c : ℕ). IsAtRest run.geometry c rest.flushed x.disk.now rest.v) (sym same.created) rest.rest)
-        (synced_view s t p q safe.held.kept.stored.no_log held.kept.stored.no_log rest.flushed rest.v same rest.is)
+        (synced_view s t p q safe.no_log empty rest.flushed rest.v same rest.is)
+        (held_as run.geometry p.created q.created rest.flushed rest.flushed s.suspended t.suspended x.disk.now rest.v (none_logged rest.flushed rest.v s p s.line.synced s.root (header_now s.log) safe.no_log rest.is)
+        same.created rest.held)
         (configs_as (handed x.disk.now) run.geometry run.geometry p.created q.created s.guid t.guid s.line.synced t.line.synced refl same.created same.guid same.synced
         (plain_configs s p safe.held.explained run.geometry p.created (handed x.disk.now) s.guid s.line.synced pool.configs))
         none left (subst (λ (c : ℕ). HasFairBytes run.geometry c x.disk.now) (sym same.created) pool.bytes)
-    sync_kept (inr between) = absurd (let no_way : None ≡ Some between.group = sym begun.0 ∙ between.syncing in cc)
 
     pub start_safe : IsSafeStep (step.StartSync moment) (reply.Syncing group) x (record { held = h; disk = x.disk; run = Some run })
     start_safe =
         let kept : IsKeptSafe (record { held = h; disk = x.disk; run = Some run }) = record {
           held = held;
+          no_log = empty;
           same_bytes = same_bytes;
           began = subst (λ (c : ℕ). c ≤ moments x.disk) (sym same.created) safe.began;
-          kept = sync_kept pool.laid;
+          kept = sync_kept;
         } in
         record { step = made; kept = kept; were = stood_safe x.disk p q same.acknowledged (kept_safe (record { held = h; disk = x.disk; run = Some run }) kept); own = stood_own (record { held = h; disk = x.disk; run = Some run }) p same.acknowledged kept }
 
@@ -239,10 +250,10 @@ module _ (x : OnDisk) (safe : IsKeptSafe x) where
     before = subst (λ (o : Option SyncRun). IsDiskKept o x.disk s p) is safe.kept
 
     each : EachMoment (IsSafeMoment (disk_size x.disk) p) x.disk after
-    each = call_safe run next x.disk after s p safe.began before tries safe.held.explained
+    each = call_safe run next x.disk after s p safe.began before tries safe.no_log safe.held.explained
 
     owns : EachMoment (LeavesOwn (disk_size x.disk) p s.guid) x.disk after
-    owns = call_own run next x.disk after s p safe.began before tries safe.held.explained safe.held.kept.stored.no_log
+    owns = call_own run next x.disk after s p safe.began before tries safe.no_log safe.held.explained
 
     later : moments x.disk ≤ moments after
     later = moments_grow (IsSafeMoment (disk_size x.disk) p) x.disk after each
@@ -257,9 +268,10 @@ module _ (x : OnDisk) (safe : IsKeptSafe x) where
           step = made;
           kept = record {
             held = held;
+            no_log = same.synced.kept ∙ safe.no_log;
             same_bytes = same_bytes;
             began = omega (arith, created, safe.began, later);
-            kept = call_kept run next x.disk after s p safe.began before tries h.state.shown h.state.past safe.held.kept.stored.no_log held.kept.stored.no_log same left;
+            kept = call_kept run next x.disk after s p safe.began before tries h.state.shown h.state.past safe.no_log same left;
           };
           were = were_safe x.disk after p h.state.past p (λ k. record (same_past k) { acknowledged = p.acknowledged }) each;
           own = were_left x.disk after p h.state.past p s.guid h.state.shown.guid (λ k. record (same_past k) { acknowledged = p.acknowledged }) same.synced.guid owns;
@@ -270,16 +282,20 @@ module _ (x : OnDisk) (safe : IsKeptSafe x) where
         → IsSafeStep step.SyncStep (reply.Synced group) x (record { held = h; disk = after; run = None })
     last_safe group made all =
         let over = end_of group made.0 x.held.state h.state made.1 made.2 in
-        let header : over.1.header ≡ s.log.next = header_of_sync x.held.running x.held.now s x.held.pointers p over.1 safe.held.kept.sync over.3 in
+        let header : over.1.header ≡ s.log.next = header_of_sync x.held.running x.held.now s x.held.pointers p over.1 safe.no_log safe.held.kept.sync over.3 in
         let created : h.state.past.created ≡ p.created = ap (λ (u : State). u.past.created) over.4 in
         record {
           step = made;
           kept = record {
             held = held;
+            no_log = ap (λ (u : State). u.shown.log.kept) over.4 ∙ none_from over.1.header s.log safe.no_log;
             same_bytes = same_bytes;
             began = omega (arith, created, safe.began, later);
-            kept = subst (λ (u : State). IsPoolDisk (disk_size after) after.now u.shown u.past) (sym over.4)
-                (last_call_kept run next x.disk after s p safe.began before tries over.0 over.1 over.2 over.3 safe.held.kept.stored.no_log header safe.held.explained all);
+            kept = (
+              ap (λ (u : State). u.shown.line.syncing) over.4,
+              subst (λ (u : State). IsPoolDisk (disk_size after) after.now u.shown u.past) (sym over.4)
+                  (last_call_kept run next x.disk after s p safe.began before tries over.0 over.1 over.2 over.3 safe.no_log header safe.held.explained all),
+            );
           };
           were = were_safe x.disk after p h.state.past p (λ k. record (over.4 k).past { acknowledged = p.acknowledged }) each;
           own = were_left x.disk after p h.state.past p s.guid h.state.shown.guid (λ k. record (over.4 k).past { acknowledged = p.acknowledged }) (ap (λ (u : State). u.shown.guid) over.4) owns;

@@ -1,6 +1,6 @@
 -- The start of a sync leads from the view of the synced group to that of its own: its blocks are those of a tree, apart
 -- from the one of before, and once they stand its tree does.
-use Rattle.std.proofs.Common.{◌≡◌, ◌∙◌, inl, inr, ℕ, zero, suc, ◌+◌, ◌-◌, ◌*◌, ◌/◌, ◌<◌, ◌≤◌, All, false, List, [], ◌∷◌, length, map, Option, Some, None, refl, ap, sym, subst, arith, vec_len, nat_eq}
+use Rattle.std.proofs.Common.{◌≡◌, ◌∙◌, ◌⊎◌, inl, inr, ℕ, zero, suc, ◌+◌, ◌-◌, ◌*◌, ◌/◌, ◌<◌, ◌≤◌, All, true, false, List, [], ◌∷◌, length, map, Option, Some, None, refl, ap, sym, subst, arith, vec_len, nat_eq}
 use Rattle.std.specs.Prelude.{◌≢◌, IfSome, Ok, slice_get}
 use Rattle.std.specs.FinMap as finite
 use Rattle.std.specs.List.{AllByRecursion, IsDistinct}
@@ -8,6 +8,8 @@ use Rattle.std.proofs.lemmas.Bool.{ne_eqb}
 use Rattle.std.proofs.lemmas.Option.{slice_get_within}
 use Rattle.base.specs.declared.pointer.Pointer.{Pointer}
 use Rattle.base.specs.crash.Layout.{header_now}
+use Rattle.base.specs.crash.LogRoom.{HasImportRoom}
+use Rattle.base.specs.crash.LogRule.{IsLogHeld}
 use Rattle.base.specs.crash.Own.{IsAtRest}
 use Rattle.base.specs.crash.PoolViews.{IsViewOf}
 use Rattle.base.specs.crash.Views.{AreConfigsUpTo, IsConfigContent, IsView, Logged, View, view_frame}
@@ -22,22 +24,27 @@ use Rattle.base.specs.formats.Versions.{written_version}
 use Rattle.base.specs.history.Contents.{Contents}
 use Rattle.base.specs.history.History.{entries_up_to, replay}
 use Rattle.base.specs.history.Past.{Past}
+use Rattle.base.specs.steps.Exact.{AreDistinctPlaces}
 use Rattle.base.specs.steps.ExactNow.{IsExplainedNow}
+use Rattle.base.specs.steps.Locks.{is_in}
 use Rattle.base.specs.steps.Logs.{KeptBlock}
-use Rattle.base.specs.steps.Shown.{Shown, uberblock_of}
+use Rattle.base.specs.steps.Shown.{Shown, SyncPlan, taken_of, uberblock_of}
 use Rattle.base.specs.stored.Stored.{IsStored, IsSyncing, IsUnwritten, NewTree, frame_at}
 use Rattle.base.specs.tree.PlacedTrees.{HoldsTree}
 use Rattle.base.specs.tree.Places.{IsInTree, IsPlace, Place, kind_of}
 use Rattle.base.specs.tree.Places.Place.{Data, Directory, Indirect, Root}
 use Rattle.base.specs.tree.PlannedTrees.{NewBlock}
 use Rattle.base.proofs.common.KeptLists.{All-each}
+use Rattle.base.proofs.crash.LogStarts.{below_of_group}
 use Rattle.base.proofs.crash.NewViews.{configs_of_old, logs_of_group}
+use Rattle.base.proofs.crash.OwnDisks.{none_from}
+use Rattle.base.proofs.crash.PoolRoom.{open_above, synced_room, syncing_room}
 use Rattle.base.proofs.disk.Put.{part_same}
 use Rattle.base.proofs.disk.WrittenBlocks.{blocks-apart, planned-written, put_blocks, new-stand}
 use Rattle.base.proofs.formats.Geometry.{IsGeometry-IsSize}
 use Rattle.base.proofs.history.BuiltNames.{name-up_to}
 use Rattle.base.proofs.history.KeptContents.{bounded-no_others}
-use Rattle.base.proofs.stored.StoredSets.{at-map, map-at}
+use Rattle.base.proofs.stored.StoredSets.{at-in, at-map, map-at}
 use Rattle.base.proofs.stored.StoredTrees.{stored-placed}
 use Rattle.base.proofs.tree.FreedBlocks.{in-new_tree, new-in_tree}
 use Rattle.base.proofs.tree.PlacedTrees.{in-tree, opens-at, told-in_tree}
@@ -52,7 +59,8 @@ use Rattle.tree_plans.specs.declared.planner.PlannedBlock.{PlannedBlock}
 use Rattle.tree_plans.specs.Plans.{new_block}
 use Rattle.pool_tables.specs.Told.{made_by}
 use Rattle.pool_core.specs.KeptSafe.{IsSyncOnDisk}
-use Rattle.pool_core.proofs.crash.ViewsKept.{header-none, no_block, none_from}
+use Rattle.pool_core.proofs.crash.HeldLogs.{header_next, held_without, none_counts, none_logged}
+use Rattle.pool_core.proofs.crash.ViewsKept.{header-none, no_block}
 
 -- blocks that are written stand
 pub written_stand : (base image : List ℕ) (size : ℕ) (blocks : List PlannedBlock) (n : ℕ) → length blocks ≤ n → BlocksWritten base size blocks n image
@@ -127,17 +135,18 @@ module _ (now : List ℕ) (s : Shown) (p : Past) (pointers : Place → Pointer) 
   news =
       planned-written now (frame_at s s.line.synced) (frame_at s y.group) new.blocks pointers new.pointers y.synced.objects y.plan.contents.objects refl refl later olds y.planned.planned no_others y.are y.leaves room
 
-  -- its tree has no block where the next log block goes
-  pub next_spared : (place : Place) → IsPlace place → (new.pointers place).address ≢ s.log.next.address
-  next_spared place in_range same =
-      let block = x.log_block in
-      let at : s.log.next.address ≡ block_address block.0 = block.2 in
-      let some : new.pointers place ≢ no_pointer = λ none. let zero_is : 0 ≡ s.log.next.address = ap (λ (q : Pointer). q.address) (sym none) ∙ same in omega (arith, zero_is, at) in
-      let there : IsInTree after (new.pointers Root) s.log.next.address =
-      subst (λ (a : ℕ). IsInTree after (new.pointers Root) a) same (told-in_tree after (frame_at s y.group) new.pointers y.plan.contents.objects news place in_range some) in
-      elim (in-new_tree now after (frame_at s s.line.synced) (frame_at s y.group) new.blocks pointers new.pointers y.synced.objects y.plan.contents.objects olds news y.planned.planned y.leaves s.log.next.address there) as (λ _. ⊥) [
-        | inl old ↦ x.log_apart (subst (λ (r : Pointer). IsInTree now r s.log.next.address) x.root old)
-        | inr h ↦ y.log_apart h.0 h.1 h.2 h.3
+  -- each block of its tree is one of the tree before, or one that it takes
+  pub kept_or_taken : (place : Place) → IsPlace place → new.pointers place ≢ no_pointer
+      → IsInTree now s.root (new.pointers place).address ⊎ (is_in (new.pointers place).address (taken_of s.sync) ≡ true)
+  kept_or_taken place in_range some =
+      let address : ℕ = (new.pointers place).address in
+      let there : IsInTree after (new.pointers Root) address = told-in_tree after (frame_at s y.group) new.pointers y.plan.contents.objects news place in_range some in
+      elim (in-new_tree now after (frame_at s s.line.synced) (frame_at s y.group) new.blocks pointers new.pointers y.synced.objects y.plan.contents.objects olds news y.planned.planned y.leaves address there)
+      as (λ _. IsInTree now s.root address ⊎ (is_in address (taken_of s.sync) ≡ true)) [
+        | inl old ↦ inl (subst (λ (r : Pointer). IsInTree now r address) x.root old)
+        | inr (i, b, at, is) ↦
+            let taken : is_in address y.plan.taken ≡ true = at-in address y.plan.taken (i, ap (λ (l : List ℕ). slice_get l i) (sym y.planned.taken) ∙ map-at (λ (c : NewBlock). c.address) new.blocks i b at ∙ ap (λ (n : ℕ). Some n) is) in
+            inr (ap (λ (o : Option SyncPlan). is_in address (taken_of o)) y.running ∙ taken)
       ]
 
   -- no block that it writes is a config
@@ -175,8 +184,9 @@ module _ (now : List ℕ) (s : Shown) (p : Past) (pointers : Place → Pointer) 
 
 -- A sync without label stages that has made no call yet, on a disk at rest on the view of the synced group.
 module _ (disk : Disk) (s : Shown) (p : Past) (pointers tree : Place → Pointer) (run : SyncRun) (x : IsStored (bytes_of disk.now) s pointers p) (y : IsSyncing (bytes_of disk.now) s pointers (made_by tree run) p)
-    (explained : IsExplainedNow s p) (sized : IsGeometry run.geometry) (long : length (bytes_of disk.now) ≡ run.geometry) (slot : run.slot ≡ slot_of y.group) (stages : run.stages ≡ None)
+    (explained : IsExplainedNow s p) (none : s.log.kept ≡ []) (places : AreDistinctPlaces (bytes_of disk.now) s) (sized : IsGeometry run.geometry) (long : length (bytes_of disk.now) ≡ run.geometry) (slot : run.slot ≡ slot_of y.group) (stages : run.stages ≡ None)
     (flushed : ℕ) (old : View) (rest : IsAtRest run.geometry p.created flushed disk.now old) (is : IsViewOf flushed old s p s.line.synced s.root (header_now s.log))
+    (held : IsLogHeld run.geometry p.created flushed s.suspended disk.now old)
     (configs : AreConfigsUpTo run.geometry p.created (handed disk.now) s.guid s.line.synced (λ above content. ⊥)) where
   abbrev now : List ℕ
   now = bytes_of disk.now
@@ -221,22 +231,23 @@ module _ (disk : Disk) (s : Shown) (p : Past) (pointers tree : Place → Pointer
     name = name-up_to s p explained y.group y.plan.contents replayed ∙ sym (name-up_to s p explained s.line.synced old.synced is.replayed) ∙ rest.laid.view.name;
     root = y.planned.root;
     linked = tt;
-    spare = (
-      s.log.next.address,
-      subst (λ (n : ℕ). IsBlockAddress n s.log.next.address) (x.blocks ∙ ap (λ (n : ℕ). block_count n) long) x.log_block,
-      next_spared now s p pointers (made_by tree run) x y explained geometry,
-    );
   }
 
   no_logged : old.logged ≡ []
-  no_logged = none old.logged (is.as_many ∙ ap (λ (ks : List KeptBlock). length ks) (none_from (header_now s.log) s.log x.no_log))
-    where
-      none : (ls : List Logged) → length ls ≡ 0 → ls ≡ []
-      none [] empty = refl
-      none (l ∷ ls) some = absurd (omega (arith, some))
+  no_logged = none_logged flushed old s p s.line.synced s.root (header_now s.log) none is
+
+  -- the header is that of the next log block, with which the old view's log would begin, too
+  header_is : y.plan.header ≡ s.log.next
+  header_is = header_next y.plan.header s.log none y.header
+
+  same_number : y.plan.header.number ≡ old.u.log_number
+  same_number = ap (λ (h : Header). h.number) (header_is ∙ sym (header-none s.log none) ∙ sym is.header_is)
+
+  counted : s.blocks ≡ block_count run.geometry
+  counted = x.blocks ∙ ap (λ (n : ℕ). block_count n) long
 
   placed : (i : ℕ) (b : NewBlock) → slice_get (map new_block run.blocks.items) i ≡ Some b → IsBlockAddress (block_count run.geometry) b.address
-  placed i b at = subst (λ (n : ℕ). IsBlockAddress n b.address) (x.blocks ∙ ap (λ (n : ℕ). block_count n) long) (y.are.in_area i b at)
+  placed i b at = subst (λ (n : ℕ). IsBlockAddress n b.address) counted (y.are.in_area i b at)
 
   spare : All (IsSpareBlock views) run.blocks.items
   spare = All-each (IsSpareBlock views) run.blocks.items (λ i b at.
@@ -252,11 +263,10 @@ module _ (disk : Disk) (s : Shown) (p : Past) (pointers tree : Place → Pointer
   makes_tree : (image : List ℕ) → length image ≡ length now → BlocksWritten now run.geometry run.blocks.items (vec_len run.blocks) image
       → HoldsTree image (view_frame run.geometry new) tree y.plan.contents.objects
   makes_tree image same written =
-      let count : s.blocks ≡ block_count run.geometry = x.blocks ∙ ap (λ (n : ℕ). block_count n) long in
       let all : length run.blocks.items ≤ vec_len run.blocks = omega (arith, run.blocks.ok.0) in
-      subst (λ (n : ℕ). HoldsTree image (record { version = written_version; guid = s.guid; blocks = n; group = y.group }) tree y.plan.contents.objects) count
+      subst (λ (n : ℕ). HoldsTree image (record { version = written_version; guid = s.guid; blocks = n; group = y.group }) tree y.plan.contents.objects) counted
       (tree_made now s p pointers (made_by tree run) x y explained geometry image (written_stand now image run.geometry run.blocks.items (vec_len run.blocks) all written)
-      (λ address area other. others_stay now image run.geometry run.blocks.items (vec_len run.blocks) same written placed address (subst (λ (n : ℕ). IsBlockAddress n address) count area) other))
+      (λ address area other. others_stay now image run.geometry run.blocks.items (vec_len run.blocks) same written placed address (subst (λ (n : ℕ). IsBlockAddress n address) counted area) other))
 
   above : old.u.group < y.group
   above = omega (arith, is.group_is, next)
@@ -285,13 +295,43 @@ module _ (disk : Disk) (s : Shown) (p : Past) (pointers tree : Place → Pointer
         (subst (λ (g : ℕ). AreConfigsUpTo run.geometry p.created (handed disk.now) g old.u.group (λ above content. ⊥)) (sym is.guid)
         (subst (λ (g : ℕ). AreConfigsUpTo run.geometry p.created (handed disk.now) s.guid g (λ above content. ⊥)) (sym is.group_is) configs)) rest.laid.configs;
     logs = logs_of_group run.geometry p.created 0 (handed disk.now) old new rest.laid.view (sym is.guid) (sym is.import_is)
-        (let number : y.plan.header.number ≡ old.u.log_number = ap (λ (h : Header). h.number) (y.header ∙ sym (header-none s.log x.no_log) ∙ sym is.header_is) in omega (arith, number)) (omega arith)
+        (omega (arith, same_number)) (omega arith)
         (sym no_logged) rest.laid.logs;
   }
 
+  new_is : IsViewOf 0 new s p y.group y.plan.root y.plan.header
+  new_is = record {
+    guid = refl;
+    group_is = refl;
+    root_is = refl;
+    import_is = refl;
+    header_is = refl;
+    replayed = replayed;
+    as_many = ap (λ (ks : List KeptBlock). length ks) (sym (none_from y.plan.header s.log none));
+    blocks = λ i k l at there. absurd (no_block y.plan.header s.log i k none at);
+    flushed_are = λ i k at flushed. absurd (no_block y.plan.header s.log i k none at);
+    goes_on = header_is;
+  }
+
+  new_held : IsLogHeld run.geometry p.created 0 s.suspended disk.now new
+  new_held = held_without run.geometry p.created disk.now new refl 0 s.suspended
+      (below_of_group run.geometry p.created 0 old new (sym is.guid) (sym is.import_is) (omega (arith, same_number)) (omega arith) (sym no_logged) (handed disk.now) 0 (omega arith)
+      (none_counts run.geometry p.created disk.now old no_logged flushed s.suspended held))
+
+  -- both views have room for an import
+  old_room : HasImportRoom (block_count run.geometry) old
+  old_room = subst (λ (n : ℕ). HasImportRoom n old) counted
+      (synced_room s p explained.exact.log explained.exact.sync explained.exact.charges explained.exact.blocks explained.exact.groups explained.exact.isolated now x.free places flushed old (view_frame run.geometry old)
+      rest.laid.firm.tree.holds (rest.laid.view.root ∙ is.root_is) (open_above s.line explained.exact.groups.line) is)
+
+  new_room : HasImportRoom (block_count run.geometry) new
+  new_room = subst (λ (n : ℕ). HasImportRoom n new) counted
+      (syncing_room s p explained.exact.log explained.exact.sync explained.exact.charges explained.exact.blocks explained.exact.groups explained.exact.isolated now x.free places 0 new y.group y.plan y.syncing y.running
+      (kept_or_taken now s p pointers (made_by tree run) x y explained geometry) new_is)
+
   -- So the disk is kept while the sync runs.
   pub started_kept : run.done ≡ 0 → run.done < call_count run → HasFairBytes run.geometry p.created disk.now → IsSyncOnDisk run disk s p
-  started_kept none left bytes = record {
+  started_kept begun left bytes = record {
     no_stages = stages;
     left = left;
     group = y.group;
@@ -301,19 +341,13 @@ module _ (disk : Disk) (s : Shown) (p : Past) (pointers tree : Place → Pointer
     start = disk;
     views = views;
     created = refl;
-    since = begins_at_rest disk views run none distinct leads before;
+    since = begins_at_rest disk views run begun distinct leads before;
     old_is = is;
-    new_is = record {
-      guid = refl;
-      group_is = refl;
-      root_is = refl;
-      import_is = refl;
-      header_is = refl;
-      replayed = replayed;
-      as_many = ap (λ (ks : List KeptBlock). length ks) (sym (none_from y.plan.header s.log x.no_log));
-      blocks = λ i k l at there. absurd (no_block y.plan.header s.log i k x.no_log at);
-      flushed_are = λ i k at flushed. absurd (no_block y.plan.header s.log i k x.no_log at);
-    };
+    new_is = new_is;
+    old_held = held;
+    new_held = new_held;
+    old_room = old_room;
+    new_room = new_room;
     bytes = bytes;
     configs = configs;
   }

@@ -1,5 +1,5 @@
 -- Views of a pool stay those of its groups while steps go on.
-use Rattle.std.proofs.Common.{◌≡◌, ◌∙◌, inl, inr, ℕ, false, List, [], length, filter, Some, None, refl, ap, sym, subst, nat_le}
+use Rattle.std.proofs.Common.{◌≡◌, ◌∙◌, inl, inr, ℕ, false, List, [], length, Some, None, refl, ap, sym, subst}
 use Rattle.std.specs.Prelude.{slice_get, unwrap_or, option_map, ◌==◌, ◌-◌}
 use Rattle.std.proofs.lemmas.Bool.{false≢true}
 use Rattle.base.specs.declared.operation.Op.{Op}
@@ -25,6 +25,7 @@ use Rattle.base.specs.steps.Steps as steps
 use Rattle.base.specs.steps.Steps.{State}
 use Rattle.base.specs.stored.Stored.{is_turn}
 use Rattle.base.proofs.common.KeptLists.{Some-injective, found_at}
+use Rattle.base.proofs.crash.OwnDisks.{none_from}
 use Rattle.base.proofs.history.Cuts.{up_to_push}
 use Rattle.base.proofs.steps.KeptGroups.{held_above, held_above_sync}
 use Rattle.base.proofs.steps.StepEffects.{StepDoes, step_does}
@@ -36,6 +37,7 @@ pub record SameSynced (s t : Shown) (p q : Past) : Type 0 where
   pub synced : t.line.synced ≡ s.line.synced
   pub root : t.root ≡ s.root
   pub log : t.log.next ≡ s.log.next
+  pub kept : t.log.kept ≡ s.log.kept
   pub base : q.base ≡ p.base
   pub created : q.created ≡ p.created
   pub acknowledged : q.acknowledged ≡ p.acknowledged
@@ -48,10 +50,7 @@ pub record SameSyncing (s t : Shown) (p q : Past) : Type 0 where
   pub plans : (plan : SyncPlan) → s.sync ≡ Some plan → (later : SyncPlan) × (t.sync ≡ Some later) × (later.root ≡ plan.root) × (later.header ≡ plan.header)
   pub entries : (group : ℕ) → s.line.syncing ≡ Some group → entries_up_to group q.entries ≡ entries_up_to group p.entries
 
--- no log block is kept, so none is from a header on
-pub none_from : (header : Header) (log : Log) → log.kept ≡ [] → kept_from header log ≡ []
-none_from header log none = ap (λ (ks : List KeptBlock). filter (λ (b : KeptBlock). nat_le header.number b.number) ks) none
-
+-- where no log block is kept, none is from a header on
 pub no_block : (header : Header) (log : Log) (i : ℕ) (k : KeptBlock) → log.kept ≡ [] → slice_get (kept_from header log) i ≡ Some k → ⊥
 no_block header log i k none at = let no_way : None ≡ Some k = ap (λ (ks : List KeptBlock). slice_get ks i) (sym (none_from header log none)) ∙ at in cc
 
@@ -60,10 +59,10 @@ pub header-none : (log : Log) → log.kept ≡ [] → header_now log ≡ log.nex
 header-none log none = ap (λ (ks : List KeptBlock). unwrap_or (option_map header_at (slice_get ks 0)) log.next) none
 
 -- A view of a group is that of a group of another state, where no log block is kept and what it says is as before.
-pub view_as : (flushed : ℕ) (v : View) (s t : Shown) (p q : Past) (group other : ℕ) (root under : Pointer) (header first : Header) → s.log.kept ≡ [] → t.log.kept ≡ [] → t.guid ≡ s.guid → t.import_number ≡ s.import_number
+pub view_as : (flushed : ℕ) (v : View) (s t : Shown) (p q : Past) (group other : ℕ) (root under : Pointer) (header first : Header) → s.log.kept ≡ [] → t.log.kept ≡ [] → t.log.next ≡ s.log.next → t.guid ≡ s.guid → t.import_number ≡ s.import_number
     → other ≡ group → under ≡ root → first ≡ header → replay (entries_up_to other q.entries) q.base ≡ replay (entries_up_to group p.entries) p.base
     → IsViewOf flushed v s p group root header → IsViewOf flushed v t q other under first
-view_as flushed v s t p q group other root under header first none still guid import_is same_group same_root same_header replays is = record {
+view_as flushed v s t p q group other root under header first none still next guid import_is same_group same_root same_header replays is = record {
   guid = is.guid ∙ sym guid;
   group_is = is.group_is ∙ sym same_group;
   root_is = is.root_is ∙ sym same_root;
@@ -73,19 +72,20 @@ view_as flushed v s t p q group other root under header first none still guid im
   as_many = is.as_many ∙ ap (λ (ks : List KeptBlock). length ks) (none_from header s.log none ∙ sym (none_from first t.log still));
   blocks = λ i k l at there. absurd (no_block first t.log i k still at);
   flushed_are = λ i k at flushed. absurd (no_block first t.log i k still at);
+  goes_on = is.goes_on ∙ sym next;
 }
 
 module _ (s t : Shown) (p q : Past) (none : s.log.kept ≡ []) (still : t.log.kept ≡ []) (flushed : ℕ) (v : View) where
   -- the view of the synced group stays its view
   pub synced_view : SameSynced s t p q → IsViewOf flushed v s p s.line.synced s.root (header_now s.log) → IsViewOf flushed v t q t.line.synced t.root (header_now t.log)
-  synced_view same is = view_as flushed v s t p q s.line.synced t.line.synced s.root t.root (header_now s.log) (header_now t.log) none still same.guid same.import_is same.synced same.root
+  synced_view same is = view_as flushed v s t p q s.line.synced t.line.synced s.root t.root (header_now s.log) (header_now t.log) none still same.log same.guid same.import_is same.synced same.root
       (header-none t.log still ∙ same.log ∙ sym (header-none s.log none))
       ((λ k. replay (entries_up_to (same.synced k) q.entries) (same.base k)) ∙ ap (λ (es : List Entry). replay es p.base) same.entries) is
 
   -- and that of the running sync's group its own
   pub syncing_view : (group : ℕ) (plan later : SyncPlan) → SameSyncing s t p q → s.line.syncing ≡ Some group → later.root ≡ plan.root → later.header ≡ plan.header
       → IsViewOf flushed v s p group plan.root plan.header → IsViewOf flushed v t q group later.root later.header
-  syncing_view group plan later same syncing root header is = view_as flushed v s t p q group group plan.root later.root plan.header later.header none still same.synced.guid same.synced.import_is refl root header
+  syncing_view group plan later same syncing root header is = view_as flushed v s t p q group group plan.root later.root plan.header later.header none still same.synced.log same.synced.guid same.synced.import_is refl root header
       ((λ k. replay (entries_up_to group q.entries) (same.synced.base k)) ∙ ap (λ (es : List Entry). replay es p.base) (same.entries group syncing)) is
 
 -- no config above a group counts, told by the same numbers
@@ -104,7 +104,7 @@ same_plan plan = (plan, refl, refl, refl)
 -- only the steps of the running sync are counted
 counted : (plan : SyncPlan) (s : State) → s.shown.sync ≡ Some plan → Same s (steps.state_after_step plan s)
 counted plan s is = record {
-  synced = record { guid = refl; import_is = refl; synced = refl; root = refl; log = refl; base = refl; created = refl; acknowledged = refl; entries = refl };
+  synced = record { guid = refl; import_is = refl; synced = refl; root = refl; log = refl; kept = refl; base = refl; created = refl; acknowledged = refl; entries = refl };
   line = refl;
   plans = λ other was. let same : plan ≡ other = Some-injective (sym is ∙ was) in
       (record plan { steps_left = plan.steps_left - 1 }, refl, ap (λ (x : SyncPlan). x.root) same, ap (λ (x : SyncPlan). x.header) same);
@@ -126,6 +126,7 @@ entered tx a ops contents s explained may =
         synced = refl;
         root = refl;
         log = refl;
+        kept = refl;
         base = refl;
         created = refl;
         acknowledged = refl;
@@ -145,7 +146,7 @@ effect_leaves (EndsSync group plan) s turning no_log explained may = absurd (fal
 effect_leaves (WritesLog taken rest address) s off logging explained may = absurd (false≢true (sym logging))
 effect_leaves FlushesLog s off logging explained may = absurd (false≢true (sym logging))
 effect_leaves e s off no_log explained may = record {
-  synced = record { guid = refl; import_is = refl; synced = refl; root = refl; log = refl; base = refl; created = refl; acknowledged = refl; entries = refl };
+  synced = record { guid = refl; import_is = refl; synced = refl; root = refl; log = refl; kept = refl; base = refl; created = refl; acknowledged = refl; entries = refl };
   line = refl;
   plans = λ plan is. (plan, is, refl, refl);
   entries = λ group syncing. refl;
@@ -159,6 +160,7 @@ suspended s t same = record {
     synced = same.synced.synced;
     root = same.synced.root;
     log = same.synced.log;
+    kept = same.synced.kept;
     base = same.synced.base;
     created = same.synced.created;
     acknowledged = same.synced.acknowledged;

@@ -81,14 +81,14 @@ module _ (s : Shown) (p : Past) (explained : IsExplainedNow s p) (group : ℕ) (
       omega (arith, room, written, fewer, counted)
 
 module _ (now : List ℕ) (s : Shown) (p : Past) (pointers : Place → Pointer) (x : IsStored now s pointers p) (explained : IsExplainedNow s p) (group : ℕ) (above : s.line.synced < group)
-    (pending : List Committed) (log : s.log.pending ≡ map shown_record pending) (after : Contents) (leads : apply_all (pending_ops group pending) s.synced_contents ≡ Ok after)
+    (no_log : s.log.kept ≡ []) (pending : List Committed) (log : s.log.pending ≡ map shown_record pending) (after : Contents) (leads : apply_all (pending_ops group pending) s.synced_contents ≡ Ok after)
     (maps : List ObjectMap) (told : (n : ℕ) → s.lengths n ≡ map_length maps n) (new : Place → Pointer) (bs : List NewBlock) (plan : SyncPlan) (from : IsPlannedGroup group pending maps (frame_at s group) pointers new bs after.objects) (taken : map (λ (b : NewBlock). b.address) bs ≡ plan.taken) where
   -- the places that the sync of the group writes
   abbrev pub places : List Place
   places = written_places (ops_of_group group p.entries) s.synced_contents (has_block now s.root)
 
   places_are : places ≡ written_by (changes_of_group from.objects pointers after.objects)
-  places_are = places_told s p explained group above x.no_log pending log after leads maps told pointers from.objects from.changes (has_block now s.root)
+  places_are = places_told s p explained group above no_log pending log after leads maps told pointers from.objects from.changes (has_block now s.root)
       (λ n r low below. ap (λ (q : Pointer). not (q.address == 0)) (sym (pointers-told now (frame_at s s.line.synced) pointers s.synced_contents.objects (synced_tree now s p pointers x explained) (Data n r) (low, below)))
       ∙ ap (λ (q : Pointer). has_block now q (Data n r)) x.root)
 
@@ -96,7 +96,7 @@ module _ (now : List ℕ) (s : Shown) (p : Past) (pointers : Place → Pointer) 
   pub takes_in_order : map (λ (place : Place). (new place).address) places ≡ plan.taken
   takes_in_order =
       ap (λ (ps : List Place). map (λ (place : Place). (new place).address) ps) places_are
-      ∙ sym (from.order (in_range s p explained group above x.no_log pending log maps from.objects from.changes)) ∙ taken
+      ∙ sym (from.order (in_range s p explained group above no_log pending log maps from.objects from.changes)) ∙ taken
 
   -- so it takes one for each
   pub takes_for_each : TakesForEach now (record { shown = s; past = p }) group plan

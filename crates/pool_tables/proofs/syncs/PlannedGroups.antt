@@ -107,13 +107,13 @@ module _ (now : List ℕ) (s : Shown) (p : Past) (pointers : Place → Pointer) 
 
 -- and of the plan of a group that leads from them to others
 module _ (now : List ℕ) (s : Shown) (p : Past) (pointers : Place → Pointer) (x : IsStored now s pointers p) (explained : IsExplainedNow s p) (group : ℕ) (above : s.line.synced < group)
-    (pending : List Committed) (log : s.log.pending ≡ map shown_record pending) (after : Contents) (leads : apply_all (pending_ops group pending) s.synced_contents ≡ Ok after) (bounded : IsBounded after) where
+    (no_log : s.log.kept ≡ []) (pending : List Committed) (log : s.log.pending ≡ map shown_record pending) (after : Contents) (leads : apply_all (pending_ops group pending) s.synced_contents ≡ Ok after) (bounded : IsBounded after) where
   module _ (maps : List ObjectMap) (told : (n : ℕ) → s.lengths n ≡ map_length maps n) (objects : List (ObjectId × ObjectChanges)) (changes : AreChangesOf (pending_ops group pending) maps objects) where
     tree : HoldsTree now (frame_at s s.line.synced) pointers s.synced_contents.objects
     tree = synced_tree now s p pointers x explained
 
     in_state : (n r : ℕ) → r < pointer_count → state_in objects n r ≡ record_state n r (pending_ops group pending) s.synced_contents Unchanged
-    in_state = states_are s p explained group above x.no_log pending log after leads maps told objects changes
+    in_state = states_are s p explained group above no_log pending log after leads maps told objects changes
 
     covered : IsCoveredBy objects pointers s.synced_contents.objects after.objects
     covered = record {

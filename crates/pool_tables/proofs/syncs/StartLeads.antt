@@ -149,16 +149,16 @@ module _ (now : List ℕ) (past : Past) (pool : PoolTables) (group moment : ℕ)
       → AreUsed (map new_block blocks) (pointers_after root directories maps pool.tree) → ((i : ℕ) (b : NewBlock) → slice_get (map new_block blocks) i ≡ Some b → length b.content ≡ 4096)
       → IsPlannedSync (frame_at (pool_shown pool) group) (pointers_of pool.tree) (pointers_after root directories maps pool.tree) (map new_block blocks) x.kept.stored.synced.objects (contents_after_oldest pool).objects plan
   group_planned freed_are used whole =
-      planned_sync now (pool_shown pool) past (pointers_of pool.tree) x.kept.stored x.explained group above pool.pending.items refl (contents_after_oldest pool) to.leads to.bounded pool.tree.maps.items (λ n. refl)
+      planned_sync now (pool_shown pool) past (pointers_of pool.tree) x.kept.stored x.explained group above refl pool.pending.items refl (contents_after_oldest pool) to.leads to.bounded pool.tree.maps.items (λ n. refl)
       (pointers_after root directories maps pool.tree) (map new_block blocks) plan planned (addresses_are blocks) whole freed_are used refl
 
   -- what it takes is what its tree has at the places that it writes, in order
   pub group_takes : map (λ (place : Place). (pointers_after root directories maps pool.tree place).address) (written_places (ops_of_group group past.entries) (synced_of pool) (has_block now (pool_shown pool).root)) ≡ plan.taken
   group_takes =
-      takes_in_order now (pool_shown pool) past (pointers_of pool.tree) x.kept.stored x.explained group above pool.pending.items refl (contents_after_oldest pool) to.leads pool.tree.maps.items (λ n. refl)
+      takes_in_order now (pool_shown pool) past (pointers_of pool.tree) x.kept.stored x.explained group above refl pool.pending.items refl (contents_after_oldest pool) to.leads pool.tree.maps.items (λ n. refl)
       (pointers_after root directories maps pool.tree) (map new_block blocks) plan planned (addresses_are blocks)
 
   pub group_takes_each : TakesForEach now (record { shown = pool_shown pool; past = past }) group plan
   group_takes_each =
-      takes_for_each now (pool_shown pool) past (pointers_of pool.tree) x.kept.stored x.explained group above pool.pending.items refl (contents_after_oldest pool) to.leads pool.tree.maps.items (λ n. refl)
+      takes_for_each now (pool_shown pool) past (pointers_of pool.tree) x.kept.stored x.explained group above refl pool.pending.items refl (contents_after_oldest pool) to.leads pool.tree.maps.items (λ n. refl)
       (pointers_after root directories maps pool.tree) (map new_block blocks) plan planned (addresses_are blocks)

@@ -30,4 +30,11 @@ pub returns-clause-safe : goal.returns-clause-safe
 returns-clause-safe g c = λ created held began kept.
     let shown : Shown = pool_shown c.new.result in
     let none : run_in c.new.result ≡ None = ap (λ (o : Option RunningSync). option_map (λ (r : RunningSync). r.run) o) c.new.ensures.idle in
-    record { held = held created; same_bytes = refl; began = began; kept = idle_kept (run_in c.new.result) (g.D.SectorDevice.disk c.args.imported.device) shown (first_past shown created) none kept }
+    let idle : shown.line.syncing ≡ None = ap (λ (s : Shown). s.line.syncing) c.new.ensures.shown in
+    record {
+      held = held created;
+      no_log = refl;
+      same_bytes = refl;
+      began = began;
+      kept = idle_kept (run_in c.new.result) (g.D.SectorDevice.disk c.args.imported.device) shown (first_past shown created) none idle kept;
+    }
