@@ -34,6 +34,10 @@ HasNoneInRing ring = (k : ℕ) (u : Fields) → k < 4 → StandsInRing ring k u 
 abbrev pub IsRingOf : List ℕ → List ℕ → Type 0
 IsRingOf ring image = (label : ℕ) → label < 4 → part ring (array_size * label) array_size ≡ part image (slot_place (length image) label 0) array_size
 
+-- the positions of a ring: the slots of four labels
+abbrev pub position_count : ℕ
+position_count = 512
+
 -- an uberblock stands in the slot at this position of a ring; in each label 128 slots follow one another
 abbrev pub StandsAtPosition : List ℕ → ℕ → Fields → Type 0
 StandsAtPosition ring position u = IsUberblock (part ring (slot_size * position) slot_size) u × (slot_of u.group ≡ position % slot_count)

@@ -23,7 +23,7 @@ ghost use Rattle.std.specs.Prelude.{◌≡◌, ◌+◌, ◌*◌, ◌%◌, ◌≤
 ghost use Rattle.base.specs.formats.Geometry.{slot_of};
 ghost use Rattle.uberblocks.specs.Slots.{fields_of};
 ghost use Rattle.uberblocks.specs.Rings as above;
-ghost use Rattle.uberblocks.specs.Rings.{HasNoneInRing, IsActiveInRing, IsBetterAt, position_of, ring_size};
+ghost use Rattle.uberblocks.specs.Rings.{HasNoneInRing, IsActiveInRing, IsBetterAt, position_count, position_of, ring_size};
 
 use crate::uberblock::{SLOT_SIZE, Uberblock, read_slot};
 use base::{Group, read_u64};
@@ -67,9 +67,9 @@ pub fn active(ring: &[u8]) -> Option<Uberblock>
 /// In a label groups mostly rise from slot to slot. So the last slot is looked at first: then most of the others are
 /// not above it.
 fn position(count: usize) -> usize
-    requires { count < 512 }
+    requires { count < position_count }
     ensures position { result ≡ position_of count }
-    ensures in_range { result < 512 }
+    ensures in_range { result < position_count }
 {
     SLOT_COUNT * (count / SLOT_COUNT) + (SLOT_COUNT - 1 - count % SLOT_COUNT)
 }
@@ -79,7 +79,7 @@ fn position(count: usize) -> usize
 /// A slot's check costs more than all its fields, and is made only if these say that it would be better.
 fn better(ring: &[u8], position: usize, best: Option<Uberblock>) -> Option<Uberblock>
     requires size { length ring.now ≡ ring_size }
-    requires in_range { position < 512 }
+    requires in_range { position < position_count }
     ensures { IsBetterAt ring.now position best result }
 {
     let place = SLOT_SIZE * position;
