@@ -28,7 +28,7 @@ fn crash_with(alloc: Global, piece: Piece) -> Result<End, PoolError> {
     Ok(End::Crash(vec![in alloc; piece; 16]?))
 }
 
-// How many bytes has the object that the import after these rounds mounts: none where there is no object.
+// The bytes of the object that the import after these rounds mounts, `None` if there is no object.
 fn found_behind(alloc: Global, rounds: Vec<Round>) -> Result<Option<usize>, PoolError> {
     let device = MemDevice::new(alloc, 12_288)?;
     let (_, imported) = play_rounds(alloc, device, b"tank", 77, 1_048_576, 7, rounds)?;

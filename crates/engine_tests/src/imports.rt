@@ -7,7 +7,7 @@ use import_replay::inspect;
 use round_trip::{make, open};
 use std::alloc::Global;
 
-// A new pool named `tank` on this many sectors.
+/// A new pool named `tank` on this many sectors of 512 bytes.
 pub fn new_pool(alloc: Global, sectors: u64) -> Result<MemDevice, PoolError> {
     make(MemDevice::new(alloc, sectors)?, b"tank", 77, 5)
 }
@@ -32,7 +32,7 @@ fn number_at(device: &mut MemDevice, place: u64) -> Result<u64, PoolError> {
     Ok(read_u64(&bytes, at))
 }
 
-// How many of these places, counted from one, have their numbers before the first that has not.
+/// How many rows, each a byte address after `from` and a number, have their number there before the first that has not.
 pub fn count_numbers(device: &mut MemDevice, from: u64, rows: &[(u64, u64)]) -> usize {
     for index in 0..rows.len() {
         let (at, value) = rows[index];

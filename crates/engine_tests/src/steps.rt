@@ -10,10 +10,13 @@ use import_replay::inspect;
 use round_trip::round;
 use std::alloc::{AllocError, Global};
 
+/// The owner of the locks and transactions.
 pub const OWNER: Owner = Owner(1);
 
+/// The object that the steps write.
 pub const OBJECT: ObjectId = ObjectId(1);
 
+/// The bytes of a whole object.
 pub const WHOLE: Range = Range {
     low: 0,
     high: 338_688,
@@ -48,7 +51,7 @@ fn made(alloc: Global) -> Result<Vec<Step>, AllocError> {
     ]?)
 }
 
-// They, and those of the sync of its group up to so many device calls.
+/// The steps of a transaction that makes an object of 4 bytes, and of the sync of its group up to so many device calls.
 pub fn stored(alloc: Global, calls: usize) -> Result<Vec<Step>, AllocError> {
     let mut steps = made(alloc)?;
     add_sync(&mut steps, calls)?;

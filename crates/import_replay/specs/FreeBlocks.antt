@@ -6,6 +6,7 @@ use Rattle.std.specs.FinSet as set
 use Rattle.std.specs.FinSet.{FinSet}
 use Rattle.base.specs.declared.pointer.Pointer.{Pointer}
 use Rattle.base.specs.formats.Geometry.{block_address, IsBlockAddress}
+use Rattle.base.specs.formats.Limits.{record_count}
 use Rattle.base.specs.tree.Places.{Place, IsPlace}
 use Rattle.object_maps.specs.declared.tree.ObjectMap.{ObjectMap}
 use Rattle.object_maps.specs.declared.tree.Tree.{Tree}
@@ -39,9 +40,9 @@ AreAllNamed pointers blocks = (address : ℕ) → IsBlockAddress blocks address 
 abbrev pub names_block : ℕ → Pointer → Bool
 names_block k pointer = pointer.address == block_address k
 
--- whether one of an object's pointers does, of which the first 84 are to its records
+-- whether one of an object's pointers does, of which the first `record_count` are to its records
 abbrev pub map_names : ℕ → ObjectMap → Bool
-map_names k map = names_block k map.indirect || list_any (names_block k) (take 84 map.records.items)
+map_names k map = names_block k map.indirect || list_any (names_block k) (take record_count map.records.items)
 
 -- whether one of a tree's pointers does
 abbrev pub tree_names : ℕ → Tree → Bool

@@ -9,6 +9,7 @@ ghost use Rattle.base.specs.formats.Names.{IsName};
 ghost use Rattle.base.specs.crash.Mount.{HasPool};
 ghost use Rattle.base.specs.formats.Uberblocks.{IsActive};
 ghost use Rattle.device_model.specs.Reading.{OnlyReads};
+ghost use Rattle.uberblocks.specs.Rings.{array_size, ring_size};
 ghost use Rattle.uberblocks.specs.Slots.{IsWithinLimits, fields_of};
 ghost use Rattle.labels.specs.Choices.{AreRead, IsRead};
 ghost use Rattle.import_replay.specs.ImportRefusals.{IsFindRefusal, IsReason};
@@ -24,7 +25,9 @@ use uberblocks::{ARRAY_SIZE, LABEL_COUNT, Uberblock, active};
 /// A pool that was found on a device.
 #[derive(Drop)]
 pub(crate) struct Found {
+    /// The active uberblock.
     pub uberblock: Uberblock,
+    /// The name in the config that is chosen for it.
     pub name: PoolName,
     /// The pair of labels that an import may write first.
     pub first: Stage,
@@ -97,14 +100,14 @@ fn read_array<D: SectorDevice>(
 ) -> Result<(), PoolError>
     requires sized { D.size device.old ≡ geometry }
     requires label { label < 4 }
-    requires ring { length ring.old ≡ 524288 }
+    requires ring { length ring.old ≡ ring_size }
     ensures reads { OnlyReads D.SectorDevice result device.old device.new }
     ensures refused { IfErr result (λ e. e ≡ PoolError.Read) }
-    ensures length { length ring.new ≡ 524288 }
-    ensures within { slot_place geometry label 0 + 131072 ≤ geometry }
+    ensures length { length ring.new ≡ ring_size }
+    ensures within { slot_place geometry label 0 + array_size ≤ geometry }
     ensures array { IsTrue D.keeps_model → OnOk result (ring.new
-        ≡ put (131072 * label) (part (bytes_of (D.disk device.old).now)
-        (slot_place geometry label 0) 131072) ring.old) }
+        ≡ put (array_size * label) (part (bytes_of (D.disk device.old).now)
+        (slot_place geometry label 0) array_size) ring.old) }
 {
     let at = geometry.label_place(label) + ARRAY_AT;
     device.read(at, &mut ring[ARRAY_SIZE * label..ARRAY_SIZE * (label + 1)])

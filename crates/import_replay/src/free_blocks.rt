@@ -7,9 +7,9 @@ ghost use Rattle.object_maps.specs.Pointers.{pointers_of};
 ghost use Rattle.space.specs.FreeSets.{IsIdle};
 ghost use Rattle.import_replay.specs.FreeBlocks.{AreUnnamed, BlocksTaken, map_names, names_block};
 
-use base::{POINTER_COUNT, Pointer, PoolError};
+use base::{Pointer, PoolError};
 use labels::Geometry;
-use object_maps::{ObjectMap, Tree};
+use object_maps::{ObjectMap, RECORD_COUNT, Tree};
 use space::FreeSet;
 use std::alloc::Global;
 
@@ -44,7 +44,7 @@ fn take_map(free: &mut FreeSet, geometry: Geometry, map: &ObjectMap)
     ensures taken { BlocksTaken (λ k. map_names k map.now) free.old free.new }
 {
     take_block(free, geometry, &map.indirect);
-    let count = POINTER_COUNT.min(map.records.len());
+    let count = RECORD_COUNT.min(map.records.len());
     take_blocks(free, geometry, &map.records[..count]);
 }
 

@@ -1,7 +1,8 @@
 //! What an import returns: what it mounted, on its device.
 
-ghost use Rattle.std.specs.Prelude.{◌≡◌, ◌<◌, ◌≤◌, ◌^◌, IsTrue};
+ghost use Rattle.std.specs.Prelude.{◌≡◌, ◌<◌, ◌≤◌, IsTrue};
 ghost use Rattle.base.specs.disk.Disk.{bytes_of};
+ghost use Rattle.base.specs.formats.Limits.{first_group, last_number};
 ghost use Rattle.import_replay.specs.Mounts.{IsExplainedAnew, StandsOn};
 ghost use Rattle.import_replay.specs.ShownMounts.{LabelsShow};
 
@@ -26,7 +27,7 @@ impl<D: SectorDevice> Imported<D> {
     /// Returns the group that the import synced. The next one is open.
     pub fn group(&self) -> Group
         ensures group { result ≡ self.now.mounted.group }
-        ensures fits { (4 ≤ result.0) × (result.0 < 2 ^ 60) }
+        ensures fits { (first_group ≤ result.0) × (result.0 < last_number) }
     {
         self.mounted.group
     }

@@ -1,7 +1,8 @@
 //! What an import mounts.
 
-ghost use Rattle.std.specs.Prelude.{◌≡◌, ◌<◌, ◌≤◌, ◌^◌};
+ghost use Rattle.std.specs.Prelude.{◌≡◌, ◌<◌, ◌≤◌};
 ghost use Rattle.base.specs.formats.Geometry.{block_count};
+ghost use Rattle.base.specs.formats.Limits.{first_group, last_number};
 ghost use Rattle.base.specs.tree.PlacedTrees.{ArePlaced};
 ghost use Rattle.object_maps.specs.Pointers.{pointers_of};
 ghost use Rattle.space.specs.FreeSets.{IsIdle};
@@ -37,7 +38,7 @@ pub struct Mounted {
     pub dirty_max: u64,
     ghost free_sized: { free.blocks ≡ block_count geometry },
     ghost free_idle: { IsIdle free },
-    ghost group_fits: { (4 ≤ group.0) × (group.0 < 2 ^ 60) },
-    ghost import_fits: { import_number ≤ 2 ^ 60 },
+    ghost group_fits: { (first_group ≤ group.0) × (group.0 < last_number) },
+    ghost import_fits: { import_number ≤ last_number },
     ghost tree_placed: { ∥ ArePlaced (block_count geometry) (pointers_of tree) ∥₁ },
 }

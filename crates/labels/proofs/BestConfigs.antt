@@ -14,7 +14,7 @@ pub record IsBest (configs : List (Option Config)) (guid group n : ℕ) (c : Con
   pub highest : (k : ℕ) (other : Config) → k < n → IsCandidate configs guid group k other → other.group ≤ c.group
   pub lowest : (k : ℕ) (other : Config) → k < label → IsCandidate configs guid group k other → other.group ≢ c.group
 
--- this is the best of the first labels, or None where they have no candidate
+-- this is the best of the first labels, or None if they have no candidate
 abbrev pub BestAmong : List (Option Config) → ℕ → ℕ → ℕ → Option Config → Type 0
 BestAmong configs guid group n None = (k : ℕ) (c : Config) → k < n → IsCandidate configs guid group k c → ⊥
 BestAmong configs guid group n (Some c) = IsBest configs guid group n c
@@ -88,7 +88,7 @@ IsBest-IsChoice configs guid group n c all b = record {
   lowest = b.lowest;
 }
 
--- where the labels have no best, none has a candidate
+-- if the labels have no best, none has a candidate
 pub BestAmong-none : (configs : List (Option Config)) (guid group n : ℕ) → length configs ≤ n → BestAmong configs guid group n None → HasNoCandidate configs guid group
 BestAmong-none configs guid group n all b = λ k c x. b k c (let l : k < length configs = slice_get_within configs k (Some c) x.0 in omega (arith, l, all)) x
 

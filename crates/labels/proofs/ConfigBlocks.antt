@@ -75,7 +75,7 @@ config_payload-is c small name =
           ∙ ap (λ (k : ℕ). c.name ++ replicate k 0) left;
     }
 
--- the payload of a block is what lies behind its check
+-- the payload of a block is what lies after its check
 IsBlock-own : (bytes : List ℕ) (kind guid group number : ℕ) (payload : List ℕ) → IsBlock bytes kind guid group number payload → IsBlock bytes kind guid group number (drop 64 bytes)
 IsBlock-own bytes kind guid group number payload b = record {
   size = b.size;

@@ -9,7 +9,7 @@ use Rattle.labels.specs.Configs.{IsConfigBlock}
 abbrev pub IsKeptIn : List (Option Config) → Config → Type 0
 IsKeptIn configs c = (slice_get configs 1 ≡ Some (Some c)) ⊎ (slice_get configs 3 ≡ Some (Some c))
 
--- this is what a label of the image holds: a config, or None where it holds none
+-- this is what a label of the image holds: a config, or None if it holds none
 abbrev pub IsRead : List ℕ → ℕ → Option Config → Type 0
 IsRead image label (Some c) = IsConfigBlock (part image (config_place (length image) label) block_size) (length image) c
 IsRead image label None = (c : Config) → IsConfigBlock (part image (config_place (length image) label) block_size) (length image) c → ⊥

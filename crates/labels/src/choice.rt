@@ -9,8 +9,10 @@ ghost use Rattle.labels.specs.Choices.{IsKeptIn};
 use crate::config::LabelConfig;
 use base::{Group, PoolError};
 
-/// The config that belongs to an active uberblock of this pool and group: of the valid configs of the four labels with
-/// this guid and a group not above this one, the one of the highest group, and of these the one of the lowest label.
+/// The config that belongs to an active uberblock of this pool and group.
+///
+/// It is the one of the highest group among the valid configs of the four labels with this guid and a group not above
+/// this one. If several labels have that group, it is the lowest label's.
 ///
 /// # Errors
 /// `NoPool` exactly if no label has such a config.

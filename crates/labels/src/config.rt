@@ -17,8 +17,8 @@
 //!
 //! Pools differ by their guid, and the configs of a pool by their group: the config of an active
 //! uberblock is the one of the highest group not above the uberblock's (`choose` has the rule in full). A sync or an
-//! import that changes the configs writes and flushes those of two labels before the other two, so at each moment of it
-//! one pair at least is whole.
+//! import that changes the configs writes and flushes those of two labels before the other two. So at each moment one
+//! pair at least is whole.
 
 ghost use Rattle.std.specs.Prelude.{◌≡◌, ◌+◌, ◌<◌, ◌≤◌, ◌^◌, ◌↔◌, ℕ, List, IsTrue, IfSome, IfNone, length, replicate, take};
 ghost use Rattle.base.specs.formats.Labels.{IsConfigPayload};

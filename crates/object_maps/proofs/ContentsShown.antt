@@ -33,7 +33,7 @@ get-objects slots k = let e : 0 + k ≡ k = omega arith in rw e at (get-objects_
 pub same_objects : (old new : List Slot) → ((k : ℕ) → object_in new k ≡ object_in old k) → objects_from 0 new ≡ objects_from 0 old
 same_objects old new same = same_map nat_cmp_total nat_cmp-IsAntisymmetric _ _ (λ q. get-objects new q ∙ same q ∙ sym (get-objects old q))
 
--- where no slot has an object there is none
+-- if no slot has an object there is none
 pub no_objects : (slots : List Slot) → ((k : ℕ) → object_in slots k ≡ None) → objects_from 0 slots ≡ finite.empty
 no_objects slots none = same_map nat_cmp_total nat_cmp-IsAntisymmetric _ _ (λ q. get-objects slots q ∙ none q ∙ sym (get-empty {X = List ℕ} nat_cmp q))
 

@@ -75,7 +75,7 @@ module _ (image : List ℕ) (frame : Frame) (pointers : Place → Pointer) (obje
       record-held image frame (pointer_of image root (Data 7 1)) (map.get objects 7) there
       (subst (λ (p : Pointer). IfSome (map.get objects 7) (λ bytes. IsRecord image frame 7 1 p bytes)) (sym told) (holds.each (Data 7 1) (omega arith, omega arith)))
 
--- where the root is not sound, it is the first fault
+-- if the root is not sound, it is the first fault
 at-root : (image : List ℕ) (frame : Frame) (root : Pointer) (place : Place) → (IsSoundAt image frame root Root → ⊥)
     → ((other : Place) → IsPlace other → walk_index_of other < walk_index_of place → IsSoundAt image frame root other)
     → (kind address : ℕ) → kind_of place ≡ kind → (pointer_of image root place).address ≡ address → (2 ≡ kind) × (root.address ≡ address)

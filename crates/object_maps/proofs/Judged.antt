@@ -87,7 +87,7 @@ one_more before op c d e h k = (e, apply-append before (op ∷ []) c d h ∙ joi
 one_refused : (before : List Op) (op : Op) (c d : Contents) (e : PoolError) → apply_all before c ≡ Ok d → apply op d ≡ Err e → apply_all (before ++ op ∷ []) c ≡ Err e
 one_refused before op c d e h k = apply-append before (op ∷ []) c d h ∙ rw k refl
 
--- an operation that takes place where its object is there, and is refused where it is not
+-- an operation that takes place if its object is there, and is refused if it is not
 record ActsOnPresent (n : ℕ) (op : Op) : Type 0 where
   does : Option (List ℕ) → Result (Option (List ℕ)) PoolError
   is : (d : Contents) → apply op d ≡ at_object n does d
@@ -106,7 +106,7 @@ acts id op (inl e) = record { does = removed; is = λ d. rw e refl; there = λ b
 acts id op (inr (inl w)) = changing id.0 op (bytes_after_write w.0 w.1) (λ d. rw w.2 refl)
 acts id op (inr (inr w)) = changing id.0 op (resize w.0) (λ d. rw w.1 refl)
 
--- an operation after others that take place, where it is told whether its object is there after them
+-- an operation after others that take place, by whether its object is there after them
 module _ (before : List Op) (c : Contents) (done : Apply before c) (id : ObjectId) (op : Op) where
   -- what the operations before it leave of the object
   abbrev now : Option (List ℕ)

@@ -20,6 +20,6 @@ block_opens image frame kind number pointer e bytes named place born at long is 
     (record { kind_is = named.kind_is; guid_is = named.guid_is; number_is = named.number_is; group_is = named.group_is; check_is = named.check_is })
     place born at long refl is
 
--- the image stays where the disk stays
+-- the image stays if the disk stays
 pub still_shows : (keeps : Bool) (old new : Disk) (image : List ℕ) → (IsTrue keeps → new ≡ old) → Shows keeps old image → Shows keeps new image
 still_shows keeps old new image same shows = λ k. ap (λ (d : Disk). bytes_of d.now) (same k) ∙ shows k

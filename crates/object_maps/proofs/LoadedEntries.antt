@@ -23,7 +23,7 @@ use Rattle.base.proofs.history.Objects.{get-stored_same, get-stored_other}
 use Rattle.object_maps.proofs.LoadedRecords.{none_loaded}
 use Rattle.object_maps.proofs.SetMaps.{map-set_same, map-set_other}
 
--- an object where the objects and the pointers have the same of it
+-- an object, if the objects and the pointers have the same of it
 same_loaded : (keeps : Bool) (image : List ℕ) (frame : Frame) (n : ℕ) (old_objects objects : FinMap nat_cmp (List ℕ)) (old_maps maps : List ObjectMap)
     → finite.get objects n ≡ finite.get old_objects n → slice_get maps n ≡ slice_get old_maps n
     → IsLoadedAt keeps image frame old_objects old_maps n → IsLoadedAt keeps image frame objects maps n
@@ -201,7 +201,7 @@ directories_skip keeps image frame directories count objects maps so_far p withi
     go d low (inl e) = rw e (no_directory keeps image frame count (pointer_of_list directories count) objects maps none (λ k _. so_far.rest.each (entry_count * count + k) (omega arith)))
     go d low (inr ne) = so_far.loaded d (omega (arith, low))
 
--- a directory stays where its objects stay
+-- a directory stays if its objects stay
 same_directory : (keeps : Bool) (image : List ℕ) (frame : Frame) (d : ℕ) (pointer : Pointer) (old_objects objects : FinMap nat_cmp (List ℕ)) (old_maps maps : List ObjectMap)
     → ((k : ℕ) → k < entry_count → finite.get objects (entry_count * d + k) ≡ finite.get old_objects (entry_count * d + k))
     → ((k : ℕ) → k < entry_count → slice_get maps (entry_count * d + k) ≡ slice_get old_maps (entry_count * d + k))

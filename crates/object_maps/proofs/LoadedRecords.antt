@@ -62,7 +62,7 @@ part-taken s at count payload bytes long within is = go (cases_lt (length bytes 
     go (inl short) = take_all s (drop at new) (omega (arith, behind, short)) ∙ sym (take_all count (drop at new) (omega (arith, behind, is, short))) ∙ same
     go (inr whole) = let e : s ≡ count = omega (arith, is, whole) in ap (λ (k : ℕ). part new at k) e ∙ same
 
--- and with zeros behind it is the payload
+-- and with zeros after it is the payload
 taken-padded : (s count : ℕ) (payload front : List ℕ) → length payload ≡ s → count ≤ s → drop count payload ≡ replicate (length (drop count payload)) 0
     → front ≡ take count payload → front ++ replicate (s - length front) 0 ≡ payload
 taken-padded s count payload front long most zeros is =
@@ -96,7 +96,7 @@ records_apart r count payload bytes new within is put_is q ne =
     side (inl below) = inr (omega arith)
     side (inr above) = inl (omega (arith, is, length-take count payload))
 
--- a record stays where its bytes and the length stay
+-- a record stays if its bytes and the length stay
 carry : (image : List ℕ) (frame : Frame) (n r : ℕ) (pointer : Pointer) (bytes new : List ℕ) → record_bytes r new ≡ record_bytes r bytes → length new ≡ length bytes
     → IsRecord image frame n r pointer bytes → IsRecord image frame n r pointer new
 carry image frame n r pointer bytes new same size (inl hole) = inl (hole.0, subst (λ (l : List ℕ). l ≡ replicate (length l) 0) (sym same) hole.1)

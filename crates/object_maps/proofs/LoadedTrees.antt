@@ -75,7 +75,7 @@ tree_bounded keeps image frame root directories objects maps t n = go (cases_lt 
     go (inl low) = both low (finite.get objects n) (object_loaded_at keeps image frame root directories objects maps t n low).bounded
     go (inr past) = rw (t.rest.each n past).object tt
 
--- and the image holds it, where the device keeps the model
+-- and the image holds it, if the device keeps the model
 tree_holds : (keeps : Bool) (image : List ℕ) (frame : Frame) (root : Pointer) (directories : List Pointer) (objects : FinMap nat_cmp (List ℕ)) (maps : List ObjectMap)
     → IsLoadedTree keeps image frame root directories objects maps → IsTrue keeps → HoldsTree image frame (pointers_at root directories maps) objects
 tree_holds keeps image frame root directories objects maps t k = record { no_others = λ n past. (t.rest.each n past).object; each = stands }
@@ -119,7 +119,7 @@ no_lengths maps empty n = no_length maps empty n ∙ ap (option_map length) (sym
 abbrev standing : {X : Type 0} → List X → ℕ → List X → List X
 standing new len items = take len (new ++ drop (length new) items)
 
--- a tree has pointers to blocks alone, and objects within their limits with which the image holds it, where the device
+-- a tree has pointers to blocks alone, and objects within their limits with which the image holds it, if the device
 -- keeps the model
 pub record IsWhole (keeps : Bool) (image : List ℕ) (frame : Frame) (root : Pointer) (directories : List Pointer) (objects : FinMap nat_cmp (List ℕ)) (maps : List ObjectMap) : Type 0 where
   pub placed : ArePlaced frame.blocks (pointers_at root directories maps)

@@ -12,7 +12,7 @@ use Rattle.base.specs.history.History.{apply_all}
 use Rattle.object_maps.specs.declared.contents.Slot.{Slot}
 use Rattle.object_maps.specs.declared.contents.Contents as declared
 
--- the object of a slot, where None is no object
+-- the object of a slot, None for no object
 abbrev pub object_of : Slot → Option (List ℕ)
 object_of s = cond s.present (Some s.bytes.items) None
 

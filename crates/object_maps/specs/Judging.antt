@@ -21,6 +21,6 @@ ApplyTo ops objects = (name : List ℕ) → Apply ops (with_name objects name)
 abbrev pub JudgesOver : List Op → FinMap nat_cmp (List ℕ) → Result Unit PoolError → Type 0
 JudgesOver ops objects result = (name : List ℕ) → Judges ops (with_name objects name) result
 
--- whether object n is there after operations, where they can take place
+-- whether object n is there after operations, if they can take place
 abbrev pub TellsAfter : List Op → FinMap nat_cmp (List ℕ) → ℕ → Bool → Type 0
 TellsAfter ops objects n there = (name : List ℕ) → IfOk (apply_all ops (with_name objects name)) (λ c. there ≡ is_some (finite.get c.objects n))

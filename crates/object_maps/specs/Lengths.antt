@@ -8,14 +8,14 @@ use Rattle.base.specs.formats.Limits.{object_count}
 use Rattle.object_maps.specs.declared.tree.ObjectMap.{ObjectMap}
 use Rattle.object_maps.specs.declared.tree.Tree.{Tree}
 
--- the length of object n, None where there is no such object
+-- the length of object n, None if there is no such object
 abbrev pub map_length : List ObjectMap → ℕ → Option ℕ
 map_length maps n = option_map_or (λ (m : ObjectMap). m.length) (slice_get maps n) None
 
 abbrev pub lengths_of : Tree → ℕ → Option ℕ
 lengths_of t n = map_length t.maps.items n
 
--- the length of each object, where these objects have new maps
+-- the length of each object, if these objects have new maps
 abbrev pub with_lengths : (ℕ → Option ObjectMap) → (ℕ → Option ℕ) → ℕ → Option ℕ
 with_lengths new old n = option_map_or (λ (m : ObjectMap). m.length) (new n) (old n)
 

@@ -6,14 +6,14 @@ use Rattle.base.specs.declared.pointer.Pointer.{Pointer}
 use Rattle.base.specs.disk.Disk.{Disk, bytes_of}
 use Rattle.base.specs.formats.Blocks.{Frame}
 use Rattle.base.specs.formats.Fields.{entry_in}
-use Rattle.base.specs.formats.Limits.{entry_count, record_size, pointer_count}
+use Rattle.base.specs.formats.Limits.{entry_count, record_count, record_size}
 use Rattle.base.specs.tree.Faults.{IsEntryForm, IsRecordPointerForm}
 use Rattle.object_maps.specs.declared.tree.ObjectMap.{ObjectMap}
 use Rattle.object_maps.specs.declared.walk.Entry.{Entry}
 use Rattle.object_maps.specs.Loading.{AreEmptyFrom, Shows}
 use Rattle.object_maps.specs.Pointers.{pointer_of_list}
 
--- what holds of the image that the device has, where it keeps the model, and of each image where it doesn't
+-- what holds of the image that the device has if it keeps the model, and of each image if it doesn't
 abbrev pub OnImage : Bool → Disk → (List ℕ → Type 0) → Type 0
 OnImage keeps disk P = (image : List ℕ) → Shows keeps disk image → P image
 
@@ -21,8 +21,8 @@ OnImage keeps disk P = (image : List ℕ) → Shows keeps disk image → P image
 abbrev pub OnWalk : Bool → Disk → (List ℕ → Pointer → Type 0) → Type 0
 OnWalk keeps disk P = IsTrue keeps → (image : List ℕ) (root : Pointer) → bytes_of disk.now ≡ image → P image root
 
--- From objects that a sink stands for, and of which none is there from this one on, a load makes objects that it stands
--- for after it, and this is true of them and of the maps.
+-- The sink stands for objects of which none is there from this number on. After a load it stands for other objects, and
+-- this is true of both and of the maps.
 abbrev pub LoadsFrom : {S : Type 0} → ℕ → (S → FinMap nat_cmp (List ℕ) → Type 0) → (S → List ObjectMap) → S → S
     → (FinMap nat_cmp (List ℕ) → FinMap nat_cmp (List ℕ) → List ObjectMap → List ObjectMap → Type 0) → Type 0
 LoadsFrom start stands_for maps old new P =
@@ -37,8 +37,8 @@ pub record IsEntryPayload (frame : Frame) (payload : List ℕ) : Type 0 where
 
 -- these are the pointers to the records of an object of so many bytes: from its end on there are none
 pub record AreRecordPointers (size : ℕ) (records : List Pointer) : Type 0 where
-  pub count : length records ≡ pointer_count
-  pub each : (r : ℕ) → r < pointer_count → IsRecordPointerForm size (record_size * r) (pointer_of_list records r)
+  pub count : length records ≡ record_count
+  pub each : (r : ℕ) → r < record_count → IsRecordPointerForm size (record_size * r) (pointer_of_list records r)
 
 -- an object has the length and the pointer that its entry has
 pub record IsObjectOf (entry : Entry) (bytes : List ℕ) (map : ObjectMap) : Type 0 where

@@ -7,7 +7,7 @@ use Rattle.std.specs.FinMap.{FinMap}
 use Rattle.base.specs.declared.error.PoolError.{PoolError}
 use Rattle.base.specs.declared.error.PoolError.TheVariants.{NoMemory, Read, Damaged}
 use Rattle.base.specs.declared.pointer.Pointer.{Pointer}
-use Rattle.base.specs.formats.Limits.{object_count, max_length, pointer_count, entry_count}
+use Rattle.base.specs.formats.Limits.{object_count, max_length, pointer_count, record_count, entry_count}
 use Rattle.base.specs.formats.Fields.{pointer_in, entry_in, no_pointer}
 use Rattle.base.specs.disk.Disk.{Disk, bytes_of}
 use Rattle.base.specs.formats.Blocks.{Frame}
@@ -56,10 +56,10 @@ IsLimitedObject n content = (n < object_count) × (length content ≤ max_length
 -- object n, with these pointers to its indirect block and its records
 pub record IsLoadedObject (keeps : Bool) (image : List ℕ) (frame : Frame) (n : ℕ) (object : Option (List ℕ)) (indirect : Pointer) (records : List Pointer) : Type 0 where
   pub placed : IsPlaced frame.blocks indirect
-  pub records_placed : (r : ℕ) → r < pointer_count → IsPlaced frame.blocks (pointer_of_list records r)
+  pub records_placed : (r : ℕ) → r < record_count → IsPlaced frame.blocks (pointer_of_list records r)
   pub bounded : IfSome object IsObjectContent
   pub stands : IsTrue keeps → IndirectStands image frame n indirect records
-  pub records_stand : IsTrue keeps → (r : ℕ) → r < pointer_count → IfSome object (λ bytes. IsRecord image frame n r (pointer_of_list records r) bytes)
+  pub records_stand : IsTrue keeps → (r : ℕ) → r < record_count → IfSome object (λ bytes. IsRecord image frame n r (pointer_of_list records r) bytes)
 
 -- object n of those that are loaded, with its pointers
 abbrev pub IsLoadedAt : Bool → List ℕ → Frame → FinMap nat_cmp (List ℕ) → List ObjectMap → ℕ → Type 0

@@ -50,7 +50,7 @@ id_cmp a b = nat_cmp a.0 b.0
 abbrev pub map_among : BTreeMap ObjectId ObjectMap → ℕ → Option ObjectMap
 map_among maps n = tree.get id_cmp maps (record { 0 = n })
 
--- the pointer at each place, where these objects have new ones
+-- the pointer at each place, if these objects have new ones
 abbrev pub with_maps : (ℕ → Option ObjectMap) → (Place → Pointer) → Place → Pointer
 with_maps new old Root = old Root
 with_maps new old (Directory d) = old (Directory d)

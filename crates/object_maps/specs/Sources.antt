@@ -16,11 +16,11 @@ use Rattle.base.specs.tree.PlacedTrees.{padded_record}
 abbrev pub AreWithin : FinMap nat_cmp (List ℕ) → Type 0
 AreWithin objects = (n : ℕ) → IfSome (finite.get objects n) (λ bytes. (n < object_count) × (length bytes ≤ max_length))
 
--- the length of object n, None where there is no such object
+-- the length of object n, None if there is no such object
 abbrev pub object_length : FinMap nat_cmp (List ℕ) → ℕ → Option ℕ
 object_length objects n = option_map length (finite.get objects n)
 
--- the bytes of object n, none where there is no such object
+-- the bytes of object n, none if there is no such object
 abbrev pub object_bytes : FinMap nat_cmp (List ℕ) → ℕ → List ℕ
 object_bytes objects n = unwrap_or (finite.get objects n) []
 
@@ -32,6 +32,6 @@ object_record objects n r = padded_record r (object_bytes objects n)
 abbrev pub AreBytesFrom : ℕ → List ℕ → List ℕ → Type 0
 AreBytesFrom offset object bytes = (k : ℕ) → k < length bytes → get_or bytes k 0 ≡ get_or object (offset + k) 0
 
--- the bytes of a range of an object that lie below its length, none where there is no such object
+-- the bytes of a range of an object that lie below its length, none if there is no such object
 abbrev pub range_in : FinMap nat_cmp (List ℕ) → ObjectId → Range → List ℕ
 range_in objects id range = steps.bytes_in (object_range id.0 range.low range.high) (object_bytes objects id.0)

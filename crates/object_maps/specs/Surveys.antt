@@ -1,4 +1,4 @@
--- What a tree tells of its objects where their bytes are not kept.
+-- What a tree says of its objects if their bytes are not kept.
 use Rattle.std.specs.Prelude.{ℕ, ◌≡◌, Bool, IsTrue, IfSome, List, length, map}
 use Rattle.std.specs.Ordering.{nat_cmp}
 use Rattle.std.specs.FinMap as finite

@@ -11,14 +11,18 @@ use std::alloc::{AllocError, Global};
 /// taken for it before.
 #[derive(Debug, Drop, PartialEq, Eq)]
 pub struct Slot {
+    /// Whether the object is there.
     pub present: bool,
+    /// Its bytes, as many as its length.
     pub bytes: Vec<u8>,
 }
 
 /// The name of a pool, and a slot for each object number.
 #[derive(Debug, Drop, PartialEq, Eq)]
 pub struct Contents {
+    /// The name of the pool.
     pub name: PoolName,
+    /// The slot of each object, by the object's number.
     pub slots: Vec<Slot>,
     ghost all_objects: { vec_len slots ≡ object_count },
 }

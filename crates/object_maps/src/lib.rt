@@ -16,5 +16,5 @@ pub use digests::digest;
 pub use judging::judge;
 pub use reading::{read_range, read_range_below};
 pub use source::ObjectSource;
-pub use tree::{ObjectMap, Tree, empty_maps};
+pub use tree::{ObjectMap, RECORD_COUNT, Tree, empty_maps};
 pub use walk::{Loaded, load, survey};

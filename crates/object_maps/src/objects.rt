@@ -38,7 +38,9 @@ pub trait ObjectSink {
 /// Objects with their bytes: a slot and the map for each object number.
 #[derive(Debug, Drop, PartialEq, Eq)]
 pub struct Objects {
+    /// The slot of each object, by the object's number.
     pub slots: Vec<Slot>,
+    /// The map of each object, by the object's number.
     pub maps: Vec<ObjectMap>,
     ghost all_slots: { vec_len slots ≡ object_count },
     ghost all_maps: { vec_len maps ≡ object_count },
@@ -64,6 +66,7 @@ impl ObjectSink for Objects {
 /// Objects without their bytes: the map for each object number.
 #[derive(Debug, Drop, PartialEq, Eq)]
 pub struct Maps {
+    /// The map of each object, by the object's number.
     pub maps: Vec<ObjectMap>,
     ghost all_maps: { vec_len maps ≡ object_count },
 }

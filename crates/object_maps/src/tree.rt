@@ -5,16 +5,21 @@ ghost use Rattle.std.specs.Prelude.{◌≡◌, IfOk, All, vec_len};
 ghost use Rattle.base.specs.formats.Limits.{object_count, pointer_count};
 ghost use Rattle.object_maps.specs.EmptyMaps.{IsEmptyMap};
 
-use base::{OBJECT_COUNT, ObjectId, Pointer};
+use base::{OBJECT_COUNT, ObjectId, POINTER_COUNT, Pointer};
 use std::alloc::{AllocError, Global};
 use std::collections::BTreeMap;
 
-/// What a tree has of one object: its length in bytes, `None` if it has no such object, and the pointers to its
-/// indirect block and to its records, of which none are kept if all are holes.
+/// The records of an object, 4,032 bytes each.
+pub const RECORD_COUNT: usize = POINTER_COUNT;
+
+/// What a tree has of one object: its length, and the pointers to its indirect block and to its records.
 #[derive(Debug, PartialEq, Eq, Drop)]
 pub struct ObjectMap {
+    /// The length of the object in bytes, `None` if the tree has no such object.
     pub length: Option<u64>,
+    /// The pointer to the indirect block. It is `Pointer::NONE` if there is none: then all records are holes.
     pub indirect: Pointer,
+    /// The pointer to each record, by the record's index. It may be empty if all records are holes.
     pub records: Vec<Pointer>,
 }
 
@@ -36,8 +41,11 @@ impl ObjectMap {
 /// The pointers of a tree, by place, and the lengths of its objects.
 #[derive(Debug, PartialEq, Eq, Drop)]
 pub struct Tree {
+    /// The pointer to the root. It is `Pointer::NONE` if there is none: then no object is there.
     pub root: Pointer,
+    /// The pointer to each directory, by the directory's number.
     pub directories: Vec<Pointer>,
+    /// The map of each object, by the object's number.
     pub maps: Vec<ObjectMap>,
     ghost all_directories: { vec_len directories ≡ pointer_count },
     ghost all_objects: { vec_len maps ≡ object_count },

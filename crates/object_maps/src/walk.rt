@@ -5,7 +5,7 @@
 //! is read. So the block that a load is refused for is the first fault of the walk.
 
 ghost use Rattle.std.specs.Prelude.{◌≡◌, ◌≢◌, ℕ, ◌+◌, ◌*◌, ◌<◌, ◌≤◌, ◌↔◌, List, IfOk, IfErr, OnOk, IsTrue, Some, true, drop, get_or, length, replicate, vec_len};
-ghost use Rattle.base.specs.formats.Limits.{object_count, object_stride, entry_count, max_length, payload_size, pointer_count, record_size};
+ghost use Rattle.base.specs.formats.Limits.{object_count, object_stride, entry_count, max_length, payload_size, pointer_count, record_count, record_size};
 ghost use Rattle.base.specs.formats.Fields.{number_at, pointer_at, pointer_in, entry_in, entry_present, entry_length, entry_pointer, no_pointer};
 ghost use Rattle.base.specs.disk.Disk.{bytes_of};
 ghost use Rattle.base.specs.formats.Geometry.{block_address, IsBlockAddress};
@@ -27,7 +27,7 @@ ghost use Rattle.object_maps.specs.Walking.{TellsBlock, TellsFault, Walks, IsDat
 
 use crate::contents::{Slot, empty_slots};
 use crate::objects::{Maps, ObjectSink, Objects};
-use crate::tree::{ObjectMap, Tree, empty_maps};
+use crate::tree::{ObjectMap, RECORD_COUNT, Tree, empty_maps};
 use base::{
     BLOCK_SIZE, ENTRY_COUNT, ENTRY_SIZE, Group, MAX_LENGTH, POINTER_COUNT, POINTER_SIZE, Pointer,
     PoolError, RECORD_SIZE, Version, are_zeros, read_pointer, read_u64, write_bytes,
@@ -39,7 +39,9 @@ use std::alloc::Global;
 /// What a load of a tree gives: a slot for each object number, and the pointers.
 #[derive(Debug, Drop, PartialEq, Eq)]
 pub struct Loaded {
+    /// The slot of each object, by the object's number.
     pub slots: Vec<Slot>,
+    /// The pointers of the tree, and the lengths of its objects.
     pub tree: Tree,
     ghost all_slots: { vec_len slots ≡ object_count },
 }
@@ -183,7 +185,7 @@ fn are_entries(frame: &Frame, payload: &[u8]) -> bool
 
 // Whether a pointer to a record names a block or is all zeros, and from the end of the object on is all zeros.
 fn is_record_pointer(pointer: &Pointer, index: usize, size: usize) -> bool
-    requires { index < pointer_count }
+    requires { index < record_count }
     ensures { IsTrue result ↔ IsRecordPointerForm size (record_size * index) pointer.now }
 {
     has_form(pointer) && (RECORD_SIZE * index < size || pointer.is_none())
@@ -520,7 +522,7 @@ impl Loader<'_> {
         if indirect.is_none() {
             return Ok(Vec::new(self.alloc));
         }
-        let mut records = vec![in self.alloc; Pointer::NONE; POINTER_COUNT]?;
+        let mut records = vec![in self.alloc; Pointer::NONE; RECORD_COUNT]?;
         let mut buffer = new_buffer();
         let place = BlockPlace {
             kind: Kind::Indirect,
@@ -552,13 +554,13 @@ impl Loader<'_> {
         ensures cause { IfErr result IsLoadRefusal }
         ensures loaded { OnImage D.keeps_model (D.disk device.old) (λ image. OnOk result
             (AreLoadedRecords D.keeps_model image self.now.frame.now
-            number records.now bytes.new pointer_count)) }
+            number records.now bytes.new record_count)) }
         ensures walked { OnWalk D.keeps_model (D.disk device.old) (λ image top.
             AreDataOf image top number records.now (length bytes.old)
             → Walks image self.now.frame.now top
             (walk_index_of_indirect number + 1) (walk_index_of_indirect number + object_stride) result) }
     {
-        for index in 0..POINTER_COUNT {
+        for index in 0..RECORD_COUNT {
             let pointer = records[index];
             if pointer.is_none() {
                 continue;
@@ -595,7 +597,7 @@ impl Loader<'_> {
         let mut buffer = new_buffer();
         let place = BlockPlace {
             kind: Kind::Data,
-            number: (POINTER_COUNT * number + index) as u64,
+            number: (RECORD_COUNT * number + index) as u64,
         };
         self.read_block(device, place, pointer, &mut buffer)?;
         let payload = payload_of(&buffer);

@@ -41,7 +41,8 @@ enum Row {
     Unnoted(u64),
 }
 
-// Where sectors lie, if they are on the device.
+/// The byte address of a sector, if so many sectors from it on are on the device. It is refused `BadRange` if they are
+/// not, if the sector is above 2^20, or if the count is above 16.
 pub fn place_of<D: SectorDevice>(device: &D, sector: u64, count: u64) -> Result<u64, PoolError>
     ensures { IfOk result (λ place. IsOnDevice (D.size device.now) place (512 * count)) }
 {

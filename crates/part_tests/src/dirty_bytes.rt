@@ -3,8 +3,8 @@
 use base::{Group, PoolError};
 use throttle::Dirty;
 
-// The answers to two charges of 16,384 bytes, a third, the rest of 40,960 and more than any; whether the third is
-// throttled; and the sums after the third and after the rest.
+// The answers to two charges of 16,384 bytes, a third, the rest of 40,960 and more than any. Then whether the third is
+// throttled, and the sums after the third and after the rest.
 fn charges() -> ([Result<(), PoolError>; 5], bool, [u64; 2]) {
     let mut dirty = Dirty::new(40_960, Group(8));
     let first = dirty.admit(Group(9), 16_384);

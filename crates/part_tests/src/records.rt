@@ -149,7 +149,7 @@ fn records_have_these_bytes(rt: HostRuntime) {
     assert_eq!(rt; encode_three(rt.alloc()), Ok(([true; 3], true)));
 }
 
-/// What is left behind a record, if it is the wanted one.
+/// What is left after a record, if it is the wanted one.
 fn behind<'a>(alloc: Global, bytes: &'a [u8], wanted: &Record) -> Result<&'a [u8], PoolError> {
     match decode_record(alloc, bytes)? {
         Some((found, rest)) if found == *wanted => Ok(rest),
@@ -227,7 +227,7 @@ fn other_bytes_are_no_records(rt: HostRuntime) {
     assert_eq!(rt; are_fronts(rt.alloc()), Ok([false, false]));
 }
 
-/// How many bytes a record has, which are read as that record, with none left behind it.
+/// How many bytes a record has, which are read as that record, with none left after it.
 fn read_back(alloc: Global, record: &Record) -> Result<usize, PoolError> {
     let bytes = encode_record(alloc, record)?;
     let rest = behind(alloc, bytes.as_slice(), record)?.len();
@@ -281,7 +281,7 @@ fn what_is_outside_its_limits_is_not_encoded(rt: HostRuntime) {
     assert_eq!(rt; count_refused(rt.alloc(), &rows), 7);
 }
 
-/// Whether a record is refused where it is appended.
+/// Whether a record is refused when it is appended.
 fn is_refused_into(alloc: Global, out: &mut Vec<u8>, made: Made<'_>) -> Result<bool, AllocError> {
     Ok(encode_into(out, &make(alloc, made)?).is_err())
 }

@@ -1,6 +1,7 @@
 //! Uberblocks: their bytes, as another program makes them, and which one of a ring is active.
 
-ghost use Rattle.std.specs.Prelude.{◌≡◌, ◌*◌, ◌≤◌, ◌<◌, length};
+ghost use Rattle.std.specs.Prelude.{◌≡◌, ◌<◌, length};
+ghost use Rattle.uberblocks.specs.Rings.{ring_size};
 
 use base::{Group, Pointer, Version};
 use sha2::{Digest, Sha256};
@@ -146,7 +147,7 @@ fn bytes_of(content: Content) -> [u8; SLOT_SIZE] {
 
 /// Puts bytes into a slot of a label's array.
 fn store(ring: &mut [u8], label: usize, slot: usize, bytes: &[u8; SLOT_SIZE])
-    requires size { length ring.old ≡ 4 * 131072 }
+    requires size { length ring.old ≡ ring_size }
     requires label { label < 4 }
     requires slot { slot < 128 }
 {
@@ -156,7 +157,7 @@ fn store(ring: &mut [u8], label: usize, slot: usize, bytes: &[u8; SLOT_SIZE])
 
 /// Whether the uberblock of this pool and group is active.
 fn is_active(ring: &[u8], guid: u64, group: u64) -> bool
-    requires { length ring.now ≡ 4 * 131072 }
+    requires { length ring.now ≡ ring_size }
 {
     active(ring) == Some(uberblock(guid, group))
 }
@@ -164,7 +165,7 @@ fn is_active(ring: &[u8], guid: u64, group: u64) -> bool
 /// How many rows hold before the first that does not: a slot of a label is filled, and then this pool and group are
 /// active.
 fn count_active(ring: &mut [u8], rows: &[(usize, usize, Content, (u64, u64))]) -> usize
-    requires { length ring.old ≡ 4 * 131072 }
+    requires { length ring.old ≡ ring_size }
 {
     for index in 0..rows.len() {
         let (label, slot, content, (guid, group)) = rows[index];
@@ -179,10 +180,10 @@ fn count_active(ring: &mut [u8], rows: &[(usize, usize, Content, (u64, u64))]) -
     rows.len()
 }
 
-/// Whether none is active in a ring of zeros, how many rows hold as its slots are filled, and whether none is active
-/// once the last slot that counts is torn.
+/// Whether none is active in a ring of zeros, and how many rows hold as its slots are filled. The last answer is whether
+/// none is active once the last slot that counts is torn.
 fn fill(ring: &mut [u8]) -> (bool, usize, bool)
-    requires { length ring.old ≡ 4 * 131072 }
+    requires { length ring.old ≡ ring_size }
 {
     let is_none = active(ring).is_none();
     let rows = [

@@ -23,11 +23,11 @@
 //!
 //! The full contract of each call stands at `PoolState` of `pool_core`, which adds the device.
 
-ghost use Rattle.std.specs.Prelude.{◌≡◌, ◌+◌, ◌≤◌, ◌^◌, All, IfErr, IfOk, IsTrue, None, false, is_some, length, map, option_map, true, vec_len};
+ghost use Rattle.std.specs.Prelude.{◌≡◌, ◌+◌, ◌≤◌, All, IfErr, IfOk, IsTrue, None, false, is_some, length, map, option_map, true, vec_len};
 ghost use Rattle.std.proofs.Props.{props};
 ghost use Rattle.std.specs.Option.{ForSome, option_map_or};
 ghost use Rattle.base.specs.formats.Geometry.{IsGeometry, block_count};
-ghost use Rattle.base.specs.formats.Limits.{max_length};
+ghost use Rattle.base.specs.formats.Limits.{last_number, max_length, pointer_count};
 ghost use Rattle.base.specs.history.Contents.{length_of};
 ghost use Rattle.base.specs.tree.PlacedTrees.{ArePlaced};
 ghost use Rattle.base.specs.steps.Refusals.{is_lock_in_use};
@@ -88,7 +88,7 @@ struct RunningSync {
     root: Pointer,
     // the addresses of the blocks that come back
     freed: Vec<u64>,
-    ghost all_directories: { vec_len directories ≡ 84 },
+    ghost all_directories: { vec_len directories ≡ pointer_count },
     ghost no_stages: { is_some run.stages ≡ false },
     ghost sized: { IsGeometry run.geometry },
     ghost coded: { length run.uberblock ≡ 1024 },
@@ -123,8 +123,8 @@ pub struct PoolTables {
         (option_map_or (λ r. length r.run.blocks.items) sync 0)
         (total_of dirty)
         free } by { Prim.hlevel props },
-    ghost import_fits: { import_number ≤ 2 ^ 60 },
-    ghost next_ordinal_fits: { next_ordinal ≤ 2 ^ 60 + 1 },
+    ghost import_fits: { import_number ≤ last_number },
+    ghost next_ordinal_fits: { next_ordinal ≤ last_number + 1 },
     ghost accounted: { AreAccounted transactions.transactions groups dirty } by { Prim.hlevel props },
     ghost running: { ForSome sync (λ r. IsRunning geometry
         (uberblock_with guid import_number log_address r.group.0 r.moment r.root)
@@ -339,7 +339,7 @@ impl PoolTables {
         self.object_length(object)
     }
 
-    // The length of an object. Refused BadRange where the number is no object's, NoObject.
+    // The length of an object. Refused BadRange if the number is no object's, NoObject.
     fn object_length(&self, object: ObjectId) -> Result<u64, PoolError>
         ensures { FindsLength object.0 result (pool_shown self.now) }
     {
@@ -349,7 +349,7 @@ impl PoolTables {
         self.shown_length(object).ok_or(PoolError::NoObject)
     }
 
-    // The length of an object, `None` where there is none of this number.
+    // The length of an object, `None` if there is none of this number.
     fn shown_length(&self, object: ObjectId) -> Option<u64>
         ensures { result ≡ length_of (pool_shown self.now).contents object.0 }
     {

@@ -141,7 +141,7 @@ pub record ReadsPool {A : Type 0} (of : PoolCommand → A) (words : Words) (r : 
   pub sync : HasForm words (codes "sync") 1 → r ≡ Ok (of pool.Sync)
   pub step : ReadsStep (λ s. of (pool.Step s)) words r
 
--- what the words of a line that works on the device as it is are read as; a plan to fail is read where its words are
+-- what the words of a line that works on the device as it is are read as; a plan to fail is read if its words are
 -- those of one
 pub record ReadsDeviceLine (words : Words) (r : Result Command LineError) : Type 0 where
   pub fail : HasForm words (codes "fail") 3 → IfOk r (IsFailOf (word words 1) (word words 2))

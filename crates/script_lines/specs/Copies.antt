@@ -1,13 +1,18 @@
 -- The bytes that the words of a commit stand for.
-use Rattle.std.specs.Prelude.{◌≡◌, ◌≢◌, ◌<◌, ◌++◌, ◌∷◌, [], ℕ, List, replicate}
+use Rattle.std.specs.Prelude.{◌≡◌, ◌≢◌, ◌<◌, ◌+◌, ◌++◌, ◌∷◌, [], ℕ, List, replicate}
 use Rattle.std.specs.Borrow.{Bor}
 use Rattle.std.specs.List.{AllZip}
+use Rattle.base.specs.formats.Limits.{max_length}
 use Rattle.script_lines.specs.Numbers.{IsNumberBelow, spelled_number}
+
+-- the most copies that a word stands for, the greatest length of an object
+abbrev pub max_copies : ℕ
+max_copies = max_length
 
 -- `COUNT:C` (58 is the colon) stands for 1 to 338,688 copies of the character C
 abbrev pub AreCopies : List ℕ → List ℕ → Type 0
 AreCopies copies bytes = (count : List ℕ) × (character : ℕ) × (copies ≡ count ++ 58 ∷ character ∷ [])
-    × IsNumberBelow 338689 count × (0 < spelled_number count) × (bytes ≡ replicate (spelled_number count) character)
+    × IsNumberBelow (max_copies + 1) count × (0 < spelled_number count) × (bytes ≡ replicate (spelled_number count) character)
 
 -- copies after `@` (64), else the word's own bytes
 abbrev pub IsContentOf : List ℕ → List ℕ → Type 0

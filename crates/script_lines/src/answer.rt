@@ -10,10 +10,13 @@ use std::fmt;
 /// The answer to a command, one line of text.
 #[derive(Debug, PartialEq, Eq, Drop)]
 pub enum Answer {
-    /// The pool that an import mounted: the group that it synced. The one behind it is open.
+    /// The pool that an import mounted.
     Imported {
+        /// The group that the import synced.
         synced: Group,
+        /// The open group, which is the one after it.
         open: Group,
+        /// How many log records the import replayed.
         records: u64,
     },
     /// What a crash found: the number of writes since the last good flush.
@@ -93,7 +96,7 @@ fn write_refusal<W: fmt::Write>(error: PoolError, f: &mut fmt::Formatter<W>) -> 
     Ok(())
 }
 
-// The number of the bytes, and where there are any, each as two hexadecimal digits.
+// The number of the bytes, and if there are any, each as two hexadecimal digits.
 fn write_bytes<W: fmt::Write>(bytes: &Bytes, f: &mut fmt::Formatter<W>) -> fmt::Result {
     write!(f, "bytes {}", bytes.len())?;
     if bytes.is_empty() {
@@ -134,7 +137,7 @@ fn write_status<W: fmt::Write>(status: &Status, f: &mut fmt::Formatter<W>) -> fm
     write!(f, " free {} available {}", status.free, status.available)
 }
 
-// The group, or `-` where there is none.
+// The group, or `-` if there is none.
 fn write_group<W: fmt::Write>(group: Option<Group>, f: &mut fmt::Formatter<W>) -> fmt::Result {
     match group {
         Some(group) => write!(f, "{}", group.0),

@@ -2,11 +2,11 @@
 //!
 //! A line is cut into words by single spaces. A word has at least one byte.
 
-ghost use Rattle.std.specs.Prelude.{◌≡◌, ◌↔◌, ◌^◌, ◌<◌, ◌≤◌, IsOk, IfOk, IfErr, map, Some, vec_len, length, replicate, slice_index, ◌≢◌, All, IsSome};
+ghost use Rattle.std.specs.Prelude.{◌≡◌, ◌↔◌, ◌^◌, ◌+◌, ◌<◌, ◌≤◌, IsOk, IfOk, IfErr, map, Some, vec_len, length, replicate, slice_index, ◌≢◌, All, IsSome};
 ghost use Rattle.std.specs.Result.{OkIff, result_ok};
 ghost use Rattle.script_lines.specs.Numbers.{IsNumberBelow, spelled_number};
 ghost use Rattle.script_lines.specs.Commands.{IsBeginOf, IsCommitOf, IsCrashOf, IsDeviceForm, IsEndingForm, IsFailOf, IsLineForm, IsPoolForm, IsStepForm, IsTellingForm, ReadsDeviceLine, ReadsEnding, ReadsLine, ReadsPool, ReadsStep, ReadsTelling, ReadsWords};
-ghost use Rattle.script_lines.specs.Copies.{AreContentsOf, AreCopies, IsContentOf};
+ghost use Rattle.script_lines.specs.Copies.{AreContentsOf, AreCopies, IsContentOf, max_copies};
 ghost use Rattle.script_lines.specs.Letters.{call_name, mode_of, piece_of};
 ghost use Rattle.device_model.specs.declared.fault.Fault.{Fault};
 ghost use Rattle.script_lines.specs.Shapes.{AreShapesOf, IsShapeForm, IsShapeOf, ReadsShape};
@@ -85,7 +85,7 @@ impl<T: Drop> From<AllocFailed<T>> for LineError {
 /// Reads a line as a command.
 ///
 /// # Errors
-/// `BadCommand` where it has no command's form, or a number in it is too wide for its type; `NoMemory`.
+/// `BadCommand` if it has no command's form, or a number in it is too wide for its type; `NoMemory`.
 pub fn parse_command(alloc: Global, line: &str) -> Result<Command, LineError>
     ensures { ReadsLine line.now result }
 {
@@ -344,7 +344,7 @@ fn parse_content(alloc: Global, word: &str) -> Result<Bytes, LineError>
 }
 
 fn parse_copies(alloc: Global, copies: &str) -> Result<Bytes, LineError>
-    ensures limits { IfOk result (λ bytes. (0 < length bytes) × (length bytes ≤ 338688)) }
+    ensures limits { IfOk result (λ bytes. (0 < length bytes) × (length bytes ≤ max_copies)) }
     ensures copies { IfOk result (λ bytes. AreCopies copies.now bytes) }
 {
     let Some((count, character)) = copies.split_once(':') else {
@@ -357,10 +357,11 @@ fn parse_copies(alloc: Global, copies: &str) -> Result<Bytes, LineError>
 }
 
 fn make_copies(alloc: Global, count: &str, byte: u8) -> Result<Bytes, LineError>
-    ensures number { IsOk result → IsNumberBelow 338689 count.now × (0 < spelled_number count.now) }
+    ensures number { IsOk result
+        → IsNumberBelow (max_copies + 1) count.now × (0 < spelled_number count.now) }
     ensures copies { IfOk result (λ bytes. bytes ≡ replicate (spelled_number count.now) byte) }
-    ensures limits { IfOk result (λ bytes. (0 < length bytes) × (length bytes ≤ 338688)) }
-    ensures refused { IfErr result (λ e. IsNumberBelow 338689 count.now
+    ensures limits { IfOk result (λ bytes. (0 < length bytes) × (length bytes ≤ max_copies)) }
+    ensures refused { IfErr result (λ e. IsNumberBelow (max_copies + 1) count.now
         → 0 < spelled_number count.now → e ≡ LineError.NoMemory) }
 {
     let count = wide(count)?;

@@ -4,7 +4,7 @@ ghost use Rattle.std.specs.Prelude.{◌^◌};
 ghost use Rattle.std.specs.Option.{SomeIff};
 ghost use Rattle.script_lines.specs.Numbers.{IsNumberBelow, spelled_number};
 
-/// The number that a word spells. `None` where it is not of digits alone, or 2^64 or more.
+/// The number that a word spells. `None` if it is not of digits alone, or 2^64 or more.
 pub fn parse_u64(word: &str) -> Option<u64>
     ensures { SomeIff result (IsNumberBelow (2 ^ 64) word.now) (spelled_number word.now) }
 {
@@ -14,7 +14,7 @@ pub fn parse_u64(word: &str) -> Option<u64>
     word.parse::<u64>().ok()
 }
 
-/// The number that a word spells. `None` where it is not of digits alone, or 2^32 or more.
+/// The number that a word spells. `None` if it is not of digits alone, or 2^32 or more.
 pub fn parse_u32(word: &str) -> Option<u32>
     ensures { SomeIff result (IsNumberBelow (2 ^ 32) word.now) (spelled_number word.now) }
 {

@@ -23,7 +23,7 @@ kept_same (shape.Write n offset count) h =
 kept_same (shape.SetLength n new) h = refl
 kept_same (shape.SetName count) h = refl
 
--- where each element passes a test
+-- if each element passes a test
 pub each_passes : {X : Type 0} (p : X → Bool) (xs : List X) → list_all p xs ≡ true → (k : ℕ) (d : X) → k < length xs → p (get_or xs k d) ≡ true
 each_passes p xs all k d below = go (p (get_or xs k d)) refl
   where
@@ -62,6 +62,6 @@ overlap_same plan other h also =
     any_agree is_shape_allowed (λ x. list_any (λ y. overlaps (kept_range_of x) (kept_range_of y)) other) (λ x. list_any (overlaps (range_of x)) (map range_of other)) (λ x k. touches_same x other k (allowed_shapes other also)) plan (allowed_shapes plan h)
     ∙ sym (list_any-map (λ r. list_any (overlaps r) (map range_of other)) range_of plan)
 
--- where the elements so far pass a test, and one more does
+-- if the elements so far pass a test, and one more does
 pub one_more_passes : {X : Type 0} (p : X → Bool) (xs : List X) (k : ℕ) (d : X) → k < length xs → list_all p (take k xs) ≡ true → p (get_or xs k d) ≡ true → list_all p (take (k + 1) xs) ≡ true
 one_more_passes p xs k d below so_far this = rw (list_all_more p xs k d below, so_far, this) refl

@@ -136,7 +136,7 @@ module _ (tx : ℕ) (old new : Slab OpenTransaction) (key : ℕ) (named : passes
     named = subst (AreNamed next) (sym (admissions-without keys)) (named_without tx next (admissions_at old keys) held.named);
   }
 
--- where none has a name all stay
+-- if none has a name all stay
 none_step : (tx : ℕ) (a : Admission) (ts : List Admission) (b : Bool) → cond b (Some a) (admission_of_name tx ts) ≡ None → (admission_of_name tx ts ≡ None → transactions_without tx ts ≡ ts)
     → cond (not b) (a ∷ transactions_without tx ts) (transactions_without tx ts) ≡ a ∷ ts
 none_step tx a ts true none later = absurd cc

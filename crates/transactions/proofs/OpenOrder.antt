@@ -79,7 +79,7 @@ pub find_at : (tx : ℕ) (slots : Slab OpenTransaction) (keys : List ℕ) → fo
 find_at tx slots [] = refl
 find_at tx slots (key ∷ keys) = find_step tx slots key (get slots key) (admissions_at slots keys) (find (passes_at (is_of_name tx) slots) keys) refl (find_at tx slots keys)
 
--- where each key has a transaction there are as many admissions
+-- if each key has a transaction there are as many admissions
 length_step : (o : Option OpenTransaction) (rest : List Admission) (keys : ℕ) → is_some o ≡ true → length rest ≡ keys → length (before o rest) ≡ keys + 1
 length_step None rest keys some long = absurd cc
 length_step (Some t) rest keys some long = omega (arith, long)

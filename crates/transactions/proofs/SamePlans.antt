@@ -1,4 +1,4 @@
--- Operations have the shapes of a plan, one for one, where the test of the definitions says so.
+-- Operations have the shapes of a plan, one for one, if the test of the definitions says so.
 use Rattle.std.proofs.Common.{ℕ, ◌≡◌, ◌<◌, ◌↔◌, Bool, true, false, List, [], ◌∷◌, length, map, get_or, refl, sym, subst, ◌∙◌, eq-eqb}
 use Rattle.std.specs.Prelude.{IsTrue, ◌==◌}
 use Rattle.std.proofs.lemmas.List.{ext_get_or, get_or-map, length-map}

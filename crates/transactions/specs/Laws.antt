@@ -2,7 +2,7 @@
 use Rattle.std.specs.Prelude.{ℕ, ◌≡◌, ◌++◌, List}
 use Rattle.base.specs.formats.Records.{Record, IsAllowed, IsDecoded, bytes_of_record}
 
--- the bytes of a record are that record, whatever stands behind them
+-- the bytes of a record are that record, whatever stands after them
 abbrev pub RecordsReadBack : Type 0
 RecordsReadBack = (r : Record) (rest : List ℕ) → IsAllowed r → IsDecoded (bytes_of_record r ++ rest) r rest
 

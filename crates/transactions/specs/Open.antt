@@ -68,7 +68,7 @@ with_admission a o = record { transactions = o.transactions ++ a ∷ []; next = 
 abbrev pub is_kept_blocked : List Shape → List Admission → Bool
 is_kept_blocked plan transactions = list_any (λ (a : Admission). kept_ranges_overlap plan a.plan) transactions
 
--- whether, where so many are open and this is the next name, one more is too many
+-- whether one more is too many, if so many are open and this is the next name
 abbrev pub is_too_many : ℕ → ℕ → Bool
 is_too_many count next = nat_le max_transactions count || nat_lt last_number next
 

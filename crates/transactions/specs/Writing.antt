@@ -1,4 +1,4 @@
--- Bytes that are appended where there is room for them.
+-- Bytes that are appended if there is room for them.
 use Rattle.std.specs.Prelude.{◌≡◌, ◌+◌, ◌≤◌, ◌++◌, ℕ, List, length, vec_len, vec_capacity}
 use Rattle.std.specs.Global.{Vec}
 

@@ -27,9 +27,13 @@ use std::marker::Model;
 /// A transaction that was admitted and has not ended.
 #[derive(Debug, PartialEq, Eq, Drop)]
 pub struct OpenTransaction {
+    /// Its name.
     pub tx: TxId,
+    /// The group that it was admitted to.
     pub group: Group,
+    /// The owner of its locks.
     pub owner: Owner,
+    /// The shapes of its operations.
     pub plan: Plan,
 }
 
@@ -87,8 +91,11 @@ impl OpenTransactions {
     ///
     /// # Errors
     ///
-    /// After a refusal all is as before. `Busy` if a range of the plan overlaps one of an open transaction; then
-    /// `TooMany` if 64 are open or the next name is past the last one; then `NoMemory` if there is none for it.
+    /// In this order; after a refusal all is as before:
+    ///
+    /// - `Busy` if a range of the plan overlaps one of an open transaction.
+    /// - `TooMany` if 64 are open or the next name is past the last one.
+    /// - `NoMemory`.
     pub fn admit(&mut self, owner: Owner, group: Group, plan: Plan) -> Result<TxId, PoolError>
         requires { is_plan_allowed plan ≡ true }
         ensures name { IfOk result (λ tx. tx.0 ≡ self.old.next) }

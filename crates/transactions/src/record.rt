@@ -32,8 +32,11 @@ pub struct Record {
 ///
 /// # Errors
 ///
-/// `BadRange` if there is no operation, or one of them, the group or the ordinal is outside its limits; then `TooLarge`
-/// if it would be longer than 4,008 bytes; then `NoMemory` if there is no memory for the bytes.
+/// In this order:
+///
+/// - `BadRange` if there is no operation, or one of them, the group or the ordinal is outside its limits.
+/// - `TooLarge` if it would be longer than 4,008 bytes.
+/// - `NoMemory` if there is no memory for the bytes.
 pub fn encode_record(alloc: Global, committed: &Record) -> Result<Vec<u8>, PoolError>
     ensures bytes { IfOk result
         (λ bytes. bytes.items ≡ bytes_of_record (record_fields committed.now)) }

@@ -42,7 +42,7 @@ any-from r end (x ∷ keys) high = go (cases_lt x end) (any-from r end keys high
         rw (lt-ltb x end l, at-number r x, ne_eqb r x other) rest
     go (inr g) rest = rw (le-ltb x end g) rest
 
--- the first hole, where all records from one on become holes
+-- the first hole, if all records from one on become holes
 abbrev pub hole_from : Option ℕ → ℕ → ℕ
 hole_from first end = option_map_or (λ k. min k end) first end
 
@@ -59,7 +59,7 @@ hole-before (Some k) r end low = go (cases_lt r k)
 abbrev pub state_with : List ℕ → Option ℕ → ℕ → RecordState
 state_with keys first r = if list_any (is_at (nat_cmp r)) keys then Dirty else option_map_or (λ k. if nat_le k r then Hole else Unchanged) first Unchanged
 
--- where all records from one on become holes, those before it stay
+-- if all records from one on become holes, those before it stay
 pub dropped : (keys left : List ℕ) (first : Option ℕ) (end r : ℕ) → left ≡ filter (λ k. nat_lt k end) keys
     → state_with left (Some (hole_from first end)) r ≡ (if nat_lt r end then state_with keys first r else Hole)
 dropped keys left first end r is = rw is (go (cases_lt r end))

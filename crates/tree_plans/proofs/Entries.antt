@@ -92,7 +92,7 @@ pub length-zeros : (n : ℕ) → length (zeros n) ≡ n
 unfolding zeros
 length-zeros n = length-replicate n 0
 
--- the entries up to one more, where that one is written
+-- the entries up to one more, if that one is written
 pub one_entry_more : (P : ℕ → List ℕ → Type 0) (index : ℕ) (old new : List ℕ) → index < 63 → ((k : ℕ) → k < 63 → k ≢ index → entry_in new k ≡ entry_in old k)
     → ((k : ℕ) → k < index → P k (entry_in old k)) → P index (entry_in new index) → (k : ℕ) → k < index + 1 → P k (entry_in new k)
 one_entry_more P index old new low others each here k below = go (cases_lt k index)

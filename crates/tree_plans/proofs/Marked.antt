@@ -36,7 +36,7 @@ state-append : (n r : ℕ) (xs : List Op) (op : Op) (c : Contents) (s : RecordSt
 state-append n r [] op c s = refl
 state-append n r (x ∷ xs) op c s = state-append n r xs op (contents_after x c) (state_after_op n r x c s)
 
--- the state after an operation, by the length of the object where the operation sets it
+-- the state after an operation, by the length of the object if the operation sets it
 state-by_length : (n r : ℕ) (op : Op) (c : Contents) (size : ℕ) (s : RecordState) → (sets_length n op ≡ true → size ≡ object_size c n) → marked_after n r op size s ≡ state_after_op n r op c s
 state-by_length n r (Create m) c size s is = refl
 state-by_length n r (Remove m) c size s is = refl

@@ -178,7 +178,7 @@ any-range p q (x ∷ xs) a same =
     let first : q x ≡ p a = same 0 (omega arith) ∙ ap p (let e : a + 0 ≡ a = omega arith in e) in
     (λ k. first k || any-range p q xs (a + 1) (λ i low. same (suc i) (omega (arith, low)) ∙ ap p (let e : a + suc i ≡ a + 1 + i = omega arith in e)) k)
 
--- an indirect block is written where its object's changes say so
+-- an indirect block is written if its object's changes say so
 pub indirect-told : (s : Progress) (n : ℕ) (bytes : List ℕ) (changes : ObjectChanges) (was : ObjectMap) (records : List Pointer) → length records ≡ 84 → AreRecordsPlanned s n bytes changes was 84 records
     → is_dirty (indirect_state changes.is_changed records) ≡ is_indirect_written_in changes was
 indirect-told s n bytes changes was records long planned =
@@ -241,7 +241,7 @@ rising_absent (e ∷ es) low high n rising below =
     let other : (n == e.0.0) ≡ false = ne_eqb n e.0.0 (λ same. omega arith) in
     rw other (rising_absent es (e.0.0 + 1) high n rising.2 (omega arith))
 
--- what is told of each entry is told of each number, where a number without an entry has nothing
+-- what is told of each entry is told of each number, if a number without an entry has nothing
 pub all_numbers : {X A : Type 0} (F : ℕ → List A) (count low high : ℕ) (es : List (ObjectId × X)) → low + count ≡ high → IsRising low high es → ((n : ℕ) → low ≤ n → entry_of es n ≡ None → F n ≡ [])
     → flat_map (λ (e : ObjectId × X). F e.0.0) es ≡ flat_map F (range_with_len low count)
 all_numbers F zero low high [] sum rising none = refl

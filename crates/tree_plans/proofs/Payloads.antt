@@ -21,7 +21,7 @@ length-pointer_bytes p long =
     let ab = length-append (number_bytes p.birth) p.check in
     omega (arith, length-append (number_bytes p.address) (number_bytes p.birth ++ p.check), a, b, ab, long)
 
--- a pointer stays where something else is written
+-- a pointer stays if something else is written
 pub pointer_at-put_apart : (place : ℕ) (content bytes : List ℕ) (at : ℕ) → place + length content ≤ length bytes → Apart place (length content) at 48
     → pointer_at (put place content bytes) at ≡ pointer_at bytes at
 pointer_at-put_apart place content bytes at fits apart =

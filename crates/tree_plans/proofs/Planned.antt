@@ -195,7 +195,7 @@ module _ (s : Progress) (t : Tree) (after : FinMap nat_cmp (List ℕ)) (objects 
         let state : state_in objects n r ≡ state_at f.changes r = entry-state objects (pointers_before t) after n f.changes f.changes_are r in
         record_planned n r m f below e (state_at f.changes r) state (f.planned.records r below)
 
-    -- no record of an object has a block, where its indirect block is not written
+    -- no record of an object has a block, if its indirect block is not written
     none_below : (n : ℕ) (m : ObjectMap) (f : IsPlannedFrom s t.maps.items after objects n m) → entry_of planned n ≡ Some m → (f.changes.is_changed && list_any has_address m.records.items) ≡ false
         → (r : ℕ) → r < 84 → record_in m r ≡ no_pointer
     none_below n m f e none r low = elim (cases_Bool f.changes.is_changed) as (λ _. record_in m r ≡ no_pointer) [
@@ -340,7 +340,7 @@ module _ (s : Progress) (t : Tree) (after : FinMap nat_cmp (List ℕ)) (objects 
     tree_planned (Indirect n) low = indirect_planned n (entry_of planned n) refl
     tree_planned (Data n r) low = data_planned n r low.0 low.1 (entry_of planned n) refl
 
-  -- the pointers after the plan are to blocks of the area, where those before it are
+  -- the pointers after the plan are to blocks of the area, if those before it are
   become_placed : (place : Place) (state : RecordState) (old now : Pointer) (Fits : List ℕ → Type 0) → HasBecome s place state old now Fits → IsPlaced s.frame.blocks old → IsPlaced s.frame.blocks now
   become_placed place Unchanged old now Fits same was = rw same was
   become_placed place Dirty old now Fits h was = inr h.1.in_area
@@ -468,7 +468,7 @@ module _ (s : Progress) (t : Tree) (after : FinMap nat_cmp (List ℕ)) (objects 
     no_others = λ i address e. let r = replaced address (i, e) in (r.place, r.in_range, differs older r.place r.in_range r.is_of.0 r.is_new, r.is_of.1, r.is_of.0);
   }
 
-  -- the root stays where no operation is on an object, and else is new or none
+  -- the root stays if no operation is on an object, and otherwise is new or none
   pub root_cases : (is_any_touched objects ≡ false → root ≡ t.root) × (is_any_touched objects ≡ true → IsNew root)
   root_cases = (
     (λ e. let same : IsRootPlanned s directories Unchanged t.root root = rw (ap (λ (b : Bool). state_above b (has_objects after)) e) at w.root_planned in same),

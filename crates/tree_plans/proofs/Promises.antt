@@ -115,7 +115,7 @@ module _ (group : GroupChanges) (clean : (n r : ℕ) → is_record_written group
       root : (b : Bool) → b ≡ false → (if b then Root ∷ [] else []) ≡ []
       root b e = rw e refl
 
--- where as many blocks are taken as there are places, and there is no place, no block is taken
+-- if as many blocks are taken as there are places, and there is no place, no block is taken
 pub none_taken : {A B : Type 0} (f : A → ℕ) (g : B → ℕ) (xs : List A) (ys : List B) → map f xs ≡ map g ys → ys ≡ [] → xs ≡ []
 none_taken f g [] ys same none = refl
 none_taken f g (x ∷ xs) [] same none = cc
@@ -151,7 +151,7 @@ module _ (source : PlanSource) (after : FinMap nat_cmp (List ℕ)) (objects : BT
       ] in
       subst (λ (a : ℕ). IsAmong plan.freed.items a) address ((back.freed born).all Root tt is_other named)
 
--- a refusal where the blocks suffice and no read is refused
+-- a refusal if the blocks suffice and no read is refused
 pub only_memory : (MayRefuse : PoolError → Type 0) (e : PoolError) (free places : ℕ) → places ≤ free → (e ≡ NoSpace → free < places) → IsWantOr MayRefuse e → ((x : PoolError) → MayRefuse x → ⊥) → e ≡ NoMemory
 only_memory MayRefuse e free places room full (inl (inl no_space)) never = let less : free < places = full no_space in absurd (omega (arith, less, room))
 only_memory MayRefuse e free places room full (inl (inr no_memory)) never = no_memory

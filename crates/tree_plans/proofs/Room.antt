@@ -82,7 +82,7 @@ where_grows p n (suc more) all sum =
     let up : count_where p n ≤ count_where p (n + more + 1) = omega (arith, h, step) in
     rw next at up
 
--- a number is refused, where those below it are done
+-- a number is refused, if those below it are done
 pub lacks_at : (free : FinSet nat_cmp) (s t : Progress) (p : ℕ → Bool) (f : ℕ → Pointer) (index count : ℕ) (b : Bool) → index < count → b ≡ p index → Goes free s t → Adds s.blocks t.blocks (addresses_where p f index)
     → Lacks free t (count_if b) → Lacks free s (count_where p count)
 lacks_at free s t p f index count b low is goes adds lacks =
@@ -134,7 +134,7 @@ pub object_needs : (g : GroupChanges) (n : ℕ) (changes : ObjectChanges) (was :
     → needed_blocks changes was ≡ object_blocks g n
 object_needs g n changes was records indirect = sym (blocks_are g n ∙ ap (λ (q : ℕ → Bool). count_where q 84 + count_if (is_indirect_written g n)) records ∙ ap (λ (b : Bool). count_where (is_dirty_in changes) 84 + count_if b) indirect)
 
--- an object is refused, where those below it are done
+-- an object is refused, if those below it are done
 module _ (R : ObjectId → ObjectId → Ordering) (less : (a b : ObjectId) → R a b ≡ Less → a.0 < b.0) where
   entries_length : (count : ℕ) (g : GroupChanges) (objects : List (ObjectId × ObjectChanges)) → IsStrictlySortedBy R (keys_of objects) → ((n : ℕ) → is_some (entry_of objects n) ≡ true → n < count)
       → ((n : ℕ) → entry_of objects n ≡ None → places_of_object g n ≡ [])

@@ -152,7 +152,7 @@ walk_frees f0 f1 f2 f3 maps objects after planned was root start one two three a
     nothing : (i : ℕ) → slice_get f0 i ≡ Some address → ⊥
     nothing i e = let at : slice_get [] i ≡ Some address = rw start at e in absurd (cc)
 
--- an element that a slice gives, whatever is told where there is none
+-- an element that a slice gives, whatever is told if there is none
 pub at_any : {A : Type 0} (xs : List A) (i : ℕ) (x d : A) → i < length xs → x ≡ slice_index_or xs i x → x ≡ slice_index_or xs i d
 at_any [] i x d low is = absurd (omega arith)
 at_any (a ∷ xs) zero x d low is = is

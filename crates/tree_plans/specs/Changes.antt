@@ -9,7 +9,7 @@ use Rattle.base.specs.declared.pointer.Pointer.{Pointer}
 use Rattle.base.specs.declared.names.ObjectId.{ObjectId}
 use Rattle.base.specs.declared.record_state.RecordState.{RecordState}
 use Rattle.base.specs.declared.record_state.RecordState.TheVariants.{Unchanged, Dirty, Hole}
-use Rattle.base.specs.formats.Limits.{object_count, max_length, record_size, pointer_count}
+use Rattle.base.specs.formats.Limits.{object_count, max_length, record_size, record_count}
 use Rattle.base.specs.formats.Fields.{no_pointer}
 use Rattle.base.specs.formats.Geometry.{block_count}
 use Rattle.base.specs.formats.Versions.{written_version}
@@ -51,15 +51,15 @@ changes_of_group objects pointers after = record {
 -- what the changes say of the objects before and after: unchanged records and objects that no operation is on are as
 -- before, holes have zeros
 pub record IsCoveredBy (objects : List (ObjectId × ObjectChanges)) (pointers : Place → Pointer) (before after : FinMap nat_cmp (List ℕ)) : Type 0 where
-  pub records : (n r : ℕ) → n < object_count → r < pointer_count → state_in objects n r ≡ Unchanged → SameRecord (pointers (Data n r)) r (finite.get before n) (finite.get after n)
-  pub holes : (n r : ℕ) → n < object_count → r < pointer_count → state_in objects n r ≡ Hole → IsZeroRecord r (finite.get after n)
+  pub records : (n r : ℕ) → n < object_count → r < record_count → state_in objects n r ≡ Unchanged → SameRecord (pointers (Data n r)) r (finite.get before n) (finite.get after n)
+  pub holes : (n r : ℕ) → n < object_count → r < record_count → state_in objects n r ≡ Hole → IsZeroRecord r (finite.get after n)
   pub entries : (n : ℕ) → n < object_count → entry_of objects n ≡ None → SameEntry (finite.get before n) (finite.get after n)
 
 -- each dirty record begins within its object, an object that is absent after or was only created has holes alone, and
 -- no object is too long
 pub record AreChanges (objects : List (ObjectId × ObjectChanges)) (after : FinMap nat_cmp (List ℕ)) : Type 0 where
-  pub within : (n r : ℕ) → n < object_count → r < pointer_count → state_in objects n r ≡ Dirty → IfSome (finite.get after n) (λ bytes. record_size * r < length bytes)
-  pub holes : (n r : ℕ) → n < object_count → r < pointer_count → is_some (entry_of objects n) ≡ true
+  pub within : (n r : ℕ) → n < object_count → r < record_count → state_in objects n r ≡ Dirty → IfSome (finite.get after n) (λ bytes. record_size * r < length bytes)
+  pub holes : (n r : ℕ) → n < object_count → r < record_count → is_some (entry_of objects n) ≡ true
       → (is_changed_in objects n ≡ false) ⊎ (finite.get after n ≡ None) → state_in objects n r ≡ Hole
   pub sizes : (n : ℕ) → IfSome (finite.get after n) (λ bytes. length bytes ≤ max_length)
 
@@ -70,7 +70,7 @@ AreInRange objects = (n : ℕ) → is_some (entry_of objects n) ≡ true → n <
 -- an absent object that no operation is on has no indirect block, and a record's pointer with address 0 is none
 pub record AreTreePointers (objects : List (ObjectId × ObjectChanges)) (pointers : Place → Pointer) (after : FinMap nat_cmp (List ℕ)) : Type 0 where
   pub absent : (n : ℕ) → n < object_count → entry_of objects n ≡ None → finite.get after n ≡ None → pointers (Indirect n) ≡ no_pointer
-  pub named : (n r : ℕ) → n < object_count → r < pointer_count → (pointers (Data n r)).address ≡ 0 → pointers (Data n r) ≡ no_pointer
+  pub named : (n r : ℕ) → n < object_count → r < record_count → (pointers (Data n r)).address ≡ 0 → pointers (Data n r) ≡ no_pointer
 
 -- every block was born before a group
 abbrev pub AreBornBefore : ℕ → (Place → Pointer) → Type 0

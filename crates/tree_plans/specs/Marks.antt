@@ -8,7 +8,7 @@ use Rattle.base.specs.declared.operation.Op.{Op}
 use Rattle.base.specs.declared.operation.Op.TheVariants.{Create, Remove, Write, SetLength, SetName}
 use Rattle.base.specs.declared.record_state.RecordState.{RecordState}
 use Rattle.base.specs.declared.record_state.RecordState.TheVariants.{Unchanged, Dirty, Hole}
-use Rattle.base.specs.formats.Limits.{pointer_count}
+use Rattle.base.specs.formats.Limits.{record_count}
 use Rattle.base.specs.history.Contents.{Contents, length_of}
 use Rattle.base.specs.history.History.{apply_all}
 use Rattle.base.specs.history.Plans.{IsRange, ranges, touched}
@@ -36,7 +36,7 @@ length_with n (Write m offset bytes) old = if m.0 == n then max old (offset + le
 length_with n (SetLength m new) old = if m.0 == n then new else old
 length_with n (SetName bytes) old = old
 
--- the state of record r of object n after an operation, where the object had this length before it
+-- the state of record r of object n after an operation, if the object had this length before it
 abbrev pub marked_after : ℕ → ℕ → Op → ℕ → RecordState → RecordState
 marked_after n r (Create m) old state = if m.0 == n then Hole else state
 marked_after n r (Remove m) old state = if m.0 == n then Hole else state
@@ -48,10 +48,10 @@ marked_after n r (SetName bytes) old state = state
 pub record NotesOp (op : Op) (maps : List ObjectMap) (old new : List (ObjectId × ObjectChanges)) : Type 0 where
   pub there : (n : ℕ) → is_some (entry_of new n) ≡ (is_on n op || is_some (entry_of old n))
   pub changed : (n : ℕ) → is_changed_in new n ≡ (is_change_of n op || is_changed_in old n)
-  pub states : (n r : ℕ) → r < pointer_count → state_in new n r ≡ marked_after n r op (length_so_far maps old n) (state_in old n r)
+  pub states : (n r : ℕ) → r < record_count → state_in new n r ≡ marked_after n r op (length_so_far maps old n) (state_in old n r)
   pub sizes : IsRange (touched op) → (n : ℕ) → length_so_far maps new n ≡ length_with n op (length_so_far maps old n)
 
--- the bytes of an object, and none where it is absent
+-- the length of an object, 0 if it is absent
 abbrev pub object_size : Contents → ℕ → ℕ
 object_size c n = length (unwrap_or (finite.get c.objects n) [])
 
@@ -63,17 +63,18 @@ sets_length n (Write m offset bytes) = false
 sets_length n (SetLength m new) = m.0 == n
 sets_length n (SetName bytes) = false
 
--- where operations set the length of an object, the tree has its length in these contents
+-- if operations set the length of an object, the tree has its length in these contents
 abbrev pub IsLengthTold : List Op → List ObjectMap → Contents → ℕ → Type 0
 IsLengthTold ops maps c n = list_any (sets_length n) ops ≡ true → map_length maps n ≡ length_of c n
 
 -- Entries of exactly the objects that operations are on. From contents on which the operations take place, each record
--- has the state that the definitions give it, where the tree has the length of its object if an operation sets it.
+-- has the state that the definitions give it. If an operation sets the length of its object, the tree has to have the
+-- length before it.
 pub record AreChangesOf (ops : List Op) (maps : List ObjectMap) (objects : List (ObjectId × ObjectChanges)) : Type 0 where
   pub there : (n : ℕ) → is_some (entry_of objects n) ≡ list_any (is_on n) ops
   pub changed : (n : ℕ) → is_changed_in objects n ≡ list_any (is_change_of n) ops
   pub states : (before after : Contents) → apply_all ops before ≡ Ok after → All IsRange (ranges ops)
-      → (n r : ℕ) → r < pointer_count → IsLengthTold ops maps before n → state_in objects n r ≡ record_state n r ops before Unchanged
+      → (n r : ℕ) → r < record_count → IsLengthTold ops maps before n → state_in objects n r ≡ record_state n r ops before Unchanged
 
 -- and the length of each object of which the tree has the one before them is the one after them
 pub record AreToldSoFar (ops : List Op) (maps : List ObjectMap) (objects : List (ObjectId × ObjectChanges)) : Type 0 where

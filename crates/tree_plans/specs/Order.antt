@@ -3,7 +3,7 @@ use Rattle.std.specs.Prelude.{ℕ, ◌≡◌, Bool, List, [], ◌∷◌, ◌++�
 use Rattle.std.specs.List.{flat_map, range_with_len}
 use Rattle.std.specs.Option.{option_map_or}
 use Rattle.base.specs.declared.pointer.Pointer.{Pointer}
-use Rattle.base.specs.formats.Limits.{pointer_count}
+use Rattle.base.specs.formats.Limits.{record_count}
 use Rattle.base.specs.formats.Fields.{no_pointer}
 use Rattle.base.specs.tree.Places.{Place}
 use Rattle.base.specs.tree.PlannedTrees.{NewBlock}
@@ -29,7 +29,7 @@ addresses_where is_marked pointers count = map (λ i. (pointers i).address) (fil
 -- of an object: the addresses of its dirty records, rising, and after them that of its indirect block, if it is
 -- written
 unfoldable pub object_addresses : GroupChanges → ℕ → Option ObjectMap → List ℕ
-object_addresses group n o = addresses_where (is_record_written group n) (λ r. option_map_or (λ (m : ObjectMap). record_in m r) o no_pointer) pointer_count
+object_addresses group n o = addresses_where (is_record_written group n) (λ r. option_map_or (λ (m : ObjectMap). record_in m r) o no_pointer) record_count
     ++ address_if (is_indirect_written group n) (option_map_or (λ (m : ObjectMap). m.indirect) o no_pointer)
 
 -- of the objects below a number, rising

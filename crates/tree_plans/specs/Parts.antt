@@ -10,7 +10,7 @@ use Rattle.base.specs.declared.pointer.Pointer.{Pointer}
 use Rattle.base.specs.declared.names.ObjectId.{ObjectId}
 use Rattle.base.specs.declared.refused.RefusedCalls.{RefusedCalls}
 use Rattle.base.specs.disk.Calls.{counted}
-use Rattle.base.specs.formats.Limits.{object_count, pointer_count}
+use Rattle.base.specs.formats.Limits.{object_count, pointer_count, record_count}
 use Rattle.base.specs.formats.Fields.{no_pointer}
 use Rattle.base.specs.stored.Stored.{AreUsed}
 use Rattle.base.specs.declared.record_state.RecordState.{RecordState}
@@ -59,7 +59,7 @@ maps_before source = source.tree.now.maps.items
 abbrev pub directory_before : PlanSource → ℕ → Pointer
 directory_before source d = slice_index_or source.tree.now.directories.items d no_pointer
 
--- what a group makes of the objects of a source, where these are the objects after it
+-- what a group makes of the objects of a source, if these are the objects after it
 abbrev pub group_in : PlanSource → FinMap nat_cmp (List ℕ) → List (ObjectId × ObjectChanges) → GroupChanges
 group_in source after objects = changes_of_group objects (pointers_before source.tree.now) after
 
@@ -80,7 +80,7 @@ pub record ClearsPlace (replaced : Pointer) (old new : Planner) (pointer : Point
   pub once : FreesOnce old.freed.items new.freed.items (IsOf replaced)
   pub none_taken : new.blocks ≡ old.blocks
 
--- a record of an object: it takes a block where it is dirty, and has none where it is a hole
+-- a record of an object: it takes a block if it is dirty, and has none if it is a hole
 pub record PlansRecord (free : FreeSpace) (place : RecordPlace) (bytes : List ℕ) (was : Pointer) (state : RecordState) (old new : Planner) (pointer : Pointer) : Type 0 where
   pub goes : ExtendsPlan free old new
   pub planned : IsRecordPlanned (progress_of new) place.id.0 place.index bytes state was pointer
@@ -92,11 +92,11 @@ pub record PlansRecord (free : FreeSpace) (place : RecordPlace) (bytes : List �
 -- the records of an object, rising
 pub record PlansRecords (free : FreeSpace) (id : ObjectId) (bytes : List ℕ) (was : ObjectMap) (changes : ObjectChanges) (old new : Planner) (records : List Pointer) : Type 0 where
   pub goes : ExtendsPlan free old new
-  pub planned : AreRecordsPlanned (progress_of new) id.0 bytes changes was pointer_count records
-  pub frees : RecordsFree old.freed.items new.freed.items changes was pointer_count
-  pub once : IsApart was → FreesOnce old.freed.items new.freed.items (IsOfRecord changes was pointer_count)
-  pub uses : PointersUse (blocks_of old) (blocks_of new) records pointer_count
-  pub adds : Adds (blocks_of old) (blocks_of new) (addresses_where (is_dirty_in changes) (pointer_of_list records) pointer_count)
+  pub planned : AreRecordsPlanned (progress_of new) id.0 bytes changes was record_count records
+  pub frees : RecordsFree old.freed.items new.freed.items changes was record_count
+  pub once : IsApart was → FreesOnce old.freed.items new.freed.items (IsOfRecord changes was record_count)
+  pub uses : PointersUse (blocks_of old) (blocks_of new) records record_count
+  pub adds : Adds (blocks_of old) (blocks_of new) (addresses_where (is_dirty_in changes) (pointer_of_list records) record_count)
 
 -- the indirect block over these records
 pub record PlansIndirect (free : FreeSpace) (id : ObjectId) (records : List Pointer) (was : Pointer) (is_changed : Bool) (old new : Planner) (pointer : Pointer) : Type 0 where
@@ -115,9 +115,9 @@ pub record PlansObject (free : FreeSpace) (id : ObjectId) (object : Option (List
   pub once : IsApart was → FreesOnce old.freed.items new.freed.items (IsOfMap changes was)
   pub uses : ObjectUses (blocks_of old) (blocks_of new) map
   pub adds : Adds (blocks_of old) (blocks_of new)
-      (addresses_where (is_dirty_in changes) (record_in map) pointer_count ++ address_if (is_indirect_written_in changes was) map.indirect)
+      (addresses_where (is_dirty_in changes) (record_in map) record_count ++ address_if (is_indirect_written_in changes was) map.indirect)
 
--- one object of a walk goes over to those that are done, where the objects of the walk have these changes for it
+-- one object of a walk goes over to those that are done, if the objects of the walk have these changes for it
 pub record GoesOver (source : PlanSource) (after : FinMap nat_cmp (List ℕ)) (id : ObjectId) (changes : ObjectChanges) (maps : List (ObjectId × ObjectMap)) (old new : Planner) (planned_maps : List (ObjectId × ObjectMap)) : Type 0 where
   pub goes : ExtendsPlan source.free.now old new
   pub planned : (objects done : List (ObjectId × ObjectChanges)) → entry_of objects id.0 ≡ Some changes
@@ -146,7 +146,7 @@ pub record PlansObjects (source : PlanSource) (after : FinMap nat_cmp (List ℕ)
   pub uses : ObjectsUse (blocks_of old) (blocks_of new) maps.entries
   pub adds : AreInRange objects.entries → Adds (blocks_of old) (blocks_of new) (all_addresses (group_in source after objects.entries) (planned_map (maps_before source) maps.entries) object_count)
 
--- a directory: it takes a block where something of it changes and an object of it is there
+-- a directory: it takes a block if something of it changes and an object of it is there
 pub record PlansDirectory (source : PlanSource) (after : FinMap nat_cmp (List ℕ)) (maps : BTreeMap ObjectId ObjectMap) (index : ℕ) (touched : Bool) (old new : Planner) (pointer : Pointer) : Type 0 where
   pub goes : ExtendsPlan source.free.now old new
   pub planned : IsDirectoryPlanned (progress_of new) (maps_before source) maps.entries after index
@@ -166,7 +166,7 @@ pub record PlansDirectories (source : PlanSource) (after : FinMap nat_cmp (List 
   pub uses : PointersUse (blocks_of old) (blocks_of new) directories pointer_count
   pub adds : Adds (blocks_of old) (blocks_of new) (addresses_where (is_directory_dirty objects.entries after) (pointer_of_list directories) pointer_count)
 
--- the root: it takes a block where an operation is on an object and some object is there
+-- the root: it takes a block if an operation is on an object and some object is there
 pub record PlansRoot (source : PlanSource) (after : FinMap nat_cmp (List ℕ)) (objects : BTreeMap ObjectId ObjectChanges) (directories : List Pointer) (old new : Planner) (root : Pointer) : Type 0 where
   pub goes : ExtendsPlan source.free.now old new
   pub planned : IsRootPlanned (progress_of new) directories (root_state objects.entries after) source.tree.now.root root

@@ -8,7 +8,7 @@ use Rattle.base.specs.declared.error.PoolError.TheVariants as error
 use Rattle.base.specs.declared.pointer.Pointer.{Pointer}
 use Rattle.base.specs.declared.record_state.RecordState.{RecordState}
 use Rattle.base.specs.declared.record_state.RecordState.TheVariants.{Unchanged, Dirty, Hole}
-use Rattle.base.specs.formats.Limits.{pointer_count}
+use Rattle.base.specs.formats.Limits.{pointer_count, record_count}
 use Rattle.base.specs.formats.Fields.{no_pointer, pointer_in}
 use Rattle.base.specs.formats.Geometry.{block_address, block_count, IsBlockAddress}
 use Rattle.base.specs.formats.Versions.{written_version}
@@ -106,8 +106,8 @@ AreApart pointers = (p q : Place) (address : ℕ) → IsPlace p → IsPlace q �
 
 -- no two of an object's records have blocks at one address, and none has the address of its indirect block
 pub record IsApart (map : ObjectMap) : Type 0 where
-  pub records : AreApartBelow pointer_count (record_in map)
-  pub indirect : (r address : ℕ) → r < pointer_count → IsOf (record_in map r) address → IsOf map.indirect address → ⊥
+  pub records : AreApartBelow record_count (record_in map)
+  pub indirect : (r address : ℕ) → r < record_count → IsOf (record_in map r) address → IsOf map.indirect address → ⊥
 
 -- a plan is refused for want of blocks or of memory
 abbrev pub IsWant : PoolError → Type 0
@@ -122,7 +122,7 @@ pub record LosesBlock (s : Progress) (old new : Pointer) : Type 0 where
   pub none : new ≡ no_pointer
   pub freed : old ≢ no_pointer → IsAmong s.freed old.address
 
--- what becomes of a place by its state, where the payload of a new block fits
+-- what becomes of a place by its state, if the payload of a new block fits
 abbrev pub HasBecome : Progress → Place → RecordState → Pointer → Pointer → (List ℕ → Type 0) → Type 0
 HasBecome s place Unchanged old new Fits = new ≡ old
 HasBecome s place Dirty old new Fits = (payload : List ℕ) × IsWritten s place old new payload × Fits payload
@@ -161,11 +161,11 @@ pub record IsOfRecord (changes : ObjectChanges) (old : ObjectMap) (count address
 abbrev pub RecordsFree : List ℕ → List ℕ → ObjectChanges → ObjectMap → ℕ → Type 0
 RecordsFree old new changes was count = (address : ℕ) → IsAmong new address → IsAmong old address ⊎ IsOfRecord changes was count address
 
--- the state of a place above the records, where something below it changes, and something is left there
+-- the state of a place above the records, by whether something below it changes, and whether something is left there
 abbrev pub state_above : Bool → Bool → RecordState
 state_above touched left = if touched then (if left then Dirty else Hole) else Unchanged
 
--- that of an object's indirect block: it is written where an operation wrote the object or set its length, and a record
+-- that of an object's indirect block: it is written if an operation wrote the object or set its length, and a record
 -- has a block
 abbrev pub indirect_state : Bool → List Pointer → RecordState
 indirect_state is_changed records = if is_changed && list_any has_address records then Dirty else Hole
@@ -185,13 +185,13 @@ IsIndirectPlanned s n is_changed records old new = HasBecome s (AtIndirect n) (i
 
 -- an object that operations are on: its records, and then its indirect block
 pub record IsObjectPlanned (s : Progress) (n : ℕ) (bytes : List ℕ) (changes : ObjectChanges) (old new : ObjectMap) : Type 0 where
-  pub count : length new.records.items ≡ pointer_count
-  pub records : AreRecordsPlanned s n bytes changes old pointer_count new.records.items
+  pub count : length new.records.items ≡ record_count
+  pub records : AreRecordsPlanned s n bytes changes old record_count new.records.items
   pub indirect : IsIndirectPlanned s n changes.is_changed new.records.items old.indirect new.indirect
 
 -- the address is that of a record of an object that is replaced, or of its indirect block
 abbrev pub IsOfMap : ObjectChanges → ObjectMap → ℕ → Type 0
-IsOfMap changes was address = IsOfRecord changes was pointer_count address ⊎ IsOf was.indirect address
+IsOfMap changes was address = IsOfRecord changes was record_count address ⊎ IsOf was.indirect address
 
 abbrev pub ObjectFrees : List ℕ → List ℕ → ObjectChanges → ObjectMap → Type 0
 ObjectFrees old new changes was = (address : ℕ) → IsAmong new address → IsAmong old address ⊎ IsOfMap changes was address

@@ -25,7 +25,7 @@ IsPut old id x new = (n : ℕ) → entry_of new n ≡ cond (id.0 == n) (Some x) 
 abbrev pub record_in : ObjectMap → ℕ → Pointer
 record_in m r = pointer_of_list m.records.items r
 
--- the pointers of a root, directories, and the pointers that objects have, none where an object has none
+-- the pointers of a root, of directories, and of objects, none if an object has none
 abbrev pub pointers_from : Pointer → List Pointer → (ℕ → Option ObjectMap) → Place → Pointer
 pointers_from root directories map_of Root = root
 pointers_from root directories map_of (Directory d) = pointer_of_list directories d
@@ -36,7 +36,7 @@ pointers_from root directories map_of (Data n r) = option_map_or (λ (m : Object
 abbrev pub pointers_before : Tree → Place → Pointer
 pointers_before tree = pointers_from tree.root tree.directories.items (λ n. slice_get tree.maps.items n)
 
--- what a plan has for an object, and what the tree has where the plan has nothing
+-- what a plan has for an object, and what the tree has if the plan has nothing
 abbrev pub planned_map : List ObjectMap → List (ObjectId × ObjectMap) → ℕ → Option ObjectMap
 planned_map maps planned n = option_map_or (λ (m : ObjectMap). Some m) (entry_of planned n) (slice_get maps n)
 

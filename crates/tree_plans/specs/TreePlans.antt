@@ -28,7 +28,7 @@ use Rattle.tree_plans.specs.Plans.{AreApart, address_of, new_block}
 use Rattle.tree_plans.specs.Pointers.{entry_of, planned_lengths, planned_pointers, pointers_before}
 use Rattle.tree_plans.specs.Walks.{is_any_touched}
 
--- the places of a source that the sync of a group with these changes writes, in the order of a walk, where these are
+-- the places of a source that the sync of a group with these changes writes, in the order of a walk, if these are
 -- the objects after it
 abbrev pub places_written : PlanSource → FinMap nat_cmp (List ℕ) → List (ObjectId × ObjectChanges) → List Place
 places_written source after objects = written_by (group_in source after objects)
@@ -46,9 +46,8 @@ pub record TakesBlocks (source : PlanSource) (after : FinMap nat_cmp (List ℕ))
   pub order : AreInRange objects.entries → map address_of plan.blocks.items ≡ map (λ (place : Place). (planned_pointers source.tree.now plan place).address) (places_written source after objects.entries)
   pub none : objects.entries ≡ [] → plan.blocks.items ≡ []
 
--- The tree after a plan: what becomes of each of its places, whatever objects were there before of which the changes
--- cover all that differs. Each pointer is to a block of the area, where that held before, and each block of the plan is
--- after a pointer.
+-- The tree after a plan: what becomes of each of its places, from any objects before it if the changes cover all that
+-- differs. Each pointer is to a block of the area, if that held before, and each block of the plan has a pointer to it.
 pub record GivesTree (source : PlanSource) (after : FinMap nat_cmp (List ℕ)) (objects : BTreeMap ObjectId ObjectChanges) (plan : TreePlan) : Type 0 where
   pub planned : (before : FinMap nat_cmp (List ℕ)) → IsCoveredBy objects.entries (pointers_before source.tree.now) before after → AreChanges objects.entries after
       → AreTreePointers objects.entries (pointers_before source.tree.now) after
@@ -58,7 +57,7 @@ pub record GivesTree (source : PlanSource) (after : FinMap nat_cmp (List ℕ)) (
   pub kept_root : is_any_touched objects.entries ≡ false → plan.root ≡ source.tree.now.root
   pub new_root : is_any_touched objects.entries ≡ true → (plan.root.birth ≡ source.group.0) ⊎ (plan.root ≡ no_pointer)
 
--- the length of each object after a plan: the one after the group where an operation is on it, and elsewhere the one
+-- the length of each object after a plan: the one after the group if an operation is on it, and otherwise the one
 -- that the tree had
 abbrev pub HasLengths : PlanSource → FinMap nat_cmp (List ℕ) → BTreeMap ObjectId ObjectChanges → TreePlan → Type 0
 HasLengths source after objects plan = (n : ℕ) → n < object_count → planned_lengths source.tree.now plan n
@@ -70,7 +69,7 @@ pub record GivesBack (source : PlanSource) (plan : TreePlan) : Type 0 where
   pub freed : AreBornBefore source.group.0 (pointers_before source.tree.now) → AreFreed (pointers_before source.tree.now) (planned_pointers source.tree.now plan) plan.freed.items
   pub once : AreApart (pointers_before source.tree.now) → IsDistinct nat_eq plan.freed.items
 
--- a plan that wants blocks, where each object that an operation is on has a number below the last one: fewer are free
--- than there are places to write
+-- a plan that is refused for want of blocks, if each object that an operation is on is below the object count: fewer
+-- blocks are free than there are places to write
 pub record TellsFull (source : PlanSource) (after : FinMap nat_cmp (List ℕ)) (objects : List (ObjectId × ObjectChanges)) (e : PoolError) : Type 0 where
   pub fewer : e ≡ error.NoSpace → AreInRange objects → length (free_addresses source) < length (places_written source after objects)

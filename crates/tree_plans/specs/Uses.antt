@@ -2,7 +2,7 @@
 use Rattle.std.specs.Prelude.{ℕ, ◌≡◌, ◌<◌, ◌⊎◌, List, slice_get, slice_index_or, Some, None}
 use Rattle.base.specs.declared.pointer.Pointer.{Pointer}
 use Rattle.base.specs.declared.names.ObjectId.{ObjectId}
-use Rattle.base.specs.formats.Limits.{object_count, pointer_count}
+use Rattle.base.specs.formats.Limits.{object_count, record_count}
 use Rattle.base.specs.formats.Fields.{no_pointer}
 use Rattle.base.specs.tree.PlannedTrees.{NewBlock}
 use Rattle.object_maps.specs.declared.tree.ObjectMap.{ObjectMap}
@@ -28,7 +28,7 @@ PointersUse old new pointers count = (address : ℕ) → IsTaken new address →
 
 -- the address is that of a record of an object, or of its indirect block
 abbrev pub IsInObject : ObjectMap → ℕ → Type 0
-IsInObject m address = IsPointedAt m.records.items pointer_count address ⊎ (m.indirect.address ≡ address)
+IsInObject m address = IsPointedAt m.records.items record_count address ⊎ (m.indirect.address ≡ address)
 
 -- those that are new are of this object alone
 abbrev pub ObjectUses : List NewBlock → List NewBlock → ObjectMap → Type 0

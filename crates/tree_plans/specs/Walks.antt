@@ -8,7 +8,7 @@ use Rattle.std.specs.FinMap as finite
 use Rattle.std.specs.FinMap.{FinMap}
 use Rattle.base.specs.declared.pointer.Pointer.{Pointer}
 use Rattle.base.specs.declared.names.ObjectId.{ObjectId}
-use Rattle.base.specs.formats.Limits.{object_count, pointer_count, entry_count, entry_size}
+use Rattle.base.specs.formats.Limits.{object_count, pointer_count, record_count, entry_count, entry_size}
 use Rattle.base.specs.formats.Fields.{no_pointer, pointer_in, entry_in, entry_present, entry_length, entry_pointer}
 use Rattle.base.specs.declared.record_state.RecordState.{RecordState}
 use Rattle.base.specs.tree.Places.Place.{Root, Directory}
@@ -37,8 +37,7 @@ abbrev pub AreEntriesWritten : List ObjectMap → List (ObjectId × ObjectMap) �
 AreEntriesWritten maps planned after d count payload = (k : ℕ) → k < count
     → IsEntryWritten (entry_in payload k) (indirect_after maps planned (entry_count * d + k)) (finite.get after (entry_count * d + k))
 
--- where an object comes from that is planned: its changes, and the pointers that it had; it has the length that it has
--- after them
+-- what a planned object is made of: its changes, and the pointers that it had. Its length is the one after them.
 pub record IsPlannedFrom (s : Progress) (maps : List ObjectMap) (after : FinMap nat_cmp (List ℕ)) (objects : List (ObjectId × ObjectChanges)) (n : ℕ) (new : ObjectMap) : Type 0 where
   pub low : n < object_count
   pub changes : ObjectChanges
@@ -62,7 +61,7 @@ pub record IsOfObject (maps : List ObjectMap) (objects : List (ObjectId × Objec
   pub changes_are : entry_of objects number ≡ Some changes
   pub old : ObjectMap
   pub old_is : slice_get maps number ≡ Some old
-  pub is_of : IsOfRecord changes old pointer_count address ⊎ IsOf old.indirect address
+  pub is_of : IsOfRecord changes old record_count address ⊎ IsOf old.indirect address
 
 abbrev pub ObjectsFree : List ℕ → List ℕ → List ObjectMap → List (ObjectId × ObjectChanges) → List (ObjectId × ObjectMap) → Type 0
 ObjectsFree old new maps objects planned = (address : ℕ) → IsAmong new address → IsAmong old address ⊎ IsOfObject maps objects planned address

@@ -4,22 +4,29 @@ ghost use Rattle.std.specs.Prelude.{◌≡◌};
 ghost use Rattle.base.specs.tree.Places.{IsPlace, kind_of, number_of_place};
 ghost use Rattle.tree_plans.specs.Plans.{place_of};
 
-use base::{ObjectId, POINTER_COUNT};
+use base::ObjectId;
 use checked_blocks::Kind;
+use object_maps::RECORD_COUNT;
 
 /// A record of an object.
 #[derive(Clone, Copy, Debug, PartialEq, Eq)]
 pub struct RecordPlace {
+    /// The number of the object.
     pub id: ObjectId,
+    /// The index of the record, counted from 0 in records of 4,032 bytes.
     pub index: usize,
 }
 
 /// A place of the tree that a block is planned for.
 #[derive(Clone, Copy, Debug, PartialEq, Eq)]
 pub enum BlockPlace {
+    /// The root of the tree.
     Root,
+    /// The directory of this number.
     Directory(usize),
+    /// The indirect block of this object.
     Indirect(ObjectId),
+    /// The data block of this object's record of this index.
     Data(ObjectId, usize),
 }
 
@@ -45,7 +52,7 @@ impl BlockPlace {
             BlockPlace::Root => 0,
             BlockPlace::Directory(index) => index as u64,
             BlockPlace::Indirect(id) => u64::from(id.0),
-            BlockPlace::Data(id, index) => POINTER_COUNT as u64 * u64::from(id.0) + index as u64,
+            BlockPlace::Data(id, index) => RECORD_COUNT as u64 * u64::from(id.0) + index as u64,
         }
     }
 }

@@ -10,10 +10,10 @@ use crate::changes::ObjectChanges;
 use crate::freed::give_back;
 use crate::payload::{empty_payload, is_indirect_written, payload_of};
 use crate::place::{BlockPlace, RecordPlace};
-use base::{Group, ObjectId, Ops, POINTER_COUNT, Pointer, PoolError, RecordState};
+use base::{Group, ObjectId, Ops, Pointer, PoolError, RecordState};
 use checked_blocks::{Block, seal};
 use labels::Geometry;
-use object_maps::{ObjectMap, ObjectSource};
+use object_maps::{ObjectMap, ObjectSource, RECORD_COUNT};
 use space::FreeSet;
 use std::alloc::Global;
 use std::collections::BTreeMap;
@@ -21,8 +21,11 @@ use std::collections::BTreeMap;
 /// A committed transaction of an unsynced group.
 #[derive(Debug, Drop)]
 pub struct Committed {
+    /// The group that it is a member of.
     pub group: Group,
+    /// Its place in the history since the import, counted from 0.
     pub ordinal: u64,
+    /// Its operations, in order.
     pub ops: Ops,
 }
 
@@ -31,6 +34,7 @@ pub struct Committed {
 pub struct PlannedBlock {
     /// Its index in the block area.
     pub index: usize,
+    /// Its 4,096 bytes, sealed.
     pub block: Block,
 }
 
@@ -41,10 +45,11 @@ pub struct TreePlan {
     pub blocks: Vec<PlannedBlock>,
     /// The new length and pointers of each object that changes, rising.
     pub maps: BTreeMap<ObjectId, ObjectMap>,
-    /// The pointers to all directories, and to the root.
+    /// The new pointer to each directory, by the directory's number.
     pub directories: Vec<Pointer>,
+    /// The new pointer to the root.
     pub root: Pointer,
-    /// The blocks that are replaced, by their addresses.
+    /// The byte addresses of the blocks that are replaced or cleared.
     pub freed: Vec<u64>,
     ghost all_directories: { vec_len directories ≡ pointer_count },
 }
@@ -52,13 +57,19 @@ pub struct TreePlan {
 /// The blocks that a plan has taken so far.
 #[derive(Debug, Drop)]
 pub struct Planner {
+    /// Where the memory of the plan comes from.
     pub alloc: Global,
+    /// The size of the device.
     pub geometry: Geometry,
+    /// The guid of the pool, which is in the head of each block.
     pub guid: u64,
+    /// The group that is synced, in which the blocks are born.
     pub group: Group,
-    /// The first block that may be taken next.
+    /// The index of the first block that may be taken next.
     pub next: usize,
+    /// The blocks that are taken, rising.
     pub blocks: Vec<PlannedBlock>,
+    /// The byte addresses of the blocks that come back.
     pub freed: Vec<u64>,
     ghost placed: { All (λ (b : PlannedBlock). b.index < block_count geometry) blocks.items },
     ghost whole: { All (λ (b : PlannedBlock). length b.block ≡ block_size) blocks.items },
@@ -172,8 +183,8 @@ impl Planner {
             (TellsLack free.now self.old (count_where (is_dirty_in changes.now) record_count)) }
         ensures reads { ReadsObjects O.objects O.may_refuse O.refused result after.old after.new }
     {
-        let mut records = Vec::with_capacity(self.alloc, POINTER_COUNT)?;
-        for index in 0..POINTER_COUNT {
+        let mut records = Vec::with_capacity(self.alloc, RECORD_COUNT)?;
+        for index in 0..RECORD_COUNT {
             let place = RecordPlace { id, index };
             let was = old.record(index);
             let pointer = self.place_record(free, place, after, &was, changes.state(index))?;

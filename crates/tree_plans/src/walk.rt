@@ -96,12 +96,17 @@ fn state_of(touched: bool, left: bool) -> RecordState
 /// What a plan is made of, beside the objects.
 #[derive(Clone, Copy, Debug)]
 pub struct PlanSource<'a> {
+    /// Where the memory of the plan comes from.
     pub alloc: Global,
+    /// The size of the device.
     pub geometry: Geometry,
+    /// The guid of the pool.
     pub guid: u64,
     /// The group that is synced.
     pub group: Group,
+    /// The pointers and lengths before the group.
     pub tree: &'a Tree,
+    /// The blocks that may be taken.
     pub free: &'a FreeSet,
 }
 
@@ -115,7 +120,7 @@ pub struct PlanSource<'a> {
 /// - `taken`: the blocks are whole and the lowest free ones. If each object that an operation is on has a number below
 ///   5,292 they stand in the order of the places that the definitions write, one for each.
 /// - `tree`: what becomes of each place of the tree. The states of the records have to cover all that differs from
-///   before (`IsCoveredBy`), and to fit the objects after (`AreChanges`); the pointers before have to be those of a
+///   before (`IsCoveredBy`), and to fit the objects after (`AreChanges`). The pointers before have to be those of a
 ///   tree (`AreTreePointers`). Each block has a pointer to it, and the root stays if no operation is on an object.
 /// - `lengths`: of each object that an operation is on, the tree has the length that it has after the group, and of any
 ///   other the one that it had.
@@ -124,8 +129,10 @@ pub struct PlanSource<'a> {
 /// - `counted`: a read of the objects that a device refused is reported as such, and nothing else is.
 ///
 /// # Errors
-/// `NoSpace`; if each such object has a number below 5,292, only if fewer blocks are free than there are places to
-/// write (`full`); `NoMemory`; and what a read of the objects may be refused with (`refused`).
+/// - `NoSpace`: if each such object has a number below 5,292, only if fewer blocks are free than there are places to
+///   write (`full`).
+/// - `NoMemory`.
+/// - What a read of the objects may be refused with (`refused`).
 pub fn plan<O: ObjectSource>(
     source: &PlanSource<'_>,
     after: &mut O,

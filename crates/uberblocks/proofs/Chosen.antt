@@ -49,7 +49,7 @@ none_more ring n none here k u below at = split (last_or_below k n below)
     split (inl less) = none k u less at
     split (inr same) = here u (subst (λ (i : ℕ). StandsAfter ring i u) same at)
 
--- the one at the next position is the best where it is above all before it
+-- the one at the next position is the best if it is above all before it
 found_best : (ring : List ℕ) (n : ℕ) (found : Fields) → StandsAfter ring n found
     → ((k : ℕ) (other : Fields) → k < n → StandsAfter ring k other → other.group < found.group) → IsFirstHighest ring (n + 1) found
 found_best ring n found at above =
@@ -65,7 +65,7 @@ found_best ring n found at above =
         split (inl less) = let up = above k other less other_at in omega arith
         split (inr same) = let one = same_group ring n k other found same other_at at in omega arith
 
--- the best stays so where what stands at the next position is not above it
+-- the best stays so if what stands at the next position is not above it
 kept_best : (ring : List ℕ) (n : ℕ) (best : Fields) → IsFirstHighest ring n best
     → ((other : Fields) → StandsAfter ring n other → other.group ≤ best.group) → IsFirstHighest ring (n + 1) best
 kept_best ring n best is here =
@@ -87,7 +87,7 @@ all_below ring n (Some best) u is above k other below at =
     let high = is.highest k other below at in
     omega arith
 
--- the best of the first n is the best of one more where nothing that stands there is above it
+-- the best of the first n is the best of one more if nothing that stands there is above it
 best_stays : (ring : List ℕ) (n : ℕ) (best : Option Uberblock) → IsBestBelow ring n best
     → ((u : Fields) → StandsAfter ring n u → is_above u.group best ≡ false) → IsBestBelow ring (n + 1) best
 best_stays ring n None none here = none_more ring n none (λ u at. true≢false (here u at))

@@ -6,7 +6,7 @@ use Rattle.base.specs.formats.Fields.{part, number_at, number_bytes, pointer_at,
 use Rattle.base.specs.declared.pointer.Pointer.{Pointer}
 use Rattle.base.proofs.formats.FieldsRead.{length-number_bytes, number_bytes-read}
 
--- what is left from a place on begins with a field: the field stands there, and the rest is left behind it
+-- what is left from a place on begins with a field: the field stands there, and the rest is left after it
 pub part_first : (bytes field rest : List ℕ) (at size : ℕ) → drop at bytes ≡ field ++ rest → length field ≡ size → part bytes at size ≡ field
 part_first bytes field rest at size left long = ap (λ (l : List ℕ). take size l) left ∙ take_at field rest size long
 

@@ -22,7 +22,7 @@ part_bytes bytes at size fits small i = split (cases_lt i size)
     split (inl below) = rw (get_or-take size (drop at bytes) i 0 below, get_or-drop at bytes i 0) (small (at + i))
     split (inr past) = rw (get_or_past (part bytes at size) i 0 (omega (arith, length-part at size bytes fits))) (omega arith)
 
--- what is left from a place on is the part there and what is left behind it
+-- what is left from a place on is the part there and what is left after it
 left_split : (bytes : List ℕ) (at size : ℕ) → drop at bytes ≡ part bytes at size ++ drop (at + size) bytes
 left_split bytes at size = sym (take-append-drop size (drop at bytes)) ∙ ap (λ (l : List ℕ). part bytes at size ++ l) (drop-drop size at bytes)
 

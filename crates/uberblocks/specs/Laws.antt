@@ -32,6 +32,6 @@ SlotsDiffer = (group later : ℕ) → group < later → later ≤ group + 127 �
 abbrev pub RingsShowActives : Type 0
 RingsShowActives = (ring image : List ℕ) (u : Fields) → IsRingOf ring image → IsActiveInRing ring u ↔ IsActive image u
 
--- where none stands in the arrays of an image, none stands in the image
+-- if none stands in the arrays of an image, none stands in the image
 abbrev pub RingsShowNone : Type 0
 RingsShowNone = (ring image : List ℕ) → IsRingOf ring image → HasNoneInRing ring ↔ HasNoUberblock image

@@ -1,14 +1,22 @@
 -- The uberblock arrays of four labels, one after the other, and the active uberblock in them.
 use Rattle.std.specs.Prelude.{ℕ, ◌≡◌, ◌≢◌, ◌≤◌, ◌<◌, ◌+◌, ◌-◌, ◌*◌, ◌/◌, ◌%◌, ◌⊎◌, Bool, true, false, List, length, Option, Some, None, nat_lt}
 use Rattle.base.specs.formats.Fields.{part}
-use Rattle.base.specs.formats.Geometry.{slot_place, slot_of}
+use Rattle.base.specs.formats.Geometry.{slot_count, slot_size, slot_place, slot_of}
 use Rattle.base.specs.formats.Uberblocks.{Uberblock as Fields, IsUberblock}
 use Rattle.uberblocks.specs.declared.uberblock.Uberblock.{Uberblock}
 use Rattle.uberblocks.specs.Slots.{fields_of}
 
+-- the bytes of a label's uberblock array
+abbrev pub array_size : ℕ
+array_size = 131072
+
+-- the bytes of a ring: the arrays of labels 0 to 3
+abbrev pub ring_size : ℕ
+ring_size = 524288
+
 -- an uberblock stands in a label's array, in the slot of its group
 abbrev pub StandsInRing : List ℕ → ℕ → Fields → Type 0
-StandsInRing ring label u = IsUberblock (part ring (131072 * label + 1024 * slot_of u.group) 1024) u
+StandsInRing ring label u = IsUberblock (part ring (array_size * label + slot_size * slot_of u.group) slot_size) u
 
 -- of those that stand in a ring, the one of the highest group, and of the lowest label that has that group
 pub record IsActiveInRing (ring : List ℕ) (u : Fields) : Type 0 where
@@ -24,13 +32,17 @@ HasNoneInRing ring = (k : ℕ) (u : Fields) → k < 4 → StandsInRing ring k u 
 
 -- the arrays of a ring are those of an image
 abbrev pub IsRingOf : List ℕ → List ℕ → Type 0
-IsRingOf ring image = (label : ℕ) → label < 4 → part ring (131072 * label) 131072 ≡ part image (slot_place (length image) label 0) 131072
+IsRingOf ring image = (label : ℕ) → label < 4 → part ring (array_size * label) array_size ≡ part image (slot_place (length image) label 0) array_size
 
--- an uberblock stands in the slot at this position of a ring, where 128 slots follow one another in each label
+-- the positions of a ring: the slots of four labels
+abbrev pub position_count : ℕ
+position_count = 512
+
+-- an uberblock stands in the slot at this position of a ring; in each label 128 slots follow one another
 abbrev pub StandsAtPosition : List ℕ → ℕ → Fields → Type 0
-StandsAtPosition ring position u = IsUberblock (part ring (1024 * position) 1024) u × (slot_of u.group ≡ position % 128)
+StandsAtPosition ring position u = IsUberblock (part ring (slot_size * position) slot_size) u × (slot_of u.group ≡ position % slot_count)
 
--- The position that is looked at after so many others: the labels one after another, and of each the last slot first.
+-- the position that is looked at after so many others: the labels one after another, and in each the last slot first
 abbrev pub position_of : ℕ → ℕ
 position_of count = 128 * (count / 128) + (127 - count % 128)
 
@@ -46,7 +58,7 @@ pub record IsFoundAt (ring : List ℕ) (position : ℕ) (best result : Option Ub
   pub stands : StandsAtPosition ring position (fields_of found)
   pub above : is_above found.group.0 best ≡ true
 
--- the best so far, where nothing that stands at a position is above it
+-- the best so far, if nothing that stands at a position is above it
 pub record IsKeptAt (ring : List ℕ) (position : ℕ) (best result : Option Uberblock) : Type 0 where
   pub is : result ≡ best
   pub none : (u : Fields) → StandsAtPosition ring position u → is_above u.group best ≡ false

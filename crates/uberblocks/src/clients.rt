@@ -1,9 +1,9 @@
 //! What callers rest on: one function for each promise of this crate's calls, proved from the contract of the call
 //! alone. So it is refused as soon as that contract says less.
 
-ghost use Rattle.std.specs.Prelude.{◌≡◌, ◌∷◌, ◌≤◌, ◌*◌, [], IfSome, IsNone, IsSome, Some, length, take};
+ghost use Rattle.std.specs.Prelude.{◌≡◌, ◌∷◌, ◌≤◌, [], IfSome, IsNone, IsSome, Some, length, take};
 ghost use Rattle.base.specs.formats.Uberblocks.{IsSealedSlot};
-ghost use Rattle.uberblocks.specs.Rings.{HasNoneInRing, StandsInRing};
+ghost use Rattle.uberblocks.specs.Rings.{HasNoneInRing, StandsInRing, ring_size};
 ghost use Rattle.uberblocks.specs.Slots.{fields_of};
 
 use crate::ring::{active, slot};
@@ -51,7 +51,7 @@ fn group_130_has_slot_2() {
 }
 
 fn one_in_the_last_label_is_found(ring: &[u8], only: &Uberblock) -> Option<Uberblock>
-    requires size { length ring.now ≡ 4 * 131072 }
+    requires size { length ring.now ≡ ring_size }
     requires stands { StandsInRing ring.now 3 (fields_of only.now) }
     ensures { IsSome result }
 {
@@ -59,7 +59,7 @@ fn one_in_the_last_label_is_found(ring: &[u8], only: &Uberblock) -> Option<Uberb
 }
 
 fn a_higher_group_wins(ring: &[u8], higher: &Uberblock) -> Option<Uberblock>
-    requires size { length ring.now ≡ 4 * 131072 }
+    requires size { length ring.now ≡ ring_size }
     requires stands { StandsInRing ring.now 2 (fields_of higher.now) }
     requires group { higher.now.group.0 ≡ 6 }
     ensures { IfSome result (λ u. 6 ≤ u.group.0) }
@@ -69,7 +69,7 @@ fn a_higher_group_wins(ring: &[u8], higher: &Uberblock) -> Option<Uberblock>
 
 // If the group of label 0 is the highest, its uberblock is found and none of another label.
 fn the_lowest_label_wins_ties(ring: &[u8], lowest: &Uberblock) -> Option<Uberblock>
-    requires size { length ring.now ≡ 4 * 131072 }
+    requires size { length ring.now ≡ ring_size }
     requires stands { StandsInRing ring.now 0 (fields_of lowest.now) }
     requires group { lowest.now.group.0 ≡ 6 }
     ensures { IfSome result (λ u. u.group.0 ≡ 6 → StandsInRing ring.now 0 (fields_of u)) }
@@ -78,7 +78,7 @@ fn the_lowest_label_wins_ties(ring: &[u8], lowest: &Uberblock) -> Option<Uberblo
 }
 
 fn one_in_another_slot_is_passed_over(ring: &[u8]) -> Option<Uberblock>
-    requires size { length ring.now ≡ 4 * 131072 }
+    requires size { length ring.now ≡ ring_size }
     requires none { HasNoneInRing ring.now }
     ensures { IsNone result }
 {

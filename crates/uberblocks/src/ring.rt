@@ -23,7 +23,7 @@ ghost use Rattle.std.specs.Prelude.{◌≡◌, ◌+◌, ◌*◌, ◌%◌, ◌≤
 ghost use Rattle.base.specs.formats.Geometry.{slot_of};
 ghost use Rattle.uberblocks.specs.Slots.{fields_of};
 ghost use Rattle.uberblocks.specs.Rings as above;
-ghost use Rattle.uberblocks.specs.Rings.{HasNoneInRing, IsActiveInRing, IsBetterAt, position_of};
+ghost use Rattle.uberblocks.specs.Rings.{HasNoneInRing, IsActiveInRing, IsBetterAt, position_count, position_of, ring_size};
 
 use crate::uberblock::{SLOT_SIZE, Uberblock, read_slot};
 use base::{Group, read_u64};
@@ -46,11 +46,11 @@ pub fn slot(group: Group) -> usize
 
 /// The active uberblock of the arrays of labels 0 to 3, which follow one another, 131,072 bytes each.
 ///
-/// Of the valid uberblocks that lie in the slot of their group it is the one of the highest group, and
-/// if several labels have that group, the lowest label's (On-Disk Specification, chapter 1). None
-/// if no valid one lies in the slot of its group. In a ring that syncs wrote few checks are made.
+/// It is the one of the highest group among the valid uberblocks that lie in the slot of their group. If several labels
+/// have that group, it is the lowest label's (On-Disk Specification, chapter 1). It is `None` if no valid one lies in
+/// the slot of its group. In a ring that syncs wrote few checks are made.
 pub fn active(ring: &[u8]) -> Option<Uberblock>
-    requires { length ring.now ≡ 4 * 131072 }
+    requires { length ring.now ≡ ring_size }
     ensures active { IfSome result (λ u. IsActiveInRing ring.now (fields_of u)) }
     ensures none { IfNone result (HasNoneInRing ring.now) }
 {
@@ -61,15 +61,15 @@ pub fn active(ring: &[u8]) -> Option<Uberblock>
     best
 }
 
-/// The position that is looked at after so many others, where the slots of label 0 have the positions 0 to 127, those
-/// of label 1 128 to 255, and so on.
+/// The position that is looked at after so many others. The slots of label 0 have the positions 0 to 127, those of label
+/// 1 have 128 to 255, and so on.
 ///
 /// In a label groups mostly rise from slot to slot. So the last slot is looked at first: then most of the others are
 /// not above it.
 fn position(count: usize) -> usize
-    requires { count < 512 }
+    requires { count < position_count }
     ensures position { result ≡ position_of count }
-    ensures in_range { result < 512 }
+    ensures in_range { result < position_count }
 {
     SLOT_COUNT * (count / SLOT_COUNT) + (SLOT_COUNT - 1 - count % SLOT_COUNT)
 }
@@ -78,8 +78,8 @@ fn position(count: usize) -> usize
 ///
 /// A slot's check costs more than all its fields, and is made only if these say that it would be better.
 fn better(ring: &[u8], position: usize, best: Option<Uberblock>) -> Option<Uberblock>
-    requires size { length ring.now ≡ 4 * 131072 }
-    requires in_range { position < 512 }
+    requires size { length ring.now ≡ ring_size }
+    requires in_range { position < position_count }
     ensures { IsBetterAt ring.now position best result }
 {
     let place = SLOT_SIZE * position;

@@ -3,6 +3,7 @@
 ghost use Rattle.std.specs.Prelude.{◌≡◌, ◌≤◌, ◌↔◌, IfNone, IfSome, IsTrue, Some, length, take};
 ghost use Rattle.sha2.specs.Sha256.{sha256};
 ghost use Rattle.base.specs.disk.Disk.{put};
+ghost use Rattle.base.specs.formats.Geometry.{slot_size};
 ghost use Rattle.base.specs.formats.Limits.{first_group, last_number};
 ghost use Rattle.base.specs.formats.Fields.{number_at};
 ghost use Rattle.base.specs.formats.Versions.{number_of_version};
@@ -83,7 +84,7 @@ impl Uberblock {
 
     /// Writes magic, version and the fields at the front of a slot.
     fn write_fields(self, bytes: &mut [u8])
-        requires { length bytes.old ≡ 1024 }
+        requires { length bytes.old ≡ slot_size }
         ensures written { bytes.new ≡ put 0 (field_bytes (fields_of self)) bytes.old }
         ensures fit { FieldsFit (fields_of self) }
     {
@@ -100,7 +101,7 @@ impl Uberblock {
 
     /// The fields of a slot of this version, whatever it holds.
     fn read_fields(bytes: &[u8], version: Version) -> Uberblock
-        requires size { length bytes.now ≡ 1024 }
+        requires size { length bytes.now ≡ slot_size }
         requires version { number_of_version version ≡ number_at bytes.now 8 }
         ensures { fields_of result ≡ fields_at bytes.now }
     {
@@ -129,7 +130,7 @@ impl Uberblock {
 
 /// The uberblock that 1,024 bytes hold, as `Uberblock::decode` has it.
 pub(crate) fn read_slot(bytes: &[u8]) -> Option<Uberblock>
-    requires { length bytes.now ≡ 1024 }
+    requires { length bytes.now ≡ slot_size }
     ensures uberblock { IfSome result (λ u. IsUberblock bytes.now (fields_of u)) }
     ensures found { (u : Uberblock) → IsUberblock bytes.now (fields_of u) → result ≡ Some u }
     ensures none { IfNone result (HoldsNoUberblock bytes.now) }
@@ -147,14 +148,14 @@ pub(crate) fn read_slot(bytes: &[u8]) -> Option<Uberblock>
 
 /// A slot of zeros.
 fn empty_slot() -> [u8; SLOT_SIZE]
-    ensures { result ≡ zeros 1024 }
+    ensures { result ≡ zeros slot_size }
 {
     [0; SLOT_SIZE]
 }
 
 /// Whether a slot has the magic.
 fn has_magic(bytes: &[u8]) -> bool
-    requires { length bytes.now ≡ 1024 }
+    requires { length bytes.now ≡ slot_size }
     ensures { IsTrue result ↔ HasMagic bytes.now }
 {
     read_u64(bytes, 0) == MAGIC
@@ -162,7 +163,7 @@ fn has_magic(bytes: &[u8]) -> bool
 
 /// Whether a slot has zeros after its fields.
 fn is_clear(bytes: &[u8]) -> bool
-    requires { length bytes.now ≡ 1024 }
+    requires { length bytes.now ≡ slot_size }
     ensures { IsTrue result ↔ HasZeros bytes.now }
 {
     are_zeros(&bytes[ZEROS_PLACE..CHECK_PLACE])
@@ -170,7 +171,7 @@ fn is_clear(bytes: &[u8]) -> bool
 
 /// Whether the check of a slot agrees.
 fn is_sealed(bytes: &[u8]) -> bool
-    requires { length bytes.now ≡ 1024 }
+    requires { length bytes.now ≡ slot_size }
     ensures { IsTrue result ↔ IsSealedSlot bytes.now }
 {
     let check = check_of(bytes);
@@ -179,7 +180,7 @@ fn is_sealed(bytes: &[u8]) -> bool
 
 /// The check of a slot: the SHA-256 digest (FIPS 180-4) of the bytes before it.
 fn check_of(bytes: &[u8]) -> [u8; 32]
-    requires { length bytes.now ≡ 1024 }
+    requires { length bytes.now ≡ slot_size }
     ensures { result ≡ sha256 (take 992 bytes.now) }
 {
     Sha256::digest(&bytes[..CHECK_PLACE])

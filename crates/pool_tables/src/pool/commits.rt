@@ -1,7 +1,7 @@
 //! The transactions of a pool: they begin, commit and are given up. A call that is refused leaves the pool unchanged.
 
-ghost use Rattle.std.specs.Prelude.{◌≡◌, ◌<◌, ◌+◌, ◌≤◌, ◌^◌, OnOk, nat_lt, option_map, true, vec_capacity, vec_len};
-ghost use Rattle.base.specs.formats.Limits.{max_log_record};
+ghost use Rattle.std.specs.Prelude.{◌≡◌, ◌<◌, ◌+◌, ◌≤◌, OnOk, nat_lt, option_map, true, vec_capacity, vec_len};
+ghost use Rattle.base.specs.formats.Limits.{last_number, max_log_record};
 ghost use Rattle.base.specs.history.Plans.{estimate_of, log_record_size};
 ghost use Rattle.base.specs.steps.Groups.{Admission};
 ghost use Rattle.base.specs.steps.Refusals.{blocks_wanted, transaction_of};
@@ -63,7 +63,7 @@ impl PoolTables {
         charge(plan) > self.dirty.limit()
     }
 
-    // Refused where a begin is, except for want of memory.
+    // Refused as a begin is, except for want of memory.
     fn check_begin(&self, owner: Owner, plan: &[Shape]) -> Result<(), PoolError>
         ensures { ChecksBegin owner plan.now result (pool_shown self.now) }
     {
@@ -119,7 +119,7 @@ impl PoolTables {
         available < blocks || available - blocks < kept_back
     }
 
-    // How many blocks stay available beside those of a plan: 16, or none where it only removes objects and shortens
+    // How many blocks stay available beside those of a plan: 16, or none if it only removes objects and shortens
     // present ones.
     fn kept_back(&self, plan: &[Shape]) -> u64
         ensures { estimate_of plan.now + result
@@ -147,11 +147,11 @@ impl PoolTables {
         Some(&transaction.plan)
     }
 
-    // The group of a transaction that may commit. Refused where a commit is, except for want of memory.
+    // The group of a transaction that may commit. Refused as a commit is, except for want of memory.
     fn check_commit(&self, tx: TxId, ops: &[Op]) -> Result<Group, PoolError>
         ensures refusal { ChecksCommit tx ops.now result (pool_shown self.now) }
         ensures allowed { OnOk result (AreOpsAllowed ops.now) }
-        ensures named { OnOk result (self.now.next_ordinal ≤ 2 ^ 60) }
+        ensures named { OnOk result (self.now.next_ordinal ≤ last_number) }
     {
         self.check_running()?;
         let Some(transaction) = self.transactions.find(tx) else {
@@ -198,7 +198,7 @@ impl PoolTables {
         requires allowed { AreOpsAllowed ops }
         requires place { self.old.groups.line.synced + 1 + place ≡ group.0 }
         requires room { CanApplyAt place self.old.changes ops }
-        requires named { self.old.next_ordinal ≤ 2 ^ 60 }
+        requires named { self.old.next_ordinal ≤ last_number }
         requires more { vec_len self.old.pending < vec_capacity self.old.pending }
         ensures ordinal { result.0 ≡ self.old.next_ordinal }
         ensures kept { KeepsTree self.old self.new }
