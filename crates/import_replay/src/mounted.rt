@@ -1,7 +1,7 @@
 //! What an import mounts.
 
 ghost use Rattle.std.specs.Prelude.{◌≡◌, ◌<◌, ◌≤◌, ◌^◌};
-ghost use Rattle.base.specs.formats.Geometry.{block_count};
+ghost use Rattle.base.specs.formats.Geometry.{IsGeometry, block_count};
 ghost use Rattle.base.specs.tree.PlacedTrees.{ArePlaced};
 ghost use Rattle.object_maps.specs.Pointers.{pointers_of};
 ghost use Rattle.space.specs.FreeSets.{IsIdle};
@@ -35,6 +35,7 @@ pub struct Mounted {
     pub log_address: u64,
     /// How many bytes may be dirty.
     pub dirty_max: u64,
+    ghost sized: { IsGeometry geometry },
     ghost free_sized: { free.blocks ≡ block_count geometry },
     ghost free_idle: { IsIdle free },
     ghost group_fits: { (4 ≤ group.0) × (group.0 < 2 ^ 60) },
