@@ -4,7 +4,7 @@
 ghost use Rattle.std.specs.Prelude.{◌≡◌};
 
 use crate::arguments::{CreateArguments, ScriptArguments, ScriptDevice};
-use crate::fault::{Fault, report_fault};
+use crate::failure::{Failure, report_failure};
 use crate::pool_files::{run_create, run_show};
 use crate::program::run_opened;
 use base::PoolError;
@@ -19,19 +19,19 @@ use std::sync::Wait;
 fn a_refusal_has_status_1<E: Write>(errors: &mut E) -> u8
     ensures { result ≡ 1 }
 {
-    report_fault(Fault::Refused(PoolError::NoMemory), "tank.pool", errors)
+    report_failure(Failure::Refused(PoolError::NoMemory), "tank.pool", errors)
 }
 
 fn a_file_that_cannot_be_used_has_status_3<E: Write>(errors: &mut E) -> u8
     ensures { result ≡ 3 }
 {
-    report_fault(Fault::Unusable, "tank.pool", errors)
+    report_failure(Failure::Unusable, "tank.pool", errors)
 }
 
 fn an_output_that_is_not_written_has_status_3<E: Write>(errors: &mut E) -> u8
     ensures { result ≡ 3 }
 {
-    report_fault(Fault::Unwritten, "tank.pool", errors)
+    report_failure(Failure::Unwritten, "tank.pool", errors)
 }
 
 // A file of less than 6 MiB can hold no pool.

@@ -5,7 +5,7 @@
 
 mod arguments;
 mod clients;
-mod fault;
+mod failure;
 mod pool_files;
 mod program;
 

@@ -7,10 +7,10 @@ ghost use Rattle.std.specs.Prelude.{◌≡◌, ◌≢◌, ◌≤◌, false, Err,
 ghost use Rattle.base.specs.formats.Geometry.{IsGeometry, is_geometry};
 ghost use Rattle.base.specs.formats.Names.{is_name};
 ghost use Rattle.import_replay.specs.CreateRefusals.{CanCreate};
-ghost use Rattle.commands.specs.Faults.{IsNewPoolRefusal, sector_bytes};
+ghost use Rattle.commands.specs.Failures.{IsNewPoolRefusal, sector_bytes};
 
 use crate::arguments::CreateArguments;
-use crate::fault::{Fault, report_fault};
+use crate::failure::{Failure, report_failure};
 use base::{PoolError, PoolName, Reply};
 use device_model::{FileDevice, FileRefusal, HeldFile, SectorDevice};
 use import_replay::{Inspected, create, inspect};
@@ -24,8 +24,8 @@ use std::rt::Files;
 /// Makes a pool in a file, writes its name and its blocks to `out`, and returns the exit status.
 ///
 /// The status is 0 if the pool was made, 1 if the engine refused it, and 3 if the file can't be used or `out` can't be
-/// written. A fault is reported on `errors`. A file can't be used if it isn't a regular file, can't be opened, made or
-/// resized, is open as a pool in this or another process, or exists though only a new one will do.
+/// written. A failure is reported on `errors`. A file can't be used if it isn't a regular file, can't be opened, made
+/// or resized, is open as a pool in this or another process, or exists though only a new one will do.
 pub fn run_create<R: Files, W: Write, E: Write>(
     files: &R,
     arguments: CreateArguments<'_>,
@@ -41,7 +41,7 @@ where
 {
     match create_pool(files, arguments, out) {
         Ok(()) => 0,
-        Err(fault) => report_fault(fault, arguments.file, errors),
+        Err(failure) => report_failure(failure, arguments.file, errors),
     }
 }
 
@@ -49,20 +49,20 @@ fn create_pool<R: Files, W: Write>(
     files: &R,
     arguments: CreateArguments<'_>,
     out: &mut W,
-) -> Result<(), Fault>
+) -> Result<(), Failure>
 where
     R::File: FileExt + HeldFile,
     ensures made { OnOk result
         (CanCreate (sector_bytes arguments.entry.size) arguments.entry.name.now) }
     ensures size { is_geometry (sector_bytes arguments.entry.size) ≡ false
-        → result ≡ Err (Fault.Refused PoolError.BadGeometry) }
+        → result ≡ Err (Failure.Refused PoolError.BadGeometry) }
     ensures name { IsGeometry (sector_bytes arguments.entry.size)
         → is_name arguments.entry.name.now ≡ false
-        → result ≡ Err (Fault.Refused PoolError.BadRange) }
+        → result ≡ Err (Failure.Refused PoolError.BadRange) }
 {
     let pool = NewPool::new(arguments)?;
     let Ok(device) = pool.open(files) else {
-        return Err(Fault::Unusable);
+        return Err(Failure::Unusable);
     };
     pool.make(device)?;
     if writeln!(
@@ -73,7 +73,7 @@ where
     )
     .is_err()
     {
-        return Err(Fault::Unwritten);
+        return Err(Failure::Unwritten);
     }
     Ok(())
 }
@@ -127,13 +127,13 @@ impl<'a> NewPool<'a> {
     }
 
     // Makes the pool on the file's device. A file that didn't get its size can't be used.
-    fn make<D: SectorDevice + Drop>(&self, device: D) -> Result<(), Fault> {
+    fn make<D: SectorDevice + Drop>(&self, device: D) -> Result<(), Failure> {
         if device.sectors() != self.geometry.size() / SECTOR_SIZE {
-            return Err(Fault::Unusable);
+            return Err(Failure::Unusable);
         }
         match create(device, self.name.as_slice(), self.guid, self.moment) {
             Ok(_device) => Ok(()),
-            Err((refusal, _device)) => Err(Fault::Refused(refusal)),
+            Err((refusal, _device)) => Err(Failure::Refused(refusal)),
         }
     }
 }
@@ -142,7 +142,7 @@ impl<'a> NewPool<'a> {
 /// file.
 ///
 /// The status is 0 if it was written, 1 if the engine refused it, and 3 if the file was not opened as a device or
-/// `out` can't be written. A fault is reported on `errors`.
+/// `out` can't be written. A failure is reported on `errors`.
 pub fn run_show<D: SectorDevice + Drop, W: Write, E: Write>(
     alloc: Global,
     file: &str,
@@ -156,7 +156,7 @@ pub fn run_show<D: SectorDevice + Drop, W: Write, E: Write>(
 {
     match show_pool(alloc, opened, out) {
         Ok(()) => 0,
-        Err(fault) => report_fault(fault, file, errors),
+        Err(failure) => report_failure(failure, file, errors),
     }
 }
 
@@ -164,15 +164,15 @@ fn show_pool<D: SectorDevice + Drop, W: Write>(
     alloc: Global,
     opened: Result<D, FileRefusal>,
     out: &mut W,
-) -> Result<(), Fault>
-    ensures unusable { IsErr opened → result ≡ Err Fault.Unusable }
+) -> Result<(), Failure>
+    ensures unusable { IsErr opened → result ≡ Err Failure.Unusable }
 {
     let Ok(mut device) = opened else {
-        return Err(Fault::Unusable);
+        return Err(Failure::Unusable);
     };
     let inspected = inspect(alloc, &mut device)?;
     if write_inspected(&inspected, out).is_err() {
-        return Err(Fault::Unwritten);
+        return Err(Failure::Unwritten);
     }
     Ok(())
 }

@@ -4,7 +4,7 @@
 ghost use Rattle.std.specs.Prelude.{◌≡◌, ◌≢◌, ◌≤◌, IsErr};
 
 use crate::arguments::{Arguments, ScriptArguments, ScriptDevice};
-use crate::fault::{Fault, report_fault};
+use crate::failure::{Failure, report_failure};
 use crate::pool_files::{run_create, run_show};
 use device_model::{FileDevice, HeldFile, SectorFile};
 use scripts::{FileSession, SharedSession, run_script_on};
@@ -74,7 +74,7 @@ where
     ensures no_refusal { result ≢ 1 }
 {
     let Ok(script) = opened else {
-        return report_fault(Fault::Unusable, arguments.script, errors);
+        return report_failure(Failure::Unusable, arguments.script, errors);
     };
     match arguments.device {
         ScriptDevice::Memory(size) => {
@@ -83,7 +83,7 @@ where
         }
         ScriptDevice::File(path) => {
             let Ok(device) = FileDevice::open(rt, path) else {
-                return report_fault(Fault::Unusable, path, errors);
+                return report_failure(Failure::Unusable, path, errors);
             };
             run_on_file(rt.alloc(), device, arguments.moment, script, out)
         }

@@ -125,7 +125,7 @@ group-within group import_number within = ltb-false last_number (group + 5) (or_
 pub import-within : (group import_number : ℕ) → is_past_last group import_number ≡ false → import_number + 1 ≤ last_number
 import-within group import_number within = ltb-false last_number (import_number + 1) (or_parts (nat_lt last_number (group + 5)) (nat_lt last_number (import_number + 1)) within).1
 
-module _ (size : ℕ) (u : Uberblock) (name : List ℕ) (slots : List Slot) (tree : Tree) (dirty_max : ℕ) (m : Mounted) (from : IsMountedFrom u name slots tree dirty_max m) (sized : m.geometry ≡ size)
+module _ (size : ℕ) (u : Uberblock) (name : List ℕ) (slots : List Slot) (tree : Tree) (dirty_max : ℕ) (m : Mounted) (from : IsMountedFrom size u name slots tree dirty_max m)
     (told : HasLengthsOf tree (objects_of slots)) where
   abbrev shown : Shown
   shown = shown_of_import m
@@ -134,7 +134,7 @@ module _ (size : ℕ) (u : Uberblock) (name : List ℕ) (slots : List Slot) (tre
   is_imported = record {
     suspended = refl;
     guid = from.guid;
-    blocks_are = ap block_count sized;
+    blocks_are = ap block_count from.geometry;
     import_number = from.import_number;
     limit = from.limit;
     locks = refl;
@@ -165,7 +165,7 @@ module _ (size : ℕ) (u : Uberblock) (name : List ℕ) (slots : List Slot) (tre
   pub mounted_anew : CanImport size dirty_max → IsName name → ((n : ℕ) → IfSome (finite.get (objects_of slots) n) (IsLimitedObject n)) → IsMountedAnew size dirty_max m
   mounted_anew can named limited =
       let bounded : IsBounded (contents_of m.contents) = is_bounded m.contents slots from.slots_are (subst (λ (n : List ℕ). IsName n) (sym from.name_is) named) limited in
-      record { geometry = sized; limit = from.limit; made = can; explained = is_explained bounded; bounded = bounded; group = m.group_fits }
+      record { geometry = from.geometry; limit = from.limit; made = can; explained = is_explained bounded; bounded = bounded; group = m.group_fits }
 
   module _ (image now : List ℕ) (long : length image ≡ size) (pool : HasPool image u name) (root : tree.root ≡ u.root) (limit : is_dirty_max_allowed dirty_max ≡ true)
       (loaded : HoldsTree image (frame_of_size u size) (pointers_of tree) (objects_of slots)) (same : HasSameBlocks size image now) where
@@ -189,7 +189,7 @@ module _ (size : ℕ) (u : Uberblock) (name : List ℕ) (slots : List Slot) (tre
 
     -- the tree stands in what the import leaves, for the group that it synced
     pub holds_now : HoldsTree now (frame_of_import m) pointers objects
-    holds_now = holds-elsewhere image now (frame_of_size u size) (frame_of_import m) from.guid (ap block_count sized) (omega (arith, from.group)) pointers objects held
+    holds_now = holds-elsewhere image now (frame_of_size u size) (frame_of_import m) from.guid (ap block_count from.geometry) (omega (arith, from.group)) pointers objects held
         (λ place in_range. block_stands (pointers place) (holds-placed image (frame_of_size u size) pointers objects held place in_range))
 
     in_now : (address : ℕ) → address ≢ 0 → IsNamed pointers address → IsInTree now m.tree.root address
@@ -202,7 +202,7 @@ module _ (size : ℕ) (u : Uberblock) (name : List ℕ) (slots : List Slot) (tre
     old_named address is = named-of_tree image (frame_of_size u size) pointers objects held address (subst (λ (p : Pointer). IsInTree image p address) (sym root_is) is)
 
     same_count : block_count m.geometry ≡ block_count (length image)
-    same_count = ap block_count (sized ∙ sym long)
+    same_count = ap block_count (from.geometry ∙ sym long)
 
     first_log_block : IsFirstLogBlock image u [] now m.tree.root m.log_address
     first_log_block = record {

@@ -196,7 +196,7 @@ module _ (old mid : Disk) (flushes : Flushes old (Ok tt) mid) where
         (steady new created guid contents v later (subst (λ (n : ℕ). IsRestedOwn n created guid contents v mid.now) (sym read.long) f.own) after
         (subst (λ (n : ℕ). EachMoment (IsImportMoment n created v later) mid new) (sym read.long) each)))
 
-    module _ (dirty_max moment : ℕ) (m : Mounted) (from : IsMountedFrom u name slots tree dirty_max m) (sized : m.geometry ≡ size)
+    module _ (dirty_max moment : ℕ) (m : Mounted) (from : IsMountedFrom size u name slots tree dirty_max m)
         (ends : EndsFound size u name first (config_of_import m) (uberblock_of_import moment m) mid new) where
       abbrev shown : Shown
       shown = shown_of_import m
@@ -237,7 +237,7 @@ module _ (old mid : Disk) (flushes : Flushes old (Ok tt) mid) where
           let guid_same : m.guid ≡ v.u.guid = from.guid ∙ ap (λ (w : Uberblock). w.guid) (sym f.uberblock) in
           let group_same : m.group.0 ≡ v.u.group + 4 = from.group ∙ ap (λ (w : Uberblock). w.group + 4) (sym f.uberblock) in
           record {
-            disk = subst (λ (n : ℕ). IsPoolDisk n new.now shown (past_of created)) (sym sized) (record {
+            disk = subst (λ (n : ℕ). IsPoolDisk n new.now shown (past_of created)) (sym from.geometry) (record {
               bytes = here.bytes;
               configs = subst (λ (g : ℕ). AreConfigsUpTo size created (handed new.now) g m.group.0 (IsSyncConfig size shown (past_of created))) (sym guid_same)
                   (configs_weaker size created (handed new.now) v.u.guid (v.u.group + 3) m.group.0 (λ group content. (group ≡ v.u.group + 4) × (content ≡ config_content size v.u.guid group v.name))

@@ -20,7 +20,7 @@ use Rattle.import_replay.proofs.ImportedLabels.{active_now}
 module _ (size : ℕ) (old mid new : Disk) (u : Uberblock) (name : List ℕ) (slots : List Slot) (tree : Tree) (dirty_max moment : ℕ) (even_first : Bool)
     (flushed : Flushes old (Ok tt) mid) (long : length (bytes_of old.now) ≡ size) (same_long : length (bytes_of new.now) ≡ size)
     (is_active : IsActive (bytes_of old.now) u) (first : HasFirstStage (bytes_of old.now) u.guid u.group name even_first) (root : tree.root ≡ u.root)
-    (m : Mounted) (from : IsMountedFrom u name slots tree dirty_max m) (sized : m.geometry ≡ size)
+    (m : Mounted) (from : IsMountedFrom size u name slots tree dirty_max m)
     (done : AreLabelsSynced size (config_of_import m) (uberblock_of_import moment m) even_first mid new) where
   import_synced : IsImportSynced old new moment m
   import_synced = record {
@@ -33,7 +33,7 @@ module _ (size : ℕ) (old mid new : Disk) (u : Uberblock) (name : List ℕ) (sl
     even_first = even_first;
     first = subst (λ (n : List ℕ). HasFirstStage (bytes_of old.now) u.guid u.group n even_first) (sym from.name_is) first;
     synced = done.synced
-        ∙ ap (λ n. after_calls n (config_of_import m) (uberblock_of_import moment m) (import_calls 0 even_first) mid) (sym sized)
+        ∙ ap (λ n. after_calls n (config_of_import m) (uberblock_of_import moment m) (import_calls 0 even_first) mid) (sym from.geometry)
         ∙ ap (λ (d : Disk). after_calls m.geometry (config_of_import m) (uberblock_of_import moment m) (import_calls 0 even_first) d) flushed;
   }
 
@@ -46,7 +46,7 @@ module _ (size : ℕ) (old mid new : Disk) (u : Uberblock) (name : List ℕ) (sl
   pub import_written : IsImportWritten old new moment m
   import_written = record {
     synced = import_synced;
-    labelled = subst (λ n. HoldLabels n (config_of_import m) (uberblock_of_import moment m) (bytes_of new.now)) (sym sized) done.labelled;
+    labelled = subst (λ n. HoldLabels n (config_of_import m) (uberblock_of_import moment m) (bytes_of new.now)) (sym from.geometry) done.labelled;
     settled = done.settled;
     active = now_active;
   }
@@ -55,12 +55,12 @@ module _ (size : ℕ) (old mid new : Disk) (u : Uberblock) (name : List ℕ) (sl
 pub ok_written : (old before mid new : Disk) (size : ℕ) (u : Uberblock) (name : List ℕ) (slots : List Slot) (tree : Tree) (dirty_max moment : ℕ) (even_first : Bool) (r : Result Mounted PoolError)
     → before ≡ mid → Flushes old (Ok tt) mid → length (bytes_of old.now) ≡ size → length (bytes_of new.now) ≡ size
     → IsActive (bytes_of old.now) u → HasFirstStage (bytes_of old.now) u.guid u.group name even_first → tree.root ≡ u.root
-    → IfOk r (IsMountedFrom u name slots tree dirty_max) → IfOk r (λ m. m.geometry ≡ size)
+    → IfOk r (IsMountedFrom size u name slots tree dirty_max)
     → IfOk r (λ m. AreLabelsSynced size (config_of_import m) (uberblock_of_import moment m) even_first before new)
     → IfOk r (IsImportWritten old new moment)
-ok_written old before mid new size u name slots tree dirty_max moment even_first (Err e) same flushed long same_long active first root from sized done = tt
-ok_written old before mid new size u name slots tree dirty_max moment even_first (Ok m) same flushed long same_long active first root from sized done =
-    import_written size old mid new u name slots tree dirty_max moment even_first flushed long same_long active first root m from sized
+ok_written old before mid new size u name slots tree dirty_max moment even_first (Err e) same flushed long same_long active first root from done = tt
+ok_written old before mid new size u name slots tree dirty_max moment even_first (Ok m) same flushed long same_long active first root from done =
+    import_written size old mid new u name slots tree dirty_max moment even_first flushed long same_long active first root m from
     (subst (λ (d : Disk). AreLabelsSynced size (config_of_import m) (uberblock_of_import moment m) even_first d new) same done)
 
 -- labels that were synced, by equal fields

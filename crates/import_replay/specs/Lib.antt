@@ -9,6 +9,7 @@ pub mod Found
 pub mod ReadPools
 pub mod FreeBlocks
 pub mod ImportRefusals
+pub mod Devices
 pub mod LabelSyncs
 pub mod ImportViews
 pub mod ImportSyncs

@@ -9,7 +9,7 @@ use Rattle.base.specs.steps.ExactNow.{IsExplainedNow}
 use Rattle.base.specs.crash.Imports.{IsImportOf, is_past_last}
 use Rattle.base.specs.crash.Mount.{IsChainOf}
 use Rattle.base.specs.history.Past.{new_past}
-use Rattle.base.specs.tree.PlacedTrees.{HoldsTree}
+use Rattle.base.specs.tree.PlacedTrees.{ArePlaced, HoldsTree}
 use Rattle.base.specs.tree.Places.{IsInTree}
 use Rattle.base.specs.steps.Shown.{Shown}
 use Rattle.base.specs.stored.Stored.{SameBlocks}
@@ -53,8 +53,16 @@ shown_of_import m = record {
 abbrev pub frame_of_import : Mounted → Frame
 frame_of_import m = record { version = written_version; guid = m.guid; blocks = block_count m.geometry; group = m.group.0 }
 
--- what was mounted is of this active uberblock and name, with these slots and this tree
-pub record IsMountedFrom (u : Uberblock) (name : List ℕ) (slots : List Slot) (tree : Tree) (dirty_max : ℕ) (m : Mounted) : Type 0 where
+-- An import may open this tree for this active uberblock, on a device of so many bytes: the numbers fit, the tree's
+-- blocks lie in the area, and its root is the uberblock's.
+pub record CanOpen (size : ℕ) (u : Uberblock) (tree : Tree) : Type 0 where
+  pub within : is_past_last u.group u.import_number ≡ false
+  pub placed : ArePlaced (block_count size) (pointers_of tree)
+  pub root : tree.root ≡ u.root
+
+-- what was mounted on a device of so many bytes is of this active uberblock and name, with these slots and this tree
+pub record IsMountedFrom (size : ℕ) (u : Uberblock) (name : List ℕ) (slots : List Slot) (tree : Tree) (dirty_max : ℕ) (m : Mounted) : Type 0 where
+  pub geometry : m.geometry ≡ size
   pub guid : m.guid ≡ u.guid
   pub group : m.group.0 ≡ u.group + 4
   pub import_number : m.import_number ≡ u.import_number + 1

@@ -4,7 +4,6 @@ ghost use Rattle.std.specs.Prelude.{◌≡◌, ◌≤◌, IfErr, IfOk, IsTrue, L
 ghost use Rattle.base.specs.disk.Calls.{with_refusal};
 ghost use Rattle.base.specs.crash.Own.{IsOwnWith};
 ghost use Rattle.base.specs.disk.Disk.{Disk, HasEarlierWrites, bytes_of, moments};
-ghost use Rattle.base.specs.formats.Geometry.{IsGeometry};
 ghost use Rattle.labels.specs.Configs.{config_block};
 ghost use Rattle.uberblocks.specs.Slots.{slot_bytes};
 ghost use Rattle.import_replay.specs.Cleared.{AreTailsCleared, IsCleared, zeros};
@@ -12,10 +11,11 @@ ghost use Rattle.import_replay.specs.CreateCalls.{IsPoolCreated, MakesInOrder, c
 ghost use Rattle.import_replay.specs.CreateCalls.{clear_block, clear_tail, each_block, each_label, write_config, write_uberblock};
 ghost use Rattle.import_replay.specs.CreateRefusals.{CanCreate};
 ghost use Rattle.import_replay.specs.Creations.{first_config, first_uberblock};
+ghost use Rattle.import_replay.specs.Devices.{IsSizedFor, WritesAndFlushes};
 ghost use Rattle.import_replay.specs.Labelled.{HoldConfig, IsLabelled};
 ghost use Rattle.import_replay.specs.OwnCreations.{AddsConfig, AddsSlot, AddsZeros, AreConfigsHanded, AreSlotsHanded};
 ghost use Rattle.import_replay.specs.OwnCreations.{IsFirstDisk, first_contents, first_view};
-ghost use Rattle.import_replay.specs.Outside.{WritesAndFlushes, WritesPoolBytes};
+ghost use Rattle.import_replay.specs.Outside.{WritesPoolBytes};
 ghost use Rattle.import_replay.specs.Refused.{IsCreateRefused};
 
 use base::{FIRST_GROUP, Group, Pointer, PoolError, PoolName, WRITTEN_VERSION};
@@ -88,8 +88,7 @@ fn initialize<D: SectorDevice>(
     guid: u64,
     moment: u64,
 ) -> Result<(), PoolError>
-    requires size { D.size device.old ≡ geometry }
-    requires geometry { IsGeometry geometry }
+    requires sized { IsSizedFor D.SectorDevice geometry device.old }
     requires earlier { IsTrue D.keeps_model → HasEarlierWrites (D.disk device.old) }
     ensures calls { WritesAndFlushes D.SectorDevice result device.old device.new }
     ensures outside { IsTrue D.keeps_model → (start : Disk)
@@ -115,8 +114,7 @@ fn initialize<D: SectorDevice>(
 }
 
 fn clear_labels<D: SectorDevice>(device: &mut D, geometry: Geometry) -> Result<(), PoolError>
-    requires size { D.size device.old ≡ geometry }
-    requires geometry { IsGeometry geometry }
+    requires sized { IsSizedFor D.SectorDevice geometry device.old }
     ensures calls { WritesAndFlushes D.SectorDevice result device.old device.new }
     ensures ordered { IsTrue D.keeps_model
         → MakesInOrder (each_label (clear_tail geometry)) result
@@ -143,8 +141,7 @@ fn zero_tail() -> [u8; TAIL_SIZE]
 }
 
 fn clear_blocks<D: SectorDevice>(device: &mut D, geometry: Geometry) -> Result<(), PoolError>
-    requires size { D.size device.old ≡ geometry }
-    requires geometry { IsGeometry geometry }
+    requires sized { IsSizedFor D.SectorDevice geometry device.old }
     ensures calls { WritesAndFlushes D.SectorDevice result device.old device.new }
     ensures ordered { IsTrue D.keeps_model
         → MakesInOrder (each_block geometry clear_block) result
@@ -171,8 +168,7 @@ fn write_configs<D: SectorDevice>(
     name: PoolName,
     guid: u64,
 ) -> Result<(), PoolError>
-    requires size { D.size device.old ≡ geometry }
-    requires geometry { IsGeometry geometry }
+    requires sized { IsSizedFor D.SectorDevice geometry device.old }
     ensures calls { WritesAndFlushes D.SectorDevice result device.old device.new }
     ensures ordered { IsTrue D.keeps_model
         → MakesInOrder (each_label (write_config geometry (first_config name guid geometry)))
@@ -206,8 +202,7 @@ fn write_uberblocks<D: SectorDevice>(
     guid: u64,
     moment: u64,
 ) -> Result<(), PoolError>
-    requires size { D.size device.old ≡ geometry }
-    requires geometry { IsGeometry geometry }
+    requires sized { IsSizedFor D.SectorDevice geometry device.old }
     ensures calls { WritesAndFlushes D.SectorDevice result device.old device.new }
     ensures ordered { IsTrue D.keeps_model
         → MakesInOrder (each_label (write_uberblock geometry (first_uberblock guid moment)))

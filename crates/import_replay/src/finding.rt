@@ -3,7 +3,7 @@
 ghost use Rattle.std.specs.Prelude.{◌≡◌, ◌<◌, ◌≤◌, ◌+◌, ◌*◌, IfErr, IfOk, IsTrue, OnOk, length, vec_len};
 ghost use Rattle.base.specs.disk.Disk.{bytes_of, put};
 ghost use Rattle.base.specs.formats.Fields.{part};
-ghost use Rattle.base.specs.formats.Geometry.{IsGeometry, slot_place};
+ghost use Rattle.base.specs.formats.Geometry.{slot_place};
 ghost use Rattle.base.specs.formats.Labels.{HasNoCandidate};
 ghost use Rattle.base.specs.formats.Names.{IsName};
 ghost use Rattle.base.specs.crash.Mount.{HasPool};
@@ -12,6 +12,7 @@ ghost use Rattle.device_model.specs.Reading.{OnlyReads};
 ghost use Rattle.uberblocks.specs.Rings.{array_size, ring_size};
 ghost use Rattle.uberblocks.specs.Slots.{IsWithinLimits, fields_of};
 ghost use Rattle.labels.specs.Choices.{AreRead, IsRead};
+ghost use Rattle.import_replay.specs.Devices.{IsSizedFor};
 ghost use Rattle.import_replay.specs.ImportRefusals.{IsFindRefusal, IsReason};
 ghost use Rattle.import_replay.specs.Found.{HasChosen, HasChosenFirst, HasFirstStage, HasName, LacksName, LacksUberblock};
 ghost use Rattle.import_replay.specs.LabelSyncs.{is_even};
@@ -41,8 +42,7 @@ pub(crate) fn find_pool<D: SectorDevice>(
     device: &mut D,
     geometry: Geometry,
 ) -> Result<Found, PoolError>
-    requires sized { D.size device.old ≡ geometry }
-    requires geometry { IsGeometry geometry }
+    requires sized { IsSizedFor D.SectorDevice geometry device.old }
     ensures reads { OnlyReads D.SectorDevice result device.old device.new }
     ensures refused { IfErr result IsFindRefusal }
     ensures pool { IsTrue D.keeps_model → IfOk result

@@ -20,20 +20,17 @@
 //! the same tree and name, so the next import mounts the same contents. If the device refuses a call, the calls
 //! before it are made, and the import can be made again.
 
-ghost use Rattle.std.specs.Prelude.{◌≡◌, ◌+◌, ℕ, true, false, IfErr, IfOk, IsTrue, MatchResult};
+ghost use Rattle.std.specs.Prelude.{◌≡◌, ◌+◌, ℕ, IfErr, IfOk, IsTrue, MatchResult};
 ghost use Rattle.base.specs.crash.CrashRule.{KeepsOwn};
 ghost use Rattle.base.specs.crash.Imports as numbers;
-ghost use Rattle.base.specs.crash.Imports.{is_dirty_max_allowed};
-ghost use Rattle.base.specs.disk.Calls.{counted, with_refusal};
+ghost use Rattle.base.specs.disk.Calls.{with_refusal};
 ghost use Rattle.base.specs.disk.Disk.{bytes_of};
-ghost use Rattle.base.specs.formats.Geometry.{IsGeometry, block_count};
-ghost use Rattle.base.specs.tree.PlacedTrees.{ArePlaced};
 ghost use Rattle.uberblocks.specs.Slots.{IsWithinLimits, fields_of};
-ghost use Rattle.object_maps.specs.Pointers.{pointers_of};
+ghost use Rattle.import_replay.specs.Devices.{CanImportOn, IsSizedFor, KeepsDevice};
 ghost use Rattle.import_replay.specs.ImportSyncs.{IsImportWritten, config_of_import, uberblock_of_import};
 ghost use Rattle.import_replay.specs.ImportViews.{EndsFound, KeepsFound};
 ghost use Rattle.import_replay.specs.LabelSyncs.{AreLabelsSynced, is_even};
-ghost use Rattle.import_replay.specs.Mounts.{IsImport, IsMountedAnew, IsMountedFrom};
+ghost use Rattle.import_replay.specs.Mounts.{CanOpen, IsImport, IsMountedAnew, IsMountedFrom};
 ghost use Rattle.import_replay.specs.Refused.{IsImportRefused, IsMountRefused, IsOpenRefused};
 ghost use Rattle.import_replay.specs.RunStarts.{StartsRun};
 
@@ -111,8 +108,7 @@ fn mount<D: SectorDevice>(
     dirty_max: u64,
     moment: u64,
 ) -> Result<Mounted, PoolError>
-    ensures size { D.size device.new ≡ D.size device.old }
-    ensures count { D.refused device.new ≡ counted result (D.refused device.old) }
+    ensures device { KeepsDevice D.SectorDevice result device.old device.new }
     ensures mounted { IfOk result (IsMountedAnew (D.size device.old) dirty_max) }
     ensures refused { IfErr result
         (IsImportRefused D.SectorDevice dirty_max moment device.old device.new) }
@@ -139,11 +135,8 @@ fn mount_pool<D: SectorDevice>(
     dirty_max: u64,
     moment: u64,
 ) -> Result<Mounted, PoolError>
-    requires sized { D.size device.old ≡ geometry }
-    requires geometry { IsGeometry geometry }
-    requires limit { is_dirty_max_allowed dirty_max ≡ true }
-    ensures size { D.size device.new ≡ D.size device.old }
-    ensures count { D.refused device.new ≡ counted result (D.refused device.old) }
+    requires can { CanImportOn D.SectorDevice geometry dirty_max device.old }
+    ensures device { KeepsDevice D.SectorDevice result device.old device.new }
     ensures mounted { IfOk result (IsMountedAnew geometry dirty_max) }
     ensures refused { IfErr result
         (IsMountRefused D.keeps_model moment (D.disk device.old) (D.disk device.new)) }
@@ -181,16 +174,10 @@ fn open_pool<D: SectorDevice>(
     dirty_max: u64,
     moment: u64,
 ) -> Result<Mounted, PoolError>
-    requires sized { D.size device.old ≡ geometry }
-    requires geometry { IsGeometry geometry }
-    requires within { numbers.is_past_last found.uberblock.group.0 found.uberblock.import_number
-        ≡ false }
-    requires placed { ArePlaced (block_count geometry) (pointers_of loaded.tree) }
-    requires root { loaded.tree.root ≡ found.uberblock.root }
-    ensures size { D.size device.new ≡ D.size device.old }
-    ensures count { D.refused device.new ≡ counted result (D.refused device.old) }
-    ensures geometry { IfOk result (λ m. m.geometry ≡ geometry) }
-    ensures mounted { IfOk result (IsMountedFrom (fields_of found.uberblock) found.name
+    requires sized { IsSizedFor D.SectorDevice geometry device.old }
+    requires can { CanOpen geometry (fields_of found.uberblock) loaded.tree }
+    ensures device { KeepsDevice D.SectorDevice result device.old device.new }
+    ensures mounted { IfOk result (IsMountedFrom geometry (fields_of found.uberblock) found.name
         loaded.slots.items loaded.tree dirty_max) }
     ensures refused { IfErr result (IsOpenRefused D.keeps_model geometry
         (fields_of found.uberblock) found.name loaded.tree moment (is_even found.first)

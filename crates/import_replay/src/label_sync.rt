@@ -1,12 +1,10 @@
 //! The sync of an import.
 
 ghost use Rattle.std.specs.Prelude.{◌≡◌, ◌<◌, IfErr, IsTrue, OnOk};
-ghost use Rattle.base.specs.disk.Calls.{counted};
-ghost use Rattle.base.specs.formats.Geometry.{IsGeometry};
 ghost use Rattle.base.specs.disk.SyncOrder.{import_calls};
 ghost use Rattle.sync.specs.Runs.{call_count};
 ghost use Rattle.uberblocks.specs.Slots.{IsWithinLimits, fields_of};
-ghost use Rattle.import_replay.specs.ImportRefusals.{IsSyncRefusal};
+ghost use Rattle.import_replay.specs.Devices.{IsSizedFor, WritesAndFlushes};
 ghost use Rattle.import_replay.specs.ImportViews.{EndsBehind, KeepsViews};
 ghost use Rattle.import_replay.specs.LabelSyncs.{AreLabelsSynced, IsLabelSync, IsStoppedSync, is_even};
 
@@ -26,13 +24,10 @@ pub(crate) fn sync_labels<D: SectorDevice>(
     config: &LabelConfig,
     first: Stage,
 ) -> Result<(), PoolError>
-    requires sized { D.size device.old ≡ geometry }
-    requires geometry { IsGeometry geometry }
+    requires sized { IsSizedFor D.SectorDevice geometry device.old }
     requires limits { IsWithinLimits (fields_of uberblock.now) }
     requires config { config.now.size ≡ geometry }
-    ensures size { D.size device.new ≡ D.size device.old }
-    ensures count { D.refused device.new ≡ counted result (D.refused device.old) }
-    ensures refused { IfErr result IsSyncRefusal }
+    ensures calls { WritesAndFlushes D.SectorDevice result device.old device.new }
     ensures written { IsTrue D.keeps_model
         → OnOk result (AreLabelsSynced geometry config.now (fields_of uberblock.now) (is_even first)
         (D.disk device.old) (D.disk device.new)) }

@@ -3,9 +3,10 @@
 
 ghost use Rattle.std.specs.Prelude.{◌≡◌, IfErr, IfOk, IsTrue};
 ghost use Rattle.base.specs.disk.Disk.{bytes_of};
-ghost use Rattle.base.specs.formats.Geometry.{IsGeometry, block_count};
+ghost use Rattle.base.specs.formats.Geometry.{block_count};
 ghost use Rattle.device_model.specs.Reading.{OnlyReads};
 ghost use Rattle.uberblocks.specs.Slots.{fields_of};
+ghost use Rattle.import_replay.specs.Devices.{IsSizedFor};
 ghost use Rattle.import_replay.specs.Found.{HasFirstStage};
 ghost use Rattle.import_replay.specs.ImportRefusals.{IsReason, IsWalkRefusal};
 ghost use Rattle.import_replay.specs.LabelSyncs.{is_even};
@@ -25,8 +26,7 @@ pub(crate) fn read_pool<D: SectorDevice>(
     device: &mut D,
     geometry: Geometry,
 ) -> Result<(Found, Loaded), PoolError>
-    requires sized { D.size device.old ≡ geometry }
-    requires geometry { IsGeometry geometry }
+    requires sized { IsSizedFor D.SectorDevice geometry device.old }
     ensures reads { OnlyReads D.SectorDevice result device.old device.new }
     ensures refused { IfErr result IsWalkRefusal }
     ensures loaded { IfOk result (λ r. IsLoadedFor (fields_of r.0.uberblock) (block_count geometry)
@@ -53,8 +53,7 @@ pub(crate) fn survey_pool<D: SectorDevice>(
     device: &mut D,
     geometry: Geometry,
 ) -> Result<(Found, Tree), PoolError>
-    requires sized { D.size device.old ≡ geometry }
-    requires geometry { IsGeometry geometry }
+    requires sized { IsSizedFor D.SectorDevice geometry device.old }
     ensures reads { OnlyReads D.SectorDevice result device.old device.new }
     ensures refused { IfErr result IsWalkRefusal }
     ensures surveyed { IfOk result (λ r. IsSurveyedFor D.keeps_model

@@ -4,10 +4,10 @@ use Rattle.base.specs.declared.error.PoolError.{PoolError}
 use Rattle.base.specs.declared.step.Reply as declared_reply
 use Rattle.base.specs.declared.step.Reply.TheVariants as reply
 use Rattle.pool_tables.specs.declared.pool.PoolTables.{PoolTables}
-use Rattle.pool_tables.specs.Told.{Leads, Told, pool_told}
+use Rattle.pool_tables.specs.Told.{Leads, ShownPool, pool_told}
 
 -- with another word for its reply
-pub leads_as : (r given : declared_reply.Reply) (old new : Told) → r ≡ given → Leads r old new → Leads given old new
+pub leads_as : (r given : declared_reply.Reply) (old new : ShownPool) → r ≡ given → Leads r old new → Leads given old new
 leads_as r given old new is leads = subst (λ (q : declared_reply.Reply). Leads q old new) is leads
 
 -- a refused step of a pool that stands

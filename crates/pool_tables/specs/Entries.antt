@@ -1,16 +1,23 @@
 -- What a commit makes of what a pool shows, and what it needs.
-use Rattle.std.specs.Prelude.{ℕ, ◌+◌, ◌<◌, ◌≤◌, ◌++◌, List, [], ◌∷◌}
+use Rattle.std.specs.Prelude.{ℕ, ◌+◌, ◌<◌, ◌≤◌, ◌++◌, List, [], ◌∷◌, vec_capacity, vec_len}
 use Rattle.std.specs.FinMap.{FinMap}
 use Rattle.std.specs.Ordering.{nat_cmp}
 use Rattle.base.specs.declared.operation.Op.{Op}
 use Rattle.base.specs.steps.Groups.{Line}
 use Rattle.base.specs.steps.Shown.{Shown}
 use Rattle.base.specs.steps.Steps.{transactions_without}
+use Rattle.extents.specs.Unsynced.{CanApplyAt}
+use Rattle.pool_tables.specs.declared.pool.PoolTables.{PoolTables}
 
 -- a group after the synced one, up to the open one
 pub record IsUnsynced (l : Line) (group : ℕ) : Type 0 where
   pub above : l.synced < group
   pub open_or_before : group ≤ l.open_group
+
+-- the pool has room for a commit of these operations: among the changes of its group, and for one record more
+pub record HasRoomToEnter (place : ℕ) (ops : List Op) (pool : PoolTables) : Type 0 where
+  pub changes : CanApplyAt place pool.changes ops
+  pub pending : vec_len pool.pending < vec_capacity pool.pending
 
 -- what is shown once a transaction of a group has committed and left these objects
 abbrev pub shown_after_entry : ℕ → ℕ → List Op → FinMap nat_cmp (List ℕ) → Shown → Shown

@@ -11,14 +11,14 @@ use Rattle.base.specs.steps.Steps.{ops_of_group}
 use Rattle.base.specs.stored.Stored.{IsHeld, NewTree}
 use Rattle.base.specs.tree.Places.{Place, has_block}
 use Rattle.base.specs.tree.Syncs.{written_places}
-use Rattle.pool_tables.specs.Told.{Leads, Told, held_with, start_reply, state_with}
+use Rattle.pool_tables.specs.Told.{Leads, ShownPool, held_with, start_reply, state_with}
 use Rattle.pool_tables.specs.KeptTrees.{IsOfNoDevice}
 use Rattle.pool_tables.specs.StepAnswers.{StartsSync}
 use Rattle.pool_tables.specs.Tables.{result_map}
 
 -- The blocks that a started sync of a group takes are those that its tree has at the places that it writes, one for
 -- each, in their order.
-pub record TakesInOrder (group : ℕ) (past : Past) (old new : Told) : Type 0 where
+pub record TakesInOrder (group : ℕ) (past : Past) (old new : ShownPool) : Type 0 where
   pub synced : Contents
   pub replayed : replay (entries_up_to old.shown.line.synced past.entries) past.base ≡ Ok synced
   pub tree : NewTree
@@ -29,25 +29,25 @@ pub record TakesInOrder (group : ℕ) (past : Past) (old new : Told) : Type 0 wh
 
 -- From each past with which the device holds what it should, it is a step of the definitions, over a device that keeps
 -- the disk model.
-abbrev pub StartsHeld : ℕ → Result Group PoolError → (List ℕ → Told) → (List ℕ → Told) → Type 0
+abbrev pub StartsHeld : ℕ → Result Group PoolError → (List ℕ → ShownPool) → (List ℕ → ShownPool) → Type 0
 StartsHeld moment answer old new = (now : List ℕ) (past : Past) → IsHeld (held_with (old now) past)
     → (later : Past) × StartSync (Unit {0}) now moment (result_map (λ group. group.0) answer) (state_with (old now) past) (state_with (new now) later)
 
 -- so it is over the bytes that are told of
-abbrev pub StartsHeldOver : ℕ → Result Group PoolError → Told → Told → Type 0
+abbrev pub StartsHeldOver : ℕ → Result Group PoolError → ShownPool → ShownPool → Type 0
 StartsHeldOver moment answer old new = (past : Past) → IsHeld (held_with old past)
     → (later : Past) × StartSync (Unit {0}) old.now moment (result_map (λ group. group.0) answer) (state_with old past) (state_with new later)
 
 -- it takes blocks in the order of the places that it writes
-abbrev pub StartsInOrder : Result Group PoolError → (List ℕ → Told) → (List ℕ → Told) → Type 0
+abbrev pub StartsInOrder : Result Group PoolError → (List ℕ → ShownPool) → (List ℕ → ShownPool) → Type 0
 StartsInOrder answer old new = (now : List ℕ) (past : Past) → IsHeld (held_with (old now) past) → IfOk answer (λ group. TakesInOrder group.0 past (old now) (new now))
 
 -- it moves no byte, and plans what the running sync makes
-abbrev pub StartLeads : Result Group PoolError → (List ℕ → Told) → (List ℕ → Told) → Type 0
+abbrev pub StartLeads : Result Group PoolError → (List ℕ → ShownPool) → (List ℕ → ShownPool) → Type 0
 StartLeads answer old new = (now : List ℕ) → Leads (start_reply answer) (old now) (new now)
 
 -- the start of a sync, from what is told of a pool before it to what is told after it
-pub record IsSyncStart (moment : ℕ) (answer : Result Group PoolError) (old new : List ℕ → Told) : Type 0 where
+pub record IsSyncStart (moment : ℕ) (answer : Result Group PoolError) (old new : List ℕ → ShownPool) : Type 0 where
   pub step : StartsSync moment answer (old []).shown (new []).shown
   pub held : StartsHeld moment answer old new
   pub order : StartsInOrder answer old new

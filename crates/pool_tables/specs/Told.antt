@@ -25,7 +25,7 @@ use Rattle.pool_tables.specs.Progresses.{plain_progress}
 use Rattle.pool_tables.specs.Shows.{shown_objects, shown_of}
 
 -- what is shown of a pool, the bytes of its device, the pointers of its tree, and what its running sync makes
-pub record Told : Type 0 where
+pub record ShownPool : Type 0 where
   pub shown : Shown
   pub now : List ℕ
   pub pointers : Place → Pointer
@@ -44,18 +44,18 @@ abbrev pub new_tree_of : Tree → RunningSync → NewTree
 new_tree_of tree r = made_by (tree_after r tree) r.run
 
 -- a pool that has these objects, over a device with these bytes
-abbrev pub told_of : FinMap nat_cmp (List ℕ) → PoolTables → List ℕ → Told
+abbrev pub told_of : FinMap nat_cmp (List ℕ) → PoolTables → List ℕ → ShownPool
 told_of objects p now = record { shown = shown_of objects p; now = now; pointers = pointers_of p.tree; running = option_map (new_tree_of p.tree) p.sync }
 
 -- with the objects that it shows
-abbrev pub pool_told : PoolTables → List ℕ → Told
+abbrev pub pool_told : PoolTables → List ℕ → ShownPool
 pool_told p = told_of (shown_objects p) p
 
 -- what is told, with a past
-abbrev pub held_with : Told → Past → Held
+abbrev pub held_with : ShownPool → Past → Held
 held_with t past = record { state = record { shown = t.shown; past = past }; now = t.now; pointers = t.pointers; running = t.running }
 
-abbrev pub state_with : Told → Past → State
+abbrev pub state_with : ShownPool → Past → State
 state_with t past = record { shown = t.shown; past = past }
 
 -- the replies with the answers of a start and of a step of a sync
@@ -71,7 +71,11 @@ SamePlaces f g = (place : Place) → IsPlace place → f place ≡ g place
 
 -- Whatever the past, a step with this reply moves the bytes, the pointers and the running sync as the definitions say.
 -- At the end of a sync the pointers are those of its tree at each place of a tree.
-abbrev pub Leads : declared_reply.Reply → Told → Told → Type 0
+abbrev pub Leads : declared_reply.Reply → ShownPool → ShownPool → Type 0
 Leads (reply.Synced group) old new = (pointers : Place → Pointer) × SamePlaces new.pointers pointers
     × ((past later : Past) → Moves (reply.Synced group) (held_with old past) (held_with (record new { pointers = pointers }) later))
 Leads r old new = (past later : Past) → Moves r (held_with old past) (held_with new later)
+
+-- its name in the crates above
+abbrev pub Told : Type 0
+Told = ShownPool

@@ -119,6 +119,7 @@ pub struct PoolTables {
     log_address: u64,
     tree: Tree,
     sync: Option<RunningSync>,
+    ghost sized: { IsGeometry geometry },
     ghost free_counted: { IsFreeSetOf (block_count geometry)
         (option_map_or (λ r. length r.run.blocks.items) sync 0)
         (total_of dirty)

@@ -13,8 +13,8 @@ use base.Stored.{Gv}
 use Rattle.atomic_table.specs.Table.{State, step, keeps, takes, gives, stepped, rest, Allows, Enters, Splits, Joins, Final, Seen}
 use Rattle.atomic_table.proofs.Lists.{at_set, set_else, set_here, at_longer}
 use Rattle.word_lock.specs.declared.rule.Sight.{Sight}
-use Rattle.word_lock.specs.declared.rule.Stage.{Stage}
-use Rattle.word_lock.specs.declared.rule.Stage.TheVariants.{Away, Met, Holding, Spent}
+use Rattle.word_lock.specs.declared.rule.Standing.{Standing}
+use Rattle.word_lock.specs.declared.rule.Standing.TheVariants.{Away, Met, Holding, Spent}
 use Rattle.word_lock.specs.declared.rule.Turn.{Turn}
 use Rattle.word_lock.specs.Turns.{turn, turns_of, IsTurnLine, IsTurnHistory}
 use Rattle.word_lock.specs.Kept.{Knows, Kept, Mine, away, holding, met, spent, tried, stays, noted, freed, settled, sat, with_split}
@@ -73,7 +73,7 @@ module _ {V : Type 0} where
 
 module _ {V : Type 0} (grows : V → V → Type 0) (same : (a : V) → grows a a) (onward : (a b c : V) → grows a b → grows b c → grows a c) where
   abbrev K : V → ℕ → ℕ → ℕ → Sight V → Type 0
-  K t n h j d = Knows grows t n h j d.seen d.stage
+  K t n h j d = Knows grows t n h j d.seen d.standing
 
   each : (P : ℕ → Sight V → Type 0) (vs : List (Sight V)) (id : ℕ) (w : Sight V) → P id w → ((j : ℕ) (d : Sight V) → j ≢ id → get_elem? vs j ≡ some d → P j d)
       → (j : ℕ) (d : Sight V) → get_elem? (set vs id w) j ≡ some d → P j d
@@ -90,26 +90,26 @@ module _ {V : Type 0} (grows : V → V → Type 0) (same : (a : V) → grows a a
 
   -- some seat has the lock, as the seat `holder` of these views
   abbrev Out : List (Sight V) → ℕ → Type 0
-  Out vs holder = (d : Sight V) × (get_elem? vs holder ≡ some d) × (d.stage ≡ Holding)
+  Out vs holder = (d : Sight V) × (get_elem? vs holder ≡ some d) × (d.standing ≡ Holding)
 
   -- it still has it after another seat's step, and after its own where it goes on to hold it
-  out_set : (vs : List (Sight V)) (holder id : ℕ) (b w : Sight V) → get_elem? vs id ≡ some b → (b.stage ≡ Holding → w.stage ≡ Holding) → Out vs holder → Out (set vs id w) holder
+  out_set : (vs : List (Sight V)) (holder id : ℕ) (b w : Sight V) → get_elem? vs id ≡ some b → (b.standing ≡ Holding → w.standing ≡ Holding) → Out vs holder → Out (set vs id w) holder
   out_set vs holder id b w at keep o =
       dite (ℕ_discrete holder id)
       (λ is. let here : get_elem? vs id ≡ some o.0 = subst (λ (z : ℕ). get_elem? vs z ≡ some o.0) is o.1 in
       let e : b ≡ o.0 = some-injective b o.0 (sym at ∙ here) in
-      (w, subst (λ (z : ℕ). get_elem? (set vs id w) z ≡ some w) (sym is) (set_here vs id w (below vs id b at)), keep (ap (λ (x : Sight V). x.stage) e ∙ o.2)))
+      (w, subst (λ (z : ℕ). get_elem? (set vs id w) z ≡ some w) (sym is) (set_here vs id w (below vs id b at)), keep (ap (λ (x : Sight V). x.standing) e ∙ o.2)))
       (λ other. (o.0, set_else vs id holder w other ∙ o.1, o.2))
 
   -- where another seat does not hold the lock, it goes on with the truth
-  goes_on : (a b : V) (n m h k j : ℕ) → grows a b → (j ≡ h → n % 2 ≡ 1 → ⊥) → (v : V) (st : Stage V) → Knows grows a n h j v st → Knows grows b m k j v st
+  goes_on : (a b : V) (n m h k j : ℕ) → grows a b → (j ≡ h → n % 2 ≡ 1 → ⊥) → (v : V) (st : Standing V) → Knows grows a n h j v st → Knows grows b m k j v st
   goes_on a b n m h k j more not v Away x = onward v a b x more
   goes_on a b n m h k j more not v (Met u) x = (onward v a b x.0 more, onward u a b x.1 more)
   goes_on a b n m h k j more not v Holding x = absurd (not x.0 x.1)
   goes_on a b n m h k j more not v Spent x = tt
 
   -- what a seat knows rests on the held bit alone
-  same_bit : (a : V) (n m h j : ℕ) → m % 2 ≡ n % 2 → (v : V) (st : Stage V) → Knows grows a n h j v st → Knows grows a m h j v st
+  same_bit : (a : V) (n m h j : ℕ) → m % 2 ≡ n % 2 → (v : V) (st : Standing V) → Knows grows a n h j v st → Knows grows a m h j v st
   same_bit a n m h j e v Away x = x
   same_bit a n m h j e v (Met u) x = x
   same_bit a n m h j e v Holding x = (x.0, e ∙ x.1, x.2)
@@ -158,7 +158,7 @@ module _ {V : Type 0} (grows : V → V → Type 0) (same : (a : V) → grows a a
 
   -- the seat's turns are all that the line has of it
   abbrev Own : List (ℕ × Turn V) → ℕ → Sight V → Type 0
-  Own all j d = d.stage ≢ Spent → d.turns ≡ turns_of j all
+  Own all j d = d.standing ≢ Spent → d.turns ≡ turns_of j all
 
   -- a number that no seat has yet has no turn
   abbrev Unborn : List (ℕ × Turn V) → List (Sight V) → Type 0
@@ -181,7 +181,7 @@ module _ {V : Type 0} (grows : V → V → Type 0) (same : (a : V) → grows a a
     now_word s r n = let one = r.one_word in get_or-set_same s.words 0 n 0 (omega arith)
 
     -- a step that keeps the held bit, the truth and the slot
-    unmoved : (s : State (std.Option T) (Sight V)) (r : Rule s) (n id : ℕ) (c : List (ℕ × std.Option T)) (b w : Sight V) → get_elem? s.views id ≡ some b → (b.stage ≡ Holding → w.stage ≡ Holding) → n % 2 ≡ word s % 2 → K r.truth (word s) r.holder id w → Own r.turns id w
+    unmoved : (s : State (std.Option T) (Sight V)) (r : Rule s) (n id : ℕ) (c : List (ℕ × std.Option T)) (b w : Sight V) → get_elem? s.views id ≡ some b → (b.standing ≡ Holding → w.standing ≡ Holding) → n % 2 ≡ word s % 2 → K r.truth (word s) r.holder id w → Own r.turns id w
         → w.kin ≡ b.kin → Sees r.truth id w → Rule (stepped s 0 n id c w keeps)
     unmoved s r n id c b w at keep bit mine its kin sees =
         let now = now_word s r n in
@@ -193,8 +193,8 @@ module _ {V : Type 0} (grows : V → V → Type 0) (same : (a : V) → grows a a
           one_word = length-set s.words 0 n ∙ r.one_word;
           free = λ even. r.free (sym still ∙ even);
           out = λ odd. out_set s.views r.holder id b w at keep (r.out (sym still ∙ odd));
-          each_seat = each (K r.truth (get_or (set s.words 0 n) 0 0) r.holder) s.views id w (same_bit r.truth (word s) _ r.holder id still w.seen w.stage mine)
-              (λ j d _ at. same_bit r.truth (word s) _ r.holder j still d.seen d.stage (r.each_seat j d at));
+          each_seat = each (K r.truth (get_or (set s.words 0 n) 0 0) r.holder) s.views id w (same_bit r.truth (word s) _ r.holder id still w.seen w.standing mine)
+              (λ j d _ at. same_bit r.truth (word s) _ r.holder j still d.seen d.standing (r.each_seat j d at));
           own = each (Own r.turns) s.views id w its (λ j d _ at. r.own j d at);
           alone = alone_set s.views id b w at kin r.alone;
           apart = λ many. apart_set s.views id b w at kin (r.apart many);
@@ -212,7 +212,7 @@ module _ {V : Type 0} (grows : V → V → Type 0) (same : (a : V) → grows a a
         let is : r.holder ≡ id = r.alone id r.holder (away v ts us k) o.0 at o.1 nk in
         let here : get_elem? s.views id ≡ some o.0 = subst (λ (z : ℕ). get_elem? s.views z ≡ some o.0) is o.1 in
         let e : away v ts us k ≡ o.0 = some-injective (away v ts us k) o.0 (sym at ∙ here) in
-        let stage : Away ≡ Holding = ap (λ (d : Sight V). d.stage) e ∙ o.2 in absurd (cc)
+        let standing : Away ≡ Holding = ap (λ (d : Sight V). d.standing) e ∙ o.2 in absurd (cc)
 
     tries_away : (slots id : ℕ) (v : V) (ts us : List (Turn V)) (k : ℕ) → Allows Rule slots id (away v ts us k, []) 0 (λ n. bit_or n 1) (tried explains grows (step slots 0 1 0 none) (away v ts us k, []))
     tries_away slots id v ts us k s r _ at _ =
@@ -231,7 +231,7 @@ module _ {V : Type 0} (grows : V → V → Type 0) (same : (a : V) → grows a a
             free = λ e. let odd : get_or (set s.words 0 m) 0 0 % 2 ≡ 1 = ap (λ (z : ℕ). z % 2) now ∙ or_held n in absurd (omega arith);
             out = λ _. (w, set_here s.views id w (below s.views id (away v ts us k) at), refl);
             each_seat = each (K r.truth (get_or (set s.words 0 m) 0 0) id) s.views id w (refl, ap (λ (z : ℕ). z % 2) now ∙ or_held n, refl)
-                (λ j d _ there. goes_on r.truth r.truth n (get_or (set s.words 0 m) 0 0) r.holder id j (same r.truth) (λ _ odd. absurd (omega arith)) d.seen d.stage (r.each_seat j d there));
+                (λ j d _ there. goes_on r.truth r.truth n (get_or (set s.words 0 m) 0 0) r.holder id j (same r.truth) (λ _ odd. absurd (omega arith)) d.seen d.standing (r.each_seat j d there));
             own = each (Own r.turns) s.views id w (λ _. r.own id (away v ts us k) at (λ e. absurd (cc))) (λ j d _ there. r.own j d there);
             alone = alone_set s.views id (away v ts us k) w at refl r.alone;
             apart = λ many. apart_set s.views id (away v ts us k) w at refl (r.apart many);
@@ -268,7 +268,7 @@ module _ {V : Type 0} (grows : V → V → Type 0) (same : (a : V) → grows a a
             free = λ e. absurd (omega arith);
             out = λ _. (w, set_here s.views id w (below s.views id (holding v ts us k) at), refl);
             each_seat = each (K next (get_or (set s.words 0 m) 0 0) id) s.views id w (refl, bit, refl)
-                (λ j d other there. goes_on r.truth next n (get_or (set s.words 0 m) 0 0) r.holder id j (subst (λ (t : V). grows t next) mine.2 more) (λ h _. other (h ∙ sym mine.0)) d.seen d.stage (r.each_seat j d there));
+                (λ j d other there. goes_on r.truth next n (get_or (set s.words 0 m) 0 0) r.holder id j (subst (λ (t : V). grows t next) mine.2 more) (λ h _. other (h ∙ sym mine.0)) d.seen d.standing (r.each_seat j d there));
             own = each (Own all) s.views id w
                 (λ _. ap (λ (l : List (Turn V)). l ++ turn v next ∷ []) (r.own id (holding v ts us k) at (λ e. absurd (cc))) ∙ sym (turns_of-mine id r.turns (turn v next)))
                 (λ j d other there not. r.own j d there not ∙ sym (turns_of-other j id r.turns (turn v next) other));
@@ -301,7 +301,7 @@ module _ {V : Type 0} (grows : V → V → Type 0) (same : (a : V) → grows a a
             free = λ _. (x, one_set s.homes (some (Some x)) (wide ∙ one), is);
             out = λ odd. let now_even : get_or (set s.words 0 n) 0 0 % 2 ≡ 0 = ap (λ (z : ℕ). z % 2) now ∙ even in absurd (omega arith);
             each_seat = each (K v (get_or (set s.words 0 n) 0 0) id) s.views id w (same v)
-                (λ j d other there. goes_on r.truth v (word s) (get_or (set s.words 0 n) 0 0) r.holder id j (subst (λ (t : V). grows t v) mine.2 (same v)) (λ h _. other (h ∙ sym mine.0)) d.seen d.stage (r.each_seat j d there));
+                (λ j d other there. goes_on r.truth v (word s) (get_or (set s.words 0 n) 0 0) r.holder id j (subst (λ (t : V). grows t v) mine.2 (same v)) (λ h _. other (h ∙ sym mine.0)) d.seen d.standing (r.each_seat j d there));
             own = each (Own r.turns) s.views id w (λ _. r.own id (holding v ts us k) at (λ e. absurd (cc))) (λ j d _ there. r.own j d there);
             alone = alone_set s.views id (holding v ts us k) w at refl r.alone;
             apart = λ many. apart_set s.views id (holding v ts us k) w at refl (r.apart many);
@@ -393,7 +393,7 @@ module _ {V : Type 0} (grows : V → V → Type 0) (same : (a : V) → grows a a
         let P : ℕ → Sight V → Type 0 = λ j d. K r.truth (word s) r.holder j d × Own r.turns j d in
         let w : Sight V = met d.seen e.seen d.turns (d.taken ++ e.taken ++ e.turns) d.kin in
         let vs : List (Sight V) = set s.views id w in
-        let here : d.stage ≢ Spent = λ x. let no : away v ts xs k ≡ d = sym is in absurd (cc) in
+        let here : d.standing ≢ Spent = λ x. let no : away v ts xs k ≡ d = sym is in absurd (cc) in
         let mine : grows d.seen r.truth = seen_grows r.truth (word s) r.holder id d v ts xs k is (r.each_seat id d at) in
         let at_other = ⊎_elim {C = get_elem? s.views other ≡ some e} (λ (t : (other ≡ id) × (w ≡ e)). absurd (apart t.0)) (λ (t : (other ≢ id) × (get_elem? s.views other ≡ some e)). t.1) (at_set s.views id other w e there) in
         let theirs : grows e.seen r.truth = seen_grows r.truth (word s) r.holder other e u us ys l that (r.each_seat other e at_other) in
@@ -415,9 +415,9 @@ module _ {V : Type 0} (grows : V → V → Type 0) (same : (a : V) → grows a a
         )
       where
         other_of : V → Sight V → V
-        other_of u d = go d.stage
+        other_of u d = go d.standing
           where
-            go : Stage V → V
+            go : Standing V → V
             go (Met x) = x
             go _ = u
 
@@ -453,7 +453,7 @@ module _ {T V : Type 0} (explains : V → T → Type 0) (grows : V → V → Typ
       let word : get_or f.0.words 0 0 ≡ n = ap (λ (l : List ℕ). get_or l 0 0) f.2 ∙ at_first ws n at in
       let x = r.free (ap (λ (z : ℕ). z % 2) word ∙ even) in
       let same : o ≡ Some x.0 = some-injective o (Some x.0) (sym there ∙ f.4 0 (Some x.0) (ap (λ (l : List (Option (std.Option T))). get_elem? l 0) x.1)) in
-      let more : grows d.seen r.truth = subst (λ (e : Sight V). Knows grows r.truth (get_or f.0.words 0 0) r.holder id e.seen e.stage → grows e.seen r.truth) (sym is) (λ k. k) (r.each_seat id d f.1.1) in
+      let more : grows d.seen r.truth = subst (λ (e : Sight V). Knows grows r.truth (get_or f.0.words 0 0) r.holder id e.seen e.standing → grows e.seen r.truth) (sym is) (λ k. k) (r.each_seat id d f.1.1) in
       let its : d.turns ≡ turns_of id r.turns = r.own id d f.1.1 (λ e. let no : away v ts us k ≡ d = sym is in absurd (cc)) in
       subst (λ (p : std.Option T). IfSome p (λ x. (h : V) × explains h x × grows d.seen h × IsTurnHistory grows first id d.turns h × (d.kin ≡ 0 → h ≡ d.seen))) (sym same) (r.truth, x.2, more, (r.turns, r.line, its), λ nk. sym (r.sees id d f.1.1 nk))
 

@@ -6,35 +6,35 @@ use base.Stored.{Gv}
 use Rattle.std.specs.Prelude as std
 use Rattle.atomic_table.specs.Table.{State, Me, Step}
 use Rattle.word_lock.specs.declared.rule.Sight.{Sight}
-use Rattle.word_lock.specs.declared.rule.Stage.{Stage}
-use Rattle.word_lock.specs.declared.rule.Stage.TheVariants.{Away, Met, Holding, Spent}
+use Rattle.word_lock.specs.declared.rule.Standing.{Standing}
+use Rattle.word_lock.specs.declared.rule.Standing.TheVariants.{Away, Met, Holding, Spent}
 use Rattle.word_lock.specs.declared.rule.Turn.{Turn}
 use Rattle.word_lock.specs.Turns.{turn, turns_of, IsTurnLine}
 
 module _ {V : Type 0} where
   abbrev pub away : V → List (Turn V) → List (Turn V) → ℕ → Sight V
-  away v ts us k = record { stage = Away; seen = v; turns = ts; taken = us; kin = k }
+  away v ts us k = record { standing = Away; seen = v; turns = ts; taken = us; kin = k }
 
   abbrev pub holding : V → List (Turn V) → List (Turn V) → ℕ → Sight V
-  holding v ts us k = record { stage = Holding; seen = v; turns = ts; taken = us; kin = k }
+  holding v ts us k = record { standing = Holding; seen = v; turns = ts; taken = us; kin = k }
 
   abbrev pub met : V → V → List (Turn V) → List (Turn V) → ℕ → Sight V
-  met v u ts us k = record { stage = Met u; seen = v; turns = ts; taken = us; kin = k }
+  met v u ts us k = record { standing = Met u; seen = v; turns = ts; taken = us; kin = k }
 
   abbrev pub spent : V → Sight V
-  spent v = record { stage = Spent; seen = v; turns = []; taken = []; kin = 1 }
+  spent v = record { standing = Spent; seen = v; turns = []; taken = []; kin = 1 }
 
   -- what is left of a seat once another is split off it
   abbrev pub with_split : Sight V → Sight V
-  with_split d = record { stage = d.stage; seen = d.seen; turns = d.turns; taken = d.taken; kin = d.kin + 1 }
+  with_split d = record { standing = d.standing; seen = d.seen; turns = d.turns; taken = d.taken; kin = d.kin + 1 }
 
   -- what a holder knows once it has gone on to a view, which is one more turn of its own
   abbrev pub with_turn : Sight V → V → Sight V
   with_turn d next = holding next (d.turns ++ turn d.seen next ∷ []) d.taken d.kin
 
   module _ (grows : V → V → Type 0) (truth : V) (word holder seat : ℕ) (seen : V) where
-    -- what a seat knows of the truth, by its stage
-    abbrev pub Knows : Stage V → Type 0
+    -- what a seat knows of the truth, by its standing
+    abbrev pub Knows : Standing V → Type 0
     Knows Away = grows seen truth
     Knows (Met other) = grows seen truth × grows other truth
     Knows Holding = (seat ≡ holder) × (word % 2 ≡ 1) × (seen ≡ truth)
@@ -84,10 +84,10 @@ module _ {T V : Type 0} where
       pub line : IsTurnLine grows first turns truth
       pub one_word : length s.words ≡ 1
       pub free : slice_index s.words 0 % 2 ≡ 0 → (x : T) × (s.homes ≡ some (Some x) ∷ []) × explains truth x
-      pub out : slice_index s.words 0 % 2 ≡ 1 → (d : Sight V) × (get_elem? s.views holder ≡ some d) × (d.stage ≡ Holding)
-      pub each_seat : (j : ℕ) (d : Sight V) → get_elem? s.views j ≡ some d → Knows grows truth (slice_index s.words 0) holder j d.seen d.stage
+      pub out : slice_index s.words 0 % 2 ≡ 1 → (d : Sight V) × (get_elem? s.views holder ≡ some d) × (d.standing ≡ Holding)
+      pub each_seat : (j : ℕ) (d : Sight V) → get_elem? s.views j ≡ some d → Knows grows truth (slice_index s.words 0) holder j d.seen d.standing
       -- a seat's turns are all that the line has of it, and a number that no seat has yet has none
-      pub own : (j : ℕ) (d : Sight V) → get_elem? s.views j ≡ some d → d.stage ≢ Spent → d.turns ≡ turns_of j turns
+      pub own : (j : ℕ) (d : Sight V) → get_elem? s.views j ≡ some d → d.standing ≢ Spent → d.turns ≡ turns_of j turns
       -- a seat with the number 0 is the only one that ever was, and has seen the truth; a lock with a source of seats
       -- has none
       pub alone : (i j : ℕ) (d e : Sight V) → get_elem? s.views i ≡ some d → get_elem? s.views j ≡ some e → d.kin ≡ 0 → j ≡ i

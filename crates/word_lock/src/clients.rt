@@ -58,8 +58,7 @@ fn a_turn_is_from_what_was_taken_to_what_was_left<W: Wait>(
 ) -> u8
     requires own { seat_table seat.old ≡ lock_table lock.now }
     requires idle { IsIdle seat.old }
-    ensures own { seat_table seat.new ≡ seat_table seat.old }
-    ensures idle { IsIdle seat.new }
+    ensures same { (seat_table seat.new ≡ seat_table seat.old) × IsIdle seat.new }
     ensures onward { seen seat.old ≤ result }
     ensures seen { seen seat.new ≡ 255 }
     ensures turn { turns seat.new ≡ turns seat.old ++ turn result 255 ∷ [] }

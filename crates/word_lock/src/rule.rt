@@ -42,7 +42,7 @@ pub struct Turn<V> {
 
 // Where a seat stands: it does not have the lock; it has met another seat in a join; it has the lock; it was used up
 // by a join.
-pub(crate) enum Stage<V> {
+pub(crate) enum Standing<V> {
     Away,
     Met(V),
     Holding,
@@ -51,7 +51,7 @@ pub(crate) enum Stage<V> {
 
 // What a seat at the table knows. No value of it is made.
 pub(crate) struct Sight<V> {
-    pub(crate) stage: Stage<V>,
+    pub(crate) standing: Standing<V>,
     pub(crate) seen: V,
     pub(crate) turns: LinkedList<Turn<V>>,
     // The turns of the seats that it joined, and of those that they had joined.

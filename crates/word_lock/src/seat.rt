@@ -45,8 +45,8 @@ impl<T, R: LockRule<T>> Seat<T, R> {
         ensures* unchanged { sem 𝓛 (RestsIfNone (the_row T.row R.row R.View.row) self.entry
             (λ h. h.seat.ghost_name) result (IsAsBefore self.old)) }
         ensures same_reference { IfSome result (λ h. h.seat.ghost_name ≡ self.entry.ghost_name) }
-        ensures same { IfSome result (λ h. IsSameSeat self.old h.seat.now) }
-        ensures lock { IfSome result (λ h. h.lock ≡ lock.entry) }
+        ensures same { IfSome result
+            (λ h. IsSameSeat self.old h.seat.now × (h.lock ≡ lock.entry)) }
         ensures held { IfSome result
             (λ h. HasTaken R.grows R.explains self.old h.seat.now h.held.value) }
         ensures view { IfSome result (λ h. h.held.view.value ≡ seen h.seat.now) }

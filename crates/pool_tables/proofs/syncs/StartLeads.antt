@@ -38,7 +38,7 @@ use Rattle.tree_plans.specs.Plans.{address_of, new_block}
 use Rattle.pool_tables.specs.declared.pool.PoolTables.{PoolTables}
 use Rattle.pool_tables.specs.declared.pool.RunningSync.{RunningSync}
 use Rattle.pool_tables.specs.GroupPlans.{HasGroupLengths, IsPlannedGroup, IsShortOfBlocks}
-use Rattle.pool_tables.specs.Told.{Told, held_with, new_tree_of, pool_told}
+use Rattle.pool_tables.specs.Told.{ShownPool, held_with, new_tree_of, pool_told}
 use Rattle.pool_tables.specs.Lines.{MayStart}
 use Rattle.pool_tables.specs.Pointers.{lengths_after, pointers_after}
 use Rattle.pool_tables.specs.Shows.{contents_after_oldest, new_plan, plan_of, pool_shown, synced_of}
@@ -72,7 +72,7 @@ pub taken_anew : (pool : PoolTables) (blocks : List PlannedBlock) → is_some po
 taken_anew pool blocks idle = omega (arith, none_counted pool idle, length-map blocks address_of)
 
 -- what is told of a pool with these synced contents
-abbrev pub told_with : Contents → PoolTables → List ℕ → Told
+abbrev pub told_with : Contents → PoolTables → List ℕ → ShownPool
 told_with synced pool now = record (pool_told pool now) {
   shown = record (pool_shown pool) {
     contents = record { name = synced.name; objects = laid_all pool.changes synced.objects };

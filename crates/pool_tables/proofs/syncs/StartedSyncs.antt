@@ -24,7 +24,7 @@ use Rattle.pool_tables.specs.declared.pool.PoolTables.{PoolTables}
 use Rattle.pool_tables.specs.declared.pool.RunningSync.{RunningSync}
 use Rattle.pool_tables.specs.Areas.{after_sync_takes}
 use Rattle.pool_tables.specs.GroupPlans.{BeginsPlan, IsRefusedShort, MakesGroupTree, TakesLowest, begun_plan, plan_pointers}
-use Rattle.pool_tables.specs.Told.{Told, new_tree_of, pool_told, start_reply}
+use Rattle.pool_tables.specs.Told.{ShownPool, new_tree_of, pool_told, start_reply}
 use Rattle.pool_tables.specs.Lines.{MayNotStart, MayStart}
 use Rattle.pool_tables.specs.Pointers.{lengths_after}
 use Rattle.pool_tables.specs.Shows.{contents_after_oldest, plan_of, pool_shown, synced_of}
@@ -35,8 +35,8 @@ use Rattle.pool_tables.proofs.syncs.Starts.{StartsAt, lowest_taken, pending_name
 use Rattle.pool_tables.proofs.StillSteps.{still_pool}
 
 -- a group whose sync may start, by what was told before
-pub may_still : (pool : PoolTables) (old : List ℕ → Told) → pool_told pool ≡ old → (group : ℕ) → MayStart group (old []).shown.line → MayStart group pool.groups.line
-may_still pool old kept group may = subst (MayStart group) (sym (ap (λ (f : List ℕ → Told). (f []).shown.line) kept)) may
+pub may_still : (pool : PoolTables) (old : List ℕ → ShownPool) → pool_told pool ≡ old → (group : ℕ) → MayStart group (old []).shown.line → MayStart group pool.groups.line
+may_still pool old kept group may = subst (MayStart group) (sym (ap (λ (f : List ℕ → ShownPool). (f []).shown.line) kept)) may
 
 -- A start that is refused, of a pool that tells what it told before: it takes no step, and its bytes, its tree and its
 -- sync stand.
@@ -58,16 +58,16 @@ module _ (old : PoolTables) (moment : ℕ) where
   unready_refuses_start stands not_now = refused_by error.NotReady (λ calls. refl) (λ keeps now past x. start_not_ready keeps now past (pool_shown old) moment stands not_now)
 
   -- a sync that may start is refused for want of memory alone
-  pub want_refuses_start : (new : List ℕ → Told) → new ≡ pool_told old → (group : ℕ) (e : PoolError) → old.suspended ≡ false → MayStart group old.groups.line → (e ≡ error.NoMemory) ⊎ (e ≡ error.NoSpace)
+  pub want_refuses_start : (new : List ℕ → ShownPool) → new ≡ pool_told old → (group : ℕ) (e : PoolError) → old.suspended ≡ false → MayStart group old.groups.line → (e ≡ error.NoMemory) ⊎ (e ≡ error.NoSpace)
       → ((past : Past) → IsExplainedNow (pool_shown old) past → e ≡ error.NoMemory) → IsSyncStart moment (Err e) (pool_told old) new
   want_refuses_start new kept group e stands may refused wants = subst (IsSyncStart moment (Err e) (pool_told old)) (sym kept)
       (refused_by e (plan_own e refused) (λ keeps now past x. start_wants keeps now past (pool_shown old) moment group e stands may.0 may.1 (wants past x)))
 
 -- a plan that is refused needs memory: its blocks are there
-pub plan_wants : (pool : PoolTables) (old : List ℕ → Told) → pool_told pool ≡ old → (group : ℕ) → MayStart group (old []).shown.line → (e : PoolError) → (e ≡ error.NoMemory) ⊎ (e ≡ error.NoSpace) → IsRefusedShort pool group e
+pub plan_wants : (pool : PoolTables) (old : List ℕ → ShownPool) → pool_told pool ≡ old → (group : ℕ) → MayStart group (old []).shown.line → (e : PoolError) → (e ≡ error.NoMemory) ⊎ (e ≡ error.NoSpace) → IsRefusedShort pool group e
     → (past : Past) → IsExplainedNow (old []).shown past → e ≡ error.NoMemory
 plan_wants pool old kept group may e refused short past x =
-    let explained = subst (λ (f : List ℕ → Told). IsExplainedNow (f []).shown past) (sym kept) x in
+    let explained = subst (λ (f : List ℕ → ShownPool). IsExplainedNow (f []).shown past) (sym kept) x in
     wants_only e refused (λ space. never_short past pool group (may_still pool old kept group may) explained (short space))
 
 -- A sync of this group that starts by this plan.
@@ -80,7 +80,7 @@ module _ (pool : PoolTables) (g : Group) (moment : ℕ) (planned : TreePlan) whe
   shown_started = record (pool_shown pool) { line = record pool.groups.line { syncing = Some g.0; middle = None }; free = set.difference pool.free.free (set.from_list plan.taken); sync = Some plan }
 
   -- and told, with this line, these free blocks and this sync
-  abbrev told_started : CountedLine → FreeSpace → RunningSync → List ℕ → Told
+  abbrev told_started : CountedLine → FreeSpace → RunningSync → List ℕ → ShownPool
   told_started line free r now = record {
     shown = record (pool_shown pool) { line = line.line; free = free.free; sync = Some (plan_of pool.log_address pool.tree (contents_after_oldest pool) r) };
     now = now;
@@ -88,11 +88,11 @@ module _ (pool : PoolTables) (g : Group) (moment : ℕ) (planned : TreePlan) whe
     running = Some (new_tree_of pool.tree r);
   }
 
-  module _ (old : List ℕ → Told) (kept : pool_told pool ≡ old) (stands : (old []).shown.suspended ≡ false) (may : MayStart g.0 pool.groups.line) (lowest : TakesLowest pool planned) (makes : MakesGroupTree pool g.0 planned) where
+  module _ (old : List ℕ → ShownPool) (kept : pool_told pool ≡ old) (stands : (old []).shown.suspended ≡ false) (may : MayStart g.0 pool.groups.line) (lowest : TakesLowest pool planned) (makes : MakesGroupTree pool g.0 planned) where
     starts_at : (keeps : Type 0) (now : List ℕ) (past : Past) (n : Shown) → n ≡ shown_started → IsExplainedNow (pool_shown pool) past → (keeps → TakesForEach now (record { shown = pool_shown pool; past = past }) g.0 plan)
         → StartsAt keeps now moment (Ok g.0) past (pool_shown pool) n
     starts_at keeps now past n is x takes =
-        start_done keeps now past (pool_shown pool) moment n g.0 plan x takes (ap (λ (f : List ℕ → Told). (f []).shown.suspended) kept ∙ stands) may.0 may.1
+        start_done keeps now past (pool_shown pool) moment n g.0 plan x takes (ap (λ (f : List ℕ → ShownPool). (f []).shown.suspended) kept ∙ stands) may.0 may.1
         (group_fits past pool g.0 may x planned.blocks.items (plan_pointers pool planned) makes.planned) (oldest_leads past pool g.0 may x).replayed
         (group_lengths past pool g.0 may x (lengths_after planned.maps pool.tree) makes.lengths) (pending_names pool.pending.items pool.unsynced.built) refl refl (lowest_taken planned.blocks.items (rising pool.free.free) lowest) refl refl is
 
@@ -106,7 +106,7 @@ module _ (pool : PoolTables) (g : Group) (moment : ℕ) (planned : TreePlan) whe
         let made = nothing_made pool.tree r planned.root planned.directories planned.maps planned.blocks begins.root begins.directories begins.maps begins.blocks begins.done in
         let running = ap (λ (t : NewTree). Some t) made in
         let shows = ap (λ (q : SyncPlan). Some q) plan_is in
-        subst (λ (f : List ℕ → Told). IsSyncStart moment (Ok g) f (told_started line free r)) kept (record {
+        subst (λ (f : List ℕ → ShownPool). IsSyncStart moment (Ok g) f (told_started line free r)) kept (record {
           step = λ past x. (past, starts_at ⊥ [] past _ is x (λ never. absurd never));
           held = λ now past x. (
             past,

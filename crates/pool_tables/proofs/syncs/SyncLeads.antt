@@ -29,7 +29,7 @@ use Rattle.tree_plans.specs.Plans.{new_block}
 use Rattle.object_maps.specs.Pointers.{pointers_of}
 use Rattle.pool_tables.specs.declared.pool.PoolTables.{PoolTables}
 use Rattle.pool_tables.specs.declared.pool.RunningSync.{RunningSync}
-use Rattle.pool_tables.specs.Told.{Leads, SamePlaces, Told, made_by, new_tree_of, pool_told}
+use Rattle.pool_tables.specs.Told.{Leads, SamePlaces, ShownPool, made_by, new_tree_of, pool_told}
 use Rattle.pool_tables.specs.Pointers.{pointers_after}
 use Rattle.pool_tables.specs.Shows.{contents_after_oldest, plan_of, pool_shown}
 use Rattle.pool_tables.proofs.syncs.SameSyncs.{same_taken}
@@ -147,7 +147,7 @@ module _ (run new : SyncRun) (same : SameSync run new) (pointers : Place → Poi
     ]
 
 -- how a step that ends a sync leads on
-pub synced_leads : (group : Group) (o n : Told) (before after : NewTree) → o.running ≡ Some before → o.shown.line.syncing ≡ Some group.0 → n.running ≡ None → SamePlaces n.pointers after.pointers → after.done ≡ total_calls after
+pub synced_leads : (group : Group) (o n : ShownPool) (before after : NewTree) → o.running ≡ Some before → o.shown.line.syncing ≡ Some group.0 → n.running ≡ None → SamePlaces n.pointers after.pointers → after.done ≡ total_calls after
     → Advances group.0 o.now n.now before after → Leads (reply.Synced group) o n
 synced_leads group o n before after was syncing none same all advances =
     (after.pointers, same, λ past later. (after, record { before = before; running = was; group = group.0; syncing = syncing; advances = advances }, all, refl, none))

@@ -7,7 +7,6 @@ ghost use Rattle.base.specs.steps.Groups.{Admission};
 ghost use Rattle.base.specs.steps.Refusals.{blocks_wanted, transaction_of};
 ghost use Rattle.base.specs.steps.Shown as show;
 ghost use Rattle.base.specs.steps.Stage.{is_plan_built};
-ghost use Rattle.extents.specs.Unsynced.{CanApplyAt};
 ghost use Rattle.object_maps.specs.Ops.{AreOpsAllowed};
 ghost use Rattle.tree_plans.specs.declared.planner.Committed.{Committed};
 
@@ -21,7 +20,7 @@ use transactions::{charge, estimate, is_in_plan, is_shrinking, range_of};
 use tree_plans::Committed;
 
 impl PoolTables {
-    ghost use Rattle.pool_tables.specs.Entries.{IsUnsynced, shown_after_entry};
+    ghost use Rattle.pool_tables.specs.Entries.{HasRoomToEnter, IsUnsynced, shown_after_entry};
     ghost use Rattle.pool_tables.specs.BeginTests.{is_above_limit, range_tests, room_tests};
     ghost use Rattle.pool_tables.specs.Meets.{ChecksBegin, ChecksCommit, MayCommit, Passes};
     ghost use Rattle.pool_tables.specs.Shows.{shown_objects, pool_shown};
@@ -197,9 +196,14 @@ impl PoolTables {
         requires may { MayCommit tx.0 ops group.0 (pool_shown self.old) }
         requires allowed { AreOpsAllowed ops }
         requires place { self.old.groups.line.synced + 1 + place ≡ group.0 }
+<<<<<<< HEAD
         requires room { CanApplyAt place self.old.changes ops }
         requires named { self.old.next_ordinal ≤ last_number }
         requires more { vec_len self.old.pending < vec_capacity self.old.pending }
+=======
+        requires named { self.old.next_ordinal ≤ 2 ^ 60 }
+        requires room { HasRoomToEnter place ops self.old }
+>>>>>>> 6f1e01215b478e71ae6598b4ac60b2f5aa3054ac
         ensures ordinal { result.0 ≡ self.old.next_ordinal }
         ensures kept { KeepsTree self.old self.new }
         ensures shown { pool_shown self.new

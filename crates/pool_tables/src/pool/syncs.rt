@@ -89,7 +89,7 @@ impl PoolTables {
     fn reserve_synced(&mut self) -> Result<(), PoolError>
         requires { is_some self.old.groups.line.syncing ≡ false }
         ensures geometry { self.new.geometry ≡ self.old.geometry }
-        ensures kept { pool_told self.new ≡ pool_told self.old }
+        ensures unchanged { pool_told self.new ≡ pool_told self.old }
         ensures unmoved { run_in self.new ≡ run_in self.old }
         ensures room { OnOk result
             (HasRoomForPatches (changes_at self.new.changes 0) self.new.synced.slots.items) }
@@ -131,8 +131,6 @@ impl PoolTables {
         ensures uberblock { WritesUberblock
             (uberblock_for self.now group.0 moment planned.root) result.run }
     {
-        // Labels lie apart from the blocks, as the size is one of a pool's device.
-        let _size = self.geometry.size();
         let TreePlan {
             blocks,
             maps,

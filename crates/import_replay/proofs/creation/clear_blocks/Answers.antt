@@ -14,7 +14,7 @@ use Rattle.import_replay.proofs.creation.clear_blocks.Goals as goal
 pub returns-in_err-write-clause-outside : goal.returns-in_err-write-clause-outside
 returns-in_err-write-clause-outside g c = λ keeps start so_far.
     let long = g.met.D.SectorDevice.sized keeps c.loop-index.device ∙ c.loop-index.invariant.sized in
-    writes_on c.args.geometry start (g.D.SectorDevice.disk c.loop-index.device) (g.D.SectorDevice.disk c.write.new.self) _ _ _ _ c.write.result c.requires.geometry long
+    writes_on c.args.geometry start (g.D.SectorDevice.disk c.loop-index.device) (g.D.SectorDevice.disk c.write.new.self) _ _ _ _ c.write.result c.requires.sized.geometry long
     (c.loop-index.invariant.outside keeps start so_far) (c.write.ensures.disk keeps) c.block_address.ensures.address
     (length-replicate {A = ℕ} 4096 0)
     (block_writable c.args.geometry c.loop-index.index (omega (arith, c.loop-index-test.true, c.blocks-index-end.ensures)))
@@ -36,17 +36,17 @@ loop-index-preserved g c =
       blocks = λ keeps.
           let long = g.met.D.SectorDevice.sized keeps c.loop-index.device ∙ c.loop-index.invariant.sized in
           after_write (AreBlocksCleared (c.loop-index.index + 1)) _ _ _ _ _ (c.in_ok-write.ensures.disk keeps) c.block_address.ensures.address
-          (block_next c.args.geometry c.requires.geometry _ long c.loop-index.index 4096 (replicate 4096 0) below (length-replicate {A = ℕ} 4096 0) refl (c.loop-index.invariant.blocks keeps));
+          (block_next c.args.geometry c.requires.sized.geometry _ long c.loop-index.index 4096 (replicate 4096 0) below (length-replicate {A = ℕ} 4096 0) refl (c.loop-index.invariant.blocks keeps));
       tails = λ keeps cleared.
           let long = g.met.D.SectorDevice.sized keeps c.loop-index.device ∙ c.loop-index.invariant.sized in
           after_write (AreTailsCleared c.args.geometry 4) _ _ _ _ _ (c.in_ok-write.ensures.disk keeps) c.block_address.ensures.address
-          (block_beside c.args.geometry c.requires.geometry _ long c.loop-index.index (replicate 4096 0) below (length-replicate {A = ℕ} 4096 0) (c.loop-index.invariant.tails keeps cleared));
+          (block_beside c.args.geometry c.requires.sized.geometry _ long c.loop-index.index (replicate 4096 0) below (length-replicate {A = ℕ} 4096 0) (c.loop-index.invariant.tails keeps cleared));
       ordered = λ keeps.
           next_made clear_block c.loop-index.index (g.D.SectorDevice.disk c.args.device.now) (g.D.SectorDevice.disk c.loop-index.device) (g.D.SectorDevice.disk c.write.new.self) (c.loop-index.invariant.ordered keeps)
           (write_done (g.D.SectorDevice.disk c.loop-index.device) (g.D.SectorDevice.disk c.write.new.self) _ (block_address c.loop-index.index) _ (zeros 4096) (c.in_ok-write.ensures.disk keeps) c.block_address.ensures.address block_of_zeros);
       outside = λ keeps start so_far.
           let long = g.met.D.SectorDevice.sized keeps c.loop-index.device ∙ c.loop-index.invariant.sized in
-          writes_on c.args.geometry start (g.D.SectorDevice.disk c.loop-index.device) (g.D.SectorDevice.disk c.write.new.self) _ _ _ _ c.write.result c.requires.geometry long
+          writes_on c.args.geometry start (g.D.SectorDevice.disk c.loop-index.device) (g.D.SectorDevice.disk c.write.new.self) _ _ _ _ c.write.result c.requires.sized.geometry long
           (c.loop-index.invariant.outside keeps start so_far) (c.write.ensures.disk keeps) c.block_address.ensures.address
           (length-replicate {A = ℕ} 4096 0)
           (block_writable c.args.geometry c.loop-index.index (omega (arith, c.loop-index-test.true, c.blocks-index-end.ensures)));

@@ -12,7 +12,7 @@ use Rattle.import_replay.proofs.creation.clear_labels.Goals as goal
 pub returns-in_err-write-clause-outside : goal.returns-in_err-write-clause-outside
 returns-in_err-write-clause-outside g c = λ keeps start so_far.
     let long = g.met.D.SectorDevice.sized keeps c.loop-label.device ∙ c.loop-label.invariant.sized in
-    writes_on c.args.geometry start (g.D.SectorDevice.disk c.loop-label.device) (g.D.SectorDevice.disk c.write.new.self) _ _ _ _ c.write.result c.requires.geometry long
+    writes_on c.args.geometry start (g.D.SectorDevice.disk c.loop-label.device) (g.D.SectorDevice.disk c.write.new.self) _ _ _ _ c.write.result c.requires.sized.geometry long
     (c.loop-label.invariant.outside keeps start so_far) (c.write.ensures.disk keeps) (ap (λ (k : ℕ). k + 16384) c.label_place.ensures.place)
     (ap (λ (l : List ℕ). length l) c.zero_tail-zeros.ensures ∙ length-zeros 245760)
     (label_writable c.args.geometry c.loop-label.label 16384 245760 c.loop-label-test.true (omega arith) (omega arith))
@@ -32,13 +32,13 @@ loop-label-preserved g c = record {
   cleared = λ keeps.
       let long = g.met.D.SectorDevice.sized keeps c.loop-label.device ∙ c.loop-label.invariant.sized in
       after_write (AreTailsCleared c.args.geometry (c.loop-label.label + 1)) _ _ _ _ _ (c.in_ok-write.ensures.disk keeps) (ap (λ (k : ℕ). k + 16384) c.label_place.ensures.place)
-      (cleared_next c.args.geometry c.requires.geometry _ long c.loop-label.label _ c.loop-label-test.true c.zero_tail-zeros.ensures (c.loop-label.invariant.cleared keeps));
+      (cleared_next c.args.geometry c.requires.sized.geometry _ long c.loop-label.label _ c.loop-label-test.true c.zero_tail-zeros.ensures (c.loop-label.invariant.cleared keeps));
   ordered = λ keeps.
       next_made (clear_tail c.args.geometry) c.loop-label.label (g.D.SectorDevice.disk c.args.device.now) (g.D.SectorDevice.disk c.loop-label.device) (g.D.SectorDevice.disk c.write.new.self) (c.loop-label.invariant.ordered keeps)
       (write_done (g.D.SectorDevice.disk c.loop-label.device) (g.D.SectorDevice.disk c.write.new.self) _ (label_place c.args.geometry c.loop-label.label + 16384) _ (zeros 245760) (c.in_ok-write.ensures.disk keeps) (ap (λ (k : ℕ). k + 16384) c.label_place.ensures.place) c.zero_tail-zeros.ensures);
   outside = λ keeps start so_far.
       let long = g.met.D.SectorDevice.sized keeps c.loop-label.device ∙ c.loop-label.invariant.sized in
-      writes_on c.args.geometry start (g.D.SectorDevice.disk c.loop-label.device) (g.D.SectorDevice.disk c.write.new.self) _ _ _ _ c.write.result c.requires.geometry long
+      writes_on c.args.geometry start (g.D.SectorDevice.disk c.loop-label.device) (g.D.SectorDevice.disk c.write.new.self) _ _ _ _ c.write.result c.requires.sized.geometry long
       (c.loop-label.invariant.outside keeps start so_far) (c.write.ensures.disk keeps) (ap (λ (k : ℕ). k + 16384) c.label_place.ensures.place)
       (ap (λ (l : List ℕ). length l) c.zero_tail-zeros.ensures ∙ length-zeros 245760)
       (label_writable c.args.geometry c.loop-label.label 16384 245760 c.loop-label-test.true (omega arith) (omega arith));

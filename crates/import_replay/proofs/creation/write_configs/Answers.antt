@@ -16,7 +16,7 @@ use Rattle.import_replay.proofs.creation.write_configs.Goals as goal
 pub returns-in_err-write-clause-outside : goal.returns-in_err-write-clause-outside
 returns-in_err-write-clause-outside g c = λ keeps start so_far.
     let long = g.met.D.SectorDevice.sized keeps c.loop-label.device ∙ c.loop-label.invariant.sized in
-    writes_on c.args.geometry start (g.D.SectorDevice.disk c.loop-label.device) (g.D.SectorDevice.disk c.write.new.self) _ _ _ _ c.write.result c.requires.geometry long
+    writes_on c.args.geometry start (g.D.SectorDevice.disk c.loop-label.device) (g.D.SectorDevice.disk c.write.new.self) _ _ _ _ c.write.result c.requires.sized.geometry long
     (c.loop-label.invariant.outside keeps start so_far) (c.write.ensures.disk keeps) c.config_place.ensures.place
     (ap (λ (l : List ℕ). length l) c.as_bytes.ensures.bytes ∙ c.as_bytes.ensures.length)
     (label_writable c.args.geometry c.loop-label.label 16384 4096 c.loop-label-test.true (omega arith) (omega arith))
@@ -36,18 +36,18 @@ loop-label-preserved g c = record {
   cleared = λ keeps cleared.
       let long = g.met.D.SectorDevice.sized keeps c.loop-label.device ∙ c.loop-label.invariant.sized in
       after_write (IsCleared c.args.geometry) _ _ _ _ _ (c.in_ok-write.ensures.disk keeps) c.config_place.ensures.place
-      (config_beside c.args.geometry c.requires.geometry _ long c.loop-label.label _ c.loop-label-test.true (ap (λ (l : List ℕ). length l) c.as_bytes.ensures.bytes ∙ c.as_bytes.ensures.length) (c.loop-label.invariant.cleared keeps cleared));
+      (config_beside c.args.geometry c.requires.sized.geometry _ long c.loop-label.label _ c.loop-label-test.true (ap (λ (l : List ℕ). length l) c.as_bytes.ensures.bytes ∙ c.as_bytes.ensures.length) (c.loop-label.invariant.cleared keeps cleared));
   configs = λ keeps.
       let long = g.met.D.SectorDevice.sized keeps c.loop-label.device ∙ c.loop-label.invariant.sized in
       after_write (HoldConfig c.args.geometry (c.loop-label.label + 1) (first_config c.args.name c.args.guid c.args.geometry)) _ _ _ _ _ (c.in_ok-write.ensures.disk keeps) c.config_place.ensures.place
-      (config_next c.args.geometry c.requires.geometry _ long c.loop-label.label _ _ c.loop-label-test.true (ap (λ (l : List ℕ). length l) c.as_bytes.ensures.bytes ∙ c.as_bytes.ensures.length)
+      (config_next c.args.geometry c.requires.sized.geometry _ long c.loop-label.label _ _ c.loop-label-test.true (ap (λ (l : List ℕ). length l) c.as_bytes.ensures.bytes ∙ c.as_bytes.ensures.length)
       (first_config_block _ _ c.args.name _ c.args.guid c.size.result c.args.geometry c.as_bytes.ensures.bytes c.new-config.ensures c.size.ensures.size c.encode-block.ensures.config) (c.loop-label.invariant.configs keeps));
   ordered = λ keeps.
       next_made (write_config c.args.geometry (first_config c.args.name c.args.guid c.args.geometry)) c.loop-label.label (g.D.SectorDevice.disk c.args.device.now) (g.D.SectorDevice.disk c.loop-label.device) (g.D.SectorDevice.disk c.write.new.self) (c.loop-label.invariant.ordered keeps)
       (write_done (g.D.SectorDevice.disk c.loop-label.device) (g.D.SectorDevice.disk c.write.new.self) _ (config_place c.args.geometry c.loop-label.label) _ (config_block (first_config c.args.name c.args.guid c.args.geometry)) (c.in_ok-write.ensures.disk keeps) c.config_place.ensures.place (config_bytes_are _ _ c.args.name _ c.args.guid c.size.result c.args.geometry c.as_bytes.ensures.bytes c.encode-block.ensures.bytes c.new-config.ensures c.size.ensures.size));
   outside = λ keeps start so_far.
       let long = g.met.D.SectorDevice.sized keeps c.loop-label.device ∙ c.loop-label.invariant.sized in
-      writes_on c.args.geometry start (g.D.SectorDevice.disk c.loop-label.device) (g.D.SectorDevice.disk c.write.new.self) _ _ _ _ c.write.result c.requires.geometry long
+      writes_on c.args.geometry start (g.D.SectorDevice.disk c.loop-label.device) (g.D.SectorDevice.disk c.write.new.self) _ _ _ _ c.write.result c.requires.sized.geometry long
       (c.loop-label.invariant.outside keeps start so_far) (c.write.ensures.disk keeps) c.config_place.ensures.place
       (ap (λ (l : List ℕ). length l) c.as_bytes.ensures.bytes ∙ c.as_bytes.ensures.length)
       (label_writable c.args.geometry c.loop-label.label 16384 4096 c.loop-label-test.true (omega arith) (omega arith));
@@ -61,7 +61,7 @@ loop-label-preserved g c = record {
       let new = g.D.SectorDevice.disk c.write.new.self in
       let so_far = c.loop-label.invariant.handed keeps t began in (
         written_later old new _ t _ (c.in_ok-write.ensures.disk keeps) so_far.0,
-        config_handed c.args.geometry c.requires.geometry t c.loop-label.label old new long _ _ _ (c.in_ok-write.ensures.disk keeps)
+        config_handed c.args.geometry c.requires.sized.geometry t c.loop-label.label old new long _ _ _ (c.in_ok-write.ensures.disk keeps)
             (config_bytes_are _ _ c.args.name _ c.args.guid c.size.result c.args.geometry c.as_bytes.ensures.bytes c.encode-block.ensures.bytes c.new-config.ensures c.size.ensures.size) c.loop-label-test.true so_far.0
             (ap (λ (l : List ℕ). length l) c.as_bytes.ensures.bytes ∙ c.as_bytes.ensures.length) c.config_place.ensures.place so_far.1,
       );

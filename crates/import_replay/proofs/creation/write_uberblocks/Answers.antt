@@ -18,7 +18,7 @@ use Rattle.import_replay.proofs.creation.write_uberblocks.Goals as goal
 pub returns-in_err-write-clause-outside : goal.returns-in_err-write-clause-outside
 returns-in_err-write-clause-outside g c = λ keeps start so_far.
     let long = g.met.D.SectorDevice.sized keeps c.loop-label.device ∙ c.loop-label.invariant.sized in
-    writes_on c.args.geometry start (g.D.SectorDevice.disk c.loop-label.device) (g.D.SectorDevice.disk c.write.new.self) _ _ _ _ c.write.result c.requires.geometry long
+    writes_on c.args.geometry start (g.D.SectorDevice.disk c.loop-label.device) (g.D.SectorDevice.disk c.write.new.self) _ _ _ _ c.write.result c.requires.sized.geometry long
     (c.loop-label.invariant.outside keeps start so_far) (c.write.ensures.disk keeps) (c.slot_place.ensures.place ∙ ap (slot_place c.args.geometry c.loop-label.label) c.slot.ensures)
     c.encode-bytes.ensures.uberblock.size
     (first_slot_writable c.args.geometry c.loop-label.label c.loop-label-test.true)
@@ -38,21 +38,21 @@ loop-label-preserved g c = record {
   cleared = λ keeps cleared.
       let long = g.met.D.SectorDevice.sized keeps c.loop-label.device ∙ c.loop-label.invariant.sized in
       after_write (IsCleared c.args.geometry) _ _ _ _ _ (c.in_ok-write.ensures.disk keeps) (c.slot_place.ensures.place ∙ ap (slot_place c.args.geometry c.loop-label.label) c.slot.ensures)
-      (uberblock_beside c.args.geometry c.requires.geometry _ long c.loop-label.label _ c.loop-label-test.true c.encode-bytes.ensures.uberblock.size (c.loop-label.invariant.cleared keeps cleared));
+      (uberblock_beside c.args.geometry c.requires.sized.geometry _ long c.loop-label.label _ c.loop-label-test.true c.encode-bytes.ensures.uberblock.size (c.loop-label.invariant.cleared keeps cleared));
   configs = λ keeps name held.
       let long = g.met.D.SectorDevice.sized keeps c.loop-label.device ∙ c.loop-label.invariant.sized in
       after_write (HoldConfig c.args.geometry 4 (first_config name c.args.guid c.args.geometry)) _ _ _ _ _ (c.in_ok-write.ensures.disk keeps) (c.slot_place.ensures.place ∙ ap (slot_place c.args.geometry c.loop-label.label) c.slot.ensures)
-      (uberblock_behind c.args.geometry c.requires.geometry _ long c.loop-label.label _ _ c.loop-label-test.true c.encode-bytes.ensures.uberblock.size (c.loop-label.invariant.configs keeps name held));
+      (uberblock_behind c.args.geometry c.requires.sized.geometry _ long c.loop-label.label _ _ c.loop-label-test.true c.encode-bytes.ensures.uberblock.size (c.loop-label.invariant.configs keeps name held));
   uberblocks = λ keeps.
       let long = g.met.D.SectorDevice.sized keeps c.loop-label.device ∙ c.loop-label.invariant.sized in
       after_write (HoldUberblock c.args.geometry (c.loop-label.label + 1) (first_uberblock c.args.guid c.args.moment)) _ _ _ _ _ (c.in_ok-write.ensures.disk keeps) (c.slot_place.ensures.place ∙ ap (slot_place c.args.geometry c.loop-label.label) c.slot.ensures)
-      (uberblock_next c.args.geometry c.requires.geometry _ long c.loop-label.label _ _ c.loop-label-test.true c.encode-bytes.ensures.uberblock.size c.encode-bytes.ensures.uberblock (c.loop-label.invariant.uberblocks keeps));
+      (uberblock_next c.args.geometry c.requires.sized.geometry _ long c.loop-label.label _ _ c.loop-label-test.true c.encode-bytes.ensures.uberblock.size c.encode-bytes.ensures.uberblock (c.loop-label.invariant.uberblocks keeps));
   ordered = λ keeps.
       next_made (write_uberblock c.args.geometry (first_uberblock c.args.guid c.args.moment)) c.loop-label.label (g.D.SectorDevice.disk c.args.device.now) (g.D.SectorDevice.disk c.loop-label.device) (g.D.SectorDevice.disk c.write.new.self) (c.loop-label.invariant.ordered keeps)
       (write_done (g.D.SectorDevice.disk c.loop-label.device) (g.D.SectorDevice.disk c.write.new.self) _ (slot_place c.args.geometry c.loop-label.label (slot_of first_group)) _ (slot_bytes (first_uberblock c.args.guid c.args.moment)) (c.in_ok-write.ensures.disk keeps) (c.slot_place.ensures.place ∙ ap (slot_place c.args.geometry c.loop-label.label) c.slot.ensures) c.encode-bytes.ensures.bytes);
   outside = λ keeps start so_far.
       let long = g.met.D.SectorDevice.sized keeps c.loop-label.device ∙ c.loop-label.invariant.sized in
-      writes_on c.args.geometry start (g.D.SectorDevice.disk c.loop-label.device) (g.D.SectorDevice.disk c.write.new.self) _ _ _ _ c.write.result c.requires.geometry long
+      writes_on c.args.geometry start (g.D.SectorDevice.disk c.loop-label.device) (g.D.SectorDevice.disk c.write.new.self) _ _ _ _ c.write.result c.requires.sized.geometry long
       (c.loop-label.invariant.outside keeps start so_far) (c.write.ensures.disk keeps) (c.slot_place.ensures.place ∙ ap (slot_place c.args.geometry c.loop-label.label) c.slot.ensures)
       c.encode-bytes.ensures.uberblock.size
       (first_slot_writable c.args.geometry c.loop-label.label c.loop-label-test.true);
@@ -65,12 +65,12 @@ loop-label-preserved g c = record {
       let new = g.D.SectorDevice.disk c.write.new.self in
       let so_far = c.loop-label.invariant.handed keeps t began in (
         written_later old new _ t _ (c.in_ok-write.ensures.disk keeps) so_far.0,
-        slot_handed c.args.geometry c.requires.geometry t c.loop-label.label old new long _ _ _ (c.in_ok-write.ensures.disk keeps) c.encode-bytes.ensures.bytes c.loop-label-test.true so_far.0
+        slot_handed c.args.geometry c.requires.sized.geometry t c.loop-label.label old new long _ _ _ (c.in_ok-write.ensures.disk keeps) c.encode-bytes.ensures.bytes c.loop-label-test.true so_far.0
             c.encode-bytes.ensures.uberblock.size (c.slot_place.ensures.place ∙ ap (slot_place c.args.geometry c.loop-label.label) c.slot.ensures) so_far.1,
       );
   configs_handed = λ keeps t config held.
       let long = g.met.D.SectorDevice.sized keeps c.loop-label.device ∙ c.loop-label.invariant.sized in
-      configs_behind c.args.geometry t c.loop-label.label (g.D.SectorDevice.disk c.loop-label.device) (g.D.SectorDevice.disk c.write.new.self) _ _ config c.requires.geometry long (c.in_ok-write.ensures.disk keeps)
+      configs_behind c.args.geometry t c.loop-label.label (g.D.SectorDevice.disk c.loop-label.device) (g.D.SectorDevice.disk c.write.new.self) _ _ config c.requires.sized.geometry long (c.in_ok-write.ensures.disk keeps)
       c.encode-bytes.ensures.uberblock.size c.loop-label-test.true (c.slot_place.ensures.place ∙ ap (slot_place c.args.geometry c.loop-label.label) c.slot.ensures) (c.loop-label.invariant.configs_handed keeps t config held);
 }
 

@@ -28,11 +28,11 @@ pub returns-clause-pool : goal.returns-clause-pool
 returns-clause-pool g c = λ keeps.
     let image : List ℕ = bytes_of (g.D.SectorDevice.disk c.args.device.now).now in
     let u = c.in_ok-uberblock.uberblock in
-    let long : length image ≡ c.args.geometry = g.met.D.SectorDevice.sized keeps c.args.device.now ∙ c.requires.sized in
+    let long : length image ≡ c.args.geometry = g.met.D.SectorDevice.sized keeps c.args.device.now ∙ c.requires.sized.size in
     let name : HasName image u.guid u.group.0 c.in_ok-name.name =
     subst (λ (d : Disk). HasName (bytes_of d.now) u.guid u.group.0 c.in_ok-name.name) (c.read_uberblock.ensures.reads.disk keeps) (c.in_ok-name.ensures.name keeps) in
     record {
-      geometry = subst (λ n. IsGeometry n) (sym long) c.requires.geometry;
+      geometry = subst (λ n. IsGeometry n) (sym long) c.requires.sized.geometry;
       active = c.in_ok-uberblock.ensures.active keeps;
       config_group = name.0;
       chosen = name.1;

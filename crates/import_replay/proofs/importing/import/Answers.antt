@@ -17,7 +17,7 @@ invariant_of-result-clause-labels g c = ∣ (λ keeps.
     let told = c.in-Ok.ensures in
     let now : List ℕ = bytes_of (g.D.SectorDevice.disk c.mount.new.device).now in
     let written = told.written keeps in
-    let size : length now ≡ g.D.SectorDevice.size c.args.device = g.met.D.SectorDevice.sized keeps c.mount.new.device ∙ told.size in
+    let size : length now ≡ g.D.SectorDevice.size c.args.device = g.met.D.SectorDevice.sized keeps c.mount.new.device ∙ told.device.size in
     labels_show now c.args.moment m (size ∙ sym told.mounted.geometry) written.labelled.0 (subst IsGeometry (sym size) told.mounted.made.0) written.active) ∣₁
 
 pub invariant_of-result-clause-explained : goal.invariant_of-result-clause-explained

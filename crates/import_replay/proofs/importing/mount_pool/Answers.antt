@@ -28,9 +28,8 @@ returns-clause-mounted g c =
     let name : List ℕ = c.in_ok-found.found.name in
     let tree : Tree = c.in_ok-found.loaded.tree in
     let slots : List Slot = c.in_ok-found.loaded.slots.items in
-    let sized = ok_both c.open_pool.result _ _ c.open_pool.ensures.mounted c.open_pool.ensures.geometry in
     ok_weaker c.open_pool.result _ (IsMountedAnew c.args.geometry c.args.dirty_max)
-    (λ m h. mounted_anew c.args.geometry u name slots tree c.args.dirty_max m h.0 h.1 c.in_ok-found.ensures.loaded.lengths (c.requires.geometry, c.requires.limit) c.in_ok-found.found.named c.in_ok-found.ensures.loaded.bounded) sized
+    (λ m h. mounted_anew c.args.geometry u name slots tree c.args.dirty_max m h c.in_ok-found.ensures.loaded.lengths c.requires.can.allowed c.in_ok-found.found.named c.in_ok-found.ensures.loaded.bounded) c.open_pool.ensures.mounted
 
 pub returns-clause-imported : goal.returns-clause-imported
 returns-clause-imported g c = λ keeps.
@@ -46,11 +45,10 @@ returns-clause-imported g c = λ keeps.
     let flushes = c.in_ok-flush.ensures.disk keeps in
     let read = read_behind_flush old mid size u name tree slots flushes (c.in_ok-found.ensures.pool keeps) in
     let bytes : bytes_of (g.D.SectorDevice.disk c.read_pool.new.device).now ≡ bytes_of old.now = ap (λ (d : Disk). bytes_of d.now) (c.read_pool.ensures.reads.disk keeps) ∙ flushed old mid flushes in
-    let sized = ok_both c.open_pool.result _ _ c.open_pool.ensures.mounted c.open_pool.ensures.geometry in
     ok_weaker c.open_pool.result _ _
-    (λ m h. is_import size u name slots tree c.args.dirty_max m h.0.0 h.0.1 c.in_ok-found.ensures.loaded.lengths (bytes_of old.now) now read.long read.pool read.root c.requires.limit read.held
+    (λ m h. is_import size u name slots tree c.args.dirty_max m h.0 c.in_ok-found.ensures.loaded.lengths (bytes_of old.now) now read.long read.pool read.root c.requires.can.allowed.1 read.held
     (subst (λ (b : List ℕ). HasSameBlocks size b now) bytes h.1.same_blocks))
-    (ok_both c.open_pool.result _ _ sized (c.open_pool.ensures.written keeps))
+    (ok_both c.open_pool.result _ _ c.open_pool.ensures.mounted (c.open_pool.ensures.written keeps))
 
 pub returns-clause-written : goal.returns-clause-written
 returns-clause-written g c = λ keeps.
@@ -64,10 +62,10 @@ returns-clause-written g c = λ keeps.
     let even : Bool = is_even c.in_ok-found.found.first in
     let flushes = c.in_ok-flush.ensures.disk keeps in
     let read = read_behind_flush old mid size u name tree slots flushes (c.in_ok-found.ensures.pool keeps) in
-    let same_long = g.met.D.SectorDevice.sized keeps c.open_pool.new.device ∙ c.open_pool.ensures.size ∙ c.read_pool.ensures.reads.size ∙ c.flush.ensures.size ∙ c.requires.sized in
+    let same_long = g.met.D.SectorDevice.sized keeps c.open_pool.new.device ∙ c.open_pool.ensures.device.size ∙ c.read_pool.ensures.reads.size ∙ c.flush.ensures.size ∙ c.requires.can.size in
     let first = subst (λ (b : List ℕ). HasFirstStage b u.guid u.group name even) (flushed old mid flushes) (c.in_ok-found.ensures.first keeps) in
     ok_written old _ mid _ size u name slots tree c.args.dirty_max c.args.moment even c.open_pool.result (c.read_pool.ensures.reads.disk keeps) flushes read.long same_long
-    read.pool.active first read.root c.open_pool.ensures.mounted c.open_pool.ensures.geometry (c.open_pool.ensures.written keeps)
+    read.pool.active first read.root c.open_pool.ensures.mounted (c.open_pool.ensures.written keeps)
 
 pub returns-in_err-flush-clause-refused : goal.returns-in_err-flush-clause-refused
 returns-in_err-flush-clause-refused g c =
@@ -157,8 +155,7 @@ returns-clause-starts g c = λ keeps.
     let ends =
     subst (λ (d : Disk). IfOk c.open_pool.result (λ m. EndsFound size u name first (config_of_import m) (uberblock_of_import c.args.moment m) d new)) (c.read_pool.ensures.reads.disk keeps)
     (c.open_pool.ensures.behind keeps) in
-    let sized = ok_both c.open_pool.result _ _ c.open_pool.ensures.mounted c.open_pool.ensures.geometry in
     ok_weaker c.open_pool.result _ _
     (λ m h. starts_run (g.D.SectorDevice.disk c.args.device.now) (g.D.SectorDevice.disk c.flush.new.self) (c.in_ok-flush.ensures.disk keeps) size u name c.in_ok-found.loaded.tree c.in_ok-found.loaded.slots.items
-    first new (c.in_ok-found.ensures.pool keeps) (c.in_ok-found.ensures.first keeps) views c.args.dirty_max c.args.moment m h.0.0 h.0.1 h.1)
-    (ok_both c.open_pool.result _ _ sized ends)
+    first new (c.in_ok-found.ensures.pool keeps) (c.in_ok-found.ensures.first keeps) views c.args.dirty_max c.args.moment m h.0 h.1)
+    (ok_both c.open_pool.result _ _ c.open_pool.ensures.mounted ends)

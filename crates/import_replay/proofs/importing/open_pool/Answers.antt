@@ -23,7 +23,7 @@ use Rattle.import_replay.proofs.WrittenImports.{synced_same}
 use Rattle.import_replay.proofs.importing.open_pool.Goals as goal
 
 pub invariant_of-result-clause-tree_placed : goal.invariant_of-result-clause-tree_placed
-invariant_of-result-clause-tree_placed g c = ∣ c.requires.placed ∣₁
+invariant_of-result-clause-tree_placed g c = ∣ c.requires.can.placed ∣₁
 
 pub returns-clause-mounted : goal.returns-clause-mounted
 returns-clause-mounted g c =
@@ -31,10 +31,11 @@ returns-clause-mounted g c =
     let taken : HasTakenLowest (pointers_of tree) (block_count c.args.geometry) (block_address c.in_ok-log_block.log_block) c.take_lowest.new.self.free =
     rw c.in_ok-log_block.ensures.taken (lowest_taken (pointers_of tree) (block_count c.args.geometry) c.in_ok-free.free c.in_ok-log_block.log_block c.in_ok-free.ensures.free c.in_ok-log_block.ensures.lowest) in
     record {
+      geometry = refl;
       guid = refl;
       group = refl;
       import_number = refl;
-      within = c.requires.within;
+      within = c.requires.can.within;
       name_is = c.of.ensures.name;
       slots_are = ap (λ (v : Vec Slot). v.items) c.of.ensures.slots;
       tree_is = refl;
@@ -44,11 +45,11 @@ returns-clause-mounted g c =
 
 pub invariant_of-result-clause-group_fits : goal.invariant_of-result-clause-group_fits
 invariant_of-result-clause-group_fits g c =
-    let within = group-within c.args.found.uberblock.group.0 c.args.found.uberblock.import_number c.requires.within in
+    let within = group-within c.args.found.uberblock.group.0 c.args.found.uberblock.import_number c.requires.can.within in
     (omega arith, omega (arith, within))
 
 pub invariant_of-result-clause-import_fits : goal.invariant_of-result-clause-import_fits
-invariant_of-result-clause-import_fits g c = import-within c.args.found.uberblock.group.0 c.args.found.uberblock.import_number c.requires.within
+invariant_of-result-clause-import_fits g c = import-within c.args.found.uberblock.group.0 c.args.found.uberblock.import_number c.requires.can.within
 
 pub returns-clause-written : goal.returns-clause-written
 returns-clause-written g c = λ keeps.
@@ -57,7 +58,7 @@ returns-clause-written g c = λ keeps.
     let next : Uberblock = next_uberblock (fields_of u) c.args.moment c.block_address.result in
     synced_same c.args.geometry _ config _ (record next { root = c.args.loaded.tree.root }) (is_even c.args.found.first) (g.D.SectorDevice.disk c.args.device.now) (g.D.SectorDevice.disk c.sync_labels.new.device)
     (c.new-config.ensures ∙ (λ i. record config { size = c.size.ensures.size i; name = (c.copy_name.ensures.copy ∙ sym c.of.ensures.name) i }))
-    (λ i. record next { root = sym c.requires.root i })
+    (λ i. record next { root = sym c.requires.can.root i })
     (c.in_ok-sync_labels.ensures.written keeps)
 
 pub returns-in_err-free-clause-refused : goal.returns-in_err-free-clause-refused
@@ -93,7 +94,7 @@ returns-in_err-sync_labels-clause-refused g c =
     rw c.in_ok-log_block.ensures.taken (lowest_taken (pointers_of tree) (block_count size) c.in_ok-free.free c.in_ok-log_block.log_block c.in_ok-free.ensures.free c.in_ok-log_block.ensures.lowest) in
     let config : Config = next_config u name size in
     passed_on c.from_residual-in_err-sync_labels.result x _ c.from_residual-in_err-sync_labels.ensures.1
-    (open_stopped g.D.SectorDevice.keeps_model size u name tree c.args.moment even old new x c.in_err-sync_labels.ensures.refused (λ keeps. record {
+    (open_stopped g.D.SectorDevice.keeps_model size u name tree c.args.moment even old new x c.in_err-sync_labels.ensures.calls.refused (λ keeps. record {
       log_address = c.block_address.result;
       free = left;
       log = subst (λ (a : ℕ). HasTakenLowest (pointers_of tree) (block_count size) a left) (sym c.block_address.ensures.address) taken;
@@ -135,4 +136,4 @@ returns-clause-behind g c = λ keeps.
     (g.D.SectorDevice.disk c.args.device.now) (g.D.SectorDevice.disk c.sync_labels.new.device)
     (c.new-config.ensures ∙ (λ i. record config { size = c.size.ensures.size i; name = c.copy_name.ensures.copy i })) refl
     _ _ (c.new-config.ensures ∙ (λ i. record told { size = c.size.ensures.size i; name = (c.copy_name.ensures.copy ∙ sym c.of.ensures.name) i }))
-    (λ i. record next { root = sym c.requires.root i }) (c.in_ok-sync_labels.ensures.behind keeps)
+    (λ i. record next { root = sym c.requires.can.root i }) (c.in_ok-sync_labels.ensures.behind keeps)

@@ -1,4 +1,4 @@
-use Rattle.std.proofs.Common.{◌≡◌, ◌∙◌, ℕ, List, length, take, ap, refl, sym}
+use Rattle.std.proofs.Common.{rules, ◌≡◌, ◌∙◌, ℕ, List, length, take, ap, refl, sym}
 use Rattle.base.specs.declared.error.PoolError.{PoolError}
 use Rattle.base.specs.disk.Disk.{bytes_of}
 use Rattle.base.specs.formats.Labels.{Config}
@@ -16,11 +16,15 @@ use Rattle.import_replay.proofs.Reasons.{passed_on}
 use Rattle.import_replay.proofs.SyncedLabels.{hold_labels, other_slots}
 use Rattle.import_replay.proofs.label_sync.sync_labels.Goals as goal
 
-pub returns-in_err-next-clause-refused : goal.returns-in_err-next-clause-refused
-returns-in_err-next-clause-refused g c =
+pub returns-in_err-next-clause-calls : goal.returns-in_err-next-clause-calls
+returns-in_err-next-clause-calls g c =
     let x = c.in_err-next.field-0.0 in
     let call = c.in_err-next.ensures.called in
-    passed_on c.from_residual.result x IsSyncRefusal c.from_residual.ensures.1 (sync_refused call.call x call.refusal)
+    record {
+      size = c.next.ensures.size ∙ c.loop-run.invariant.sized ∙ sym c.requires.sized.size;
+      count = search rules;
+      refused = passed_on c.from_residual.result x IsSyncRefusal c.from_residual.ensures.1 (sync_refused call.call x call.refusal);
+    }
 
 pub returns-in_err-next-clause-stopped : goal.returns-in_err-next-clause-stopped
 returns-in_err-next-clause-stopped g c = λ keeps.
@@ -43,7 +47,7 @@ loop-run-init g c =
     let told = c.label_run-run.ensures in
     let start = g.D.SectorDevice.disk c.args.device.now in
     record {
-      sized = c.requires.sized;
+      sized = c.requires.sized.size;
       run = told.sync;
       left = told.left;
       count = refl;
@@ -56,7 +60,7 @@ loop-run-init g c =
 pub returns-in_err-next-clause-views : goal.returns-in_err-next-clause-views
 returns-in_err-next-clause-views g c = λ keeps created at v began ready behind spares.
     let i = c.loop-run.invariant in
-    moments_next c.args.geometry c.args.config.now (fields_of c.args.uberblock.now) c.args.first c.loop-run.run i.run created at v behind (g.D.SectorDevice.disk c.args.device.now) began c.requires.geometry
+    moments_next c.args.geometry c.args.config.now (fields_of c.args.uberblock.now) c.args.first c.loop-run.run i.run created at v behind (g.D.SectorDevice.disk c.args.device.now) began c.requires.sized.geometry
     (g.D.SectorDevice.disk c.loop-run.device) (g.D.SectorDevice.disk c.next.new.device) c.next.new.self c.next.ensures.counts.same (c.next.ensures.written keeps) (c.next.ensures.phases keeps)
     (i.views keeps created at v began ready behind spares)
 
@@ -76,12 +80,12 @@ loop-run-preserved g c =
           let new = g.D.SectorDevice.disk c.next.new.device in
           let long : length (bytes_of old.now) ≡ c.args.geometry = g.met.D.SectorDevice.sized keeps c.loop-run.device ∙ i.sized in
           blocks_then c.args.geometry (bytes_of (g.D.SectorDevice.disk c.args.device.now).now) (bytes_of old.now) (bytes_of new.now) (i.blocks keeps)
-          (call_keeps c.args.geometry config u c.args.first c.loop-run.run old new c.requires.geometry i.run long call.call (call.made keeps));
+          (call_keeps c.args.geometry config u c.args.first c.loop-run.run old new c.requires.sized.geometry i.run long call.call (call.made keeps));
       called = λ keeps.
           after_next c.args.geometry config u c.args.first c.loop-run.run i.run (g.D.SectorDevice.disk c.args.device.now) (g.D.SectorDevice.disk c.loop-run.device) (g.D.SectorDevice.disk c.next.new.device)
           call.call call.next (i.called keeps) (call.made keeps) c.next.new.self.done c.in_ok-next.ensures.counts.done;
       views = λ keeps created at v began ready behind spares.
-          since_next c.args.geometry c.args.config.now (fields_of c.args.uberblock.now) c.args.first c.loop-run.run i.run created at v behind (g.D.SectorDevice.disk c.args.device.now) began c.requires.geometry
+          since_next c.args.geometry c.args.config.now (fields_of c.args.uberblock.now) c.args.first c.loop-run.run i.run created at v behind (g.D.SectorDevice.disk c.args.device.now) began c.requires.sized.geometry
           (g.D.SectorDevice.disk c.loop-run.device) (g.D.SectorDevice.disk c.next.new.device) c.next.new.self c.next.ensures.counts.same (c.next.ensures.written keeps) (c.next.ensures.phases keeps)
           (i.views keeps created at v began ready behind spares);
       made = λ keeps.
@@ -108,22 +112,22 @@ returns-clause-written g c = λ keeps.
       synced = after_next size config u first c.loop-run.run i.run start old new call.call call.next (i.called keeps) (call.made keeps) c.next.new.self.done c.in_ok-next.ensures.counts.done
           ∙ ap (λ (l : List DeviceCall). after_calls size config u l start) (whole size config u first c.next.new.self run all);
       labelled = hold_labels size config u first c.next.new.self run base (bytes_of new.now) made all;
-      other_slots = other_slots size config u first c.next.new.self run base (bytes_of new.now) made all c.requires.geometry;
-      same_blocks = blocks_then size base (bytes_of old.now) (bytes_of new.now) (i.blocks keeps) (call_keeps size config u first c.loop-run.run old new c.requires.geometry i.run long call.call (call.made keeps));
+      other_slots = other_slots size config u first c.next.new.self run base (bytes_of new.now) made all c.requires.sized.geometry;
+      same_blocks = blocks_then size base (bytes_of old.now) (bytes_of new.now) (i.blocks keeps) (call_keeps size config u first c.loop-run.run old new c.requires.sized.geometry i.run long call.call (call.made keeps));
       settled = (c.next.ensures.written keeps).settled all;
     }
 
 pub returns-clause-views : goal.returns-clause-views
 returns-clause-views g c = λ keeps created at v began ready behind spares.
     let i = c.loop-run.invariant in
-    moments_next c.args.geometry c.args.config.now (fields_of c.args.uberblock.now) c.args.first c.loop-run.run i.run created at v behind (g.D.SectorDevice.disk c.args.device.now) began c.requires.geometry
+    moments_next c.args.geometry c.args.config.now (fields_of c.args.uberblock.now) c.args.first c.loop-run.run i.run created at v behind (g.D.SectorDevice.disk c.args.device.now) began c.requires.sized.geometry
     (g.D.SectorDevice.disk c.loop-run.device) (g.D.SectorDevice.disk c.next.new.device) c.next.new.self c.next.ensures.counts.same (c.next.ensures.written keeps) (c.next.ensures.phases keeps)
     (i.views keeps created at v began ready behind spares)
 
 pub returns-clause-behind : goal.returns-clause-behind
 returns-clause-behind g c = λ keeps created at v began ready behind spares.
     let i = c.loop-run.invariant in
-    rest_next c.args.geometry c.args.config.now (fields_of c.args.uberblock.now) c.args.first c.loop-run.run i.run created at v behind (g.D.SectorDevice.disk c.args.device.now) began c.requires.geometry
+    rest_next c.args.geometry c.args.config.now (fields_of c.args.uberblock.now) c.args.first c.loop-run.run i.run created at v behind (g.D.SectorDevice.disk c.args.device.now) began c.requires.sized.geometry
     (g.D.SectorDevice.disk c.loop-run.device) (g.D.SectorDevice.disk c.next.new.device) c.next.new.self c.next.ensures.counts.same (c.next.ensures.written keeps) (c.next.ensures.phases keeps)
     (i.views keeps created at v began ready behind spares)
     (c.in_ok-next.ensures.counts.last.0 c.in_default.is)

@@ -15,7 +15,7 @@ returns-in_err-loaded-clause-reason g c = λ keeps.
     passed_on c.from_residual-in_err-loaded.result x (IsReason image) c.from_residual-in_err-loaded.ensures.1
     (reason-load image x c.in_err-loaded.ensures.cause (λ kind address is.
     is_read_damaged image (g.D.SectorDevice.disk c.find_pool.new.device) c.args.geometry _ u c.in_ok-found.found.name
-    (g.met.D.SectorDevice.sized keeps c.args.device.now ∙ c.requires.sized) (ap (λ (d : Disk). bytes_of d.now) (c.find_pool.ensures.reads.disk keeps))
+    (g.met.D.SectorDevice.sized keeps c.args.device.now ∙ c.requires.sized.size) (ap (λ (d : Disk). bytes_of d.now) (c.find_pool.ensures.reads.disk keeps))
     (c.in_ok-found.ensures.pool keeps) c.frame_of-frame.ensures kind address (c.in_err-loaded.ensures.fault keeps kind address is)))
 
 pub returns-clause-pool : goal.returns-clause-pool
@@ -23,6 +23,6 @@ returns-clause-pool g c = λ keeps.
     let image : List ℕ = bytes_of (g.D.SectorDevice.disk c.args.device.now).now in
     let u = fields_of c.in_ok-found.found.uberblock in
     is_read_pool image (g.D.SectorDevice.disk c.find_pool.new.device) c.args.geometry _ u c.in_ok-found.found.name
-    (g.met.D.SectorDevice.sized keeps c.args.device.now ∙ c.requires.sized) (ap (λ (d : Disk). bytes_of d.now) (c.find_pool.ensures.reads.disk keeps))
+    (g.met.D.SectorDevice.sized keeps c.args.device.now ∙ c.requires.sized.size) (ap (λ (d : Disk). bytes_of d.now) (c.find_pool.ensures.reads.disk keeps))
     (c.in_ok-found.ensures.pool keeps) c.frame_of-frame.ensures
     c.in_ok-loaded.loaded.tree (objects_of c.in_ok-loaded.loaded.slots.items) (c.in_ok-loaded.ensures.tree keeps) c.in_ok-loaded.ensures.root

@@ -14,7 +14,7 @@ returns-in_err-tree-clause-reason g c = λ keeps.
     passed_on c.from_residual-in_err-tree.result x (IsReason image) c.from_residual-in_err-tree.ensures.1
     (reason-load image x c.in_err-tree.ensures.cause (λ kind address is.
     is_read_damaged image (g.D.SectorDevice.disk c.find_pool.new.device) c.args.geometry _ u c.in_ok-found.found.name
-    (g.met.D.SectorDevice.sized keeps c.args.device.now ∙ c.requires.sized) (ap (λ (d : Disk). bytes_of d.now) (c.find_pool.ensures.reads.disk keeps))
+    (g.met.D.SectorDevice.sized keeps c.args.device.now ∙ c.requires.sized.size) (ap (λ (d : Disk). bytes_of d.now) (c.find_pool.ensures.reads.disk keeps))
     (c.in_ok-found.ensures.pool keeps) c.frame_of-frame.ensures kind address (c.in_err-tree.ensures.fault keeps kind address is)))
 
 pub returns-clause-surveyed : goal.returns-clause-surveyed
@@ -25,5 +25,5 @@ returns-clause-surveyed g c =
     is_surveyed g.D.SectorDevice.keeps_model image (bytes_of (g.D.SectorDevice.disk c.find_pool.new.device).now) c.args.geometry _ u c.in_ok-found.found.name c.in_ok-tree.tree
     c.frame_of-frame.ensures told.placed told.objects (λ keeps.
     is_read_pool image (g.D.SectorDevice.disk c.find_pool.new.device) c.args.geometry _ u c.in_ok-found.found.name
-    (g.met.D.SectorDevice.sized keeps c.args.device.now ∙ c.requires.sized) (ap (λ (d : Disk). bytes_of d.now) (c.find_pool.ensures.reads.disk keeps))
+    (g.met.D.SectorDevice.sized keeps c.args.device.now ∙ c.requires.sized.size) (ap (λ (d : Disk). bytes_of d.now) (c.find_pool.ensures.reads.disk keeps))
     (c.in_ok-found.ensures.pool keeps) c.frame_of-frame.ensures c.in_ok-tree.tree told.objects.objects (told.objects.held keeps) told.root)

@@ -54,6 +54,7 @@ pub invariant_of-self-2 : goal.invariant_of-self-2
 invariant_of-self-2 c =
     let pool = c.args.self.now in
     record {
+      sized = pool.sized;
       free_counted = pool.free_counted;
       import_fits = pool.import_fits;
       next_ordinal_fits = pool.next_ordinal_fits;

@@ -40,6 +40,7 @@ invariant_of-self c =
     let line : c.release.new.self.line ≡ pool.groups.line = ap (λ (l : CountedLine). l.line) c.in-Ok.ensures.released ∙ line-after_release pool.groups pool.accounted.counted group in
     let p : Admission → Bool = λ (a : Admission). not (a.tx == c.args.tx.0) in
     record {
+      sized = pool.sized;
       free_counted = pool.free_counted;
       import_fits = pool.import_fits;
       next_ordinal_fits = omega (arith, c.requires.named);

@@ -11,6 +11,7 @@ pub invariant_of-self-3 : goal.invariant_of-self-3
 invariant_of-self-3 c =
     let pool = c.args.self.now in
     record {
+      sized = pool.sized;
       free_counted = record {
         sized = ap (λ (s : FreeSpace). s.blocks) c.give_all.ensures ∙ pool.free_counted.sized;
         taken = ap (λ (s : FreeSpace). s.taken) c.give_all.ensures ∙ pool.free_counted.taken;

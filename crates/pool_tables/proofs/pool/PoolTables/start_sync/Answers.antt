@@ -31,15 +31,15 @@ pub returns-in_err-reserve_synced-clause-start : goal.returns-in_err-reserve_syn
 returns-in_err-reserve_synced-clause-start c =
     let p = err_from_is_err_and c.from_residual-in_err-reserve_synced.result c.from_residual-in_err-reserve_synced.ensures.1 in
     let want = c.in_err-reserve_synced.ensures.refused in
-    rw (p.1, p.2) (want_refuses_start c.args.self.now c.args.moment (pool_told c.reserve_synced.new.self) c.reserve_synced.ensures.kept c.in_ok-group.group.0 c.in_err-reserve_synced.field-0.0 c.in_ok-check_running.ensures c.in_ok-group.ensures.may
+    rw (p.1, p.2) (want_refuses_start c.args.self.now c.args.moment (pool_told c.reserve_synced.new.self) c.reserve_synced.ensures.unchanged c.in_ok-group.group.0 c.in_err-reserve_synced.field-0.0 c.in_ok-check_running.ensures c.in_ok-group.ensures.may
     (inl want) (λ past x. want))
 
 pub returns-in_err-planned-clause-start : goal.returns-in_err-planned-clause-start
 returns-in_err-planned-clause-start c =
     let p = err_from_is_err_and c.from_residual-in_err-planned.result c.from_residual-in_err-planned.ensures.1 in
     let told = c.in_err-planned.ensures in
-    rw (p.1, p.2) (want_refuses_start c.args.self.now c.args.moment (pool_told c.reserve_synced.new.self) c.reserve_synced.ensures.kept c.in_ok-group.group.0 c.in_err-planned.field-0.0 c.in_ok-check_running.ensures c.in_ok-group.ensures.may
-    told.refused (plan_wants c.reserve_synced.new.self (pool_told c.args.self.now) c.reserve_synced.ensures.kept c.in_ok-group.group.0 c.in_ok-group.ensures.may c.in_err-planned.field-0.0 told.refused told.no_space))
+    rw (p.1, p.2) (want_refuses_start c.args.self.now c.args.moment (pool_told c.reserve_synced.new.self) c.reserve_synced.ensures.unchanged c.in_ok-group.group.0 c.in_err-planned.field-0.0 c.in_ok-check_running.ensures c.in_ok-group.ensures.may
+    told.refused (plan_wants c.reserve_synced.new.self (pool_told c.args.self.now) c.reserve_synced.ensures.unchanged c.in_ok-group.group.0 c.in_ok-group.ensures.may c.in_err-planned.field-0.0 told.refused told.no_space))
 
 pub returns-in_err-check_running-clause-unmoved : goal.returns-in_err-check_running-clause-unmoved
 returns-in_err-check_running-clause-unmoved c = let p = err_from_is_err_and c.from_residual.result c.from_residual.ensures.1 in rw (p.1) refl
@@ -57,13 +57,13 @@ returns-in_err-planned-clause-unmoved c =
 
 pub take_all-requires : goal.take_all-requires
 take_all-requires c =
-    let may = may_still c.reserve_synced.new.self (pool_told c.args.self.now) c.reserve_synced.ensures.kept c.in_ok-group.group.0 c.in_ok-group.ensures.may in
+    let may = may_still c.reserve_synced.new.self (pool_told c.args.self.now) c.reserve_synced.ensures.unchanged c.in_ok-group.group.0 c.in_ok-group.ensures.may in
     none_counted c.reserve_synced.new.self may.1
 
 pub unreachable-requires : goal.unreachable-requires
 unreachable-requires c =
     let pool = c.reserve_synced.new.self in
-    let may = may_still pool (pool_told c.args.self.now) c.reserve_synced.ensures.kept c.in_ok-group.group.0 c.in_ok-group.ensures.may in
+    let may = may_still pool (pool_told c.args.self.now) c.reserve_synced.ensures.unchanged c.in_ok-group.group.0 c.in_ok-group.ensures.may in
     false≢true (sym (may_start pool.groups.line c.in_ok-group.group.0 may) ∙ c.in_default.ensures.refused.0 refl)
 
 pub invariant_of-self : goal.invariant_of-self
@@ -71,12 +71,13 @@ invariant_of-self c =
     let pool = c.reserve_synced.new.self in
     let ts = pool.transactions.transactions in
     let group = c.in_ok-group.group.0 in
-    let may = may_still pool (pool_told c.args.self.now) c.reserve_synced.ensures.kept group c.in_ok-group.ensures.may in
+    let may = may_still pool (pool_told c.args.self.now) c.reserve_synced.ensures.unchanged group c.in_ok-group.ensures.may in
     let told = c.start_sync.ensures in
     let now : c.start_sync.new.self ≡ after_start group pool.groups = started c.start_sync.result pool.groups c.start_sync.new.self group may told.refused told.started told.group in
     let rs = c.running_sync-running.result in
     let ens = c.running_sync-running.ensures in
     record {
+      sized = pool.sized;
       free_counted = record {
         sized = ap (λ (s : FreeSpace). s.blocks) c.take_all.ensures ∙ pool.free_counted.sized;
         taken = ap (λ (s : FreeSpace). s.taken) c.take_all.ensures ∙ taken_anew pool c.deref.result.now may.1 ∙ ap (λ (l : List PlannedBlock). length l) c.deref.ensures.value;
@@ -105,8 +106,8 @@ returns-clause-start c =
     let pool = c.reserve_synced.new.self in
     let g = c.in_ok-group.group in
     let ens = c.running_sync-running.ensures in
-    let may = may_still pool old c.reserve_synced.ensures.kept g.0 c.in_ok-group.ensures.may in
+    let may = may_still pool old c.reserve_synced.ensures.unchanged g.0 c.in_ok-group.ensures.may in
     let told = c.start_sync.ensures in
     let line = started c.start_sync.result pool.groups c.start_sync.new.self g.0 may told.refused told.started told.group in
-    plan_starts_sync pool g c.args.moment c.in_ok-planned.planned old c.reserve_synced.ensures.kept c.in_ok-check_running.ensures may c.in_ok-planned.ensures.taken c.in_ok-planned.ensures.tree
+    plan_starts_sync pool g c.args.moment c.in_ok-planned.planned old c.reserve_synced.ensures.unchanged c.in_ok-check_running.ensures may c.in_ok-planned.ensures.taken c.in_ok-planned.ensures.tree
     c.start_sync.new.self c.take_all.new.free c.running_sync-running.result c.deref.result.now line c.take_all.ensures c.deref.ensures.value ens.begins ens.plan ens.uberblock.bytes

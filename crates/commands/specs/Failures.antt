@@ -4,14 +4,14 @@ use Rattle.base.specs.declared.error.PoolError.{PoolError}
 use Rattle.base.specs.declared.error.PoolError.TheVariants.{BadGeometry, BadRange}
 use Rattle.base.specs.formats.Geometry.{IsGeometry, is_geometry}
 use Rattle.base.specs.formats.Names.{is_name}
-use Rattle.commands.specs.declared.fault.Fault.{Fault}
-use Rattle.commands.specs.declared.fault.Fault.TheVariants.{Refused, Unusable, Unwritten}
+use Rattle.commands.specs.declared.failure.Failure.{Failure}
+use Rattle.commands.specs.declared.failure.Failure.TheVariants.{Refused, Unusable, Unwritten}
 
--- the status of a fault
-abbrev pub fault_status : Fault → ℕ
-fault_status (Refused refusal) = 1
-fault_status Unusable = 3
-fault_status Unwritten = 3
+-- the status of a failure
+abbrev pub failure_status : Failure → ℕ
+failure_status (Refused refusal) = 1
+failure_status Unusable = 3
+failure_status Unwritten = 3
 
 -- the bytes of the whole sectors of a file of so many bytes
 abbrev pub sector_bytes : ℕ → ℕ
