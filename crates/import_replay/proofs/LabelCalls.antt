@@ -11,7 +11,7 @@ use Rattle.base.specs.disk.Calls.{Writes}
 use Rattle.base.specs.disk.Disk.{Disk, written}
 use Rattle.base.specs.formats.Chain.{LogBlock}
 use Rattle.base.specs.formats.Fields.{number_at}
-use Rattle.base.specs.formats.Geometry.{block_size, config_place, slot_of, slot_place}
+use Rattle.base.specs.formats.Geometry.{config_place, slot_of, slot_place}
 use Rattle.base.specs.formats.Labels.{Config}
 use Rattle.base.specs.disk.SyncOrder.{DeviceCall, calls_in_order, import_calls}
 use Rattle.base.specs.disk.SyncOrder.DeviceCall.{Block, Config as ConfigCall, Uberblock as UberblockCall, Flush}

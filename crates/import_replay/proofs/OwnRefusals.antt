@@ -4,7 +4,6 @@ use Rattle.std.specs.Ordering.{nat_cmp}
 use Rattle.std.specs.FinSet as set
 use Rattle.std.specs.FinSet.{FinSet, len-empty}
 use Rattle.base.specs.declared.error.PoolError.{PoolError}
-use Rattle.base.specs.declared.error.PoolError.TheVariants.{Damaged, NoPool, NoSpace}
 use Rattle.base.specs.crash.Mount.{HasNoPool, IsTreeDamaged, Mounts, MountsTo, frame_of}
 use Rattle.base.specs.crash.Own.{IsOwnImage, IsOwnWith}
 use Rattle.base.specs.crash.Views.{IsFoundAs, view_frame}
