@@ -1,28 +1,34 @@
 -- The calls of a sync of the labels, and what they make of the disk.
-use Rattle.std.proofs.Common.{◌≡◌, ℕ, ◌+◌, true, List, [], ◌∷◌, ◌++◌, length, map, take, nat_eq, Option, Some, Result, Ok, Err, refl, sym, ◌∙◌, ap, subst, arith}
+use Rattle.std.proofs.Common.{◌≡◌, ℕ, ◌+◌, true, List, [], ◌∷◌, ◌++◌, length, map, take, nat_eq, Option, Some, None, Result, Ok, Err, refl, sym, ◌∙◌, ap, subst, arith}
 use Rattle.std.specs.Prelude.{is_some, slice_get, vec_len}
 use Rattle.std.specs.List.{IsDistinct}
 use Rattle.std.specs.Option.{option_map}
 use Rattle.std.proofs.lemmas.List.{take_all, take_more}
 use Rattle.std.proofs.lemmas.Option.{get_or_from_slice_get, slice_get_within}
+use Rattle.base.specs.crash.Views.{IsLogContent}
 use Rattle.base.specs.declared.error.PoolError.{PoolError}
 use Rattle.base.specs.disk.Calls.{Writes}
 use Rattle.base.specs.disk.Disk.{Disk, written}
+use Rattle.base.specs.formats.Chain.{LogBlock}
+use Rattle.base.specs.formats.Fields.{number_at}
 use Rattle.base.specs.formats.Geometry.{config_place, slot_of, slot_place}
 use Rattle.base.specs.formats.Labels.{Config}
 use Rattle.base.specs.disk.SyncOrder.{DeviceCall, calls_in_order, import_calls}
 use Rattle.base.specs.disk.SyncOrder.DeviceCall.{Block, Config as ConfigCall, Uberblock as UberblockCall, Flush}
-use Rattle.base.specs.formats.Uberblocks.{Uberblock}
+use Rattle.base.specs.formats.Uberblocks.{Uberblock, slot_size}
 use Rattle.labels.specs.Configs.{config_block}
 use Rattle.labels.specs.Stages.{labels_of}
 use Rattle.labels.specs.declared.stage.Stage.{Stage}
 use Rattle.labels.specs.declared.stage.Stage.TheVariants.{Even, Odd}
+use Rattle.uberblocks.specs.Slots.{slot_bytes}
 use Rattle.sync.specs.declared.run.LabelStages.{LabelStages}
 use Rattle.sync.specs.declared.run.SyncRun.{SyncRun}
 use Rattle.sync.specs.CallOrder.{stage_after}
 use Rattle.sync.specs.Made.{HasDistinctBlocks}
+use Rattle.sync.specs.Phases.{IsWrittenNext}
 use Rattle.sync.specs.Runs.{call_count, other_calls}
-use Rattle.sync.specs.Calls.{IsNextCall, MakesCall, Target, WritesTarget, block_target, calls_of, config_target, first_labels, last_labels, refusal_of}
+use Rattle.sync.specs.Calls.{IsNextCall, MakesCall, Target, WritesTarget, block_target, calls_of, config_target, first_labels, last_labels, refusal_of, target_of}
+use Rattle.sync.proofs.Targets.{call_of_target, mapped}
 use Rattle.import_replay.specs.LabelSyncs.{IsLabelSync, IsStoppedSync, LeavesRefused, after_call, after_calls, is_even}
 
 no_block : {A : Type 0} (f : A → Target) (k : ℕ) (blocks : List A) (old new : Disk) (r : Result (Unit {0}) PoolError) → blocks ≡ [] → WritesTarget (option_map f (slice_get blocks k)) old r new → ⊥
@@ -68,6 +74,9 @@ module _ (size : ℕ) (config : Config) (u : Uberblock) (first : Stage) (run : S
       subst (λ (bytes : List ℕ). Writes old (slot_place size label (slot_of u.group)) bytes (Err e) new) is.uberblock
       (subst (λ n. Writes old (slot_place size label n) run.uberblock (Err e) new) is.slot (subst (λ n. Writes old (slot_place n label run.slot) run.uberblock (Err e) new) is.geometry made))
   call_leaves Flush e old new made = made
+
+pub not_there : {A : Type 0} (blocks : List A) (k : ℕ) (b : A) → blocks ≡ [] → slice_get blocks k ≡ Some b → ⊥
+not_there {A} blocks k b none at = let n : None ≡ Some b = subst (λ (bs : List A). slice_get bs k ≡ Some b) none at in cc
 
 none_distinct : IsDistinct nat_eq []
 unfolding IsDistinct
@@ -124,6 +133,28 @@ module _ (size : ℕ) (config : Config) (u : Uberblock) (first : Stage) (run : S
   -- no two blocks have one place
   pub distinct_blocks : HasDistinctBlocks run
   distinct_blocks = no_distinct run.blocks.items is.blocks (λ b. b.index)
+
+  -- and none of the calls writes a log block
+  pub writes_no_log : (guid chain number place : ℕ) (content : List ℕ) (block : LogBlock) → IsWrittenNext run place content → IsLogContent content guid chain number block → ⊥
+  writes_no_log guid chain number place content block written log =
+      let (call, stands, made) = call_of_target run run.done written.target written.at in
+      by_call call written.target made (subst (λ (l : List ℕ). IsLogContent l guid chain number block) (sym written.content_is) log)
+    where
+      by_call : (call : DeviceCall) (t : Target) → target_of run call ≡ Some t → IsLogContent t.content guid chain number block → ⊥
+      by_call (ConfigCall label) t made told =
+          let (stages, at, same) = mapped (config_target run.geometry label) run.stages t made in
+          let given : run.stages ≡ Some (record { config = config_block config; first = first }) = is.stages in
+          let one : stages ≡ record { config = config_block config; first = first } = cc in
+          let bytes : t.content ≡ config_block config = ap (λ (x : Target). x.content) (sym same) ∙ ap (λ (s : LabelStages). s.config) one in
+          let kind : number_at t.content 0 ≡ 1 = ap (λ (l : List ℕ). number_at l 0) bytes ∙ is.is_config.sealed.kind_is in
+          omega (arith, kind, told.sealed.kind_is)
+      by_call (UberblockCall label) t made told =
+          let same : record { place = slot_place run.geometry label run.slot; size = 1024; content = run.uberblock } ≡ t = cc in
+          let bytes : t.content ≡ slot_bytes u = ap (λ (x : Target). x.content) (sym same) ∙ is.uberblock in
+          let short : length t.content ≡ slot_size = ap (λ (l : List ℕ). length l) bytes ∙ is.is_uberblock.size in
+          omega (arith, short, told.sealed.size)
+      by_call (Block k) t made told = let (b, at, same) = mapped block_target (slice_get run.blocks.items k) t made in not_there run.blocks.items k b is.blocks at
+      by_call Flush t made told = absurd (let no_way : None ≡ Some t = made in cc)
 
 -- the same sync of equal fields
 pub stopped_same : (size : ℕ) (config other : Config) (u v : Uberblock) (calls : List DeviceCall) (e : PoolError) (old new : Disk) → config ≡ other → u ≡ v → IsStoppedSync size config u calls e old new → IsStoppedSync size other v calls e old new

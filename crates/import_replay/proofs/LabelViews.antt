@@ -1,22 +1,25 @@
 -- A sync of the labels leads from the view that an import began on to the one that it writes: each moment of it is of
--- one of the phases, what a read gives stays fair, and no config counts but that of the import.
-use Rattle.std.proofs.Common.{◌≡◌, inl, inr, ⊎_elim, ℕ, ◌+◌, ◌<◌, ◌≤◌, List, [], length, drop, Option, Some, None, refl, sym, ◌∙◌, ap, subst, arith}
-use Rattle.std.specs.Prelude.{All, slice_get}
+-- one of the phases, what a read gives stays fair, no config counts but that of the import, and no log block of a later
+-- chain than the view's does.
+use Rattle.std.proofs.Common.{◌≡◌, inl, inr, ⊎_elim, ℕ, ◌+◌, ◌<◌, ◌≤◌, List, [], length, drop, Option, Some, refl, sym, ◌∙◌, ap, subst, arith}
+use Rattle.std.specs.Prelude.{All}
 use Rattle.std.proofs.lemmas.List.Elements.{All-nil}
 use Rattle.base.specs.declared.pointer.Pointer.{Pointer}
 use Rattle.base.specs.crash.CallStages.{FixedLabels}
 use Rattle.base.specs.crash.CrashRule.{IsImportMoment}
+use Rattle.base.specs.crash.LogRule.{AreChainsUpTo}
 use Rattle.base.specs.crash.Own.{AreConfigsBelowImport, IsAtRest, IsPhase}
 use Rattle.base.specs.crash.Views.{View, AreConfigsUpTo, IsConfigContent, IsView, config_content, view_frame}
 use Rattle.base.specs.disk.Disk.{Disk, EachMoment, Moment, Write, bytes_of, handed, moments}
 use Rattle.base.specs.disk.Fairness.{HandsOnly, HasFairBytes}
 use Rattle.base.specs.formats.Blocks.{IsBlock}
 use Rattle.base.specs.formats.Fields.{number_at}
-use Rattle.base.specs.formats.Geometry.{IsGeometry, block_count, block_size, config_place}
+use Rattle.base.specs.formats.Geometry.{IsGeometry, block_address, block_count, block_size, config_place}
 use Rattle.base.specs.formats.Labels.{Config}
 use Rattle.base.specs.formats.Uberblocks.{Uberblock}
 use Rattle.base.specs.tree.PlacedTrees.{HoldsTree, IsPlaced}
 use Rattle.base.specs.tree.PlannedTrees.{SameBlock}
+use Rattle.base.proofs.crash.LogImports.{chains_of_view}
 use Rattle.base.proofs.crash.NewViews.{configs_of_stage, logs_of_import}
 use Rattle.base.proofs.disk.Moments.{both, joins, latest, moments_grow, starts, weaker}
 use Rattle.base.proofs.disk.Put.{part_same}
@@ -34,11 +37,8 @@ use Rattle.sync.proofs.ConfigWrites.{configs_staged}
 use Rattle.sync.proofs.PhasesSince.{begins_at_rest, ends_at_rest, keeps_phases}
 use Rattle.import_replay.specs.ImportViews.{ComesBehind, IsReadyBehind, SparesConfig, view_behind}
 use Rattle.import_replay.specs.LabelSyncs.{IsLabelSync}
-use Rattle.import_replay.proofs.LabelCalls.{distinct_blocks}
+use Rattle.import_replay.proofs.LabelCalls.{distinct_blocks, not_there, writes_no_log}
 use Rattle.import_replay.proofs.LabelSyncs.{sync_goes_on}
-
-no_block : {A : Type 0} (blocks : List A) (k : ℕ) (b : A) → blocks ≡ [] → slice_get blocks k ≡ Some b → ⊥
-no_block {A} blocks k b none at = let n : None ≡ Some b = subst (λ (bs : List A). slice_get bs k ≡ Some b) none at in cc
 
 each_of_none : {A : Type 0} (P : A → Type 0) (blocks : List A) → blocks ≡ [] → All P blocks
 each_of_none {A} P blocks none = subst (λ (bs : List A). All P bs) (sym none) (All-nil P)
@@ -81,7 +81,6 @@ module _ (size : ℕ) (config : Config) (u : Uberblock) (first : Stage) (run : S
     name = view.name ∙ sym config_name;
     root = view.root ∙ sym behind.root;
     linked = tt;
-    spare = view.spare;
   }
 
   -- the tree stays where it is
@@ -98,7 +97,7 @@ module _ (size : ℕ) (config : Config) (u : Uberblock) (first : Stage) (run : S
       stands p (inl none) some = absurd (some none)
       stands p (inr (k, low, there)) some =
           part_same image base p.address block_size same
-          (λ i from to. written.others i (omega (arith, from, there)) (omega (arith, to, there, low, areas)) (λ j b below at here. no_block run.blocks.items j b is.blocks at))
+          (λ i from to. written.others i (omega (arith, from, there)) (omega (arith, to, there, low, areas)) (λ j b below at here. not_there run.blocks.items j b is.blocks at))
 
   leads : (base : List ℕ) → IsView size v → HoldsTree base (view_frame size v) v.pointers v.synced.objects → LeadsViews base run views
   leads base view holds = record {
@@ -133,11 +132,15 @@ pub record HasImportSince (size : ℕ) (config : Config) (u : Uberblock) (create
   pub phases : HasPhasesSince start (views_of config u created at v) run now
   pub fair : EachMoment (HasFairBytes size created) start now
   pub configs : EachMoment (λ m. AreConfigsBelowImport size created (handed m) v) start now
+  pub chains : EachMoment (λ m. AreChainsUpTo size created (handed m) v.u.guid v.u.import_number) start now
 
 module _ (size : ℕ) (config : Config) (u : Uberblock) (first : Stage) (run : SyncRun) (is : IsLabelSync size config u first run)
     (created : ℕ) (at : FixedLabels) (v : View) (behind : ComesBehind size config u v) (start : Disk) where
   abbrev Below : List Write → Type 0
   Below ws = AreConfigsBelowImport size created ws v
+
+  abbrev UpTo : List Write → Type 0
+  UpTo ws = AreChainsUpTo size created ws v.u.guid v.u.import_number
 
   pub import_begins : SparesConfig first at → run.done ≡ 0 → IsReadyBehind size created at v start.now → HasImportSince size config u created at v run start start
   import_begins spares none ready = record {
@@ -146,6 +149,7 @@ module _ (size : ℕ) (config : Config) (u : Uberblock) (first : Stage) (run : S
         (subst (λ (n : ℕ). IsBefore (views_of config u created at v) n start.now) (sym is.geometry) (before size config u first run is created at v behind spares start.now ready));
     fair = starts (HasFairBytes size created) start ready.bytes;
     configs = starts (λ m. Below (handed m)) start ready.configs;
+    chains = starts (λ m. UpTo (handed m)) start (chains_of_view size created (handed start.now) v ready.rest.rest.laid.logs);
   }
 
   -- what the sync writes at the place of a config is that of the import
@@ -169,6 +173,8 @@ module _ (size : ℕ) (config : Config) (u : Uberblock) (first : Stage) (run : S
         (kept.fair created reached (subst (λ (n : ℕ). HasFairBytes n created old.now) (sym is.geometry) (latest (HasFairBytes size created) start old since.fair))));
     configs = joins (λ m. Below (handed m)) start old new since.configs
         (weaker (HandsOnly created (IsWrittenNext run) (handed old.now)) (λ m. Below (handed m)) old new (λ m hands. known m hands) (kept.hands created));
+    chains = joins (λ m. UpTo (handed m)) start old new since.chains
+        (weaker (HandsOnly created (IsWrittenNext run) (handed old.now)) (λ m. UpTo (handed m)) old new (λ m hands. no_later m hands) (kept.hands created));
   }
     where
       reached : created ≤ moments old
@@ -179,14 +185,20 @@ module _ (size : ℕ) (config : Config) (u : Uberblock) (first : Stage) (run : S
           ⊎_elim (λ now. inr (written_config g label group name content below now told)) (λ earlier. latest (λ m. Below (handed m)) start old since.configs label group name content below earlier told)
           (hands (config_place size label) content some)
 
+      no_later : (m : Moment) → HandsOnly created (IsWrittenNext run) (handed old.now) m → UpTo (handed m)
+      no_later m hands k chain number content block below some log =
+          ⊎_elim (λ now. absurd (writes_no_log size config u first run is v.u.guid chain number (block_address k) content block now log))
+          (λ earlier. latest (λ m. UpTo (handed m)) start old since.chains k chain number content block below earlier log) (hands (block_address k) content some)
+
   import_moments : (now : Disk) → HasImportSince size config u created at v run start now → EachMoment (IsImportMoment size created v (view_behind config u v)) start now
   import_moments now since =
       let new : View = view_behind config u v in
       let phases = subst (λ (n : ℕ). EachMoment (λ m. IsPhase n created (length v.logged) 0 m v new) start now) is.geometry since.phases.each in
-      weaker (λ m. (HasFairBytes size created m × Below (handed m)) × IsPhase size created (length v.logged) 0 m v new) (IsImportMoment size created v new) start now
-      (λ m here. record { bytes = here.0.0; configs = here.0.1; phase = here.1 })
-      (both (λ m. HasFairBytes size created m × Below (handed m)) (λ m. IsPhase size created (length v.logged) 0 m v new) start now
-      (both (HasFairBytes size created) (λ m. Below (handed m)) start now since.fair since.configs) phases)
+      weaker (λ m. (HasFairBytes size created m × Below (handed m)) × (UpTo (handed m) × IsPhase size created (length v.logged) 0 m v new)) (IsImportMoment size created v new) start now
+      (λ m here. record { bytes = here.0.0; configs = here.0.1; chains = here.1.0; phase = here.1.1 })
+      (both (λ m. HasFairBytes size created m × Below (handed m)) (λ m. UpTo (handed m) × IsPhase size created (length v.logged) 0 m v new) start now
+      (both (HasFairBytes size created) (λ m. Below (handed m)) start now since.fair since.configs)
+      (both (λ m. UpTo (handed m)) (λ m. IsPhase size created (length v.logged) 0 m v new) start now since.chains phases))
 
   import_ends : (now : Disk) → run.done ≡ call_count run → HasImportSince size config u created at v run start now → IsAtRest size created 0 now.now (view_behind config u v)
   import_ends now all since =

@@ -1,10 +1,15 @@
 -- What a create leaves is a disk that its pool alone wrote, with no objects.
-use Rattle.std.proofs.Common.{◌≡◌, ◌≢◌, ◌⊎◌, inl, inr, ℕ, ◌+◌, ◌<◌, ◌≤◌, List, [], length, drop, Option, Some, None, refl, sym, ◌∙◌, ap, subst, arith}
-use Rattle.std.specs.Prelude.{IfSome}
-use Rattle.std.specs.Ordering.{nat_cmp}
+use Rattle.std.proofs.Common.{◌≡◌, ◌≢◌, ◌⊎◌, inl, inr, ⊎_elim, ℕ, ◌+◌, ◌<◌, ◌≤◌, true, List, [], length, drop, Option, Some, None, refl, sym, ◌∙◌, ap, subst, arith}
+use Rattle.std.specs.Prelude.{IfSome, cond}
+use Rattle.std.specs.Cmp.{unsigned_tied}
+use Rattle.std.specs.Ordering.{nat_cmp, eq_by_cmp}
 use Rattle.std.specs.FinMap as map
-use Rattle.std.proofs.lemmas.Bool.{cases_eq}
+use Rattle.std.specs.FinSet as set
+use Rattle.std.specs.FinSet.{FinSet, contains-empty, contains-insert, len-empty, len-insert}
+use Rattle.std.proofs.lemmas.Bool.{cases_eq, eqb-true, false≢true, or_cases}
+use Rattle.std.proofs.lemmas.Cmp.{nat_cmp_total}
 use Rattle.base.specs.crash.LeftDisks.{IsLeft}
+use Rattle.base.specs.crash.LogRoom.{HasImportRoom}
 use Rattle.base.specs.crash.Own.{AreHandedOrZero, IsCreatedDisk, IsOwnWith}
 use Rattle.base.specs.crash.Views.{View, IsFixed, IsView}
 use Rattle.base.specs.disk.Disk.{Disk, HandedSince, IsTouched, Write, bytes_of, disk_size, handed, moments}
@@ -73,7 +78,31 @@ module _ (size t guid moment : ℕ) (name : List ℕ) (disk : Disk) (g : IsGeome
     name = refl;
     root = refl;
     linked = tt;
-    spare = (block_address 0, (0, omega (arith, (IsGeometry-IsSize size g).least), refl), λ place in_range same. omega (arith, same));
+  }
+
+  -- the first block of the area is room enough
+  abbrev spare : FinSet nat_cmp
+  spare = set.insert set.empty (block_address 0)
+
+  one_spare : set.len spare ≡ 1
+  one_spare =
+      len-insert nat_cmp_total set.empty (block_address 0)
+      ∙ ap (λ b. cond b (set.len (set.empty {R = nat_cmp})) (set.len (set.empty {R = nat_cmp}) + 1)) (contains-empty nat_cmp (block_address 0))
+      ∙ ap (λ n. n + 1) (len-empty nat_cmp)
+
+  spare_is : (address : ℕ) → set.contains spare address ≡ true → address ≡ block_address 0
+  spare_is address is =
+      ⊎_elim (λ same. eqb-true address (block_address 0) (sym (unsigned_tied address (block_address 0)) ∙ same)) (λ none. absurd (false≢true (sym (contains-empty nat_cmp address) ∙ none)))
+      (or_cases (eq_by_cmp nat_cmp address (block_address 0)) (set.contains (set.empty {R = nat_cmp}) address) (sym (contains-insert nat_cmp_total set.empty (block_address 0) address) ∙ is))
+
+  room : HasImportRoom (block_count size) v
+  room = record {
+    spare = spare;
+    each = λ address is. (
+      (0, omega (arith, (IsGeometry-IsSize size g).least), spare_is address is),
+      record { not_in_tree = λ p in_range some. absurd (some refl); not_logged = λ i l at. absurd (let no_way : None ≡ Some l = at in cc) },
+    );
+    enough = omega (arith, one_spare);
   }
 
   fixed : (place n : ℕ) (content : List ℕ) → length content ≡ n → part image place n ≡ content → IsFixed disk.now place content
@@ -132,6 +161,7 @@ module _ (size t guid moment : ℕ) (name : List ℕ) (disk : Disk) (g : IsGeome
         tree = holds_none image _;
         first = is.writes.first;
         places = places;
+        room = room;
       }
 
   pub own_from : IsOwnWith disk t guid (first_contents name)

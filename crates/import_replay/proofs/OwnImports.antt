@@ -1,20 +1,30 @@
 -- An import, whatever it answers, keeps a disk that its pool alone wrote the pool's own; one that answers Ok gives its
 -- run a disk with the views of the pool that it shows.
-use Rattle.std.proofs.Common.{◌≡◌, inl, inr, ℕ, ◌+◌, ◌≤◌, List, [], length, map, None, Some, Ok, refl, sym, ◌∙◌, ap, subst, arith}
+use Rattle.std.proofs.Common.{◌≡◌, ◌≢◌, inl, inr, ℕ, ◌+◌, ◌<◌, ◌≤◌, false, List, [], length, map, None, Some, Ok, refl, sym, ◌∙◌, ap, subst, arith}
+use Rattle.std.specs.Prelude.{slice_get}
+use Rattle.std.specs.FinSet as set
 use Rattle.base.specs.crash.CallStages.{FixedLabels}
 use Rattle.base.specs.crash.CrashRule.{AreImportViews, HasSteadyPhases, IsImportMoment, IsOwnOnceFlushed, KeepsOwn}
+use Rattle.base.specs.crash.LogRoom.{HasImportRoom, records_estimate}
+use Rattle.base.specs.crash.LogRule.{AreChainsUpTo, IsLogHeld}
 use Rattle.base.specs.crash.Mount.{apply_records, records_above}
-use Rattle.base.specs.crash.Own.{IsAtRest, IsOwnWith}
+use Rattle.base.specs.crash.Own.{AreConfigsBelowImport, IsAtRest, IsOwnWith}
 use Rattle.base.specs.crash.PoolViews.{IsPoolDisk, IsSyncConfig, IsViewOf}
 use Rattle.base.specs.crash.Layout.{header_now}
 use Rattle.base.specs.crash.Views.{AreConfigsUpTo, View, Logged, config_content}
+use Rattle.base.specs.declared.pointer.Pointer.{Pointer}
 use Rattle.base.specs.disk.Calls.{Flushes}
 use Rattle.base.specs.disk.Disk.{Disk, EachMoment, Moment, bytes_of, certain, disk_size, handed, moments}
+use Rattle.base.specs.disk.Fairness.{HasFairBytes}
+use Rattle.base.specs.formats.Fields.{no_pointer}
+use Rattle.base.specs.formats.Geometry.{block_count}
 use Rattle.base.specs.formats.Labels.{Config}
 use Rattle.base.specs.formats.Uberblocks.{Uberblock}
 use Rattle.base.specs.history.Contents.{Contents}
 use Rattle.base.specs.history.Past.{Past, new_past}
 use Rattle.base.specs.steps.Shown.{Shown}
+use Rattle.base.specs.tree.Places.{Place, IsPlace}
+use Rattle.base.proofs.crash.LogImports.{begun_held, chains_of_view}
 use Rattle.base.proofs.crash.OwnDisks.{configs_weaker, import_kept}
 use Rattle.base.proofs.disk.Moments.{latest, starts}
 use Rattle.base.proofs.disk.Regions.{flushed_clean}
@@ -52,7 +62,7 @@ module _ (size : ℕ) (config : Config) (next u : Uberblock) (name : List ℕ) (
   keeps_found kept created at v began ready same named spares =
       let behind = comes_behind size config next u name moment log_address v configured written same named in (
         view_behind config next v,
-        record { guid = behind.guid; group = behind.group; synced = refl; no_log = refl },
+        record { guid = behind.guid; group = behind.group; pointers = refl; synced = refl; no_log = refl },
         kept created at v began ready behind spares,
       )
 
@@ -67,17 +77,39 @@ module _ (size : ℕ) (config : Config) (next u : Uberblock) (name : List ℕ) (
 abbrev unwritten : View → View
 unwritten v = record v { u = record v.u { group = v.u.group + 4 }; logged = [] }
 
+after_unwritten : (v : View) → IsViewAfter v (unwritten v)
+after_unwritten v = record { guid = refl; group = refl; pointers = refl; synced = refl; no_log = refl }
+
+unwritten_moment : (size created : ℕ) (v : View) (m : Moment) → HasFairBytes size created m → AreConfigsBelowImport size created (handed m) v → IsAtRest size created (length v.logged) m v
+    → IsImportMoment size created v (unwritten v) m
+unwritten_moment size created v m fair configs rest = record { bytes = fair; configs = configs; chains = chains_of_view size created (handed m) v rest.laid.logs; phase = inl rest }
+
 -- nothing is written
 pub nothing_found : (size : ℕ) (u : Uberblock) (name : List ℕ) (first : Stage) (disk : Disk) → KeepsFound size u name first disk disk
 nothing_found size u name first disk created at v began ready same named spares = (
   unwritten v,
-  record { guid = refl; group = refl; synced = refl; no_log = refl },
-  starts (IsImportMoment size created v (unwritten v)) disk
-      (record { bytes = ready.bytes; configs = ready.configs; phase = inl ready.rest.rest }),
+  after_unwritten v,
+  starts (IsImportMoment size created v (unwritten v)) disk (unwritten_moment size created v disk.now ready.bytes ready.configs ready.rest.rest),
 )
 
+-- where a view has room for an import, so has the one after it, of the same tree and with no log block
+room_after : (blocks : ℕ) (v later : View) → IsViewAfter v later → HasImportRoom blocks v → HasImportRoom blocks later
+room_after blocks v later after room = record {
+  spare = room.spare;
+  each = λ address is.
+      let old = room.each address is in (
+        old.0,
+        record {
+          not_in_tree = subst (λ (ps : Place → Pointer). (p : Place) → IsPlace p → ps p ≢ no_pointer → (ps p).address ≢ address) (sym after.pointers) old.1.not_in_tree;
+          not_logged = λ i l at. absurd (let no_way : None ≡ Some l = ap (λ (ls : List Logged). slice_get ls i) (sym after.no_log) ∙ at in cc);
+        },
+      );
+  enough = subst (λ (ls : List Logged). records_estimate (records_above later.u.group (map (λ (l : Logged). l.block) ls)) < set.len room.spare) (sym after.no_log) (omega (arith, room.enough));
+}
+
 -- the two views of an import
-import_views : (size created guid : ℕ) (contents : Contents) (v later : View) (m : Moment) → IsRestedOwn size created guid contents v m → IsViewAfter v later → AreImportViews v later guid contents
+import_views : (size created guid : ℕ) (contents : Contents) (v later : View) (m : Moment) → IsRestedOwn size created guid contents v m → IsViewAfter v later
+    → AreImportViews (block_count size) v later guid contents
 import_views size created guid contents v later m own after = record {
   old_guid = own.guid_is;
   new_guid = after.guid ∙ own.guid_is;
@@ -86,6 +118,8 @@ import_views size created guid contents v later m own after = record {
   new_mounts = ap (λ (ls : List Logged). apply_records (records_above later.u.group (map (λ (l : Logged). l.block) ls)) later.synced) after.no_log ∙ ap (λ (c : Contents). Ok c) (after.synced ∙ own.synced_are);
   old_log = own.no_log;
   new_log = after.no_log;
+  old_room = own.room;
+  new_room = room_after (block_count size) v later after own.room;
 }
 
 -- a flush that was refused leaves the disk
@@ -114,10 +148,10 @@ module _ (old mid : Disk) (flushes : Flushes old (Ok tt) mid) where
   kept_unwritten new same created guid contents own =
       let r = rested created guid contents own in
       let v : View = r.0 in
-      let here : IsImportMoment (disk_size mid) created v (unwritten v) mid.now = record { bytes = r.1.bytes; configs = r.1.configs; phase = inl r.1.rest } in
+      let here = unwritten_moment (disk_size mid) created v mid.now r.1.bytes r.1.configs r.1.rest in
       inr (import_kept old new created guid contents own
       (subst (λ (d : Disk). HasSteadyPhases (disk_size old) created (certain (bytes_of old.now) old) d guid contents) (sym same)
-      (steady mid created guid contents v (unwritten v) r.1 (record { guid = refl; group = refl; synced = refl; no_log = refl }) (starts (IsImportMoment (disk_size mid) created v (unwritten v)) mid here))))
+      (steady mid created guid contents v (unwritten v) r.1 (after_unwritten v) (starts (IsImportMoment (disk_size mid) created v (unwritten v)) mid here))))
 
   module _ (size : ℕ) (u : Uberblock) (name : List ℕ) (tree : Tree) (slots : List Slot) (first : Stage) (new : Disk)
       (read : IsReadPool (bytes_of mid.now) size u name tree slots) (stage : HasFirstStage (bytes_of mid.now) u.guid u.group name (is_even first)) (kept : KeepsFound size u name first mid new) where
@@ -184,7 +218,16 @@ module _ (old mid : Disk) (flushes : Flushes old (Ok tt) mid) where
         as_many = refl;
         blocks = λ i k l at. absurd (let none : None ≡ Some k = at in cc);
         flushed_are = λ i k at. absurd (let none : None ≡ Some k = at in cc);
+        goes_on = refl;
       }
+
+      -- no log block of the chain that the import begins was written
+      log_held : (created : ℕ) (v : View) → m.guid ≡ v.u.guid → v.u ≡ u → AreChainsUpTo size created (handed new.now) v.u.guid v.u.import_number
+          → IsLogHeld size created 0 false new.now (view_behind (config_of_import m) (uberblock_of_import moment m) v)
+      log_held created v guid_same same chains =
+          let one_more : m.import_number ≡ v.u.import_number + 1 = from.import_number ∙ ap (λ (w : Uberblock). w.import_number + 1) (sym same) in
+          begun_held size created v.u.import_number false new.now (view_behind (config_of_import m) (uberblock_of_import moment m) v)
+          (subst (λ (g : ℕ). AreChainsUpTo size created (handed new.now) g v.u.import_number) (sym guid_same) chains) (omega (arith, one_more)) refl
 
       run_start : (created guid : ℕ) (contents : Contents) (v : View) → IsFoundFor created guid contents v → IsRunStart created guid contents dirty_max m new.now
       run_start created guid contents v f =
@@ -204,6 +247,7 @@ module _ (old mid : Disk) (flushes : Flushes old (Ok tt) mid) where
                 flushed = 0;
                 rest = ends created f.at v f.began f.ready f.uberblock f.name_is f.spares;
                 is = view_of created v synced;
+                held = log_held created v guid_same f.uberblock here.chains;
               });
             });
             guid_is = guid_same ∙ f.own.guid_is;

@@ -1,7 +1,9 @@
 -- Of a disk that its pool alone wrote the pool is found, and its tree has no fault.
-use Rattle.std.proofs.Common.{◌≡◌, inl, inr, ℕ, List, length, refl, sym, ◌∙◌, ap, subst}
+use Rattle.std.proofs.Common.{◌≡◌, inl, inr, ℕ, ◌<◌, true, List, length, refl, sym, ◌∙◌, ap, subst, arith}
+use Rattle.std.specs.Ordering.{nat_cmp}
+use Rattle.std.specs.FinSet as set
+use Rattle.std.specs.FinSet.{FinSet, len-empty}
 use Rattle.base.specs.declared.error.PoolError.{PoolError}
-use Rattle.base.specs.declared.error.PoolError.TheVariants.{Damaged, NoPool, NoSpace}
 use Rattle.base.specs.crash.Mount.{HasNoPool, IsTreeDamaged, Mounts, MountsTo, frame_of}
 use Rattle.base.specs.crash.Own.{IsOwnImage, IsOwnWith}
 use Rattle.base.specs.crash.Views.{IsFoundAs, view_frame}
@@ -17,6 +19,7 @@ use Rattle.base.specs.tree.Places.{IsInTree}
 use Rattle.base.specs.tree.Places.Place.{Root}
 use Rattle.base.proofs.crash.CrashRule.{own_mounts}
 use Rattle.base.proofs.crash.FoundViews.{rest_found}
+use Rattle.base.proofs.crash.LogRoom.{subset_len}
 use Rattle.base.proofs.crash.OneMount.{one-active}
 use Rattle.base.proofs.disk.Fairness.{fair_settled}
 use Rattle.base.proofs.disk.Moments.{bytes_may_be_left}
@@ -39,6 +42,13 @@ module _ (image : List ℕ) (u : Uberblock) (chain : List LogBlock) (contents : 
       no_fault image (frame_of image u) u.root mounts.synced.objects mounts.found.tree kind address
       (subst (λ (w : Uberblock). IsFirstFault image (frame_of image w) w.root kind address) same damaged.fault)
 
+-- not every number lies outside a set that has one
+some_inside : (s : FinSet nat_cmp) → 0 < set.len s → ((q : ℕ) → set.contains s q ≡ true → ⊥) → ⊥
+some_inside s some none =
+    let within = subset_len s set.empty (λ q is. absurd (none q is)) in
+    let empty = len-empty nat_cmp in
+    omega (arith, within, empty, some)
+
 -- a disk that its pool alone wrote has a block that its tree hasn't
 module _ (disk : Disk) (created guid : ℕ) (contents : Contents) (own : IsOwnWith disk created guid contents) where
   abbrev image : List ℕ
@@ -56,12 +66,13 @@ module _ (disk : Disk) (created guid : ℕ) (contents : Contents) (own : IsOwnWi
   has_spare : HasNoFreeBlock image → ⊥
   has_spare (u, name, sound, fits, all) =
       let laid = here.rest.laid in
-      let spare = laid.view.spare in
       let same : u ≡ here.v.u = one-active image u here.v.u sound.pool.active found.found.pool.active in
       let root : u.root ≡ here.v.pointers Root = ap (λ (w : Uberblock). w.root) same ∙ sym laid.view.root in
-      let there : IsInTree image (here.v.pointers Root) spare.0 = subst (λ (r : Pointer). IsInTree image r spare.0) root (all spare.0 spare.1) in
-      let place = in-tree image (view_frame (disk_size disk) here.v) here.v.pointers here.v.synced.objects laid.firm.tree.holds spare.0 there in
-      spare.2 place.0 place.1 place.2
+      some_inside here.room.spare (omega (arith, here.room.enough)) (λ address is.
+      let spare = here.room.each address is in
+      let there : IsInTree image (here.v.pointers Root) address = subst (λ (r : Pointer). IsInTree image r address) root (all address spare.0) in
+      let (place, in_range, names, some) = in-tree image (view_frame (disk_size disk) here.v) here.v.pointers here.v.synced.objects laid.firm.tree.holds address there in
+      spare.1.not_in_tree place in_range some names)
 
 pub finds_own : (disk : Disk) (e : PoolError) → IsReason (bytes_of disk.now) e → FindsOwn disk e
 finds_own disk e reason created guid contents own =

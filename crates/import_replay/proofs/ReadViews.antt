@@ -3,6 +3,7 @@
 use Rattle.std.proofs.Common.{◌≡◌, ◌⊎◌, inl, inr, ⊎_elim, ℕ, zero, suc, ◌<◌, ◌↔◌, IsTrue, List, [], ◌++◌, length, map, filter, Some, None, Ok, refl, sym, ◌∙◌, ap, subst, arith}
 use Rattle.base.specs.crash.CallStages.{FixedLabels, IsAtRestAt}
 use Rattle.base.specs.crash.CrashRule.{MountsAs}
+use Rattle.base.specs.crash.LogRoom.{HasImportRoom}
 use Rattle.base.specs.crash.Mount.{IsChainOf, Mounts, apply_records, records_above}
 use Rattle.base.specs.crash.Own.{AreConfigsBelowImport, IsAtRest, IsOwnWith}
 use Rattle.base.specs.crash.Views.{View, Logged, IsFoundAs, IsFixed, IsView}
@@ -11,7 +12,7 @@ use Rattle.base.specs.disk.Fairness.{HasFairBytes, passes_check}
 use Rattle.base.specs.formats.Blocks.{IsBlock}
 use Rattle.base.specs.formats.Chain.{LogBlock}
 use Rattle.base.specs.formats.Fields.{part}
-use Rattle.base.specs.formats.Geometry.{block_size, config_place}
+use Rattle.base.specs.formats.Geometry.{block_count, block_size, config_place}
 use Rattle.base.specs.formats.Labels.{IsChosen, IsConfig, IsKeptInOdd}
 use Rattle.base.specs.formats.Uberblocks.{Uberblock}
 use Rattle.base.specs.history.Contents.{Contents}
@@ -41,12 +42,14 @@ settled_now m none =
     let kept : m.kept ≡ filter (holds (bytes_of m)) m.unflushed ++ m.kept = sym (ap (λ (ws : List Write). filter (holds (bytes_of m)) ws ++ m.kept) none) in
     λ i. record { flushed = bytes i; unflushed = none i; kept = kept i }
 
--- Nothing is unflushed of a disk that a pool alone wrote, and it is at rest on this view, which mounts these contents.
+-- Nothing is unflushed of a disk that a pool alone wrote, and it is at rest on this view, which mounts these contents
+-- and has room for an import.
 pub record IsRestedOwn (size created guid : ℕ) (contents : Contents) (v : View) (m : Moment) : Type 0 where
   pub guid_is : v.u.guid ≡ guid
   pub no_log : v.logged ≡ []
   pub synced_are : v.synced ≡ contents
   pub mounts : MountsAs v contents
+  pub room : HasImportRoom (block_count size) v
   pub none : m.unflushed ≡ []
   pub rest : IsAtRest size created (length v.logged) m v
   pub bytes : HasFairBytes size created m
@@ -65,6 +68,7 @@ rested_own disk created guid contents none own =
             no_log = is.no_log;
             synced_are = (let same : is.v.synced ≡ contents = cc in same);
             mounts = is.applied;
+            room = is.room;
             none = refl;
             rest = is.rest;
             bytes = record { size_is = refl; fair = fair_settled (passes_check (disk_size disk)) created (bytes_of disk.now) disk.now own.left.bytes.fair };

@@ -139,8 +139,8 @@ module _ {Dev : Type 0} (D : Ghosts Dev) where
   no_reason image e (inr is) = record { no_pool = λ f. let no : BadRange ≡ NoPool = sym is ∙ f in cc; damaged = λ k a f. let no : BadRange ≡ Damaged k a = sym is ∙ f in cc; too_many = λ f. let no : BadRange ≡ TooMany = sym is ∙ f in cc; no_space = λ f. let no : BadRange ≡ NoSpace = sym is ∙ f in cc }
 
   not_begun : (e : PoolError) → (e ≡ BadGeometry) ⊎ (e ≡ BadRange) → (IsReadingRefusal e → ⊥) × (IsSyncRefusal e → ⊥)
-  not_begun e (inl is) = (λ reading. subst IsReadingRefusal is reading, λ sync. elim sync [ | inl of_write ↦ let no : BadGeometry ≡ Write = sym is ∙ of_write in cc | inr of_flush ↦ let no : BadGeometry ≡ Flush = sym is ∙ of_flush in cc ])
-  not_begun e (inr is) = (λ reading. subst IsReadingRefusal is reading, λ sync. elim sync [ | inl of_write ↦ let no : BadRange ≡ Write = sym is ∙ of_write in cc | inr of_flush ↦ let no : BadRange ≡ Flush = sym is ∙ of_flush in cc ])
+  not_begun e (inl is) = (λ reading. subst IsReadingRefusal is reading, λ sync. elim sync [ inl of_write ↦ let no : BadGeometry ≡ Write = sym is ∙ of_write in cc | inr of_flush ↦ let no : BadGeometry ≡ Flush = sym is ∙ of_flush in cc ])
+  not_begun e (inr is) = (λ reading. subst IsReadingRefusal is reading, λ sync. elim sync [ inl of_write ↦ let no : BadRange ≡ Write = sym is ∙ of_write in cc | inr of_flush ↦ let no : BadRange ≡ Flush = sym is ∙ of_flush in cc ])
 
   pub bounds_refused : (dirty_max moment : ℕ) (old : Dev) (e : PoolError) → (e ≡ BadGeometry) ⊎ (e ≡ BadRange) → IsImportRefusal (D.size old) dirty_max e → IsImportRefused D dirty_max moment old old e
   bounds_refused dirty_max moment old e bad kind = record {

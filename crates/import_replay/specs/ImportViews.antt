@@ -54,10 +54,11 @@ KeepsViews size config u first start now = ForEachView size config u first start
 abbrev pub EndsBehind : (size : ℕ) → Config → Uberblock → Stage → Disk → Disk → Type 0
 EndsBehind size config u first start now = ForEachView size config u first start (λ created at v. IsAtRest size created 0 now.now (view_behind config u v))
 
--- a view of the same pool, four groups later, with the same contents and no log block
+-- a view of the same pool, four groups later, with the same tree, the same contents and no log block
 pub record IsViewAfter (v later : View) : Type 0 where
   pub guid : later.u.guid ≡ v.u.guid
   pub group : later.u.group ≡ v.u.group + 4
+  pub pointers : later.pointers ≡ v.pointers
   pub synced : later.synced ≡ v.synced
   pub no_log : later.logged ≡ []
 

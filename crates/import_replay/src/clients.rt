@@ -12,8 +12,8 @@ ghost use Rattle.base.specs.tree.Places.{IsInTree};
 ghost use Rattle.object_maps.specs.Surveys.{listed};
 
 use crate::creation::create;
-use crate::importing::import;
 use crate::imported::Imported;
+use crate::importing::import;
 use crate::inspection::{Inspected, inspect};
 use base::{Group, PoolError};
 use device_model::SectorDevice;

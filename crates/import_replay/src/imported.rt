@@ -18,9 +18,7 @@ pub struct Imported<D: SectorDevice> {
     pub mounted: Mounted,
     ghost sized: { D.size device ≡ mounted.geometry },
     ghost stands: { ∥ (IsTrue D.keeps_model → StandsOn (bytes_of (D.disk device).now) mounted) ∥₁ },
-    ghost labels: {
-        ∥ (IsTrue D.keeps_model → LabelsShow (bytes_of (D.disk device).now) mounted) ∥₁
-    },
+    ghost labels: { ∥ (IsTrue D.keeps_model → LabelsShow (bytes_of (D.disk device).now) mounted) ∥₁ },
     ghost explained: { ∥ IsExplainedAnew mounted ∥₁ },
 }
 
