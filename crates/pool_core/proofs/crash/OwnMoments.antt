@@ -40,30 +40,28 @@ module _ (size : ℕ) (m : Moment) (s : Shown) (past : Past) (x : HasSyncViews s
   abbrev laid_with_room : (laid : IsPoolLaid size m s past) × OfEachView size m s past (λ v. HasImportRoom (block_count size) v) laid
   laid_with_room = elim phase as (λ _. (laid : IsPoolLaid size m s past) × OfEachView size m s past (λ v. HasImportRoom (block_count size) v) laid) [
     | inl rest ↦ (inl (record { v = x.old; flushed = x.flushed; rest = rest; is = x.old_is; held = x.old_held }), x.old_room)
-    | inr (inl between) ↦
-        (
-          inr (inl (record {
-            group = x.group;
-            plan = x.plan;
-            syncing = x.syncing;
-            running = x.running;
-            old = x.old;
-            new = x.new;
-            flushed = x.flushed;
-            new_flushed = x.new_flushed;
-            between = between;
-            old_is = x.old_is;
-            new_is = x.new_is;
-            old_held = x.old_held;
-            new_held = x.new_held;
-          })),
-          (x.old_room, x.new_room),
-        )
-    | inr (inr rest) ↦
-        (
-          inr (inr (record { group = x.group; plan = x.plan; syncing = x.syncing; running = x.running; v = x.new; flushed = x.new_flushed; rest = rest; is = x.new_is; held = x.new_held })),
-          x.new_room,
-        )
+    | inr (inl between) ↦ (
+      inr (inl (record {
+        group = x.group;
+        plan = x.plan;
+        syncing = x.syncing;
+        running = x.running;
+        old = x.old;
+        new = x.new;
+        flushed = x.flushed;
+        new_flushed = x.new_flushed;
+        between = between;
+        old_is = x.old_is;
+        new_is = x.new_is;
+        old_held = x.old_held;
+        new_held = x.new_held;
+      })),
+      (x.old_room, x.new_room),
+    )
+    | inr (inr rest) ↦ (
+      inr (inr (record { group = x.group; plan = x.plan; syncing = x.syncing; running = x.running; v = x.new; flushed = x.new_flushed; rest = rest; is = x.new_is; held = x.new_held })),
+      x.new_room,
+    )
   ]
 
   -- where no config above the synced group counts, it is a moment of the pool's disk
