@@ -1,6 +1,6 @@
 -- A moment of a sync is one of its pool's disk, with room for an import in each view. So what a crash leaves at it is
 -- the pool's own, with a cut of its entries.
-use Rattle.std.proofs.Common.{◌≡◌, inl, inr, ℕ, List, [], Some, sym, subst, arith}
+use Rattle.std.proofs.Common.{◌≡◌, inl, inr, ℕ, [], Some, sym, subst, arith}
 use Rattle.base.specs.crash.Layout.{header_now}
 use Rattle.base.specs.crash.LogRoom.{HasImportRoom}
 use Rattle.base.specs.crash.LogRule.{IsLogHeld}
@@ -15,7 +15,8 @@ use Rattle.base.specs.steps.ExactNow.{IsExplainedNow}
 use Rattle.base.specs.steps.Shown.{Shown, SyncPlan}
 use Rattle.base.proofs.crash.OwnDisks.{configs_weaker, image_left}
 use Rattle.base.proofs.crash.PoolViews.{OfEachView}
-use Rattle.pool_core.specs.KeptSafe.{LeavesOwn}
+use Rattle.sync.specs.declared.run.SyncRun.{SyncRun}
+use Rattle.pool_core.specs.KeptSafe.{IsSyncOnDisk, LeavesOwn}
 
 -- The views of the synced group and of the running sync's group, with what is known of their logs at a moment, and the
 -- room that they leave for an import.
@@ -35,35 +36,53 @@ pub record HasSyncViews (size : ℕ) (m : Moment) (s : Shown) (past : Past) : Ty
   pub old_room : HasImportRoom (block_count size) old
   pub new_room : HasImportRoom (block_count size) new
 
+-- those of a sync on disk, at a moment at which this is known of their logs
+abbrev pub sync_views : {run : SyncRun} {disk : Disk} {s : Shown} {past : Past} (x : IsSyncOnDisk run disk s past) (m : Moment) → IsLogHeld run.geometry past.created x.views.flushed s.suspended m x.views.old
+    → IsLogHeld run.geometry past.created x.views.new_flushed s.suspended m x.views.new → HasSyncViews run.geometry m s past
+sync_views x m old_held new_held = record {
+  group = x.group;
+  plan = x.plan;
+  syncing = x.syncing;
+  running = x.running;
+  old = x.views.old;
+  flushed = x.views.flushed;
+  new = x.views.new;
+  new_flushed = x.views.new_flushed;
+  old_is = x.old_is;
+  new_is = x.new_is;
+  old_held = old_held;
+  new_held = new_held;
+  old_room = x.old_room;
+  new_room = x.new_room;
+}
+
 module _ (size : ℕ) (m : Moment) (s : Shown) (past : Past) (x : HasSyncViews size m s past) (phase : IsPhase size past.created x.flushed x.new_flushed m x.old x.new) where
   -- in each phase the pool is laid, and its views have room
   abbrev laid_with_room : (laid : IsPoolLaid size m s past) × OfEachView size m s past (λ v. HasImportRoom (block_count size) v) laid
   laid_with_room = elim phase as (λ _. (laid : IsPoolLaid size m s past) × OfEachView size m s past (λ v. HasImportRoom (block_count size) v) laid) [
     | inl rest ↦ (inl (record { v = x.old; flushed = x.flushed; rest = rest; is = x.old_is; held = x.old_held }), x.old_room)
-    | inr (inl between) ↦
-        (
-          inr (inl (record {
-            group = x.group;
-            plan = x.plan;
-            syncing = x.syncing;
-            running = x.running;
-            old = x.old;
-            new = x.new;
-            flushed = x.flushed;
-            new_flushed = x.new_flushed;
-            between = between;
-            old_is = x.old_is;
-            new_is = x.new_is;
-            old_held = x.old_held;
-            new_held = x.new_held;
-          })),
-          (x.old_room, x.new_room),
-        )
-    | inr (inr rest) ↦
-        (
-          inr (inr (record { group = x.group; plan = x.plan; syncing = x.syncing; running = x.running; v = x.new; flushed = x.new_flushed; rest = rest; is = x.new_is; held = x.new_held })),
-          x.new_room,
-        )
+    | inr (inl between) ↦ (
+      inr (inl (record {
+        group = x.group;
+        plan = x.plan;
+        syncing = x.syncing;
+        running = x.running;
+        old = x.old;
+        new = x.new;
+        flushed = x.flushed;
+        new_flushed = x.new_flushed;
+        between = between;
+        old_is = x.old_is;
+        new_is = x.new_is;
+        old_held = x.old_held;
+        new_held = x.new_held;
+      })),
+      (x.old_room, x.new_room),
+    )
+    | inr (inr rest) ↦ (
+      inr (inr (record { group = x.group; plan = x.plan; syncing = x.syncing; running = x.running; v = x.new; flushed = x.new_flushed; rest = rest; is = x.new_is; held = x.new_held })),
+      x.new_room,
+    )
   ]
 
   -- where no config above the synced group counts, it is a moment of the pool's disk

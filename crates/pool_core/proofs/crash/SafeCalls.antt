@@ -27,7 +27,7 @@ use Rattle.sync.proofs.PhasesSince.{ends_at_rest, keeps_phases}
 use Rattle.pool_tables.specs.SyncPhases.{TriesNext}
 use Rattle.pool_core.specs.KeptSafe.{IsSyncOnDisk, LeavesOwn}
 use Rattle.pool_core.proofs.crash.HeldLogs.{held_as, held_call, none_logged}
-use Rattle.pool_core.proofs.crash.OwnMoments.{HasSyncViews, moment_laid, moment_left}
+use Rattle.pool_core.proofs.crash.OwnMoments.{HasSyncViews, moment_laid, moment_left, sync_views}
 use Rattle.pool_core.proofs.crash.SafeMoments.{IsSafeMoment, moment_safe}
 use Rattle.pool_core.proofs.crash.ViewsKept.{SameSyncing, configs_as, header-none, synced_view, syncing_view, view_as}
 
@@ -82,22 +82,7 @@ module _ (run next : SyncRun) (before after : Disk) (s : Shown) (p : Past) (bega
     new_held m hands = held_call (bytes_of x.start.now) run x.views x.since.leads x.no_stages run.geometry p.created x.views.new_flushed s.suspended before.now m x.views.new new_empty hands x.new_held
 
     abbrev views_at : (m : Moment) → Hands m → HasSyncViews run.geometry m s p
-    views_at m hands = record {
-      group = x.group;
-      plan = x.plan;
-      syncing = x.syncing;
-      running = x.running;
-      old = x.views.old;
-      flushed = x.views.flushed;
-      new = x.views.new;
-      new_flushed = x.views.new_flushed;
-      old_is = x.old_is;
-      new_is = x.new_is;
-      old_held = old_held m hands;
-      new_held = new_held m hands;
-      old_room = x.old_room;
-      new_room = x.new_room;
-    }
+    views_at m hands = sync_views x m (old_held m hands) (new_held m hands)
 
     -- So each moment of the call is safe, and what a crash leaves then is the pool's own.
     module _ (explained : IsExplainedNow s p) where

@@ -23,7 +23,7 @@ use Rattle.base.proofs.disk.Moments.{latest, starts}
 use Rattle.sync.specs.declared.run.SyncRun.{SyncRun}
 use Rattle.sync.specs.Phases.{IsSyncPhase}
 use Rattle.pool_core.specs.KeptSafe.{IsDiskKept, IsKeptSafe, IsSyncOnDisk, LeavesOwn, OnDisk}
-use Rattle.pool_core.proofs.crash.OwnMoments.{HasSyncViews, moment_laid, moment_left, were_left}
+use Rattle.pool_core.proofs.crash.OwnMoments.{HasSyncViews, moment_laid, moment_left, sync_views, were_left}
 
 -- a safe moment for a past, of a device of so many bytes
 abbrev pub IsSafeMoment : ℕ → Past → Moment → Type 0
@@ -46,22 +46,7 @@ module _ (s : Shown) (past : Past) (explained : IsExplainedNow s past) where
 -- While a sync has calls left its pool's disk is laid.
 module _ (run : SyncRun) (disk : Disk) (s : Shown) (past : Past) (x : IsSyncOnDisk run disk s past) where
   abbrev views : HasSyncViews run.geometry disk.now s past
-  views = record {
-    group = x.group;
-    plan = x.plan;
-    syncing = x.syncing;
-    running = x.running;
-    old = x.views.old;
-    flushed = x.views.flushed;
-    new = x.views.new;
-    new_flushed = x.views.new_flushed;
-    old_is = x.old_is;
-    new_is = x.new_is;
-    old_held = x.old_held;
-    new_held = x.new_held;
-    old_room = x.old_room;
-    new_room = x.new_room;
-  }
+  views = sync_views x disk.now x.old_held x.new_held
 
   phase : IsPhase run.geometry past.created x.views.flushed x.views.new_flushed disk.now x.views.old x.views.new
   phase = subst (λ (t : ℕ). IsPhase run.geometry t x.views.flushed x.views.new_flushed disk.now x.views.old x.views.new) x.created (latest (IsSyncPhase run x.views) x.start disk x.since.each)
