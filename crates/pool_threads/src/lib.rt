@@ -3,6 +3,7 @@
 
 mod calls;
 mod clients;
+mod debug;
 mod first;
 mod handle;
 mod laws;
