@@ -39,12 +39,12 @@ fn write_note<R: Wait + Print>(rt: &R, alloc: Global, device: FileDevice) -> Res
     let pool = make_pool(alloc, device)?;
     let receipt = pool
         .handle()
-        .transact(rt, alloc, OWNER, note(alloc, b"hello, pool")?)?;
+        .transact(rt, OWNER, note(alloc, b"hello, pool")?)?;
     println!(rt; "the note is in group {}", receipt.group.0)?;
     // The note exists already, so the whole transaction is refused and changes nothing.
     match pool
         .handle()
-        .transact(rt, alloc, OWNER, note(alloc, b"again")?)
+        .transact(rt, OWNER, note(alloc, b"again")?)
     {
         Err(PoolError::Exists) => println!(rt; "there is a note already")?,
         Err(error) => return Err(error.into()),

@@ -349,20 +349,18 @@ fn a_begin_takes_turns<D: SectorDevice, W: Wait>(
 
 fn a_transact_enters_its_operations<D: SectorDevice, W: Wait>(
     rt: &W,
-    alloc: Global,
     handle: &mut Handle<'_, D>,
     ops: Ops,
 ) -> Result<Receipt, PoolError>
     ensures entered { IfOk result (λ r. Sees (IsTransacted ops r) handle.old handle.new) }
     ensures number { kin_of handle.new ≡ kin_of handle.old }
 {
-    handle.transact(rt, alloc, Owner(3), ops)
+    handle.transact(rt, Owner(3), ops)
 }
 
 // These are all its steps: nothing lies between them but tries that were refused.
 fn a_transact_locks_begins_commits_and_unlocks<D: SectorDevice, W: Wait>(
     rt: &W,
-    alloc: Global,
     handle: &mut Handle<'_, D>,
     owner: Owner,
     ops: Ops,
@@ -375,13 +373,12 @@ fn a_transact_locks_begins_commits_and_unlocks<D: SectorDevice, W: Wait>(
         × Makes (step.Commit tx ops) (reply.Committed r) begun done
         × Unlocks owner ids done handle.new) }
 {
-    handle.transact(rt, alloc, owner, ops)
+    handle.transact(rt, owner, ops)
 }
 
 // Under the names of the locks that it got.
 fn a_refused_transact_unlocks_what_it_locked<D: SectorDevice, W: Wait>(
     rt: &W,
-    alloc: Global,
     handle: &mut Handle<'_, D>,
     owner: Owner,
     ops: Ops,
@@ -390,5 +387,5 @@ fn a_refused_transact_unlocks_what_it_locked<D: SectorDevice, W: Wait>(
         × (locked : Handle _ _) × (ended : Handle _ _)
         × Locks owner ranges ids handle.old locked × Unlocks owner ids ended handle.new) }
 {
-    handle.transact(rt, alloc, owner, ops)
+    handle.transact(rt, owner, ops)
 }

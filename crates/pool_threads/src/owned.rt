@@ -76,7 +76,7 @@ impl<D: SectorDevice> OwnedPool<D> {
         };
         match WordLock::new(alloc, held, &first) {
             Ok((lock, seat)) => {
-                let shared = Shared::new(lock, moment);
+                let shared = Shared::new(lock, alloc, moment);
                 Ok((OwnedPool { shared }, LastSeen { seat }))
             }
             Err((error, held)) => Err((error, Box::into_inner(held))),

@@ -64,7 +64,7 @@ impl<D: SectorDevice> Pool<D> {
         };
         match WordLock::with_source(alloc, held, first) {
             Ok((lock, source)) => Ok(Pool {
-                shared: Shared::new(lock, moment),
+                shared: Shared::new(lock, alloc, moment),
                 source,
             }),
             Err((error, held)) => Err((error, Box::into_inner(held))),

@@ -9,7 +9,6 @@ ghost use Rattle.word_lock.specs.Seats.{HasMetNone};
 use crate::handle::Handle;
 use base::{LockId, Mode, ObjectRange, Ops, Owner, Plan, PoolError, Receipt};
 use device_model::SectorDevice;
-use std::alloc::Global;
 use std::sync::Wait;
 use transactions::lock_ranges;
 
@@ -32,7 +31,6 @@ impl<'p, D: SectorDevice> Handle<'p, D> {
     pub fn transact<'a, 'b, W: Wait>(
         &'a mut self,
         rt: &'b W,
-        alloc: Global,
         owner: Owner,
         ops: Ops,
     ) -> Result<Receipt, PoolError>
@@ -43,6 +41,7 @@ impl<'p, D: SectorDevice> Handle<'p, D> {
         ensures same_pool { StaysInPool self.old self.new }
         ensures met_none { HasMetNone self.old.seat self.new.seat }
     {
+        let alloc = self.shared.alloc;
         let plan = Plan::of(alloc, &ops)?;
         let ranges = lock_ranges(alloc, plan.as_slice())?;
         let mut locks = Vec::with_capacity(alloc, ranges.len())?;

@@ -105,7 +105,7 @@ fn write_line<W: Wait>(
     let mut ops = Vec::new(alloc);
     ops.push(Op::Create(note.object))?;
     ops.push(Op::Write(note.object, 0, line))?;
-    pool.handle().transact(rt, alloc, note.owner, Ops::new(ops))
+    pool.handle().transact(rt, note.owner, Ops::new(ops))
 }
 
 fn read_line<W: Wait>(rt: &W, pool: &Pool<MemDevice>, note: &Note) -> Result<Bytes, PoolError> {

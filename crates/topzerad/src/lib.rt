@@ -43,7 +43,7 @@
 //!     let pool = Pool::open(rt.alloc(), create(device, b"tank", 77, 0)?, DEFAULT_DIRTY_MAX, 0)?;
 //!     let bytes = Bytes::from_slice(rt.alloc(), b"hello")?;
 //!     let ops = vec![in rt.alloc(); Op::Create(ObjectId(1)), Op::Write(ObjectId(1), 0, bytes)]?;
-//!     pool.handle().transact(rt, rt.alloc(), Owner(1), Ops::new(ops))?;
+//!     pool.handle().transact(rt, Owner(1), Ops::new(ops))?;
 //!     let mut state = pool.close().ok_or(PoolError::NotReady)?;
 //!     state.sync_open_group(0)?; // before this, a power failure loses the commit
 //!     Ok(())
