@@ -69,7 +69,8 @@ pub use device_model::{
 };
 pub use import_replay::{Imported, Inspected, Mounted, create, import, inspect};
 pub use pool_core::{PoolState, Progress, run};
-pub use pool_threads::{Handle, LastSeen, OwnedPool, Pool};
+pub use pool_threads::{Handle, Pool};
+pub use range_locks::{HeldLock, HeldLocks, HeldPiece};
 
-// For proofs alone: what a handle has seen of its pool, and the rule of the pool under its lock.
-pub use pool_threads::{PoolRule, PoolView};
+// For proofs alone: pools and handles with what was seen of them, and the rule of the pool under its lock.
+pub use pool_threads::{LastSeen, OwnedPool, PoolRule, PoolView};
