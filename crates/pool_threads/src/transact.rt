@@ -13,11 +13,16 @@ use std::sync::Wait;
 use transactions::lock_ranges;
 
 impl<'p, D: SectorDevice> Handle<'p, D> {
-    /// Commits operations as one entry, in a transaction of its own.
+    /// Commits operations as one entry, in a transaction of its own: all of them take place, or none.
     ///
     /// It locks the ranges of the operations' plan as a writer, in rising order of object and low end, with those that
     /// overlap joined to one. Then it begins, commits, and unlocks all. `lock` and `begin` wait as the calls of that
     /// name do. After a refusal it aborts the transaction, if it was begun, and unlocks what it locked.
+    ///
+    /// **It may wait for a sync.** A transaction is charged for what its sync writes (`PoolState::begin` says how much),
+    /// until its group is synced. At the dirty limit `transact` waits until another thread has synced a group. If none
+    /// does, it waits for ever: with [`DEFAULT_DIRTY_MAX`](base::DEFAULT_DIRTY_MAX) the 43rd transaction that creates an
+    /// object and writes a few bytes to it. The crate's page shows a thread that syncs.
     ///
     /// As the order rises, no two calls of `transact` wait for each other's locks. A caller that holds a lock of its
     /// own that overlaps one of these ranges waits for itself.
@@ -27,7 +32,8 @@ impl<'p, D: SectorDevice> Handle<'p, D> {
     ///
     /// # Errors
     /// `NoMemory` if there is none for the plan, its ranges and the names of the locks; then no step was made. Else the
-    /// first refusal of `lock`, `begin` or `commit`, in this order, and none of the operations takes place.
+    /// first refusal of `lock`, `begin` or `commit`, in this order, and none of the operations takes place. The names of
+    /// the locks and of the transaction that it got by then are used up.
     pub fn transact<'a, 'b, W: Wait>(
         &'a mut self,
         rt: &'b W,
