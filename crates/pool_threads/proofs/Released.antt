@@ -230,20 +230,22 @@ unlocked_once now owner n g gs id ids answer s t h unlocks =
     let held : is_in id.0 s.past.let_go ≡ false = any_none (λ y. id.0 == y) s.past.let_go (λ i y at_y. ne_eqb id.0 y (λ same. let low : y < n = h.below i y at_y in let is : id.0 ≡ n = h.next.1 in absurd (omega arith))) in
     let passes = may_unlock owner.0 id.0 (length h.front) g s h.explained.exact.locks at (h.next.0 ∙ sym h.next.1) h.next.2 held h.none_open h.running in
     let d = passed (unlock_refusal owner.0 id.0 s.shown) unlocks.0 s t _ passes unlocks.2 in
-    let after : t ≡ state_after_unlock id.0 s = d.1 in
-    (after, record {
-      front = h.front ++ g ∷ [];
-      count = length-append h.front (g ∷ []) ∙ ap (λ k. k + 1) h.count;
-      granted = ap (λ (r : State). r.past.grants) after ∙ h.granted ∙ sym (append_assoc h.front (g ∷ []) gs);
-      next = h.next.3;
-      below = λ i k at_k. elim (push-cases s.past.let_go id.0 k i (subst (λ ls. slice_get ls i ≡ Some k) (ap (λ (r : State). r.past.let_go) after) at_k)) as (λ _. k < n + 1) [
-        | inl old ↦ let low : k < n = h.below i k old in omega arith
-        | inr is ↦ let same : id.0 ≡ k = is.1 in let named : id.0 ≡ n = h.next.1 in omega arith
-      ];
-      none_open = ap (λ (r : State). r.shown.transactions) after ∙ h.none_open;
-      running = ap (λ (r : State). r.shown.suspended) after ∙ h.running;
-      explained = steps_keep_tables ⊥ now (step.Unlock owner id) (reply_of (λ _. reply.Done) answer) s t unlocks h.explained;
-    })
+    let after : t ≡ state_after_unlock id.0 s = d.1 in (
+      after,
+      record {
+        front = h.front ++ g ∷ [];
+        count = length-append h.front (g ∷ []) ∙ ap (λ k. k + 1) h.count;
+        granted = ap (λ (r : State). r.past.grants) after ∙ h.granted ∙ sym (append_assoc h.front (g ∷ []) gs);
+        next = h.next.3;
+        below = λ i k at_k. elim (push-cases s.past.let_go id.0 k i (subst (λ ls. slice_get ls i ≡ Some k) (ap (λ (r : State). r.past.let_go) after) at_k)) as (λ _. k < n + 1) [
+          | inl old ↦ let low : k < n = h.below i k old in omega arith
+          | inr is ↦ let same : id.0 ≡ k = is.1 in let named : id.0 ≡ n = h.next.1 in omega arith
+        ];
+        none_open = ap (λ (r : State). r.shown.transactions) after ∙ h.none_open;
+        running = ap (λ (r : State). r.shown.suspended) after ∙ h.running;
+        explained = steps_keep_tables ⊥ now (step.Unlock owner id) (reply_of (λ _. reply.Done) answer) s t unlocks h.explained;
+      },
+    )
 
 -- the locks of these names were released, and nothing else was done
 pub record HasUnlocked (ids : List LockId) (s t : State) : Type 0 where
