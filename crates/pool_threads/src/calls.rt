@@ -161,7 +161,8 @@ impl<'p, D: SectorDevice> Handle<'p, D> {
         self.ask(rt, Unlock { owner, id })
     }
 
-    /// Commits a transaction whole.
+    /// Commits a transaction whole. After a refusal it is still open: abort it, and unlock its ranges. Until it has
+    /// ended, its group can't be synced.
     ///
     /// # Errors
     /// Those of `PoolState::commit`.
