@@ -27,8 +27,8 @@
 //!    `anyhow`, write `.map_err(PoolError::from)?`.
 //!
 //! Numbers: an object has up to 338,688 bytes ([`MAX_LENGTH`]), a device 6 MiB to 1 GiB in sectors of 512 bytes. A guid
-//! is any number that distinguishes pools. A moment is a time in seconds that the uberblocks carry; 0 serves if no clock
-//! is read.
+//! is any number that distinguishes pools. A moment is a time in seconds that the uberblocks carry; 0 serves if no
+//! clock is read.
 //!
 //! # Examples
 //!
