@@ -53,5 +53,9 @@ pub const LEAST_DIRTY_MAX: u64 = 4096;
 /// The greatest limit of a pool's unsynced bytes that an import accepts.
 pub const GREATEST_DIRTY_MAX: u64 = 1_099_511_627_776;
 
-/// A limit of a pool's unsynced bytes that suits most uses.
+/// A dirty limit for small pools: the most bytes that the transactions of unsynced groups may be charged, 1 MiB.
+///
+/// A create is charged 8,192 bytes, and a write 12,288 and 4,096 more for each piece of 4,032 bytes that it touches. So
+/// 42 transactions with a create and a short write are admitted. Further ones are refused `Throttled`, and those of a
+/// handle wait, until a group is synced.
 pub const DEFAULT_DIRTY_MAX: u64 = 1_048_576;

@@ -4,7 +4,7 @@
 //! refused on the way, and the program goes on.
 #![tactic(auto)]
 
-use anyhow::Result;
+use anyhow::{Context, Result};
 use std::alloc::Global;
 use std::io::Print;
 use std::sync::Wait;
@@ -37,24 +37,19 @@ fn main(rt: HostRuntime) -> Result<()> {
 // Makes a pool, and writes and syncs the note.
 fn write_note<R: Wait + Print>(rt: &R, alloc: Global, device: FileDevice) -> Result<()> {
     let pool = make_pool(alloc, device)?;
-    let receipt = pool
-        .handle()
-        .transact(rt, alloc, OWNER, note(alloc, b"hello, pool")?)?;
+    let mut handle = pool.handle();
+    let receipt = handle.transact(rt, OWNER, note(alloc, b"hello, pool")?)?;
     println!(rt; "the note is in group {}", receipt.group.0)?;
     // The note exists already, so the whole transaction is refused and changes nothing.
-    match pool
-        .handle()
-        .transact(rt, alloc, OWNER, note(alloc, b"again")?)
-    {
+    match handle.transact(rt, OWNER, note(alloc, b"again")?) {
         Err(PoolError::Exists) => println!(rt; "there is a note already")?,
         Err(error) => return Err(error.into()),
         Ok(receipt) => println!(rt; "written twice, in group {}", receipt.group.0)?,
     }
     // A power failure before the sync would lose the note.
-    if let Some(mut state) = pool.close() {
-        let group = state.sync_open_group(0)?;
-        println!(rt; "group {} is synced", group.0)?;
-    }
+    let mut state = pool.close().context("a thread has the pool")?;
+    let group = state.sync_open_group(0)?;
+    println!(rt; "group {} is synced", group.0)?;
     Ok(())
 }
 

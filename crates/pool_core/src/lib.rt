@@ -1,4 +1,40 @@
-//! The state of a pool, one step at a time.
+//! The state of a pool, one step at a time, for a program with one thread that makes each step itself.
+//!
+//! [`PoolState`] owns its device, and each of its calls is one step. No step waits: what another owner holds is refused
+//! `Busy`, and a transaction past the dirty limit is refused `Throttled`. [`PoolState::sync_open_group`] syncs all that
+//! was committed. [`run`] makes a list of steps that are given as values; [`calls`] has them as types.
+//!
+//! Threads share a pool by `Pool` of `pool_threads`. The functions besides [`run`] are laws, for proofs.
+//!
+//! # Examples
+//!
+//! It makes an object, and syncs it.
+//!
+//! ```
+//! #![tactic(auto)]
+//!
+//! use base::{DEFAULT_DIRTY_MAX, Group, Mode, ObjectId, Op, Ops, Owner, Plan, PoolError, Range};
+//! use device_model::MemDevice;
+//! use import_replay::{create, import};
+//! use pool_core::PoolState;
+//! use std::alloc::Global;
+//!
+//! fn main(rt: HostRuntime) -> anyhow::Result<()> {
+//!     let synced = make_object(rt.alloc(), Owner(1), ObjectId(1))?;
+//!     Ok(println!(rt; "group {} is synced", synced.0)?)
+//! }
+//!
+//! fn make_object(alloc: Global, owner: Owner, object: ObjectId) -> Result<Group, PoolError> {
+//!     let device = create(MemDevice::new(alloc, 16_384)?, b"tank", 77, 0)?;
+//!     let mut pool = PoolState::new(import(alloc, device, DEFAULT_DIRTY_MAX, 0)?);
+//!     let lock = pool.lock(owner, object, Range::WHOLE, Mode::Writer)?;
+//!     let ops = Ops::new(vec![in alloc; Op::Create(object)]?);
+//!     let (tx, _) = pool.begin(owner, &Plan::of(alloc, &ops)?)?;
+//!     pool.commit(tx, ops)?;
+//!     pool.unlock(owner, lock)?;
+//!     pool.sync_open_group(0)
+//! }
+//! ```
 #![tactic(auto)]
 
 pub mod calls;

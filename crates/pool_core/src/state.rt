@@ -18,8 +18,8 @@ use std::alloc::Global;
 
 /// A pool that runs on a device, which it owns. One step at a time changes it.
 ///
-/// After a device refused a write or a flush the pool is suspended: it still tells its name and its status, and each
-/// other later step is refused `Suspended`. Every other refusal leaves the pool unchanged.
+/// After the device refused a write or a flush the pool is suspended. It still returns its name and its status, and
+/// each other later step is refused `Suspended`. A step that is refused for another reason leaves the pool unchanged.
 #[derive(Debug, Drop)]
 pub struct PoolState<D: SectorDevice> {
     device: D,
@@ -73,13 +73,15 @@ impl<D: SectorDevice> PoolState<D> {
         self.pool.alloc()
     }
 
-    /// Locks a range of an object, or of the number after the last object, which stands for the pool's name
-    /// (`zfs_rlock.c`).
+    /// Locks a range of an object (`zfs_rlock.c`). The number after the last object stands for the pool's name.
     ///
     /// # Errors
-    /// In this order: `Suspended`; `BadRange` where the number or the range is outside its limits; `Busy` exactly if
-    /// the range overlaps a held one and not both are readers; `TooMany` where 256 locks are held or the next name
-    /// would pass 2^60; `NoMemory`.
+    /// In this order:
+    /// - `Suspended`.
+    /// - `BadRange` if the number or the range is outside its limits.
+    /// - `Busy` exactly if the range overlaps a held one and not both are readers.
+    /// - `TooMany` if 256 locks are held, or the next name would pass 2^60.
+    /// - `NoMemory`.
     pub fn lock(
         &mut self,
         owner: Owner,
@@ -93,12 +95,17 @@ impl<D: SectorDevice> PoolState<D> {
         self.pool.lock(owner, object, range, mode)
     }
 
-    /// Locks an object as a writer from its end to the greatest length, 338,688, and answers that range too.
+    /// Locks an object as a writer from its end to the greatest length, 338,688, and returns that range too.
     ///
     /// # Errors
-    /// In this order: `Suspended`; `BadRange` where the number is no object's; `NoObject`; `BadRange` where the object
-    /// has the greatest length; `Busy` exactly if the range overlaps a held one; `TooMany` where 256 locks are held or
-    /// the next name would pass 2^60; `NoMemory`.
+    /// In this order:
+    /// - `Suspended`.
+    /// - `BadRange` if the number is no object's.
+    /// - `NoObject`.
+    /// - `BadRange` if the object has the greatest length.
+    /// - `Busy` exactly if the range overlaps a held one.
+    /// - `TooMany` if 256 locks are held, or the next name would pass 2^60.
+    /// - `NoMemory`.
     pub fn lock_append(
         &mut self,
         owner: Owner,
@@ -110,11 +117,13 @@ impl<D: SectorDevice> PoolState<D> {
         self.pool.lock_append(owner, object)
     }
 
-    /// Lets a lock go. It takes no memory.
+    /// Releases a lock. It takes no memory.
     ///
     /// # Errors
-    /// In this order: `Suspended`; `NoSuchLock` where the owner holds none of this name; `LockInUse` exactly if it is a
-    /// writer lock in which a range of an open transaction lies.
+    /// In this order:
+    /// - `Suspended`.
+    /// - `NoSuchLock` if the owner holds none of this name.
+    /// - `LockInUse` exactly if it is a writer lock in which a range of an open transaction lies.
     pub fn unlock(&mut self, owner: Owner, id: LockId) -> Result<(), PoolError>
         ensures step { Unlocks owner id result (shown self.old) (shown self.new) }
         ensures unmoved { MovesNothing result self.old self.new }
@@ -122,7 +131,7 @@ impl<D: SectorDevice> PoolState<D> {
         self.pool.unlock(owner, id)
     }
 
-    /// The held locks in order of grant, each with its name. It is no step, so a suspended pool tells them too, and
+    /// The held locks in order of grant, each with its name. It is no step, so a suspended pool returns them too. It
     /// takes no memory.
     pub fn held(&self) -> HeldLocks<'_>
         ensures locks { map grant_of result ≡ (shown self.now).locks }
@@ -133,9 +142,10 @@ impl<D: SectorDevice> PoolState<D> {
         self.pool.held()
     }
 
-    /// The pieces of an object, or of the number after the last object, rising: the parts between neighbouring ends of
-    /// its held locks that some lock covers, each with its number of readers and whether a writer covers it
-    /// (`zfs_rlock.c`). It is no step, so a suspended pool tells them too.
+    /// The pieces of an object, rising (`zfs_rlock.c`). The number after the last object stands for the pool's name.
+    ///
+    /// A piece lies between neighbouring ends of held locks, and some lock covers it. It has its number of readers, and
+    /// whether a writer covers it. It is no step, so a suspended pool returns them too.
     ///
     /// # Errors
     /// `NoMemory`.
@@ -147,17 +157,25 @@ impl<D: SectorDevice> PoolState<D> {
         self.pool.pieces(number)
     }
 
-    /// Opens a transaction of the open group that keeps to a plan, of which it takes a copy. The group is charged 4,096
-    /// bytes for each block that the plan is estimated at, and so many blocks are reserved for it, both until it is
-    /// synced.
+    /// Opens a transaction of the open group that keeps to a plan, of which it takes a copy.
+    ///
+    /// The plan is estimated in blocks: 2 for a create or a remove, 4 for a new length. A write is estimated at 3, and
+    /// one more for each piece of 4,032 bytes that it touches. The group is charged 4,096 bytes for each of these
+    /// blocks, and as many blocks are reserved. Both last until the group is synced, or the transaction is aborted. At
+    /// the dirty limit `begin` is refused `Throttled` until a group is synced, or a transaction is aborted.
     ///
     /// # Errors
-    /// In this order: `Suspended`; `BadRange` where the plan has no shape, or one that gives a name or is outside its
-    /// limits; `TooLarge` where its log record would have more than 4,008 bytes; `NotLocked` where a range of it does
-    /// not lie in one writer lock of the owner; `Busy` where one overlaps a range of an open transaction; `TooMany`
-    /// where 64 transactions are open or the next name would pass 2^60; `Throttled` where the charges of all unsynced
-    /// groups would pass the import's limit; `NoSpace` where fewer blocks are available than the plan is estimated at
-    /// and, unless it only removes objects, 16 more; `NoMemory`.
+    /// In this order:
+    /// - `Suspended`.
+    /// - `BadRange` if the plan has no shape, or one that gives a name or is outside its limits.
+    /// - `TooLarge` if its log record would have more than 4,008 bytes.
+    /// - `NotLocked` if a range of it does not lie in one writer lock of the owner.
+    /// - `Busy` if one overlaps a range of an open transaction.
+    /// - `TooMany` if 64 transactions are open, or the next name would pass 2^60.
+    /// - `Throttled` if the charges of all unsynced groups would pass the import's dirty limit.
+    /// - `NoSpace` if fewer blocks are available than the plan is estimated at. Unless it only removes objects, 16 more
+    ///   have to be available.
+    /// - `NoMemory`.
     pub fn begin(&mut self, owner: Owner, plan: &Plan) -> Result<(TxId, Group), PoolError>
         ensures step { Begins owner plan.now result (shown self.old) (shown self.new) }
         ensures unmoved { MovesNothing result self.old self.new }
@@ -165,8 +183,8 @@ impl<D: SectorDevice> PoolState<D> {
         self.pool.begin(owner, plan)
     }
 
-    /// Whether a transaction may have this plan, but its charge alone is above the import's limit, so that each `begin`
-    /// of it is refused, `Throttled` at the latest. It takes no memory, and is no step.
+    /// Whether the charge of this plan alone is above the import's dirty limit, for a plan that a transaction may have.
+    /// Then each `begin` of it is refused, `Throttled` at the latest. It takes no memory, and is no step.
     pub fn is_above_limit(&self, plan: &Plan) -> bool
         ensures { result ≡ is_above_limit plan.now (shown self.now) }
     {
@@ -181,13 +199,17 @@ impl<D: SectorDevice> PoolState<D> {
         self.pool.open_plan(tx)
     }
 
-    /// Commits a transaction whole, in its own group.
+    /// Commits a transaction whole, in its own group. After a refusal the transaction is still open.
     ///
     /// # Errors
-    /// In this order: `Suspended`; `NoSuchTransaction` where none of this name is open; `OutOfPlan` where the
-    /// operations have not the plan's shapes, one for one; `NoObject` or `Exists`, that of the first operation that
-    /// can't take place on the contents after those before it; `TooMany` where the next ordinal would pass 2^60;
-    /// `NoMemory`. After each the transaction is still open.
+    /// In this order:
+    /// - `Suspended`.
+    /// - `NoSuchTransaction` if none of this name is open.
+    /// - `OutOfPlan` if the operations don't have the plan's shapes, one for one.
+    /// - `NoObject` or `Exists`, that of the first operation that can't take place on the contents after those before
+    ///   it.
+    /// - `TooMany` if the next ordinal would pass 2^60.
+    /// - `NoMemory`.
     pub fn commit(&mut self, tx: TxId, ops: Ops) -> Result<Receipt, PoolError>
         ensures step { Commits tx ops result (shown self.old) (shown self.new) }
         ensures unmoved { MovesNothing result self.old self.new }
@@ -195,11 +217,13 @@ impl<D: SectorDevice> PoolState<D> {
         self.pool.commit(tx, ops)
     }
 
-    /// Gives a transaction up, in the open or in the quiescing group: it holds its group no more, and what the group
-    /// was charged for it and the blocks that were reserved for it are so no more. It takes no memory.
+    /// Gives a transaction up, in the open or in the quiescing group. It no longer holds its group, and its charge and
+    /// its reserved blocks are given back. It takes no memory.
     ///
     /// # Errors
-    /// In this order: `Suspended`; `NoSuchTransaction` where none of this name is open.
+    /// In this order:
+    /// - `Suspended`.
+    /// - `NoSuchTransaction` if none of this name is open.
     pub fn abort(&mut self, tx: TxId) -> Result<(), PoolError>
         ensures step { Aborts tx result (shown self.old) (shown self.new) }
         ensures unmoved { MovesNothing result self.old self.new }
@@ -210,8 +234,12 @@ impl<D: SectorDevice> PoolState<D> {
     /// The bytes of a range that lie below the object's length.
     ///
     /// # Errors
-    /// In this order: `Suspended`; `BadRange` where the number or the range is outside its limits; `NotLocked` where no
-    /// one lock of the owner covers the range; `NoObject`; `NoMemory`.
+    /// In this order:
+    /// - `Suspended`.
+    /// - `BadRange` if the number or the range is outside its limits.
+    /// - `NotLocked` if no one lock of the owner covers the range.
+    /// - `NoObject`.
+    /// - `NoMemory`.
     pub fn read(&mut self, owner: Owner, object: ObjectId, range: Range) -> Result<Bytes, PoolError>
         ensures step { Reads owner object range result (shown self.old) }
         ensures unchanged { self.new ≡ self.old }
@@ -223,7 +251,10 @@ impl<D: SectorDevice> PoolState<D> {
     /// The length of an object in bytes. It takes no memory.
     ///
     /// # Errors
-    /// In this order: `Suspended`; `BadRange` where the number is no object's; `NoObject`.
+    /// In this order:
+    /// - `Suspended`.
+    /// - `BadRange` if the number is no object's.
+    /// - `NoObject`.
     pub fn length(&self, object: ObjectId) -> Result<u64, PoolError>
         ensures step { TellsLength object result (shown self.now) }
         ensures no_call { MakesNoCall result self.now self.now }
@@ -231,9 +262,9 @@ impl<D: SectorDevice> PoolState<D> {
         self.pool.length(object)
     }
 
-    /// The digest of the current contents: SHA-256 of the name, the number of objects, and each object by rising number
-    /// with its number, its length and its bytes. The contents stand in memory, so it takes no memory and makes no
-    /// device call.
+    /// The digest of the current contents. It is SHA-256 of the name, the number of objects, and each object by rising
+    /// number with its number, its length and its bytes. The contents stand in memory, so it takes no memory and makes
+    /// no device call.
     ///
     /// # Errors
     /// `Suspended`.
@@ -253,18 +284,19 @@ impl<D: SectorDevice> PoolState<D> {
     }
 
     /// The groups of the pool, and its sums: the bytes that are charged, the free blocks, and how many of them no
-    /// unsynced transaction may still ask for. It is never refused, also of a suspended pool, and takes no memory.
+    /// unsynced transaction may still take. It is never refused, also of a suspended pool, and takes no memory.
     pub fn status(&self) -> Status
         ensures { result ≡ status_of (shown self.now) }
     {
         self.pool.status()
     }
 
-    /// The open group quiesces, and the next one is open (`txg.c`). It takes no memory.
+    /// Closes the open group, which then quiesces, and opens the next one (`txg.c`). It takes no memory.
     ///
     /// # Errors
-    /// In this order: `Suspended`; `NotReady` where a group is closed and its sync was not started, or the open group
-    /// is 2^60.
+    /// In this order:
+    /// - `Suspended`.
+    /// - `NotReady` if a group is closed and its sync was not started, or the open group is 2^60.
     pub fn close_group(&mut self) -> Result<Group, PoolError>
         ensures step { ClosesGroup result (shown self.old) (shown self.new) }
         ensures unmoved { MovesNothing result self.old self.new }
@@ -272,10 +304,12 @@ impl<D: SectorDevice> PoolState<D> {
         self.pool.close_group()
     }
 
-    /// The closed group is quiesced: no transaction of it is open. It takes no memory.
+    /// Marks the closed group as quiesced: no transaction of it is open. It takes no memory.
     ///
     /// # Errors
-    /// In this order: `Suspended`; `NotReady` where no group quiesces, or a transaction of it is open.
+    /// In this order:
+    /// - `Suspended`.
+    /// - `NotReady` if no group quiesces, or a transaction of it is open.
     pub fn mark_quiesced(&mut self) -> Result<Group, PoolError>
         ensures step { MarksQuiesced result (shown self.old) (shown self.new) }
         ensures unmoved { MovesNothing result self.old self.new }
@@ -283,12 +317,16 @@ impl<D: SectorDevice> PoolState<D> {
         self.pool.mark_quiesced()
     }
 
-    /// Starts the sync of the quiesced group: plans its blocks, one for each place of the tree that it writes, and
-    /// takes the room for all its steps. The moment, in seconds, is stored in its uberblocks.
+    /// Starts the sync of the quiesced group. It plans its blocks, one for each place of the tree that it writes, and
+    /// takes the memory for all its steps. The moment, in seconds, is stored in its uberblocks.
     ///
     /// # Errors
-    /// In this order: `Suspended`; `NotReady` where no group is quiesced or one is syncing; `NoMemory`. It is never
-    /// refused `NoSpace`: what its transactions reserved suffices.
+    /// In this order:
+    /// - `Suspended`.
+    /// - `NotReady` if no group is quiesced, or one is syncing.
+    /// - `NoMemory`.
+    ///
+    /// It is never refused `NoSpace`: what its transactions reserved suffices.
     pub fn start_sync(&mut self, moment: u64) -> Result<Group, PoolError>
         ensures step { StartsSync moment result (shown self.old) (shown self.new) }
         ensures held { IsTrue D.keeps_model
@@ -301,12 +339,14 @@ impl<D: SectorDevice> PoolState<D> {
         self.pool.start_sync(moment)
     }
 
-    /// Makes the next device call of the running sync. With the last one its group is synced: the blocks that it
-    /// replaced come back, and what it was charged and what was reserved for it ends. It takes no memory of its own.
+    /// Makes the next device call of the running sync. It takes no memory of its own. With the last call its group is
+    /// synced: the blocks that it replaced come back, and its charges and reservations end.
     ///
     /// # Errors
-    /// In this order: `Suspended`; `NotReady` where no group is syncing; `Write` or `Flush` where the device refused,
-    /// and then the pool is suspended.
+    /// In this order:
+    /// - `Suspended`.
+    /// - `NotReady` if no group is syncing.
+    /// - `Write` or `Flush` if the device refused. Then the pool is suspended.
     pub fn sync_step(&mut self) -> Result<Progress, PoolError>
         ensures step { StepsSync result (shown self.old) (shown self.new) }
         ensures leads { IsTrue D.keeps_model

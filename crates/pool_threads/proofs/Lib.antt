@@ -12,4 +12,6 @@ pub mod Ends
 pub mod SafeTurns
 pub mod Transacted
 pub mod TransactsSeen
+pub mod Released
+pub mod TransactsRelease
 pub mod TransactClients

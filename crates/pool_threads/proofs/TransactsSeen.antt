@@ -66,7 +66,7 @@ module _ {Dev : Type 0} {G : Ghosts Dev} where
   along_last : {s : declared_step.Step} {e : PoolError} {r : declared_reply.Reply} {old new : Handle Dev G} → MakesAtLast s e r old new → GoesAlong old new
   along_last m = record { same_pool = m.same_pool; onward = grows_onward _ _ _ _ m.made.onward (grows_by_one _ _ _ _ _ _ refl m.made.made); met_none = m.made.met_none }
 
-  along_locks : (owner : Owner) (rs : List ObjectRange) (ids : List LockId) (old new : Handle Dev G) → Locks owner rs ids old new → GoesAlong old new
+  pub along_locks : (owner : Owner) (rs : List ObjectRange) (ids : List LockId) (old new : Handle Dev G) → Locks owner rs ids old new → GoesAlong old new
   along_locks owner [] [] old new same = along_same old new same
   along_locks owner (r ∷ rs) (id ∷ ids) old new (next, one, rest) = along_on old next new (along_last one) (along_locks owner rs ids next new rest)
   along_locks owner [] (id ∷ ids) old new h = absurd h
@@ -125,7 +125,7 @@ module _ {Dev : Type 0} {G : Ghosts Dev} where
     along_ends (Err e) old new (inl m) = along_last m
     along_ends (Err e) old new (inr g) = along_on old g.begun new (along_last g.begins) (along_on g.begun g.failed new (along_made g.refused) (along_made g.aborts))
 
-    along_locks_and_ends : (rs : List ObjectRange) (ids : List LockId) (result : Result Receipt PoolError) (old new : Handle Dev G) → LocksAndEnds owner rs (plan_of ops) ops ids result old new → GoesAlong old new
+    pub along_locks_and_ends : (rs : List ObjectRange) (ids : List LockId) (result : Result Receipt PoolError) (old new : Handle Dev G) → LocksAndEnds owner rs (plan_of ops) ops ids result old new → GoesAlong old new
     along_locks_and_ends rs ids (Ok r) old new (locked, locks, c) = along_on old locked new (along_locks owner rs ids old locked locks) (along_ends (Ok r) locked new c)
     along_locks_and_ends rs ids (Err e) old new (inl s) = along_on old s.middle new (along_locks owner s.locked ids old s.middle s.locks) (along_last s.refused)
     along_locks_and_ends rs ids (Err e) old new (inr (locked, locks, ends)) = along_on old locked new (along_locks owner rs ids old locked locks) (along_ends (Err e) locked new ends)

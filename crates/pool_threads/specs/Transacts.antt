@@ -20,7 +20,8 @@ use Rattle.base.specs.steps.Seen.{IsCommitted}
 use Rattle.base.specs.steps.Steps.{State}
 use Rattle.device_model.specs.declared.device.SectorDevice.{Ghosts}
 use Rattle.pool_threads.specs.declared.handle.Handle.{Handle}
-use Rattle.pool_threads.specs.Answers.{IsRefusal, Makes, MakesAtLast}
+use Rattle.pool_threads.specs.Answers.{IsRefusal, Makes, MakesAtLast, Sees, state_seen}
+use Rattle.pool_threads.specs.Handles.{kin_of}
 use Rattle.transactions.specs.LockRanges.{lock_ranges}
 
 -- the step that locks a range for writing
@@ -111,3 +112,12 @@ abbrev pub IsTransactRefusal : Owner → List Op → PoolError → State → Sta
 IsTransactRefusal owner ops e before after =
     ((r : ObjectRange) × IsRefusal (lock_step owner r) e before after)
     ⊎ (IsRefusal (step.Begin owner (plan_of ops)) e before after ⊎ ((tx : TxId) × IsRefusal (step.Commit tx ops) e before after))
+
+-- the held locks are those from before, and no transaction is open
+pub record AreReleased (before after : State) : Type 0 where
+  pub locks : after.shown.locks ≡ before.shown.locks
+  pub none_open : after.shown.transactions ≡ []
+
+-- The only handle of a pool in which no transaction was open has left no lock and no transaction of its own.
+abbrev pub LeavesNothing : {Dev : Type 0} {G : Ghosts Dev} → Handle Dev G → Handle Dev G → Type 0
+LeavesNothing old new = kin_of old ≡ 0 → (state_seen old).shown.transactions ≡ [] → Sees AreReleased old new

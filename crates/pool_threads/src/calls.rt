@@ -26,6 +26,9 @@ use word_lock::release;
 
 impl<'p, D: SectorDevice> Handle<'p, D> {
     /// Makes one step of the pool, in one turn of the handle. A start of a sync gets the pool's moment.
+    ///
+    /// A thread that syncs makes the steps `CloseGroup`, `MarkQuiesced`, `StartSync` and `SyncStep` (the crate's page
+    /// shows how). A `SyncStep` makes one device call, a write or a flush, under the pool's lock: other threads wait.
     pub fn step<'a, 'b, W: Wait>(&'a mut self, rt: &'b W, step: Step) -> Reply
         ensures made { Makes (dated (moment_of self.old) step) result self.old self.new }
     {
@@ -112,8 +115,11 @@ impl<'p, D: SectorDevice> Handle<'p, D> {
         self.retry(rt, LockAppend { owner, object })
     }
 
-    /// Opens a transaction of the open group that keeps to a plan. It tries again while it is refused `Throttled`,
-    /// unless the plan's charge alone is above the import's limit.
+    /// Opens a transaction of the open group that keeps to a plan. The group is charged for what its sync writes, as
+    /// `PoolState::begin` says, until it is synced.
+    ///
+    /// At the dirty limit it waits: it tries again while it is refused `Throttled`, unless the plan's charge alone is
+    /// above the limit. So some thread has to sync a group (the crate's page shows how), or to abort a transaction.
     ///
     /// # Errors
     /// Those of `PoolState::begin`; `Throttled` only if the plan's charge alone is above the limit.
@@ -155,7 +161,8 @@ impl<'p, D: SectorDevice> Handle<'p, D> {
         self.ask(rt, Unlock { owner, id })
     }
 
-    /// Commits a transaction whole.
+    /// Commits a transaction whole. After a refusal it is still open: abort it, and unlock its ranges. Until it has
+    /// ended, its group can't be synced.
     ///
     /// # Errors
     /// Those of `PoolState::commit`.

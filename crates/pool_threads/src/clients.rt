@@ -14,7 +14,7 @@ ghost use Rattle.base.specs.steps.Seen.{IsGranted, IsReadBetween};
 ghost use Rattle.import_replay.specs.ImportSyncs.{IsImportSynced};
 ghost use Rattle.import_replay.specs.Mounts.{shown_of_import};
 ghost use Rattle.import_replay.specs.declared.mounted.Mounted.{Mounted};
-ghost use Rattle.pool_threads.specs.Answers.{Makes, MakesAtLast, Sees};
+ghost use Rattle.pool_threads.specs.Answers.{Makes, MakesAtLast, Sees, state_seen};
 ghost use Rattle.pool_threads.specs.Handles.{IsOf, IsOfSamePool, OpensBehind, StartsBehind, TakesOneTurn, TakesTurns, WasOf, kin_left, kin_of, moment_of, opening_view, owned_of, shared_of, taken_by, turns_of, view_seen};
 ghost use Rattle.pool_threads.specs.Transacts.{IsTransacted, Locks, Unlocks, plan_of};
 ghost use Rattle.pool_threads.specs.Views.{Explains, GrowsTo, IsFollowed, SeenPool, WereSafeBetween};
@@ -349,20 +349,18 @@ fn a_begin_takes_turns<D: SectorDevice, W: Wait>(
 
 fn a_transact_enters_its_operations<D: SectorDevice, W: Wait>(
     rt: &W,
-    alloc: Global,
     handle: &mut Handle<'_, D>,
     ops: Ops,
 ) -> Result<Receipt, PoolError>
     ensures entered { IfOk result (λ r. Sees (IsTransacted ops r) handle.old handle.new) }
     ensures number { kin_of handle.new ≡ kin_of handle.old }
 {
-    handle.transact(rt, alloc, Owner(3), ops)
+    handle.transact(rt, Owner(3), ops)
 }
 
 // These are all its steps: nothing lies between them but tries that were refused.
 fn a_transact_locks_begins_commits_and_unlocks<D: SectorDevice, W: Wait>(
     rt: &W,
-    alloc: Global,
     handle: &mut Handle<'_, D>,
     owner: Owner,
     ops: Ops,
@@ -375,13 +373,12 @@ fn a_transact_locks_begins_commits_and_unlocks<D: SectorDevice, W: Wait>(
         × Makes (step.Commit tx ops) (reply.Committed r) begun done
         × Unlocks owner ids done handle.new) }
 {
-    handle.transact(rt, alloc, owner, ops)
+    handle.transact(rt, owner, ops)
 }
 
 // Under the names of the locks that it got.
 fn a_refused_transact_unlocks_what_it_locked<D: SectorDevice, W: Wait>(
     rt: &W,
-    alloc: Global,
     handle: &mut Handle<'_, D>,
     owner: Owner,
     ops: Ops,
@@ -390,5 +387,17 @@ fn a_refused_transact_unlocks_what_it_locked<D: SectorDevice, W: Wait>(
         × (locked : Handle _ _) × (ended : Handle _ _)
         × Locks owner ranges ids handle.old locked × Unlocks owner ids ended handle.new) }
 {
-    handle.transact(rt, alloc, owner, ops)
+    handle.transact(rt, owner, ops)
+}
+
+// If no transaction was open before it. Also if it is refused.
+fn a_transact_of_the_only_handle_leaves_the_locks_as_they_were<D: SectorDevice, W: Wait>(
+    rt: &W,
+    handle: &mut Handle<'_, D>,
+    ops: Ops,
+) -> Result<Receipt, PoolError>
+    ensures { kin_of handle.old ≡ 0 → (state_seen handle.old).shown.transactions ≡ []
+        → Sees (λ before after. after.shown.locks ≡ before.shown.locks) handle.old handle.new }
+{
+    handle.transact(rt, Owner(3), ops)
 }

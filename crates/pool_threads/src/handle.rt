@@ -8,10 +8,13 @@ use device_model::SectorDevice;
 use pool_core::PoolState;
 use word_lock::Seat;
 
-/// What one thread has of a pool: a seat at its lock.
+/// A thread's access to a pool: its calls read and change the pool, one step at a time.
 ///
-/// Its calls say that its number stays, except for `split`, which adds 1. No call has a seat from elsewhere, so that
-/// none makes a step in a turn that the handle does not show.
+/// Each call takes the pool's lock, makes its step and frees the lock. So a call waits while another thread makes a
+/// step; a flush of a sync is such a step. `transact` makes a whole transaction, of several steps.
+///
+/// For proofs: a handle is a seat at the pool's lock. Its calls say that its number stays, except for `split`, which
+/// adds 1. No call has a seat from elsewhere, so none makes a step in a turn that the handle does not show.
 #[derive(Drop)]
 pub struct Handle<'p, D: SectorDevice> {
     pub(crate) shared: &'p Shared<D>,
@@ -20,7 +23,7 @@ pub struct Handle<'p, D: SectorDevice> {
     pub(crate) ghost idle: { IsIdle seat },
 }
 
-/// What a handle had seen as it left its pool, which then can be closed, and the turns that it had.
+/// For proofs: what a handle had seen as it left its pool, and the turns that it had. The pool then can be closed.
 #[derive(Drop)]
 pub struct LastSeen<D: SectorDevice> {
     pub(crate) seat: Seat<Box<PoolState<D>>, PoolRule<D>>,
@@ -30,7 +33,9 @@ pub struct LastSeen<D: SectorDevice> {
 impl<'p, D: SectorDevice> Handle<'p, D> {
     ghost use Rattle.pool_threads.specs.Handles.{HasJoined, HasSplit, IsLeftBehind, IsOfSamePool, IsSplitOff};
 
-    /// A handle for another thread, which has seen as much, and has had no turn. This one's number is one more then.
+    /// For proofs: a handle for another thread, which has seen as much. A program takes `Pool::handle`.
+    ///
+    /// The new handle has had no turn. This one's number is one more then.
     pub fn split(&mut self) -> Handle<'p, D>
         ensures this { HasSplit self.old self.new }
         ensures other { IsSplitOff self.old result }
@@ -40,7 +45,7 @@ impl<'p, D: SectorDevice> Handle<'p, D> {
         Handle { shared, seat }
     }
 
-    /// Takes in what another handle of the same pool has seen, and takes over the turns that it had.
+    /// For proofs: takes in what another handle of the same pool has seen, and takes over the turns that it had.
     pub fn join(&mut self, other: Handle<'p, D>)
         requires { IsOfSamePool self.old other }
         ensures { HasJoined self.old other.entry self.new }
@@ -49,7 +54,8 @@ impl<'p, D: SectorDevice> Handle<'p, D> {
         self.seat.join(&self.shared.lock, seat);
     }
 
-    /// Leaves the pool, with what the handle has seen, for `close_after`, or for `OwnedPool::handle_after`.
+    /// For proofs: leaves the pool, with what the handle has seen, for `close_after`, or for `OwnedPool::handle_after`.
+    /// A program drops the handle.
     pub fn leave(self) -> LastSeen<D>
         ensures { IsLeftBehind self.entry result }
     {

@@ -15,16 +15,18 @@ use pool_core::PoolState;
 use std::snapshot::Snapshot;
 use word_lock::WordLock;
 
-/// A pool that has one handle at a time, each of which goes on from the one before, as long as none is split. Then
-/// nothing changes the pool between two calls, and it always closes.
+/// For proofs: a pool that has one handle at a time, each of which goes on from the one before. A program takes
+/// [`crate::Pool`].
+///
+/// As long as no handle is split, nothing changes the pool between two calls, and it always closes.
 #[derive(Drop)]
 pub struct OwnedPool<D: SectorDevice> {
     pub(crate) shared: Shared<D>,
 }
 
 impl<D: SectorDevice> OwnedPool<D> {
-    /// The pool that an import gave, with the device as it was before the import, and what its first handle has seen.
-    /// The syncs that its handles start carry this moment, in seconds.
+    /// For proofs: the pool that an import gave, with the device as it was before the import, and what its first handle
+    /// has seen. The syncs that its handles start carry this moment, in seconds.
     ///
     /// If that device keeps the model, the contents are what the run left that it holds, whichever that was, and the
     /// crash rule is followed from there on.
@@ -52,7 +54,8 @@ impl<D: SectorDevice> OwnedPool<D> {
         OwnedPool::of_state(state_behind(imported, before), moment, before)
     }
 
-    /// The same from the state of that pool, with the view in which nothing has happened since the import.
+    /// For proofs: as `of_import`, from the state of that pool, with the view in which nothing has happened since the
+    /// import.
     ///
     /// # Errors
     /// `NoMemory` if there is none for the lock. The same state then comes back.
@@ -76,14 +79,14 @@ impl<D: SectorDevice> OwnedPool<D> {
         };
         match WordLock::new(alloc, held, &first) {
             Ok((lock, seat)) => {
-                let shared = Shared::new(lock, moment);
+                let shared = Shared::new(lock, alloc, moment);
                 Ok((OwnedPool { shared }, LastSeen { seat }))
             }
             Err((error, held)) => Err((error, Box::into_inner(held))),
         }
     }
 
-    /// A handle that goes on from what one had seen as it left: its turns are among those that it knows of.
+    /// For proofs: a handle that goes on from what one had seen as it left. Its turns are among those that it knows of.
     pub fn handle_after(&self, last: LastSeen<D>) -> Handle<'_, D>
         requires { WasOf (owned_of self.now) last }
         ensures { IsBackIn (owned_of self.entry.now) last result }
@@ -91,9 +94,10 @@ impl<D: SectorDevice> OwnedPool<D> {
         self.shared.handle_after(last)
     }
 
-    /// The state, by steps that go on from what a handle had seen as it left. After a handle that was never split it is
-    /// the state that the handle left, and there always is one. `None` only if a thread was stopped while it had the
-    /// pool.
+    /// For proofs: the state, by steps that go on from what a handle had seen as it left.
+    ///
+    /// After a handle that was never split it is the state that the handle left, and there always is one. `None` only
+    /// if a thread was stopped while it had the pool.
     pub fn close_after(self, last: LastSeen<D>) -> Option<PoolState<D>>
     where
         D: Drop,

@@ -13,7 +13,9 @@ use std::alloc::Global;
 use std::snapshot::Snapshot;
 use word_lock::{SeatSource, WordLock};
 
-/// A pool that threads share by reference, each with a handle of its own.
+/// A pool that threads share by reference, each with a [`Handle`] of its own.
+///
+/// [`Pool::open`] opens it, [`Pool::handle`] gives a handle, and [`Pool::close`] ends it.
 #[derive(Drop)]
 pub struct Pool<D: SectorDevice> {
     pub(crate) shared: Shared<D>,
@@ -30,103 +32,19 @@ impl<D: SectorDevice> Pool<D> {
     ghost use Rattle.pool_threads.specs.Handles.{IsLastState, IsLaterState, IsLeftByOpen, IsNewHandle, IsReadyBehind, LeavesSame, OpensBehind, ShowsImport, ShowsMounted, StartsBehind, WasOf, kin_left, moment_in, opening_view, shared_of};
     ghost use Rattle.pool_threads.specs.Views.{Explains, SeenPool};
 
-    /// A pool that no thread has, with a view that explains it. The syncs that its handles start carry this moment, in
-    /// seconds.
+    /// Opens the pool on a device, as often as one likes: this is the way in for a program. The pool takes the device.
     ///
-    /// # Errors
-    /// `NoMemory` if there is none for the lock. The state then comes back.
-    pub fn new(state: PoolState<D>, moment: u64) -> Result<Pool<D>, (PoolError, PoolState<D>)>
-        ghost first: { SeenPool }
-        requires explained { Explains state first }
-        ensures opening { IfOk result (λ p. opening_view (shared_of p) ≡ first) }
-        ensures moment { IfOk result (λ p. moment_in (shared_of p) ≡ moment) }
-        ensures refused { IfErr result (λ e. (e.0 ≡ PoolError.NoMemory) × (e.1 ≡ state)) }
-    {
-        let first = first_view(&state);
-        Pool::with_view(state, moment, &first)
-    }
-
-    // A pool with this view, which explains it.
-    fn with_view(
-        state: PoolState<D>,
-        moment: u64,
-        first: &Told<PoolView>,
-    ) -> Result<Pool<D>, (PoolError, PoolState<D>)>
-        requires explained { Explains state first.now.value }
-        ensures opening { IfOk result (λ p. opening_view (shared_of p) ≡ first.now.value) }
-        ensures moment { IfOk result (λ p. moment_in (shared_of p) ≡ moment) }
-        ensures refused { IfErr result (λ e. (e.0 ≡ PoolError.NoMemory) × (e.1 ≡ state)) }
-    {
-        let alloc = state.alloc();
-        let held = match boxed(state) {
-            Ok(held) => held,
-            Err(refused) => return Err(refused),
-        };
-        match WordLock::with_source(alloc, held, first) {
-            Ok((lock, source)) => Ok(Pool {
-                shared: Shared::new(lock, moment),
-                source,
-            }),
-            Err((error, held)) => Err((error, Box::into_inner(held))),
-        }
-    }
-
-    /// The pool that an import gave, to be shared. The syncs that its handles start carry this moment, in seconds.
-    /// Nothing is known of the run that left its disk, so that the crash rule is not followed; `share_after` and `open`
-    /// follow it.
+    /// The dirty limit is the most bytes that unsynced transactions may be charged, as `DEFAULT_DIRTY_MAX` of `base`;
+    /// `PoolState::begin` says what is charged. The moment is a time in seconds, or 0 if no clock is read. It is stored
+    /// in the uberblocks of this import, and in those of the syncs that handles start.
     ///
-    /// # Errors
-    /// `NoMemory` if there is none for the lock. The state then comes back.
-    pub fn share(imported: Imported<D>, moment: u64) -> Result<Pool<D>, (PoolError, PoolState<D>)>
-        ensures shown { IfOk result (λ p. ShowsMounted imported.mounted (D.disk imported.device)
-            (opening_view (shared_of p))) }
-        ensures moment { IfOk result (λ p. moment_in (shared_of p) ≡ moment) }
-        ensures refused { IfErr result (λ e. (e.0 ≡ PoolError.NoMemory)
-            × (device_of e.1 ≡ imported.device)
-            × (shown e.1 ≡ shown_of_import imported.mounted)) }
-    {
-        let state = PoolState::new(imported);
-        Pool::new(state, moment)
-    }
-
-    /// The pool that an import gave, to be shared, with the device as it was before the import. The syncs that its
-    /// handles start carry this moment, in seconds.
-    ///
-    /// If that device keeps the model, the contents are what the run left that it holds, whichever that was, and the
-    /// crash rule is followed from there on.
-    ///
-    /// # Errors
-    /// `NoMemory` if there is none for the lock. The state then comes back, and can be shared by `new`.
-    pub fn share_after(
-        imported: Imported<D>,
-        moment: u64,
-        before: &Snapshot<D>,
-    ) -> Result<Pool<D>, (PoolError, PoolState<D>)>
-        requires { IsTrue D.keeps_model → StartsBehind (D.disk before.now.value)
-            imported.mounted (D.disk imported.device) }
-        ensures opened { IfOk result
-            (λ p. OpensBehind (IsTrue D.keeps_model) (D.disk before.now.value)
-            (shown_of_import imported.mounted).dirty_max (opening_view (shared_of p))) }
-        ensures shown { IfOk result (λ p. ShowsMounted imported.mounted (D.disk imported.device)
-            (opening_view (shared_of p))) }
-        ensures moment { IfOk result (λ p. moment_in (shared_of p) ≡ moment) }
-        ensures refused { IfErr result (λ e. e.0 ≡ PoolError.NoMemory) }
-        ensures given_back { IfErr result (λ e. IsReadyBehind (D.disk before.now.value)
-            imported.mounted imported.device e.1) }
-    {
-        let state = state_behind(imported, before);
-        let first = view_behind(before, &state);
-        Pool::with_view(state, moment, &first)
-    }
-
-    /// Imports the pool on a device, and shares it. The moment, in seconds, is stored in the uberblocks of the import,
-    /// and in those of the syncs that its handles start.
-    ///
-    /// If the device keeps the model, the contents are what the run left that its disk holds, whichever that was, and
-    /// the crash rule is followed from there on.
+    /// For proofs: if the device keeps the model, the contents are what the run left that its disk holds, whichever
+    /// that was, and the crash rule is followed from there on.
     ///
     /// # Errors
     /// Those of `import`, and `NoMemory` if there is none for the lock. The device comes back, as the import left it.
+    /// In a function that returns a `PoolError`, `?` drops the device. With `anyhow`, write
+    /// `.map_err(PoolError::from)?`.
     pub fn open(
         alloc: Global,
         device: D,
@@ -159,7 +77,9 @@ impl<D: SectorDevice> Pool<D> {
         }
     }
 
-    /// A handle, at any time. It has seen a view that goes on from the first one, and has had no turn.
+    /// A handle for a thread, at any time. Each thread has one of its own.
+    ///
+    /// For proofs: it has seen a view that goes on from the first one, and has had no turn.
     pub fn handle(&self) -> Handle<'_, D>
         ensures { IsNewHandle (shared_of self.entry.now) result }
     {
@@ -168,8 +88,12 @@ impl<D: SectorDevice> Pool<D> {
         Handle { shared, seat }
     }
 
-    /// The state, by steps from the first one. If the crash rule was followed, each crash of its device leaves a cut of
-    /// its history with every acknowledged entry. `None` only if a thread was stopped while it had the pool.
+    /// Takes the state out of the pool, for one thread: to sync it (`PoolState::sync_open_group`), or to get its
+    /// device back (`PoolState::into_device`). No handle lives any more then. `None` only if a thread was stopped while
+    /// it had the pool.
+    ///
+    /// For proofs: the state is reached by steps from the first one. If the crash rule was followed, each crash of its
+    /// device leaves a cut of its history with every acknowledged entry.
     pub fn close(self) -> Option<PoolState<D>>
     where
         D: Drop,
@@ -179,8 +103,75 @@ impl<D: SectorDevice> Pool<D> {
         shared.close()
     }
 
-    /// The state, by steps that go on from what a handle had seen as it left. `None` only if a thread was stopped while
-    /// it had the pool.
+    /// For proofs: a pool of a state, with a view that explains it. A program takes `open`.
+    ///
+    /// No thread has the pool yet. The syncs that its handles start carry this moment, in seconds.
+    ///
+    /// # Errors
+    /// `NoMemory` if there is none for the lock. The state then comes back.
+    pub fn new(state: PoolState<D>, moment: u64) -> Result<Pool<D>, (PoolError, PoolState<D>)>
+        ghost first: { SeenPool }
+        requires explained { Explains state first }
+        ensures opening { IfOk result (λ p. opening_view (shared_of p) ≡ first) }
+        ensures moment { IfOk result (λ p. moment_in (shared_of p) ≡ moment) }
+        ensures refused { IfErr result (λ e. (e.0 ≡ PoolError.NoMemory) × (e.1 ≡ state)) }
+    {
+        let first = first_view(&state);
+        Pool::with_view(state, moment, &first)
+    }
+
+    /// For proofs: the pool that an import gave, to be shared. A program takes `open`.
+    ///
+    /// The syncs that its handles start carry this moment, in seconds. Nothing is known of the run that left its disk,
+    /// so the crash rule is not followed; `open` and `share_after` follow it.
+    ///
+    /// # Errors
+    /// `NoMemory` if there is none for the lock. The state then comes back.
+    pub fn share(imported: Imported<D>, moment: u64) -> Result<Pool<D>, (PoolError, PoolState<D>)>
+        ensures shown { IfOk result (λ p. ShowsMounted imported.mounted (D.disk imported.device)
+            (opening_view (shared_of p))) }
+        ensures moment { IfOk result (λ p. moment_in (shared_of p) ≡ moment) }
+        ensures refused { IfErr result (λ e. (e.0 ≡ PoolError.NoMemory)
+            × (device_of e.1 ≡ imported.device)
+            × (shown e.1 ≡ shown_of_import imported.mounted)) }
+    {
+        let state = PoolState::new(imported);
+        Pool::new(state, moment)
+    }
+
+    /// For proofs: the pool that an import gave, to be shared, with the device as it was before the import. A program
+    /// takes `open`.
+    ///
+    /// The syncs that its handles start carry this moment, in seconds. If that device keeps the model, the contents are
+    /// what the run left that it holds, whichever that was, and the crash rule is followed from there on.
+    ///
+    /// # Errors
+    /// `NoMemory` if there is none for the lock. The state then comes back, and can be shared by `new`.
+    pub fn share_after(
+        imported: Imported<D>,
+        moment: u64,
+        before: &Snapshot<D>,
+    ) -> Result<Pool<D>, (PoolError, PoolState<D>)>
+        requires { IsTrue D.keeps_model → StartsBehind (D.disk before.now.value)
+            imported.mounted (D.disk imported.device) }
+        ensures opened { IfOk result
+            (λ p. OpensBehind (IsTrue D.keeps_model) (D.disk before.now.value)
+            (shown_of_import imported.mounted).dirty_max (opening_view (shared_of p))) }
+        ensures shown { IfOk result (λ p. ShowsMounted imported.mounted (D.disk imported.device)
+            (opening_view (shared_of p))) }
+        ensures moment { IfOk result (λ p. moment_in (shared_of p) ≡ moment) }
+        ensures refused { IfErr result (λ e. e.0 ≡ PoolError.NoMemory) }
+        ensures given_back { IfErr result (λ e. IsReadyBehind (D.disk before.now.value)
+            imported.mounted imported.device e.1) }
+    {
+        let state = state_behind(imported, before);
+        let first = view_behind(before, &state);
+        Pool::with_view(state, moment, &first)
+    }
+
+    /// For proofs: as `close`, after what a handle had seen as it left. A program takes `close`.
+    ///
+    /// The state is reached by steps that go on from there. `None` only if a thread was stopped while it had the pool.
     pub fn close_after(self, last: LastSeen<D>) -> Option<PoolState<D>>
     where
         D: Drop,
@@ -190,5 +181,30 @@ impl<D: SectorDevice> Pool<D> {
     {
         let Pool { shared, source: _ } = self;
         shared.close_after(last)
+    }
+
+    // A pool with this view, which explains it.
+    fn with_view(
+        state: PoolState<D>,
+        moment: u64,
+        first: &Told<PoolView>,
+    ) -> Result<Pool<D>, (PoolError, PoolState<D>)>
+        requires explained { Explains state first.now.value }
+        ensures opening { IfOk result (λ p. opening_view (shared_of p) ≡ first.now.value) }
+        ensures moment { IfOk result (λ p. moment_in (shared_of p) ≡ moment) }
+        ensures refused { IfErr result (λ e. (e.0 ≡ PoolError.NoMemory) × (e.1 ≡ state)) }
+    {
+        let alloc = state.alloc();
+        let held = match boxed(state) {
+            Ok(held) => held,
+            Err(refused) => return Err(refused),
+        };
+        match WordLock::with_source(alloc, held, first) {
+            Ok((lock, source)) => Ok(Pool {
+                shared: Shared::new(lock, alloc, moment),
+                source,
+            }),
+            Err((error, held)) => Err((error, Box::into_inner(held))),
+        }
     }
 }

@@ -7,6 +7,7 @@ use crate::waiters::Waiters;
 use base::PoolError;
 use device_model::SectorDevice;
 use pool_core::PoolState;
+use std::alloc::Global;
 use word_lock::WordLock;
 
 /// A pool under its lock, without a source of seats: a handle has no more of its pool than this and its seat, so none
@@ -14,6 +15,7 @@ use word_lock::WordLock;
 #[derive(Drop)]
 pub(crate) struct Shared<D: SectorDevice> {
     pub(crate) lock: WordLock<Box<PoolState<D>>, PoolRule<D>>,
+    pub(crate) alloc: Global,
     pub(crate) moment: u64,
     pub(crate) waiters: Waiters,
 }
@@ -21,12 +23,17 @@ pub(crate) struct Shared<D: SectorDevice> {
 impl<D: SectorDevice> Shared<D> {
     ghost use Rattle.pool_threads.specs.Handles.{IsBackIn, IsLastState, IsLaterState, WasOf, kin_left};
 
-    pub(crate) fn new(lock: WordLock<Box<PoolState<D>>, PoolRule<D>>, moment: u64) -> Shared<D>
+    pub(crate) fn new(
+        lock: WordLock<Box<PoolState<D>>, PoolRule<D>>,
+        alloc: Global,
+        moment: u64,
+    ) -> Shared<D>
         ensures lock { result.lock ≡ lock }
         ensures moment { result.moment ≡ moment }
     {
         Shared {
             lock,
+            alloc,
             moment,
             waiters: Waiters::new(),
         }
@@ -49,6 +56,7 @@ impl<D: SectorDevice> Shared<D> {
     {
         let Shared {
             lock,
+            alloc: _,
             moment: _,
             waiters: _,
         } = self;
@@ -68,6 +76,7 @@ impl<D: SectorDevice> Shared<D> {
     {
         let Shared {
             lock,
+            alloc: _,
             moment: _,
             waiters: _,
         } = self;

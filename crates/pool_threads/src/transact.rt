@@ -3,22 +3,26 @@ ghost use Rattle.std.specs.Prelude.{◌≡◌, ◌≤◌, ◌⊎◌, [], IfErr, 
 ghost use Rattle.base.specs.declared.error.PoolError.TheVariants as error;
 ghost use Rattle.pool_threads.specs.Answers.{Sees};
 ghost use Rattle.pool_threads.specs.Handles.{StaysInPool};
-ghost use Rattle.pool_threads.specs.Transacts.{Ends, IsTransacted, IsTransactRefusal, LocksAll, LocksAndEnds, TransactsOrLacks, Unlocks};
+ghost use Rattle.pool_threads.specs.Transacts.{Ends, IsTransacted, IsTransactRefusal, LeavesNothing, LocksAll, LocksAndEnds, TransactsOrLacks, Unlocks};
 ghost use Rattle.word_lock.specs.Seats.{HasMetNone};
 
 use crate::handle::Handle;
 use base::{LockId, Mode, ObjectRange, Ops, Owner, Plan, PoolError, Receipt};
 use device_model::SectorDevice;
-use std::alloc::Global;
 use std::sync::Wait;
 use transactions::lock_ranges;
 
 impl<'p, D: SectorDevice> Handle<'p, D> {
-    /// Commits operations as one entry, in a transaction of its own.
+    /// Commits operations as one entry, in a transaction of its own: all of them take place, or none.
     ///
     /// It locks the ranges of the operations' plan as a writer, in rising order of object and low end, with those that
     /// overlap joined to one. Then it begins, commits, and unlocks all. `lock` and `begin` wait as the calls of that
     /// name do. After a refusal it aborts the transaction, if it was begun, and unlocks what it locked.
+    ///
+    /// **It may wait for a sync.** A transaction is charged for what its sync writes (`PoolState::begin` says how
+    /// much), until its group is synced. At the dirty limit `transact` waits until another thread has synced a group.
+    /// If none does, it waits for ever: with [`DEFAULT_DIRTY_MAX`](base::DEFAULT_DIRTY_MAX) the 43rd transaction that
+    /// creates an object and writes a few bytes to it. The crate's page shows a thread that syncs.
     ///
     /// As the order rises, no two calls of `transact` wait for each other's locks. A caller that holds a lock of its
     /// own that overlaps one of these ranges waits for itself.
@@ -28,11 +32,11 @@ impl<'p, D: SectorDevice> Handle<'p, D> {
     ///
     /// # Errors
     /// `NoMemory` if there is none for the plan, its ranges and the names of the locks; then no step was made. Else the
-    /// first refusal of `lock`, `begin` or `commit`, in this order, and none of the operations takes place.
+    /// first refusal of `lock`, `begin` or `commit`, in this order, and none of the operations takes place. The names
+    /// of the locks and of the transaction that it got by then are used up.
     pub fn transact<'a, 'b, W: Wait>(
         &'a mut self,
         rt: &'b W,
-        alloc: Global,
         owner: Owner,
         ops: Ops,
     ) -> Result<Receipt, PoolError>
@@ -42,7 +46,9 @@ impl<'p, D: SectorDevice> Handle<'p, D> {
             ⊎ Sees (IsTransactRefusal owner ops e) self.old self.new) }
         ensures same_pool { StaysInPool self.old self.new }
         ensures met_none { HasMetNone self.old.seat self.new.seat }
+        ensures released { LeavesNothing self.old self.new }
     {
+        let alloc = self.shared.alloc;
         let plan = Plan::of(alloc, &ops)?;
         let ranges = lock_ranges(alloc, plan.as_slice())?;
         let mut locks = Vec::with_capacity(alloc, ranges.len())?;

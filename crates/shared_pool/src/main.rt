@@ -1,15 +1,21 @@
-//! Four threads share a pool in memory: each makes an object and writes a line to it. Then the pool is synced, the
-//! power is lost, and what was synced is opened again and read.
+//! Four threads share a pool in memory: each makes an object, and writes a line to it, again and again. A fifth one
+//! syncs beside them: at the dirty limit they wait until a group is synced. Then the power is lost, and what was synced
+//! is opened again and read.
 #![tactic(auto)]
 
 use anyhow::{Context, Result};
 use std::alloc::Global;
 use std::sync::Wait;
-use std::thread::{Threads, map_vec};
+use std::sync::atomic::{AtomicBool, Ordering};
+use std::thread::{Threads, join, map_vec};
 use topzerad::{
-    Bytes, DEFAULT_DIRTY_MAX, MemDevice, Mode, ObjectId, Op, Ops, Owner, Pool, PoolError, Range,
-    Receipt, create,
+    Bytes, DEFAULT_DIRTY_MAX, Handle, MemDevice, Mode, ObjectId, Op, Ops, Owner, Pool, PoolError,
+    Range, Receipt, Reply, Step, create,
 };
+
+/// How often each thread writes its line. Each write is charged 16,384 bytes, and each create 8,192. So all of them
+/// together pass the dirty limit of 1 MiB, and would wait for ever if nobody synced.
+const ROUNDS: u32 = 25;
 
 /// The line of an owner, which goes into an object of its own.
 #[derive(Clone, Copy)]
@@ -45,24 +51,21 @@ const NOTES: [Note; 4] = [
 fn main(rt: HostRuntime) -> Result<()> {
     let alloc = rt.alloc();
     let pool = new_pool(alloc)?;
-    let receipts = write_lines(&rt, alloc, &pool)?;
+    let receipts = write_beside_syncs(&rt, alloc, &pool)?;
+    // What no sync has reached yet is synced now.
     let mut state = pool.close().context("a thread has the pool")?;
-    let synced = state.sync_open_group(0)?;
-    let mut ordinals: Vec<u64> = receipts
-        .iter()
-        .map(|receipt| receipt.ordinal.0)
-        .collect(alloc)?;
-    ordinals.sort_unstable();
-    println!(rt; "ordinals {ordinals:?}, and group {} is synced", synced.0)?;
+    let last = state.sync_open_group(0)?;
+    let all_synced = receipts.iter().all(|receipt| receipt.group <= last);
+    println!(rt;
+        "{} last receipts, all synced: {all_synced}",
+        receipts.len()
+    )?;
     // The power is lost: the device in memory keeps what was flushed.
     let pool = mount(alloc, state.into_device().crash(&[]))?;
-    for (note, receipt) in NOTES.iter().zip(receipts.as_slice()) {
+    for note in NOTES.iter() {
         let line = read_line(&rt, &pool, note)?;
-        let (object, group) = (note.object.0, receipt.group.0);
-        println!(rt;
-            "object {object}, group {group}: {}",
-            str::from_utf8(line.as_slice())?
-        )?;
+        let object = note.object.0;
+        println!(rt; "object {object}: {}", str::from_utf8(line.as_slice())?)?;
     }
     Ok(())
 }
@@ -79,33 +82,86 @@ fn mount(alloc: Global, disk: MemDevice) -> Result<Pool<MemDevice>, PoolError> {
     Ok(pool)
 }
 
-// Each line is written by a thread of its own. The receipts are in the order of the lines.
+// The lines are written beside syncs, by a thread each. It returns the last receipt of each thread.
+fn write_beside_syncs<R: Threads + Wait + Sync>(
+    rt: &R,
+    alloc: Global,
+    pool: &Pool<MemDevice>,
+) -> Result<Vec<Receipt>, PoolError> {
+    let done = AtomicBool::new(false);
+    let done = &done;
+    let (written, synced) = join(
+        rt,
+        move || {
+            let written = write_lines(rt, alloc, pool);
+            done.store(true, Ordering::SeqCst);
+            written
+        },
+        move || sync_until(rt, pool, done),
+    );
+    synced?;
+    written
+}
+
 fn write_lines<R: Threads + Wait + Sync>(
     rt: &R,
     alloc: Global,
     pool: &Pool<MemDevice>,
 ) -> Result<Vec<Receipt>, PoolError> {
     let notes = Vec::from_slice(alloc, &NOTES)?;
-    let written = map_vec(rt, notes, &|note| write_line(rt, alloc, pool, note))?;
     let mut receipts = Vec::new(alloc);
-    for receipt in written {
+    for receipt in map_vec(rt, notes, &|note| write_line(rt, alloc, pool, note))? {
         receipts.push(receipt?)?;
     }
     Ok(receipts)
 }
 
-// What a thread does: with a handle of its own it makes an object and writes a line to it, in one transaction.
+// What a writing thread does: with a handle of its own it makes an object, and then writes its line in each round.
 fn write_line<W: Wait>(
     rt: &W,
     alloc: Global,
     pool: &Pool<MemDevice>,
     note: Note,
 ) -> Result<Receipt, PoolError> {
-    let line = Bytes::from_slice(alloc, note.line.as_bytes())?;
-    let mut ops = Vec::new(alloc);
-    ops.push(Op::Create(note.object))?;
-    ops.push(Op::Write(note.object, 0, line))?;
-    pool.handle().transact(rt, alloc, note.owner, Ops::new(ops))
+    let mut handle = pool.handle();
+    let create = vec![in alloc; Op::Create(note.object)]?;
+    let mut receipt = handle.transact(rt, note.owner, Ops::new(create))?;
+    for _ in 0..ROUNDS {
+        let line = Bytes::from_slice(alloc, note.line.as_bytes())?;
+        let write = vec![in alloc; Op::Write(note.object, 0, line)]?;
+        receipt = handle.transact(rt, note.owner, Ops::new(write))?;
+    }
+    Ok(receipt)
+}
+
+// What the syncing thread does, until the flag is set. A program that writes less would rest between two rounds.
+fn sync_until<W: Wait>(rt: &W, pool: &Pool<MemDevice>, done: &AtomicBool) -> Result<(), PoolError> {
+    let mut handle = pool.handle();
+    for _ in rt.forever() {
+        if done.load(Ordering::SeqCst) {
+            break;
+        }
+        sync_round(rt, &mut handle)?;
+    }
+    Ok(())
+}
+
+// Makes each step of a sync for which the groups are ready: the open group is closed, it is quiesced once its
+// transactions have ended, its sync is started, and a device call of it is made.
+fn sync_round<W: Wait>(rt: &W, handle: &mut Handle<'_, MemDevice>) -> Result<(), PoolError> {
+    for step in [
+        Step::CloseGroup,
+        Step::MarkQuiesced,
+        Step::StartSync(0),
+        Step::SyncStep,
+    ] {
+        match handle.step(rt, step) {
+            Reply::Refused(PoolError::NotReady) => {}
+            Reply::Refused(error) => return Err(error),
+            _ => {}
+        }
+    }
+    Ok(())
 }
 
 fn read_line<W: Wait>(rt: &W, pool: &Pool<MemDevice>, note: &Note) -> Result<Bytes, PoolError> {

@@ -36,7 +36,7 @@ fn create_and_write<W: Wait>(
     owner: Owner,
 ) -> Result<Receipt, PoolError> {
     let ops = vec![in alloc; Op::Create(OBJECT), write(alloc, 0, 7)?]?;
-    handle.transact(rt, alloc, owner, Ops::new(ops))
+    handle.transact(rt, owner, Ops::new(ops))
 }
 
 // All bytes of the object.
@@ -63,7 +63,7 @@ fn count<W: Wait>(
             write(alloc, 0, thread)?,
             write(alloc, u64::from(thread), round)?,
         ]?;
-        let receipt = handle.transact(rt, alloc, owner, Ops::new(ops))?;
+        let receipt = handle.transact(rt, owner, Ops::new(ops))?;
         let ordinal = receipt.ordinal;
         entries.push(Entry { ordinal, thread })?;
     }
@@ -129,7 +129,7 @@ fn a_refused_transaction_leaves_no_lock(rt: HostRuntime) -> Result<(), Fail> {
     let pool = new_pool(alloc, SMALL)?;
     let mut handle = pool.handle();
     let ops = Ops::new(vec![in alloc; write(alloc, 0, 1)?]?);
-    let refused = handle.transact(&rt, alloc, Owner(1), ops);
+    let refused = handle.transact(&rt, Owner(1), ops);
     assert_eq!(rt; refused, Err(PoolError::NoObject));
     // locks are named in the order in which they are granted, from 0 on
     let lock = Step::Lock(Owner(2), OBJECT, WHOLE, Mode::Writer);
@@ -145,7 +145,7 @@ fn an_empty_transaction_is_refused(rt: HostRuntime) -> Result<(), Fail> {
     let alloc = rt.alloc();
     let pool = new_pool(alloc, SMALL)?;
     let mut handle = pool.handle();
-    let refused = handle.transact(&rt, alloc, Owner(1), Ops::new(Vec::new(alloc)));
+    let refused = handle.transact(&rt, Owner(1), Ops::new(Vec::new(alloc)));
     assert_eq!(rt; refused, Err(PoolError::BadRange));
     Ok(())
 }

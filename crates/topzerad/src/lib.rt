@@ -5,20 +5,30 @@
 //!
 //! 1. **A device** holds the pool: a [`FileDevice`] on a file, or a [`MemDevice`] in memory for tests. A device on a
 //!    file holds the file's lock, so one device at a time writes to it.
-//! 2. **[`create`]** makes a pool on a device once. **[`Pool::open`]** opens it, as often as one likes; [`import`] and
-//!    [`PoolState`] do so for one thread that makes each step itself. [`inspect`] only shows what is there.
+//! 2. **[`create`]** makes a pool on a device once. **[`Pool::open`]** opens it, as often as one likes: take this way
+//!    in. [`import`] with [`PoolState`] is for one thread that makes each step itself, and the others are for proofs.
+//!    [`inspect`] only shows what is there.
 //! 3. **A [`Handle`]** makes the calls of a thread. `transact` commits operations whole, or returns why it refused
-//!    them. To read, lock the range first: nobody changes it until it is unlocked.
-//! 4. **A sync** makes durable what was committed: `PoolState::sync_open_group`. A commit that no sync has followed is
-//!    lost in a power failure.
-//! 5. **A refusal** is a [`PoolError`]. A refused call changes nothing, with one exception: a refused write or flush of
-//!    a sync suspends the pool, and it has to be opened again.
-//!    [`create`], [`import`] and [`Pool::open`] give the device back with their refusal. In a function that returns a
-//!    `PoolError`, `?` takes the refusal and drops the device.
+//!    them. To read, lock the range first: nobody changes it until it is unlocked. An [`Owner`] is a number for who
+//!    holds locks and transactions; each thread takes one of its own.
+//! 4. **A sync** makes a [`Group`] of transactions durable. A commit that no sync has followed is lost in a power
+//!    failure. After `close`, [`PoolState::sync_open_group`] syncs all. While threads run, one of them makes the steps
+//!    `CloseGroup`, `MarkQuiesced`, `StartSync` and `SyncStep` of its handle (`crates/shared_pool`). A write or a flush
+//!    of a sync is made under the pool's lock, so other threads wait for it.
+//! 5. **The dirty limit**, as [`DEFAULT_DIRTY_MAX`], is in bytes. Until its group is synced, a transaction is charged
+//!    4,096 bytes for each block that its sync may write: 2 blocks for a create or a remove, 4 for a new length. A
+//!    write is 3 blocks, and one more for each piece of 4,032 bytes that it touches. At the limit [`PoolState::begin`]
+//!    is refused `Throttled`, and `begin` and `transact` of a handle wait until a group is synced. So some thread has
+//!    to sync, or they wait for ever.
+//! 6. **A refusal** is a [`PoolError`]. A refused step changes nothing, with one exception: a refused write or flush of
+//!    a sync suspends the pool, and it has to be opened again. `sync_open_group` keeps the steps before the refused
+//!    one. A refused `transact` changes no contents. [`create`], [`import`] and [`Pool::open`] give the device back
+//!    with their refusal. In a function that returns a `PoolError`, `?` takes the refusal and drops the device. With
+//!    `anyhow`, write `.map_err(PoolError::from)?`.
 //!
-//! Numbers: an object has up to 338,688 bytes ([`MAX_LENGTH`]), a device 6 MiB to 1 GiB in sectors of 512 bytes. A
-//! moment is a time in seconds that the uberblocks carry; 0 serves if no clock is read. A dirty limit is in bytes
-//! ([`DEFAULT_DIRTY_MAX`]).
+//! Numbers: an object has up to 338,688 bytes ([`MAX_LENGTH`]), a device 6 MiB to 1 GiB in sectors of 512 bytes. A guid
+//! is any number that distinguishes pools. A moment is a time in seconds that the uberblocks carry; 0 serves if no
+//! clock is read.
 //!
 //! # Examples
 //!
@@ -28,32 +38,32 @@
 //! ```
 //! #![tactic(auto)]
 //!
+//! use anyhow::{Context, Result};
 //! use std::sync::Wait;
-//! use topzerad::{Bytes, DEFAULT_DIRTY_MAX, FileDevice, Mode, ObjectId, Op, Ops, Owner, Pool};
-//! use topzerad::{PoolError, Range, create};
+//! use topzerad::{Bytes, DEFAULT_DIRTY_MAX, FileDevice, Group, Mode, ObjectId, Op, Ops, Owner};
+//! use topzerad::{Pool, PoolError, Range, create};
 //!
-//! fn main(rt: HostRuntime) -> anyhow::Result<()> {
+//! fn main(rt: HostRuntime) -> Result<()> {
 //!     write(&rt, FileDevice::create(&rt, "tank.pool", 8_388_608)?)?;
 //!     let bytes = read(&rt, FileDevice::open(&rt, "tank.pool")?)?;
-//!     println!(rt; "{}", str::from_utf8(bytes.as_slice())?)?;
-//!     Ok(())
+//!     Ok(println!(rt; "{}", str::from_utf8(bytes.as_slice())?)?)
 //! }
 //!
-//! fn write<R: Wait + AllocGlobal>(rt: &R, device: FileDevice) -> Result<(), PoolError> {
-//!     let pool = Pool::open(rt.alloc(), create(device, b"tank", 77, 0)?, DEFAULT_DIRTY_MAX, 0)?;
+//! fn write<R: Wait + AllocGlobal>(rt: &R, device: FileDevice) -> Result<Group> {
+//!     let device = create(device, b"tank", 77, 0).map_err(PoolError::from)?;
+//!     let pool = Pool::open(rt.alloc(), device, DEFAULT_DIRTY_MAX, 0).map_err(PoolError::from)?;
 //!     let bytes = Bytes::from_slice(rt.alloc(), b"hello")?;
 //!     let ops = vec![in rt.alloc(); Op::Create(ObjectId(1)), Op::Write(ObjectId(1), 0, bytes)]?;
-//!     pool.handle().transact(rt, rt.alloc(), Owner(1), Ops::new(ops))?;
-//!     let mut state = pool.close().ok_or(PoolError::NotReady)?;
-//!     state.sync_open_group(0)?; // before this, a power failure loses the commit
-//!     Ok(())
+//!     pool.handle().transact(rt, Owner(1), Ops::new(ops))?;
+//!     let mut state = pool.close().context("a handle is still there")?;
+//!     Ok(state.sync_open_group(0)?) // before this, a power failure loses the commit
 //! }
 //!
-//! fn read<R: Wait + AllocGlobal>(rt: &R, device: FileDevice) -> Result<Bytes, PoolError> {
-//!     let pool = Pool::open(rt.alloc(), device, DEFAULT_DIRTY_MAX, 0)?;
+//! fn read<R: Wait + AllocGlobal>(rt: &R, device: FileDevice) -> Result<Bytes> {
+//!     let pool = Pool::open(rt.alloc(), device, DEFAULT_DIRTY_MAX, 0).map_err(PoolError::from)?;
 //!     let mut handle = pool.handle();
 //!     handle.lock(rt, Owner(1), ObjectId(1), Range::WHOLE, Mode::Reader)?;
-//!     handle.read(rt, Owner(1), ObjectId(1), Range::WHOLE)
+//!     Ok(handle.read(rt, Owner(1), ObjectId(1), Range::WHOLE)?)
 //! }
 //! ```
 #![tactic(auto)]
@@ -69,7 +79,8 @@ pub use device_model::{
 };
 pub use import_replay::{Imported, Inspected, Mounted, create, import, inspect};
 pub use pool_core::{PoolState, Progress, run};
-pub use pool_threads::{Handle, LastSeen, OwnedPool, Pool};
+pub use pool_threads::{Handle, Pool};
+pub use range_locks::{HeldLock, HeldLocks, HeldPiece};
 
-// For proofs alone: what a handle has seen of its pool, and the rule of the pool under its lock.
-pub use pool_threads::{PoolRule, PoolView};
+// For proofs alone: pools and handles with what was seen of them, and the rule of the pool under its lock.
+pub use pool_threads::{LastSeen, OwnedPool, PoolRule, PoolView};

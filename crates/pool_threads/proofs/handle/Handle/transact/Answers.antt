@@ -1,6 +1,7 @@
 use Rattle.std.proofs.Common.{◌∙◌, ap, inl, subst}
 use Rattle.pool_threads.specs.Transacts.{Unlocks}
 use Rattle.pool_threads.proofs.Transacted.{transacted}
+use Rattle.pool_threads.proofs.TransactsRelease.{leaves_nothing}
 use Rattle.pool_threads.proofs.TransactsSeen.{refusals_seen, transacts_along, transacts_seen}
 use Rattle.transactions.specs.LockRanges.{lock_ranges}
 use Rattle.pool_threads.proofs.handle.Handle.transact.Goals as goal
@@ -23,3 +24,6 @@ returns-clause-same_pool g c = (transacts_along c.args.owner c.args.ops c.lock_a
 
 pub returns-clause-met_none : goal.returns-clause-met_none
 returns-clause-met_none g c = (transacts_along c.args.owner c.args.ops c.lock_and_commit-result.result c.args.self.now c.unlock_all.new.self (returns-clause-made g c)).met_none
+
+pub returns-clause-released : goal.returns-clause-released
+returns-clause-released g c = leaves_nothing c.args.owner c.args.ops c.lock_and_commit-result.result c.args.self.now c.unlock_all.new.self (returns-clause-made g c)
