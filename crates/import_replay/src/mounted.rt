@@ -1,13 +1,8 @@
 //! What an import mounts.
 
-<<<<<<< HEAD
 ghost use Rattle.std.specs.Prelude.{◌≡◌, ◌<◌, ◌≤◌};
-ghost use Rattle.base.specs.formats.Geometry.{block_count};
-ghost use Rattle.base.specs.formats.Limits.{first_group, last_number};
-=======
-ghost use Rattle.std.specs.Prelude.{◌≡◌, ◌<◌, ◌≤◌, ◌^◌};
 ghost use Rattle.base.specs.formats.Geometry.{IsGeometry, block_count};
->>>>>>> 6f1e01215b478e71ae6598b4ac60b2f5aa3054ac
+ghost use Rattle.base.specs.formats.Limits.{first_group, last_number};
 ghost use Rattle.base.specs.tree.PlacedTrees.{ArePlaced};
 ghost use Rattle.object_maps.specs.Pointers.{pointers_of};
 ghost use Rattle.space.specs.FreeSets.{IsIdle};

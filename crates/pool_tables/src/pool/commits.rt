@@ -196,14 +196,8 @@ impl PoolTables {
         requires may { MayCommit tx.0 ops group.0 (pool_shown self.old) }
         requires allowed { AreOpsAllowed ops }
         requires place { self.old.groups.line.synced + 1 + place ≡ group.0 }
-<<<<<<< HEAD
-        requires room { CanApplyAt place self.old.changes ops }
         requires named { self.old.next_ordinal ≤ last_number }
-        requires more { vec_len self.old.pending < vec_capacity self.old.pending }
-=======
-        requires named { self.old.next_ordinal ≤ 2 ^ 60 }
         requires room { HasRoomToEnter place ops self.old }
->>>>>>> 6f1e01215b478e71ae6598b4ac60b2f5aa3054ac
         ensures ordinal { result.0 ≡ self.old.next_ordinal }
         ensures kept { KeepsTree self.old self.new }
         ensures shown { pool_shown self.new
